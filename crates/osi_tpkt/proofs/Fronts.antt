@@ -1,0 +1,250 @@
+-- Fronts of packets: a full one is a packet, a short one a proper prefix of a packet, and the other way round.
+use Rattle.std.proofs.Common.{not, Option, Some, None, IfNone, Bool, true, false, MatchBool, ◌≡◌, ℕ, ◌+◌, ◌-◌, ◌*◌, ◌<◌, ◌≤◌, ◌⊎◌, inl, inr, List, [], ◌∷◌, ◌++◌, length, get_or, take, drop, replicate, refl, sym, ◌∙◌, ap, subst, arith}
+use Rattle.std.proofs.lemmas.Bool.{cases_lt}
+use Rattle.std.proofs.lemmas.List.{append_assoc, get_or_append_left, length-append, length-replicate, length-take-le, take-append-drop, append-nil, drop_all, take_all, drop-take}
+use Rattle.osi_tpkt.specs.Octets.{IsOctets}
+use Rattle.osi_tpkt.specs.Packet.{IsPacket, IsWhole, IsPartial, IsBadVersion, IsBadLength, IsFaultOf, stated_length}
+use Rattle.osi_tpkt.specs.declared.faults.TpktFault.{TpktFault}
+use Rattle.osi_tpkt.specs.declared.faults.TpktFault.TheVariants.{BadVersion, BadLength, OutOfMemory}
+use Rattle.osi_tpkt.specs.Header.{IsFront, IsFull, IsShort}
+use Rattle.osi_tpkt.specs.Held.{Held}
+use Rattle.osi_tpkt.specs.Cutter.{Belongs}
+use Rattle.osi_tpkt.specs.declared.cutting.Fed.{Fed}
+use Rattle.osi_tpkt.specs.PacketLaws.{stated_length-append, packet_front}
+use Rattle.osi_tpkt.specs.OctetLaws.{octets_nil, octets_cons, octets_append, octets_left, octets_zeros}
+
+-- the front part of octets with a good header, up to the length that it states
+pub front_part : (r more : List ℕ) → IsOctets (r ++ more) → get_or (r ++ more) 0 0 ≡ 3 → 7 ≤ stated_length (r ++ more) →
+    length r ≤ stated_length (r ++ more) → IsFront r
+front_part r more octets version least within =
+    record {
+      octets = octets_left r more octets;
+      version = λ h. sym (get_or_append_left r more 0 0 h) ∙ version;
+      at_least = λ h. let e = stated_length-append r more h in omega arith;
+      within = λ h. let e = stated_length-append r more h in omega arith;
+    }
+
+-- no more is held than the header states, wherever the header comes from
+pub front_within : (held piece : List ℕ) → IsFront held → 7 ≤ stated_length (held ++ piece) → length held ≤ stated_length (held ++ piece)
+front_within held piece front least = elim (cases_lt (length held) 4) [
+  | inl less ↦ omega arith
+  | inr long ↦ let e = stated_length-append held piece long in let h = front.within long in omega arith
+]
+
+-- the same of octets in two lists, of which the second is cut
+pub front_taken : (held piece : List ℕ) (n : ℕ) → IsOctets held → IsOctets piece → get_or (held ++ piece) 0 0 ≡ 3 →
+    7 ≤ stated_length (held ++ piece) → n ≤ length piece → length held + n ≤ stated_length (held ++ piece) → IsFront (held ++ take n piece)
+front_taken held piece n ho po version least some within =
+    let same : held ++ piece ≡ (held ++ take n piece) ++ drop n piece =
+    ap (λ x. held ++ x) (sym (take-append-drop n piece)) ∙ sym (append_assoc held (take n piece) (drop n piece)) in
+    let size = length-append held (take n piece) in
+    let taken = length-take-le n piece some in
+    front_part (held ++ take n piece) (drop n piece) (subst IsOctets same (octets_append held piece ho po))
+    (subst (λ x. get_or x 0 0 ≡ 3) same version) (subst (λ x. 7 ≤ stated_length x) same least)
+    (subst (λ x. length (held ++ take n piece) ≤ stated_length x) same (omega arith))
+
+pub front_prefix : (r more : List ℕ) → IsFront (r ++ more) → IsFront r
+front_prefix r more f =
+    let total = length-append r more in
+    record {
+      octets = octets_left r more f.octets;
+      version = λ h. sym (get_or_append_left r more 0 0 h) ∙ f.version (omega arith);
+      at_least = λ h. let e = stated_length-append r more h in let g = f.at_least (omega arith) in omega arith;
+      within = λ h. let e = stated_length-append r more h in let g = f.within (omega arith) in omega arith;
+    }
+
+pub partial_front : (r : List ℕ) → IsPartial r → IsFront r × IsShort r
+partial_front r p =
+    let whole = packet_front _ _ p.completes.1 in
+    let total = length-append r p.more in
+    let some = p.some in
+    let front : IsFront r = front_prefix r p.more whole.0 in
+    (front, λ h. let e = stated_length-append r p.more h in let g = whole.1.1 in omega arith)
+
+-- a full front is a packet
+pub full_packet : (b : List ℕ) → IsFront b → IsFull b → IsPacket (drop 4 b) b
+full_packet [] f g = absurd (omega (arith, g.0))
+full_packet (a ∷ []) f g = absurd (omega (arith, g.0))
+full_packet (a ∷ b ∷ []) f g = absurd (omega (arith, g.0))
+full_packet (a ∷ b ∷ c ∷ []) f g = absurd (omega (arith, g.0))
+full_packet (a ∷ b ∷ c ∷ d ∷ u) f g =
+    let least = f.at_least g.0 in
+    let counted = g.1 in
+    let high = f.octets 2 in
+    let low = f.octets 3 in
+    record {
+      reserved = b;
+      high = c;
+      low = d;
+      spelled = ap (λ x. x ∷ b ∷ c ∷ d ∷ u) (f.version (omega arith));
+      octets = f.octets;
+      counted = omega arith;
+      at_least = omega arith;
+      at_most = omega arith;
+    }
+
+-- four octets or more: zeros complete it
+long_partial : (r : List ℕ) → IsFront r → IsShort r → 4 ≤ length r → IsPartial r
+long_partial r f g h =
+    let n : ℕ = stated_length r - length r in
+    let less = g h in
+    let total = length-append r (replicate n 0) in
+    let zeros : length (replicate {A = ℕ} n 0) ≡ n = length-replicate n 0 in
+    let stated = stated_length-append r (replicate n 0) h in
+    let least = f.at_least h in
+    let front : IsFront (r ++ replicate n 0) = record {
+      octets = octets_append r (replicate n 0) f.octets (octets_zeros n);
+      version = λ _. get_or_append_left r (replicate n 0) 0 0 (omega arith) ∙ f.version (omega arith);
+      at_least = λ _. omega arith;
+      within = λ _. omega arith;
+    } in
+    record { more = replicate n 0; some = omega arith; completes = (drop 4 (r ++ replicate n 0), full_packet (r ++ replicate n 0) front (omega arith, omega arith)) }
+
+-- fewer than four: first the header is completed
+completed_partial : (r header : List ℕ) → IsPartial (r ++ header) → IsPartial r
+completed_partial r header p =
+    let some = p.some in
+    let total = length-append header p.more in
+    record { more = header ++ p.more; some = omega arith; completes = subst IsWhole (append_assoc r header p.more) p.completes }
+
+-- the four octets of a header of at least 7
+header_partial : (b c d : ℕ) → b < 256 → c < 256 → d < 256 → 7 ≤ 256 * c + d → IsPartial (3 ∷ b ∷ c ∷ d ∷ [])
+header_partial b c d hb hc hd h =
+    long_partial (3 ∷ b ∷ c ∷ d ∷ [])
+    (record { octets = octets_cons 3 (b ∷ c ∷ d ∷ []) (omega arith) (octets_cons b (c ∷ d ∷ []) hb (octets_cons c (d ∷ []) hc (octets_cons d [] hd octets_nil))); version = λ _. refl; at_least = λ _. h; within = λ _. omega arith })
+    (λ _. omega arith) (omega arith)
+
+pub short_partial : (r : List ℕ) → IsFront r → IsShort r → IsPartial r
+short_partial [] f g = completed_partial [] (3 ∷ 0 ∷ 0 ∷ 7 ∷ []) (header_partial 0 0 7 (omega arith) (omega arith) (omega arith) (omega arith))
+short_partial (a ∷ []) f g =
+    subst (λ x. IsPartial (x ∷ [])) (sym (f.version (omega arith)))
+    (completed_partial (3 ∷ []) (0 ∷ 0 ∷ 7 ∷ []) (header_partial 0 0 7 (omega arith) (omega arith) (omega arith) (omega arith)))
+short_partial (a ∷ b ∷ []) f g =
+    subst (λ x. IsPartial (x ∷ b ∷ [])) (sym (f.version (omega arith)))
+    (completed_partial (3 ∷ b ∷ []) (0 ∷ 7 ∷ []) (header_partial b 0 7 (f.octets 1) (omega arith) (omega arith) (omega arith)))
+short_partial (a ∷ b ∷ c ∷ []) f g =
+    subst (λ x. IsPartial (x ∷ b ∷ c ∷ [])) (sym (f.version (omega arith)))
+    (completed_partial (3 ∷ b ∷ c ∷ []) (7 ∷ []) (header_partial b c 7 (f.octets 1) (f.octets 2) (omega arith) (omega arith)))
+short_partial (a ∷ b ∷ c ∷ d ∷ u) f g = long_partial (a ∷ b ∷ c ∷ d ∷ u) f g (omega arith)
+
+-- a packet is no proper prefix of one
+pub partial_not_whole : (r : List ℕ) → IsPartial r → IsWhole r → ⊥
+partial_not_whole r p w =
+    let full = (packet_front _ _ w.1).1 in
+    let less = (partial_front r p).1 full.0 in
+    let count = full.1 in omega arith
+
+-- octets that begin with a front have no bad version
+pub front_version : (h t : List ℕ) → 0 < length h → IsFront h → IsBadVersion (h ++ t) → ⊥
+front_version h t some f bad = bad.1 (get_or_append_left h t 0 0 some ∙ f.version some)
+
+-- octets that begin with a front that has a header have no bad length
+pub front_length : (h t : List ℕ) → 4 ≤ length h → IsFront h → IsBadLength (h ++ t) → ⊥
+front_length h t some f bad =
+    let least = f.at_least some in
+    let stated = stated_length-append h t some in
+    let low = bad.2 in omega arith
+
+bad_version : (r more : List ℕ) → IsFront r → (4 ≤ length r) ⊎ (more ≡ []) → IsBadVersion (r ++ more) → ⊥
+bad_version r more front (inl long) bad = front_version r more (omega arith) front bad
+bad_version r more front (inr none) bad =
+    let here : IsBadVersion r = subst IsBadVersion (ap (λ x. r ++ x) none ∙ append-nil r) bad in
+    here.1 (front.version here.0)
+
+bad_length : (r more : List ℕ) → IsFront r → (4 ≤ length r) ⊎ (more ≡ []) → IsBadLength (r ++ more) → ⊥
+bad_length r more front (inl long) bad = front_length r more long front bad
+bad_length r more front (inr none) bad =
+    let here : IsBadLength r = subst IsBadLength (ap (λ x. r ++ x) none ∙ append-nil r) bad in
+    let least = front.at_least here.0 in
+    let low = here.2 in omega arith
+
+pub fault_behind : (r more : List ℕ) (at : ℕ) (f : TpktFault) → IsFront r → (4 ≤ length r) ⊎ (more ≡ []) → IsFaultOf at (r ++ more) f → ⊥
+fault_behind r more at (BadVersion o) front enough bad = bad_version r more front enough bad.0
+fault_behind r more at (BadLength o) front enough bad = bad_length r more front enough bad.0
+fault_behind r more at OutOfMemory front enough bad = bad
+
+-- where a whole front was taken, or all of the piece, its octets have no fault
+pub no_fault : (held piece : List ℕ) (n at : ℕ) (f : TpktFault) → IsFront (held ++ take n piece) →
+    (4 ≤ length (held ++ take n piece)) ⊎ (n ≡ length piece) → IsFaultOf at (held ++ piece) f → ⊥
+no_fault held piece n at f front enough fault =
+    let same : held ++ piece ≡ (held ++ take n piece) ++ drop n piece =
+    ap (λ x. held ++ x) (sym (take-append-drop n piece)) ∙ sym (append_assoc held (take n piece) (drop n piece)) in
+    elim enough [
+      | inl long ↦ fault_behind (held ++ take n piece) (drop n piece) at f front (inl long) (subst (λ x. IsFaultOf at x f) same fault)
+      | inr all ↦ fault_behind (held ++ take n piece) (drop n piece) at f front
+          (inr (ap (λ k. drop k piece) all ∙ drop_all (length piece) piece (omega arith))) (subst (λ x. IsFaultOf at x f) same fault)
+    ]
+
+-- octets have at most one fault
+pub one_fault : (at : ℕ) (s : List ℕ) (f g : TpktFault) → IsFaultOf at s f → IsFaultOf at s g → f ≡ g
+one_fault at s (BadVersion a) (BadVersion b) h k = ap BadVersion (h.1 ∙ sym k.1)
+one_fault at s (BadVersion a) (BadLength b) h k = absurd (h.0.1 k.0.1)
+one_fault at s (BadVersion a) OutOfMemory h k = absurd k
+one_fault at s (BadLength a) (BadVersion b) h k = absurd (k.0.1 h.0.1)
+one_fault at s (BadLength a) (BadLength b) h k = ap BadLength (h.1 ∙ sym k.1)
+one_fault at s (BadLength a) OutOfMemory h k = absurd k
+one_fault at s OutOfMemory g h k = absurd h
+
+-- what the header says of a front, said of packets
+pub stood : (whole : Bool) (x : List ℕ) (P : Type 0) → IsFront x → MatchBool whole (IsFull x) (IsShort x × P) → MatchBool whole (IsWhole x) (IsPartial x × P)
+stood true x P f g = (drop 4 x, full_packet x f g)
+stood false x P f g = (short_partial x f g.0, g.1)
+
+-- the same where no whole packet was found
+pub none_partial : {A : Type 0} (o : Option A) (s : List ℕ) → IsFront s → IfNone o (IsShort s) → IfNone o (IsPartial s)
+none_partial None s f h = short_partial s f h
+none_partial (Some x) s f h = h
+
+-- the packet at the front of octets, its unit as it is sliced from them
+pub front_packet : (octets : List ℕ) (used : ℕ) → used ≤ length octets → IsFront (take used octets) → IsFull (take used octets) →
+    IsPacket (take (used - 4) (drop 4 octets)) (take used octets)
+front_packet octets used within front full =
+    let size = length-take-le used octets within in
+    let long = full.0 in
+    let count : 4 + (used - 4) ≡ used = omega arith in
+    let unit : drop 4 (take used octets) ≡ take (used - 4) (drop 4 octets) =
+    ap (λ k. drop 4 (take k octets)) (sym count) ∙ drop-take 4 (used - 4) octets in
+    subst (λ u. IsPacket u (take used octets)) unit (full_packet (take used octets) front full)
+
+-- what stands where a packet is whole, and where it is not
+pub where_whole : (P Q : Type 0) (whole : Bool) → not whole ≡ false → MatchBool whole P Q → P
+where_whole P Q true e h = h
+where_whole P Q false e h = absurd (cc)
+
+pub where_short : (P Q : Type 0) (whole : Bool) → not whole ≡ true → MatchBool whole P Q → Q
+where_short P Q true e h = absurd (cc)
+where_short P Q false e h = h
+
+-- a piece that was used whole
+pub short_whole_piece : (octets : List ℕ) (used : ℕ) → IsFront (take used octets) → IsShort (take used octets) × (used ≡ length octets) → IsPartial octets
+short_whole_piece octets used front short =
+    let all : take used octets ≡ octets = ap (λ k. take k octets) short.1 ∙ take_all (length octets) octets (omega arith) in
+    subst IsPartial all (short_partial (take used octets) front short.0)
+
+pub empty_partial : IsPartial []
+empty_partial = completed_partial [] (3 ∷ 0 ∷ 0 ∷ 7 ∷ []) (header_partial 0 0 7 (omega arith) (omega arith) (omega arith) (omega arith))
+
+-- what was surveyed of a piece is what belongs to the packet
+pub surveyed : (octets piece : List ℕ) (fed : Fed) → fed.used ≤ length piece → IsFront (octets ++ take fed.used piece) →
+    MatchBool fed.whole (IsFull (octets ++ take fed.used piece)) (IsShort (octets ++ take fed.used piece) × (fed.used ≡ length piece)) →
+    Belongs octets piece fed
+surveyed octets piece fed within front whole =
+    record { within = within; whole = stood fed.whole (octets ++ take fed.used piece) (fed.used ≡ length piece) front whole }
+
+long_or_all : (whole : Bool) (x : List ℕ) (P : Type 0) → MatchBool whole (IsWhole x) (IsPartial x × P) → IsFront x × ((4 ≤ length x) ⊎ P)
+long_or_all true x P h = let front = packet_front h.0 x h.1 in (front.0, inl front.1.0)
+long_or_all false x P h = ((partial_front x h.0).0, inr h.1)
+
+-- where some of a piece belongs to the packet, the octets have no fault
+pub belonging_no_fault : (octets piece : List ℕ) (fed : Fed) (at : ℕ) (f : TpktFault) → Belongs octets piece fed → IsFaultOf at (octets ++ piece) f → ⊥
+belonging_no_fault octets piece fed at f h fault =
+    let front = long_or_all fed.whole (octets ++ take fed.used piece) (fed.used ≡ length piece) h.whole in
+    no_fault octets piece fed.used at f front.0 front.1 fault
+
+abbrev pub holding : ℕ → Option TpktFault → List ℕ → ℕ → Held
+holding offset fault octets room = record { offset = offset; octets = octets; fault = fault; room = room }
+
+-- what is held, by its parts
+pub same_held : (offset : ℕ) (fault : Option TpktFault) (xs ys : List ℕ) (m n : ℕ) → xs ≡ ys → m ≡ n →
+    holding offset fault xs m ≡ holding offset fault ys n
+same_held offset fault xs ys m n e f = ap (λ x. holding offset fault x m) e ∙ ap (λ k. holding offset fault ys k) f

@@ -1,0 +1,3 @@
+pub mod Fronts
+pub mod Streams
+pub mod Runs

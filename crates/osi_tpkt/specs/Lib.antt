@@ -1,0 +1,11 @@
+pub mod Octets
+pub mod OctetLaws
+pub mod Packet
+pub mod Header
+pub mod Unit
+pub mod PacketLaws
+pub mod PacketValue
+pub mod Stream
+pub mod Held
+pub mod Cutter
+pub mod Runs

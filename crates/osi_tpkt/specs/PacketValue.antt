@@ -1,0 +1,7 @@
+-- What a `Packet` is, apart from where its octets lie.
+use Rattle.std.specs.Prelude.{ℕ, List}
+use Rattle.osi_tpkt.specs.declared.packets.Packet.{Packet}
+
+-- the octets of its transport unit
+abbrev pub unit_of : Packet → List ℕ
+unit_of p = p.unit.now

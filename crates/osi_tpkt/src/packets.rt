@@ -1,0 +1,133 @@
+ghost use Rattle.std.specs.Prelude.{◌≡◌, ◌≤◌, ◌+◌, ◌<◌, ◌++◌, ◌↔◌, ◌⊎◌, length, IsSome, IfSome, Err, OnOk, OnErr};
+ghost use Rattle.osi_tpkt.specs.Octets.{IsOctets};
+ghost use Rattle.osi_tpkt.specs.Packet.{IsPacket, packet_of};
+
+use crate::faults::TpktFault;
+use crate::headers::survey;
+use crate::units::Unit;
+use bytes::BytesMut;
+use std::alloc::AllocError;
+use thiserror::Error;
+
+/// A packet (RFC 1006 section 6), by the transport unit that it carries: 3 to 65,531 octets.
+///
+/// On the stream it is the version 3, a reserved octet (written 0, ignored on reading), the length
+/// of the whole packet in two octets (7 to 65,535, the most significant first), and the unit.
+#[derive(Clone, Copy)]
+pub struct Packet<'a> {
+    unit: &'a [u8],
+    ghost at_least: { 3 ≤ length unit.now },
+    ghost at_most: { length unit.now ≤ 65531 },
+    ghost octets: { IsOctets unit.now },
+}
+
+impl<'a> Packet<'a> {
+    ghost use Rattle.osi_tpkt.specs.PacketValue.{unit_of};
+
+    /// The packet that carries a transport unit, or `None` for a unit of under 3 or over 65,531
+    /// octets.
+    pub fn new(unit: &'a [u8]) -> Option<Packet<'a>>
+        ensures fits { IsSome result ↔ ((3 ≤ length unit.now) × (length unit.now ≤ 65531)) }
+        ensures value { IfSome result (λ p. unit_of p ≡ unit.now) }
+    {
+        if unit.len() < 3 || unit.len() > 65531 {
+            return None;
+        }
+        Some(Packet { unit })
+    }
+
+    /// The transport unit, 3 to 65,531 octets.
+    pub fn unit(self) -> &'a [u8]
+        ensures value { result.now ≡ unit_of self.entry }
+        ensures at_least { 3 ≤ length result.now }
+        ensures at_most { length result.now ≤ 65531 }
+    {
+        self.unit
+    }
+}
+
+impl<'a> Unit<'a> for Packet<'a> {
+    type Fault = TpktFault;
+
+    ghost use Rattle.std.specs.Prelude.{◌≡◌, ◌++◌, ◌<◌, ℕ, List, [], length, OnOk, OnErr, IfOk, IfSome, IsOkAnd, IsSomeAnd, ◌↔◌};
+    ghost use Rattle.osi_tpkt.specs.Packet.{IsPacket, IsPartial, IsFaultOf, IsUnit, packet_of};
+    ghost use Rattle.osi_tpkt.specs.PacketValue.{unit_of};
+    ghost use Rattle.osi_tpkt.specs.PacketLaws.{Anything, written_packet, packet_reading};
+
+    ghost Value = { List ℕ };
+
+    ghost value = { unit_of };
+
+    ghost spells = { IsPacket };
+
+    ghost follows = { Anything };
+
+    ghost begins = { IsPartial };
+
+    ghost refuses = { IsFaultOf 0 };
+
+    ghost written = { packet_of };
+
+    ghost fits = { IsUnit };
+
+    ghost is_spelled = { written_packet };
+
+    ghost stands_alone = { λ _. tt };
+
+    ghost one_reading = { packet_reading };
+
+    fn read(octets: &'a [u8]) -> Result<Option<(Packet<'a>, usize)>, TpktFault> {
+        let fed = match survey(&[], octets) {
+            Ok(fed) => fed,
+            Err(header) => return Err(header.at(0)),
+        };
+        if !fed.whole {
+            return Ok(None);
+        }
+        let unit = &octets[4..fed.used];
+        Ok(Some((Packet { unit }, fed.used)))
+    }
+
+    fn write(&self, out: &mut BytesMut) -> Result<(), AllocError> {
+        let octets = self.written_len();
+        out.reserve(octets)?;
+        out.extend_reserved(&[3, 0]);
+        out.extend_reserved(&(octets as u16).to_be_bytes());
+        out.extend_reserved(self.unit);
+        Ok(())
+    }
+
+    fn written_len(&self) -> usize {
+        self.unit.len() + 4
+    }
+}
+
+/// Why a packet was not written.
+#[derive(Clone, Copy, PartialEq, Eq, Debug, Error)]
+pub enum WriteError {
+    /// The transport unit has under 3 or over 65,531 octets.
+    #[error("a packet carries 3 to 65531 octets")]
+    BadSize,
+    /// There was no memory for the packet.
+    #[error("out of memory")]
+    OutOfMemory,
+}
+
+/// Appends the packet that carries a transport unit (RFC 1006 section 6). An `Err` leaves the
+/// octets of `out` as they were; want of memory comes only where `out` had no room and got none.
+pub fn write_packet(out: &mut BytesMut, unit: &[u8]) -> Result<(), WriteError>
+    ensures ok { OnOk result (out.new.items ≡ out.old.items ++ packet_of unit.now) }
+    ensures packet { OnOk result (IsPacket unit.now (packet_of unit.now)) }
+    ensures err { OnErr result (out.new.items ≡ out.old.items) }
+    ensures bad_size { (result ≡ Err WriteError.BadSize)
+        ↔ ((length unit.now < 3) ⊎ (65531 < length unit.now)) }
+    ensures full { result ≡ Err WriteError.OutOfMemory → out.old.spare < length unit.now + 4 }
+{
+    let Some(packet) = Packet::new(unit) else {
+        return Err(WriteError::BadSize);
+    };
+    if packet.write(out).is_err() {
+        return Err(WriteError::OutOfMemory);
+    }
+    Ok(())
+}

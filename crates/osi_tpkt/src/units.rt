@@ -1,0 +1,76 @@
+ghost use Rattle.std.specs.Prelude.{◌≡◌, ◌++◌, ◌<◌, ℕ, List, [], length, OnOk, OnErr, IfOk, IfSome, IsOkAnd, IsSomeAnd, ◌↔◌};
+ghost use Rattle.osi_tpkt.specs.Octets.{IsOctets};
+ghost use Rattle.osi_tpkt.specs.Unit.{IsAtFront};
+
+use bytes::BytesMut;
+use std::alloc::AllocError;
+use std::error::Error;
+
+/// A grammar of units: values that are read from octets, which they borrow, and written to octets.
+///
+/// What a unit means is its `value`, and `spells` says which octets spell a value: often many do,
+/// of which one is the written form. Reading takes no memory.
+pub trait Unit<'a>: Sized + Drop {
+    /// Why octets hold no unit.
+    type Fault: Error;
+
+    /// What the units of this grammar mean, apart from where their octets lie.
+    ghost Value: { Type 0 };
+
+    /// What a unit means.
+    ghost value: { Self → Value };
+
+    /// The octets are a spelling of the value.
+    ghost spells: { Value → List ℕ → Type 0 };
+
+    /// These octets may stand behind a spelling of the value in what `read` is given.
+    ghost follows: { Value → List ℕ → Type 0 };
+
+    /// The octets are a proper prefix of a spelling, and more of them are to be awaited.
+    ghost begins: { List ℕ → Type 0 };
+
+    /// The octets hold no unit, for this reason.
+    ghost refuses: { List ℕ → Self.Fault → Type 0 };
+
+    /// The one spelling in which a value is written.
+    ghost written: { Value → List ℕ };
+
+    /// The lengths of the value have room in the fields that count them.
+    ghost fits: { Value → Type 0 };
+
+    /// The unit at the front of the octets and the number of octets that spell it, or `None` where
+    /// the octets are a proper prefix of a spelling.
+    fn read(octets: &'a [u8]) -> Result<Option<(Self, usize)>, Self::Fault>
+        // What is read stands there, and what stands there is read.
+        ensures found { IfOk result (λ o. IfSome o (λ r.
+            IsAtFront spells follows (value r.0) r.1 octets.now)) }
+        ensures only { (v : Value) (n : ℕ) → IsAtFront spells follows v n octets.now →
+            IsOkAnd result (λ o. IsSomeAnd o (λ r. (value r.0 ≡ v) × (r.1 ≡ n))) }
+
+        ensures begun { (result ≡ Ok None) ↔ begins octets.now }
+        ensures refused { (f : Self.Fault) → (result ≡ Err f) ↔ refuses octets.now f };
+
+    /// Appends the written form. An `Err` leaves the octets of `out` as they were, and comes only
+    /// where `out` had no room and got none.
+    fn write(&self, out: &mut BytesMut) -> Result<(), AllocError>
+        requires { fits (value self.now) }
+        ensures ok { OnOk result (out.new.items ≡ out.old.items ++ written (value self.now)) }
+        ensures err { OnErr result (out.new.items ≡ out.old.items) }
+        ensures full { OnErr result (out.old.spare < length (written (value self.now))) };
+
+    /// The number of octets that `write` appends.
+    fn written_len(&self) -> usize
+        requires { fits (value self.now) }
+        ensures { result ≡ length (written (value self.now)) };
+
+    /// The written form spells its value.
+    ghost is_spelled: { (v : Value) → fits v → spells v (written v) };
+
+    /// A unit may be the last of its octets.
+    ghost stands_alone: { (v : Value) → follows v [] };
+
+    /// At most one unit stands at the front of octets.
+    ghost one_reading: { (v w : Value) (m n : ℕ) (octets : List ℕ) → IsOctets octets →
+        IsAtFront spells follows v m octets → IsAtFront spells follows w n octets →
+        (v ≡ w) × (m ≡ n) };
+}
