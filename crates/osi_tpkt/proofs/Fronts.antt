@@ -1,5 +1,5 @@
 -- Fronts of packets: a full one is a packet, a short one a proper prefix of a packet, and the other way round.
-use Rattle.std.proofs.Common.{not, Option, Some, None, IfNone, Bool, true, false, MatchBool, ◌≡◌, ℕ, ◌+◌, ◌-◌, ◌*◌, ◌<◌, ◌≤◌, ◌⊎◌, inl, inr, List, [], ◌∷◌, ◌++◌, length, get_or, take, drop, replicate, refl, sym, ◌∙◌, ap, subst, arith}
+use Rattle.std.proofs.Common.{Result, Ok, Err, IfOk, OnOk, not, Option, Some, None, IfNone, Bool, true, false, MatchBool, ◌≡◌, ℕ, ◌+◌, ◌-◌, ◌*◌, ◌<◌, ◌≤◌, ◌⊎◌, inl, inr, List, [], ◌∷◌, ◌++◌, length, get_or, take, drop, replicate, refl, sym, ◌∙◌, ap, subst, arith}
 use Rattle.std.proofs.lemmas.Bool.{cases_lt}
 use Rattle.std.proofs.lemmas.List.{append_assoc, get_or_append_left, length-append, length-replicate, length-take-le, take-append-drop, append-nil, drop_all, take_all, drop-take}
 use Rattle.osi_tpkt.specs.Octets.{IsOctets}
@@ -10,6 +10,7 @@ use Rattle.osi_tpkt.specs.Header.{IsFront, IsFull, IsShort}
 use Rattle.osi_tpkt.specs.Held.{Held}
 use Rattle.osi_tpkt.specs.Cutter.{Belongs}
 use Rattle.osi_tpkt.specs.declared.cutting.Fed.{Fed}
+use Rattle.osi_tpkt.specs.declared.headers.HeaderFault.{HeaderFault}
 use Rattle.osi_tpkt.specs.PacketLaws.{stated_length-append, packet_front}
 use Rattle.osi_tpkt.specs.OctetLaws.{octets_nil, octets_cons, octets_append, octets_left, octets_zeros}
 
@@ -30,6 +31,12 @@ front_within held piece front least = elim (cases_lt (length held) 4) [
   | inl less ↦ omega arith
   | inr long ↦ let e = stated_length-append held piece long in let h = front.within long in omega arith
 ]
+
+-- a header in the part that was taken states what the header states
+stated_taken : (held piece : List ℕ) (n : ℕ) → 4 ≤ length (held ++ take n piece) → stated_length (held ++ piece) ≡ stated_length (held ++ take n piece)
+stated_taken held piece n long =
+    ap stated_length (ap (λ x. held ++ x) (sym (take-append-drop n piece)) ∙ sym (append_assoc held (take n piece) (drop n piece)))
+    ∙ stated_length-append (held ++ take n piece) (drop n piece) long
 
 -- the same of octets in two lists, of which the second is cut
 pub front_taken : (held piece : List ℕ) (n : ℕ) → IsOctets held → IsOctets piece → get_or (held ++ piece) 0 0 ≡ 3 →
@@ -225,11 +232,12 @@ pub empty_partial : IsPartial []
 empty_partial = completed_partial [] (3 ∷ 0 ∷ 0 ∷ 7 ∷ []) (header_partial 0 0 7 (omega arith) (omega arith) (omega arith) (omega arith))
 
 -- what was surveyed of a piece is what belongs to the packet
-pub surveyed : (octets piece : List ℕ) (fed : Fed) → fed.used ≤ length piece → IsFront (octets ++ take fed.used piece) →
-    MatchBool fed.whole (IsFull (octets ++ take fed.used piece)) (IsShort (octets ++ take fed.used piece) × (fed.used ≡ length piece)) →
+pub surveyed : (held octets piece : List ℕ) (fed : Fed) → held ≡ octets → fed.used ≤ length piece → IsFront (held ++ take fed.used piece) →
+    MatchBool fed.whole (IsFull (held ++ take fed.used piece)) (IsShort (held ++ take fed.used piece) × (fed.used ≡ length piece)) →
     Belongs octets piece fed
-surveyed octets piece fed within front whole =
-    record { within = within; whole = stood fed.whole (octets ++ take fed.used piece) (fed.used ≡ length piece) front whole }
+surveyed held octets piece fed same within front whole =
+    subst (λ x. Belongs x piece fed) same
+    (record { within = within; whole = stood fed.whole (held ++ take fed.used piece) (fed.used ≡ length piece) front whole })
 
 long_or_all : (whole : Bool) (x : List ℕ) (P : Type 0) → MatchBool whole (IsWhole x) (IsPartial x × P) → IsFront x × ((4 ≤ length x) ⊎ P)
 long_or_all true x P h = let front = packet_front h.0 x h.1 in (front.0, inl front.1.0)
@@ -248,3 +256,41 @@ holding offset fault octets room = record { offset = offset; octets = octets; fa
 pub same_held : (offset : ℕ) (fault : Option TpktFault) (xs ys : List ℕ) (m n : ℕ) → xs ≡ ys → m ≡ n →
     holding offset fault xs m ≡ holding offset fault ys n
 same_held offset fault xs ys m n e f = ap (λ x. holding offset fault x m) e ∙ ap (λ k. holding offset fault ys k) f
+
+counted : (whole : Bool) (held used stated piece : ℕ) → MatchBool whole (held + used ≡ stated) ((held + piece < stated) × (used ≡ piece)) → held + used ≤ stated
+counted true held used stated piece h = omega arith
+counted false held used stated piece h = omega (arith, h.0, h.1)
+
+whole_part : (whole : Bool) (held piece : List ℕ) (used : ℕ) → 7 ≤ stated_length (held ++ piece) → used ≤ length piece →
+    MatchBool whole (length held + used ≡ stated_length (held ++ piece))
+    ((length held + length piece < stated_length (held ++ piece)) × (used ≡ length piece)) →
+    MatchBool whole (IsFull (held ++ take used piece)) (IsShort (held ++ take used piece) × (used ≡ length piece))
+whole_part true held piece used least some h =
+    let size = length-append held (take used piece) in
+    let taken = length-take-le used piece some in
+    let stated = stated_taken held piece used (omega arith) in
+    (omega arith, omega arith)
+whole_part false held piece used least some h =
+    let size = length-append held (take used piece) in
+    let taken = length-take-le used piece some in
+    (λ long. let stated = stated_taken held piece used long in omega (arith, h.0, h.1), h.1)
+
+-- what part_of says of a length and of counts, said of the octets that they count
+pub part_front : (r : Result Fed HeaderFault) (held piece : List ℕ) → IsFront held → 0 < length held → IsOctets piece → 4 ≤ length (held ++ piece) →
+    OnOk r (7 ≤ stated_length (held ++ piece)) → IfOk r (λ fed. fed.used ≤ length piece) →
+    IfOk r (λ fed. MatchBool fed.whole (length held + fed.used ≡ stated_length (held ++ piece))
+    ((length held + length piece < stated_length (held ++ piece)) × (fed.used ≡ length piece))) →
+    IfOk r (λ fed. IsFront (held ++ take fed.used piece))
+part_front (Err e) held piece front some octets long least used part = tt
+part_front (Ok fed) held piece front some octets long least used part =
+    front_taken held piece fed.used front.octets octets (get_or_append_left held piece 0 0 some ∙ front.version some) least used
+    (counted fed.whole (length held) fed.used (stated_length (held ++ piece)) (length piece) part)
+
+pub part_whole : (r : Result Fed HeaderFault) (held piece : List ℕ) → IsFront held → 4 ≤ length (held ++ piece) →
+    OnOk r (7 ≤ stated_length (held ++ piece)) → IfOk r (λ fed. fed.used ≤ length piece) →
+    IfOk r (λ fed. MatchBool fed.whole (length held + fed.used ≡ stated_length (held ++ piece))
+    ((length held + length piece < stated_length (held ++ piece)) × (fed.used ≡ length piece))) →
+    IfOk r (λ fed. MatchBool fed.whole (IsFull (held ++ take fed.used piece)) (IsShort (held ++ take fed.used piece) × (fed.used ≡ length piece)))
+part_whole (Err e) held piece front long least used part = tt
+part_whole (Ok fed) held piece front long least used part =
+    whole_part fed.whole held piece fed.used least used part

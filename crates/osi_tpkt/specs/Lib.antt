@@ -7,5 +7,6 @@ pub mod PacketLaws
 pub mod PacketValue
 pub mod Stream
 pub mod Held
+pub mod Progress
 pub mod Cutter
 pub mod Runs

@@ -2,7 +2,7 @@ ghost use Rattle.std.specs.Prelude.{◌≡◌, ◌≢◌, ◌+◌, ◌≤◌, �
 ghost use Rattle.osi_tpkt.specs.Packet.{IsPacket, IsWhole, IsPartial, IsFaultOf};
 
 use crate::faults::TpktFault;
-use crate::headers::{packet_in, survey};
+use crate::headers::{HeaderFault, survey};
 use std::alloc::Global;
 use std::marker::Model;
 
@@ -15,28 +15,43 @@ pub struct Fed {
     pub whole: bool,
 }
 
+/// How far the packet is whose octets are held.
+#[derive(Clone, Copy)]
+enum Progress {
+    /// Its end has not come.
+    Partial,
+    /// It stands whole.
+    Whole,
+    /// The stream has none there.
+    Refused(HeaderFault),
+}
+
 /// Cuts a stream of octets, in whatever pieces it comes, into packets (RFC 1006 section 6).
+///
+/// The octets of one packet are held, in storage that is kept for the next.
 #[derive(Drop)]
 pub struct Cutter {
     held: Vec<u8>,
     offset: u64,
-    fault: Option<TpktFault>,
+    progress: Progress,
 }
 
 impl Model for Cutter {
     ghost use Rattle.std.specs.Prelude.{vec_capacity};
-    ghost use Rattle.osi_tpkt.specs.Held.{Held, IsSound};
+    ghost use Rattle.osi_tpkt.specs.Held.{Held};
 
     ghost Value = { Held };
+
+    ghost use Rattle.osi_tpkt.specs.Progress.{fault_of, IsSound};
 
     ghost view = { λ c. record {
       offset = c.offset;
       octets = c.held.items;
-      fault = c.fault;
+      fault = fault_of c.offset c.progress;
       room = vec_capacity c.held;
     } };
 
-    ghost invariant = { λ c. IsSound c.held.items c.fault };
+    ghost invariant = { λ c. IsSound c.held.items c.progress };
 }
 
 impl Cutter {
@@ -51,7 +66,7 @@ impl Cutter {
         Cutter {
             held: Vec::new(alloc),
             offset: 0,
-            fault: None,
+            progress: Progress::Partial,
         }
     }
 
@@ -63,6 +78,7 @@ impl Cutter {
     /// begins with the first octet, [`TpktFault::BadLength`] where none begins with the first four;
     /// either is answered from then on, and what was held stays. Want of memory changes nothing, and
     /// comes only where more octets are to be held than there is room for.
+    #[inline]
     pub fn feed(&mut self, piece: &[u8]) -> Result<Fed, TpktFault>
         ensures used { IfOk result (λ fed. fed.used ≤ length piece.now) }
         ensures standing { IsWhole self.old.octets →
@@ -79,15 +95,21 @@ impl Cutter {
         ensures taken { self.old.fault ≡ None → IsPartial self.old.octets →
             Takes self.old piece.now result self.new }
     {
-        if let Some(fault) = self.fault {
-            return Err(fault);
+        match self.progress {
+            Progress::Refused(header) => return Err(header.at(self.offset)),
+            Progress::Whole => {
+                return Ok(Fed {
+                    used: 0,
+                    whole: true,
+                });
+            }
+            Progress::Partial => {}
         }
         let fed = match survey(self.held.as_slice(), piece) {
             Ok(fed) => fed,
             Err(header) => {
-                let fault = header.at(self.offset);
-                self.fault = Some(fault);
-                return Err(fault);
+                self.progress = Progress::Refused(header);
+                return Err(header.at(self.offset));
             }
         };
         if fed.used == 0 {
@@ -97,19 +119,28 @@ impl Cutter {
             return Err(TpktFault::OutOfMemory);
         };
         self.held.extend_from_slice(&piece[..fed.used]).unwrap();
+        if fed.whole {
+            self.progress = Progress::Whole;
+        }
         Ok(fed)
     }
 
     /// The transport unit of the packet that stands, or `None` where none does.
+    #[inline]
+    #[tactic(auto, using(crate::proofs::Fronts::short_partial))]
     pub fn packet(&self) -> Option<&[u8]>
         ensures some { IfSome result (λ u. IsPacket u.now self.now.octets) }
         ensures none { IfNone result (IsPartial self.now.octets) }
     {
-        packet_in(self.held.as_slice())
+        match self.progress {
+            Progress::Whole => Some(&self.held.as_slice()[4..]),
+            Progress::Partial | Progress::Refused(_) => None,
+        }
     }
 
     /// Drops the packet that stands; the octets of the next are held from now on. The room stays.
     /// Where none stands nothing changes.
+    #[inline]
     pub fn advance(&mut self)
         ensures whole { (u : List ℕ) → IsPacket u self.old.octets → self.new ≡ record {
           offset = offset_of (self.old.offset + length self.old.octets);
@@ -119,14 +150,15 @@ impl Cutter {
         } }
         ensures partial { IsPartial self.old.octets → self.new ≡ self.old }
     {
-        if packet_in(self.held.as_slice()).is_none() {
-            return;
+        if let Progress::Whole = self.progress {
+            self.offset = self.offset.saturating_add(self.held.len() as u64);
+            self.held.clear();
+            self.progress = Progress::Partial;
         }
-        self.offset = self.offset.saturating_add(self.held.len() as u64);
-        self.held.clear();
     }
 
     /// The number of octets held: those of a packet that stands, or of the packet under way.
+    #[inline]
     pub fn rest_len(&self) -> usize
         ensures { result ≡ length self.now.octets }
     {

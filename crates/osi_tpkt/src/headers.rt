@@ -1,4 +1,4 @@
-ghost use Rattle.std.specs.Prelude.{◌≡◌, ◌<◌, ◌≤◌, ◌++◌, length, take, drop, Ok, Err, true, IfOk, IfSome, IfNone, MatchBool, MatchOption, slice_index};
+ghost use Rattle.std.specs.Prelude.{◌≡◌, ◌≢◌, ◌<◌, ◌≤◌, ◌+◌, ◌*◌, ◌++◌, ◌↔◌, length, take, Err, IfOk, OnOk, false, MatchBool, MatchOption, slice_index};
 ghost use Rattle.osi_tpkt.specs.Packet.{IsBadVersion, IsBadLength};
 ghost use Rattle.osi_tpkt.specs.Header.{IsFront, IsFull, IsShort};
 
@@ -26,6 +26,7 @@ impl HeaderFault {
 }
 
 /// The octet at an index of two slices, one behind the other.
+#[inline]
 fn octet_at(held: &[u8], piece: &[u8], index: usize) -> Option<u8>
     ensures { MatchOption result (length (held.now ++ piece.now) ≤ index)
         (λ x. (index < length (held.now ++ piece.now)) × (slice_index (held.now ++ piece.now) index ≡ x)) }
@@ -38,6 +39,7 @@ fn octet_at(held: &[u8], piece: &[u8], index: usize) -> Option<u8>
 }
 
 /// How much of a piece belongs to the packet of which these octets are held.
+#[inline]
 pub(crate) fn survey(held: &[u8], piece: &[u8]) -> Result<Fed, HeaderFault>
     requires { IsFront held.now }
     ensures used { IfOk result (λ fed. fed.used ≤ length piece.now) }
@@ -45,60 +47,87 @@ pub(crate) fn survey(held: &[u8], piece: &[u8]) -> Result<Fed, HeaderFault>
     ensures whole { IfOk result (λ fed. MatchBool fed.whole
         (IsFull (held.now ++ take fed.used piece.now))
         (IsShort (held.now ++ take fed.used piece.now) × (fed.used ≡ length piece.now))) }
-    ensures full { IsFull held.now → result ≡ Ok (record { used = 0; whole = true }) }
     ensures version { result ≡ Err HeaderFault.Version → IsBadVersion (held.now ++ piece.now) }
     ensures length { result ≡ Err HeaderFault.Length → IsBadLength (held.now ++ piece.now) }
 {
-    let Some(version) = octet_at(held, piece, 0) else {
-        return Ok(Fed {
-            used: 0,
-            whole: false,
-        });
-    };
-    if version != 3 {
-        return Err(HeaderFault::Version);
+    if held.is_empty() {
+        survey_first(piece)
+    } else {
+        survey_next(held, piece)
     }
+}
+
+/// The same where nothing is held.
+#[inline]
+fn survey_first(piece: &[u8]) -> Result<Fed, HeaderFault>
+    ensures used { IfOk result (λ fed. fed.used ≤ length piece.now) }
+    ensures front { IfOk result (λ fed. IsFront (take fed.used piece.now)) }
+    ensures whole { IfOk result (λ fed. MatchBool fed.whole
+        (IsFull (take fed.used piece.now))
+        (IsShort (take fed.used piece.now) × (fed.used ≡ length piece.now))) }
+    ensures version { result ≡ Err HeaderFault.Version → IsBadVersion piece.now }
+    ensures length { result ≡ Err HeaderFault.Length → IsBadLength piece.now }
+{
+    match piece {
+        [3, _, high, low, ..] => part_of(*high, *low, 0, piece.len()),
+        [] | [3, ..] => Ok(all_of(piece)),
+        [_, ..] => Err(HeaderFault::Version),
+    }
+}
+
+/// The same where the first octets are held, of which the version is right.
+#[inline]
+fn survey_next(held: &[u8], piece: &[u8]) -> Result<Fed, HeaderFault>
+    requires front { IsFront held.now }
+    requires some { 0 < length held.now }
+    ensures used { IfOk result (λ fed. fed.used ≤ length piece.now) }
+    ensures front { IfOk result (λ fed. IsFront (held.now ++ take fed.used piece.now)) }
+    ensures whole { IfOk result (λ fed. MatchBool fed.whole
+        (IsFull (held.now ++ take fed.used piece.now))
+        (IsShort (held.now ++ take fed.used piece.now) × (fed.used ≡ length piece.now))) }
+    ensures version { result ≡ Err HeaderFault.Version → IsBadVersion (held.now ++ piece.now) }
+    ensures length { result ≡ Err HeaderFault.Length → IsBadLength (held.now ++ piece.now) }
+{
     let Some(low) = octet_at(held, piece, 3) else {
-        return Ok(Fed {
-            used: piece.len(),
-            whole: false,
-        });
+        return Ok(all_of(piece));
     };
     let Some(high) = octet_at(held, piece, 2) else {
-        return Ok(Fed {
-            used: piece.len(),
-            whole: false,
-        });
+        return Ok(all_of(piece));
     };
+    part_of(high, low, held.len(), piece.len())
+}
+
+/// All of a piece, whose packet goes on behind it.
+fn all_of(piece: &[u8]) -> Fed
+    ensures { result ≡ record { used = length piece.now; whole = false } }
+{
+    Fed {
+        used: piece.len(),
+        whole: false,
+    }
+}
+
+/// The part of a piece of so many octets that belongs to a packet with this length, of which so
+/// many octets are held.
+#[inline]
+fn part_of(high: u8, low: u8, held: usize, piece: usize) -> Result<Fed, HeaderFault>
+    requires { 7 ≤ 256 * high + low → held ≤ 256 * high + low }
+    ensures short { (result ≡ Err HeaderFault.Length) ↔ (256 * high + low < 7) }
+    ensures version { result ≢ Err HeaderFault.Version }
+    ensures least { OnOk result (7 ≤ 256 * high + low) }
+    ensures used { IfOk result (λ fed. fed.used ≤ piece) }
+    ensures whole { IfOk result (λ fed. MatchBool fed.whole
+        (held + fed.used ≡ 256 * high + low)
+        ((held + piece < 256 * high + low) × (fed.used ≡ piece))) }
+{
     let length = usize::from(high) * 256 + usize::from(low);
     if length < 7 {
         return Err(HeaderFault::Length);
     }
-    let missing = length - held.len();
-    if piece.len() < missing {
-        Ok(Fed {
-            used: piece.len(),
-            whole: false,
-        })
-    } else {
-        Ok(Fed {
-            used: missing,
-            whole: true,
-        })
-    }
-}
-
-/// The transport unit of a whole packet, or `None` where its end has not come.
-pub(crate) fn packet_in(held: &[u8]) -> Option<&[u8]>
-    requires { IsFront held.now }
-    ensures some { IfSome result (λ u. IsFull held.now × (u.now ≡ drop 4 held.now)) }
-    ensures none { IfNone result (IsShort held.now) }
-{
-    let [_, _, high, low, unit @ ..] = held else {
-        return None;
-    };
-    if held.len() < usize::from(*high) * 256 + usize::from(*low) {
-        return None;
-    }
-    Some(unit)
+    let missing = length - held;
+    let whole = missing <= piece;
+    Ok(Fed {
+        used: if whole { missing } else { piece },
+        whole,
+    })
 }

@@ -1,0 +1,48 @@
+//! The work that the benchmarks time, as C functions over octets and numbers.
+#![tactic(auto)]
+
+use osi_tpkt::Cutter;
+use std::alloc::Global;
+
+/// What a run saw: the packets and the octets of their transport units, each modulo 2^64.
+#[derive(Clone, Copy)]
+struct Seen {
+    packets: u64,
+    octets: u64,
+}
+
+/// Feeds one piece of a stream, and takes each packet that it makes whole.
+fn feed_piece(cutter: &mut Cutter, piece: &[u8], seen: &mut Seen) {
+    let mut rest = piece;
+    for _ in 0..=piece.len() {
+        let Ok(fed) = cutter.feed(rest) else {
+            return;
+        };
+        if !fed.whole {
+            return;
+        }
+        if let Some(unit) = cutter.packet() {
+            seen.packets = seen.packets.wrapping_add(1);
+            seen.octets = seen.octets.wrapping_add(unit.len() as u64);
+        }
+        cutter.advance();
+        rest = &rest[fed.used..];
+    }
+}
+
+/// Cuts a stream that comes in pieces of so many octets (the last may be shorter; 0 counts as 1),
+/// and answers a number of what was seen.
+#[unsafe(no_mangle)]
+pub extern "C" fn osi_bench_cut(alloc: Global, stream: &[u8], piece: usize) -> u64 {
+    let mut cutter = Cutter::new(alloc);
+    let mut seen = Seen {
+        packets: 0,
+        octets: 0,
+    };
+    for octets in stream.chunks(piece.max(1)) {
+        feed_piece(&mut cutter, octets, &mut seen);
+    }
+    seen.packets
+        .wrapping_mul(1_000_003)
+        .wrapping_add(seen.octets)
+}

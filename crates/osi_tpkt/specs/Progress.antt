@@ -1,0 +1,21 @@
+-- How far a cutter is with the packet whose octets it holds.
+use Rattle.std.specs.Prelude.{ℕ, List, Option, Some, None}
+use Rattle.osi_tpkt.specs.Header.{IsFront, IsFull, IsShort}
+use Rattle.osi_tpkt.specs.declared.faults.TpktFault.{TpktFault}
+use Rattle.osi_tpkt.specs.declared.faults.TpktFault.TheVariants.{BadVersion, BadLength}
+use Rattle.osi_tpkt.specs.declared.headers.HeaderFault.TheVariants.{Version, Length}
+use Rattle.osi_tpkt.specs.declared.cutting.Progress.{Progress}
+use Rattle.osi_tpkt.specs.declared.cutting.Progress.TheVariants.{Partial, Whole, Refused}
+
+-- the fault that is kept, of octets that stand at this offset
+abbrev pub fault_of : ℕ → Progress → Option TpktFault
+fault_of at Partial = None
+fault_of at Whole = None
+fault_of at (Refused Version) = Some (BadVersion at)
+fault_of at (Refused Length) = Some (BadLength at)
+
+-- what is true of the octets held: after a fault no packet stands
+abbrev pub IsSound : List ℕ → Progress → Type 0
+IsSound octets Partial = IsFront octets × IsShort octets
+IsSound octets Whole = IsFront octets × IsFull octets
+IsSound octets (Refused f) = IsFront octets × IsShort octets
