@@ -151,7 +151,7 @@ impl Cutter {
         ensures partial { IsPartial self.old.octets → self.new ≡ self.old }
     {
         if let Progress::Whole = self.progress {
-            self.offset = self.offset.saturating_add(self.held.len() as u64);
+            self.offset = self.offset.saturating_add(self.rest_len() as u64);
             self.held.clear();
             self.progress = Progress::Partial;
         }

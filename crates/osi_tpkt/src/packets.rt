@@ -42,7 +42,8 @@ impl<'a> Packet<'a> {
         ensures at_least { 3 ≤ length result.now }
         ensures at_most { length result.now ≤ 65531 }
     {
-        self.unit
+        let Packet { unit } = self;
+        unit
     }
 }
 
