@@ -1,0 +1,13 @@
+# make: proves the program and builds it. make test: proves and tests everything.
+.PHONY: all test bench
+
+all:
+	cd crates/osi_tool && rt run -- --help > out.log 2>&1 || { cat out.log; exit 1; }
+	rm -f crates/osi_tool/out.log
+	scripts/sources > crates/osi_tool/out/sources
+
+test:
+	bash .ci/run
+
+bench:
+	bench/run

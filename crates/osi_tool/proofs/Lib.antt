@@ -1,0 +1,4 @@
+pub mod Digits
+pub mod Listings
+pub mod Consumption
+pub mod Names

@@ -1,0 +1,21 @@
+use Rattle.std.proofs.Common.{◌≡◌, ◌∙◌, ap, ap₂, refl, rules, codes, true}
+use Rattle.std.proofs.lemmas.Result.{IfOk-weaker}
+use Rattle.clap.specs.Words.{App, Shape, app_of, new_app, shape_of, with_subcommand}
+use Rattle.clap.specs.Simple.{app_of_fields, shape_of_fields}
+use Rattle.osi_tool.specs.Words.{osi, top}
+use Rattle.osi_tool.proofs.words.command.Goals as goal
+
+-- the command that wants a subcommand
+abbrev wanting : App → App
+wanting a = record { top = record a.top { subcommand_required = true }; subs = a.subs }
+
+pub returns : goal.returns
+unfolding osi
+returns c =
+    let top_is : app_of c.subcommand_required.result ≡ top =
+    ap app_of_fields c.subcommand_required.ensures
+    ∙ ap (λ f. app_of_fields (record f { subcommand_required = true })) c.about.ensures
+    ∙ ap wanting c.new-2.ensures.app in
+    let show_is : shape_of c.about-show.result ≡ (new_app (codes "show")).top =
+    ap shape_of_fields c.about-show.ensures ∙ ap (λ (a : App). a.top) c.new.ensures.app in
+    IfOk-weaker c.subcommand.result _ _ (λ command h. h.shape (search rules) ∙ ap₂ with_subcommand top_is show_is) c.subcommand.ensures

@@ -1,0 +1,5 @@
+pub mod Capture
+pub mod Lines
+pub mod Listing
+pub mod Show
+pub mod Words

@@ -1,0 +1,67 @@
+ghost use Rattle.std.specs.Prelude.{◌≡◌, ◌∷◌, ◌++◌, ℕ, List, IfOk, Err};
+ghost use Rattle.osi_tool.specs.Capture.{digits_of, digits_left, is_blank, Captures, IsNoCapture};
+
+use crate::faults::ToolFault;
+use hex::FromHexError;
+use std::alloc::{AllocError, Global};
+
+/// The octets that a text captures: two hexadecimal digits of either case for each. Blanks, tabs and
+/// line ends are skipped, also between the two digits of an octet, and so is what stands between `#`
+/// and the line's end.
+pub fn octets_of(alloc: Global, text: &[u8]) -> Result<Vec<u8>, ToolFault>
+    ensures ok { IfOk result (λ octets. Captures text.now octets.items) }
+    ensures bad_hex { result ≡ Err ToolFault.BadHex → IsNoCapture text.now }
+    ensures input { result ≡ Err ToolFault.Input → ⊥ }
+    ensures write { result ≡ Err ToolFault.Write → ⊥ }
+{
+    let Ok(digits) = digits_in(alloc, text) else {
+        return Err(ToolFault::OutOfMemory);
+    };
+    match hex::decode(alloc, digits) {
+        Ok(octets) => Ok(octets),
+        Err(FromHexError::OutOfMemory) => Err(ToolFault::OutOfMemory),
+        Err(_) => Err(ToolFault::BadHex),
+    }
+}
+
+/// What is left of a text without comments and blanks.
+fn digits_in(alloc: Global, text: &[u8]) -> Result<Vec<u8>, AllocError>
+    ensures { IfOk result (λ digits. digits.items ≡ digits_of text.now) }
+{
+    let mut digits = Vec::new(alloc);
+    let mut in_comment = false;
+    'text: for octet in text {
+        in_comment = push_digit(&mut digits, in_comment, *octet)?;
+    }
+    Ok(digits)
+}
+
+/// Adds an octet of a text to its digits, unless it is a blank or stands in a comment, and answers
+/// whether a comment goes on behind it.
+fn push_digit(digits: &mut Vec<u8>, in_comment: bool, octet: u8) -> Result<bool, AllocError>
+    ensures { IfOk result (λ goes_on. (rest : List ℕ) →
+        digits.new.items ++ digits_left goes_on rest
+        ≡ digits.old.items ++ digits_left in_comment (octet ∷ rest)) }
+{
+    if octet == b'\n' {
+        return Ok(false);
+    }
+    if octet == b'#' {
+        return Ok(true);
+    }
+    if is_blank_octet(octet) {
+        return Ok(in_comment);
+    }
+    if in_comment {
+        return Ok(true);
+    }
+    digits.push(octet)?;
+    Ok(false)
+}
+
+/// Whether an octet stands between digits and means nothing.
+fn is_blank_octet(octet: u8) -> bool
+    ensures { result ≡ is_blank octet }
+{
+    octet == b' ' || octet == b'\t' || octet == b'\r'
+}

@@ -1,0 +1,6 @@
+/// What the program is to do.
+#[derive(Clone, Copy, PartialEq, Eq, Debug)]
+pub enum Job {
+    /// Lists the capture on standard input.
+    Show,
+}

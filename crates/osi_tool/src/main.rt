@@ -1,0 +1,74 @@
+//! The program `osi`, which reads captures of the OSI session protocol over TPKT.
+//!
+//! `osi show` lists the capture on standard input. The status is 0 where all of it was read, and 1
+//! where something was refused, which the listing shows. It is 2 where the words, the input or its
+//! digits can't be read, a write failed, or memory ran out; one line on standard error then names it.
+#![tactic(auto)]
+
+mod capture;
+mod faults;
+mod jobs;
+mod lines;
+mod listing;
+mod showing;
+#[cfg(test)]
+mod tests;
+mod words;
+
+use clap::Error;
+use clap::error::ErrorKind;
+use faults::{ProgramFault, ToolFault};
+use jobs::Job;
+use std::process::ExitCode;
+use std::rt::Env;
+use std::{env, io};
+
+fn main(rt: HostRuntime) -> ExitCode {
+    let status = match run(&rt) {
+        Ok(status) => status,
+        Err(fault) => {
+            let _ = eprintln!(&rt; "osi: {fault}");
+            2
+        }
+    };
+    ExitCode::from(status)
+}
+
+/// Does what the program's words ask for, and answers the status.
+fn run<R: Env + Input + Print + AllocGlobal>(rt: &R) -> Result<u8, ProgramFault> {
+    let words = words_of(rt)?;
+    match words::job(rt.alloc(), words.as_slice()) {
+        Ok(Job::Show) => {
+            let shown = showing::show(rt.alloc(), &mut rt.reader(), &mut io::writer(rt));
+            shown.map_err(ProgramFault::Tool)
+        }
+        Err(error) => explain(rt, &error),
+    }
+}
+
+/// The words that the program was called with.
+fn words_of<R: Env + AllocGlobal>(rt: &R) -> Result<Vec<String>, ProgramFault> {
+    match env::args(rt) {
+        Ok(words) => words
+            .collect(rt.alloc())
+            .map_err(|_| ProgramFault::Tool(ToolFault::OutOfMemory)),
+        Err(error) if error.kind() == io::ErrorKind::OutOfMemory => Err(ProgramFault::Tool(
+            ToolFault::OutOfMemory,
+        )),
+        Err(_) => Err(ProgramFault::Words),
+    }
+}
+
+/// Prints the help that was asked for; other errors are faults.
+fn explain<R: Print>(rt: &R, error: &Error) -> Result<u8, ProgramFault> {
+    if error.kind() == ErrorKind::OutOfMemory {
+        return Err(ProgramFault::Tool(ToolFault::OutOfMemory));
+    }
+    if error.use_stderr() {
+        return Err(ProgramFault::Words);
+    }
+    match rt.print(error) {
+        Ok(()) => Ok(0),
+        Err(_) => Err(ProgramFault::Tool(ToolFault::Write)),
+    }
+}

@@ -1,0 +1,182 @@
+use crate::faults::ToolFault;
+use crate::jobs::Job;
+use crate::showing::{LONGEST_INPUT, show};
+use crate::words::job;
+use clap::error::ErrorKind;
+use std::io;
+use std::io::{Read, Write};
+use std::test::Fail;
+
+/// What `show` answers to a text, and what it writes.
+fn shown(rt: &HostRuntime, text: &str) -> (Result<u8, ToolFault>, Vec<u8>) {
+    let mut out = Vec::new(rt.alloc());
+    let mut reader = text.as_bytes();
+    let answer = show(rt.alloc(), &mut reader, &mut out);
+    (answer, out)
+}
+
+const DATA: &str = "03 00 00 0D 02 F0 80 01 00 01 00 41 42";
+
+const LISTED: &str = "packet 0 length 13 code f0\nrest 0\n";
+
+#[test]
+fn captures_of_one_packet(rt: HostRuntime) {
+    let same = [
+        DATA,
+        "0300000d02f080010001004142",
+        "03\t00 0\r\n0 0d 02 f0 80 01 00 01 00 41 42\n",
+        "# data\n03 00 00 0D 02 F0 80 01 00 01 00 4# one\n1 42",
+        "03 00 00 0D 02 F0 80 01 00 01 00 41 42 # no line end \u{e9} 7",
+    ];
+    for text in same {
+        let (answer, out) = shown(&rt, text);
+        assert_eq!(rt; answer, Ok(0), "{text}");
+        assert!(rt; out.as_slice() == LISTED.as_bytes(), "{text}");
+    }
+}
+
+#[test]
+fn captures_and_their_listings(rt: HostRuntime) {
+    let listings = [
+        ("", 0, "rest 0\n"),
+        ("03 00", 0, "rest 2\n"),
+        ("04", 1, "fault 0 BadVersion\n"),
+        ("03 00 00 06 11", 1, "fault 0 BadLength\n"),
+        (
+            "03 FF 00 07 02 F0 80 03 00",
+            0,
+            "packet 0 length 7 code f0\nrest 2\n",
+        ),
+        (
+            "03 00 00 07 02 F0 80 30",
+            1,
+            "packet 0 length 7 code f0\nfault 7 BadVersion\n",
+        ),
+        (
+            "03 00 00 07 02 F0 80 03 00 00 09 04 0a 00 01 05 03 00 00",
+            0,
+            "packet 0 length 7 code f0\npacket 7 length 9 code 0a\nrest 3\n",
+        ),
+    ];
+    for (text, status, listing) in listings {
+        let (answer, out) = shown(&rt, text);
+        assert_eq!(rt; answer, Ok(status), "{text}");
+        assert!(rt; out.as_slice() == listing.as_bytes(), "{text}");
+    }
+}
+
+#[test]
+fn texts_that_are_no_captures(rt: HostRuntime) {
+    for text in ["0", "03 0", "03 0g", "03, 00", "0x03", "03 # 0\n0"] {
+        let (answer, out) = shown(&rt, text);
+        assert_eq!(rt; answer, Err(ToolFault::BadHex), "{text}");
+        assert!(rt; out.is_empty(), "{text}");
+    }
+}
+
+/// A reader that gives one octet at a time, fails after so many, and then has no more.
+#[derive(Drop)]
+struct Slow<'a> {
+    octets: &'a [u8],
+    fails: bool,
+}
+
+impl Read for Slow<'_> {
+    fn read(&mut self, buf: &mut [u8]) -> io::Result<usize> {
+        if buf.is_empty() {
+            return Ok(0);
+        }
+        let Some((first, rest)) = self.octets.split_first() else {
+            if self.fails {
+                self.fails = false;
+                return Err(io::Error::from(io::ErrorKind::Other));
+            }
+            return Ok(0);
+        };
+        buf[0] = *first;
+        self.octets = rest;
+        Ok(1)
+    }
+}
+
+#[test]
+fn a_reader_gives_octet_by_octet_or_fails(rt: HostRuntime) {
+    for (fails, wanted) in [(false, Ok(0)), (true, Err(ToolFault::Input))] {
+        let mut reader = Slow {
+            octets: DATA.as_bytes(),
+            fails,
+        };
+        let mut out = Vec::new(rt.alloc());
+        assert_eq!(rt; show(rt.alloc(), &mut reader, &mut out), wanted);
+        assert_eq!(rt; out.is_empty(), fails);
+    }
+}
+
+/// A writer that takes nothing.
+#[derive(Drop)]
+struct Broken;
+
+impl Write for Broken {
+    fn write(&mut self, _buf: &[u8]) -> io::Result<usize> {
+        Err(io::Error::from(io::ErrorKind::Other))
+    }
+
+    fn flush(&mut self) -> io::Result<()> {
+        Ok(())
+    }
+}
+
+#[test]
+fn a_write_fails(rt: HostRuntime) {
+    let mut reader = DATA.as_bytes();
+    assert_eq!(rt;
+        show(rt.alloc(), &mut reader, &mut Broken),
+        Err(ToolFault::Write)
+    );
+}
+
+#[test]
+fn the_longest_input(rt: HostRuntime) -> Result<(), Fail> {
+    let blanks = vec![in rt.alloc(); b' '; LONGEST_INPUT + 1]?;
+    let mut out = Vec::new(rt.alloc());
+    let mut reader = blanks.as_slice();
+    assert_eq!(rt;
+        show(rt.alloc(), &mut reader, &mut out),
+        Err(ToolFault::Input)
+    );
+    assert!(rt; out.is_empty());
+    let mut reader = &blanks.as_slice()[1..];
+    assert_eq!(rt; show(rt.alloc(), &mut reader, &mut out), Ok(0));
+    assert!(rt; out.as_slice() == b"rest 0\n".as_slice());
+    Ok(())
+}
+
+/// The kind of error that the words give.
+fn refused(rt: &HostRuntime, words: &[&str]) -> Option<ErrorKind> {
+    match job(rt.alloc(), words) {
+        Ok(_) => None,
+        Err(error) => Some(error.kind()),
+    }
+}
+
+#[test]
+fn words_name_a_job(rt: HostRuntime) {
+    assert!(rt; matches!(job(rt.alloc(), &["osi", "show"]), Ok(Job::Show)));
+    assert_eq!(rt;
+        refused(&rt, &["osi", "--help"]),
+        Some(ErrorKind::DisplayHelp)
+    );
+    assert_eq!(rt;
+        refused(&rt, &["osi", "help"]),
+        Some(ErrorKind::DisplayHelp)
+    );
+    assert_eq!(rt; refused(&rt, &["osi"]), Some(ErrorKind::MissingSubcommand));
+    assert_eq!(rt;
+        refused(&rt, &["osi", "list"]),
+        Some(ErrorKind::InvalidSubcommand)
+    );
+    assert_eq!(rt;
+        refused(&rt, &["osi", "show", "x"]),
+        Some(ErrorKind::UnknownArgument)
+    );
+}
