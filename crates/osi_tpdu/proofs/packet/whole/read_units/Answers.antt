@@ -1,0 +1,27 @@
+use Rattle.std.proofs.Common.{arith, rules}
+use Rattle.std.proofs.lemmas.Result.{err_from_is_err_and}
+use Rattle.osi_tpkt.specs.Octets.{IsOctets}
+use Rattle.osi_tpdu.proofs.PacketLaws.{units_found, packet_left, no_units, one_reading}
+use Rattle.osi_tpdu.proofs.packet.whole.read_units.Goals as goal
+
+pub returns-in_err-read_to_end-clause-only : goal.returns-in_err-read_to_end-clause-only
+returns-in_err-read_to_end-clause-only c vs us = absurd (no_units c.args.packet.now _ vs c.in_err-read_to_end.ensures us)
+
+pub returns-in_err-read_to_end-clause-refused : goal.returns-in_err-read_to_end-clause-refused
+returns-in_err-read_to_end-clause-refused c =
+    let e = err_from_is_err_and c.from_residual.result c.from_residual.ensures.1 in
+    rw e.1 (λ vs us. no_units c.args.packet.now _ vs c.in_err-read_to_end.ensures us)
+
+pub invariant_of-result : goal.invariant_of-result
+invariant_of-result c = record { room = search rules; readable = (packet_left c.args.packet.now c.in_ok-read_to_end.ensures).0 }
+
+pub returns-clause-found : goal.returns-clause-found
+returns-clause-found c =
+    let octets : IsOctets c.args.packet.now = λ i. omega (arith, c.type_inv.packet i) in
+    units_found c.args.packet.now _ octets (packet_left c.args.packet.now c.in_ok-read_to_end.ensures).1
+
+pub returns-clause-only : goal.returns-clause-only
+returns-clause-only c vs us = one_reading c.args.packet.now _ vs (packet_left c.args.packet.now c.in_ok-read_to_end.ensures).1 us
+
+pub returns-clause-exact : goal.returns-clause-exact
+returns-clause-exact c = (packet_left c.args.packet.now c.in_ok-read_to_end.ensures).1

@@ -1,0 +1,13 @@
+use Rattle.std.proofs.Common.{◌+◌, ◌<◌, ◌^◌, length}
+use Rattle.osi_tpdu.specs.Reading.{all_skipped_at}
+use Rattle.osi_tpdu.proofs.Loops.{Skips}
+use Rattle.osi_tpdu.proofs.parameters.skip_parameters.Given as goal
+
+abbrev pub invariant-parameters : goal.invariant-parameters
+invariant-parameters l = record {
+  skips : Skips l.at l.rest (all_skipped_at l.start l.octets);
+  room : l.at + length l.rest < 2 ^ 64;
+}
+
+abbrev pub decreases-parameters : goal.decreases-parameters
+decreases-parameters l = length l.rest

@@ -1,0 +1,10 @@
+pub mod Laws
+pub mod Limits
+pub mod Packet
+pub mod Reading
+pub mod Rest
+pub mod Spelling
+pub mod Units
+pub mod Value
+pub mod View
+pub mod Writing

@@ -1,0 +1,34 @@
+-- What the units that the code holds say.
+use Rattle.std.specs.Prelude.{option_map, option_copied}
+use Rattle.osi_tpdu.specs.declared.connect.ConnectParameters.{ConnectParameters}
+use Rattle.osi_tpdu.specs.declared.connect.ConnectRequest.{ConnectRequest}
+use Rattle.osi_tpdu.specs.declared.connect.ConnectConfirm.{ConnectConfirm}
+use Rattle.osi_tpdu.specs.declared.unit.Tpdu.{Tpdu}
+use Rattle.osi_tpdu.specs.declared.unit.Tpdu.TheVariants.{Cr, Cc, Dr, Dc, Dt0, Dt2, Ak, Er}
+use Rattle.osi_tpdu.specs.Limits.{size_code, selector_octets}
+use Rattle.osi_tpdu.specs.Value.{Parameters, Connect, Value, request, confirm, disconnect, disconnected, data0, data2, acknowledge, error}
+
+abbrev pub parameter_values : ConnectParameters → Parameters
+parameter_values p = record {
+  size = option_map size_code p.size;
+  calling = option_map selector_octets p.calling;
+  called = option_map selector_octets p.called;
+  additional = p.additional_options;
+  alternative = option_copied p.alternative_classes;
+}
+
+abbrev pub request_content : ConnectRequest → Connect
+request_content r = record { credit = r.credit; source = r.source; class = r.class; options = r.options; parameters = parameter_values r.parameters; user = r.user.now }
+
+abbrev pub confirm_content : ConnectConfirm → Connect
+confirm_content c = record { credit = c.credit; source = c.source; class = c.class; options = c.options; parameters = parameter_values c.parameters; user = c.user.now }
+
+abbrev pub value : Tpdu → Value
+value (Cr r) = request (request_content r)
+value (Cc c) = confirm c.destination (confirm_content c)
+value (Dr d) = disconnect d.destination d.source d.reason d.user.now
+value (Dc d) = disconnected d.destination d.source
+value (Dt0 d) = data0 d.end d.user.now
+value (Dt2 d) = data2 d.destination d.number d.end d.user.now
+value (Ak a) = acknowledge a.credit a.destination a.number
+value (Er e) = error e.destination e.cause

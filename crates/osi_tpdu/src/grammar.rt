@@ -1,0 +1,68 @@
+//! Transport units as a grammar of units.
+
+ghost use Rattle.std.specs.Prelude.{◌≡◌, ◌<◌, ◌++◌, length, Err, OnOk, OnErr};
+ghost use Rattle.osi_tpdu.specs.Laws.OneUnit.{stands_alone, one_reading};
+ghost use Rattle.osi_tpdu.specs.Laws.Written.{written_spells};
+ghost use Rattle.osi_tpdu.specs.Packet.{Follows};
+ghost use Rattle.osi_tpdu.specs.Reading.{unit_at};
+ghost use Rattle.osi_tpdu.specs.Spelling.{Spells};
+ghost use Rattle.osi_tpdu.specs.Value.{Value};
+ghost use Rattle.osi_tpdu.specs.View.{value};
+ghost use Rattle.osi_tpdu.specs.Writing.{written, Fits, HasRoom};
+
+use crate::faults::TpduFault;
+use crate::reading::read_unit;
+use crate::unit::Tpdu;
+use bytes::BytesMut;
+use osi_tpkt::Unit;
+use std::alloc::AllocError;
+
+impl<'a> Unit<'a> for Tpdu<'a> {
+    type Fault = TpduFault;
+
+    ghost Value = { Value };
+
+    ghost value = { value };
+
+    ghost spells = { Spells };
+
+    ghost follows = { Follows };
+
+    // Octets that hold no unit now hold none however they go on: a packet is whole.
+    ghost begins = { λ _. ⊥ };
+
+    ghost refuses = { λ octets fault. unit_at 0 octets ≡ Err fault };
+
+    ghost written = { written };
+
+    ghost fits = { Fits };
+
+    ghost is_spelled = { written_spells };
+
+    ghost stands_alone = { stands_alone };
+
+    ghost one_reading = { one_reading };
+
+    /// The first unit of the octets, as a packet has it, and the length of its spelling: AK, DC and
+    /// ER may be followed by anything, CR, CC, DR and DT go to the end. Never `Ok(None)`.
+    fn read(octets: &'a [u8]) -> Result<Option<(Self, usize)>, TpduFault> {
+        Ok(Some(read_unit(0, octets)?))
+    }
+
+    // Only the header's length is asked for: the rest of what fits is in the types.
+    fn write(&self, out: &mut BytesMut) -> Result<(), AllocError>
+        requires { HasRoom (value self.now) }
+        ensures ok { OnOk result (out.new.items ≡ out.old.items ++ written (value self.now)) }
+        ensures err { OnErr result (out.new.items ≡ out.old.items) }
+        ensures full { OnErr result (out.old.spare < length (written (value self.now))) }
+    {
+        crate::writing::write(self, out)
+    }
+
+    fn written_len(&self) -> usize
+        requires { HasRoom (value self.now) }
+        ensures { result ≡ length (written (value self.now)) }
+    {
+        crate::writing::written_len(self)
+    }
+}

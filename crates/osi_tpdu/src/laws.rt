@@ -1,0 +1,45 @@
+//! Laws of the definitions that the contracts cite. Each function does nothing: its clauses are the
+//! laws.
+
+ghost use Rattle.std.specs.Prelude.{◌≡◌, ℕ, List, [], ◌∷◌, ◌++◌, Ok, Err, ◌↔◌};
+ghost use Rattle.std.specs.List.{AllByRecursion};
+ghost use Rattle.osi_tpkt.specs.Octets.{IsOctets};
+ghost use Rattle.osi_tpkt.specs.Unit.{IsAtFront};
+ghost use Rattle.osi_tpdu.specs.Packet.{AreUnits, AreLeads, IsFirstFault, Follows, units_of};
+ghost use Rattle.osi_tpdu.specs.Reading.{unit_at};
+ghost use Rattle.osi_tpdu.specs.Spelling.{Spells};
+ghost use Rattle.osi_tpdu.specs.Value.{Value};
+ghost use Rattle.osi_tpdu.specs.View.{value};
+ghost use Rattle.osi_tpdu.specs.declared.faults.TpduFault.{TpduFault};
+ghost use Rattle.osi_tpdu.specs.declared.unit.Tpdu.{Tpdu};
+ghost use Rattle.osi_tpdu.specs.Writing.{written, HasRoom, HasFewClasses, Fits};
+
+/// One unit at the front of octets: what is read is spelled so, and what is spelled so is read.
+pub fn one_unit()
+    ensures found { (v : Value) (n : ℕ) (octets : List ℕ) → IsOctets octets → unit_at 0 octets ≡ Ok (v, n) →
+        IsAtFront Spells Follows v n octets }
+    ensures only { (v : Value) (n : ℕ) (octets : List ℕ) → IsAtFront Spells Follows v n octets →
+        unit_at 0 octets ≡ Ok (v, n) }
+{}
+
+/// The units of a packet: what is read is spelled so, what is spelled so is read, and so a packet
+/// spells one list of units at most. Each of them has a written form. A packet that spells none has
+/// the fault of the first unit that cannot be read.
+pub fn whole_packet()
+    ensures found { (vs : List Value) (octets : List ℕ) → IsOctets octets → units_of octets ≡ Ok vs → AreUnits vs octets }
+    ensures only { (vs : List Value) (octets : List ℕ) → AreUnits vs octets → units_of octets ≡ Ok vs }
+    ensures one_reading { (vs ws : List Value) (octets : List ℕ) → AreUnits vs octets → AreUnits ws octets → vs ≡ ws }
+    ensures fits { (vs : List Value) (octets : List ℕ) → AreUnits vs octets → AllByRecursion Fits vs }
+    ensures faults { (octets : List ℕ) (f : TpduFault) → IsOctets octets →
+        (units_of octets ≡ Err f) ↔ IsFirstFault octets f }
+{}
+
+/// The written form spells its value, and is read as it behind whatever units may stand before it.
+/// Each value that was read has one, and so has each unit with at most 172 alternative classes.
+pub fn written_form()
+    ensures spells { (v : Value) → Fits v → Spells v (written v) }
+    ensures again { (leads : List Value) (front : List ℕ) (v : Value) → AreLeads leads front → Fits v →
+        units_of (front ++ written v) ≡ Ok (leads ++ v ∷ []) }
+    ensures fits { (v : Value) (octets : List ℕ) → Spells v octets → Fits v }
+    ensures room { (t : Tpdu) → HasFewClasses (value t) → HasRoom (value t) }
+{}

@@ -1,0 +1,44 @@
+ghost use Rattle.std.specs.Prelude.{◌≡◌, List, Err, IfOk, IfErr, IsOk, IsOkAnd, OnErr, MatchResult};
+ghost use Rattle.osi_tpdu.specs.Packet.{AreUnits, units_of};
+ghost use Rattle.osi_tpdu.specs.Reading.{Gives};
+ghost use Rattle.osi_tpdu.specs.Units.{units_left};
+ghost use Rattle.osi_tpdu.specs.Value.{Value};
+
+use super::Units;
+use crate::faults::TpduFault;
+use crate::reading::read_unit;
+
+// Reads a packet to its end, or to its first fault.
+fn read_to_end(packet: &[u8]) -> Result<(), TpduFault>
+    ensures { MatchResult result (λ _. IsOk (units_of packet.now)) (λ f. units_of packet.now ≡ Err f) }
+{
+    let mut at = 0;
+    let mut rest = packet;
+    'units: loop {
+        let (_, used) = read_unit(at, rest)?;
+        let (_, behind) = rest.split_at(used);
+        if behind.is_empty() {
+            return Ok(());
+        }
+        at += used;
+        rest = behind;
+    }
+}
+
+/// The units that the octets of a packet spell, one after the other: at least one, AK, DC and ER in
+/// any number, and then at most one CR, CC, DR or DT (X.224 section 6.4). Where one of them is bad
+/// none is given, and the `Err` names the first fault.
+pub fn read_units(packet: &[u8]) -> Result<Units<'_>, TpduFault>
+    // What is given is spelled so, and what is spelled so is given.
+    ensures found { IfOk result (λ u. AreUnits (units_left u) packet.now) }
+    ensures only { (vs : List Value) → AreUnits vs packet.now → IsOkAnd result (λ u. units_left u ≡ vs) }
+    ensures refused { OnErr result ((vs : List Value) → ¬ (AreUnits vs packet.now)) }
+    // Which fault is the first.
+    ensures exact { Gives units_left result (units_of packet.now) }
+{
+    read_to_end(packet)?;
+    Ok(Units {
+        at: 0,
+        rest: packet,
+    })
+}

@@ -1,0 +1,190 @@
+//! Reading the parameters of a header (X.224 section 13.2.3).
+
+ghost use Rattle.std.specs.Prelude.{◌≡◌, ◌+◌, ◌<◌, ◌≤◌, ◌^◌, length, IfOk};
+ghost use Rattle.osi_tpdu.specs.Reading.{Gives, parameter_at, with_size, with_calling, with_called, with_additional, with_alternative, with_parameter, known_at, all_skipped_at};
+ghost use Rattle.osi_tpdu.specs.View.{parameter_values};
+
+use crate::connect::ConnectParameters;
+use crate::faults::TpduFault;
+use crate::limits::SizeCode;
+use crate::tsaps::Selector;
+
+/// The codes of the parameters that are known in a CR or CC (X.224 section 13.3.4).
+pub(crate) const SIZE: u8 = 0xC0;
+
+pub(crate) const CALLING: u8 = 0xC1;
+
+pub(crate) const CALLED: u8 = 0xC2;
+
+pub(crate) const ADDITIONAL_OPTIONS: u8 = 0xC6;
+
+pub(crate) const ALTERNATIVE_CLASSES: u8 = 0xC7;
+
+// The parameter at the front: its code, its value, and the octets behind it.
+#[tactic(auto, unfolding(crate::specs::Reading::parameter_at))]
+fn read_parameter(at: usize, octets: &[u8]) -> Result<(u8, &[u8], &[u8]), TpduFault>
+    requires { 1 ≤ length octets.now }
+    ensures gives { Gives (λ r. (r.0, r.1.now, r.2.now)) result (parameter_at at octets.now) }
+    ensures lengths { IfOk result (λ r. 2 + length r.1.now + length r.2.now ≡ length octets.now) }
+{
+    if octets.len() < 2 {
+        return Err(TpduFault::BadParameterLength(at));
+    }
+    let len = octets[1] as usize;
+    if octets.len() < 2 + len {
+        return Err(TpduFault::BadParameterLength(at));
+    }
+    let (_, behind) = octets.split_at(2);
+    let (value, rest) = behind.split_at(len);
+    Ok((octets[0], value, rest))
+}
+
+#[tactic(auto, unfolding(crate::specs::Reading::with_size))]
+fn add_size<'a>(
+    at: usize,
+    value: &[u8],
+    known: ConnectParameters<'a>,
+) -> Result<ConnectParameters<'a>, TpduFault>
+    ensures { Gives parameter_values result (with_size at value.now (parameter_values known.entry)) }
+{
+    if value.len() != 1 {
+        return Err(TpduFault::BadParameterLength(at));
+    }
+    if known.size.is_some() {
+        return Err(TpduFault::DuplicateParameter(at));
+    }
+    let Some(size) = SizeCode::new(value[0]) else {
+        return Err(TpduFault::BadParameterValue(at));
+    };
+    let mut known = known;
+    known.size = Some(size);
+    Ok(known)
+}
+
+#[tactic(auto, unfolding(crate::specs::Reading::with_calling))]
+fn add_calling<'a>(
+    at: usize,
+    value: &'a [u8],
+    known: ConnectParameters<'a>,
+) -> Result<ConnectParameters<'a>, TpduFault>
+    ensures { Gives parameter_values result (with_calling at value.now (parameter_values known.entry)) }
+{
+    let Some(selector) = Selector::new(value) else {
+        return Err(TpduFault::BadParameterLength(at));
+    };
+    if known.calling.is_some() {
+        return Err(TpduFault::DuplicateParameter(at));
+    }
+    let mut known = known;
+    known.calling = Some(selector);
+    Ok(known)
+}
+
+#[tactic(auto, unfolding(crate::specs::Reading::with_called))]
+fn add_called<'a>(
+    at: usize,
+    value: &'a [u8],
+    known: ConnectParameters<'a>,
+) -> Result<ConnectParameters<'a>, TpduFault>
+    ensures { Gives parameter_values result (with_called at value.now (parameter_values known.entry)) }
+{
+    let Some(selector) = Selector::new(value) else {
+        return Err(TpduFault::BadParameterLength(at));
+    };
+    if known.called.is_some() {
+        return Err(TpduFault::DuplicateParameter(at));
+    }
+    let mut known = known;
+    known.called = Some(selector);
+    Ok(known)
+}
+
+#[tactic(auto, unfolding(crate::specs::Reading::with_additional))]
+fn add_additional_options<'a>(
+    at: usize,
+    value: &[u8],
+    known: ConnectParameters<'a>,
+) -> Result<ConnectParameters<'a>, TpduFault>
+    ensures { Gives parameter_values result (with_additional at value.now (parameter_values known.entry)) }
+{
+    if value.len() != 1 {
+        return Err(TpduFault::BadParameterLength(at));
+    }
+    if known.additional_options.is_some() {
+        return Err(TpduFault::DuplicateParameter(at));
+    }
+    let mut known = known;
+    known.additional_options = Some(value[0]);
+    Ok(known)
+}
+
+#[tactic(auto, unfolding(crate::specs::Reading::with_alternative))]
+fn add_alternative_classes<'a>(
+    at: usize,
+    value: &'a [u8],
+    known: ConnectParameters<'a>,
+) -> Result<ConnectParameters<'a>, TpduFault>
+    ensures { Gives parameter_values result (with_alternative at value.now (parameter_values known.entry)) }
+{
+    if known.alternative_classes.is_some() {
+        return Err(TpduFault::DuplicateParameter(at));
+    }
+    let mut known = known;
+    known.alternative_classes = Some(value);
+    Ok(known)
+}
+
+// What is known with one more parameter of a CR or CC.
+#[tactic(auto, unfolding(crate::specs::Reading::with_parameter))]
+fn add_parameter<'a>(
+    at: usize,
+    code: u8,
+    value: &'a [u8],
+    known: ConnectParameters<'a>,
+) -> Result<ConnectParameters<'a>, TpduFault>
+    ensures { Gives parameter_values result (with_parameter at code value.now (parameter_values known.entry)) }
+{
+    match code {
+        SIZE => add_size(at, value, known),
+        CALLING => add_calling(at, value, known),
+        CALLED => add_called(at, value, known),
+        ADDITIONAL_OPTIONS => add_additional_options(at, value, known),
+        ALTERNATIVE_CLASSES => add_alternative_classes(at, value, known),
+        _ => Ok(known),
+    }
+}
+
+// The parameters of a CR or CC, which fill the octets.
+pub(crate) fn read_parameters(
+    start: usize,
+    octets: &[u8],
+) -> Result<ConnectParameters<'_>, TpduFault>
+    requires { start + length octets.now < 2 ^ 64 }
+    ensures { Gives parameter_values result (known_at start octets.now) }
+{
+    let mut known = ConnectParameters::none();
+    let mut at = start;
+    let mut rest = octets;
+    'parameters: while !rest.is_empty() {
+        let (code, value, behind) = read_parameter(at, rest)?;
+        known = add_parameter(at, code, value, known)?;
+        at += 2 + value.len();
+        rest = behind;
+    }
+    Ok(known)
+}
+
+// Parameters that fill the octets, of which none is known.
+pub(crate) fn skip_parameters(start: usize, octets: &[u8]) -> Result<(), TpduFault>
+    requires { start + length octets.now < 2 ^ 64 }
+    ensures { Gives (λ _. tt) result (all_skipped_at start octets.now) }
+{
+    let mut at = start;
+    let mut rest = octets;
+    'parameters: while !rest.is_empty() {
+        let (_, value, behind) = read_parameter(at, rest)?;
+        at += 2 + value.len();
+        rest = behind;
+    }
+    Ok(())
+}

@@ -1,0 +1,200 @@
+//! Reading one unit (X.224 section 13).
+
+ghost use Rattle.std.specs.Prelude.{◌≡◌, ◌+◌, ◌<◌, ◌≤◌, ◌^◌, length, IfOk};
+ghost use Rattle.osi_tpdu.specs.Reading.{Gives, header_at, connect_of, request_of, confirm_of, disconnect_of, disconnected_of, transfer_of, acknowledge_of, error_of, value_of, unit_at};
+ghost use Rattle.osi_tpdu.specs.Value.{request, confirm};
+ghost use Rattle.osi_tpdu.specs.View.{request_content, confirm_content, value};
+ghost use Rattle.osi_tpdu.specs.Writing.{Fits};
+
+use crate::connect::{ConnectConfirm, ConnectRequest};
+use crate::disconnect::{DisconnectConfirm, DisconnectRequest};
+use crate::faults::TpduFault;
+use crate::octets::{high_half, low_half, number, reference};
+use crate::parameters::{read_parameters, skip_parameters};
+use crate::report::ErrorReport;
+use crate::transfer::{DataAcknowledgement, DataClass0, DataClass2};
+use crate::unit::Tpdu;
+
+/// The greatest length indicator.
+const GREATEST_LI: usize = 254;
+
+// The header of the unit at the front, and the octets behind it.
+#[tactic(auto, unfolding(crate::specs::Reading::header_at))]
+fn read_header(at: usize, octets: &[u8]) -> Result<(&[u8], &[u8]), TpduFault>
+    ensures gives { Gives (λ r. (r.0.now, r.1.now)) result (header_at at octets.now) }
+    ensures lengths { IfOk result (λ r. length r.0.now + length r.1.now + 1 ≡ length octets.now) }
+    ensures least { IfOk result (λ r. 1 ≤ length r.0.now) }
+{
+    if octets.is_empty() {
+        return Err(TpduFault::BadLi(at));
+    }
+    let li = octets[0] as usize;
+    if li == 0 || li > GREATEST_LI || octets.len() <= li {
+        return Err(TpduFault::BadLi(at));
+    }
+    let (_, counted) = octets.split_at(1);
+    Ok(counted.split_at(li))
+}
+
+#[tactic(auto, unfolding(crate::specs::Reading::connect_of, crate::specs::Reading::request_of))]
+fn read_request<'a>(at: usize, header: &'a [u8], user: &'a [u8]) -> Result<Tpdu<'a>, TpduFault>
+    requires { at + length header.now + 1 < 2 ^ 64 }
+    ensures { Gives value result (request_of at header.now user.now) }
+{
+    if header.len() < 6 {
+        return Err(TpduFault::BadLi(at));
+    }
+    let (_, variable) = header.split_at(6);
+    let parameters = read_parameters(at + 7, variable)?;
+    Ok(Tpdu::Cr(ConnectRequest {
+        credit: low_half(header[0]),
+        source: reference(3, header),
+        class: high_half(header[5]),
+        options: low_half(header[5]),
+        parameters,
+        user,
+    }))
+}
+
+#[tactic(auto, unfolding(crate::specs::Reading::connect_of, crate::specs::Reading::confirm_of))]
+fn read_confirm<'a>(at: usize, header: &'a [u8], user: &'a [u8]) -> Result<Tpdu<'a>, TpduFault>
+    requires { at + length header.now + 1 < 2 ^ 64 }
+    ensures { Gives value result (confirm_of at header.now user.now) }
+{
+    if header.len() < 6 {
+        return Err(TpduFault::BadLi(at));
+    }
+    let (_, variable) = header.split_at(6);
+    let parameters = read_parameters(at + 7, variable)?;
+    Ok(Tpdu::Cc(ConnectConfirm {
+        credit: low_half(header[0]),
+        destination: reference(1, header),
+        source: reference(3, header),
+        class: high_half(header[5]),
+        options: low_half(header[5]),
+        parameters,
+        user,
+    }))
+}
+
+#[tactic(auto, unfolding(crate::specs::Reading::disconnect_of))]
+fn read_disconnect<'a>(at: usize, header: &[u8], user: &'a [u8]) -> Result<Tpdu<'a>, TpduFault>
+    requires { at + length header.now + 1 < 2 ^ 64 }
+    ensures { Gives value result (disconnect_of at header.now user.now) }
+{
+    if header.len() < 6 {
+        return Err(TpduFault::BadLi(at));
+    }
+    let (_, variable) = header.split_at(6);
+    skip_parameters(at + 7, variable)?;
+    Ok(Tpdu::Dr(DisconnectRequest {
+        destination: reference(1, header),
+        source: reference(3, header),
+        reason: header[5],
+        user,
+    }))
+}
+
+#[tactic(auto, unfolding(crate::specs::Reading::disconnected_of))]
+fn read_disconnected<'a>(at: usize, header: &[u8]) -> Result<Tpdu<'a>, TpduFault>
+    ensures { Gives value result (disconnected_of at header.now) }
+{
+    if header.len() != 5 {
+        return Err(TpduFault::BadLi(at));
+    }
+    Ok(Tpdu::Dc(DisconnectConfirm {
+        destination: reference(1, header),
+        source: reference(3, header),
+    }))
+}
+
+// The length of its header tells the class of a DT.
+#[tactic(auto, unfolding(crate::specs::Reading::transfer_of))]
+fn read_transfer<'a>(at: usize, header: &[u8], user: &'a [u8]) -> Result<Tpdu<'a>, TpduFault>
+    ensures { Gives value result (transfer_of at header.now user.now) }
+{
+    match header.len() {
+        2 => Ok(Tpdu::Dt0(DataClass0 {
+            end: header[1] >= 0x80,
+            user,
+        })),
+        4 => Ok(Tpdu::Dt2(DataClass2 {
+            destination: reference(1, header),
+            number: number(header[3]),
+            end: header[3] >= 0x80,
+            user,
+        })),
+        _ => Err(TpduFault::BadLi(at)),
+    }
+}
+
+#[tactic(auto, unfolding(crate::specs::Reading::acknowledge_of))]
+fn read_acknowledge<'a>(at: usize, header: &[u8]) -> Result<Tpdu<'a>, TpduFault>
+    ensures { Gives value result (acknowledge_of at header.now) }
+{
+    if header.len() != 4 {
+        return Err(TpduFault::BadLi(at));
+    }
+    Ok(Tpdu::Ak(DataAcknowledgement {
+        credit: low_half(header[0]),
+        destination: reference(1, header),
+        number: number(header[3]),
+    }))
+}
+
+#[tactic(auto, unfolding(crate::specs::Reading::error_of))]
+fn read_error<'a>(at: usize, header: &[u8]) -> Result<Tpdu<'a>, TpduFault>
+    requires { at + length header.now + 1 < 2 ^ 64 }
+    ensures { Gives value result (error_of at header.now) }
+{
+    if header.len() < 4 {
+        return Err(TpduFault::BadLi(at));
+    }
+    let (_, variable) = header.split_at(4);
+    skip_parameters(at + 5, variable)?;
+    Ok(Tpdu::Er(ErrorReport {
+        destination: reference(1, header),
+        cause: header[3],
+    }))
+}
+
+// The unit with this header, by its code, and these octets behind it.
+#[tactic(auto, unfolding(crate::specs::Reading::value_of))]
+fn read_fields<'a>(at: usize, header: &'a [u8], user: &'a [u8]) -> Result<Tpdu<'a>, TpduFault>
+    requires least { 1 ≤ length header.now }
+    requires room { at + length header.now + 1 < 2 ^ 64 }
+    ensures { Gives value result (value_of at header.now user.now) }
+{
+    let code = header[0];
+    match high_half(code) {
+        0xE => read_request(at, header, user),
+        0xD => read_confirm(at, header, user),
+        0x6 => read_acknowledge(at, header),
+        _ => match code {
+            0x80 => read_disconnect(at, header, user),
+            0xC0 => read_disconnected(at, header),
+            0xF0 => read_transfer(at, header, user),
+            0x70 => read_error(at, header),
+            _ => Err(TpduFault::UnknownCode(at + 1)),
+        },
+    }
+}
+
+/// The first unit of the octets, which begin at this offset, and how many of them spell it.
+#[tactic(auto, unfolding(crate::specs::Reading::unit_at))]
+pub(crate) fn read_unit(at: usize, octets: &[u8]) -> Result<(Tpdu<'_>, usize), TpduFault>
+    requires { at + length octets.now < 2 ^ 64 }
+    ensures gives { Gives (λ r. (value r.0, r.1)) result (unit_at at octets.now) }
+    ensures least { IfOk result (λ r. 1 ≤ r.1) }
+    ensures most { IfOk result (λ r. r.1 ≤ length octets.now) }
+    ensures fits { IfOk result (λ r. Fits (value r.0)) }
+{
+    let (header, behind) = read_header(at, octets)?;
+    let unit = read_fields(at, header, behind)?;
+    let used = if unit.may_be_followed() {
+        1 + header.len()
+    } else {
+        octets.len()
+    };
+    Ok((unit, used))
+}

@@ -1,0 +1,39 @@
+ghost use Rattle.std.specs.Prelude.{◌≡◌};
+ghost use Rattle.osi_tpdu.specs.Value.{may_be_followed};
+ghost use Rattle.osi_tpdu.specs.View.{value};
+
+use crate::connect::{ConnectConfirm, ConnectRequest};
+use crate::disconnect::{DisconnectConfirm, DisconnectRequest};
+use crate::report::ErrorReport;
+use crate::transfer::{DataAcknowledgement, DataClass0, DataClass2};
+
+/// A transport unit (TPDU) of class 0 or 2 (X.224 section 13). Its octets lie where it was read.
+#[derive(Clone, Copy, PartialEq, Eq, Debug)]
+pub enum Tpdu<'a> {
+    /// CR, the connection request.
+    Cr(ConnectRequest<'a>),
+    /// CC, the connection confirm.
+    Cc(ConnectConfirm<'a>),
+    /// DR, the disconnect request.
+    Dr(DisconnectRequest<'a>),
+    /// DC, the disconnect confirm.
+    Dc(DisconnectConfirm),
+    /// DT of class 0.
+    Dt0(DataClass0<'a>),
+    /// DT of class 2.
+    Dt2(DataClass2<'a>),
+    /// AK, which acknowledges DT units of class 2.
+    Ak(DataAcknowledgement),
+    /// ER, the report of a protocol error.
+    Er(ErrorReport),
+}
+
+impl Tpdu<'_> {
+    /// Whether another unit may follow in the packet, as behind AK, DC and ER: they have no user
+    /// data (X.224 section 6.4).
+    pub fn may_be_followed(&self) -> bool
+        ensures { result ≡ may_be_followed (value self.now) }
+    {
+        matches!(self, Tpdu::Dc(_) | Tpdu::Ak(_) | Tpdu::Er(_))
+    }
+}
