@@ -1,5 +1,5 @@
 -- The digits of a text, from one octet to the next.
-use Rattle.std.proofs.Common.{◌≡◌, ℕ, suc, take, Bool, true, false, cond, not, List, [], ◌∷◌, ◌++◌, refl, subst, inl, inr, ◌⊎◌, sym, ◌∙◌, ap, arith, ◌+◌, ◌==◌, ◌||◌, filter}
+use Rattle.std.proofs.Common.{◌≡◌, ℕ, suc, take, Bool, true, false, cond, not, List, [], ◌∷◌, ◌++◌, refl, inl, inr, sym, ◌∙◌, ap, arith, ◌+◌, ◌==◌, filter}
 use Rattle.std.specs.List.{before_first, flat_map, slice_split, onto_first, prefix_len}
 use Rattle.std.proofs.lemmas.Bool.Decides.{eqb_tells}
 use Rattle.std.proofs.lemmas.List.Splits.{slice_split-cons_yes, slice_split-cons_no}

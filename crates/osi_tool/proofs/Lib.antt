@@ -1,4 +1,5 @@
-pub mod Digits
-pub mod Listings
 pub mod Consumption
+pub mod Digits
+pub mod Joining
+pub mod Listings
 pub mod Names

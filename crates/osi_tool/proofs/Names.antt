@@ -1,5 +1,5 @@
 -- The name of the subcommand that a parse met, and its rows.
-use Rattle.std.proofs.Common.{◌≡◌, Option, Some, None, option_map, refl, ap, ◌∙◌, true}
+use Rattle.std.proofs.Common.{◌≡◌, Option, Some, None, option_map, refl, true}
 use Rattle.clap.specs.Words.{subcommand_rows_of, subcommand_name_of, is_simple}
 use Rattle.clap.specs.declared.parser.matches.ArgMatches.{ArgMatches}
 use Rattle.clap.specs.declared.parser.matches.ArgMatches.TheViews.{out-ArgMatches}

@@ -1,5 +1,5 @@
 -- The text of a capture: hexadecimal digits, blanks and comments.
-use Rattle.std.specs.Prelude.{◌≡◌, ℕ, ◌==◌, ◌||◌, not, Bool, true, false, List, [], ◌∷◌, filter, Result, Ok, Err, IsErr}
+use Rattle.std.specs.Prelude.{◌≡◌, ℕ, ◌==◌, ◌||◌, not, Bool, true, false, List, [], ◌∷◌, filter, Ok, IsErr}
 use Rattle.std.specs.List.{before_first, flat_map, slice_split}
 use Rattle.hex.specs.Hex.{decode_of}
 

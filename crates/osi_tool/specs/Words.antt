@@ -1,5 +1,5 @@
 -- The words that the program takes.
-use Rattle.std.specs.Prelude.{◌≡◌, ℕ, List, codes, true, Option, Some, option_map}
+use Rattle.std.specs.Prelude.{ℕ, List, codes, true, Option, option_map}
 use Rattle.clap.specs.Words.{App, Text, new_app, subcommand_of, with_subcommand}
 use Rattle.osi_tool.specs.declared.jobs.Job.{Job}
 use Rattle.osi_tool.specs.declared.jobs.Job.TheVariants.{Show}

@@ -1,25 +1,38 @@
-ghost use Rattle.std.specs.Prelude.{◌≡◌, ◌++◌, ◌<◌, ◌^◌, ℕ, List, length, IfOk};
+ghost use Rattle.std.specs.Prelude.{◌≡◌, ◌++◌, ◌∷◌, ℕ, List, option_to_list, IfOk, OnOk};
 ghost use Rattle.osi_tpkt.specs.Packet.{IsFaultOf};
-ghost use Rattle.osi_tool.specs.Listing.{IsListing};
+ghost use Rattle.osi_tpdu.specs.Packet.{units_of};
+ghost use Rattle.osi_tpdu.specs.Units.{units_left};
+ghost use Rattle.osi_tpdu.specs.View.{value};
+ghost use Rattle.osi_tool.specs.Joins.{outcome_value};
+ghost use Rattle.osi_tool.specs.Listing.{IsListing, outcome_entries, part_entries, unit_entries, read_entries, read_parts};
+ghost use Rattle.osi_tool.specs.Listing.Entry.{TransportUnit};
+ghost use Rattle.osi_tool.specs.Says.{Says, Holds};
+ghost use Rattle.osi_tool.specs.Streams.{Part, part_of, parts_of};
 
-use crate::lines::{push_fault, push_packet, push_rest};
+use crate::lines::{push_fault, push_packet, push_rest, push_too_long, push_tsdu, push_unit_fault};
+use crate::streams::{Outcome, Streams};
+use crate::units::push_unit;
+use osi_tpdu::{Tpdu, Units, read_units};
 use osi_tpkt::{Packet, TpktFault, Unit};
-use std::alloc::AllocError;
+use std::alloc::{AllocError, Global};
 
-/// Lists captured octets: a line for each packet, and one for the fault or the rest behind them. The
-/// status is 1 where something was refused, else 0.
-pub fn list(text: &mut Vec<u8>, octets: &[u8]) -> Result<u8, AllocError>
+/// Lists captured octets: a line for each packet, for each of its transport units and for each whole
+/// TSDU, and one for the fault or the rest behind the packets. The status is 1 where something was
+/// refused, else 0.
+pub fn list(alloc: Global, text: &mut Vec<u8>, octets: &[u8]) -> Result<u8, AllocError>
     ensures { IfOk result (λ status. (lines : List ℕ) × (text.new.items ≡ text.old.items ++ lines)
         × IsListing octets.now lines status) }
 {
+    let mut streams = Streams::new(alloc);
     let mut rest = octets;
+    let mut refused = false;
     'packets: loop {
         let offset = (octets.len() - rest.len()) as u64;
         let (packet, used) = match Packet::read(rest) {
             Ok(Some(found)) => found,
             Ok(None) => {
                 push_rest(text, rest.len() as u64)?;
-                return Ok(0);
+                return Ok(u8::from(refused));
             }
             Err(fault) => {
                 push_fault(text, at(fault, offset))?;
@@ -27,6 +40,8 @@ pub fn list(text: &mut Vec<u8>, octets: &[u8]) -> Result<u8, AllocError>
             }
         };
         push_packet(text, offset, packet.unit())?;
+        let more = list_units(alloc, text, &mut streams, packet.unit())?;
+        refused = refused || more;
         let (_, behind) = rest.split_at(used);
         rest = behind;
     }
@@ -40,5 +55,82 @@ fn at(fault: TpktFault, offset: u64) -> TpktFault
         TpktFault::BadVersion(_) => TpktFault::BadVersion(offset),
         TpktFault::BadLength(_) => TpktFault::BadLength(offset),
         TpktFault::OutOfMemory => TpktFault::OutOfMemory,
+    }
+}
+
+/// Lists the units of a packet, or their fault alone. Answers whether something was refused.
+fn list_units(
+    alloc: Global,
+    text: &mut Vec<u8>,
+    streams: &mut Streams,
+    unit: &[u8],
+) -> Result<bool, AllocError>
+    ensures says { IfOk result (λ refused. (earlier : List Part) → Holds streams.old earlier →
+        Says text.old.items text.new.items refused (read_entries earlier (units_of unit.now))) }
+    ensures holds { OnOk result ((earlier : List Part) → Holds streams.old earlier →
+        Holds streams.new (earlier ++ read_parts (units_of unit.now))) }
+{
+    match read_units(unit) {
+        Ok(units) => list_each(alloc, text, streams, units),
+        Err(fault) => {
+            push_unit_fault(text, fault)?;
+            Ok(true)
+        }
+    }
+}
+
+/// Lists units, one after the other.
+fn list_each(
+    alloc: Global,
+    text: &mut Vec<u8>,
+    streams: &mut Streams,
+    mut units: Units,
+) -> Result<bool, AllocError>
+    ensures says { IfOk result (λ refused. (earlier : List Part) → Holds streams.old earlier →
+        Says text.old.items text.new.items refused (unit_entries earlier (units_left units.entry))) }
+    ensures holds { OnOk result ((earlier : List Part) → Holds streams.old earlier →
+        Holds streams.new (earlier ++ parts_of (units_left units.entry))) }
+{
+    let mut refused = false;
+    'units: while let Some(unit) = units.next() {
+        let more = list_unit(alloc, text, streams, &unit)?;
+        refused = refused || more;
+    }
+    Ok(refused)
+}
+
+/// Lists one unit, and what it brings to its stream.
+fn list_unit(
+    alloc: Global,
+    text: &mut Vec<u8>,
+    streams: &mut Streams,
+    unit: &Tpdu,
+) -> Result<bool, AllocError>
+    ensures says { IfOk result (λ refused. (earlier : List Part) → Holds streams.old earlier →
+        Says text.old.items text.new.items refused
+        (TransportUnit (value unit.now) ∷ part_entries earlier (part_of (value unit.now)))) }
+    ensures holds { OnOk result ((earlier : List Part) → Holds streams.old earlier →
+        Holds streams.new (earlier ++ option_to_list (part_of (value unit.now)))) }
+{
+    push_unit(alloc, text, unit)?;
+    let outcome = streams.take(alloc, unit)?;
+    list_outcome(text, &outcome)
+}
+
+/// Lists what a unit brought to its stream.
+fn list_outcome(text: &mut Vec<u8>, outcome: &Outcome) -> Result<bool, AllocError>
+    ensures { IfOk result (λ refused.
+        Says text.old.items text.new.items refused (outcome_entries (outcome_value outcome.now))) }
+{
+    match outcome {
+        Outcome::Nothing => Ok(false),
+        Outcome::Whole(tsdu) => {
+            push_tsdu(text, tsdu.len() as u64)?;
+            Ok(false)
+        }
+        Outcome::TooLong => {
+            push_too_long(text)?;
+            Ok(true)
+        }
     }
 }

@@ -11,8 +11,10 @@ mod jobs;
 mod lines;
 mod listing;
 mod showing;
+mod streams;
 #[cfg(test)]
 mod tests;
+mod units;
 mod words;
 
 use clap::Error;

@@ -76,7 +76,7 @@ pub fn show<R: Read, W: Write>(
     let input = read_input(alloc, reader)?;
     let octets = octets_of(alloc, input.as_slice())?;
     let mut text = Vec::new(alloc);
-    let Ok(status) = list(&mut text, octets.as_slice()) else {
+    let Ok(status) = list(alloc, &mut text, octets.as_slice()) else {
         return Err(ToolFault::OutOfMemory);
     };
     if writer.write_all(text.as_slice()).is_err() {

@@ -1,5 +1,6 @@
 use crate::faults::ToolFault;
 use crate::jobs::Job;
+use crate::listing::list;
 use crate::showing::{LONGEST_INPUT, show};
 use crate::words::job;
 use clap::error::ErrorKind;
@@ -17,7 +18,8 @@ fn shown(rt: &HostRuntime, text: &str) -> (Result<u8, ToolFault>, Vec<u8>) {
 
 const DATA: &str = "03 00 00 0D 02 F0 80 01 00 01 00 41 42";
 
-const LISTED: &str = "packet 0 length 13 code f0\nrest 0\n";
+const LISTED: &str =
+    "packet 0 length 13 code f0\n  DT number 0 eot 1 octets 6\n    tsdu 6\nrest 0\n";
 
 #[test]
 fn captures_of_one_packet(rt: HostRuntime) {
@@ -35,8 +37,19 @@ fn captures_of_one_packet(rt: HostRuntime) {
     }
 }
 
+/// The first of these texts whose status or listing is another than stands beside it.
+fn other<'a>(rt: &HostRuntime, listings: &[(&'a str, u8, &str)]) -> Option<&'a str> {
+    for (text, status, listing) in listings {
+        let (answer, out) = shown(rt, text);
+        if answer != Ok(*status) || out.as_slice() != listing.as_bytes() {
+            return Some(*text);
+        }
+    }
+    None
+}
+
 #[test]
-fn captures_and_their_listings(rt: HostRuntime) {
+fn captures_and_their_packets(rt: HostRuntime) {
     let listings = [
         ("", 0, "rest 0\n"),
         ("03 00", 0, "rest 2\n"),
@@ -45,24 +58,170 @@ fn captures_and_their_listings(rt: HostRuntime) {
         (
             "03 FF 00 07 02 F0 80 03 00",
             0,
-            "packet 0 length 7 code f0\nrest 2\n",
+            "packet 0 length 7 code f0\n  DT number 0 eot 1 octets 0\n    tsdu 0\nrest 2\n",
         ),
         (
-            "03 00 00 07 02 F0 80 30",
+            "03 00 00 07 02 F0 00 30",
             1,
-            "packet 0 length 7 code f0\nfault 7 BadVersion\n",
-        ),
-        (
-            "03 00 00 07 02 F0 80 03 00 00 09 04 0a 00 01 05 03 00 00",
-            0,
-            "packet 0 length 7 code f0\npacket 7 length 9 code 0a\nrest 3\n",
+            "packet 0 length 7 code f0\n  DT number 0 eot 0 octets 0\nfault 7 BadVersion\n",
         ),
     ];
-    for (text, status, listing) in listings {
-        let (answer, out) = shown(&rt, text);
-        assert_eq!(rt; answer, Ok(status), "{text}");
-        assert!(rt; out.as_slice() == listing.as_bytes(), "{text}");
+    assert_eq!(rt; other(&rt, &listings), None);
+}
+
+#[test]
+fn a_packet_with_a_bad_unit_lists_its_fault_alone(rt: HostRuntime) {
+    let listings = [
+        (
+            "03 00 00 09 04 0A 00 01 05 03 00 00",
+            1,
+            "packet 0 length 9 code 0a\n  fault 1 UnknownCode\nrest 3\n",
+        ),
+        (
+            "03 00 00 0A 04 61 00 01 05 00",
+            1,
+            "packet 0 length 10 code 61\n  fault 5 BadLi\nrest 0\n",
+        ),
+        (
+            "03 00 00 0E 09 E0 00 00 00 01 00 C0 01 06 03 00 00 07 02 F0 80",
+            1,
+            "packet 0 length 14 code e0\n  fault 7 BadParameterValue\npacket 14 length 7 code f0\n  DT number 0 eot 1 octets 0\n    tsdu 0\nrest 0\n",
+        ),
+    ];
+    assert_eq!(rt; other(&rt, &listings), None);
+}
+
+#[test]
+fn each_kind_of_unit_has_its_line(rt: HostRuntime) {
+    let listings = [
+        (
+            "03 00 00 14 0F E3 00 00 00 01 20 C0 01 0A C6 01 00 C7 01 00",
+            0,
+            "packet 0 length 20 code e3\n  CR credit 3 dst 0000 src 0001 class 2 options 0 size 0a more 00 also 00\nrest 0\n",
+        ),
+        (
+            "03 00 00 16 11 D0 00 01 00 02 00 C0 01 0A C1 02 01 00 C2 02 01 02",
+            0,
+            "packet 0 length 22 code d0\n  CC credit 0 dst 0001 src 0002 class 0 options 0 size 0a calling 0100 called 0102\nrest 0\n",
+        ),
+        (
+            "03 00 00 12 04 61 00 01 05 04 F0 00 02 80 01 00 01 00",
+            0,
+            "packet 0 length 18 code 61\n  AK credit 1 dst 0001 number 5\n  DT dst 0002 number 0 eot 1 octets 4\n    tsdu 4\nrest 0\n",
+        ),
+        (
+            "03 00 00 0A 05 C0 00 01 00 02",
+            0,
+            "packet 0 length 10 code c0\n  DC dst 0001 src 0002\nrest 0\n",
+        ),
+    ];
+    assert_eq!(rt; other(&rt, &listings), None);
+}
+
+#[test]
+fn streams_are_joined_under_their_references(rt: HostRuntime) {
+    let listings = [(
+        "03 00 00 0B 04 F0 00 01 00 41 42 03 00 00 0A 04 F0 00 02 80 43
+         03 00 00 07 02 F0 80 03 00 00 0A 04 F0 00 01 81 44",
+        0,
+        "packet 0 length 11 code f0
+  DT dst 0001 number 0 eot 0 octets 2
+packet 11 length 10 code f0
+  DT dst 0002 number 0 eot 1 octets 1
+    tsdu 1
+packet 21 length 7 code f0
+  DT number 0 eot 1 octets 0
+    tsdu 0
+packet 28 length 10 code f0
+  DT dst 0001 number 1 eot 1 octets 1
+    tsdu 3
+rest 0
+",
+    )];
+    assert_eq!(rt; other(&rt, &listings), None);
+}
+
+#[test]
+fn a_tsdu_of_two_data_units(rt: HostRuntime) {
+    let listings = [(
+        "03 00 00 84 02 F0 00 01 00 01 00 # 4 octets of 125, and 11 lines of 11
+         41 41 41 41 41 41 41 41 41 41 41
+         41 41 41 41 41 41 41 41 41 41 41
+         41 41 41 41 41 41 41 41 41 41 41
+         41 41 41 41 41 41 41 41 41 41 41
+         41 41 41 41 41 41 41 41 41 41 41
+         41 41 41 41 41 41 41 41 41 41 41
+         41 41 41 41 41 41 41 41 41 41 41
+         41 41 41 41 41 41 41 41 41 41 41
+         41 41 41 41 41 41 41 41 41 41 41
+         41 41 41 41 41 41 41 41 41 41 41
+         41 41 41 41 41 41 41 41 41 41 41
+         03 00 00 08 02 F0 80 41",
+        0,
+        "packet 0 length 132 code f0
+  DT number 0 eot 0 octets 125
+packet 132 length 8 code f0
+  DT number 0 eot 1 octets 1
+    tsdu 126
+rest 0
+",
+    )];
+    assert_eq!(rt; other(&rt, &listings), None);
+}
+
+/// Lists 16 data units of 65,528 octets, and then these octets.
+fn listed_behind_1_048_448(rt: &HostRuntime, last: &[u8]) -> Result<Vec<u8>, Fail> {
+    let part = vec![in rt.alloc(); 0; 65_528]?;
+    let mut octets = Vec::new(rt.alloc());
+    for _ in 0..16 {
+        octets.extend_from_slice(&[3, 0, 255, 255, 2, 0xF0, 0])?;
+        octets.extend_from_slice(part.as_slice())?;
     }
+    octets.extend_from_slice(last)?;
+    let mut text = Vec::new(rt.alloc());
+    list(rt.alloc(), &mut text, octets.as_slice())?;
+    Ok(text)
+}
+
+#[test]
+fn a_tsdu_has_at_most_1_048_576_octets(rt: HostRuntime) -> Result<(), Fail> {
+    let mut packet = [0; 136];
+    packet[..7].copy_from_slice(&[3, 0, 0, 135, 2, 0xF0, 0x80]);
+    let text = listed_behind_1_048_448(&rt, &packet[..135])?;
+    assert!(rt;
+        text.as_slice()
+            .ends_with(b"octets 128\n    tsdu 1048576\nrest 0\n")
+    );
+    packet[3] = 136;
+    let text = listed_behind_1_048_448(&rt, &packet)?;
+    assert!(rt;
+        text.as_slice()
+            .ends_with(b"octets 129\n  fault 0 TsduTooLong\nrest 0\n")
+    );
+    Ok(())
+}
+
+#[test]
+fn what_is_too_long_is_dropped_up_to_its_end(rt: HostRuntime) -> Result<(), Fail> {
+    let mut octets = [0; 136 + 7 + 7];
+    octets[..7].copy_from_slice(&[3, 0, 0, 136, 2, 0xF0, 0]);
+    octets[136..143].copy_from_slice(&[3, 0, 0, 7, 2, 0xF0, 0x80]);
+    octets[143..].copy_from_slice(&[3, 0, 0, 7, 2, 0xF0, 0x80]);
+    let text = listed_behind_1_048_448(&rt, &octets)?;
+    assert!(rt;
+        text.as_slice().ends_with(
+            b"octets 129
+  fault 0 TsduTooLong
+packet 1048696 length 7 code f0
+  DT number 0 eot 1 octets 0
+packet 1048703 length 7 code f0
+  DT number 0 eot 1 octets 0
+    tsdu 0
+rest 0
+"
+        )
+    );
+    Ok(())
 }
 
 #[test]

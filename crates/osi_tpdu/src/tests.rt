@@ -203,6 +203,8 @@ fn types_with_a_bound(rt: HostRuntime) -> Result<(), Fail> {
     let tsap = Tsap::new(&octets[..32]).ok_or("32 octets")?;
     assert_eq!(rt; tsap.octets(), &octets[..32]);
     assert_eq!(rt; tsap.selector().octets().len(), 32);
+    assert!(rt; Tsap::new(&[1, 2]) == Tsap::new(&[1, 2]));
+    assert!(rt; Tsap::new(&[1, 2]) != Tsap::new(&[1, 2, 0]));
     assert_eq!(rt; Tsap::new(&[]).ok_or("no octet")?.octets().len(), 0);
     Ok(())
 }

@@ -32,8 +32,9 @@ impl<'a> Selector<'a> {
     }
 }
 
-/// A transport selector that is held in place, with no memory taken.
-#[derive(Clone, Copy, Debug)]
+/// A transport selector that is held in place, with no memory taken. The octets past its length are
+/// 0, so two are equal where their octets are.
+#[derive(Clone, Copy, PartialEq, Eq, Debug)]
 pub struct Tsap {
     octets: [u8; 32],
     len: usize,

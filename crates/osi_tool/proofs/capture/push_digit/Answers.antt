@@ -1,4 +1,4 @@
-use Rattle.std.proofs.Common.{◌≡◌, ◌++◌, ◌∷◌, List, [], ℕ, sym, ap, ◌∙◌, false}
+use Rattle.std.proofs.Common.{◌++◌, ◌∷◌, [], sym, ap, ◌∙◌, false}
 use Rattle.std.proofs.lemmas.List.{append_assoc}
 use Rattle.osi_tool.specs.Capture.{digits_left}
 use Rattle.osi_tool.proofs.Digits.{left_blank_of, left_digit_of}

@@ -1,4 +1,4 @@
-use Rattle.std.proofs.Common.{◌≡◌, ◌++◌, ◌≤◌, ◌-◌, ◌+◌, min, length, take, arith}
+use Rattle.std.proofs.Common.{◌++◌, take, arith}
 use Rattle.std.proofs.lemmas.List.{length-append, length-take}
 use Rattle.osi_tool.proofs.Consumption.{consumes-append}
 use Rattle.osi_tool.proofs.showing.read_input.Goals as goal

@@ -1,6 +1,6 @@
-use Rattle.std.proofs.Common.{◌≡◌, ◌∙◌, ap, ap₂, refl, rules, codes, true}
+use Rattle.std.proofs.Common.{◌≡◌, ◌∙◌, ap, ap₂, rules, codes, true}
 use Rattle.std.proofs.lemmas.Result.{IfOk-weaker}
-use Rattle.clap.specs.Words.{App, Shape, app_of, new_app, shape_of, with_subcommand}
+use Rattle.clap.specs.Words.{App, app_of, new_app, shape_of, with_subcommand}
 use Rattle.clap.specs.Simple.{app_of_fields, shape_of_fields}
 use Rattle.osi_tool.specs.Words.{osi, top}
 use Rattle.osi_tool.proofs.words.command.Goals as goal

@@ -1,6 +1,6 @@
-use Rattle.std.proofs.Common.{◌≡◌, ◌∙◌, ap, sym, map, Option, Some, List, ℕ, option_map, codes}
-use Rattle.clap.specs.Words.{app_of, is_simple, subcommand_of, subcommand_name_of}
-use Rattle.osi_tool.specs.Words.{osi, named_by}
+use Rattle.std.proofs.Common.{◌∙◌, ap, sym, map, List, ℕ, option_map}
+use Rattle.clap.specs.Words.{is_simple, subcommand_of}
+use Rattle.osi_tool.specs.Words.{named_by}
 use Rattle.osi_tool.proofs.Names.{name_of_rows, osi_is_simple}
 use Rattle.osi_tool.proofs.words.job.Goals as goal
 

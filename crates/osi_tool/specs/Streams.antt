@@ -1,0 +1,64 @@
+-- The TSDUs of a capture: the user data of the data units of each stream, joined up to each EOT.
+use Rattle.std.specs.Prelude.{ℕ, ◌+◌, ◌==◌, nat_lt, Bool, true, false, if◌then◌else◌, List, [], ◌∷◌, ◌++◌, length, filter, Option, Some, None, option_to_list}
+use Rattle.osi_tpdu.specs.Value.{Value, request, confirm, disconnect, disconnected, data0, data2, acknowledge, error}
+
+-- a data unit: its stream, which is one for class 0 and one for each DST-REF in class 2, its EOT and its user data
+pub record Part : Type 0 where
+  pub stream : Option ℕ
+  pub end : Bool
+  pub octets : List ℕ
+
+abbrev pub part_of : Value → Option Part
+part_of (request c) = None
+part_of (confirm destination c) = None
+part_of (disconnect destination source reason user) = None
+part_of (disconnected destination source) = None
+part_of (data0 end user) = Some (record { stream = None; end = end; octets = user })
+part_of (data2 destination number end user) = Some (record { stream = Some destination; end = end; octets = user })
+part_of (acknowledge credit destination number) = None
+part_of (error destination cause) = None
+
+-- the data units among units
+abbrev pub parts_of : List Value → List Part
+parts_of [] = []
+parts_of (v ∷ vs) = option_to_list (part_of v) ++ parts_of vs
+
+-- what is joined of the TSDU under way; or its parts are dropped up to the next EOT, since it is too long
+pub data Join : Type 0 where
+  Begun : List ℕ → Join
+  Dropping : Join
+
+-- what a part brings: nothing as yet, a whole TSDU, or one that is too long from this part on
+pub data Outcome : Type 0 where
+  Nothing : Outcome
+  Whole : List ℕ → Outcome
+  TooLong : Outcome
+
+-- a TSDU has at most 1,048,576 octets
+abbrev pub is_too_long : List ℕ → List ℕ → Bool
+is_too_long begun octets = nat_lt 1048576 (length begun + length octets)
+
+abbrev pub joined : Join → Bool → List ℕ → Join
+joined Dropping end octets = if end then Begun [] else Dropping
+joined (Begun begun) end octets =
+    if is_too_long begun octets then (if end then Begun [] else Dropping)
+    else (if end then Begun [] else Begun (begun ++ octets))
+
+abbrev pub brought : Join → Bool → List ℕ → Outcome
+brought Dropping end octets = Nothing
+brought (Begun begun) end octets =
+    if is_too_long begun octets then TooLong else (if end then Whole (begun ++ octets) else Nothing)
+
+abbrev pub is_same_stream : Option ℕ → Option ℕ → Bool
+is_same_stream None None = true
+is_same_stream None (Some b) = false
+is_same_stream (Some a) None = false
+is_same_stream (Some a) (Some b) = a == b
+
+abbrev pub after_parts : Join → List Part → Join
+after_parts join [] = join
+after_parts join (p ∷ parts) = after_parts (joined join p.end p.octets) parts
+
+-- what is joined of a stream behind all these parts
+unfoldable pub join_of : Option ℕ → List Part → Join
+join_of stream parts = after_parts (Begun []) (filter (λ p. is_same_stream stream p.stream) parts)
