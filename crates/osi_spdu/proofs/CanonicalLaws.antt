@@ -1,0 +1,189 @@
+-- The values in memory are in their written form.
+use Rattle.std.proofs.Common.{inl, inr, ◌≡◌, ℕ, ◌+◌, ◌*◌, ◌/◌, ◌%◌, ◌<◌, Bool, true, false, cond, not, ◌&&◌, List, [], ◌∷◌, length, Option, Some, None, Ok, option_map, refl, sym, ap, subst, ◌∙◌, arith}
+use Rattle.std.proofs.lemmas.Bool.{cases_Bool, and_parts, eqb-true, ne_eqb, le-leb, lt-ltb}
+use Rattle.osi_spdu.specs.declared.codes.Code.{Code}
+use Rattle.osi_spdu.specs.declared.codes.Code.TheVariants.{ConnectionIdentifier, ConnectAcceptItem, CalledReference, CallingReference, CommonReference, AdditionalReference, SyncType, TokenItem, TransportDisconnect, ProtocolOptions, UserRequirements, TsduMaximumSize, Version, InitialNumber, Enclosure, TokenSetting, ResyncType, Number, Reflect, Reason, CallingSelector, CalledSelector, UserData, ExtendedUserData}
+use Rattle.osi_spdu.specs.declared.kinds.Kind.{Kind}
+use Rattle.osi_spdu.specs.declared.kinds.Kind.TheVariants.{DataTransfer}
+use Rattle.osi_spdu.specs.declared.kinds.Category.{Category}
+use Rattle.osi_spdu.specs.declared.kinds.Category.TheVariants.{Zero, One, Two}
+use Rattle.osi_spdu.specs.declared.params.Params.{Params}
+use Rattle.osi_spdu.specs.declared.units.Spdu.{Spdu}
+use Rattle.osi_spdu.specs.declared.groups.Group.{Group}
+use Rattle.osi_spdu.specs.declared.settings.Wish.{Wish}
+use Rattle.osi_spdu.specs.declared.settings.Wish.TheVariants as wishes
+use Rattle.osi_spdu.specs.declared.fields.SyncType as syncs
+use Rattle.osi_spdu.specs.declared.fields.SyncType.TheVariants.{Asked, Open}
+use Rattle.osi_spdu.specs.declared.fields.ResyncType as resyncs
+use Rattle.osi_spdu.specs.declared.fields.ResyncType.TheVariants.{Restart, Abandon, Set}
+use Rattle.osi_spdu.specs.Codes.{number_of, is_same}
+use Rattle.osi_spdu.specs.Kinds.{category_of, may_stand}
+use Rattle.osi_spdu.specs.Values.{canonical, digits_of, is_setting}
+use Rattle.osi_spdu.specs.Fields.{sync_octet, token_octets, wish_number, setting_octets, resync_octet}
+use Rattle.osi_spdu.specs.Known.{some_octets}
+use Rattle.osi_spdu.specs.Reading.{tsdu_at}
+use Rattle.osi_spdu.specs.Spelling.{HasInformation, SpellsTsdu}
+use Rattle.osi_spdu.specs.Params.{place_of, cells_of, slots_of, known_of, present}
+use Rattle.osi_spdu.specs.Units.{said_by}
+use Rattle.osi_spdu.specs.Groups.{units_of}
+use Rattle.osi_spdu.specs.Writing.{is_informed, is_joined, is_zero, IsCanonical, IsFormedUnit, SecondIsFormed, IsFormedTsdu, TsduFits, tsdu_octets}
+use Rattle.osi_spdu.specs.Laws.Tsdus.{tsdu_only}
+use Rattle.osi_spdu.specs.Laws.Written.{tsdu_written}
+use Rattle.std.proofs.lemmas.List.{nil_from_length}
+use Rattle.osi_spdu.proofs.Digits.{numeral_digits}
+use Rattle.osi_spdu.proofs.OneOctet.{token_bits_again}
+
+-- a value that was made from a field
+made : {X : Type 0} (f : X → List ℕ) (o : Option X) (v : List ℕ) (c : Code) → ((x : X) → canonical c (f x) ≡ Some (f x)) → option_map f o ≡ Some v → canonical c v ≡ Some v
+made f None v c h e = absurd cc
+made f (Some x) v c h e = (let same : f x ≡ v = cc in subst (λ (w : List ℕ). canonical c w ≡ Some w) same (h x))
+
+wish_small : (w : Wish) → wish_number w < 3
+wish_small wishes.Asker = omega arith
+wish_small wishes.Answerer = omega arith
+wish_small wishes.Choice = omega arith
+
+not_from : (b : Bool) → b ≡ false → not b ≡ true
+not_from b e = ap not e
+
+setting_good : (a b c d : ℕ) → a < 3 → b < 3 → c < 3 → d < 3 → is_setting (a + 4 * b + 16 * c + 64 * d) ≡ true
+setting_good a b c d ha hb hc hd =
+    let n = a + 4 * b + 16 * c + 64 * d in
+    let w : n % 4 ≡ 3 → ⊥ = λ h. omega arith in
+    let x : n / 4 % 4 ≡ 3 → ⊥ = λ h. omega arith in
+    let y : n / 16 % 4 ≡ 3 → ⊥ = λ h. omega arith in
+    let z : n / 64 ≡ 3 → ⊥ = λ h. omega arith in
+    rw (ne_eqb (n % 4) 3 w, ne_eqb (n / 4 % 4) 3 x, ne_eqb (n / 16 % 4) 3 y, ne_eqb (n / 64) 3 z) refl
+
+presence : (b : Bool) (v : List ℕ) (c : Code) → canonical c v ≡ Some [] → present b ≡ Some v → canonical c v ≡ Some v
+presence true v c h e = (let same : [] ≡ v = cc in h ∙ ap {B = Option (List ℕ)} (λ x. Some x) same)
+presence false v c h e = absurd cc
+
+sync_again : (s : syncs.SyncType) → canonical SyncType (sync_octet s ∷ []) ≡ Some (sync_octet s ∷ [])
+unfolding canonical
+sync_again Asked = refl
+sync_again Open = refl
+
+resync_again : (r : resyncs.ResyncType) → canonical ResyncType (resync_octet r ∷ []) ≡ Some (resync_octet r ∷ [])
+unfolding canonical
+resync_again Restart = refl
+resync_again Abandon = refl
+resync_again Set = refl
+
+slot_canonical : (p : Params) (c : Code) (v : List ℕ) → slots_of p c ≡ Some v → canonical c v ≡ Some v
+unfolding slots_of cells_of place_of canonical
+slot_canonical p ConnectionIdentifier v e = presence p.connection_identifier v ConnectionIdentifier refl e
+slot_canonical p ConnectAcceptItem v e = presence p.connect_accept_item v ConnectAcceptItem refl e
+slot_canonical p CalledReference v e = refl
+slot_canonical p CallingReference v e = refl
+slot_canonical p CommonReference v e = refl
+slot_canonical p AdditionalReference v e = refl
+slot_canonical p SyncType v e = made (λ s. sync_octet s ∷ []) p.sync_type v SyncType sync_again e
+slot_canonical p TokenItem v e = made token_octets p.token_item v TokenItem (λ t. ap {B = Option (List ℕ)} (λ b. Some (b ∷ [])) (token_bits_again t.0)) e
+slot_canonical p TransportDisconnect v e = made (λ b. b ∷ []) p.transport_disconnect v TransportDisconnect (λ b. refl) e
+slot_canonical p ProtocolOptions v e = made (λ b. b ∷ []) p.protocol_options v ProtocolOptions (λ b. refl) e
+slot_canonical p UserRequirements v e = made (λ r. r.0 / 256 ∷ r.0 % 256 ∷ []) p.user_requirements v UserRequirements (λ r. refl) e
+slot_canonical p TsduMaximumSize v e = made (λ s. s.from_asker / 256 ∷ s.from_asker % 256 ∷ s.from_answerer / 256 ∷ s.from_answerer % 256 ∷ []) p.tsdu_maximum_size v TsduMaximumSize (λ s. refl) e
+slot_canonical p Version v e = made (λ b. b ∷ []) p.version v Version (λ b. refl) e
+slot_canonical p InitialNumber v e = made (λ s. digits_of s.number) p.initial_number v InitialNumber (λ s. ap (option_map digits_of) (numeral_digits s.number s.small)) e
+slot_canonical p Enclosure v e = made (λ x. 3 ∷ []) p.enclosure v Enclosure (λ x. refl) e
+slot_canonical p TokenSetting v e = made setting_octets p.token_setting v TokenSetting
+    (λ s. ap (λ (b : Bool). cond b (Some (setting_octets s)) None)
+    (setting_good (wish_number s.data_token) (wish_number s.minor) (wish_number s.major) (wish_number s.release) (wish_small s.data_token) (wish_small s.minor) (wish_small s.major) (wish_small s.release))) e
+slot_canonical p ResyncType v e = made (λ r. resync_octet r ∷ []) p.resync_type v ResyncType resync_again e
+slot_canonical p Number v e = made (λ s. digits_of s.number) p.number v Number (λ s. ap (option_map digits_of) (numeral_digits s.number s.small)) e
+slot_canonical p Reflect v e = refl
+slot_canonical p Reason v e = made (λ r. r.code ∷ r.data_octets.now) p.reason v Reason (λ r. ap (λ (b : Bool). cond b (Some (r.code ∷ r.data_octets.now)) None) (lt-ltb 0 (length (r.code ∷ r.data_octets.now)) (omega arith))) e
+slot_canonical p CallingSelector v e = made (λ s. s.octets.now) p.calling_selector v CallingSelector (λ s. ap (λ (b : Bool). cond b (Some s.octets.now) None) (le-leb (length s.octets.now) 16 s.short)) e
+slot_canonical p CalledSelector v e = made (λ s. s.octets.now) p.called_selector v CalledSelector (λ s. ap (λ (b : Bool). cond b (Some s.octets.now) None) (le-leb (length s.octets.now) 16 s.short)) e
+slot_canonical p UserData v e = refl
+slot_canonical p ExtendedUserData v e = refl
+
+octets_some : (o : Option (List ℕ)) (v : List ℕ) → some_octets o ≡ Some v → o ≡ Some v
+octets_some None v e = absurd cc
+octets_some (Some []) v e = absurd cc
+octets_some (Some (b ∷ octets)) v e = e
+
+octets_there : (o : Option (List ℕ)) → some_octets o ≡ Some [] → ⊥
+octets_there None e = cc
+octets_there (Some []) e = cc
+octets_there (Some (b ∷ octets)) e = cc
+
+known_slot : (p : Params) (c : Code) (v : List ℕ) → known_of p c ≡ Some v → slots_of p c ≡ Some v
+unfolding known_of
+known_slot p c v e = elim (cases_Bool (is_same c UserData)) [
+  | inl t ↦ octets_some (slots_of p c) v (sym (ap (λ (b : Bool). cond b (some_octets (slots_of p c)) (slots_of p c)) t) ∙ e)
+  | inr f ↦ sym (ap (λ (b : Bool). cond b (some_octets (slots_of p c)) (slots_of p c)) f) ∙ e
+]
+
+no_extended : (p : Params) → known_of p ExtendedUserData ≡ None
+unfolding known_of slots_of cells_of place_of number_of
+no_extended p = refl
+
+data_there : (p : Params) → known_of p UserData ≡ Some [] → ⊥
+unfolding known_of number_of
+data_there p e = octets_there (slots_of p UserData) e
+
+pub params_canonical : (p : Params) → IsCanonical (known_of p)
+params_canonical p = record {
+  values = λ c v e. slot_canonical p c v (known_slot p c v e);
+  slots = no_extended p;
+  data_there = data_there p;
+}
+
+-- ---- units and groups
+
+informed_from : (kind : Kind) (information : List ℕ) → is_informed kind information ≡ true → HasInformation kind information
+informed_from DataTransfer information e = tt
+informed_from _ information e = nil_from_length information (eqb-true (length information) 0 e)
+
+pub unit_formed : (u : Spdu) → IsFormedUnit (said_by u)
+unit_formed u = record {
+  canonical_values = params_canonical u.params;
+  formed = u.formed;
+  informed = informed_from u.kind u.information.now u.informed;
+}
+
+first_plain : (kind : Kind) (information : List ℕ) → may_stand false (category_of kind) ≡ true → HasInformation kind information → information ≡ []
+unfolding may_stand category_of
+first_plain DataTransfer information e h = absurd cc
+first_plain _ information e h = h
+
+joined_first : (kind : Kind) (o : Option Kind) → is_joined kind o ≡ true → may_stand false (category_of kind) ≡ true
+unfolding is_joined
+joined_first kind None e = e
+joined_first kind (Some second) e =
+    (and_parts (may_stand false (category_of kind)) (may_stand true (category_of second)) (and_parts (may_stand false (category_of kind) && may_stand true (category_of second)) (is_zero (category_of kind)) e).0).0
+
+category_zero : (category : Category) → is_zero category ≡ true → category ≡ Zero
+category_zero Zero e = refl
+category_zero One e = absurd cc
+category_zero Two e = absurd cc
+
+category_two : (category : Category) → may_stand true category ≡ true → category ≡ Two
+unfolding may_stand
+category_two Zero e = absurd cc
+category_two One e = absurd cc
+category_two Two e = refl
+
+second_formed : (kind : Kind) (second : Option Spdu) → is_joined kind (option_map (λ s. s.kind) second) ≡ true → SecondIsFormed (category_of kind) (option_map said_by second)
+unfolding is_joined
+second_formed kind None e = e
+second_formed kind (Some u) e =
+    let a = and_parts (may_stand false (category_of kind) && may_stand true (category_of u.kind)) (is_zero (category_of kind)) e in
+    let b = and_parts (may_stand false (category_of kind)) (may_stand true (category_of u.kind)) a.0 in
+    (category_zero (category_of kind) a.1, category_two (category_of u.kind) b.1, unit_formed u)
+
+pub group_formed : (g : Group) → IsFormedTsdu (units_of g)
+group_formed g = record {
+  first = unit_formed g.first;
+  first_informed = first_plain g.first.kind g.first.information.now (joined_first g.first.kind (option_map (λ s. s.kind) g.second) g.joined) (unit_formed g.first).informed;
+  second = second_formed g.first.kind g.second g.joined;
+}
+
+-- what a group is written as spells it, and is read as it
+pub group_spelled : (g : Group) → TsduFits (units_of g) → SpellsTsdu (units_of g) (tsdu_octets (units_of g))
+group_spelled g fits = tsdu_written (units_of g) (group_formed g) fits
+
+pub group_read : (g : Group) → TsduFits (units_of g) → tsdu_at (tsdu_octets (units_of g)) ≡ Ok (units_of g)
+group_read g fits = tsdu_only (units_of g) (tsdu_octets (units_of g)) (group_spelled g fits)

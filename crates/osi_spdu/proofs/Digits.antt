@@ -1,0 +1,145 @@
+-- Digits of numbers, written and read.
+use Rattle.std.proofs.Common.{◌⊎◌, inl, inr, ◌≡◌, ℕ, zero, suc, ◌+◌, ◌-◌, ◌*◌, ◌/◌, ◌%◌, ◌^◌, ◌<◌, ◌≤◌, Bool, true, false, ◌&&◌, ltb, leb, eqb, List, [], ◌∷◌, length, get_or, drop, Option, Some, None, refl, sym, ap, ◌∙◌, arith}
+use Rattle.std.specs.List.{list_all}
+use Rattle.std.proofs.lemmas.Bool.{cases_Bool, and_parts, and_from, and_left, and_right, eqb-true, eq-eqb, ne_eqb, le-leb, lt-ltb, lt-leb, le-ltb}
+use Rattle.std.proofs.lemmas.List.{drop_more, drop_all, length-drop}
+use Rattle.std.proofs.lemmas.Grind.{common_steps}
+use Rattle.osi_spdu.specs.Values.{significant, six_digits, digits_of, decimal_from, decimal, is_digit, is_numeral, numeral}
+
+-- a zero in front goes
+pub significant_step : (xs : List ℕ) (i : ℕ) → i + 1 < length xs → get_or xs i 0 ≡ 48 → significant (drop (i + 1) xs) ≡ significant (drop i xs)
+unfolding significant
+significant_step xs i lt e =
+    let a : i < length xs = omega arith in
+    let one = drop_more xs i 0 a in
+    let two = drop_more xs (i + 1) 0 lt in
+    let yes : eqb (get_or xs i 0) 48 ≡ true = eq-eqb (get_or xs i 0) 48 e in
+    let whole : drop i xs ≡ get_or xs i 0 ∷ get_or xs (i + 1) 0 ∷ drop (i + 1 + 1) xs = one ∙ ap (λ (t : List ℕ). get_or xs i 0 ∷ t) two in
+    ap significant two ∙ sym (ap significant whole ∙ rw yes refl)
+
+-- another digit stays, and so does the last
+pub significant_end : (xs : List ℕ) (i : ℕ) → i < length xs → (i + 1 < length xs → get_or xs i 0 ≡ 48 → ⊥) → significant (drop i xs) ≡ drop i xs
+unfolding significant
+significant_end xs i lt h = ends (drop i xs) refl
+  where
+    ends : (s : List ℕ) → drop i xs ≡ s → significant s ≡ s
+    ends [] e = refl
+    ends (d ∷ []) e = refl
+    ends (d ∷ f ∷ s) e =
+        let one = drop_more xs i 0 lt in
+        let head : get_or xs i 0 ≡ d = (let q : get_or xs i 0 ∷ drop (i + 1) xs ≡ d ∷ f ∷ s = sym one ∙ e in cc) in
+        let more : i + 1 < length xs = omega (arith, ap length e, length-drop i xs) in
+        let not_zero : eqb d 48 ≡ false = ne_eqb d 48 (λ z. h more (head ∙ z)) in
+        rw not_zero refl
+
+pub pow_small : (i : ℕ) → i ≤ 6 → 10 ^ i ≤ 1000000
+pow_small zero h = omega arith
+pow_small (suc zero) h = omega arith
+pow_small (suc (suc zero)) h = omega arith
+pow_small (suc (suc (suc zero))) h = omega arith
+pow_small (suc (suc (suc (suc zero)))) h = omega arith
+pow_small (suc (suc (suc (suc (suc zero))))) h = omega arith
+pow_small (suc (suc (suc (suc (suc (suc zero)))))) h = omega arith
+pow_small (suc (suc (suc (suc (suc (suc (suc i))))))) h = absurd (omega arith)
+
+-- ---- reading digits
+
+abbrev all_digits : List ℕ → Bool
+all_digits xs = list_all is_digit xs
+
+-- what a loop over digits keeps
+pub record IsReading (digits : List ℕ) (i number : ℕ) : Type 0 where
+  pub value : decimal_from number (drop i digits) ≡ decimal digits
+  pub good : list_all is_digit (drop i digits) ≡ list_all is_digit digits
+  pub small : number < 10 ^ i
+
+digit_from : (d : ℕ) → 48 ≤ d → d ≤ 57 → is_digit d ≡ true
+digit_from d low high = and_from (leb 48 d) (ltb d 58) (le-leb 48 d low) (lt-ltb d 58 (omega arith))
+
+pub reading_step : (digits : List ℕ) (i number d : ℕ) → i < length digits → d ≡ get_or digits i 0 → 48 ≤ d → d ≤ 57 → IsReading digits i number → IsReading digits (i + 1) (number * 10 + (d - 48))
+unfolding decimal_from
+reading_step digits i number d lt is low high r =
+    let here : drop i digits ≡ d ∷ drop (i + 1) digits = drop_more digits i 0 lt ∙ ap (λ (x : ℕ). x ∷ drop (i + 1) digits) (sym is) in
+    let turned : 10 * number + (d - 48) ≡ number * 10 + (d - 48) = omega arith in
+    let yes : is_digit d ≡ true = digit_from d low high in
+    let power : 10 ^ (i + 1) ≡ 10 * 10 ^ i = grind (arith, common_steps) in
+    record {
+      value = ap (λ (n : ℕ). decimal_from n (drop (i + 1) digits)) (sym turned) ∙ sym (ap (decimal_from number) here) ∙ r.value;
+      good = sym (ap (list_all is_digit) here ∙ rw yes refl) ∙ r.good;
+      small = (let s = r.small in omega arith);
+    }
+
+pub reading_bad : (digits : List ℕ) (i number d : ℕ) → i < length digits → d ≡ get_or digits i 0 → (d < 48) ⊎ (57 < d) → IsReading digits i number → numeral digits ≡ None
+reading_bad digits i number d lt is out r =
+    let here : drop i digits ≡ d ∷ drop (i + 1) digits = drop_more digits i 0 lt ∙ ap (λ (x : ℕ). x ∷ drop (i + 1) digits) (sym is) in
+    let bad : is_digit d ≡ false = elim out [
+      | inl l ↦ and_left (leb 48 d) (ltb d 58) (lt-leb 48 d l)
+      | inr g ↦ and_right (leb 48 d) (ltb d 58) (le-ltb d 58 (omega arith))
+    ] in
+    let all : list_all is_digit digits ≡ false = sym r.good ∙ ap (list_all is_digit) here ∙ rw bad refl in
+    let none : is_numeral digits ≡ false = and_right (ltb 0 (length digits) && leb (length digits) 6) (list_all is_digit digits) all in
+    rw none refl
+
+pub reading_end : (digits : List ℕ) (number : ℕ) → 0 < length digits → length digits ≤ 6 → IsReading digits (length digits) number → numeral digits ≡ Some number
+unfolding decimal_from
+reading_end digits number some few r =
+    let end : drop (length digits) digits ≡ [] = drop_all (length digits) digits (omega arith) in
+    let all : list_all is_digit digits ≡ true = sym r.good ∙ ap (list_all is_digit) end in
+    let yes : is_numeral digits ≡ true = and_from (ltb 0 (length digits) && leb (length digits) 6) (list_all is_digit digits) (and_from (ltb 0 (length digits)) (leb (length digits) 6) (lt-ltb 0 (length digits) some) (le-leb (length digits) 6 few)) all in
+    let value : decimal digits ≡ number = sym r.value ∙ ap (decimal_from number) end in
+    rw yes (ap {B = Option ℕ} (λ x. Some x) value)
+
+-- ---- writing digits, and reading them again
+
+significant_same : (n : ℕ) (xs : List ℕ) → decimal (significant xs) ≡ decimal xs
+unfolding significant decimal_from
+significant_same n [] = refl
+significant_same n (d ∷ []) = refl
+significant_same n (d ∷ e ∷ xs) =
+    elim (cases_Bool (eqb d 48)) [
+      | inl t ↦ rw t (significant_same n (e ∷ xs) ∙ ap (λ (m : ℕ). decimal_from m (e ∷ xs)) (let q = eqb-true d 48 t in (let z : 0 ≡ 10 * 0 + (d - 48) = omega arith in z)))
+      | inr f ↦ rw f refl
+    ]
+
+significant_all : (xs : List ℕ) → list_all is_digit xs ≡ true → list_all is_digit (significant xs) ≡ true
+unfolding significant
+significant_all [] h = refl
+significant_all (d ∷ []) h = h
+significant_all (d ∷ e ∷ xs) h =
+    elim (cases_Bool (eqb d 48)) [
+      | inl t ↦ rw t (significant_all (e ∷ xs) (and_parts (is_digit d) (list_all is_digit (e ∷ xs)) h).1)
+      | inr f ↦ rw f h
+    ]
+
+significant_len : (xs : List ℕ) → 0 < length xs → (0 < length (significant xs)) × (length (significant xs) ≤ length xs)
+unfolding significant
+significant_len [] h = absurd (omega arith)
+significant_len (d ∷ []) h = (omega arith, omega arith)
+significant_len (d ∷ e ∷ xs) h =
+    let r = significant_len (e ∷ xs) (omega arith) in
+    elim (cases_Bool (eqb d 48)) [
+      | inl t ↦ rw t (r.0, omega (arith, r.1))
+      | inr f ↦ rw f (omega arith, omega arith)
+    ]
+
+digit_low : (k : ℕ) → is_digit (k % 10 + 48) ≡ true
+digit_low k = digit_from (k % 10 + 48) (omega arith) (omega arith)
+
+six_all : (n : ℕ) → list_all is_digit (six_digits n) ≡ true
+six_all n = rw (digit_low (n / 100000), digit_low (n / 10000), digit_low (n / 1000), digit_low (n / 100), digit_low (n / 10), digit_low n) refl
+
+six_value : (n : ℕ) → n ≤ 999999 → decimal (six_digits n) ≡ n
+unfolding decimal_from
+six_value n h = omega arith
+
+-- a number at most 999,999 is read from its digits
+pub numeral_digits : (n : ℕ) → n ≤ 999999 → numeral (digits_of n) ≡ Some n
+unfolding digits_of
+numeral_digits n h =
+    let xs = six_digits n in
+    let len = significant_len xs (omega arith) in
+    let six : length xs ≡ 6 = refl in
+    let all = significant_all xs (six_all n) in
+    let yes : is_numeral (significant xs) ≡ true = and_from (ltb 0 (length (significant xs)) && leb (length (significant xs)) 6) (list_all is_digit (significant xs))
+    (and_from (ltb 0 (length (significant xs))) (leb (length (significant xs)) 6) (lt-ltb 0 (length (significant xs)) len.0) (le-leb (length (significant xs)) 6 (omega (arith, len.1)))) all in
+    rw yes (ap {B = Option ℕ} (λ x. Some x) (significant_same n xs ∙ six_value n h))

@@ -1,0 +1,11 @@
+pub mod Digits
+pub mod OneOctet
+pub mod ParamsLaws
+pub mod Loops
+pub mod FormedLaws
+pub mod TsduLaws
+pub mod WritingLoops
+pub mod CanonicalLaws
+pub mod Shorter
+pub mod FitsLaws
+pub mod MadeLaws

@@ -1,0 +1,128 @@
+-- A value is written in no more octets than it was read in.
+use Rattle.std.proofs.Common.{inl, inr, ◌≡◌, ℕ, zero, suc, ◌+◌, ◌*◌, ◌/◌, ◌%◌, ◌^◌, ◌<◌, ◌≤◌, Bool, true, false, cond, ◌&&◌, List, [], ◌∷◌, length, Option, Some, None, option_map, refl, ap, subst, ◌-◌, add-zero, zero-add, eqb, ltb, leb, arith}
+use Rattle.std.proofs.lemmas.Grind.{common_steps}
+use Rattle.std.specs.List.{list_all}
+use Rattle.std.proofs.lemmas.Bool.{cases_Bool, and_parts, ltb-true, leb-true}
+use Rattle.osi_spdu.specs.declared.codes.Code.{Code}
+use Rattle.osi_spdu.specs.declared.codes.Code.TheVariants.{ConnectionIdentifier, ConnectAcceptItem, CalledReference, CallingReference, CommonReference, AdditionalReference, SyncType, TokenItem, TransportDisconnect, ProtocolOptions, UserRequirements, TsduMaximumSize, Version, InitialNumber, Enclosure, TokenSetting, ResyncType, Number, Reflect, Reason, CallingSelector, CalledSelector, UserData, ExtendedUserData}
+use Rattle.osi_spdu.specs.Values.{significant, six_digits, digits_of, decimal_from, decimal, is_digit, is_numeral, numeral, octet_if, kept_if, canonical, token_bits, any_octet, as_it_is, is_setting}
+
+-- ---- a value is written in no more octets than it was read in
+
+one_shorter : (good : ℕ → Bool) (form : ℕ → ℕ) (value v : List ℕ) → octet_if good form value ≡ Some v → length v ≤ length value
+one_shorter good form [] v e = absurd cc
+one_shorter good form (b ∷ []) v e = by (good b) e
+  where
+    by : (t : Bool) → cond t (Some (form b ∷ [])) None ≡ Some v → length v ≤ 1
+    by true h = (let same : form b ∷ [] ≡ v = cc in omega (arith, ap length same))
+    by false h = absurd cc
+one_shorter good form (b ∷ c ∷ rest) v e = absurd cc
+
+kept_shorter : (good : Bool) (value v : List ℕ) → kept_if good value ≡ Some v → length v ≤ length value
+kept_shorter true value v e = (let same : value ≡ v = cc in omega (arith, ap length same))
+kept_shorter false value v e = absurd cc
+
+some_shorter : (value v : List ℕ) → (let o : Option (List ℕ) = Some value in o ≡ Some v) → length v ≤ length value
+some_shorter value v e = (let same : value ≡ v = cc in omega (arith, ap length same))
+
+none_shorter : (value v : List ℕ) → (let o : Option (List ℕ) = Some [] in o ≡ Some v) → length v ≤ length value
+none_shorter value v e = (let same : [] ≡ v = cc in omega (arith, ap length same))
+
+significant_zero : (xs : List ℕ) (d : ℕ) → significant (48 ∷ d ∷ xs) ≡ significant (d ∷ xs)
+unfolding significant
+significant_zero xs d = refl
+
+pub significant_len : (xs : List ℕ) → length (significant xs) ≤ length xs
+unfolding significant
+significant_len [] = omega arith
+significant_len (d ∷ []) = omega arith
+significant_len (d ∷ e ∷ xs) =
+    let r = significant_len (e ∷ xs) in
+    elim (cases_Bool (eqb d 48)) [
+      | inl t ↦ rw t (omega arith)
+      | inr f ↦ rw f (omega arith)
+    ]
+
+-- a zero in front is not written
+drop_zero : (d e : ℕ) (xs : List ℕ) (n : ℕ) → d ≡ 48 → length (significant (e ∷ xs)) ≤ n → length (significant (d ∷ e ∷ xs)) ≤ n
+unfolding significant
+drop_zero d e xs n h l = rw h l
+
+few_digits : (n k : ℕ) → 1 ≤ k → k ≤ 6 → n < 10 ^ k → length (digits_of n) ≤ k
+unfolding digits_of
+few_digits n zero low high h = absurd (omega arith)
+few_digits n (suc zero) low high h =
+    drop_zero (n / 100000 % 10 + 48) (n / 10000 % 10 + 48) ((n / 1000 % 10 + 48) ∷ (n / 100 % 10 + 48) ∷ (n / 10 % 10 + 48) ∷ (n % 10 + 48) ∷ []) 1 (omega arith)
+    (drop_zero (n / 10000 % 10 + 48) (n / 1000 % 10 + 48) ((n / 100 % 10 + 48) ∷ (n / 10 % 10 + 48) ∷ (n % 10 + 48) ∷ []) 1 (omega arith)
+    (drop_zero (n / 1000 % 10 + 48) (n / 100 % 10 + 48) ((n / 10 % 10 + 48) ∷ (n % 10 + 48) ∷ []) 1 (omega arith)
+    (drop_zero (n / 100 % 10 + 48) (n / 10 % 10 + 48) ((n % 10 + 48) ∷ []) 1 (omega arith)
+    (drop_zero (n / 10 % 10 + 48) (n % 10 + 48) [] 1 (omega arith) (significant_len ((n % 10 + 48) ∷ []))))))
+few_digits n (suc (suc zero)) low high h =
+    drop_zero (n / 100000 % 10 + 48) (n / 10000 % 10 + 48) ((n / 1000 % 10 + 48) ∷ (n / 100 % 10 + 48) ∷ (n / 10 % 10 + 48) ∷ (n % 10 + 48) ∷ []) 2 (omega arith)
+    (drop_zero (n / 10000 % 10 + 48) (n / 1000 % 10 + 48) ((n / 100 % 10 + 48) ∷ (n / 10 % 10 + 48) ∷ (n % 10 + 48) ∷ []) 2 (omega arith)
+    (drop_zero (n / 1000 % 10 + 48) (n / 100 % 10 + 48) ((n / 10 % 10 + 48) ∷ (n % 10 + 48) ∷ []) 2 (omega arith)
+    (drop_zero (n / 100 % 10 + 48) (n / 10 % 10 + 48) ((n % 10 + 48) ∷ []) 2 (omega arith) (significant_len ((n / 10 % 10 + 48) ∷ (n % 10 + 48) ∷ [])))))
+few_digits n (suc (suc (suc zero))) low high h =
+    drop_zero (n / 100000 % 10 + 48) (n / 10000 % 10 + 48) ((n / 1000 % 10 + 48) ∷ (n / 100 % 10 + 48) ∷ (n / 10 % 10 + 48) ∷ (n % 10 + 48) ∷ []) 3 (omega arith)
+    (drop_zero (n / 10000 % 10 + 48) (n / 1000 % 10 + 48) ((n / 100 % 10 + 48) ∷ (n / 10 % 10 + 48) ∷ (n % 10 + 48) ∷ []) 3 (omega arith)
+    (drop_zero (n / 1000 % 10 + 48) (n / 100 % 10 + 48) ((n / 10 % 10 + 48) ∷ (n % 10 + 48) ∷ []) 3 (omega arith) (significant_len ((n / 100 % 10 + 48) ∷ (n / 10 % 10 + 48) ∷ (n % 10 + 48) ∷ []))))
+few_digits n (suc (suc (suc (suc zero)))) low high h =
+    drop_zero (n / 100000 % 10 + 48) (n / 10000 % 10 + 48) ((n / 1000 % 10 + 48) ∷ (n / 100 % 10 + 48) ∷ (n / 10 % 10 + 48) ∷ (n % 10 + 48) ∷ []) 4 (omega arith)
+    (drop_zero (n / 10000 % 10 + 48) (n / 1000 % 10 + 48) ((n / 100 % 10 + 48) ∷ (n / 10 % 10 + 48) ∷ (n % 10 + 48) ∷ []) 4 (omega arith) (significant_len ((n / 1000 % 10 + 48) ∷ (n / 100 % 10 + 48) ∷ (n / 10 % 10 + 48) ∷ (n % 10 + 48) ∷ [])))
+few_digits n (suc (suc (suc (suc (suc zero))))) low high h =
+    drop_zero (n / 100000 % 10 + 48) (n / 10000 % 10 + 48) ((n / 1000 % 10 + 48) ∷ (n / 100 % 10 + 48) ∷ (n / 10 % 10 + 48) ∷ (n % 10 + 48) ∷ []) 5 (omega arith) (significant_len ((n / 10000 % 10 + 48) ∷ (n / 1000 % 10 + 48) ∷ (n / 100 % 10 + 48) ∷ (n / 10 % 10 + 48) ∷ (n % 10 + 48) ∷ []))
+few_digits n (suc (suc (suc (suc (suc (suc k)))))) low high h = (let l = significant_len (six_digits n) in omega arith)
+
+-- digits stand for a number below ten to their number
+decimal_small : (ds : List ℕ) (n k : ℕ) → list_all is_digit ds ≡ true → n < 10 ^ k → decimal_from n ds < 10 ^ (k + length ds)
+unfolding decimal_from
+decimal_small [] n k all h = rw (add-zero k) h
+decimal_small (d ∷ ds) n k all h =
+    let a = and_parts (is_digit d) (list_all is_digit ds) all in
+    let b = and_parts (leb 48 d) (ltb d 58) a.0 in
+    let high = ltb-true d 58 b.1 in
+    let power : 10 ^ (k + 1) ≡ 10 * 10 ^ k = grind (arith, common_steps) in
+    let r = decimal_small ds (10 * n + (d - 48)) (k + 1) a.1 (omega arith) in
+    let same : k + 1 + length ds ≡ k + suc (length ds) = omega arith in
+    subst (λ (m : ℕ). decimal_from (10 * n + (d - 48)) ds < 10 ^ m) same r
+
+numeral_shorter : (value v : List ℕ) → option_map digits_of (numeral value) ≡ Some v → length v ≤ length value
+numeral_shorter value v e = by (is_numeral value) refl e
+  where
+    by : (b : Bool) → is_numeral value ≡ b → option_map digits_of (cond b (Some (decimal value)) None) ≡ Some v → length v ≤ length value
+    by true t h =
+        let a = and_parts (ltb 0 (length value) && leb (length value) 6) (list_all is_digit value) t in
+        let b = and_parts (ltb 0 (length value)) (leb (length value) 6) a.0 in
+        let some = ltb-true 0 (length value) b.0 in
+        let few = leb-true (length value) 6 b.1 in
+        let small : decimal value < 10 ^ length value = subst (λ (m : ℕ). decimal value < 10 ^ m) (zero-add (length value)) (decimal_small value 0 0 a.1 (omega arith)) in
+        let same : digits_of (decimal value) ≡ v = cc in
+        subst (λ (x : List ℕ). length x ≤ length value) same (few_digits (decimal value) (length value) (omega arith) few small)
+    by false t h = absurd cc
+
+pub canonical_shorter : (c : Code) (value v : List ℕ) → canonical c value ≡ Some v → length v ≤ length value
+unfolding canonical
+canonical_shorter ConnectionIdentifier value v e = none_shorter value v e
+canonical_shorter ConnectAcceptItem value v e = none_shorter value v e
+canonical_shorter CalledReference value v e = some_shorter value v e
+canonical_shorter CallingReference value v e = some_shorter value v e
+canonical_shorter CommonReference value v e = some_shorter value v e
+canonical_shorter AdditionalReference value v e = some_shorter value v e
+canonical_shorter SyncType value v e = one_shorter any_octet (λ b. b % 2) value v e
+canonical_shorter TokenItem value v e = one_shorter any_octet token_bits value v e
+canonical_shorter TransportDisconnect value v e = one_shorter any_octet as_it_is value v e
+canonical_shorter ProtocolOptions value v e = one_shorter any_octet as_it_is value v e
+canonical_shorter UserRequirements value v e = kept_shorter (eqb (length value) 2) value v e
+canonical_shorter TsduMaximumSize value v e = kept_shorter (eqb (length value) 4) value v e
+canonical_shorter Version value v e = one_shorter any_octet as_it_is value v e
+canonical_shorter InitialNumber value v e = numeral_shorter value v e
+canonical_shorter Enclosure value v e = one_shorter (λ b. eqb b 3) as_it_is value v e
+canonical_shorter TokenSetting value v e = one_shorter is_setting as_it_is value v e
+canonical_shorter ResyncType value v e = one_shorter (λ b. ltb b 3) as_it_is value v e
+canonical_shorter Number value v e = numeral_shorter value v e
+canonical_shorter Reflect value v e = some_shorter value v e
+canonical_shorter Reason value v e = kept_shorter (ltb 0 (length value)) value v e
+canonical_shorter CallingSelector value v e = kept_shorter (leb (length value) 16) value v e
+canonical_shorter CalledSelector value v e = kept_shorter (leb (length value) 16) value v e
+canonical_shorter UserData value v e = some_shorter value v e
+canonical_shorter ExtendedUserData value v e = some_shorter value v e

@@ -1,0 +1,103 @@
+-- How the reader of a TSDU goes on behind the first unit.
+use Rattle.std.proofs.Common.{◌≡◌, ℕ, Bool, true, false, ◌&&◌, List, [], ◌∷◌, length, Some, None, Result, Ok, Err, refl, sym, ◌∙◌, arith}
+use Rattle.std.specs.Prelude.{IfOk, IsOkAnd}
+use Rattle.osi_tpkt.specs.Octets.{IsOctets}
+use Rattle.osi_spdu.specs.declared.faults.SpduFault.{SpduFault}
+use Rattle.osi_spdu.specs.declared.faults.SpduFault.TheVariants.{TrailingOctets}
+use Rattle.osi_spdu.specs.declared.kinds.Kind.{Kind}
+use Rattle.osi_spdu.specs.Kinds.{category_of, may_stand}
+use Rattle.osi_spdu.specs.declared.kinds.Category.{Category}
+use Rattle.osi_spdu.specs.declared.kinds.Category.TheVariants.{Zero, One, Two}
+use Rattle.osi_spdu.specs.declared.reading.Found.{Found}
+use Rattle.osi_spdu.specs.declared.groups.Group.{Group}
+use Rattle.osi_spdu.specs.Known.{Contents, Units}
+use Rattle.osi_spdu.specs.Params.{known_of}
+use Rattle.osi_spdu.specs.Writing.{is_formed, is_joined, IsFormedTsdu, TsduFits}
+use Rattle.osi_spdu.specs.Reading.{◌>>=◌, Gives, Placed, unit_at, ended, contents_of, takes_rest, joined, behind, continued, tsdu_at}
+use Rattle.osi_spdu.specs.Spelling.{SpellsTsdu}
+use Rattle.osi_spdu.specs.Found.{placed_of}
+use Rattle.osi_spdu.specs.Groups.{units_of}
+use Rattle.osi_spdu.specs.Laws.Steps.{ok_is}
+use Rattle.osi_spdu.proofs.FormedLaws.{placed_formed}
+use Rattle.osi_spdu.proofs.CanonicalLaws.{group_formed}
+use Rattle.osi_spdu.proofs.FitsLaws.{tsdu_fits}
+use Rattle.osi_spdu.specs.Laws.Tsdus.{tsdu_found, tsdu_only}
+
+pub found_formed : (r : Result Found SpduFault) (second : Bool) (at : ℕ) (octets : List ℕ) → IsOctets octets → Gives placed_of r (unit_at second at octets) → IfOk r (λ f. is_formed f.kind (known_of f.params) ≡ true)
+found_formed (Ok f) second at octets fits e = placed_formed second at octets (placed_of f) fits e
+found_formed (Err d) second at octets fits e = tt
+
+-- ---- behind the first unit
+
+ended_at : (at : ℕ) (octets : List ℕ) (units : Units) → length octets ≡ 0 → ended at octets units ≡ Ok units
+ended_at at [] units e = refl
+ended_at at (b ∷ octets) units e = absurd (omega arith)
+
+behind_none : (p : Placed) (octets : List ℕ) → length octets ≡ 0 → behind p octets ≡ Ok (record { first = contents_of p []; second = None })
+behind_none p [] e = refl
+behind_none p (b ∷ octets) e = absurd (omega arith)
+
+pub continued_alone : (category : Category) (p : Placed) → length p.rest ≡ 0 → continued category p ≡ Ok (record { first = contents_of p []; second = None })
+continued_alone Zero p e = behind_none p p.rest e
+continued_alone One p e = ended_at p.end p.rest (record { first = contents_of p []; second = None }) e
+continued_alone Two p e = ended_at p.end p.rest (record { first = contents_of p []; second = None }) e
+
+behind_some : (p : Placed) (octets : List ℕ) → (length octets ≡ 0 → ⊥) → behind p octets ≡ (unit_at true p.end octets >>= joined (contents_of p []))
+behind_some p [] h = absurd (h refl)
+behind_some p (b ∷ octets) h = refl
+
+pub continued_zero : (category : Category) (p : Placed) → category ≡ Zero → (length p.rest ≡ 0 → ⊥) → continued category p ≡ (unit_at true p.end p.rest >>= joined (contents_of p []))
+continued_zero Zero p e h = behind_some p p.rest h
+continued_zero One p e h = absurd cc
+continued_zero Two p e h = absurd cc
+
+ended_some : (at : ℕ) (octets : List ℕ) (units : Units) → (length octets ≡ 0 → ⊥) → ended at octets units ≡ Err (TrailingOctets at)
+ended_some at [] units h = absurd (h refl)
+ended_some at (b ∷ octets) units h = refl
+
+pub continued_trailing : (category : Category) (p : Placed) → (category ≡ Zero → ⊥) → (length p.rest ≡ 0 → ⊥) → continued category p ≡ Err (TrailingOctets p.end)
+continued_trailing Zero p other h = absurd (other refl)
+continued_trailing One p other h = ended_some p.end p.rest (record { first = contents_of p []; second = None }) h
+continued_trailing Two p other h = ended_some p.end p.rest (record { first = contents_of p []; second = None }) h
+
+-- ---- the second unit
+
+pub joined_all : (first : Contents) (p : Placed) → takes_rest p.kind ≡ true → joined first p ≡ Ok (record { first = first; second = Some (contents_of p p.rest) })
+joined_all first p e = rw e refl
+
+pub joined_none : (first : Contents) (p : Placed) → takes_rest p.kind ≡ false → length p.rest ≡ 0 → joined first p ≡ Ok (record { first = first; second = Some (contents_of p []) })
+joined_none first p e h = rw e (ended_at p.end p.rest (record { first = first; second = Some (contents_of p []) }) h)
+
+pub joined_trailing : (first : Contents) (p : Placed) → takes_rest p.kind ≡ false → (length p.rest ≡ 0 → ⊥) → joined first p ≡ Err (TrailingOctets p.end)
+joined_trailing first p e h = rw e (ended_some p.end p.rest (record { first = first; second = Some (contents_of p []) }) h)
+
+-- ---- the laws, at what a reader returned
+
+pub all_found : (r : Result Group SpduFault) (octets : List ℕ) → IsOctets octets → Gives units_of r (tsdu_at octets) → IfOk r (λ g. SpellsTsdu (units_of g) octets)
+all_found (Ok g) octets fits e = tsdu_found octets (units_of g) fits e
+all_found (Err d) octets fits e = tt
+
+pub all_only : (r : Result Group SpduFault) (octets : List ℕ) → Gives units_of r (tsdu_at octets) → (units : Units) → SpellsTsdu units octets → IsOkAnd r (λ g. units_of g ≡ units)
+all_only (Ok g) octets e units s = (let h : Ok (units_of g) ≡ Ok units = sym e ∙ tsdu_only units octets s in ok_is (units_of g) units h)
+all_only (Err d) octets e units s = absurd (let h : Err d ≡ Ok units = sym e ∙ tsdu_only units octets s in cc)
+
+-- ---- what stands together
+
+pub joined_ok : (first second : Kind) → category_of first ≡ Zero → may_stand true (category_of second) ≡ true → is_joined first (Some second) ≡ true
+unfolding is_joined may_stand
+joined_ok first second e h = rw e h_true
+  where
+    h_true : (true && may_stand true (category_of second) && true) ≡ true
+    h_true = rw h refl
+
+pub tsdu_goes : (octets : List ℕ) (p : Placed) → unit_at false 0 octets ≡ Ok p → tsdu_at octets ≡ continued (category_of p.kind) p
+unfolding tsdu_at
+tsdu_goes octets p e = rw e refl
+
+pub all_fits : (r : Result Group SpduFault) (octets : List ℕ) → IsOctets octets → Gives units_of r (tsdu_at octets) → IfOk r (λ g. TsduFits (units_of g))
+all_fits (Ok g) octets fits e = tsdu_fits (units_of g) octets (tsdu_found octets (units_of g) fits e)
+all_fits (Err d) octets fits e = tt
+
+pub all_formed : (r : Result Group SpduFault) → IfOk r (λ g. IsFormedTsdu (units_of g))
+all_formed (Ok g) = group_formed g
+all_formed (Err d) = tt

@@ -1,0 +1,65 @@
+-- Writing parameters one after the other, as a loop does.
+use Rattle.std.proofs.Common.{◌≡◌, ℕ, zero, suc, ◌+◌, ◌<◌, ◌≤◌, List, [], ◌∷◌, ◌++◌, length, drop, get_or, refl, sym, ap, ◌∙◌, append_assoc, arith}
+use Rattle.std.specs.List.{flat_map}
+use Rattle.std.proofs.lemmas.List.{length-append, append-nil, drop_more, drop_all}
+use Rattle.osi_spdu.specs.declared.codes.Code.{Code}
+
+pub piece_next : (f : Code → List ℕ) (codes : List Code) (i : ℕ) (c : Code) → i < length codes → flat_map f (drop i codes) ≡ f (get_or codes i c) ++ flat_map f (drop (i + 1) codes)
+piece_next f codes i c lt = ap (flat_map f) (drop_more codes i c lt)
+
+pub pieces_end : (f : Code → List ℕ) (codes : List Code) (i : ℕ) → length codes ≤ i → flat_map f (drop i codes) ≡ []
+pieces_end f codes i le = ap (flat_map f) (drop_all i codes le)
+
+pub piece_len : (f : Code → List ℕ) (codes : List Code) (i : ℕ) (c : Code) → i < length codes → length (flat_map f (drop i codes)) ≡ length (f (get_or codes i c)) + length (flat_map f (drop (i + 1) codes))
+piece_len f codes i c lt = ap length (piece_next f codes i c lt) ∙ length-append (f (get_or codes i c)) (flat_map f (drop (i + 1) codes))
+
+-- a length so far, and the length of what is left
+pub record IsCounting (f : Code → List ℕ) (codes : List Code) (i len : ℕ) : Type 0 where
+  pub counted : len + length (flat_map f (drop i codes)) ≡ length (flat_map f codes)
+
+pub counting_next : (f : Code → List ℕ) (codes : List Code) (i len : ℕ) (c : Code) → i < length codes → IsCounting f codes i len → IsCounting f codes (i + 1) (len + length (f (get_or codes i c)))
+counting_next f codes i len c lt so_far = (let p = piece_len f codes i c lt in let s = so_far.counted in record { counted = omega arith })
+
+pub counting_end : (f : Code → List ℕ) (codes : List Code) (i len : ℕ) → length codes ≤ i → IsCounting f codes i len → len ≡ length (flat_map f codes)
+counting_end f codes i len le so_far = (let e = ap length (pieces_end f codes i le) in let s = so_far.counted in omega arith)
+
+-- what is written so far, with what is left, is what was there with all; and so is the room
+pub record IsPutting (f : Code → List ℕ) (codes : List Code) (i : ℕ) (items : List ℕ) (spare : ℕ) (before : List ℕ) (room : ℕ) : Type 0 where
+  pub put : items ++ flat_map f (drop i codes) ≡ before ++ flat_map f codes
+  pub left : spare + length (flat_map f codes) ≡ room + length (flat_map f (drop i codes))
+
+pub putting_start : (f : Code → List ℕ) (codes : List Code) (items : List ℕ) (spare : ℕ) → IsPutting f codes 0 items spare items spare
+putting_start f codes items spare = record { put = refl; left = refl }
+
+pub putting_next : (f : Code → List ℕ) (codes : List Code) (i : ℕ) (items more before : List ℕ) (spare less room : ℕ) (c : Code) → i < length codes
+    → more ≡ items ++ f (get_or codes i c) → less + length (f (get_or codes i c)) ≡ spare
+    → IsPutting f codes i items spare before room → IsPutting f codes (i + 1) more less before room
+putting_next f codes i items more before spare less room c lt e h so_far = record {
+  put =
+      ap (λ (x : List ℕ). x ++ flat_map f (drop (i + 1) codes)) e
+      ∙ append_assoc items (f (get_or codes i c)) (flat_map f (drop (i + 1) codes))
+      ∙ ap (λ (x : List ℕ). items ++ x) (sym (piece_next f codes i c lt)) ∙ so_far.put;
+  left = (let p = piece_len f codes i c lt in let s = so_far.left in omega arith);
+}
+
+-- the next piece has room, and is no longer than all
+pub putting_fits : (f : Code → List ℕ) (codes : List Code) (i : ℕ) (items before : List ℕ) (spare room limit : ℕ) (c : Code) → i < length codes
+    → length (flat_map f codes) ≤ room → length (flat_map f codes) < limit → length (flat_map f (drop i codes)) ≤ length (flat_map f codes)
+    → IsPutting f codes i items spare before room → (length (f (get_or codes i c)) ≤ spare) × (length (f (get_or codes i c)) < limit)
+putting_fits f codes i items before spare room limit c lt fits small less so_far =
+    let p = piece_len f codes i c lt in
+    let s = so_far.left in
+    (omega arith, omega arith)
+
+pub tail_less : (f : Code → List ℕ) (codes : List Code) (i : ℕ) → length (flat_map f (drop i codes)) ≤ length (flat_map f codes)
+tail_less f codes zero = omega arith
+tail_less f [] (suc i) = omega arith
+tail_less f (c ∷ codes) (suc i) = (let r = tail_less f codes i in let l = length-append (f c) (flat_map f codes) in omega arith)
+
+pub putting_end : (f : Code → List ℕ) (codes : List Code) (i : ℕ) (items before : List ℕ) (spare room : ℕ) → length codes ≤ i → IsPutting f codes i items spare before room
+    → (items ≡ before ++ flat_map f codes) × (spare + length (flat_map f codes) ≡ room)
+putting_end f codes i items before spare room le so_far =
+    let e = pieces_end f codes i le in
+    let n = ap length e in
+    let s = so_far.left in
+    (sym (append-nil items) ∙ ap (λ (x : List ℕ). items ++ x) (sym e) ∙ so_far.put, omega arith)

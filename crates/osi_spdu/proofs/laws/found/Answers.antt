@@ -1,0 +1,5 @@
+use Rattle.osi_spdu.specs.Laws.Tsdus.{tsdu_found}
+use Rattle.osi_spdu.proofs.laws.found.Goals as goal
+
+pub returns : goal.returns
+returns c = λ units octets fits e. tsdu_found octets units fits e

@@ -1,0 +1,11 @@
+use Rattle.std.proofs.Common.{length}
+use Rattle.osi_spdu.specs.Reading.{in_group}
+use Rattle.osi_spdu.specs.Params.{slots_of}
+use Rattle.osi_spdu.proofs.Loops.{IsTaking}
+use Rattle.osi_spdu.proofs.levels.take_members.Given as goal
+
+abbrev pub invariant-parameters : goal.invariant-parameters
+invariant-parameters l = IsTaking (in_group l.members) l.at (slots_of l.params) l.rest l.fn.at (slots_of l.fn.params) l.octets
+
+abbrev pub decreases-parameters : goal.decreases-parameters
+decreases-parameters l = length l.rest

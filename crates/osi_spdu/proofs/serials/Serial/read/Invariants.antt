@@ -1,0 +1,5 @@
+use Rattle.osi_spdu.proofs.Digits.{IsReading}
+use Rattle.osi_spdu.proofs.serials.Serial.read.Given as goal
+
+abbrev pub invariant-digits : goal.invariant-digits
+invariant-digits l = IsReading l.digits l.digit-index l.number

@@ -1,0 +1,20 @@
+use Rattle.std.proofs.Common.{refl, arith}
+use Rattle.osi_spdu.specs.Codes.{number_of}
+use Rattle.osi_spdu.specs.Kinds.{category_of, codes_of, members_of, required_of}
+use Rattle.osi_spdu.specs.Params.{place_of, cells_of, slots_of, known_of}
+use Rattle.osi_spdu.specs.Writing.{is_formed}
+use Rattle.osi_spdu.proofs.units.Spdu.data_transfer.Goals as goal
+
+pub with-requires-clause-formed : goal.with-requires-clause-formed
+unfolding is_formed known_of slots_of cells_of place_of number_of codes_of members_of required_of
+with-requires-clause-formed c = refl
+
+pub returns-clause-units : goal.returns-clause-units
+returns-clause-units c = c.with.ensures.value
+
+pub returns-clause-place : goal.returns-clause-place
+unfolding category_of
+returns-clause-place c = rw c.with.ensures.kind refl
+
+pub returns-clause-fits : goal.returns-clause-fits
+returns-clause-fits c = c.with.ensures.fits (omega arith)

@@ -1,0 +1,36 @@
+-- A TSDU as a unit of a grammar: it is all of its octets.
+use Rattle.std.proofs.Common.{◌≡◌, ℕ, List, [], length, sym, ap, subst, ◌∙◌, arith}
+use Rattle.std.proofs.lemmas.List.{take_all, drop_all, length-drop}
+use Rattle.osi_tpkt.specs.Octets.{IsOctets}
+use Rattle.osi_tpkt.specs.Unit.{IsAtFront}
+use Rattle.osi_spdu.specs.Known.{Units}
+use Rattle.osi_spdu.specs.Spelling.{SpellsTsdu}
+use Rattle.osi_spdu.specs.Writing.{tsdu_octets, IsFormedTsdu, TsduFits}
+use Rattle.osi_spdu.specs.Laws.Steps.{ok_is}
+use Rattle.osi_spdu.specs.Laws.Tsdus.{tsdu_only}
+use Rattle.osi_spdu.specs.Laws.Written.{tsdu_written}
+
+pub grammar_spelled : (units : Units) → IsFormedTsdu units × TsduFits units → SpellsTsdu units (tsdu_octets units)
+grammar_spelled units h = tsdu_written units h.0 h.1
+
+abbrev AtFront : Units → ℕ → List ℕ → Type 0
+AtFront units n octets = IsAtFront {V = Units} (λ u o. SpellsTsdu u o) (λ u o. o ≡ []) units n octets
+
+pub front_whole : (units : Units) (n : ℕ) (octets : List ℕ) → AtFront units n octets → (n ≡ length octets) × SpellsTsdu units octets
+front_whole units n octets h =
+    let w = h.within in
+    let all : n ≡ length octets = omega (arith, ap length h.followed, length-drop n octets) in
+    (all, subst (λ (o : List ℕ). SpellsTsdu units o) (take_all n octets (omega arith)) h.spelled)
+
+pub whole_front : (units : Units) (octets : List ℕ) → SpellsTsdu units octets → AtFront units (length octets) octets
+whole_front units octets s = record {
+  within = omega arith;
+  spelled = subst (λ (o : List ℕ). SpellsTsdu units o) (sym (take_all (length octets) octets (omega arith))) s;
+  followed = drop_all (length octets) octets (omega arith);
+}
+
+pub grammar_one : (v w : Units) (m n : ℕ) (octets : List ℕ) → IsOctets octets → AtFront v m octets → AtFront w n octets → (v ≡ w) × (m ≡ n)
+grammar_one v w m n octets fits a b =
+    let p = front_whole v m octets a in
+    let q = front_whole w n octets b in
+    (ok_is v w (sym (tsdu_only v octets p.1) ∙ tsdu_only w octets q.1), p.0 ∙ sym q.0)

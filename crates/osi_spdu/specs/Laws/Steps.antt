@@ -1,0 +1,81 @@
+-- The steps of a reading function.
+use Rattle.std.proofs.Common.{◌≡◌, ℕ, Bool, true, false, cond, List, Option, Some, None, Result, Ok, Err, refl, sym, ap, ◌∙◌, eqb}
+use Rattle.std.specs.Prelude.{is_some}
+use Rattle.std.specs.List.{find}
+use Rattle.std.proofs.lemmas.Bool.{eqb-true, eq-eqb}
+use Rattle.osi_spdu.specs.declared.faults.SpduFault.{SpduFault}
+use Rattle.osi_spdu.specs.declared.codes.Code.{Code}
+use Rattle.osi_spdu.specs.declared.codes.Code.TheVariants.{ConnectionIdentifier, ConnectAcceptItem, CalledReference, CallingReference, CommonReference, AdditionalReference, SyncType, TokenItem, TransportDisconnect, ProtocolOptions, UserRequirements, TsduMaximumSize, Version, InitialNumber, Enclosure, TokenSetting, ResyncType, Number, Reflect, Reason, CallingSelector, CalledSelector, UserData, ExtendedUserData}
+use Rattle.osi_spdu.specs.Codes.{number_of, is_same, every_code}
+use Rattle.osi_spdu.specs.Reading.{◌>>=◌}
+
+-- the value of a step that did not fail
+pub bind_ok : {A B : Type 0} (r : Result A SpduFault) (f : A → Result B SpduFault) (y : B) → (r >>= f) ≡ Ok y → (x : A) × (r ≡ Ok x) × (f x ≡ Ok y)
+bind_ok (Ok x) f y e = (x, refl, e)
+bind_ok (Err d) f y e = absurd cc
+
+pub bind_of : {A B : Type 0} (r : Result A SpduFault) (f : A → Result B SpduFault) (x : A) (z : Result B SpduFault) → r ≡ Ok x → f x ≡ z → (r >>= f) ≡ z
+bind_of r f x z e g = ap (λ q. q >>= f) e ∙ g
+
+abbrev done : {A : Type 0} → A → Result A SpduFault
+done x = Ok x
+
+pub ok_is : {A : Type 0} (x y : A) → done x ≡ done y → x ≡ y
+ok_is x y e = cc
+
+-- a test that did not fail
+pub guard_ok : {A : Type 0} (b : Bool) (d : SpduFault) (x : A) (r : Result A SpduFault) → cond b (Err d) r ≡ Ok x → (b ≡ false) × (r ≡ Ok x)
+guard_ok true d x r e = absurd cc
+guard_ok false d x r e = (refl, e)
+
+pub is_none_of : (o : Option (List ℕ)) → is_some o ≡ false → o ≡ None
+is_none_of None e = refl
+is_none_of (Some v) e = absurd cc
+
+pub none_is : (o : Option (List ℕ)) → o ≡ None → is_some o ≡ false
+none_is o e = ap is_some e
+
+-- ---- codes
+
+abbrev named : ℕ → Option Code
+named n = find (λ c. eqb (number_of c) n) every_code
+
+named_back : (c : Code) → named (number_of c) ≡ Some c
+unfolding number_of
+named_back ConnectionIdentifier = refl
+named_back ConnectAcceptItem = refl
+named_back CalledReference = refl
+named_back CallingReference = refl
+named_back CommonReference = refl
+named_back AdditionalReference = refl
+named_back SyncType = refl
+named_back TokenItem = refl
+named_back TransportDisconnect = refl
+named_back ProtocolOptions = refl
+named_back UserRequirements = refl
+named_back TsduMaximumSize = refl
+named_back Version = refl
+named_back InitialNumber = refl
+named_back Enclosure = refl
+named_back TokenSetting = refl
+named_back ResyncType = refl
+named_back Number = refl
+named_back Reflect = refl
+named_back Reason = refl
+named_back CallingSelector = refl
+named_back CalledSelector = refl
+named_back UserData = refl
+named_back ExtendedUserData = refl
+
+some_is : (c d : Code) → (let o : Option Code = Some c in o ≡ Some d) → c ≡ d
+some_is c d e = cc
+
+-- two codes with one number are one
+pub number_one : (c d : Code) → number_of c ≡ number_of d → c ≡ d
+number_one c d e = some_is c d (sym (named_back c) ∙ ap named e ∙ named_back d)
+
+pub same_true : (c d : Code) → is_same c d ≡ true → c ≡ d
+same_true c d e = number_one c d (eqb-true (number_of c) (number_of d) e)
+
+pub same_refl : (c : Code) → is_same c c ≡ true
+same_refl c = eq-eqb (number_of c) (number_of c) refl

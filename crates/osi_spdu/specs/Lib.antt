@@ -1,0 +1,15 @@
+pub mod Codes
+pub mod Kinds
+pub mod Values
+pub mod Known
+pub mod Reading
+pub mod Spelling
+pub mod Writing
+pub mod Octets
+pub mod Fields
+pub mod Params
+pub mod Counted
+pub mod Groups
+pub mod Units
+pub mod Found
+pub mod Laws

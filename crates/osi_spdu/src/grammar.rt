@@ -1,0 +1,58 @@
+//! Session units as a grammar of units: a TSDU is read whole.
+
+ghost use Rattle.std.specs.Prelude.{◌≡◌, [], Err, refl};
+ghost use Rattle.osi_spdu.specs.Known.{Units};
+ghost use Rattle.osi_spdu.specs.Groups.{units_of};
+ghost use Rattle.osi_spdu.specs.Reading.{tsdu_at};
+ghost use Rattle.osi_spdu.specs.Spelling.{SpellsTsdu};
+ghost use Rattle.osi_spdu.specs.Writing.{tsdu_octets, IsFormedTsdu, TsduFits};
+ghost use Rattle.osi_spdu.specs.Laws.Grammar.{grammar_spelled, grammar_one};
+
+use crate::faults::SpduFault;
+use crate::groups::Group;
+use crate::reading::read_tsdu;
+use crate::writing::{write_tsdu, written_len};
+use bytes::BytesMut;
+use osi_tpkt::Unit;
+use std::alloc::AllocError;
+
+impl<'a> Unit<'a> for Group<'a> {
+    type Fault = SpduFault;
+
+    ghost Value = { Units };
+
+    ghost value = { λ g. units_of g };
+
+    ghost spells = { λ units octets. SpellsTsdu units octets };
+
+    ghost follows = { λ units octets. octets ≡ [] };
+
+    ghost begins = { λ octets. ⊥ };
+
+    ghost refuses = { λ octets fault. tsdu_at octets ≡ Err fault };
+
+    ghost written = { λ units. tsdu_octets units };
+
+    ghost fits = { λ units. IsFormedTsdu units × TsduFits units };
+
+    fn read(octets: &'a [u8]) -> Result<Option<(Group<'a>, usize)>, SpduFault> {
+        match read_tsdu(octets) {
+            Ok(group) => Ok(Some((group, octets.len()))),
+            Err(fault) => Err(fault),
+        }
+    }
+
+    fn write(&self, out: &mut BytesMut) -> Result<(), AllocError> {
+        write_tsdu(self, out)
+    }
+
+    fn written_len(&self) -> usize {
+        written_len(self)
+    }
+
+    ghost is_spelled = { grammar_spelled };
+
+    ghost stands_alone = { λ units. refl };
+
+    ghost one_reading = { grammar_one };
+}

@@ -1,0 +1,309 @@
+ghost use Rattle.std.specs.Prelude.{◌≡◌, ◌∷◌};
+ghost use Rattle.osi_spdu.specs.Kinds.{si_of, category_of, codes_of, members_of, references_of, required_of, may_stand, one_kind, later_kinds, kind_named};
+ghost use Rattle.osi_spdu.specs.Reading.{takes_rest};
+ghost use Rattle.osi_spdu.specs.Writing.{among};
+
+use crate::codes::Code;
+
+/// A session unit, by the name that X.225 section 8 gives it.
+#[derive(Clone, Copy, Debug)]
+pub enum Kind {
+    /// GT (SI 1 in the first place).
+    GiveTokens,
+    /// PT (SI 2).
+    PleaseTokens,
+    /// DT (SI 1 in the second place).
+    DataTransfer,
+    /// NF (SI 8).
+    NotFinished,
+    /// FN (SI 9).
+    Finish,
+    /// DN (SI 10).
+    Disconnect,
+    /// RF (SI 12).
+    Refuse,
+    /// CN (SI 13).
+    Connect,
+    /// AC (SI 14).
+    Accept,
+    /// AB (SI 25).
+    Abort,
+    /// AA (SI 26).
+    AbortAccept,
+    /// RA (SI 34).
+    ResynchronizeAck,
+    /// MAP (SI 41).
+    MajorSyncPoint,
+    /// MAA (SI 42).
+    MajorSyncAck,
+    /// MIP (SI 49).
+    MinorSyncPoint,
+    /// MIA (SI 50).
+    MinorSyncAck,
+    /// RS (SI 53).
+    Resynchronize,
+}
+
+/// Where a unit may stand in a TSDU (X.225 section 6.3.7, basic concatenation).
+#[derive(Clone, Copy, Debug)]
+pub enum Category {
+    /// Before a unit of category 2, or alone.
+    Zero,
+    /// Alone.
+    One,
+    /// After a unit of category 0.
+    Two,
+}
+
+/// The units that an SI can name in the first place.
+const FIRST: [Kind; 16] = [
+    Kind::GiveTokens,
+    Kind::PleaseTokens,
+    Kind::NotFinished,
+    Kind::Finish,
+    Kind::Disconnect,
+    Kind::Refuse,
+    Kind::Connect,
+    Kind::Accept,
+    Kind::Abort,
+    Kind::AbortAccept,
+    Kind::ResynchronizeAck,
+    Kind::MajorSyncPoint,
+    Kind::MajorSyncAck,
+    Kind::MinorSyncPoint,
+    Kind::MinorSyncAck,
+    Kind::Resynchronize,
+];
+
+/// The units that an SI can name in the second place.
+const SECOND: [Kind; 16] = [
+    Kind::DataTransfer,
+    Kind::PleaseTokens,
+    Kind::NotFinished,
+    Kind::Finish,
+    Kind::Disconnect,
+    Kind::Refuse,
+    Kind::Connect,
+    Kind::Accept,
+    Kind::Abort,
+    Kind::AbortAccept,
+    Kind::ResynchronizeAck,
+    Kind::MajorSyncPoint,
+    Kind::MajorSyncAck,
+    Kind::MinorSyncPoint,
+    Kind::MinorSyncAck,
+    Kind::Resynchronize,
+];
+
+#[tactic(auto, unfolding(crate::specs::Codes::number_of, crate::specs::Kinds::si_of, crate::specs::Kinds::category_of, crate::specs::Kinds::codes_of, crate::specs::Kinds::members_of, crate::specs::Kinds::required_of))]
+impl Kind {
+    /// The SPDU identifier, the first octet of the unit.
+    pub fn si(self) -> u8
+        ensures { result ≡ si_of self }
+    {
+        match self {
+            Kind::GiveTokens => 1,
+            Kind::PleaseTokens => 2,
+            Kind::DataTransfer => 1,
+            Kind::NotFinished => 8,
+            Kind::Finish => 9,
+            Kind::Disconnect => 10,
+            Kind::Refuse => 12,
+            Kind::Connect => 13,
+            Kind::Accept => 14,
+            Kind::Abort => 25,
+            Kind::AbortAccept => 26,
+            Kind::ResynchronizeAck => 34,
+            Kind::MajorSyncPoint => 41,
+            Kind::MajorSyncAck => 42,
+            Kind::MinorSyncPoint => 49,
+            Kind::MinorSyncAck => 50,
+            Kind::Resynchronize => 53,
+        }
+    }
+
+    /// Where the unit may stand.
+    pub fn category(self) -> Category
+        ensures { result ≡ category_of self }
+    {
+        match self {
+            Kind::GiveTokens | Kind::PleaseTokens => Category::Zero,
+            Kind::DataTransfer
+            | Kind::ResynchronizeAck
+            | Kind::MajorSyncPoint
+            | Kind::MajorSyncAck
+            | Kind::MinorSyncPoint
+            | Kind::MinorSyncAck
+            | Kind::Resynchronize => Category::Two,
+            _ => Category::One,
+        }
+    }
+
+    /// Whether the octets behind the unit are its user information.
+    pub(crate) fn takes_rest(self) -> bool
+        ensures { result ≡ takes_rest self }
+    {
+        matches!(self, Kind::DataTransfer)
+    }
+
+    /// Whether user data has a second code.
+    pub(crate) fn knows_extended(self) -> bool
+        ensures { result ≡ among (codes_of self) Code.ExtendedUserData }
+    {
+        matches!(self, Kind::Connect)
+    }
+
+    /// The codes of the parameters and groups that the unit knows, in rising order.
+    pub fn codes(self) -> &'static [Code]
+        ensures { result.now ≡ codes_of self }
+    {
+        match self {
+            Kind::GiveTokens => &[Code::TokenItem],
+            Kind::PleaseTokens => &[Code::TokenItem, Code::UserData],
+            Kind::DataTransfer => &[Code::Enclosure],
+            Kind::NotFinished => &[Code::Enclosure, Code::UserData],
+            Kind::Finish => &[Code::TransportDisconnect, Code::Enclosure, Code::UserData],
+            Kind::Disconnect => &[Code::Enclosure, Code::UserData],
+            Kind::Refuse => &[
+                Code::ConnectionIdentifier,
+                Code::TransportDisconnect,
+                Code::UserRequirements,
+                Code::Version,
+                Code::Enclosure,
+                Code::Reason,
+            ],
+            Kind::Connect => &[
+                Code::ConnectionIdentifier,
+                Code::ConnectAcceptItem,
+                Code::UserRequirements,
+                Code::CallingSelector,
+                Code::CalledSelector,
+                Code::UserData,
+                Code::ExtendedUserData,
+            ],
+            Kind::Accept => &[
+                Code::ConnectionIdentifier,
+                Code::ConnectAcceptItem,
+                Code::TokenItem,
+                Code::UserRequirements,
+                Code::Enclosure,
+                Code::CallingSelector,
+                Code::CalledSelector,
+                Code::UserData,
+            ],
+            Kind::Abort => &[
+                Code::TransportDisconnect,
+                Code::Enclosure,
+                Code::Reflect,
+                Code::UserData,
+            ],
+            Kind::AbortAccept => &[],
+            Kind::ResynchronizeAck => &[
+                Code::Enclosure,
+                Code::TokenSetting,
+                Code::Number,
+                Code::UserData,
+            ],
+            Kind::MajorSyncPoint => &[
+                Code::SyncType,
+                Code::Enclosure,
+                Code::Number,
+                Code::UserData,
+            ],
+            Kind::MajorSyncAck => &[Code::Enclosure, Code::Number, Code::UserData],
+            Kind::MinorSyncPoint => &[
+                Code::SyncType,
+                Code::Enclosure,
+                Code::Number,
+                Code::UserData,
+            ],
+            Kind::MinorSyncAck => &[Code::Enclosure, Code::Number, Code::UserData],
+            Kind::Resynchronize => &[
+                Code::Enclosure,
+                Code::TokenSetting,
+                Code::ResyncType,
+                Code::Number,
+                Code::UserData,
+            ],
+        }
+    }
+
+    /// The codes of the parameters that a group of the unit knows, in rising order.
+    pub fn members(self, group: Code) -> &'static [Code]
+        ensures { result.now ≡ members_of self group }
+    {
+        match group {
+            Code::ConnectionIdentifier => self.references(),
+            Code::ConnectAcceptItem => &[
+                Code::ProtocolOptions,
+                Code::TsduMaximumSize,
+                Code::Version,
+                Code::InitialNumber,
+                Code::TokenSetting,
+            ],
+            _ => &[],
+        }
+    }
+
+    fn references(self) -> &'static [Code]
+        ensures { result.now ≡ references_of self }
+    {
+        match self {
+            Kind::Connect => &[
+                Code::CallingReference,
+                Code::CommonReference,
+                Code::AdditionalReference,
+            ],
+            _ => &[
+                Code::CalledReference,
+                Code::CommonReference,
+                Code::AdditionalReference,
+            ],
+        }
+    }
+
+    /// The codes of the parameters that the unit must have.
+    pub(crate) fn required(self) -> &'static [Code]
+        ensures { result.now ≡ required_of self }
+    {
+        match self {
+            Kind::ResynchronizeAck
+            | Kind::MajorSyncPoint
+            | Kind::MajorSyncAck
+            | Kind::MinorSyncPoint
+            | Kind::MinorSyncAck => &[Code::Number],
+            Kind::Resynchronize => &[Code::ResyncType, Code::Number],
+            _ => &[],
+        }
+    }
+}
+
+impl Category {
+    /// Whether a unit may stand in the first place, or in the second.
+    #[tactic(auto, unfolding(crate::specs::Kinds::may_stand))]
+    pub(crate) fn may_stand(self, second: bool) -> bool
+        ensures { result ≡ may_stand second self }
+    {
+        match self {
+            Category::Zero | Category::One => !second,
+            Category::Two => second,
+        }
+    }
+}
+
+fn kinds_at(second: bool) -> &'static [Kind]
+    ensures { result.now ≡ one_kind second ∷ later_kinds }
+{
+    if second { &SECOND } else { &FIRST }
+}
+
+/// The unit that an SI names in the first place of a TSDU, or in the second.
+#[tactic(auto, unfolding(crate::specs::Kinds::kind_named))]
+pub(crate) fn kind_named(second: bool, si: u8) -> Option<Kind>
+    ensures { result ≡ kind_named second si }
+{
+    kinds_at(second)
+        .iter()
+        .copied()
+        .find(|kind| kind.si() == si)
+}

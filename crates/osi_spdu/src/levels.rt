@@ -1,0 +1,199 @@
+//! Parameters of one level: of a unit, and of a group in it.
+
+ghost use Rattle.std.specs.Prelude.{◌≡◌, ◌≤◌, ◌<◌, ◌+◌, ◌^◌, ℕ, length, IfOk};
+ghost use Rattle.osi_spdu.specs.Reading.{Gives, counted_at, measured_at, parameter_at, stored, in_group, in_unit, params_of, all_there};
+ghost use Rattle.osi_spdu.specs.Params.{slots_of};
+ghost use Rattle.osi_spdu.specs.Counted.{measured_of, parameter_of};
+
+use crate::codes::{Code, code_among};
+use crate::faults::SpduFault;
+use crate::kinds::Kind;
+use crate::params::Params;
+
+/// What a length indicator counts, and what stands behind it.
+#[derive(Clone, Copy)]
+pub(crate) struct Counted<'a> {
+    /// How many octets the length indicator has.
+    pub(crate) used: usize,
+    pub(crate) value: &'a [u8],
+    pub(crate) rest: &'a [u8],
+}
+
+/// A parameter as it stands, and what stands behind it.
+#[derive(Clone, Copy)]
+struct Parameter<'a> {
+    code: u8,
+    counted: Counted<'a>,
+}
+
+fn counted_at<'a>(
+    at: usize,
+    used: usize,
+    n: usize,
+    octets: &'a [u8],
+) -> Result<Counted<'a>, SpduFault>
+    ensures value { Gives measured_of result (counted_at at used n octets.now) }
+    ensures used { IfOk result (λ m. m.used ≡ used) }
+    ensures whole { IfOk result (λ m. length m.value.now + length m.rest.now ≡ length octets.now) }
+{
+    if octets.len() < n {
+        return Err(SpduFault::LengthPastEnd(at));
+    }
+    let (value, rest) = octets.split_at(n);
+    Ok(Counted { used, value, rest })
+}
+
+/// What the length indicator at the front counts.
+#[tactic(auto, unfolding(crate::specs::Reading::measured_at, crate::specs::Reading::long_at))]
+pub(crate) fn measured_at<'a>(at: usize, octets: &'a [u8]) -> Result<Counted<'a>, SpduFault>
+    ensures value { Gives measured_of result (measured_at at octets.now) }
+    ensures whole { IfOk result (λ m.
+        m.used + length m.value.now + length m.rest.now ≡ length octets.now) }
+{
+    match octets {
+        [] => Err(SpduFault::LengthPastEnd(at)),
+        [255, high, low, rest @ ..] => counted_at(
+            at,
+            3,
+            256 * *high as usize + *low as usize,
+            rest,
+        ),
+        [255, ..] => Err(SpduFault::LengthPastEnd(at)),
+        [n, rest @ ..] => counted_at(at, 1, *n as usize, rest),
+    }
+}
+
+#[tactic(auto, unfolding(crate::specs::Reading::parameter_at))]
+fn parameter_at<'a>(at: usize, octets: &'a [u8]) -> Result<Parameter<'a>, SpduFault>
+    ensures value { Gives parameter_of result (parameter_at at octets.now) }
+    ensures whole { IfOk result (λ p. 1 + p.counted.used + length p.counted.value.now
+        + length p.counted.rest.now ≡ length octets.now) }
+{
+    let [code, octets @ ..] = octets else {
+        return Err(SpduFault::LengthPastEnd(at));
+    };
+    let counted = measured_at(at, octets)?;
+    Ok(Parameter {
+        code: *code,
+        counted,
+    })
+}
+
+/// Puts a value into its slot, which must be free.
+fn store<'a>(
+    params: &mut Params<'a>,
+    at: usize,
+    code: Code,
+    value: &'a [u8],
+) -> Result<(), SpduFault>
+    ensures { Gives (λ _. slots_of params.new) result (stored at code value.now (slots_of params.old)) }
+{
+    if params.has(code.slot()) {
+        return Err(SpduFault::DuplicateParameter(code.number(), at));
+    }
+    match params.fill(code, value) {
+        None => Err(SpduFault::BadValue(code.number(), at)),
+        Some(()) => Ok(()),
+    }
+}
+
+/// Takes a parameter of a group.
+#[tactic(auto, unfolding(crate::specs::Reading::in_group))]
+fn take_member<'a>(
+    members: &[Code],
+    at: usize,
+    code: u8,
+    value: &'a [u8],
+    params: &mut Params<'a>,
+) -> Result<(), SpduFault>
+    ensures { (body : ℕ) → Gives (λ _. slots_of params.new) result
+        (in_group members.now at body code value.now (slots_of params.old)) }
+{
+    match code_among(members, code) {
+        None => Ok(()),
+        Some(code) => store(params, at, code, value),
+    }
+}
+
+/// Takes the parameters of a group.
+fn take_members<'a>(
+    members: &[Code],
+    at: usize,
+    octets: &'a [u8],
+    params: &mut Params<'a>,
+) -> Result<(), SpduFault>
+    requires { at + length octets.now < 2 ^ 64 }
+    ensures { Gives (λ _. slots_of params.new) result
+        (params_of (in_group members.now) at (slots_of params.old) octets.now) }
+{
+    let mut at = at;
+    let mut rest = octets;
+    'parameters: while !rest.is_empty() {
+        let parameter = parameter_at(at, rest)?;
+        let counted = parameter.counted;
+        take_member(members, at, parameter.code, counted.value, params)?;
+        at += 1 + counted.used + counted.value.len();
+        rest = counted.rest;
+    }
+    Ok(())
+}
+
+/// Takes a parameter or a group of a unit.
+#[tactic(auto, unfolding(crate::specs::Reading::in_unit))]
+fn take_parameter<'a>(
+    kind: Kind,
+    at: usize,
+    body: usize,
+    code: u8,
+    value: &'a [u8],
+    params: &mut Params<'a>,
+) -> Result<(), SpduFault>
+    requires { body + length value.now < 2 ^ 64 }
+    ensures { Gives (λ _. slots_of params.new) result
+        (in_unit kind at body code value.now (slots_of params.old)) }
+{
+    let Some(code) = code_among(kind.codes(), code) else {
+        return Ok(());
+    };
+    store(params, at, code, value)?;
+    if code.is_group() {
+        return take_members(kind.members(code), body, value, params);
+    }
+    Ok(())
+}
+
+/// Takes the parameters and groups of a unit.
+pub(crate) fn take_parameters<'a>(
+    kind: Kind,
+    at: usize,
+    octets: &'a [u8],
+    params: &mut Params<'a>,
+) -> Result<(), SpduFault>
+    requires { at + length octets.now < 2 ^ 64 }
+    ensures { Gives (λ _. slots_of params.new) result
+        (params_of (in_unit kind) at (slots_of params.old) octets.now) }
+{
+    let mut at = at;
+    let mut rest = octets;
+    'parameters: while !rest.is_empty() {
+        let parameter = parameter_at(at, rest)?;
+        let counted = parameter.counted;
+        let body = at + (1 + counted.used);
+        take_parameter(kind, at, body, parameter.code, counted.value, params)?;
+        at += 1 + counted.used + counted.value.len();
+        rest = counted.rest;
+    }
+    Ok(())
+}
+
+/// Whether the parameters that a unit must have are there.
+pub(crate) fn check_there(at: usize, codes: &[Code], params: &Params) -> Result<(), SpduFault>
+    ensures { Gives (λ _. slots_of params.now) result (all_there at codes.now (slots_of params.now)) }
+{
+    'codes: for code in codes {
+        if !params.has(*code) {
+            return Err(SpduFault::MissingParameter(code.number(), at));
+        }
+    }
+    Ok(())
+}

@@ -1,0 +1,42 @@
+//! Session protocol data units (X.225 section 8).
+#![tactic(auto)]
+
+mod codes;
+mod faults;
+mod fields;
+mod grammar;
+mod groups;
+mod kinds;
+pub mod laws;
+mod levels;
+mod making;
+mod octets;
+mod params;
+mod reading;
+mod requirements;
+mod selectors;
+mod serials;
+mod settings;
+mod tokens;
+mod units;
+mod writing;
+
+pub use codes::Code;
+pub use faults::SpduFault;
+pub use fields::{Enclosure, Reason, ResyncType, SyncType, TsduMaximumSize};
+pub use groups::Group;
+pub use kinds::{Category, Kind};
+pub use making::Terms;
+pub use octets::Value;
+pub use params::Params;
+pub use reading::read_tsdu;
+pub use requirements::Requirements;
+pub use selectors::Selector;
+pub use serials::Serial;
+pub use settings::{Side, TokenSetting, Wish};
+pub use tokens::TokenSet;
+pub use units::Spdu;
+pub use writing::{write_tsdu, written_len};
+
+#[cfg(test)]
+mod tests;

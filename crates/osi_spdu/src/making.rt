@@ -1,0 +1,416 @@
+//! The units that a session makes (X.225 section 8).
+
+ghost use Rattle.std.specs.Prelude.{◌≡◌, ◌≤◌, ◌<◌, length, true, Some, None, []};
+ghost use Rattle.osi_spdu.specs.Kinds.{category_of};
+ghost use Rattle.osi_spdu.specs.declared.kinds.Category.TheVariants.{Two};
+ghost use Rattle.osi_spdu.specs.Params.{known_of, no_params};
+ghost use Rattle.osi_spdu.specs.Writing.{is_joined, UnitFits};
+
+use crate::fields::{Reason, ResyncType, SyncType};
+use crate::kinds::Kind;
+use crate::params::Params;
+use crate::requirements::Requirements;
+use crate::selectors::Selector;
+use crate::serials::Serial;
+use crate::settings::TokenSetting;
+use crate::tokens::TokenSet;
+use crate::units::Spdu;
+
+/// What a CN proposes, or an AC answers, apart from its addresses and its user data. The protocol
+/// options have no bit set, and the version is 2.
+#[derive(Clone, Copy, Debug)]
+pub struct Terms {
+    /// The first synchronization point serial number.
+    pub initial_number: Option<Serial>,
+    /// The side that is to hold each token.
+    pub token_setting: TokenSetting,
+    /// The functional units.
+    pub user_requirements: Requirements,
+}
+
+impl<'a> Spdu<'a> {
+    ghost use Rattle.osi_spdu.specs.Units.{said_by};
+
+    /// CN: asks for a connection.
+    pub fn connect(
+        terms: Terms,
+        calling_selector: Option<Selector<'a>>,
+        called_selector: Option<Selector<'a>>,
+        user_data: &'a [u8],
+    ) -> Spdu<'a>
+        ensures units { said_by result ≡ record {
+          kind = Kind.Connect;
+          known = known_of (record no_params {
+            connect_accept_item = true;
+            protocol_options = Some 0;
+            version = Some 2;
+            initial_number = terms.initial_number;
+            token_setting = Some terms.token_setting;
+            user_requirements = Some terms.user_requirements;
+            calling_selector = calling_selector.entry;
+            called_selector = called_selector.entry;
+            user_data = Some user_data.entry;
+          });
+          information = [];
+        } }
+        ensures place { is_joined (said_by result).kind None ≡ true }
+        ensures fits { length user_data.entry.now ≤ 65000 → UnitFits (said_by result) }
+    {
+        let params = Params {
+            connect_accept_item: true,
+            protocol_options: Some(0),
+            version: Some(2),
+            initial_number: terms.initial_number,
+            token_setting: Some(terms.token_setting),
+            user_requirements: Some(terms.user_requirements),
+            calling_selector,
+            called_selector,
+            user_data: Some(user_data),
+            ..Params::NONE
+        };
+        Spdu::new(Kind::Connect, params)
+    }
+
+    /// AC: accepts a connection.
+    pub fn accept(terms: Terms, user_data: &'a [u8]) -> Spdu<'a>
+        ensures units { said_by result ≡ record {
+          kind = Kind.Accept;
+          known = known_of (record no_params {
+            connect_accept_item = true;
+            protocol_options = Some 0;
+            version = Some 2;
+            initial_number = terms.initial_number;
+            token_setting = Some terms.token_setting;
+            user_requirements = Some terms.user_requirements;
+            user_data = Some user_data.entry;
+          });
+          information = [];
+        } }
+        ensures place { is_joined (said_by result).kind None ≡ true }
+        ensures fits { length user_data.entry.now ≤ 65000 → UnitFits (said_by result) }
+    {
+        let params = Params {
+            connect_accept_item: true,
+            protocol_options: Some(0),
+            version: Some(2),
+            initial_number: terms.initial_number,
+            token_setting: Some(terms.token_setting),
+            user_requirements: Some(terms.user_requirements),
+            user_data: Some(user_data),
+            ..Params::NONE
+        };
+        Spdu::new(Kind::Accept, params)
+    }
+
+    /// RF: refuses a connection, and keeps no transport connection (17 is 01).
+    pub fn refuse(reason: Reason<'a>) -> Spdu<'a>
+        ensures units { said_by result ≡ record {
+          kind = Kind.Refuse;
+          known = known_of (record no_params {
+            transport_disconnect = Some 1;
+            reason = Some reason.entry;
+          });
+          information = [];
+        } }
+        ensures place { is_joined (said_by result).kind None ≡ true }
+        ensures fits { length reason.entry.data_octets.now < 65000 → UnitFits (said_by result) }
+    {
+        let params = Params {
+            transport_disconnect: Some(1),
+            reason: Some(reason),
+            ..Params::NONE
+        };
+        Spdu::new(Kind::Refuse, params)
+    }
+
+    /// FN: asks for the release of a connection.
+    pub fn finish(user_data: &'a [u8]) -> Spdu<'a>
+        ensures units { said_by result ≡ record {
+          kind = Kind.Finish;
+          known = known_of (record no_params {
+            user_data = Some user_data.entry;
+          });
+          information = [];
+        } }
+        ensures place { is_joined (said_by result).kind None ≡ true }
+        ensures fits { length user_data.entry.now ≤ 65000 → UnitFits (said_by result) }
+    {
+        let params = Params {
+            user_data: Some(user_data),
+            ..Params::NONE
+        };
+        Spdu::new(Kind::Finish, params)
+    }
+
+    /// DN: releases a connection.
+    pub fn disconnect(user_data: &'a [u8]) -> Spdu<'a>
+        ensures units { said_by result ≡ record {
+          kind = Kind.Disconnect;
+          known = known_of (record no_params {
+            user_data = Some user_data.entry;
+          });
+          information = [];
+        } }
+        ensures place { is_joined (said_by result).kind None ≡ true }
+        ensures fits { length user_data.entry.now ≤ 65000 → UnitFits (said_by result) }
+    {
+        let params = Params {
+            user_data: Some(user_data),
+            ..Params::NONE
+        };
+        Spdu::new(Kind::Disconnect, params)
+    }
+
+    /// NF: refuses to release a connection.
+    pub fn not_finished(user_data: &'a [u8]) -> Spdu<'a>
+        ensures units { said_by result ≡ record {
+          kind = Kind.NotFinished;
+          known = known_of (record no_params {
+            user_data = Some user_data.entry;
+          });
+          information = [];
+        } }
+        ensures place { is_joined (said_by result).kind None ≡ true }
+        ensures fits { length user_data.entry.now ≤ 65000 → UnitFits (said_by result) }
+    {
+        let params = Params {
+            user_data: Some(user_data),
+            ..Params::NONE
+        };
+        Spdu::new(Kind::NotFinished, params)
+    }
+
+    /// AB: aborts a connection. The octet has 01 where the transport connection is released, 02 for
+    /// a user's abort, 04 for a protocol error.
+    pub fn abort(transport_disconnect: u8, user_data: &'a [u8]) -> Spdu<'a>
+        ensures units { said_by result ≡ record {
+          kind = Kind.Abort;
+          known = known_of (record no_params {
+            transport_disconnect = Some transport_disconnect;
+            user_data = Some user_data.entry;
+          });
+          information = [];
+        } }
+        ensures place { is_joined (said_by result).kind None ≡ true }
+        ensures fits { length user_data.entry.now ≤ 65000 → UnitFits (said_by result) }
+    {
+        let params = Params {
+            transport_disconnect: Some(transport_disconnect),
+            user_data: Some(user_data),
+            ..Params::NONE
+        };
+        Spdu::new(Kind::Abort, params)
+    }
+
+    /// AA: answers an abort.
+    pub fn abort_accept() -> Spdu<'a>
+        ensures units { said_by result ≡ record {
+          kind = Kind.AbortAccept;
+          known = known_of no_params;
+          information = [];
+        } }
+        ensures place { is_joined (said_by result).kind None ≡ true }
+        ensures fits { UnitFits (said_by result) }
+    {
+        let params = Params::NONE;
+        Spdu::new(Kind::AbortAccept, params)
+    }
+
+    /// GT: gives tokens; with none it stands in front of a unit of category 2.
+    pub fn give_tokens(token_item: Option<TokenSet>) -> Spdu<'a>
+        ensures units { said_by result ≡ record {
+          kind = Kind.GiveTokens;
+          known = known_of (record no_params {
+            token_item = token_item;
+          });
+          information = [];
+        } }
+        ensures place { is_joined (said_by result).kind None ≡ true }
+        ensures fits { UnitFits (said_by result) }
+    {
+        let params = Params {
+            token_item,
+            ..Params::NONE
+        };
+        Spdu::new(Kind::GiveTokens, params)
+    }
+
+    /// PT: asks for tokens.
+    pub fn please_tokens(token_item: Option<TokenSet>, user_data: &'a [u8]) -> Spdu<'a>
+        ensures units { said_by result ≡ record {
+          kind = Kind.PleaseTokens;
+          known = known_of (record no_params {
+            token_item = token_item;
+            user_data = Some user_data.entry;
+          });
+          information = [];
+        } }
+        ensures place { is_joined (said_by result).kind None ≡ true }
+        ensures fits { length user_data.entry.now ≤ 65000 → UnitFits (said_by result) }
+    {
+        let params = Params {
+            token_item,
+            user_data: Some(user_data),
+            ..Params::NONE
+        };
+        Spdu::new(Kind::PleaseTokens, params)
+    }
+
+    /// MIP: a minor synchronization point.
+    pub fn minor_point(sync_type: Option<SyncType>, number: Serial, user_data: &'a [u8]) -> Spdu<'a>
+        ensures units { said_by result ≡ record {
+          kind = Kind.MinorSyncPoint;
+          known = known_of (record no_params {
+            sync_type = sync_type;
+            number = Some number;
+            user_data = Some user_data.entry;
+          });
+          information = [];
+        } }
+        ensures place { category_of (said_by result).kind ≡ Two }
+        ensures fits { length user_data.entry.now ≤ 65000 → UnitFits (said_by result) }
+    {
+        let params = Params {
+            sync_type,
+            number: Some(number),
+            user_data: Some(user_data),
+            ..Params::NONE
+        };
+        Spdu::new(Kind::MinorSyncPoint, params)
+    }
+
+    /// MIA: confirms the minor synchronization points up to this one.
+    pub fn minor_ack(number: Serial, user_data: &'a [u8]) -> Spdu<'a>
+        ensures units { said_by result ≡ record {
+          kind = Kind.MinorSyncAck;
+          known = known_of (record no_params {
+            number = Some number;
+            user_data = Some user_data.entry;
+          });
+          information = [];
+        } }
+        ensures place { category_of (said_by result).kind ≡ Two }
+        ensures fits { length user_data.entry.now ≤ 65000 → UnitFits (said_by result) }
+    {
+        let params = Params {
+            number: Some(number),
+            user_data: Some(user_data),
+            ..Params::NONE
+        };
+        Spdu::new(Kind::MinorSyncAck, params)
+    }
+
+    /// MAP: a major synchronization point (15 is 01).
+    pub fn major_point(number: Serial, user_data: &'a [u8]) -> Spdu<'a>
+        ensures units { said_by result ≡ record {
+          kind = Kind.MajorSyncPoint;
+          known = known_of (record no_params {
+            sync_type = Some SyncType.Open;
+            number = Some number;
+            user_data = Some user_data.entry;
+          });
+          information = [];
+        } }
+        ensures place { category_of (said_by result).kind ≡ Two }
+        ensures fits { length user_data.entry.now ≤ 65000 → UnitFits (said_by result) }
+    {
+        let params = Params {
+            sync_type: Some(SyncType::Open),
+            number: Some(number),
+            user_data: Some(user_data),
+            ..Params::NONE
+        };
+        Spdu::new(Kind::MajorSyncPoint, params)
+    }
+
+    /// MAA: confirms a major synchronization point.
+    pub fn major_ack(number: Serial, user_data: &'a [u8]) -> Spdu<'a>
+        ensures units { said_by result ≡ record {
+          kind = Kind.MajorSyncAck;
+          known = known_of (record no_params {
+            number = Some number;
+            user_data = Some user_data.entry;
+          });
+          information = [];
+        } }
+        ensures place { category_of (said_by result).kind ≡ Two }
+        ensures fits { length user_data.entry.now ≤ 65000 → UnitFits (said_by result) }
+    {
+        let params = Params {
+            number: Some(number),
+            user_data: Some(user_data),
+            ..Params::NONE
+        };
+        Spdu::new(Kind::MajorSyncAck, params)
+    }
+
+    /// RS: asks for a resynchronization.
+    pub fn resynchronize(
+        token_setting: TokenSetting,
+        resync_type: ResyncType,
+        number: Serial,
+        user_data: &'a [u8],
+    ) -> Spdu<'a>
+        ensures units { said_by result ≡ record {
+          kind = Kind.Resynchronize;
+          known = known_of (record no_params {
+            token_setting = Some token_setting;
+            resync_type = Some resync_type;
+            number = Some number;
+            user_data = Some user_data.entry;
+          });
+          information = [];
+        } }
+        ensures place { category_of (said_by result).kind ≡ Two }
+        ensures fits { length user_data.entry.now ≤ 65000 → UnitFits (said_by result) }
+    {
+        let params = Params {
+            token_setting: Some(token_setting),
+            resync_type: Some(resync_type),
+            number: Some(number),
+            user_data: Some(user_data),
+            ..Params::NONE
+        };
+        Spdu::new(Kind::Resynchronize, params)
+    }
+
+    /// RA: answers a resynchronization.
+    pub fn resynchronize_ack(
+        token_setting: TokenSetting,
+        number: Serial,
+        user_data: &'a [u8],
+    ) -> Spdu<'a>
+        ensures units { said_by result ≡ record {
+          kind = Kind.ResynchronizeAck;
+          known = known_of (record no_params {
+            token_setting = Some token_setting;
+            number = Some number;
+            user_data = Some user_data.entry;
+          });
+          information = [];
+        } }
+        ensures place { category_of (said_by result).kind ≡ Two }
+        ensures fits { length user_data.entry.now ≤ 65000 → UnitFits (said_by result) }
+    {
+        let params = Params {
+            token_setting: Some(token_setting),
+            number: Some(number),
+            user_data: Some(user_data),
+            ..Params::NONE
+        };
+        Spdu::new(Kind::ResynchronizeAck, params)
+    }
+
+    /// DT: user information.
+    pub fn data_transfer(information: &'a [u8]) -> Spdu<'a>
+        ensures units { said_by result ≡ record {
+          kind = Kind.DataTransfer;
+          known = known_of no_params;
+          information = information.now;
+        } }
+        ensures place { category_of (said_by result).kind ≡ Two }
+        ensures fits { UnitFits (said_by result) }
+    {
+        Spdu::with(Kind::DataTransfer, Params::NONE, information)
+    }
+}

@@ -1,0 +1,207 @@
+ghost use Rattle.std.specs.Prelude.{◌≡◌, ◌==◌, None, Some, is_some, option_map, length, if◌then◌else◌};
+ghost use Rattle.osi_spdu.specs.Codes.{slot_of};
+ghost use Rattle.osi_spdu.specs.Values.{canonical, digits_of};
+ghost use Rattle.osi_spdu.specs.Known.{nothing};
+ghost use Rattle.osi_spdu.specs.Octets.{octets_of};
+ghost use Rattle.osi_spdu.specs.Params.{cells_of, place_of, filled, slots_of, known_of, present};
+
+use crate::codes::Code;
+use crate::fields::{Enclosure, Reason, ResyncType, SyncType, TsduMaximumSize, octet_of};
+use crate::octets::{Short, Value};
+use crate::requirements::Requirements;
+use crate::selectors::Selector;
+use crate::serials::Serial;
+use crate::settings::TokenSetting;
+use crate::tokens::TokenSet;
+
+/// The parameters of a session unit (X.225 section 8), each by its meaning, its code in brackets.
+///
+/// What stands in a group counts only where the group is there.
+#[derive(Clone, Copy, Debug)]
+pub struct Params<'a> {
+    /// Whether the group of the references is there (1).
+    pub connection_identifier: bool,
+    /// Whether the group of protocol options, version, first number and token setting is there (5).
+    pub connect_accept_item: bool,
+    /// Reference of the called session user (9).
+    pub called_reference: Option<&'a [u8]>,
+    /// Reference of the calling session user (10).
+    pub calling_reference: Option<&'a [u8]>,
+    /// Common reference (11).
+    pub common_reference: Option<&'a [u8]>,
+    /// Additional reference information (12).
+    pub additional_reference: Option<&'a [u8]>,
+    /// Whether a point asks for its confirmation (15).
+    pub sync_type: Option<SyncType>,
+    /// Tokens that are given or asked for (16).
+    pub token_item: Option<TokenSet>,
+    /// Whether the transport connection is kept (01 released), and who aborts (02 the user, 04 for
+    /// a protocol error, 08 for no reason) (17).
+    pub transport_disconnect: Option<u8>,
+    /// Protocol options: bit 1 is extended concatenation (19).
+    pub protocol_options: Option<u8>,
+    /// The functional units (20).
+    pub user_requirements: Option<Requirements>,
+    /// The largest TSDU in each direction (21).
+    pub tsdu_maximum_size: Option<TsduMaximumSize>,
+    /// The versions of the protocol: bit 1 is version 1, bit 2 is version 2 (22).
+    pub version: Option<u8>,
+    /// The first synchronization point serial number (23).
+    pub initial_number: Option<Serial>,
+    /// Where the user data begins and ends (25).
+    pub enclosure: Option<Enclosure>,
+    /// The side that is to hold each token (26).
+    pub token_setting: Option<TokenSetting>,
+    /// What a resynchronization does (27).
+    pub resync_type: Option<ResyncType>,
+    /// A synchronization point serial number (42).
+    pub number: Option<Serial>,
+    /// Reflected parameter values (49).
+    pub reflect: Option<&'a [u8]>,
+    /// Why a connection is refused (50).
+    pub reason: Option<Reason<'a>>,
+    /// The calling session selector (51).
+    pub calling_selector: Option<Selector<'a>>,
+    /// The called session selector (52).
+    pub called_selector: Option<Selector<'a>>,
+    /// User data (193, or 194 in a CN above 512 octets). Empty user data is none.
+    pub user_data: Option<&'a [u8]>,
+}
+
+impl Params<'static> {
+    /// No parameter.
+    pub const NONE: Params<'static> = Params {
+        connection_identifier: false,
+        connect_accept_item: false,
+        called_reference: None,
+        calling_reference: None,
+        common_reference: None,
+        additional_reference: None,
+        sync_type: None,
+        token_item: None,
+        transport_disconnect: None,
+        protocol_options: None,
+        user_requirements: None,
+        tsdu_maximum_size: None,
+        version: None,
+        initial_number: None,
+        enclosure: None,
+        token_setting: None,
+        resync_type: None,
+        number: None,
+        reflect: None,
+        reason: None,
+        calling_selector: None,
+        called_selector: None,
+        user_data: None,
+    };
+}
+
+impl<'a> Params<'a> {
+    /// What is known before any parameter is read.
+    pub(crate) fn none() -> Params<'a>
+        ensures { slots_of result ≡ nothing }
+    {
+        Params::NONE
+    }
+
+    /// The value of a parameter as it is written, empty user data included. A group that is there
+    /// has no octet of its own.
+    #[tactic(auto, unfolding(crate::specs::Params::slots_of, crate::specs::Params::cells_of, crate::specs::Params::place_of))]
+    fn slot(&self, code: Code) -> Option<Value<'a>>
+        ensures { option_map octets_of result ≡ slots_of self.now code }
+    {
+        match code {
+            Code::ConnectionIdentifier => present(self.connection_identifier),
+            Code::ConnectAcceptItem => present(self.connect_accept_item),
+            Code::CalledReference => Some(Value::of_slice(self.called_reference?)),
+            Code::CallingReference => Some(Value::of_slice(self.calling_reference?)),
+            Code::CommonReference => Some(Value::of_slice(self.common_reference?)),
+            Code::AdditionalReference => Some(Value::of_slice(self.additional_reference?)),
+            Code::SyncType => Some(self.sync_type?.value()),
+            Code::TokenItem => Some(self.token_item?.value()),
+            Code::TransportDisconnect => Some(Value::of_octet(self.transport_disconnect?)),
+            Code::ProtocolOptions => Some(Value::of_octet(self.protocol_options?)),
+            Code::UserRequirements => Some(self.user_requirements?.value()),
+            Code::TsduMaximumSize => Some(self.tsdu_maximum_size?.value()),
+            Code::Version => Some(Value::of_octet(self.version?)),
+            Code::InitialNumber => Some(self.initial_number?.value()),
+            Code::Enclosure => Some(self.enclosure?.value()),
+            Code::TokenSetting => Some(self.token_setting?.value()),
+            Code::ResyncType => Some(self.resync_type?.value()),
+            Code::Number => Some(self.number?.value()),
+            Code::Reflect => Some(Value::of_slice(self.reflect?)),
+            Code::Reason => Some(self.reason?.value()),
+            Code::CallingSelector => Some(self.calling_selector?.value()),
+            Code::CalledSelector => Some(self.called_selector?.value()),
+            Code::UserData => Some(Value::of_slice(self.user_data?)),
+            Code::ExtendedUserData => None,
+        }
+    }
+
+    /// The value of a parameter as it is written, if it is there. A group that is there has no
+    /// octet of its own.
+    pub fn value(&self, code: Code) -> Option<Value<'a>>
+        ensures { option_map octets_of result ≡ known_of self.now code }
+    {
+        let value = self.slot(code)?;
+        if code.is_user_data() && value.is_empty() {
+            return None;
+        }
+        Some(value)
+    }
+
+    /// Whether a parameter is there, empty user data included.
+    pub(crate) fn has(&self, code: Code) -> bool
+        ensures { result ≡ is_some (slots_of self.now code) }
+    {
+        self.slot(code).is_some()
+    }
+
+    /// Puts the value of a parameter into its slot, or `None` where it is no value of this code.
+    #[tactic(auto, unfolding(crate::specs::Params::cells_of, crate::specs::Params::place_of, crate::specs::Codes::slot_of, crate::specs::Values::canonical))]
+    pub(crate) fn fill(&mut self, code: Code, value: &'a [u8]) -> Option<()>
+        ensures value { is_some result ≡ is_some (canonical code value.now) }
+        ensures cells { cells_of self.new
+            ≡ filled (cells_of self.old) (place_of (slot_of code)) (canonical code value.now) }
+    {
+        match code {
+            Code::ConnectionIdentifier => self.connection_identifier = true,
+            Code::ConnectAcceptItem => self.connect_accept_item = true,
+            Code::CalledReference => self.called_reference = Some(value),
+            Code::CallingReference => self.calling_reference = Some(value),
+            Code::CommonReference => self.common_reference = Some(value),
+            Code::AdditionalReference => self.additional_reference = Some(value),
+            Code::SyncType => self.sync_type = Some(SyncType::read(value)?),
+            Code::TokenItem => self.token_item = Some(TokenSet::read(value)?),
+            Code::TransportDisconnect => self.transport_disconnect = Some(octet_of(value)?),
+            Code::ProtocolOptions => self.protocol_options = Some(octet_of(value)?),
+            Code::UserRequirements => self.user_requirements = Some(Requirements::read(value)?),
+            Code::TsduMaximumSize => self.tsdu_maximum_size = Some(TsduMaximumSize::read(value)?),
+            Code::Version => self.version = Some(octet_of(value)?),
+            Code::InitialNumber => self.initial_number = Some(Serial::read(value)?),
+            Code::Enclosure => self.enclosure = Some(Enclosure::read(value)?),
+            Code::TokenSetting => self.token_setting = Some(TokenSetting::read(value)?),
+            Code::ResyncType => self.resync_type = Some(ResyncType::read(value)?),
+            Code::Number => self.number = Some(Serial::read(value)?),
+            Code::Reflect => self.reflect = Some(value),
+            Code::Reason => self.reason = Some(Reason::read(value)?),
+            Code::CallingSelector => self.calling_selector = Some(Selector::read(value)?),
+            Code::CalledSelector => self.called_selector = Some(Selector::read(value)?),
+            Code::UserData => self.user_data = Some(value),
+            Code::ExtendedUserData => self.user_data = Some(value),
+        }
+        Some(())
+    }
+}
+
+/// A group that is there has no octet of its own.
+fn present<'a>(there: bool) -> Option<Value<'a>>
+    ensures { option_map octets_of result ≡ present there }
+{
+    if there {
+        Some(Value::of_slice(&[]))
+    } else {
+        None
+    }
+}

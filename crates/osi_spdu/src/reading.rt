@@ -1,0 +1,125 @@
+ghost use Rattle.std.specs.Prelude.{◌≡◌, ◌<◌, ◌+◌, ◌^◌, true, length, IfOk, IsOkAnd};
+ghost use Rattle.osi_spdu.specs.Kinds.{category_of, kind_named, may_stand};
+ghost use Rattle.osi_spdu.specs.Known.{Units};
+ghost use Rattle.osi_spdu.specs.Params.{known_of};
+ghost use Rattle.osi_spdu.specs.Units.{said_by};
+ghost use Rattle.osi_spdu.specs.Writing.{is_formed, IsFormedTsdu, TsduFits};
+ghost use Rattle.osi_spdu.specs.Reading.{Gives, placed_kind, unit_at, second_at, tsdu_at};
+ghost use Rattle.osi_spdu.specs.Spelling.{SpellsTsdu};
+ghost use Rattle.osi_spdu.specs.Found.{placed_of};
+ghost use Rattle.osi_spdu.specs.Groups.{units_of};
+
+use crate::faults::SpduFault;
+use crate::groups::Group;
+use crate::kinds::{Category, Kind, kind_named};
+use crate::levels::{check_there, measured_at, take_parameters};
+use crate::params::Params;
+use crate::units::Spdu;
+
+/// A unit, where it ends, and the octets behind it.
+#[derive(Clone, Copy)]
+struct Found<'a> {
+    kind: Kind,
+    params: Params<'a>,
+    end: usize,
+    rest: &'a [u8],
+}
+
+/// The unit that an SI names, if it may stand in its place.
+fn placed_kind(second: bool, at: usize, si: u8) -> Result<Kind, SpduFault>
+    ensures value { Gives (λ k. k) result (placed_kind second at (kind_named second si)) }
+    ensures stands { IfOk result (λ k. may_stand second (category_of k) ≡ true) }
+{
+    let Some(kind) = kind_named(second, si) else {
+        return Err(SpduFault::UnknownSi(at));
+    };
+    if !kind.category().may_stand(second) {
+        return Err(SpduFault::BadConcatenation(at));
+    }
+    Ok(kind)
+}
+
+#[tactic(auto, unfolding(crate::specs::Reading::unit_at, crate::specs::Params::known_of))]
+fn unit_at<'a>(second: bool, at: usize, octets: &'a [u8]) -> Result<Found<'a>, SpduFault>
+    requires { at + length octets.now < 2 ^ 64 }
+    ensures value { Gives placed_of result (unit_at second at octets.now) }
+    ensures whole { IfOk result (λ f. f.end + length f.rest.now ≡ at + length octets.now) }
+    ensures stands { IfOk result (λ f. may_stand second (category_of f.kind) ≡ true) }
+{
+    let [si, after @ ..] = octets else {
+        return Err(SpduFault::LengthPastEnd(at));
+    };
+    let kind = placed_kind(second, at, *si)?;
+    let counted = measured_at(at, after)?;
+    let mut params = Params::none();
+    take_parameters(kind, at + (1 + counted.used), counted.value, &mut params)?;
+    check_there(at, kind.required(), &params)?;
+    let end = at + (1 + counted.used + counted.value.len());
+    Ok(Found {
+        kind,
+        params,
+        end,
+        rest: counted.rest,
+    })
+}
+
+/// A unit that was found has a written form.
+fn found_at<'a>(second: bool, at: usize, octets: &'a [u8]) -> Result<Found<'a>, SpduFault>
+    requires { at + length octets.now < 2 ^ 64 }
+    ensures value { Gives placed_of result (unit_at second at octets.now) }
+    ensures whole { IfOk result (λ f. f.end + length f.rest.now ≡ at + length octets.now) }
+    ensures stands { IfOk result (λ f. may_stand second (category_of f.kind) ≡ true) }
+    ensures formed { IfOk result (λ f. is_formed f.kind (known_of f.params) ≡ true) }
+{
+    unit_at(second, at, octets)
+}
+
+/// The unit behind one of category 0, with the user information of a DT.
+#[tactic(auto, unfolding(crate::specs::Writing::is_joined))]
+fn read_second<'a>(first: Spdu<'a>, at: usize, octets: &'a [u8]) -> Result<Group<'a>, SpduFault>
+    requires room { at + length octets.now < 2 ^ 64 }
+    requires zero { category_of (said_by first).kind ≡ Category.Zero }
+    ensures { Gives units_of result (second_at (said_by first.entry) at octets.now) }
+{
+    let second = found_at(true, at, octets)?;
+    if second.kind.takes_rest() {
+        return Ok(Group::pair(first, Spdu::with(second.kind, second.params, second.rest)));
+    }
+    if !second.rest.is_empty() {
+        return Err(SpduFault::TrailingOctets(second.end));
+    }
+    Ok(Group::pair(first, Spdu::new(second.kind, second.params)))
+}
+
+#[tactic(auto, unfolding(crate::specs::Reading::tsdu_at, crate::specs::Writing::is_joined))]
+fn read_all(octets: &[u8]) -> Result<Group<'_>, SpduFault>
+    ensures { Gives units_of result (tsdu_at octets.now) }
+{
+    let found = found_at(false, 0, octets)?;
+    let first = Spdu::new(found.kind, found.params);
+    if found.rest.is_empty() {
+        return Ok(Group::alone(first));
+    }
+    match found.kind.category() {
+        Category::Zero => read_second(first, found.end, found.rest),
+        _ => Err(SpduFault::TrailingOctets(found.end)),
+    }
+}
+
+/// The session units of a TSDU, which they borrow. A fault is the first from left to right.
+///
+/// X.225 section 8; sections 6.3.5 to 6.3.7 for what may stand together.
+pub fn read_tsdu(octets: &[u8]) -> Result<Group<'_>, SpduFault>
+    // What is read is spelled so.
+    ensures found { IfOk result (λ g. SpellsTsdu (units_of g) octets.now) }
+    // What is spelled so is read.
+    ensures only { (units : Units) → SpellsTsdu units octets.now →
+        IsOkAnd result (λ g. units_of g ≡ units) }
+    // Which fault it is.
+    ensures exact { Gives units_of result (tsdu_at octets.now) }
+    // What is read can be written.
+    ensures formed { IfOk result (λ g. IsFormedTsdu (units_of g)) }
+    ensures fits { IfOk result (λ g. TsduFits (units_of g)) }
+{
+    read_all(octets)
+}

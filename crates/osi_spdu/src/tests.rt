@@ -1,0 +1,259 @@
+use super::*;
+use bitflags::Flags;
+use bytes::BytesMut;
+use osi_tpkt::Unit;
+use std::alloc::Global;
+use std::test::*;
+
+/// A CN: units 00B9, serial 1, each token for the asker.
+const CONNECT: [u8; 20] = [
+    0x0D, 0x12, 0x05, 0x0C, 0x13, 0x01, 0x00, 0x16, 0x01, 0x02, 0x17, 0x01, 0x31, 0x1A, 0x01, 0x00,
+    0x14, 0x02, 0x00, 0xB9,
+];
+
+fn same(octets: &[u8], want: &[u8]) -> Result<(), &'static str> {
+    if octets == want {
+        Ok(())
+    } else {
+        Err("the written form is another")
+    }
+}
+
+/// What a TSDU says is written as this.
+fn is_written(alloc: Global, octets: &[u8], want: &[u8]) -> Result<(), Fail> {
+    let group = read_tsdu(octets)?;
+    let mut out = BytesMut::new(alloc);
+    group.write(&mut out)?;
+    same(out.as_slice(), want)?;
+    Ok(())
+}
+
+/// What a TSDU says is written as it was.
+fn is_its_own(alloc: Global, octets: &[u8]) -> Result<(), Fail> {
+    is_written(alloc, octets, octets)
+}
+
+fn fault_of(octets: &[u8]) -> Option<SpduFault> {
+    read_tsdu(octets).err()
+}
+
+#[test]
+fn connect_is_read(rt: HostRuntime) -> Result<(), Fail> {
+    let group = read_tsdu(&CONNECT)?;
+    assert!(rt; group.second().is_none());
+    let unit = group.first();
+    assert!(rt; matches!(unit.kind(), Kind::Connect));
+    assert_eq!(rt; unit.kind().si(), 13);
+    let params = unit.params();
+    assert!(rt; params.connect_accept_item);
+    assert!(rt; !params.connection_identifier);
+    assert_eq!(rt; params.protocol_options, Some(0));
+    assert_eq!(rt; params.version, Some(2));
+    assert_eq!(rt; params.initial_number.map_or(9, |serial| serial.number), 1);
+    assert_eq!(rt;
+        params.user_requirements.map_or(0, |units| units.bits()),
+        0x00B9
+    );
+    let setting = params.token_setting.ok_or("there is a token setting")?;
+    assert_eq!(rt; setting.data_token, Wish::Asker);
+    assert_eq!(rt; setting.release, Wish::Asker);
+    Ok(())
+}
+
+#[test]
+fn worked_units_are_their_own(rt: HostRuntime) -> Result<(), Fail> {
+    is_its_own(rt.alloc(), &CONNECT)?;
+    let accept = [
+        0x0E, 0x12, 0x05, 0x0C, 0x13, 0x01, 0x00, 0x16, 0x01, 0x02, 0x17, 0x01, 0x31, 0x1A, 0x01,
+        0x00, 0x14, 0x02, 0x00, 0xB9,
+    ];
+    is_its_own(rt.alloc(), &accept)?;
+    let duplex = [
+        0x0E, 0x0F, 0x05, 0x09, 0x13, 0x01, 0x00, 0x16, 0x01, 0x02, 0x1A, 0x01, 0x00, 0x14, 0x02,
+        0x00, 0x02,
+    ];
+    is_its_own(rt.alloc(), &duplex)?;
+    is_its_own(rt.alloc(), &[0x19, 0x03, 0x11, 0x01, 0x05])?;
+    is_its_own(
+        rt.alloc(),
+        &[0x0C, 0x06, 0x11, 0x01, 0x01, 0x32, 0x01, 0x86],
+    )?;
+    is_its_own(rt.alloc(), &[0x0D, 0x00])?;
+    is_its_own(rt.alloc(), &[0x01, 0x00, 0x01, 0x00, 0x41, 0x42])?;
+    is_its_own(rt.alloc(), &[0x01, 0x03, 0x10, 0x01, 0x01])?;
+    is_its_own(rt.alloc(), &[0x02, 0x03, 0x10, 0x01, 0x54])?;
+    is_its_own(rt.alloc(), &[0x01, 0x00, 0x31, 0x03, 0x2A, 0x01, 0x31])?;
+    is_its_own(
+        rt.alloc(),
+        &[0x01, 0x00, 0x31, 0x06, 0x0F, 0x01, 0x01, 0x2A, 0x01, 0x31],
+    )?;
+    is_its_own(rt.alloc(), &[0x01, 0x00, 0x32, 0x03, 0x2A, 0x01, 0x31])?;
+    let restart = [
+        0x01, 0x00, 0x35, 0x09, 0x1A, 0x01, 0x00, 0x1B, 0x01, 0x00, 0x2A, 0x01, 0x31,
+    ];
+    is_its_own(rt.alloc(), &restart)?;
+    is_its_own(
+        rt.alloc(),
+        &[0x01, 0x00, 0x22, 0x06, 0x1A, 0x01, 0x00, 0x2A, 0x01, 0x31],
+    )?;
+    is_its_own(
+        rt.alloc(),
+        &[0x01, 0x00, 0x29, 0x06, 0x0F, 0x01, 0x01, 0x2A, 0x01, 0x31],
+    )?;
+    is_its_own(rt.alloc(), &[0x01, 0x00, 0x2A, 0x03, 0x2A, 0x01, 0x31])?;
+    let last = [
+        0x01, 0x00, 0x31, 0x08, 0x2A, 0x06, 0x39, 0x39, 0x39, 0x39, 0x39, 0x39,
+    ];
+    is_its_own(rt.alloc(), &last)?;
+    is_its_own(rt.alloc(), &[0x09, 0x00])?;
+    is_its_own(rt.alloc(), &[0x08, 0x00])?;
+    is_its_own(rt.alloc(), &[0x0A, 0x00])?;
+    is_its_own(rt.alloc(), &[0x1A, 0x00])
+}
+
+#[test]
+fn another_spelling_is_written_in_order(rt: HostRuntime) -> Result<(), Fail> {
+    // The long form of a length where the short one does.
+    is_written(rt.alloc(), &[0x01, 0xFF, 0x00, 0x00], &[0x01, 0x00])?;
+    // Leading zeros, ignored bits, an unknown parameter, empty user data, any order.
+    let octets = [
+        0x01, 0x00, 0x31, 0x11, 0xC1, 0x00, 0x2A, 0x03, 0x30, 0x30, 0x37, 0x63, 0x02, 0xAA, 0xBB,
+        0x0F, 0x01, 0xFF, 0x19, 0x01, 0x03,
+    ];
+    let want = [
+        0x01, 0x00, 0x31, 0x09, 0x0F, 0x01, 0x01, 0x19, 0x01, 0x03, 0x2A, 0x01, 0x37,
+    ];
+    is_written(rt.alloc(), &octets, &want)?;
+    // A token item has four bits.
+    is_written(
+        rt.alloc(),
+        &[0x01, 0x03, 0x10, 0x01, 0xFF],
+        &[0x01, 0x03, 0x10, 0x01, 0x55],
+    )
+}
+
+#[test]
+fn worked_faults(rt: HostRuntime) {
+    let mut past = CONNECT;
+    past[3] = 0x0D;
+    assert_eq!(rt; fault_of(&past), Some(SpduFault::LengthPastEnd(16)));
+    assert_eq!(rt;
+        fault_of(&[0x31, 0x03, 0x2A, 0x01, 0x31]),
+        Some(SpduFault::BadConcatenation(0))
+    );
+    assert_eq!(rt;
+        fault_of(&[0x01, 0x00, 0x09, 0x00]),
+        Some(SpduFault::BadConcatenation(2))
+    );
+    assert_eq!(rt;
+        fault_of(&[0x09, 0x00, 0x00]),
+        Some(SpduFault::TrailingOctets(2))
+    );
+    assert_eq!(rt;
+        fault_of(&[0x01, 0x00, 0x31, 0x00]),
+        Some(SpduFault::MissingParameter(42, 2))
+    );
+    assert_eq!(rt; fault_of(&[0x21, 0x00]), Some(SpduFault::UnknownSi(0)));
+    assert_eq!(rt; fault_of(&[]), Some(SpduFault::LengthPastEnd(0)));
+    assert_eq!(rt;
+        fault_of(&[0x01, 0x02, 0x41, 0x42]),
+        Some(SpduFault::LengthPastEnd(2))
+    );
+    // A CN with user data in both codes, though the first is empty.
+    let both = [0x0D, 0x05, 0xC1, 0x00, 0xC2, 0x01, 0x41];
+    assert_eq!(rt;
+        fault_of(&both),
+        Some(SpduFault::DuplicateParameter(194, 4))
+    );
+    // A pair 3 in a token setting, and an empty reason.
+    let setting = [0x01, 0x00, 0x22, 0x06, 0x1A, 0x01, 0x0C, 0x2A, 0x01, 0x31];
+    assert_eq!(rt; fault_of(&setting), Some(SpduFault::BadValue(26, 4)));
+    assert_eq!(rt;
+        fault_of(&[0x0C, 0x02, 0x32, 0x00]),
+        Some(SpduFault::BadValue(50, 2))
+    );
+}
+
+#[test]
+fn long_user_data(rt: HostRuntime) -> Result<(), Fail> {
+    let user_data = [0x5A; 300];
+    let number = Serial::new(1).ok_or("1 is a serial number")?;
+    let point = Spdu::minor_point(None, number, &user_data);
+    let group = Group::behind_give_tokens(point);
+    let second = group.second().ok_or("there is a second unit")?;
+    assert_eq!(rt; second.kind().codes().len(), 4);
+    let mut out = BytesMut::new(rt.alloc());
+    out.extend_from_slice(&[
+        0x01, 0x00, 0x31, 0xFF, 0x01, 0x33, 0x2A, 0x01, 0x31, 0xC1, 0xFF, 0x01, 0x2C,
+    ])?;
+    out.extend_from_slice(&user_data)?;
+    is_its_own(rt.alloc(), out.as_slice())?;
+    let read = read_tsdu(out.as_slice())?
+        .second()
+        .ok_or("there is a second unit")?;
+    let data_octets = read.params().user_data.ok_or("there is user data")?;
+    assert_eq!(rt; data_octets.len(), 300);
+    Ok(())
+}
+
+#[test]
+fn connect_with_much_user_data(rt: HostRuntime) -> Result<(), Fail> {
+    let mut octets = BytesMut::new(rt.alloc());
+    octets.extend_from_slice(&[0x0D, 0xFF, 0x02, 0x05, 0xC1, 0xFF, 0x02, 0x01])?;
+    octets.extend_from_slice(&[0x5A; 513])?;
+    let mut want = BytesMut::new(rt.alloc());
+    want.extend_from_slice(&[0x0D, 0xFF, 0x02, 0x05, 0xC2, 0xFF, 0x02, 0x01])?;
+    want.extend_from_slice(&[0x5A; 513])?;
+    is_written(rt.alloc(), octets.as_slice(), want.as_slice())?;
+    is_written(
+        rt.alloc(),
+        &[0x0D, 0x03, 0xC2, 0x01, 0x41],
+        &[0x0D, 0x03, 0xC1, 0x01, 0x41],
+    )
+}
+
+/// A unit is listed by its codes, those of its groups behind the group.
+#[test]
+fn listing(rt: HostRuntime) -> Result<(), Fail> {
+    let group = read_tsdu(&CONNECT)?;
+    let unit = group.first();
+    let mut text = BytesMut::new(rt.alloc());
+    for code in unit.kind().codes() {
+        if let Some(value) = unit.value(*code) {
+            text.extend_from_slice(&[unit.written_code(*code).number()])?;
+            text.extend_from_slice(value.made())?;
+            text.extend_from_slice(value.lent())?;
+            for member in unit.kind().members(*code) {
+                if let Some(value) = unit.value(*member) {
+                    text.extend_from_slice(&[member.number()])?;
+                    text.extend_from_slice(value.made())?;
+                    text.extend_from_slice(value.lent())?;
+                }
+            }
+        }
+    }
+    let want = [5, 19, 0x00, 22, 0x02, 23, 0x31, 26, 0x00, 20, 0x00, 0xB9];
+    assert_eq!(rt; text.as_slice(), want.as_slice());
+    Ok(())
+}
+
+#[test]
+fn sets_of_tokens_and_units(rt: HostRuntime) -> Result<(), Fail> {
+    let tokens = TokenSet::DATA | TokenSet::RELEASE;
+    assert_eq!(rt; tokens.bits(), 0x41);
+    assert!(rt; tokens.contains(TokenSet::RELEASE));
+    assert!(rt; !tokens.contains(TokenSet::MINOR));
+    assert_eq!(rt; (tokens - TokenSet::DATA).bits(), 0x40);
+    assert_eq!(rt; (tokens & TokenSet::DATA).bits(), 0x01);
+    assert_eq!(rt; TokenSet::from_bits_truncate(0xFF).bits(), 0x55);
+    let units = Requirements::HALF_DUPLEX | Requirements::MAJOR;
+    assert!(rt; units.intersects(Requirements::MAJOR | Requirements::MINOR));
+    assert_eq!(rt; units.bits(), 0x0011);
+    assert_eq!(rt; Requirements::from_bits_retain(0xFFFF).bits(), 0xFFFF);
+    assert!(rt; Serial::new(999_999).is_some());
+    assert!(rt; Serial::new(1_000_000).is_none());
+    assert!(rt; Selector::new(&[0; 16]).is_some());
+    assert!(rt; Selector::new(&[0; 17]).is_none());
+    assert_eq!(rt; Wish::from(Side::Answerer), Wish::Answerer);
+    Ok(())
+}

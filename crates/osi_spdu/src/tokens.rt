@@ -1,0 +1,122 @@
+ghost use Rattle.std.specs.Prelude.{⊤, ◌≡◌, ◌/◌, ◌%◌, ◌==◌, ◌-◌, ◌^◌, [], ◌∷◌, codes, option_map};
+ghost use Rattle.std.specs.Int.RustNames.{bit_and, bit_or};
+ghost use Rattle.bitflags.specs.Sets.{without};
+ghost use Rattle.osi_spdu.specs.Values.{token_bits, canonical};
+ghost use Rattle.osi_spdu.specs.Fields.{token_octets};
+ghost use Rattle.osi_spdu.specs.Octets.{octets_of};
+
+use crate::codes::Code;
+use crate::octets::Value;
+use bitflags::{Flag, Flags};
+use std::ops::{BitAnd, BitOr, Sub};
+
+/// A set of tokens (X.225 section 8, token item): each has a bit of its own. Bits that name no
+/// token are kept, and never written.
+#[derive(Clone, Copy, PartialEq, Eq, Debug)]
+pub struct TokenSet(u8);
+
+impl TokenSet {
+    /// The data token.
+    pub const DATA: TokenSet = TokenSet(0x01);
+    /// The synchronize-minor token.
+    pub const MINOR: TokenSet = TokenSet(0x04);
+    /// The major or activity token.
+    pub const MAJOR: TokenSet = TokenSet(0x10);
+    /// The release token.
+    pub const RELEASE: TokenSet = TokenSet(0x40);
+
+    /// The tokens with their names.
+    pub const FLAGS: &'static [Flag<TokenSet>] = &[
+        Flag {
+            name: "DATA",
+            value: TokenSet::DATA,
+        },
+        Flag {
+            name: "MINOR",
+            value: TokenSet::MINOR,
+        },
+        Flag {
+            name: "MAJOR",
+            value: TokenSet::MAJOR,
+        },
+        Flag {
+            name: "RELEASE",
+            value: TokenSet::RELEASE,
+        },
+    ];
+
+    #[tactic(auto, unfolding(crate::specs::Values::canonical))]
+    pub(crate) fn read(value: &[u8]) -> Option<TokenSet>
+        ensures { canonical Code.TokenItem value.now ≡ option_map token_octets result }
+    {
+        match value {
+            [octet] => Some(TokenSet(*octet & 0x55)),
+            _ => None,
+        }
+    }
+
+    /// The octet of a token item.
+    pub(crate) fn octet(self) -> u8
+        ensures { result ∷ [] ≡ token_octets self }
+    {
+        self.0 & 0x55
+    }
+
+    pub(crate) fn value<'a>(self) -> Value<'a>
+        ensures { octets_of result ≡ token_octets self }
+    {
+        Value::of_octet(self.octet())
+    }
+}
+
+impl Flags for TokenSet {
+    type Bits = u8;
+
+    ghost exact = { ⊤ };
+
+    ghost table = { (codes "DATA", 1) ∷ (codes "MINOR", 4) ∷ (codes "MAJOR", 16) ∷ (codes "RELEASE", 64) ∷ [] };
+
+    ghost set_of = { λ t. t.0 };
+
+    fn flags<'a>() -> &'a [Flag<TokenSet>] {
+        TokenSet::FLAGS
+    }
+
+    fn bits(&self) -> u8 {
+        self.0
+    }
+
+    fn from_bits_retain(bits: u8) -> TokenSet {
+        TokenSet(bits)
+    }
+}
+
+impl BitOr for TokenSet {
+    type Output = TokenSet;
+
+    ghost bitor_gives = { λ a b r. r.0 ≡ bit_or a.0 b.0 };
+
+    fn bitor(self, other: TokenSet) -> TokenSet {
+        TokenSet(self.0 | other.0)
+    }
+}
+
+impl BitAnd for TokenSet {
+    type Output = TokenSet;
+
+    ghost bitand_gives = { λ a b r. r.0 ≡ bit_and a.0 b.0 };
+
+    fn bitand(self, other: TokenSet) -> TokenSet {
+        TokenSet(self.0 & other.0)
+    }
+}
+
+impl Sub for TokenSet {
+    type Output = TokenSet;
+
+    ghost sub_gives = { λ a b r. r.0 ≡ without 8 a.0 b.0 };
+
+    fn sub(self, other: TokenSet) -> TokenSet {
+        TokenSet(self.0 & !other.0)
+    }
+}

@@ -1,0 +1,101 @@
+ghost use Rattle.std.specs.Prelude.{◌≡◌, ◌≤◌, true, length, MatchOption, option_map, []};
+ghost use Rattle.osi_spdu.specs.Kinds.{codes_of, members_of};
+ghost use Rattle.osi_spdu.specs.Octets.{octets_of};
+ghost use Rattle.osi_spdu.specs.Params.{known_of, lent_len};
+ghost use Rattle.osi_spdu.specs.Writing.{is_formed, is_informed, written_code, UnitFits};
+
+use crate::codes::Code;
+use crate::kinds::Kind;
+use crate::octets::Value;
+use crate::params::Params;
+use crate::writing::written_code;
+
+/// A session protocol data unit (X.225 section 8).
+///
+/// It has no parameter that its kind does not know, and each that its kind must have.
+#[derive(Clone, Copy, Debug)]
+pub struct Spdu<'a> {
+    kind: Kind,
+    params: Params<'a>,
+    information: &'a [u8],
+    ghost formed: { is_formed kind (known_of params) ≡ true },
+    ghost informed: { is_informed kind information.now ≡ true },
+}
+
+impl<'a> Spdu<'a> {
+    ghost use Rattle.osi_spdu.specs.Units.{said_by};
+
+    /// A unit with these parameters.
+    pub fn new(kind: Kind, params: Params<'a>) -> Spdu<'a>
+        requires { is_formed kind (known_of params) ≡ true }
+        ensures value { said_by result
+            ≡ record { kind = kind; known = known_of params.entry; information = [] } }
+        ensures kind { (said_by result).kind ≡ kind }
+        // Octets of any number that are not too many leave room for the length.
+        ensures fits { lent_len params.entry ≤ 65000 → UnitFits (said_by result) }
+    {
+        Spdu {
+            kind,
+            params,
+            information: &[],
+        }
+    }
+
+    /// A unit with these parameters, and the user information of a DT.
+    pub fn with(kind: Kind, params: Params<'a>, information: &'a [u8]) -> Spdu<'a>
+        requires formed { is_formed kind (known_of params) ≡ true }
+        requires informed { is_informed kind information.now ≡ true }
+        ensures value { said_by result
+            ≡ record { kind = kind; known = known_of params.entry; information = information.now } }
+        ensures kind { (said_by result).kind ≡ kind }
+        // Octets of any number that are not too many leave room for the length.
+        ensures fits { lent_len params.entry ≤ 65000 → UnitFits (said_by result) }
+    {
+        Spdu {
+            kind,
+            params,
+            information,
+        }
+    }
+
+    /// Which unit it is.
+    pub fn kind(&self) -> Kind
+        ensures { result ≡ (said_by self.now).kind }
+    {
+        self.kind
+    }
+
+    /// The parameters, those of its groups included.
+    pub fn params(&self) -> &Params<'a>
+        ensures { known_of result.now ≡ (said_by self.now).known }
+    {
+        &self.params
+    }
+
+    /// The user information of a DT; of another unit it has no octet.
+    pub fn information(&self) -> &'a [u8]
+        ensures { result.now ≡ (said_by self.now).information }
+    {
+        self.information
+    }
+
+    /// The value of a parameter as it is written, if it is there. A group that is there has no
+    /// octet of its own.
+    pub fn value(&self, code: Code) -> Option<Value<'a>>
+        ensures { option_map octets_of result ≡ (said_by self.now).known code }
+    {
+        self.params.value(code)
+    }
+
+    /// The code under which a parameter is written: user data above 512 octets has a code of its
+    /// own in a CN.
+    pub fn written_code(&self, code: Code) -> Code
+        ensures { MatchOption ((said_by self.now).known code) (result ≡ code)
+            (λ value. result ≡ written_code (said_by self.now).kind code value) }
+    {
+        match self.value(code) {
+            None => code,
+            Some(value) => written_code(self.kind, code, value),
+        }
+    }
+}
