@@ -1,8 +1,11 @@
 //! The work that the benchmarks time, as C functions over octets and numbers.
 #![tactic(auto)]
 
+mod units;
+
 use osi_tpkt::Cutter;
 use std::alloc::Global;
+use units::Sum;
 
 /// What a run saw: the packets and the octets of their transport units, each modulo 2^64.
 #[derive(Clone, Copy)]
@@ -45,4 +48,20 @@ pub extern "C" fn osi_bench_cut(alloc: Global, stream: &[u8], piece: usize) -> u
     seen.packets
         .wrapping_mul(1_000_003)
         .wrapping_add(seen.octets)
+}
+
+/// Reads the units of packets that stand one behind the other and have these lengths, up to the
+/// first that passes the end of the octets, and answers a number of what was seen.
+#[unsafe(no_mangle)]
+pub extern "C" fn osi_bench_units(packets: &[u8], lengths: &[usize]) -> u64 {
+    let mut sum = Sum::zero();
+    let mut rest = packets;
+    for length in lengths {
+        let Some((packet, behind)) = rest.split_at_checked(*length) else {
+            break;
+        };
+        sum = sum.with_packet(packet);
+        rest = behind;
+    }
+    sum.number()
 }

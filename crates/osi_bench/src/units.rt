@@ -1,0 +1,161 @@
+//! What is seen of the units of packets, as one number.
+
+use osi_tpdu::{
+    ConnectConfirm, ConnectParameters, ConnectRequest, DataAcknowledgement, DataClass0, DataClass2,
+    DisconnectConfirm, DisconnectRequest, ErrorReport, Selector, Tpdu, TpduFault, read_units,
+};
+
+/// A number of what was seen, modulo 2^64: fields, each times a weight that tells it from others.
+#[derive(Clone, Copy)]
+pub(crate) struct Sum(u64);
+
+impl Sum {
+    /// Where nothing was seen.
+    pub(crate) fn zero() -> Self {
+        Sum(0)
+    }
+
+    /// The number.
+    pub(crate) fn number(self) -> u64 {
+        self.0
+    }
+
+    // With one more field.
+    fn with(self, weight: u64, field: u64) -> Self {
+        Sum(self.0.wrapping_add(weight.wrapping_mul(field)))
+    }
+
+    // With a length, if there is one.
+    fn with_length(self, weight: u64, octets: Option<&[u8]>) -> Self {
+        match octets {
+            Some(octets) => self.with(weight, (octets.len() as u64).wrapping_add(1)),
+            None => self,
+        }
+    }
+
+    fn with_selector(self, weight: u64, selector: Option<Selector<'_>>) -> Self {
+        match selector {
+            Some(selector) => self.with_length(weight, Some(selector.octets())),
+            None => self,
+        }
+    }
+
+    fn with_parameters(self, p: ConnectParameters<'_>) -> Self {
+        let sized = match p.size() {
+            Some(size) => self.with(31, u64::from(size.code())),
+            None => self,
+        };
+        let with_options = match p.additional_options() {
+            Some(options) => sized.with(37, u64::from(options).wrapping_add(1)),
+            None => sized,
+        };
+        with_options
+            .with_selector(41, p.calling())
+            .with_selector(43, p.called())
+            .with_length(47, p.alternative_classes())
+    }
+
+    fn with_request(self, r: &ConnectRequest<'_>) -> Self {
+        self.with(1, 1)
+            .with(3, r.user().len() as u64)
+            .with(7, u64::from(r.source()))
+            .with(11, u64::from(r.credit()))
+            .with(13, u64::from(r.class()))
+            .with(17, u64::from(r.options()))
+            .with_parameters(r.parameters())
+    }
+
+    fn with_confirm(self, c: &ConnectConfirm<'_>) -> Self {
+        self.with(1, 2)
+            .with(3, c.user().len() as u64)
+            .with(5, u64::from(c.destination()))
+            .with(7, u64::from(c.source()))
+            .with(11, u64::from(c.credit()))
+            .with(13, u64::from(c.class()))
+            .with(17, u64::from(c.options()))
+            .with_parameters(c.parameters())
+    }
+
+    fn with_disconnect(self, d: &DisconnectRequest<'_>) -> Self {
+        self.with(1, 3)
+            .with(3, d.user().len() as u64)
+            .with(5, u64::from(d.destination()))
+            .with(7, u64::from(d.source()))
+            .with(19, u64::from(d.reason()))
+    }
+
+    fn with_disconnected(self, d: DisconnectConfirm) -> Self {
+        self.with(1, 4)
+            .with(5, u64::from(d.destination()))
+            .with(7, u64::from(d.source()))
+    }
+
+    fn with_data0(self, d: &DataClass0<'_>) -> Self {
+        self.with(1, 5)
+            .with(3, d.user().len() as u64)
+            .with(23, u64::from(d.end()))
+    }
+
+    fn with_data2(self, d: &DataClass2<'_>) -> Self {
+        self.with(1, 6)
+            .with(3, d.user().len() as u64)
+            .with(5, u64::from(d.destination()))
+            .with(23, u64::from(d.end()))
+            .with(29, u64::from(d.number()))
+    }
+
+    fn with_acknowledge(self, a: DataAcknowledgement) -> Self {
+        self.with(1, 7)
+            .with(5, u64::from(a.destination()))
+            .with(11, u64::from(a.credit()))
+            .with(29, u64::from(a.number()))
+    }
+
+    fn with_error(self, e: ErrorReport) -> Self {
+        self.with(1, 8)
+            .with(5, u64::from(e.destination()))
+            .with(19, u64::from(e.cause()))
+    }
+
+    // With one more unit, whose place among the others counts too.
+    fn with_unit(self, unit: &Tpdu<'_>) -> Self {
+        let before = Sum(self.0.wrapping_mul(31));
+        match unit {
+            Tpdu::Cr(r) => before.with_request(r),
+            Tpdu::Cc(c) => before.with_confirm(c),
+            Tpdu::Dr(d) => before.with_disconnect(d),
+            Tpdu::Dc(d) => before.with_disconnected(*d),
+            Tpdu::Dt0(d) => before.with_data0(d),
+            Tpdu::Dt2(d) => before.with_data2(d),
+            Tpdu::Ak(a) => before.with_acknowledge(*a),
+            Tpdu::Er(e) => before.with_error(*e),
+        }
+    }
+
+    // With a packet that holds no units, for this reason.
+    fn with_fault(self, fault: TpduFault) -> Self {
+        let (kind, at) = match fault {
+            TpduFault::BadLi(at) => (101, at),
+            TpduFault::UnknownCode(at) => (102, at),
+            TpduFault::BadParameterLength(at) => (103, at),
+            TpduFault::BadParameterValue(at) => (104, at),
+            TpduFault::DuplicateParameter(at) => (105, at),
+        };
+        Sum(self.0.wrapping_mul(31))
+            .with(1, kind)
+            .with(53, at as u64)
+    }
+
+    /// With the units of one more packet.
+    pub(crate) fn with_packet(self, packet: &[u8]) -> Self {
+        let units = match read_units(packet) {
+            Ok(units) => units,
+            Err(fault) => return self.with_fault(fault),
+        };
+        let mut sum = self;
+        for unit in units {
+            sum = sum.with_unit(&unit);
+        }
+        sum
+    }
+}
