@@ -6,8 +6,11 @@ make >&2
 mkdir -p bench/out
 python3 - bench/out <<'P'
 import sys
-for name, packet in (("small", "0300000702f080"), ("data", "0300008402f000" + "41" * 125)):
-    text = packet + "\n"
+small = "0300000702f080\n"
+# a TSDU of eight data units
+part = "0300008402f0%02x" + "41" * 125 + "\n"
+data = part % 0 * 7 + part % 0x80
+for name, text in (("small", small), ("data", data)):
     count = (1 << 24) // len(text)
     with open(f"{sys.argv[1]}/{name}.hex", "w") as out:
         out.write(text * count)

@@ -158,7 +158,9 @@ fn read_error<'a>(at: usize, header: &[u8]) -> Result<Tpdu<'a>, TpduFault>
     }))
 }
 
-// The unit with this header, by its code, and these octets behind it.
+// The unit with this header, by its code, and these octets behind it. It is inlined, and so is
+// `read_unit`: else each unit would be moved through memory several times as the largest of them.
+#[inline(always)]
 #[tactic(auto, unfolding(crate::specs::Reading::value_of))]
 fn read_fields<'a>(at: usize, header: &'a [u8], user: &'a [u8]) -> Result<Tpdu<'a>, TpduFault>
     requires least { 1 ≤ length header.now }
@@ -181,6 +183,7 @@ fn read_fields<'a>(at: usize, header: &'a [u8], user: &'a [u8]) -> Result<Tpdu<'
 }
 
 /// The first unit of the octets, which begin at this offset, and how many of them spell it.
+#[inline(always)]
 #[tactic(auto, unfolding(crate::specs::Reading::unit_at))]
 pub(crate) fn read_unit(at: usize, octets: &[u8]) -> Result<(Tpdu<'_>, usize), TpduFault>
     requires { at + length octets.now < 2 ^ 64 }
