@@ -1,0 +1,11 @@
+pub mod Ending
+pub mod Flows
+pub mod Moves
+pub mod Nothing
+pub mod Numbers
+pub mod Order
+pub mod Owed
+pub mod SendLaws
+pub mod Short
+pub mod TakeLaws
+pub mod Ways

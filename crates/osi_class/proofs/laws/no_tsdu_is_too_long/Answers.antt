@@ -1,0 +1,8 @@
+use Rattle.osi_class.proofs.Short.{not_too_long, stays_short}
+use Rattle.osi_class.proofs.laws.no_tsdu_is_too_long.Goals as goal
+
+pub returns-clause-kept : goal.returns-clause-kept
+returns-clause-kept c = stays_short
+
+pub returns-clause-part : goal.returns-clause-part
+returns-clause-part c = not_too_long

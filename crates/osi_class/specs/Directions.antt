@@ -1,0 +1,49 @@
+-- The flow control of two links of class 2 and the units between them.
+use Rattle.std.specs.Prelude.{◌≡◌, ℕ, List, [], ◌∷◌, Some, ◌⊎◌}
+use Rattle.std.specs.List.{flat_map}
+use Rattle.osi_class.specs.Between.{Pair}
+use Rattle.osi_class.specs.Credit.{Direction, Step, Steps, InStep}
+use Rattle.osi_class.specs.Flow.{Flow}
+use Rattle.osi_class.specs.Link.{Given, part, ack}
+
+abbrev pub unit_numbers : Given → List ℕ
+unit_numbers (part end number octets) = number ∷ []
+unit_numbers (ack number credit) = []
+
+abbrev pub ack_numbers : Given → List (ℕ × ℕ)
+ack_numbers (part end number octets) = []
+ack_numbers (ack number credit) = (number, credit) ∷ []
+
+-- the direction from left to right, where the links have these flows
+abbrev pub direction : Flow → Pair → Flow → Direction
+direction l p r = record {
+  sender = l.sender;
+  units = flat_map unit_numbers p.rightward;
+  receiver = r.receiver;
+  acks = flat_map ack_numbers p.leftward;
+}
+
+-- both links are of class 2, with these flows
+pub record HaveFlows (p : Pair) (l r : Flow) : Type 0 where
+  pub left : p.left.flow ≡ Some l
+  pub right : p.right.flow ≡ Some r
+
+-- nothing was changed, or one step was made
+abbrev pub StepsOrStays : Direction → Direction → Type 0
+StepsOrStays old new = (new ≡ old) ⊎ ((step : Step) × Steps step old new)
+
+-- links of class 2 stay so, and the direction makes a step or stays
+pub record TurnSteps (old : Pair) (l r : Flow) (new : Pair) : Type 0 where
+  pub left_flow : Flow
+  pub right_flow : Flow
+  pub have : HaveFlows new left_flow right_flow
+  pub steps : StepsOrStays (direction l old r) (direction left_flow new right_flow)
+
+-- links of class 2 that agree on what is under way from left to right, for this window
+pub record Agree (p : Pair) (units : ℕ) : Type 0 where
+  pub left_flow : Flow
+  pub right_flow : Flow
+  pub have : HaveFlows p left_flow right_flow
+  pub known : ℕ
+  pub in_step : InStep (direction left_flow p right_flow) known
+  pub window : right_flow.receiver.window ≡ units

@@ -1,0 +1,21 @@
+-- The taking side: the TSDU whose end has not come, and those that stand whole.
+use Rattle.std.specs.Prelude.{◌≡◌, ℕ, ◌+◌, Bool, true, false, List, [], ◌∷◌, ◌++◌, length, nat_lt, Option, Some, None, Result, Ok, Err, if◌then◌else◌}
+use Rattle.osi_class.specs.declared.faults.LinkFault.{LinkFault}
+use Rattle.osi_class.specs.declared.faults.LinkFault.TheVariants.{TsduTooLong}
+
+pub record Joining : Type 0 where
+  pub begun : List ℕ
+  pub whole : List (List ℕ)
+
+abbrev pub with_part : Joining → Bool → List ℕ → Joining
+with_part j false octets = record j { begun = j.begun ++ octets }
+with_part j true octets = record { begun = []; whole = j.whole ++ (j.begun ++ octets) ∷ [] }
+
+-- a TSDU has at most 1,048,576 octets
+abbrev pub joined : Joining → Bool → List ℕ → Result Joining LinkFault
+joined j last octets = if nat_lt 1048576 (length j.begun + length octets) then Err TsduTooLong else Ok (with_part j last octets)
+
+-- the first whole TSDU is handed out, none exactly where none stands whole
+abbrev pub Pops : Option (List ℕ) → Joining → Joining → Type 0
+Pops None old new = (old.whole ≡ []) × (new ≡ old)
+Pops (Some tsdu) old new = old ≡ record new { whole = tsdu ∷ new.whole }

@@ -1,0 +1,13 @@
+pub mod AnyLink
+pub mod Between
+pub mod Credit
+pub mod Directions
+pub mod Ends
+pub mod Flow
+pub mod Joining
+pub mod Link
+pub mod Negotiation
+pub mod Runs
+pub mod Sending
+pub mod Taking
+pub mod Tsdus

@@ -1,0 +1,116 @@
+use crate::faults::LinkFault;
+use crate::flow::{ReceivingFlow, SendingFlow};
+use crate::joining::Incoming;
+use crate::links::Link;
+use crate::sending::Outgoing;
+use crate::sizes::most_octets;
+use crate::units::Out;
+use osi_tpdu::{SizeCode, Tpdu, Window};
+use std::alloc::{AllocError, Global};
+use std::marker::Model;
+
+/// The octets of a class 2 data unit before its user data (X.224 section 13.7.1).
+const HEADER: usize = 5;
+
+/// The most credit that a CR, a CC or an AK can give (X.224 section 13.3.3).
+const MOST_CREDIT: u8 = 15;
+
+/// A link of class 2 with explicit flow control (X.224 section 10): data units are numbered from 0
+/// modulo 128 each way, and sent only as far as the peer gave credit. Each unit taken gives one Ack,
+/// which restores the window.
+#[derive(Drop)]
+pub struct Class2 {
+    outgoing: Outgoing,
+    incoming: Incoming,
+    /// How many octets a unit carries, 123 to 8187.
+    limit: usize,
+    sending: SendingFlow,
+    receiving: ReceivingFlow,
+}
+
+impl Model for Class2 {
+    ghost use Rattle.std.specs.Prelude.{◌<◌};
+    ghost use Rattle.osi_class.specs.Link.{Two};
+
+    ghost Value = { Two };
+
+    ghost view = { λ l. record {
+      ends = record { limit = l.limit; unsent = l.outgoing.unsent; joining = l.incoming };
+      flow = record { sender = l.sending; receiver = l.receiving };
+    } };
+
+    ghost invariant = { λ l. 0 < l.limit };
+}
+
+impl Class2 {
+    ghost use Rattle.std.specs.Prelude.{◌≡◌, ◌≤◌, ◌↔◌, IsSome, IfSome};
+    ghost use Rattle.osi_tpdu.specs.Limits.{window_units};
+    ghost use Rattle.osi_class.specs.Ends.{unit_size};
+    ghost use Rattle.osi_class.specs.Link.{fresh_two};
+
+    /// A link with nothing sent and nothing taken, for the size that was selected (header included,
+    /// 128 octets where none was), this end's window, and the peer's first credit; `None` for a
+    /// credit of over 15.
+    pub fn new(alloc: Global, size: Option<SizeCode>, window: Window, credit: u8) -> Option<Self>
+        ensures range { IsSome result ↔ (credit ≤ 15) }
+        ensures value { IfSome result (λ link. link ≡ fresh_two (unit_size size) (window_units window) credit) }
+    {
+        if credit > MOST_CREDIT {
+            return None;
+        }
+        Some(Class2 {
+            outgoing: Outgoing::new(alloc),
+            incoming: Incoming::new(alloc),
+            limit: most_octets(size) - HEADER,
+            sending: SendingFlow::new(credit),
+            receiving: ReceivingFlow::new(window),
+        })
+    }
+}
+
+impl Link for Class2 {
+    ghost use Rattle.osi_class.specs.Link.{two_standing};
+
+    ghost standing = { λ l. two_standing l.ends l.flow };
+
+    fn send_tsdu(&mut self, tsdu: &[u8]) -> Result<(), AllocError> {
+        self.outgoing.add_copy(tsdu)
+    }
+
+    fn take(&mut self, unit: &Tpdu<'_>) -> Result<(), LinkFault> {
+        match unit {
+            Tpdu::Dt2(data) => {
+                if !self.receiving.awaits(data.number) {
+                    return Err(LinkFault::OutOfSequence);
+                }
+                self.incoming.join(data.end, data.user)?;
+                self.receiving.count_unit();
+                Ok(())
+            }
+            Tpdu::Ak(ack) => self.sending.acknowledge(ack.number, ack.credit),
+            _ => Err(LinkFault::WrongForm),
+        }
+    }
+
+    fn next_out(&mut self) -> Option<Out<'_>> {
+        if let Some(number) = self.receiving.next_ack() {
+            return Some(Out::Ack {
+                number,
+                credit: self.receiving.window(),
+            });
+        }
+        if !self.sending.has_credit() {
+            return None;
+        }
+        let end = self.outgoing.advance(self.limit)?;
+        Some(Out::Data {
+            end,
+            number: self.sending.count_unit(),
+            octets: self.outgoing.part(),
+        })
+    }
+
+    fn next_tsdu(&mut self) -> Option<Vec<u8>> {
+        self.incoming.pop()
+    }
+}

@@ -1,0 +1,79 @@
+use crate::faults::LinkFault;
+use crate::joining::Incoming;
+use crate::links::Link;
+use crate::sending::Outgoing;
+use crate::sizes::most_octets;
+use crate::units::Out;
+use osi_tpdu::{SizeCode, Tpdu};
+use std::alloc::{AllocError, Global};
+use std::marker::Model;
+
+/// The octets of a class 0 data unit before its user data (X.224 section 13.7.1).
+const HEADER: usize = 3;
+
+/// A link of class 0 (X.224 section 8): data units without numbers, and no flow control.
+#[derive(Drop)]
+pub struct Class0 {
+    outgoing: Outgoing,
+    incoming: Incoming,
+    /// How many octets a unit carries, 125 to 8189.
+    limit: usize,
+}
+
+impl Model for Class0 {
+    ghost use Rattle.std.specs.Prelude.{◌<◌};
+    ghost use Rattle.osi_class.specs.Ends.{Ends};
+
+    ghost Value = { Ends };
+
+    ghost view = { λ l. record { limit = l.limit; unsent = l.outgoing.unsent; joining = l.incoming } };
+
+    ghost invariant = { λ l. 0 < l.limit };
+}
+
+impl Class0 {
+    ghost use Rattle.std.specs.Prelude.{◌≡◌, ◌-◌};
+    ghost use Rattle.osi_class.specs.Ends.{fresh_ends, unit_size};
+
+    /// A link with nothing to send and nothing taken, for the size that was selected: its units have
+    /// at most so many octets, header included, or 128 where none was selected.
+    pub fn new(alloc: Global, size: Option<SizeCode>) -> Self
+        ensures { result ≡ fresh_ends (unit_size size - 3) }
+    {
+        Class0 {
+            outgoing: Outgoing::new(alloc),
+            incoming: Incoming::new(alloc),
+            limit: most_octets(size) - HEADER,
+        }
+    }
+}
+
+impl Link for Class0 {
+    ghost use Rattle.osi_class.specs.Link.{zero_standing};
+
+    ghost standing = { zero_standing };
+
+    fn send_tsdu(&mut self, tsdu: &[u8]) -> Result<(), AllocError> {
+        self.outgoing.add_copy(tsdu)
+    }
+
+    fn take(&mut self, unit: &Tpdu<'_>) -> Result<(), LinkFault> {
+        match unit {
+            Tpdu::Dt0(data) => self.incoming.join(data.end, data.user),
+            _ => Err(LinkFault::WrongForm),
+        }
+    }
+
+    fn next_out(&mut self) -> Option<Out<'_>> {
+        let end = self.outgoing.advance(self.limit)?;
+        Some(Out::Data {
+            end,
+            number: 0,
+            octets: self.outgoing.part(),
+        })
+    }
+
+    fn next_tsdu(&mut self) -> Option<Vec<u8>> {
+        self.incoming.pop()
+    }
+}

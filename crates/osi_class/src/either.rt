@@ -1,0 +1,50 @@
+use crate::class_two::Class2;
+use crate::class_zero::Class0;
+use crate::faults::LinkFault;
+use crate::links::Link;
+use crate::units::Out;
+use osi_tpdu::Tpdu;
+use std::alloc::AllocError;
+
+/// A link of the class that was selected.
+#[derive(Drop)]
+pub enum AnyLink {
+    /// Of class 0.
+    Zero(Class0),
+    /// Of class 2.
+    Two(Class2),
+}
+
+impl Link for AnyLink {
+    ghost use Rattle.osi_class.specs.AnyLink.{any_standing};
+
+    ghost standing = { any_standing };
+
+    fn send_tsdu(&mut self, tsdu: &[u8]) -> Result<(), AllocError> {
+        match self {
+            AnyLink::Zero(link) => link.send_tsdu(tsdu),
+            AnyLink::Two(link) => link.send_tsdu(tsdu),
+        }
+    }
+
+    fn take(&mut self, unit: &Tpdu<'_>) -> Result<(), LinkFault> {
+        match self {
+            AnyLink::Zero(link) => link.take(unit),
+            AnyLink::Two(link) => link.take(unit),
+        }
+    }
+
+    fn next_out(&mut self) -> Option<Out<'_>> {
+        match self {
+            AnyLink::Zero(link) => link.next_out(),
+            AnyLink::Two(link) => link.next_out(),
+        }
+    }
+
+    fn next_tsdu(&mut self) -> Option<Vec<u8>> {
+        match self {
+            AnyLink::Zero(link) => link.next_tsdu(),
+            AnyLink::Two(link) => link.next_tsdu(),
+        }
+    }
+}

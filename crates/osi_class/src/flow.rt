@@ -1,0 +1,164 @@
+ghost use Rattle.std.specs.Prelude.{◌≡◌, ◌<◌, ◌≤◌, ◌==◌, nat_lt, option_map, IfSome, IfNone};
+ghost use Rattle.osi_class.specs.Flow.{fresh_sender, fresh_receiver, after_sent, acknowledged, is_awaited, after_taken, ack_number, after_acked};
+ghost use Rattle.osi_class.specs.Taking.{Takes};
+
+use crate::faults::LinkFault;
+use osi_tpdu::Window;
+use std::marker::Model;
+
+/// How many numbers a data unit of class 2 may have (X.224 section 13.7.3).
+const NUMBERS: u8 = 128;
+
+/// The sending side of the flow control of class 2 (X.224 section 6.16).
+#[derive(Drop)]
+pub struct SendingFlow {
+    /// The number of the next unit, 0 to 127.
+    next: u8,
+    /// How many units were sent and not yet acknowledged.
+    unacknowledged: u8,
+    /// How many units may be sent now.
+    credit: u8,
+}
+
+impl Model for SendingFlow {
+    ghost use Rattle.std.specs.Prelude.{◌<◌, ◌≤◌, ◌+◌};
+    ghost use Rattle.osi_class.specs.Flow.{Sender};
+
+    ghost Value = { Sender };
+
+    ghost view = { λ s. record { next = s.next; unacknowledged = s.unacknowledged; credit = s.credit } };
+
+    ghost invariant = { λ s. (s.next < 128) × (s.unacknowledged + s.credit ≤ 15) };
+}
+
+impl SendingFlow {
+    /// Nothing sent, with the peer's first credit.
+    pub fn new(credit: u8) -> Self
+        requires { credit ≤ 15 }
+        ensures { result ≡ fresh_sender credit }
+    {
+        SendingFlow {
+            next: 0,
+            unacknowledged: 0,
+            credit,
+        }
+    }
+
+    /// Whether a unit may be sent now.
+    pub fn has_credit(&self) -> bool
+        ensures { result ≡ nat_lt 0 self.now.credit }
+    {
+        self.credit > 0
+    }
+
+    /// Counts a unit that is sent, and says its number, 0 to 127.
+    pub fn count_unit(&mut self) -> u8
+        requires { 0 < self.old.credit }
+        ensures number { result ≡ self.old.next }
+        ensures in_range { result < 128 }
+        ensures after { self.new ≡ after_sent self.old }
+    {
+        let number = self.next;
+        self.next = (number + 1) % NUMBERS;
+        self.unacknowledged += 1;
+        self.credit -= 1;
+        number
+    }
+
+    /// Takes an AK with this number, 0 to 127, and credit, 0 to 15.
+    pub fn acknowledge(&mut self, number: u8, credit: u8) -> Result<(), LinkFault>
+        requires number { number < 128 }
+        requires credit { credit ≤ 15 }
+        ensures { Takes result (acknowledged self.old number credit) self.old self.new }
+    {
+        let left = (self.next + NUMBERS - number) % NUMBERS;
+        if left > self.unacknowledged {
+            return Err(LinkFault::OutOfSequence);
+        }
+        if credit < self.credit + left {
+            return Err(LinkFault::CreditReduced);
+        }
+        self.unacknowledged = left;
+        self.credit = credit - left;
+        Ok(())
+    }
+}
+
+/// The receiving side of the flow control of class 2 (X.224 section 6.16).
+///
+/// Waiting Acks are a count: their numbers follow one another up to the number awaited, and each
+/// has the whole window as its credit. So there is always room for one more.
+#[derive(Drop)]
+pub struct ReceivingFlow {
+    window: Window,
+    /// The number that is awaited next, 0 to 127.
+    expected: u8,
+    /// How many Acks are to be given, at most the window.
+    waiting: u8,
+}
+
+impl Model for ReceivingFlow {
+    ghost use Rattle.std.specs.Prelude.{◌<◌, ◌≤◌};
+    ghost use Rattle.osi_tpdu.specs.Limits.{window_units};
+    ghost use Rattle.osi_class.specs.Flow.{Receiver};
+
+    ghost Value = { Receiver };
+
+    ghost view = { λ r. record { window = window_units r.window; expected = r.expected; waiting = r.waiting } };
+
+    ghost invariant = { λ r. (r.expected < 128) × (r.waiting ≤ window_units r.window) };
+}
+
+impl ReceivingFlow {
+    ghost use Rattle.std.specs.Prelude.{◌≡◌, ◌<◌, ◌≤◌, option_map, IsTrue, IfSome, IfNone};
+    ghost use Rattle.osi_tpdu.specs.Limits.{window_units};
+    ghost use Rattle.osi_class.specs.Flow.{fresh_receiver, is_awaited, after_taken, ack_number, after_acked};
+
+    /// Nothing taken, with this window.
+    pub fn new(window: Window) -> Self
+        ensures { result ≡ fresh_receiver (window_units window) }
+    {
+        ReceivingFlow {
+            window,
+            expected: 0,
+            waiting: 0,
+        }
+    }
+
+    /// The credit of each Ack, 1 to 15.
+    pub fn window(&self) -> u8
+        ensures value { result ≡ self.now.window }
+        ensures at_most { result ≤ 15 }
+    {
+        self.window.units()
+    }
+
+    /// Whether the unit with this number is awaited, and not beyond the window.
+    pub fn awaits(&self, number: u8) -> bool
+        ensures { result ≡ is_awaited self.now number }
+    {
+        number == self.expected && self.waiting < self.window.units()
+    }
+
+    /// Counts a unit that is taken. One more Ack waits.
+    pub fn count_unit(&mut self)
+        requires { self.old.waiting < self.old.window }
+        ensures { self.new ≡ after_taken self.old }
+    {
+        self.expected = (self.expected + 1) % NUMBERS;
+        self.waiting += 1;
+    }
+
+    /// The number of the next Ack, 0 to 127, which waits no longer; none where no Ack waits.
+    pub fn next_ack(&mut self) -> Option<u8>
+        ensures number { IfSome result (λ number. (0 < self.old.waiting) × (number ≡ ack_number self.old) × (self.new ≡ after_acked self.old)) }
+        ensures in_range { IfSome result (λ number. number < 128) }
+        ensures none { IfNone result ((self.old.waiting ≡ 0) × (self.new ≡ self.old)) }
+    {
+        if self.waiting == 0 {
+            return None;
+        }
+        self.waiting -= 1;
+        Some((self.expected + NUMBERS - self.waiting) % NUMBERS)
+    }
+}

@@ -1,0 +1,87 @@
+ghost use Rattle.std.specs.Prelude.{◌≡◌, ◌≤◌, ◌+◌, [], true, length, option_map};
+ghost use Rattle.osi_class.specs.Joining.{Pops, joined};
+ghost use Rattle.osi_class.specs.Taking.{Takes};
+
+use crate::faults::LinkFault;
+use std::alloc::Global;
+use std::collections::VecDeque;
+use std::marker::Model;
+use std::mem;
+
+/// The longest TSDU that is taken, in octets.
+pub const LONGEST_TSDU: usize = 1_048_576;
+
+/// The TSDUs that were taken: the one whose end has not come, and those that stand whole.
+#[derive(Drop)]
+pub struct Incoming {
+    alloc: Global,
+    begun: Vec<u8>,
+    whole: VecDeque<Vec<u8>>,
+}
+
+impl Model for Incoming {
+    ghost use Rattle.std.specs.Prelude.{◌≤◌, length, map};
+    ghost use Rattle.osi_class.specs.Joining.{Joining};
+
+    ghost Value = { Joining };
+
+    ghost view = { λ i. record { begun = i.begun.items; whole = map (λ v. v.items) i.whole.items } };
+
+    ghost invariant = { λ i. length i.begun.items ≤ 1048576 };
+}
+
+impl Incoming {
+    /// Nothing was taken.
+    pub fn new(alloc: Global) -> Self
+        ensures begun { result.begun ≡ [] }
+        ensures whole { result.whole ≡ [] }
+    {
+        Incoming {
+            alloc,
+            begun: Vec::new(alloc),
+            whole: VecDeque::new(alloc),
+        }
+    }
+
+    /// Takes a part of a TSDU, whose octets are copied once. A TSDU of over [`LONGEST_TSDU`] octets
+    /// is `TsduTooLong`. After a fault nothing has changed.
+    pub fn join(&mut self, last: bool, octets: &[u8]) -> Result<(), LinkFault>
+        ensures { Takes result (joined self.old last octets.now) self.old self.new }
+    {
+        if octets.len() > LONGEST_TSDU - self.begun.len() {
+            return Err(LinkFault::TsduTooLong);
+        }
+        if !last {
+            return match self.begun.extend_from_slice(octets) {
+                Ok(()) => Ok(()),
+                Err(_) => Err(LinkFault::OutOfMemory),
+            };
+        }
+        self.finish(octets)
+    }
+
+    /// Takes the last part of a TSDU. The room for it among those that stand whole is made first.
+    fn finish(&mut self, octets: &[u8]) -> Result<(), LinkFault>
+        requires { length self.old.begun + length octets.now ≤ 1048576 }
+        ensures { Takes result (joined self.old true octets.now) self.old self.new }
+    {
+        if self.whole.reserve(1).is_err() {
+            return Err(LinkFault::OutOfMemory);
+        }
+        if self.begun.extend_from_slice(octets).is_err() {
+            return Err(LinkFault::OutOfMemory);
+        }
+        let tsdu = mem::replace(&mut self.begun, Vec::new(self.alloc));
+        match self.whole.push_back(tsdu) {
+            Ok(()) => Ok(()),
+            Err(_) => unreachable!(),
+        }
+    }
+
+    /// The first TSDU that stands whole. It is not copied.
+    pub fn pop(&mut self) -> Option<Vec<u8>>
+        ensures { Pops (option_map (λ v. v.items) result) self.old self.new }
+    {
+        self.whole.pop_front()
+    }
+}

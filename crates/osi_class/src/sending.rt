@@ -1,0 +1,101 @@
+ghost use Rattle.std.specs.Prelude.{◌≡◌, ◌≤◌, ◌++◌, [], ◌∷◌, IfNone, OnOk, OnErr, option_map};
+ghost use Rattle.osi_class.specs.Tsdus.{give};
+
+use std::alloc::{AllocError, Global};
+use std::collections::VecDeque;
+use std::marker::Model;
+
+/// The TSDUs that are to be sent, each kept as it was handed in, with the place of the next octet
+/// of the first.
+#[derive(Drop)]
+pub struct Outgoing {
+    alloc: Global,
+    /// The TSDU of which a part was given last. It is kept until the next begins.
+    current: Vec<u8>,
+    /// Where the part that was given last begins in it.
+    from: usize,
+    /// Where that part ends.
+    to: usize,
+    /// Whether more of it is to be given.
+    has_more: bool,
+    /// The TSDUs of which nothing was given.
+    queue: VecDeque<Vec<u8>>,
+}
+
+impl Model for Outgoing {
+    ghost use Rattle.std.specs.Prelude.{◌≤◌, ◌∷◌, length, drop, map, slice_range, if◌then◌else◌};
+    ghost use Rattle.osi_class.specs.Sending.{Sending};
+
+    ghost Value = { Sending };
+
+    ghost view = { λ o. record {
+      unsent = if o.has_more then drop o.to o.current.items ∷ map (λ v. v.items) o.queue.items else map (λ v. v.items) o.queue.items;
+      part = slice_range o.current.items o.from o.to;
+    } };
+
+    ghost invariant = { λ o. (o.from ≤ o.to) × (o.to ≤ length o.current.items) };
+}
+
+impl Outgoing {
+    /// Nothing to be sent.
+    pub fn new(alloc: Global) -> Self
+        ensures unsent { result.unsent ≡ [] }
+        ensures part { result.part ≡ [] }
+    {
+        Outgoing {
+            alloc,
+            current: Vec::new(alloc),
+            from: 0,
+            to: 0,
+            has_more: false,
+            queue: VecDeque::new(alloc),
+        }
+    }
+
+    /// Puts a TSDU behind those that are to be sent. It is not copied.
+    pub fn add(&mut self, tsdu: Vec<u8>) -> Result<(), AllocError>
+        ensures ok { OnOk result (self.new.unsent ≡ self.old.unsent ++ tsdu.items ∷ []) }
+        ensures err { OnErr result (self.new ≡ self.old) }
+    {
+        self.queue.push_back(tsdu)?;
+        Ok(())
+    }
+
+    /// Puts a copy of a TSDU behind those that are to be sent.
+    pub fn add_copy(&mut self, tsdu: &[u8]) -> Result<(), AllocError>
+        ensures ok { OnOk result (self.new.unsent ≡ self.old.unsent ++ tsdu.now ∷ []) }
+        ensures err { OnErr result (self.new ≡ self.old) }
+    {
+        let octets = Vec::from_slice(self.alloc, tsdu)?;
+        self.add(octets)
+    }
+
+    /// Goes to the next part, of `limit` octets or fewer, and says whether it ends its TSDU. An
+    /// empty TSDU is one part with no octet. Takes no memory.
+    pub fn advance(&mut self, limit: usize) -> Option<bool>
+        ensures given { give limit self.old.unsent ≡ option_map (λ last. ((last, self.new.part), self.new.unsent)) result }
+        ensures none { IfNone result ((self.old.unsent ≡ []) × (self.new.unsent ≡ [])) }
+    {
+        if !self.has_more {
+            let tsdu = self.queue.pop_front()?;
+            self.current = tsdu;
+            self.to = 0;
+            self.has_more = true;
+        }
+        self.from = self.to;
+        if self.current.len() - self.from > limit {
+            self.to = self.from + limit;
+            return Some(false);
+        }
+        self.to = self.current.len();
+        self.has_more = false;
+        Some(true)
+    }
+
+    /// The octets of the part that [`Outgoing::advance`] went to last.
+    pub fn part(&self) -> &[u8]
+        ensures { result.now ≡ self.now.part }
+    {
+        &self.current[self.from..self.to]
+    }
+}
