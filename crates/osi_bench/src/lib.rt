@@ -1,6 +1,7 @@
 //! The work that the benchmarks time, as C functions over octets and numbers.
 #![tactic(auto)]
 
+mod tsdus;
 mod units;
 
 use osi_tpkt::Cutter;
@@ -62,6 +63,18 @@ pub extern "C" fn osi_bench_units(packets: &[u8], lengths: &[usize]) -> u64 {
         };
         sum = sum.with_packet(packet);
         rest = behind;
+    }
+    sum.number()
+}
+
+/// Reads a TSDU so many times, and answers a number of what was seen. Where the number is 0 so far,
+/// a round reads no octet in place of the TSDU: so each round needs the one before it.
+#[unsafe(no_mangle)]
+pub extern "C" fn osi_bench_tsdus(tsdu: &[u8], rounds: usize) -> u64 {
+    let mut sum = Sum::zero().with(1, 1);
+    for _ in 0..rounds {
+        let octets = if sum.number() == 0 { &[] } else { tsdu };
+        sum = sum.with_tsdu(octets);
     }
     sum.number()
 }

@@ -20,8 +20,13 @@ impl Sum {
         self.0
     }
 
-    // With one more field.
-    fn with(self, weight: u64, field: u64) -> Self {
+    /// Before one more unit: what was seen earlier weighs more, so that the order counts.
+    pub(crate) fn later(self) -> Self {
+        Sum(self.0.wrapping_mul(31))
+    }
+
+    /// With one more field.
+    pub(crate) fn with(self, weight: u64, field: u64) -> Self {
         Sum(self.0.wrapping_add(weight.wrapping_mul(field)))
     }
 
@@ -119,7 +124,7 @@ impl Sum {
 
     // With one more unit, whose place among the others counts too.
     fn with_unit(self, unit: &Tpdu<'_>) -> Self {
-        let before = Sum(self.0.wrapping_mul(31));
+        let before = self.later();
         match unit {
             Tpdu::Cr(r) => before.with_request(r),
             Tpdu::Cc(c) => before.with_confirm(c),
@@ -141,9 +146,7 @@ impl Sum {
             TpduFault::BadParameterValue(at) => (104, at),
             TpduFault::DuplicateParameter(at) => (105, at),
         };
-        Sum(self.0.wrapping_mul(31))
-            .with(1, kind)
-            .with(53, at as u64)
+        self.later().with(1, kind).with(53, at as u64)
     }
 
     /// With the units of one more packet.

@@ -1,0 +1,87 @@
+/* Reads a TSDU many times: the proved reader, in ns each. */
+#include <stdint.h>
+#include <stdio.h>
+#include <time.h>
+
+/* A slice is passed as a pointer and a length. */
+uint64_t osi_bench_tsdus(const uint8_t *tsdu, size_t length, size_t rounds);
+
+#define ROUNDS 10000
+#define RUNS 201
+#define DATA 1000
+
+static double now(void)
+{
+    struct timespec t;
+    clock_gettime(CLOCK_MONOTONIC, &t);
+    return (double)t.tv_sec + (double)t.tv_nsec * 1e-9;
+}
+
+/* What a unit is to be: its SI, the length of its user information, and two serial numbers plus 1, 0 for none. */
+struct unit {
+    unsigned si, information, number, initial;
+};
+
+struct work {
+    const char *name;
+    const uint8_t *octets;
+    size_t length;
+    size_t count;
+    struct unit units[2];
+};
+
+/* The number of what is to be seen in so many rounds, in 64 bits. */
+static uint64_t expected(const struct work *w, size_t rounds)
+{
+    uint64_t sum = 1;
+    for (size_t i = 0; i < rounds; i++)
+        for (size_t k = 0; k < w->count; k++) {
+            const struct unit *u = &w->units[k];
+            sum = sum * 31 + u->si + 3 * (uint64_t)u->information + 5 * (uint64_t)u->number
+                + 7 * (uint64_t)u->initial;
+        }
+    return sum;
+}
+
+/* Prints the best of many runs, and tells whether each saw what it is to see. */
+static int report(const struct work *w)
+{
+    const uint64_t wanted = expected(w, ROUNDS);
+    double best = 1e9;
+    for (int i = 0; i < RUNS; i++) {
+        double start = now(), taken;
+        uint64_t seen = osi_bench_tsdus(w->octets, w->length, ROUNDS);
+        taken = (now() - start) * 1e9 / ROUNDS;
+        if (seen != wanted)
+            return 0;
+        if (taken < best)
+            best = taken;
+    }
+    printf("%16s %8zu %8zu %8.2f\n", w->name, w->length, w->count, best);
+    return 1;
+}
+
+int main(void)
+{
+    /* A GT with no token and a DT, then octets of any value. */
+    static uint8_t data[DATA] = {1, 0, 1, 0};
+    /* Protocol options, version 2, first number 1 and token setting in their group, and functional units. */
+    static const uint8_t connect[] = {0x0D, 0x12, 0x05, 0x0C, 0x13, 1, 0, 0x16, 1, 2,
+                                      0x17, 1,    0x31, 0x1A, 1,    0, 0x14, 2, 0, 0xB9};
+    /* A GT with no token and a MIP with number 1. */
+    static const uint8_t minor[] = {1, 0, 0x31, 3, 0x2A, 1, 0x31};
+    static const struct work works[] = {
+        {"GT and DT", data, sizeof data, 2, {{1, 0, 0, 0}, {1, DATA - 4, 0, 0}}},
+        {"CN", connect, sizeof connect, 1, {{13, 0, 0, 2}}},
+        {"GT and MIP", minor, sizeof minor, 2, {{1, 0, 0, 0}, {49, 0, 2, 0}}},
+    };
+    int good = 1;
+    for (size_t i = 4; i < DATA; i++)
+        data[i] = (uint8_t)(i * 31);
+    printf("%16s %8s %8s %8s\n", "TSDU", "octets", "units", "ns");
+    for (size_t i = 0; i < sizeof works / sizeof works[0]; i++)
+        good = good && report(&works[i]);
+    if (!good)
+        fprintf(stderr, "what is seen is not what stands there\n");
+    return good ? 0 : 1;
+}
