@@ -1,6 +1,7 @@
 //! The work that the benchmarks time, as C functions over octets and numbers.
 #![tactic(auto)]
 
+mod links;
 mod tsdus;
 mod units;
 
@@ -77,4 +78,22 @@ pub extern "C" fn osi_bench_tsdus(tsdu: &[u8], rounds: usize) -> u64 {
         sum = sum.with_tsdu(octets);
     }
     sum.number()
+}
+
+/// Moves a TSDU so many times over a pair of links of class 2, or of class 0, and answers a number
+/// of what was handed out.
+#[unsafe(no_mangle)]
+pub extern "C" fn osi_bench_links(
+    alloc: Global,
+    tsdu: &[u8],
+    rounds: usize,
+    class_two: bool,
+) -> u64 {
+    if !class_two {
+        return links::over_class0(alloc, tsdu, rounds).number();
+    }
+    match links::over_class2(alloc, tsdu, rounds) {
+        Some(moved) => moved.number(),
+        None => 0,
+    }
 }

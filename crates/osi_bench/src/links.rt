@@ -1,0 +1,126 @@
+//! TSDUs that go over a pair of links, of which one sends and one receives.
+
+use osi_class::{Class0, Class2, Link, Out};
+use osi_tpdu::{DataAcknowledgement, DataClass0, DataClass2, SizeCode, Tpdu, Window};
+use std::alloc::Global;
+
+/// The reference that each unit of class 2 is for.
+const REFERENCE: u16 = 1;
+
+/// What was handed out: TSDUs and their octets, each modulo 2^64.
+#[derive(Clone, Copy)]
+pub(crate) struct Moved {
+    tsdus: u64,
+    octets: u64,
+}
+
+impl Moved {
+    /// Nothing was handed out.
+    fn nothing() -> Self {
+        Moved {
+            tsdus: 0,
+            octets: 0,
+        }
+    }
+
+    /// The number of what was handed out.
+    pub(crate) fn number(self) -> u64 {
+        self.tsdus.wrapping_mul(1_000_003).wrapping_add(self.octets)
+    }
+
+    // With one more TSDU.
+    fn with(self, tsdu: &[u8]) -> Self {
+        Moved {
+            tsdus: self.tsdus.wrapping_add(1),
+            octets: self.octets.wrapping_add(tsdu.len() as u64),
+        }
+    }
+}
+
+/// Hands the next unit of one end to the other; false where there is none, or it is refused.
+fn pass_class0(from: &mut Class0, to: &mut Class0) -> bool {
+    match from.next_out() {
+        Some(Out::Data { end, octets, .. }) => to
+            .take(&Tpdu::Dt0(DataClass0 { end, user: octets }))
+            .is_ok(),
+        _ => false,
+    }
+}
+
+/// Hands the next unit of one end to the other; false where there is none, or it is refused.
+fn pass_class2(from: &mut Class2, to: &mut Class2) -> bool {
+    let unit = match from.next_out() {
+        None => return false,
+        Some(
+            Out::Data {
+                end,
+                number,
+                octets,
+            },
+        ) => Tpdu::Dt2(DataClass2 {
+            destination: REFERENCE,
+            number,
+            end,
+            user: octets,
+        }),
+        Some(Out::Ack { number, credit }) => Tpdu::Ak(DataAcknowledgement {
+            credit,
+            destination: REFERENCE,
+            number,
+        }),
+    };
+    to.take(&unit).is_ok()
+}
+
+/// Moves a TSDU over two ends of class 0. A unit has at least one octet, or it is the only one.
+fn move_class0(from: &mut Class0, to: &mut Class0, tsdu: &[u8]) -> Option<Vec<u8>> {
+    from.send_tsdu(tsdu).ok()?;
+    for _ in 0..=tsdu.len() {
+        if !pass_class0(from, to) {
+            break;
+        }
+    }
+    to.next_tsdu()
+}
+
+/// Moves a TSDU over two ends of class 2. For each unit an Ack goes back.
+fn move_class2(from: &mut Class2, to: &mut Class2, tsdu: &[u8]) -> Option<Vec<u8>> {
+    from.send_tsdu(tsdu).ok()?;
+    for _ in 0..=tsdu.len() {
+        if !pass_class2(from, to) || !pass_class2(to, from) {
+            break;
+        }
+    }
+    to.next_tsdu()
+}
+
+/// Moves a TSDU so many times over a pair of links of class 0.
+pub(crate) fn over_class0(alloc: Global, tsdu: &[u8], rounds: usize) -> Moved {
+    let mut from = Class0::new(alloc, SizeCode::new(13));
+    let mut to = Class0::new(alloc, SizeCode::new(13));
+    let mut moved = Moved::nothing();
+    for _ in 0..rounds {
+        if let Some(whole) = move_class0(&mut from, &mut to, tsdu) {
+            moved = moved.with(whole.as_slice());
+        }
+    }
+    moved
+}
+
+/// A link of class 2 with the largest size, window and first credit.
+fn open_class2(alloc: Global) -> Option<Class2> {
+    Class2::new(alloc, SizeCode::new(13), Window::new(15)?, 15)
+}
+
+/// Moves a TSDU so many times over a pair of links of class 2.
+pub(crate) fn over_class2(alloc: Global, tsdu: &[u8], rounds: usize) -> Option<Moved> {
+    let mut from = open_class2(alloc)?;
+    let mut to = open_class2(alloc)?;
+    let mut moved = Moved::nothing();
+    for _ in 0..rounds {
+        if let Some(whole) = move_class2(&mut from, &mut to, tsdu) {
+            moved = moved.with(whole.as_slice());
+        }
+    }
+    Some(moved)
+}
