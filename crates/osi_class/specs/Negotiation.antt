@@ -2,7 +2,7 @@
 use Rattle.std.specs.Prelude.{ℕ, ◌/◌, ◌%◌, Bool, true, false, not, ◌&&◌, ◌||◌, ◌==◌, nat_le, List, Option, Some, None, option_map, option_copied, if◌then◌else◌}
 use Rattle.std.specs.List.{list_any, list_all}
 use Rattle.osi_tpdu.specs.Limits.{size_code}
-use Rattle.osi_tpdu.specs.declared.connect.ConnectRequest.{ConnectRequest}
+use Rattle.osi_tpdu.specs.declared.connect_request.ConnectRequest.{ConnectRequest}
 use Rattle.osi_tpdu.specs.declared.limits.SizeCode.{SizeCode}
 use Rattle.osi_class.specs.declared.terms.Local.{Local}
 use Rattle.osi_class.specs.declared.terms.Class.TheVariants.{Zero, Two}

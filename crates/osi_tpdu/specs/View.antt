@@ -1,8 +1,8 @@
 -- What the units that the code holds say.
 use Rattle.std.specs.Prelude.{option_map, option_copied}
 use Rattle.osi_tpdu.specs.declared.connect.ConnectParameters.{ConnectParameters}
-use Rattle.osi_tpdu.specs.declared.connect.ConnectRequest.{ConnectRequest}
-use Rattle.osi_tpdu.specs.declared.connect.ConnectConfirm.{ConnectConfirm}
+use Rattle.osi_tpdu.specs.declared.connect_request.ConnectRequest.{ConnectRequest}
+use Rattle.osi_tpdu.specs.declared.connect_confirm.ConnectConfirm.{ConnectConfirm}
 use Rattle.osi_tpdu.specs.declared.unit.Tpdu.{Tpdu}
 use Rattle.osi_tpdu.specs.declared.unit.Tpdu.TheVariants.{Cr, Cc, Dr, Dc, Dt0, Dt2, Ak, Er}
 use Rattle.osi_tpdu.specs.Limits.{size_code, selector_octets}

@@ -2,8 +2,14 @@
 //! they are read from one packet, and the one spelling in which each is written.
 #![tactic(auto)]
 
+mod acknowledgement;
 mod connect;
-mod disconnect;
+mod connect_confirm;
+mod connect_request;
+mod data_class_0;
+mod data_class_2;
+mod disconnect_confirm;
+mod disconnect_request;
 mod faults;
 mod grammar;
 pub mod laws;
@@ -13,18 +19,22 @@ mod packet;
 mod parameters;
 mod reading;
 mod report;
-mod transfer;
 mod tsaps;
 mod unit;
 mod writing;
 
-pub use connect::{ConnectConfirm, ConnectParameters, ConnectRequest};
-pub use disconnect::{DisconnectConfirm, DisconnectRequest};
+pub use acknowledgement::DataAcknowledgement;
+pub use connect::ConnectParameters;
+pub use connect_confirm::ConnectConfirm;
+pub use connect_request::ConnectRequest;
+pub use data_class_0::DataClass0;
+pub use data_class_2::DataClass2;
+pub use disconnect_confirm::DisconnectConfirm;
+pub use disconnect_request::DisconnectRequest;
 pub use faults::TpduFault;
 pub use limits::{SizeCode, Window};
 pub use packet::{Units, read_units};
 pub use report::ErrorReport;
-pub use transfer::{DataAcknowledgement, DataClass0, DataClass2};
 pub use tsaps::{Selector, Tsap};
 pub use unit::Tpdu;
 pub use writing::{write, written_len};

@@ -6,13 +6,17 @@ ghost use Rattle.osi_tpdu.specs.Value.{request, confirm};
 ghost use Rattle.osi_tpdu.specs.View.{request_content, confirm_content, value};
 ghost use Rattle.osi_tpdu.specs.Writing.{Fits};
 
-use crate::connect::{ConnectConfirm, ConnectRequest};
-use crate::disconnect::{DisconnectConfirm, DisconnectRequest};
+use crate::acknowledgement::DataAcknowledgement;
+use crate::connect_confirm::ConnectConfirm;
+use crate::connect_request::ConnectRequest;
+use crate::data_class_0::DataClass0;
+use crate::data_class_2::DataClass2;
+use crate::disconnect_confirm::DisconnectConfirm;
+use crate::disconnect_request::DisconnectRequest;
 use crate::faults::TpduFault;
 use crate::octets::{high_half, low_half, number, reference};
 use crate::parameters::{read_parameters, skip_parameters};
 use crate::report::ErrorReport;
-use crate::transfer::{DataAcknowledgement, DataClass0, DataClass2};
 use crate::unit::Tpdu;
 
 /// The greatest length indicator.

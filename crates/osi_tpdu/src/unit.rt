@@ -2,10 +2,14 @@ ghost use Rattle.std.specs.Prelude.{◌≡◌};
 ghost use Rattle.osi_tpdu.specs.Value.{may_be_followed};
 ghost use Rattle.osi_tpdu.specs.View.{value};
 
-use crate::connect::{ConnectConfirm, ConnectRequest};
-use crate::disconnect::{DisconnectConfirm, DisconnectRequest};
+use crate::acknowledgement::DataAcknowledgement;
+use crate::connect_confirm::ConnectConfirm;
+use crate::connect_request::ConnectRequest;
+use crate::data_class_0::DataClass0;
+use crate::data_class_2::DataClass2;
+use crate::disconnect_confirm::DisconnectConfirm;
+use crate::disconnect_request::DisconnectRequest;
 use crate::report::ErrorReport;
-use crate::transfer::{DataAcknowledgement, DataClass0, DataClass2};
 
 /// A transport unit (TPDU) of class 0 or 2 (X.224 section 13). Its octets lie where it was read.
 #[derive(Clone, Copy, PartialEq, Eq, Debug)]

@@ -10,13 +10,18 @@ ghost use Rattle.osi_tpdu.specs.Value.{request, confirm, disconnect, disconnecte
 ghost use Rattle.osi_tpdu.specs.View.{parameter_values, request_content, confirm_content, value};
 ghost use Rattle.osi_tpdu.specs.Writing.{items_of, written_items, written_header, written, HasRoom};
 
-use crate::connect::{ConnectConfirm, ConnectParameters, ConnectRequest};
-use crate::disconnect::{DisconnectConfirm, DisconnectRequest};
+use crate::acknowledgement::DataAcknowledgement;
+use crate::connect::ConnectParameters;
+use crate::connect_confirm::ConnectConfirm;
+use crate::connect_request::ConnectRequest;
+use crate::data_class_0::DataClass0;
+use crate::data_class_2::DataClass2;
+use crate::disconnect_confirm::DisconnectConfirm;
+use crate::disconnect_request::DisconnectRequest;
 use crate::limits::SizeCode;
 use crate::octets::{high_octet, low_octet, with_bit};
 use crate::parameters::{ADDITIONAL_OPTIONS, ALTERNATIVE_CLASSES, CALLED, CALLING, SIZE};
 use crate::report::ErrorReport;
-use crate::transfer::{DataAcknowledgement, DataClass0, DataClass2};
 use crate::tsaps::Selector;
 use crate::unit::Tpdu;
 use bytes::BytesMut;
