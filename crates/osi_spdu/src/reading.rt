@@ -39,6 +39,9 @@ fn placed_kind(second: bool, at: usize, si: u8) -> Result<Kind, SpduFault>
     Ok(kind)
 }
 
+// This and its callers are inlined: else the parameters of each unit would be moved through memory
+// on the way out.
+#[inline(always)]
 #[tactic(auto, unfolding(crate::specs::Reading::unit_at, crate::specs::Params::known_of))]
 fn unit_at<'a>(second: bool, at: usize, octets: &'a [u8]) -> Result<Found<'a>, SpduFault>
     requires { at + length octets.now < 2 ^ 64 }
@@ -64,6 +67,7 @@ fn unit_at<'a>(second: bool, at: usize, octets: &'a [u8]) -> Result<Found<'a>, S
 }
 
 /// A unit that was found has a written form.
+#[inline(always)]
 fn found_at<'a>(second: bool, at: usize, octets: &'a [u8]) -> Result<Found<'a>, SpduFault>
     requires { at + length octets.now < 2 ^ 64 }
     ensures value { Gives placed_of result (unit_at second at octets.now) }
@@ -75,6 +79,7 @@ fn found_at<'a>(second: bool, at: usize, octets: &'a [u8]) -> Result<Found<'a>, 
 }
 
 /// The unit behind one of category 0, with the user information of a DT.
+#[inline(always)]
 #[tactic(auto, unfolding(crate::specs::Writing::is_joined))]
 fn read_second<'a>(first: Spdu<'a>, at: usize, octets: &'a [u8]) -> Result<Group<'a>, SpduFault>
     requires room { at + length octets.now < 2 ^ 64 }
@@ -91,6 +96,7 @@ fn read_second<'a>(first: Spdu<'a>, at: usize, octets: &'a [u8]) -> Result<Group
     Ok(Group::pair(first, Spdu::new(second.kind, second.params)))
 }
 
+#[inline(always)]
 #[tactic(auto, unfolding(crate::specs::Reading::tsdu_at, crate::specs::Writing::is_joined))]
 fn read_all(octets: &[u8]) -> Result<Group<'_>, SpduFault>
     ensures { Gives units_of result (tsdu_at octets.now) }
@@ -109,6 +115,7 @@ fn read_all(octets: &[u8]) -> Result<Group<'_>, SpduFault>
 /// The session units of a TSDU, which they borrow. A fault is the first from left to right.
 ///
 /// X.225 section 8; sections 6.3.5 to 6.3.7 for what may stand together.
+#[inline(always)]
 pub fn read_tsdu(octets: &[u8]) -> Result<Group<'_>, SpduFault>
     // What is read is spelled so.
     ensures found { IfOk result (λ g. SpellsTsdu (units_of g) octets.now) }
