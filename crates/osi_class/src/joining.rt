@@ -57,7 +57,25 @@ impl Incoming {
                 Err(_) => Err(LinkFault::OutOfMemory),
             };
         }
+        if self.begun.is_empty() {
+            return self.take_whole(octets);
+        }
         self.finish(octets)
+    }
+
+    /// Takes a TSDU of which nothing was begun.
+    fn take_whole(&mut self, octets: &[u8]) -> Result<(), LinkFault>
+        requires begun { self.old.begun ≡ [] }
+        requires short { length octets.now ≤ 1048576 }
+        ensures { Takes result (joined self.old true octets.now) self.old self.new }
+    {
+        let Ok(tsdu) = Vec::from_slice(self.alloc, octets) else {
+            return Err(LinkFault::OutOfMemory);
+        };
+        match self.whole.push_back(tsdu) {
+            Ok(()) => Ok(()),
+            Err(_) => Err(LinkFault::OutOfMemory),
+        }
     }
 
     /// Takes the last part of a TSDU. The room for it among those that stand whole is made first.
@@ -72,10 +90,8 @@ impl Incoming {
             return Err(LinkFault::OutOfMemory);
         }
         let tsdu = mem::replace(&mut self.begun, Vec::new(self.alloc));
-        match self.whole.push_back(tsdu) {
-            Ok(()) => Ok(()),
-            Err(_) => unreachable!(),
-        }
+        self.whole.push_back_reserved(tsdu);
+        Ok(())
     }
 
     /// The first TSDU that stands whole. It is not copied.
