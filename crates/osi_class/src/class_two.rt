@@ -74,7 +74,7 @@ impl Link for Class2 {
     ghost standing = { λ l. two_standing l.ends l.flow };
 
     fn send_tsdu(&mut self, tsdu: &[u8]) -> Result<(), AllocError> {
-        self.outgoing.add_copy(tsdu)
+        self.outgoing.add(tsdu)
     }
 
     fn take(&mut self, unit: &Tpdu<'_>) -> Result<(), LinkFault> {

@@ -54,7 +54,7 @@ impl Link for Class0 {
     ghost standing = { zero_standing };
 
     fn send_tsdu(&mut self, tsdu: &[u8]) -> Result<(), AllocError> {
-        self.outgoing.add_copy(tsdu)
+        self.outgoing.add(tsdu)
     }
 
     fn take(&mut self, unit: &Tpdu<'_>) -> Result<(), LinkFault> {

@@ -45,25 +45,36 @@ impl Incoming {
 
     /// Takes a part of a TSDU, whose octets are copied once. A TSDU of over [`LONGEST_TSDU`] octets
     /// is `TsduTooLong`. After a fault nothing has changed.
+    #[inline(always)]
     pub fn join(&mut self, last: bool, octets: &[u8]) -> Result<(), LinkFault>
         ensures { Takes result (joined self.old last octets.now) self.old self.new }
     {
         if octets.len() > LONGEST_TSDU - self.begun.len() {
             return Err(LinkFault::TsduTooLong);
         }
-        if !last {
-            return match self.begun.extend_from_slice(octets) {
-                Ok(()) => Ok(()),
-                Err(_) => Err(LinkFault::OutOfMemory),
-            };
-        }
-        if self.begun.is_empty() {
+        if last && self.begun.is_empty() {
             return self.take_whole(octets);
         }
-        self.finish(octets)
+        self.take_part(last, octets)
     }
 
-    /// Takes a TSDU of which nothing was begun.
+    /// Takes a part that begins, continues or ends a TSDU of several.
+    #[inline(never)]
+    fn take_part(&mut self, last: bool, octets: &[u8]) -> Result<(), LinkFault>
+        requires { length self.old.begun + length octets.now ≤ 1048576 }
+        ensures { Takes result (joined self.old last octets.now) self.old self.new }
+    {
+        if last {
+            return self.finish(octets);
+        }
+        match self.begun.extend_from_slice(octets) {
+            Ok(()) => Ok(()),
+            Err(_) => Err(LinkFault::OutOfMemory),
+        }
+    }
+
+    /// Takes a TSDU that is one part, where nothing was begun.
+    #[inline(always)]
     fn take_whole(&mut self, octets: &[u8]) -> Result<(), LinkFault>
         requires begun { self.old.begun ≡ [] }
         requires short { length octets.now ≤ 1048576 }

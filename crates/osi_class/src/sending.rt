@@ -10,7 +10,8 @@ use std::marker::Model;
 #[derive(Drop)]
 pub struct Outgoing {
     alloc: Global,
-    /// The TSDU of which a part was given last. It is kept until the next begins.
+    /// The TSDU of which a part was given last. It is kept until the next begins, which is copied into
+    /// its room where it fits.
     current: Vec<u8>,
     /// Where the part that was given last begins in it.
     from: usize,
@@ -52,22 +53,38 @@ impl Outgoing {
         }
     }
 
-    /// Puts a TSDU behind those that are to be sent. It is not copied.
-    pub fn add(&mut self, tsdu: Vec<u8>) -> Result<(), AllocError>
-        ensures ok { OnOk result (self.new.unsent ≡ self.old.unsent ++ tsdu.items ∷ []) }
-        ensures err { OnErr result (self.new ≡ self.old) }
-    {
-        self.queue.push_back(tsdu)?;
-        Ok(())
-    }
-
     /// Puts a copy of a TSDU behind those that are to be sent.
-    pub fn add_copy(&mut self, tsdu: &[u8]) -> Result<(), AllocError>
+    pub fn add(&mut self, tsdu: &[u8]) -> Result<(), AllocError>
         ensures ok { OnOk result (self.new.unsent ≡ self.old.unsent ++ tsdu.now ∷ []) }
         ensures err { OnErr result (self.new ≡ self.old) }
     {
+        if !self.has_more && self.queue.is_empty() {
+            return self.begin(tsdu);
+        }
         let octets = Vec::from_slice(self.alloc, tsdu)?;
-        self.add(octets)
+        self.queue.push_back(octets)?;
+        Ok(())
+    }
+
+    /// Begins with a copy of a TSDU, where nothing is to be sent. It goes into the room of the TSDU
+    /// before it, if that is large enough.
+    fn begin(&mut self, tsdu: &[u8]) -> Result<(), AllocError>
+        requires { self.old.unsent ≡ [] }
+        ensures ok { OnOk result (self.new.unsent ≡ tsdu.now ∷ []) }
+        ensures err { OnErr result (self.new ≡ self.old) }
+    {
+        if self.current.capacity() < tsdu.len() {
+            let room = Vec::with_capacity(self.alloc, tsdu.len())?;
+            self.current = room;
+        }
+        self.current.clear();
+        if self.current.extend_from_slice(tsdu).is_err() {
+            unreachable!();
+        }
+        self.from = 0;
+        self.to = 0;
+        self.has_more = true;
+        Ok(())
     }
 
     /// Goes to the next part, of `limit` octets or fewer, and says whether it ends its TSDU. An
