@@ -95,6 +95,72 @@ const SECOND: [Kind; 16] = [
     Kind::Resynchronize,
 ];
 
+/// The codes that an RF knows.
+const OF_REFUSE: [Code; 6] = [
+    Code::ConnectionIdentifier,
+    Code::TransportDisconnect,
+    Code::UserRequirements,
+    Code::Version,
+    Code::Enclosure,
+    Code::Reason,
+];
+
+/// The codes that a CN knows.
+const OF_CONNECT: [Code; 7] = [
+    Code::ConnectionIdentifier,
+    Code::ConnectAcceptItem,
+    Code::UserRequirements,
+    Code::CallingSelector,
+    Code::CalledSelector,
+    Code::UserData,
+    Code::ExtendedUserData,
+];
+
+/// The codes that an AC knows.
+const OF_ACCEPT: [Code; 8] = [
+    Code::ConnectionIdentifier,
+    Code::ConnectAcceptItem,
+    Code::TokenItem,
+    Code::UserRequirements,
+    Code::Enclosure,
+    Code::CallingSelector,
+    Code::CalledSelector,
+    Code::UserData,
+];
+
+/// The codes that an AB knows.
+const OF_ABORT: [Code; 4] = [
+    Code::TransportDisconnect,
+    Code::Enclosure,
+    Code::Reflect,
+    Code::UserData,
+];
+
+/// The codes that an RA knows.
+const OF_RESYNCHRONIZE_ACK: [Code; 4] = [
+    Code::Enclosure,
+    Code::TokenSetting,
+    Code::Number,
+    Code::UserData,
+];
+
+/// The codes that a MAP or a MIP knows.
+const OF_SYNC_POINT: [Code; 4] = [
+    Code::SyncType,
+    Code::Enclosure,
+    Code::Number,
+    Code::UserData,
+];
+
+/// The codes that an RS knows.
+const OF_RESYNCHRONIZE: [Code; 5] = [
+    Code::Enclosure,
+    Code::TokenSetting,
+    Code::ResyncType,
+    Code::Number,
+    Code::UserData,
+];
+
 #[tactic(auto, unfolding(crate::specs::Codes::number_of, crate::specs::Kinds::si_of, crate::specs::Kinds::category_of, crate::specs::Kinds::codes_of, crate::specs::Kinds::members_of, crate::specs::Kinds::required_of))]
 impl Kind {
     /// The SPDU identifier, the first octet of the unit.
@@ -161,70 +227,19 @@ impl Kind {
             Kind::GiveTokens => &[Code::TokenItem],
             Kind::PleaseTokens => &[Code::TokenItem, Code::UserData],
             Kind::DataTransfer => &[Code::Enclosure],
-            Kind::NotFinished => &[Code::Enclosure, Code::UserData],
+            Kind::NotFinished | Kind::Disconnect => &[Code::Enclosure, Code::UserData],
             Kind::Finish => &[Code::TransportDisconnect, Code::Enclosure, Code::UserData],
-            Kind::Disconnect => &[Code::Enclosure, Code::UserData],
-            Kind::Refuse => &[
-                Code::ConnectionIdentifier,
-                Code::TransportDisconnect,
-                Code::UserRequirements,
-                Code::Version,
-                Code::Enclosure,
-                Code::Reason,
-            ],
-            Kind::Connect => &[
-                Code::ConnectionIdentifier,
-                Code::ConnectAcceptItem,
-                Code::UserRequirements,
-                Code::CallingSelector,
-                Code::CalledSelector,
-                Code::UserData,
-                Code::ExtendedUserData,
-            ],
-            Kind::Accept => &[
-                Code::ConnectionIdentifier,
-                Code::ConnectAcceptItem,
-                Code::TokenItem,
-                Code::UserRequirements,
-                Code::Enclosure,
-                Code::CallingSelector,
-                Code::CalledSelector,
-                Code::UserData,
-            ],
-            Kind::Abort => &[
-                Code::TransportDisconnect,
-                Code::Enclosure,
-                Code::Reflect,
-                Code::UserData,
-            ],
+            Kind::Refuse => &OF_REFUSE,
+            Kind::Connect => &OF_CONNECT,
+            Kind::Accept => &OF_ACCEPT,
+            Kind::Abort => &OF_ABORT,
             Kind::AbortAccept => &[],
-            Kind::ResynchronizeAck => &[
-                Code::Enclosure,
-                Code::TokenSetting,
-                Code::Number,
-                Code::UserData,
-            ],
-            Kind::MajorSyncPoint => &[
-                Code::SyncType,
-                Code::Enclosure,
-                Code::Number,
-                Code::UserData,
-            ],
-            Kind::MajorSyncAck => &[Code::Enclosure, Code::Number, Code::UserData],
-            Kind::MinorSyncPoint => &[
-                Code::SyncType,
-                Code::Enclosure,
-                Code::Number,
-                Code::UserData,
-            ],
-            Kind::MinorSyncAck => &[Code::Enclosure, Code::Number, Code::UserData],
-            Kind::Resynchronize => &[
-                Code::Enclosure,
-                Code::TokenSetting,
-                Code::ResyncType,
-                Code::Number,
-                Code::UserData,
-            ],
+            Kind::ResynchronizeAck => &OF_RESYNCHRONIZE_ACK,
+            Kind::MajorSyncPoint | Kind::MinorSyncPoint => &OF_SYNC_POINT,
+            Kind::MajorSyncAck | Kind::MinorSyncAck => {
+                &[Code::Enclosure, Code::Number, Code::UserData]
+            }
+            Kind::Resynchronize => &OF_RESYNCHRONIZE,
         }
     }
 
