@@ -101,9 +101,33 @@ static int append(struct octets *o, const uint8_t *more, size_t n)
     return 1;
 }
 
+/* Whether a message is copied into the room of the one before it, where it fits. */
+static bool keeps_room;
+
+/* Begins with a copy of a message, where nothing is to be sent, in the room of the one before it. */
+static int begin(struct link *l, const uint8_t *tsdu, size_t n)
+{
+    if (l->current.room < n) {
+        uint8_t *at = malloc(n);
+        if (at == NULL)
+            return 0;
+        free(l->current.at);
+        l->current.at = at;
+        l->current.room = n;
+    }
+    if (n > 0)
+        memcpy(l->current.at, tsdu, n);
+    l->current.length = n;
+    l->given = 0;
+    l->has_more = 1;
+    return 1;
+}
+
 /* Keeps a copy of a message, behind those that are to be sent. */
 static int send_tsdu(struct link *l, const uint8_t *tsdu, size_t n)
 {
+    if (keeps_room && !l->has_more && l->outgoing.count == 0)
+        return begin(l, tsdu, n);
     struct octets copy = {malloc(n > 0 ? n : 1), n, n};
     if (copy.at == NULL)
         return 0;
@@ -228,7 +252,7 @@ static void close_link(struct link *l)
 }
 
 /* Moves a TSDU so many times; in class 2 an AK goes back for each unit. */
-__attribute__((noinline)) static uint64_t move_by_hand(const uint8_t *tsdu, size_t n, size_t rounds, bool class_two)
+__attribute__((noinline)) static uint64_t move(const uint8_t *tsdu, size_t n, size_t rounds, bool class_two)
 {
     struct link from = {.class = class_two ? 2 : 0, .limit = LARGEST - (class_two ? 5 : 3), .credit = WINDOW};
     struct link to = from;
@@ -248,6 +272,20 @@ __attribute__((noinline)) static uint64_t move_by_hand(const uint8_t *tsdu, size
     return tsdus * 1000003 + octets;
 }
 
+/* Takes memory for each TSDU that is handed in. */
+static uint64_t move_by_hand(const uint8_t *tsdu, size_t n, size_t rounds, bool class_two)
+{
+    keeps_room = false;
+    return move(tsdu, n, rounds, class_two);
+}
+
+/* Copies a TSDU into the room of the one before it. */
+static uint64_t move_in_kept_room(const uint8_t *tsdu, size_t n, size_t rounds, bool class_two)
+{
+    keeps_room = true;
+    return move(tsdu, n, rounds, class_two);
+}
+
 static double now(void)
 {
     struct timespec t;
@@ -257,10 +295,10 @@ static double now(void)
 
 typedef uint64_t job(const uint8_t *, size_t, size_t, bool);
 
-#define JOBS 2
+#define JOBS 3
 #define RUNS 201
 
-static job *const jobs[JOBS] = {osi_bench_links, move_by_hand};
+static job *const jobs[JOBS] = {osi_bench_links, move_by_hand, move_in_kept_room};
 
 /* The least seconds of many runs of each job, which take turns. */
 static void times(const uint8_t *tsdu, size_t n, size_t rounds, bool class_two, double best[JOBS],
@@ -282,10 +320,15 @@ static int report(const uint8_t *tsdu, size_t n, size_t rounds, bool class_two)
 {
     double best[JOBS], octets = (double)n * (double)rounds;
     uint64_t answers[JOBS];
+    int good = 1;
     times(tsdu, n, rounds, class_two, best, answers);
-    printf("%6d %8zu %9.0f %9.0f %9.1f %9.1f %6.2f\n", class_two ? 2 : 0, n, octets / best[0] / 1e6,
-           octets / best[1] / 1e6, best[0] / (double)rounds * 1e9, best[1] / (double)rounds * 1e9, best[1] / best[0]);
-    return answers[0] == answers[1] && answers[0] == rounds * 1000003 + rounds * n;
+    printf("%6d %8zu", class_two ? 2 : 0, n);
+    for (int k = 0; k < JOBS; k++) {
+        printf(" %9.0f", octets / best[k] / 1e6);
+        good = good && answers[k] == rounds * 1000003 + rounds * n;
+    }
+    printf(" %9.1f %6.2f %6.2f\n", best[0] / (double)rounds * 1e9, best[1] / best[0], best[2] / best[0]);
+    return good;
 }
 
 int main(void)
@@ -295,7 +338,7 @@ int main(void)
     int good = tsdu != NULL;
     for (size_t i = 0; good && i < LONGEST; i++)
         tsdu[i] = (uint8_t)(i * 7);
-    printf("%6s %8s %9s %9s %9s %9s %6s\n", "class", "octets", "MB/s", "C MB/s", "ns/TSDU", "C ns", "/ C");
+    printf("%6s %8s %9s %9s %9s %9s %6s %6s\n", "class", "octets", "MB/s", "C", "C kept", "ns/TSDU", "/ C", "/ kept");
     for (int i = 0; good && i < 6; i++)
         good = report(tsdu, lengths[i / 2], rounds[i / 2], i % 2 == 1);
     free(tsdu);
