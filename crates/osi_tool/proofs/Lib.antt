@@ -1,5 +1,6 @@
 pub mod Consumption
 pub mod Digits
+pub mod Fields
 pub mod Joining
 pub mod Listings
 pub mod Names

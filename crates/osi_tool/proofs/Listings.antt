@@ -1,5 +1,5 @@
 -- The listing of units and packets, one after the other.
-use Rattle.std.proofs.Common.{◌≡◌, ℕ, Bool, true, false, ◌||◌, ◌+◌, ◌-◌, ◌<◌, ◌≤◌, ◌^◌, List, [], ◌∷◌, ◌++◌, length, take, drop, refl, sym, ◌∙◌, ap, subst, arith, option_to_list, if◌then◌else◌, Result, Ok, Err, IfOk}
+use Rattle.std.proofs.Common.{◌≡◌, ℕ, Bool, true, false, ◌||◌, ◌+◌, ◌-◌, ◌<◌, ◌≤◌, ◌^◌, List, [], ◌∷◌, ◌++◌, length, map, take, drop, refl, sym, ◌∙◌, ap, subst, arith, option_to_list, if◌then◌else◌, Result, Ok, Err, IfOk}
 use Rattle.std.specs.List.{flat_map, list_any}
 use mir.Val.{bool_byte}
 use Rattle.std.proofs.lemmas.List.{append_assoc, append-nil, length-append, take-append-drop}
@@ -10,10 +10,14 @@ use Rattle.osi_tpkt.specs.Stream.Ending.{Faulty, Rest}
 use Rattle.osi_tpkt.specs.declared.faults.TpktFault.{TpktFault}
 use Rattle.osi_tpdu.specs.Value.{Value}
 use Rattle.osi_tpdu.specs.Packet.{units_of}
-use Rattle.osi_tool.specs.Lines.{packet_length, packet_line, fault_line, rest_line}
+use Rattle.osi_spdu.specs.Known.{Contents, Units}
+use Rattle.osi_spdu.specs.Reading.{tsdu_at}
+use Rattle.osi_spdu.specs.declared.faults.SpduFault.{SpduFault}
+use Rattle.osi_tool.specs.Lines.{packet_length, packet_line, fault_line, rest_line, tsdu_line}
+use Rattle.osi_tool.specs.SessionLines.{session_line, session_fault_line}
 use Rattle.osi_tool.specs.Streams.{Part, part_of, parts_of}
-use Rattle.osi_tool.specs.Listing.{Entry, line_of, is_refused, part_entries, unit_entries, read_entries, read_parts, packet_entries, ending_entry, IsListing}
-use Rattle.osi_tool.specs.Listing.Entry.{Packet, TransportUnit}
+use Rattle.osi_tool.specs.Listing.{Entry, line_of, is_refused, each_of, session_entries, part_entries, unit_entries, read_entries, read_parts, packet_entries, ending_entry, IsListing}
+use Rattle.osi_tool.specs.Listing.Entry.{Packet, TransportUnit, Tsdu, SessionUnit, SessionFault}
 use Rattle.osi_tool.specs.Says.{Says, Holds}
 use Rattle.osi_tool.specs.declared.streams.Streams.{Streams}
 
@@ -47,6 +51,33 @@ says_one old new refused entry text told = record {
     or_false : (b : Bool) → b ≡ (b || false)
     or_false true = refl
     or_false false = refl
+
+-- the session units of a TSDU, and the fault of one that has none
+lines_of_units : (us : List Contents) → flat_map session_line us ≡ flat_map line_of (map SessionUnit us)
+unfolding line_of
+lines_of_units [] = refl
+lines_of_units (u ∷ us) = ap (λ t. session_line u ++ t) (lines_of_units us)
+
+none_refused : (us : List Contents) → false ≡ list_any is_refused (map SessionUnit us)
+unfolding is_refused
+none_refused [] = refl
+none_refused (u ∷ us) = none_refused us
+
+pub says_units : (old mid new octets : List ℕ) (units : Units) → mid ≡ old ++ tsdu_line (length octets) →
+    new ≡ mid ++ flat_map session_line (each_of units) → tsdu_at octets ≡ Ok units → Says old new false (Tsdu octets ∷ session_entries (tsdu_at octets))
+unfolding line_of is_refused
+says_units old mid new octets units first more read =
+    subst (λ r. Says old new false (Tsdu octets ∷ session_entries r)) (sym read)
+    (says_both old mid new false false (Tsdu octets ∷ []) (map SessionUnit (each_of units)) (says_one old mid false (Tsdu octets) first refl)
+    (record { text = more ∙ ap (λ t. mid ++ t) (lines_of_units (each_of units)); told = none_refused (each_of units) }))
+
+pub says_no_units : (old mid new octets : List ℕ) (f : SpduFault) → mid ≡ old ++ tsdu_line (length octets) → new ≡ mid ++ session_fault_line f →
+    tsdu_at octets ≡ Err f → Says old new true (Tsdu octets ∷ session_entries (tsdu_at octets))
+unfolding line_of is_refused
+says_no_units old mid new octets f first more read =
+    subst (λ r. Says old new true (Tsdu octets ∷ session_entries r)) (sym read)
+    (says_both old mid new false true (Tsdu octets ∷ []) (SessionFault f ∷ []) (says_one old mid false (Tsdu octets) first refl)
+    (says_one mid new true (SessionFault f) more refl))
 
 -- a unit, and then what it brings to its stream
 pub then_brought : {E : Type 0} (r : Result Bool E) (old mid new : List ℕ) (v : Value) (before : Streams) (brought : List Entry) →

@@ -1,5 +1,6 @@
 pub mod Capture
 pub mod Lines
+pub mod SessionLines
 pub mod Streams
 pub mod Joins
 pub mod Listing

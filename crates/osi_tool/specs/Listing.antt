@@ -1,5 +1,5 @@
 -- The listing of captured octets: what is listed, in order, and its lines.
-use Rattle.std.specs.Prelude.{◌≡◌, ℕ, ◌+◌, Bool, true, false, if◌then◌else◌, List, [], ◌∷◌, ◌++◌, length, Option, Some, None, option_to_list, Result, Ok, Err}
+use Rattle.std.specs.Prelude.{◌≡◌, ℕ, ◌+◌, Bool, true, false, if◌then◌else◌, List, [], ◌∷◌, ◌++◌, length, map, Option, Some, None, option_to_list, Result, Ok, Err}
 use Rattle.std.specs.List.{flat_map, list_any}
 use Rattle.osi_tpkt.specs.Stream.{Cuts, Ending}
 use Rattle.osi_tpkt.specs.Stream.Ending.{Faulty, Rest}
@@ -7,9 +7,13 @@ use Rattle.osi_tpkt.specs.declared.faults.TpktFault.{TpktFault}
 use Rattle.osi_tpdu.specs.Value.{Value}
 use Rattle.osi_tpdu.specs.Packet.{units_of}
 use Rattle.osi_tpdu.specs.declared.faults.TpduFault.{TpduFault}
+use Rattle.osi_spdu.specs.Known.{Contents, Units}
+use Rattle.osi_spdu.specs.Reading.{tsdu_at}
+use Rattle.osi_spdu.specs.declared.faults.SpduFault.{SpduFault}
 use Rattle.osi_tool.specs.Streams.{Part, part_of, parts_of, Outcome, brought, join_of}
 use Rattle.osi_tool.specs.Streams.Outcome.{Nothing, Whole, TooLong}
 use Rattle.osi_tool.specs.Lines.{packet_length, packet_line, fault_line, rest_line, unit_line, unit_fault_line, tsdu_line, too_long_line}
+use Rattle.osi_tool.specs.SessionLines.{session_line, session_fault_line}
 
 -- what stands on a line
 pub data Entry : Type 0 where
@@ -18,6 +22,8 @@ pub data Entry : Type 0 where
   TransportUnit : Value → Entry
   UnitFault : TpduFault → Entry
   Tsdu : List ℕ → Entry
+  SessionUnit : Contents → Entry
+  SessionFault : SpduFault → Entry
   TsduFault : Entry
   PacketFault : TpktFault → Entry
   Left : ℕ → Entry
@@ -27,6 +33,8 @@ line_of (Packet at u) = packet_line at u
 line_of (TransportUnit v) = unit_line v
 line_of (UnitFault f) = unit_fault_line f
 line_of (Tsdu octets) = tsdu_line (length octets)
+line_of (SessionUnit u) = session_line u
+line_of (SessionFault f) = session_fault_line f
 line_of TsduFault = too_long_line
 line_of (PacketFault f) = fault_line f
 line_of (Left n) = rest_line n
@@ -37,13 +45,24 @@ is_refused (Packet at u) = false
 is_refused (TransportUnit v) = false
 is_refused (UnitFault f) = true
 is_refused (Tsdu octets) = false
+is_refused (SessionUnit u) = false
+is_refused (SessionFault f) = true
 is_refused TsduFault = true
 is_refused (PacketFault f) = true
 is_refused (Left n) = false
 
+-- the units of a TSDU, one or two
+abbrev pub each_of : Units → List Contents
+each_of units = units.first ∷ option_to_list units.second
+
+-- the session units of a TSDU; one that is no group of them has the fault alone
+abbrev pub session_entries : Result Units SpduFault → List Entry
+session_entries (Ok units) = map SessionUnit (each_of units)
+session_entries (Err f) = SessionFault f ∷ []
+
 abbrev pub outcome_entries : Outcome → List Entry
 outcome_entries Nothing = []
-outcome_entries (Whole tsdu) = Tsdu tsdu ∷ []
+outcome_entries (Whole tsdu) = Tsdu tsdu ∷ session_entries (tsdu_at tsdu)
 outcome_entries TooLong = TsduFault ∷ []
 
 -- behind a data unit, what it brings to its stream

@@ -1,23 +1,29 @@
 ghost use Rattle.std.specs.Prelude.{◌≡◌, ◌++◌, ◌∷◌, ℕ, List, option_to_list, IfOk, OnOk};
+ghost use Rattle.std.specs.List.{flat_map};
 ghost use Rattle.osi_tpkt.specs.Packet.{IsFaultOf};
 ghost use Rattle.osi_tpdu.specs.Packet.{units_of};
 ghost use Rattle.osi_tpdu.specs.Units.{units_left};
 ghost use Rattle.osi_tpdu.specs.View.{value};
+ghost use Rattle.osi_spdu.specs.Groups.{units_of as units_in};
+ghost use Rattle.osi_spdu.specs.Reading.{tsdu_at};
 ghost use Rattle.osi_tool.specs.Joins.{outcome_value};
-ghost use Rattle.osi_tool.specs.Listing.{IsListing, outcome_entries, part_entries, unit_entries, read_entries, read_parts};
-ghost use Rattle.osi_tool.specs.Listing.Entry.{TransportUnit};
+ghost use Rattle.osi_tool.specs.Listing.{IsListing, each_of, session_entries, outcome_entries, part_entries, unit_entries, read_entries, read_parts};
+ghost use Rattle.osi_tool.specs.Listing.Entry.{TransportUnit, Tsdu};
+ghost use Rattle.osi_tool.specs.SessionLines.{session_line};
 ghost use Rattle.osi_tool.specs.Says.{Says, Holds};
 ghost use Rattle.osi_tool.specs.Streams.{Part, part_of, parts_of};
 
 use crate::lines::{push_fault, push_packet, push_rest, push_too_long, push_tsdu, push_unit_fault};
+use crate::session_lines::{push_session_fault, push_session_unit};
 use crate::streams::{Outcome, Streams};
 use crate::units::push_unit;
+use osi_spdu::{Group, read_tsdu};
 use osi_tpdu::{Tpdu, Units, read_units};
 use osi_tpkt::{Packet, TpktFault, Unit};
 use std::alloc::{AllocError, Global};
 
-/// Lists captured octets: a line for each packet, for each of its transport units and for each whole
-/// TSDU, and one for the fault or the rest behind the packets. The status is 1 where something was
+/// Lists captured octets: a line for each packet, for each of its transport units, for each whole
+/// TSDU and each of its session units, and one for the fault or the rest behind the packets. The status is 1 where something was
 /// refused, else 0.
 pub fn list(alloc: Global, text: &mut Vec<u8>, octets: &[u8]) -> Result<u8, AllocError>
     ensures { IfOk result (λ status. (lines : List ℕ) × (text.new.items ≡ text.old.items ++ lines)
@@ -114,23 +120,50 @@ fn list_unit(
 {
     push_unit(alloc, text, unit)?;
     let outcome = streams.take(alloc, unit)?;
-    list_outcome(text, &outcome)
+    list_outcome(alloc, text, &outcome)
 }
 
-/// Lists what a unit brought to its stream.
-fn list_outcome(text: &mut Vec<u8>, outcome: &Outcome) -> Result<bool, AllocError>
+/// Lists what a unit brought to its stream. Answers whether something was refused.
+fn list_outcome(alloc: Global, text: &mut Vec<u8>, outcome: &Outcome) -> Result<bool, AllocError>
     ensures { IfOk result (λ refused.
         Says text.old.items text.new.items refused (outcome_entries (outcome_value outcome.now))) }
 {
     match outcome {
         Outcome::Nothing => Ok(false),
-        Outcome::Whole(tsdu) => {
-            push_tsdu(text, tsdu.len() as u64)?;
-            Ok(false)
-        }
+        Outcome::Whole(tsdu) => list_tsdu(alloc, text, tsdu.as_slice()),
         Outcome::TooLong => {
             push_too_long(text)?;
             Ok(true)
         }
+    }
+}
+
+/// Lists a whole TSDU, and its session units or their fault alone. Answers whether it was refused.
+fn list_tsdu(alloc: Global, text: &mut Vec<u8>, tsdu: &[u8]) -> Result<bool, AllocError>
+    ensures { IfOk result (λ refused. Says text.old.items text.new.items refused
+        (Tsdu tsdu.now ∷ session_entries (tsdu_at tsdu.now))) }
+{
+    push_tsdu(text, tsdu.len() as u64)?;
+    match read_tsdu(tsdu) {
+        Ok(group) => {
+            push_session_units(alloc, text, &group)?;
+            Ok(false)
+        }
+        Err(fault) => {
+            push_session_fault(text, fault)?;
+            Ok(true)
+        }
+    }
+}
+
+/// Adds the lines of the session units of a TSDU.
+fn push_session_units(alloc: Global, text: &mut Vec<u8>, group: &Group) -> Result<(), AllocError>
+    ensures { OnOk result (text.new.items
+        ≡ text.old.items ++ flat_map session_line (each_of (units_in group.now))) }
+{
+    push_session_unit(alloc, text, group.first())?;
+    match group.second() {
+        None => Ok(()),
+        Some(second) => push_session_unit(alloc, text, &second),
     }
 }

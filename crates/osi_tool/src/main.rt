@@ -10,6 +10,7 @@ mod faults;
 mod jobs;
 mod lines;
 mod listing;
+mod session_lines;
 mod showing;
 mod streams;
 #[cfg(test)]
