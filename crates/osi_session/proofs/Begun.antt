@@ -1,0 +1,70 @@
+-- No unit goes back to awaiting the transport connection.
+use Rattle.std.proofs.Common.{◌≡◌, refl, Bool, true, false, not, ◌&&◌, ◌||◌, Option, Some, None, if◌then◌else◌}
+use Rattle.osi_session.specs.declared.phases.Phase.{Phase}
+use Rattle.osi_session.specs.declared.faults.UnitFault.{UnitFault}
+use Rattle.osi_session.specs.declared.state.State.{State}
+use Rattle.osi_session.specs.Phases.{is_wait_transport, is_aborting, is_ended, is_restarting}
+use Rattle.osi_session.specs.Meanings.{Meaning, CN, AC, RF, DT, GT, PT, MIP, MIA, MAP, MAA, RS, RA, FN, DN, NF, AB, AA}
+use Rattle.osi_session.specs.Reading.{Said, alone, behind}
+use Rattle.osi_session.specs.Respond.{Outcome, si, conditions, first_fault, is_expected, is_acceptable, is_resynchronize, stands, becomes, judged, take_expected, in_aborting, in_ended, has_no_effect, passes_restarting, respond_unit, respond}
+
+abbrev Begins : State → State → Type 0
+Begins s next = is_wait_transport next.phase ≡ true → is_wait_transport s.phase ≡ true
+
+chosen : (b : Bool) (s x y : State) → Begins s x → Begins s y → Begins s (if b then x else y)
+chosen true s x y h k = h
+chosen false s x y h k = k
+
+becomes_begun : (s : State) (u : Meaning) → Begins s (becomes s u)
+becomes_begun s (CN version_2 requirements serial wishes octets) = chosen (is_acceptable version_2 requirements) s _ _ (λ k. absurd (cc)) (λ k. absurd (cc))
+becomes_begun s (AC version_2 requirements serial sides octets) = λ k. absurd (cc)
+becomes_begun s (RF reason octets) = λ k. absurd (cc)
+becomes_begun s (DT octets) = λ k. k
+becomes_begun s (GT tokens) = λ k. k
+becomes_begun s (PT tokens octets) = λ k. k
+becomes_begun s (MIP confirm n octets) = λ k. k
+becomes_begun s (MIA n octets) = λ k. k
+becomes_begun s (MAP n octets) = λ k. absurd (cc)
+becomes_begun s (MAA n octets) = λ k. absurd (cc)
+becomes_begun s (RS kind n wishes octets) = chosen (stands s n) s _ _ (λ k. absurd (cc)) (λ k. k)
+becomes_begun s (RA n sides octets) = λ k. absurd (cc)
+becomes_begun s (FN octets) = λ k. absurd (cc)
+becomes_begun s (DN octets) = λ k. absurd (cc)
+becomes_begun s (NF octets) = λ k. absurd (cc)
+becomes_begun s (AB bits octets) = λ k. absurd (cc)
+becomes_begun s AA = λ k. k
+
+judged_begun : (s : State) (u : Meaning) (f : Option UnitFault) → Begins s (judged s u f).next
+judged_begun s u None = becomes_begun s u
+judged_begun s u (Some f) = λ k. absurd (cc)
+
+expected_begun : (s : State) (u : Meaning) → Begins s (take_expected s u).next
+unfolding take_expected
+expected_begun s u = judged_begun s u (first_fault (si u) (conditions s u))
+
+aborting_begun : (s : State) (u : Meaning) → Begins s (in_aborting s u).next
+aborting_begun s (AB bits octets) = λ k. absurd (cc)
+aborting_begun s AA = λ k. absurd (cc)
+aborting_begun s _ = λ k. k
+
+ended_begun : (s : State) (u : Meaning) → Begins s (in_ended s u).next
+ended_begun s (AB bits octets) = λ k. k
+ended_begun s _ = λ k. k
+
+either : (b : Bool) (s : State) (x y : Outcome) → Begins s x.next → Begins s y.next → Begins s (if b then x else y).next
+either true s x y h k = h
+either false s x y h k = k
+
+pub unit_begun : (s : State) (u : Meaning) → Begins s (respond_unit s u).next
+unfolding respond_unit
+unit_begun s u =
+    either (is_aborting s.phase) s _ _ (aborting_begun s u)
+      (either (is_ended s.phase) s _ _ (ended_begun s u)
+        (either (has_no_effect u || (is_restarting s.phase && not (passes_restarting u))) s _ _ (λ k. k)
+          (either (not (is_expected s.phase u)) s _ _ (λ k. absurd (cc)) (expected_begun s u))))
+
+pub respond_begun : (s : State) (said : Said) → is_wait_transport (respond s said).next.phase ≡ true → is_wait_transport s.phase ≡ true
+unfolding respond
+respond_begun s (alone u) k = unit_begun s u k
+respond_begun s (behind item u) k =
+    either (is_resynchronize u) s _ _ (unit_begun s u) (λ l. unit_begun s u (unit_begun (respond_unit s u).next item l)) k

@@ -1,0 +1,90 @@
+-- The table of calls never answers that memory is wanted, and sends no more user data than fits.
+use Rattle.std.proofs.Common.{◌≡◌, refl, sym, subst, ℕ, ◌≤◌, ◌<◌, Bool, true, false, not, ◌&&◌, ◌||◌, nat_le, nat_lt, List, [], ◌∷◌, length, Ok, Err, arith, if◌then◌else◌}
+use Rattle.std.proofs.lemmas.Bool.{leb-true}
+use Rattle.osi_session.specs.declared.faults.CallError.{CallError}
+use Rattle.osi_session.specs.declared.faults.CallError.TheVariants as error
+use Rattle.osi_session.specs.declared.state.State.{State}
+use Rattle.osi_session.specs.Phases.{is_over}
+use Rattle.osi_session.specs.Calls.{Call, Accept, Refuse, Data, Give, Please, Minor, MinorConfirm, Major, MajorConfirm, Restart, RestartConfirm, Release, ReleaseAccept, ReleaseRefuse, Abort}
+use Rattle.osi_session.specs.Allowed.{Test, Step, Answer, first_error, needs, may_call, octets_of, most_of, after, sends, met, sized, allowed}
+use Rattle.osi_session.specs.Sessions.{is_memory, Refused, RefusedBy}
+use Rattle.osi_session.specs.Written.{user_data_of}
+use Rattle.osi_session.proofs.Passed.{Passed, passed}
+
+abbrev AllNamed : List Test → Type 0
+AllNamed [] = Unit {0}
+AllNamed (t ∷ ts) = (is_memory t.1 ≡ false) × AllNamed ts
+
+if_named : (b : Bool) (a : Answer) (d e : CallError) → is_memory d ≡ false → (a ≡ Err e → is_memory e ≡ false)
+    → (if b then a else Err d) ≡ Err e → is_memory e ≡ false
+if_named true a d e n k h = k h
+if_named false a d e n k h = let same : d ≡ e = cc in subst (λ (x : CallError). is_memory x ≡ false) same n
+
+else_named : (b : Bool) (a : Answer) (d e : CallError) → is_memory d ≡ false → (a ≡ Err e → is_memory e ≡ false)
+    → (if b then Err d else a) ≡ Err e → is_memory e ≡ false
+else_named false a d e n k h = k h
+else_named true a d e n k h = let same : d ≡ e = cc in subst (λ (x : CallError). is_memory x ≡ false) same n
+
+tests_named : (ts : List Test) (a : Answer) (e : CallError) → AllNamed ts → (a ≡ Err e → is_memory e ≡ false)
+    → first_error ts a ≡ Err e → is_memory e ≡ false
+tests_named [] a e n k h = k h
+tests_named (t ∷ ts) a e n k h = if_named t.0 (first_error ts a) t.1 e n.0 (tests_named ts a e n.1 k) h
+
+needs_named : (s : State) (c : Call) → AllNamed (needs s c)
+needs_named s (Accept requirements serial sides octets) = (refl, tt)
+needs_named s (Refuse octets) = tt
+needs_named s (Data octets) = (refl, (refl, tt))
+needs_named s (Give tokens) = (refl, (refl, (refl, tt)))
+needs_named s (Please tokens octets) = (refl, (refl, (refl, tt)))
+needs_named s (Minor confirm octets) = (refl, (refl, (refl, tt)))
+needs_named s (MinorConfirm n octets) = (refl, (refl, tt))
+needs_named s (Major octets) = (refl, (refl, (refl, tt)))
+needs_named s (MajorConfirm octets) = tt
+needs_named s (Restart n wishes octets) = (refl, (refl, tt))
+needs_named s (RestartConfirm sides octets) = tt
+needs_named s (Release octets) = (refl, tt)
+needs_named s (ReleaseAccept octets) = tt
+needs_named s (ReleaseRefuse octets) = (refl, tt)
+needs_named s (Abort octets) = tt
+
+met_named : (s : State) (c : Call) (e : CallError) → met s c ≡ Err e → is_memory e ≡ false
+unfolding met
+met_named s c e h = tests_named (needs s c) _ e (needs_named s c) (λ k. absurd (cc)) h
+
+sized_named : (fits : Bool) (a : Answer) (e : CallError) → (a ≡ Err e → is_memory e ≡ false) → sized fits a ≡ Err e → is_memory e ≡ false
+sized_named fits (Ok x) e k h = if_named fits (Ok x) error.TooLong e refl (λ l. absurd (cc)) h
+sized_named fits (Err d) e k h = k h
+
+allowed_named : (s : State) (c : Call) (e : CallError) → allowed s c ≡ Err e → is_memory e ≡ false
+unfolding allowed
+allowed_named s c e h =
+    else_named (is_over s.phase) _ error.Ended e refl
+      (else_named (not (may_call s.phase c)) _ error.BadState e refl
+        (sized_named (nat_le (length (octets_of c)) (most_of c)) (met s c) e (met_named s c e))) h
+
+-- an error of the table is answered as it is
+pub refused : (s : State) (c : Call) (e : CallError) → allowed s c ≡ Err e → Refused e (allowed s c)
+refused s c e h = subst (λ (b : Bool). RefusedBy b e (allowed s c)) (sym (allowed_named s c e h)) h
+
+sends_short : (s : State) (c : Call) → nat_le (length (octets_of c)) (most_of c) ≡ true → length (user_data_of (sends s c)) < 65000
+unfolding user_data_of
+sends_short s (Accept requirements serial sides octets) h = let k = leb-true (length octets) 10240 h in omega arith
+sends_short s (Refuse octets) h = let k = leb-true (length octets) 10240 h in omega arith
+sends_short s (Data octets) h = omega arith
+sends_short s (Give tokens) h = omega arith
+sends_short s (Please tokens octets) h = let k = leb-true (length octets) 10240 h in omega arith
+sends_short s (Minor confirm octets) h = let k = leb-true (length octets) 10240 h in omega arith
+sends_short s (MinorConfirm n octets) h = let k = leb-true (length octets) 10240 h in omega arith
+sends_short s (Major octets) h = let k = leb-true (length octets) 10240 h in omega arith
+sends_short s (MajorConfirm octets) h = let k = leb-true (length octets) 10240 h in omega arith
+sends_short s (Restart n wishes octets) h = let k = leb-true (length octets) 10240 h in omega arith
+sends_short s (RestartConfirm sides octets) h = let k = leb-true (length octets) 10240 h in omega arith
+sends_short s (Release octets) h = let k = leb-true (length octets) 10240 h in omega arith
+sends_short s (ReleaseAccept octets) h = let k = leb-true (length octets) 10240 h in omega arith
+sends_short s (ReleaseRefuse octets) h = let k = leb-true (length octets) 10240 h in omega arith
+sends_short s (Abort octets) h = let k = leb-true (length octets) 10240 h in omega arith
+
+pub sent_short : (s : State) (c : Call) (x : Step) → allowed s c ≡ Ok x → length (user_data_of x.sent) < 65000
+sent_short s c x h =
+    let q = passed s c x h in
+    subst (λ (y : Step). length (user_data_of y.sent) < 65000) (sym q.gives) (sends_short s c q.size)

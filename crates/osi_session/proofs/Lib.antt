@@ -1,0 +1,12 @@
+pub mod Begun
+pub mod CallLaws
+pub mod GroupLaws
+pub mod Passed
+pub mod PhaseLaws
+pub mod ReadingLaws
+pub mod SessionLaws
+pub mod SoundCalls
+pub mod SoundNumbers
+pub mod SoundUnits
+pub mod TokenLaws
+pub mod WritingLaws

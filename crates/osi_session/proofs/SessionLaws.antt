@@ -1,0 +1,83 @@
+-- What is true of a session in memory.
+use Rattle.std.proofs.Common.{◌≡◌, refl, sym, subst, ℕ, if◌then◌else◌, ◌<◌, ◌≤◌, Bool, true, false, Option, Some, None, Ok, arith}
+use Rattle.osi_spdu.specs.declared.serials.Serial.{Serial}
+use Rattle.osi_session.specs.declared.requests.Request.{Request}
+use Rattle.osi_session.specs.declared.requests.Request.TheVariants as request
+use Rattle.osi_session.specs.declared.messages.Message.{Message}
+use Rattle.osi_session.specs.declared.messages.Message.TheVariants as message
+use Rattle.osi_session.specs.declared.state.State.{State}
+use Rattle.osi_session.specs.Phases.{is_wait_transport, in_major, is_restart_due}
+use Rattle.osi_session.specs.Sound.{IsSound, AreOrdered}
+use Rattle.osi_session.specs.Calls.{HasSerial, called_by}
+use Rattle.osi_session.specs.Meanings.{meant_by}
+use Rattle.osi_session.specs.Numbered.{IsSmall, IsNumbered, AreNumbered}
+use Rattle.osi_session.specs.Allowed.{Step, allowed}
+use Rattle.osi_session.specs.declared.opening.Opening.{Opening}
+use Rattle.osi_session.specs.declared.numbers.Numbers.{Numbers}
+use Rattle.osi_session.specs.Numbers.{from_base}
+use Rattle.osi_session.specs.Tokens.{no_token}
+use Rattle.osi_session.specs.Units.{functional_units, has_points}
+use Rattle.osi_session.specs.Meanings.{Meaning}
+use Rattle.osi_session.specs.declared.grouping.Messages.{Messages}
+use Rattle.osi_session.specs.Reading.{Said}
+use Rattle.osi_session.specs.Steps.{said_with, said_in}
+use Rattle.osi_session.specs.Respond.{Outcome, respond}
+use Rattle.osi_session.specs.Sessions.{awaiting, asking}
+use Rattle.osi_session.proofs.SoundCalls.{call_sound, call_begun}
+use Rattle.osi_session.proofs.SoundNumbers.{from_ordered}
+use Rattle.osi_session.proofs.SoundUnits.{respond_sound}
+use Rattle.osi_session.proofs.Begun.{respond_begun}
+
+-- the number of an Accept in memory is one that a point may have
+pub request_small : (r : Request) → HasSerial (called_by r)
+request_small (request.Accept requirements serial sides octets) = let s = serial.small in omega arith
+request_small _ = tt
+
+pub request_sound : (s : State) (r : Request) (x : Step) → allowed s (called_by r) ≡ Ok x → IsSound s → IsSound x.next
+request_sound s r x h sound = call_sound s (called_by r) x (request_small r) h sound
+
+pub request_begun : (s : State) (r : Request) (x : Step) → allowed s (called_by r) ≡ Ok x → is_wait_transport x.next.phase ≡ false
+request_begun s r x h = call_begun s (called_by r) x h
+
+-- the numbers in a unit in memory are those that a point may have
+pub meant_numbered : (m : Message) → IsNumbered (meant_by m)
+meant_numbered (message.Connect version_2 requirements None wishes octets) = tt
+meant_numbered (message.Connect version_2 requirements (Some serial) wishes octets) = serial.small
+meant_numbered (message.Accept version_2 requirements None sides octets) = tt
+meant_numbered (message.Accept version_2 requirements (Some serial) sides octets) = serial.small
+meant_numbered (message.MinorPoint confirm number octets) = number.small
+meant_numbered (message.MinorAck number octets) = number.small
+meant_numbered (message.MajorPoint number octets) = number.small
+meant_numbered (message.MajorAck number octets) = number.small
+meant_numbered (message.Restart kind number wishes octets) = number.small
+meant_numbered (message.RestartAck number sides octets) = number.small
+meant_numbered _ = tt
+
+said_numbered : (first : Message) (second : Option Message) → AreNumbered (said_with (meant_by first) second)
+said_numbered first None = meant_numbered first
+said_numbered first (Some second) = (meant_numbered first, meant_numbered second)
+
+pub group_sound : (s : State) (m : Messages) (o : Outcome) → respond s (said_in m) ≡ o → IsSound s → IsSound o.next
+group_sound s m o e h = subst (λ (x : Outcome). IsSound x.next) e (respond_sound s (said_in m) (said_numbered m.first m.second) h)
+
+pub group_begun : (s : State) (said : Said) (o : Outcome) → respond s said ≡ o
+    → is_wait_transport o.next.phase ≡ true → is_wait_transport s.phase ≡ true
+group_begun s said o e = subst (λ (x : Outcome). is_wait_transport x.next.phase ≡ true → is_wait_transport s.phase ≡ true) e (respond_begun s said)
+
+-- before any point
+pub at_first : (s : State) → s.base ≡ 0 → s.numbers ≡ from_base 0 → s.proposed < 1000000 → in_major s.phase ≡ false → is_restart_due s.phase ≡ false
+    → s.held ≡ no_token → IsSound s
+at_first s b n p m r t = record {
+  ordered = subst (λ (v : Numbers). AreOrdered s.base v) (sym n) (subst (λ (x : ℕ). AreOrdered x (from_base 0)) (sym b) (from_ordered 0 (omega arith)));
+  first = p;
+  major = λ k. absurd (cc); restart = λ k. absurd (cc); tokens = λ k. t }
+
+pub awaiting_sound : IsSound awaiting
+awaiting_sound = at_first awaiting refl refl (omega arith) refl refl refl
+
+first_small : (b : Bool) (n : ℕ) → n ≤ 999999 → (if b then n else 0) < 1000000
+first_small true n h = omega arith
+first_small false n h = omega arith
+
+pub asking_sound : (o : Opening) → IsSound (asking o)
+asking_sound o = at_first (asking o) refl refl (first_small (has_points (functional_units o.requirements.0)) o.serial.number o.serial.small) refl refl refl

@@ -1,0 +1,162 @@
+-- What is true of a session at all times is true after each unit.
+use Rattle.std.proofs.Common.{◌≡◌, refl, sym, ◌∙◌, ap, subst, ℕ, ◌+◌, ◌≤◌, ◌<◌, Bool, true, false, not, ◌&&◌, ◌||◌, ◌==◌, nat_le, nat_lt, List, [], ◌∷◌, Option, Some, None, unwrap_or, arith, if◌then◌else◌}
+use Rattle.std.proofs.lemmas.Bool.{leb-true, ltb-true, and_parts}
+use Rattle.osi_spdu.specs.declared.settings.TokenSetting.{TokenSetting}
+use Rattle.osi_session.specs.declared.phases.Phase.{Phase}
+use Rattle.osi_session.specs.declared.phases.Phase.TheVariants.{WaitTransport, WaitCn, Connecting, Answering, Ready, MajorAsked, MajorDue, Releasing, ReleaseDue, Restarting, RestartDue, Aborting, Ended}
+use Rattle.osi_session.specs.declared.faults.UnitFault.{UnitFault}
+use Rattle.osi_session.specs.declared.faults.UnitFault.TheVariants.{Unexpected}
+use Rattle.osi_session.specs.declared.state.State.{State}
+use Rattle.osi_session.specs.declared.selected.FunctionalUnits.{FunctionalUnits}
+use Rattle.osi_session.specs.Units.{functional_units, both_units, has_points}
+use Rattle.osi_session.specs.Numbers.{point_taken, minor_confirmed, major_confirmed, restarted_at}
+use Rattle.osi_session.specs.Phases.{in_major, is_restart_due, may_hold, may_ask, is_ready, is_wait_cn, is_major_asked, is_aborting, is_ended, is_restarting, takes_minor_ack, takes_restart, is_wait_transport}
+use Rattle.osi_session.specs.State.{without_tokens}
+use Rattle.osi_session.specs.Sound.{IsSound}
+use Rattle.osi_session.specs.Meanings.{Meaning, CN, AC, RF, DT, GT, PT, MIP, MIA, MAP, MAA, RS, RA, FN, DN, NF, AB, AA}
+use Rattle.osi_session.specs.Reading.{Said, alone, behind}
+use Rattle.osi_session.specs.Numbered.{IsSmall, IsNumbered, AreNumbered}
+use Rattle.osi_session.specs.Respond.{Outcome, Condition, si, conditions, first_fault, is_expected, is_acceptable, is_acknowledgeable, is_resynchronize, agreed_base, stands, becomes, good, bad, nothing, judged, take_expected, in_aborting, in_ended, has_no_effect, passes_restarting, respond_unit, and_then, respond}
+use Rattle.osi_session.proofs.PhaseLaws.{implied, excluded}
+use Rattle.osi_session.proofs.SoundNumbers.{taken_ordered, minor_ordered, major_ordered, restart_ordered}
+use Rattle.osi_session.proofs.SoundCalls.{bare, holding_phase, moved, opened}
+
+abbrev pub AllMet : List Condition → Type 0
+AllMet [] = Unit {0}
+AllMet (c ∷ cs) = (c.0 ≡ true) × AllMet cs
+
+none_if : (b : Bool) (a : Option UnitFault) (f : UnitFault) → (if b then a else Some f) ≡ None → (b ≡ true) × (a ≡ None)
+none_if true a f h = (refl, h)
+none_if false a f h = absurd (cc)
+
+pub all_met : (n : ℕ) (cs : List Condition) → first_fault n cs ≡ None → AllMet cs
+all_met n [] h = tt
+all_met n (c ∷ cs) h = let one = none_if c.0 (first_fault n cs) (c.1 n) h in (one.0, all_met n cs one.1)
+
+chosen : (b : Bool) (x y : State) → IsSound x → IsSound y → IsSound (if b then x else y)
+chosen true x y h k = h
+chosen false x y h k = k
+
+base_small : (b : Bool) (serial : Option ℕ) (proposed : ℕ) → IsSmall serial → proposed < 1000000 → (if b then unwrap_or serial proposed else 0) ≤ 1000000
+base_small true None proposed h k = omega arith
+base_small true (Some n) proposed h k = omega arith
+base_small false serial proposed h k = omega arith
+
+first_small : (serial : Option ℕ) → IsSmall serial → unwrap_or serial 0 < 1000000
+first_small None h = omega arith
+first_small (Some n) h = omega arith
+
+below : (b : Bool) (n next : ℕ) → (if b then nat_lt (n + 1) next else nat_lt n next) ≡ true → n < next
+below true n next h = let k = ltb-true (n + 1) next h in omega arith
+below false n next h = ltb-true n next h
+
+minor_moved : (s : State) (n : ℕ) → is_acknowledgeable s n ≡ true → takes_minor_ack s.phase ≡ true → IsSound s
+    → IsSound (record s { numbers = minor_confirmed n s.numbers })
+unfolding minor_confirmed
+minor_moved s n c p h =
+    let a = (and_parts _ _ c).1 in
+    let from = leb-true s.numbers.confirmed n (and_parts _ _ a).0 in
+    let to = below (is_major_asked s.phase) n s.numbers.next (and_parts _ _ a).1 in
+    moved (minor_confirmed n s.numbers) s (minor_ordered s.base n s.numbers h.ordered from to) h.major
+      (excluded takes_minor_ack is_restart_due (refl, refl, refl, refl, refl, refl, refl, refl, refl, refl, refl, refl, refl) s.phase p) h
+
+restart_moved : (s : State) (n : ℕ) (w : TokenSetting) → s.base ≤ n → n ≤ 999999 → IsSound s
+    → IsSound (record (without_tokens RestartDue s) { wishes = w; numbers = restarted_at n s.numbers })
+unfolding restarted_at
+restart_moved s n w from small h = record {
+  ordered = restart_ordered s.base n s.numbers h.ordered from (omega arith); first = h.first;
+  major = λ k. absurd (cc); restart = λ k. omega arith; tokens = λ k. refl }
+
+major_moved : (s : State) → s.numbers.next < 1000000 → IsSound s
+    → IsSound (record s { phase = MajorDue; numbers = point_taken s.numbers })
+unfolding point_taken
+major_moved s left h =
+    let from = h.ordered.confirmed_from in let to = h.ordered.confirmed_to in
+    record {
+      ordered = taken_ordered s.base s.numbers h.ordered left; first = h.first;
+      major = λ k. omega arith; restart = λ k. absurd (cc); tokens = λ k. absurd (cc) }
+
+major_same : (s : State) → IsSound s → in_major s.phase ≡ true → s.base < (major_confirmed s.numbers).next
+unfolding major_confirmed
+major_same s h k = h.major k
+
+same_small : (n next : ℕ) → (n == next) ≡ true → n ≤ 999999 → next < 1000000
+same_small n next e h = grind arith
+
+-- the state after a good unit
+pub becomes_sound : (s : State) (u : Meaning) → IsNumbered u → is_expected s.phase u ≡ true → AllMet (conditions s u) → IsSound s → IsSound (becomes s u)
+becomes_sound s (CN version_2 requirements serial wishes octets) small p t h =
+    chosen (is_acceptable version_2 requirements) _ _
+      (record { ordered = h.ordered; first = first_small serial small; major = λ k. absurd (cc); restart = λ k. absurd (cc);
+        tokens = λ k. h.tokens (excluded is_wait_cn may_hold (refl, refl, refl, refl, refl, refl, refl, refl, refl, refl, refl, refl, refl) s.phase p) })
+      (bare Ended s refl refl h)
+becomes_sound s (AC version_2 requirements serial sides octets) small p t h =
+    opened _ _ _ s (base_small (has_points (both_units s.units (functional_units requirements))) serial s.proposed small h.first) h
+becomes_sound s (RF reason octets) small p t h = bare Ended s refl refl h
+becomes_sound s (DT octets) small p t h = h
+becomes_sound s (GT tokens) small p t h =
+    record { ordered = h.ordered; first = h.first; major = h.major; restart = h.restart;
+      tokens = λ k. absurd (let m = implied may_ask may_hold (refl, refl, refl, refl, refl, refl, refl, refl, refl, refl, refl, refl, refl) s.phase p in cc) }
+becomes_sound s (PT tokens octets) small p t h = h
+becomes_sound s (MIP confirm n octets) small p t h =
+    moved (point_taken s.numbers) s (taken_ordered s.base s.numbers h.ordered (same_small n s.numbers.next t.1.1.0 small))
+      (λ k. absurd (let m = excluded is_ready in_major (refl, refl, refl, refl, refl, refl, refl, refl, refl, refl, refl, refl, refl) s.phase p in cc))
+      (excluded is_ready is_restart_due (refl, refl, refl, refl, refl, refl, refl, refl, refl, refl, refl, refl, refl) s.phase p) h
+becomes_sound s (MIA n octets) small p t h = minor_moved s n t.1.0 p h
+becomes_sound s (MAP n octets) small p t h = major_moved s (same_small n s.numbers.next t.1.1.0 small) h
+becomes_sound s (MAA n octets) small p t h = holding_phase Ready (record s { numbers = major_confirmed s.numbers }) refl refl refl
+    (moved (major_confirmed s.numbers) s (major_ordered s.base s.numbers h.ordered) (major_same s h)
+      (excluded is_major_asked is_restart_due (refl, refl, refl, refl, refl, refl, refl, refl, refl, refl, refl, refl, refl) s.phase p) h)
+becomes_sound s (RS kind n wishes octets) small p t h =
+    chosen (stands s n) _ _ (restart_moved s n wishes (leb-true s.base n (and_parts _ _ t.1.0).0) small h) h
+becomes_sound s (RA n sides octets) small p t h =
+    record { ordered = h.ordered; first = h.first; major = λ k. absurd (cc); restart = λ k. absurd (cc); tokens = λ k. absurd (cc) }
+becomes_sound s (FN octets) small p t h = holding_phase ReleaseDue s refl refl refl h
+becomes_sound s (DN octets) small p t h = bare Ended s refl refl h
+becomes_sound s (NF octets) small p t h = holding_phase Ready s refl refl refl h
+becomes_sound s (AB bits octets) small p t h = bare Ended s refl refl h
+becomes_sound s AA small p t h = h
+
+judged_sound : (s : State) (u : Meaning) (f : Option UnitFault) → (f ≡ None → IsSound (becomes s u)) → IsSound s → IsSound (judged s u f).next
+judged_sound s u None k h = k refl
+judged_sound s u (Some f) k h = bare Aborting s refl refl h
+
+expected_sound : (s : State) (u : Meaning) → IsNumbered u → is_expected s.phase u ≡ true → IsSound s → IsSound (take_expected s u).next
+unfolding take_expected
+expected_sound s u small p h =
+    judged_sound s u (first_fault (si u) (conditions s u)) (λ e. becomes_sound s u small p (all_met (si u) (conditions s u) e) h) h
+
+aborting_sound : (s : State) (u : Meaning) → IsSound s → IsSound (in_aborting s u).next
+aborting_sound s (AB bits octets) h = bare Ended s refl refl h
+aborting_sound s AA h = bare Ended s refl refl h
+aborting_sound s _ h = h
+
+ended_sound : (s : State) (u : Meaning) → IsSound s → IsSound (in_ended s u).next
+ended_sound s (AB bits octets) h = h
+ended_sound s _ h = h
+
+-- a test, whose two outcomes are sound
+either : (b : Bool) (x y : Outcome) → (b ≡ true → IsSound x.next) → (b ≡ false → IsSound y.next) → IsSound (if b then x else y).next
+either true x y h k = h refl
+either false x y h k = k refl
+
+not_false : (b : Bool) → not b ≡ false → b ≡ true
+not_false true h = refl
+not_false false h = absurd (cc)
+
+pub unit_sound : (s : State) (u : Meaning) → IsNumbered u → IsSound s → IsSound (respond_unit s u).next
+unfolding respond_unit
+unit_sound s u small h =
+    either (is_aborting s.phase) _ _ (λ k. aborting_sound s u h) (λ k.
+      either (is_ended s.phase) _ _ (λ l. ended_sound s u h) (λ l.
+        either (has_no_effect u || (is_restarting s.phase && not (passes_restarting u))) _ _ (λ m. h) (λ m.
+          either (not (is_expected s.phase u)) _ _ (λ n. bare Aborting s refl refl h) (λ n.
+            expected_sound s u small (not_false (is_expected s.phase u) n) h))))
+
+-- a TSDU keeps what is true at all times
+pub respond_sound : (s : State) (said : Said) → AreNumbered said → IsSound s → IsSound (respond s said).next
+unfolding respond
+respond_sound s (alone u) small h = unit_sound s u small h
+respond_sound s (behind item u) small h =
+    either (is_resynchronize u) _ _ (λ k. unit_sound s u small.1 h)
+      (λ k. unit_sound (respond_unit s u).next item small.0 (unit_sound s u small.1 h))

@@ -1,0 +1,48 @@
+-- The calls of a user.
+use Rattle.std.specs.Prelude.{ℕ, ◌<◌, Bool, List}
+use Rattle.osi_spdu.specs.declared.settings.TokenSetting.{TokenSetting}
+use Rattle.osi_session.specs.declared.sides.Sides.{Sides}
+use Rattle.osi_session.specs.declared.tokens.Tokens.{Tokens}
+use Rattle.osi_session.specs.declared.requests.Request.{Request}
+use Rattle.osi_session.specs.declared.requests.Request.TheVariants as request
+use Rattle.osi_session.specs.Tokens.{named}
+
+pub data Call : Type 0 where
+  Accept : (requirements serial : ℕ) (sides : Sides) (octets : List ℕ) → Call
+  Refuse : (octets : List ℕ) → Call
+  Data : (octets : List ℕ) → Call
+  Give : (tokens : Tokens) → Call
+  Please : (tokens : Tokens) (octets : List ℕ) → Call
+  Minor : (confirm : Bool) (octets : List ℕ) → Call
+  MinorConfirm : (number : ℕ) (octets : List ℕ) → Call
+  Major : (octets : List ℕ) → Call
+  MajorConfirm : (octets : List ℕ) → Call
+  Restart : (number : ℕ) (wishes : TokenSetting) (octets : List ℕ) → Call
+  RestartConfirm : (sides : Sides) (octets : List ℕ) → Call
+  Release : (octets : List ℕ) → Call
+  ReleaseAccept : (octets : List ℕ) → Call
+  ReleaseRefuse : (octets : List ℕ) → Call
+  Abort : (octets : List ℕ) → Call
+
+-- a call in memory
+abbrev pub called_by : Request → Call
+called_by (request.Accept requirements serial sides data_octets) = Accept requirements.0 serial.number sides data_octets.now
+called_by (request.Refuse data_octets) = Refuse data_octets.now
+called_by (request.Data data_octets) = Data data_octets.now
+called_by (request.Give tokens) = Give (named tokens.0)
+called_by (request.Please tokens data_octets) = Please (named tokens.0) data_octets.now
+called_by (request.Minor confirm data_octets) = Minor confirm data_octets.now
+called_by (request.MinorConfirm number data_octets) = MinorConfirm number data_octets.now
+called_by (request.Major data_octets) = Major data_octets.now
+called_by (request.MajorConfirm data_octets) = MajorConfirm data_octets.now
+called_by (request.Restart number wishes data_octets) = Restart number wishes data_octets.now
+called_by (request.RestartConfirm sides data_octets) = RestartConfirm sides data_octets.now
+called_by (request.Release data_octets) = Release data_octets.now
+called_by (request.ReleaseAccept data_octets) = ReleaseAccept data_octets.now
+called_by (request.ReleaseRefuse data_octets) = ReleaseRefuse data_octets.now
+called_by (request.Abort data_octets) = Abort data_octets.now
+
+-- the number of an Accept is one that a point may have
+abbrev pub HasSerial : Call → Type 0
+HasSerial (Accept requirements serial sides octets) = serial < 1000000
+HasSerial _ = Unit {0}

@@ -1,0 +1,17 @@
+pub mod Allowed
+pub mod Calls
+pub mod Meanings
+pub mod Numbered
+pub mod Numbers
+pub mod Phases
+pub mod Reading
+pub mod Respond
+pub mod Sessions
+pub mod Shown
+pub mod Sides
+pub mod Sound
+pub mod State
+pub mod Steps
+pub mod Tokens
+pub mod Units
+pub mod Written

@@ -1,0 +1,301 @@
+-- The table of units: what the user is shown, what is sent, whether the transport connection is
+-- closed, and the new state.
+use Rattle.std.specs.Prelude.{ℕ, ◌+◌, Bool, true, false, not, ◌&&◌, ◌||◌, if◌then◌else◌, ◌==◌, nat_le, nat_lt, List, [], ◌∷◌, ◌++◌, Option, Some, None, unwrap_or, is_none}
+use Rattle.osi_spdu.specs.declared.kinds.Kind.{Kind}
+use Rattle.osi_spdu.specs.declared.kinds.Kind.TheVariants as kind
+use Rattle.osi_spdu.specs.Kinds.{si_of}
+use Rattle.osi_spdu.specs.declared.fields.ResyncType.{ResyncType}
+use Rattle.osi_spdu.specs.declared.fields.ResyncType.TheVariants as resync
+use Rattle.osi_spdu.specs.declared.requirements.Requirements.{Requirements}
+use Rattle.osi_spdu.specs.declared.faults.SpduFault.{SpduFault}
+use Rattle.osi_session.specs.declared.phases.Phase.{Phase}
+use Rattle.osi_session.specs.declared.phases.Phase.TheVariants.{Answering, Ready, MajorDue, ReleaseDue, RestartDue, Aborting, Ended}
+use Rattle.osi_session.specs.declared.faults.UnitFault.{UnitFault}
+use Rattle.osi_session.specs.declared.faults.UnitFault.TheVariants.{Spelling, Unexpected, NotSelected, TokenHeld, BadNumber, BadTokens}
+use Rattle.osi_session.specs.declared.numbers.Numbers.{Numbers}
+use Rattle.osi_session.specs.declared.state.State.{State}
+use Rattle.osi_session.specs.declared.selected.FunctionalUnits.{FunctionalUnits}
+use Rattle.osi_session.specs.Tokens.{Token, has, no_token, is_empty, is_within, is_disjoint, united}
+use Rattle.osi_session.specs.Tokens as token
+use Rattle.osi_session.specs.Units.{names, functional_units, both_units, has_data, has_points, available}
+use Rattle.osi_session.specs.Sides.{stated, of_asker, answers_wishes}
+use Rattle.osi_session.specs.Numbers.{from_base, point_taken, minor_confirmed, major_confirmed, restarted_at}
+use Rattle.osi_session.specs.Phases.{is_wait_cn, is_connecting, is_ready, is_major_asked, is_releasing, is_restarting, is_aborting, is_ended, is_over, shows_loss, may_ask, takes_data, takes_please, takes_minor_ack, takes_restart}
+use Rattle.osi_session.specs.State.{without_tokens}
+use Rattle.osi_session.specs.Allowed.{opened_with}
+use Rattle.osi_session.specs.Meanings.{Meaning, CN, AC, RF, DT, GT, PT, MIP, MIA, MAP, MAA, RS, RA, FN, DN, NF, AB, AA}
+use Rattle.osi_session.specs.Reading.{Said, alone, behind}
+use Rattle.osi_session.specs.Shown.{Shown, Connect, Connected, RefusedBySession, Data, Given, Asked, Minor, MinorConfirmed, Major, MajorConfirmed, Restart, Restarted, Release, Released, ReleaseRefused, Aborted, Lost, PeerAbort, BadUnit}
+
+abbrev pub is_nil : List Shown → Bool
+is_nil [] = true
+is_nil (i ∷ shown) = false
+
+pub record Outcome : Type 0 where
+  pub next : State
+  pub shown : List Shown
+  pub reply : Option Meaning
+  pub closes : Bool
+
+abbrev pub nothing : State → Outcome
+nothing s = record { next = s; shown = []; reply = None; closes = false }
+
+abbrev pub shows : State → Shown → Outcome
+shows s i = record (nothing s) { shown = i ∷ [] }
+
+-- which unit it is
+abbrev pub kind_of : Meaning → Kind
+kind_of (CN v u n w o) = kind.Connect
+kind_of (AC v u n w o) = kind.Accept
+kind_of (RF r o) = kind.Refuse
+kind_of (DT o) = kind.DataTransfer
+kind_of (GT t) = kind.GiveTokens
+kind_of (PT t o) = kind.PleaseTokens
+kind_of (MIP c n o) = kind.MinorSyncPoint
+kind_of (MIA n o) = kind.MinorSyncAck
+kind_of (MAP n o) = kind.MajorSyncPoint
+kind_of (MAA n o) = kind.MajorSyncAck
+kind_of (RS k n w o) = kind.Resynchronize
+kind_of (RA n w o) = kind.ResynchronizeAck
+kind_of (FN o) = kind.Finish
+kind_of (DN o) = kind.Disconnect
+kind_of (NF o) = kind.NotFinished
+kind_of (AB b o) = kind.Abort
+kind_of AA = kind.AbortAccept
+
+-- its first octet
+abbrev pub si : Meaning → ℕ
+si u = si_of (kind_of u)
+
+-- a token item that names no token has no effect, and is not checked
+abbrev pub has_no_effect : Meaning → Bool
+has_no_effect (GT tokens) = is_empty tokens
+has_no_effect (PT tokens octets) = is_empty tokens
+has_no_effect _ = false
+
+-- the phases in which a unit is expected
+abbrev pub is_expected : Phase → Meaning → Bool
+is_expected p (CN v u n w o) = is_wait_cn p
+is_expected p (AC v u n w o) = is_connecting p
+is_expected p (RF r o) = is_connecting p
+is_expected p (DT o) = takes_data p
+is_expected p (GT t) = may_ask p
+is_expected p (PT t o) = takes_please p
+is_expected p (MIP c n o) = is_ready p
+is_expected p (MIA n o) = takes_minor_ack p
+is_expected p (MAP n o) = is_ready p
+is_expected p (MAA n o) = is_major_asked p
+is_expected p (RS k n w o) = takes_restart p
+is_expected p (RA n w o) = is_restarting p
+is_expected p (FN o) = is_ready p
+is_expected p (DN o) = is_releasing p
+is_expected p (NF o) = is_releasing p
+is_expected p (AB b o) = true
+is_expected p AA = false
+
+-- a condition of a unit, and the fault where it fails
+abbrev pub Condition : Type 0
+Condition = Bool × (ℕ → UnitFault)
+
+abbrev pub lacks : State → Token → Bool
+lacks s t = not (has s.held t)
+
+-- the numbers that a minor confirmation may have; the major point itself is not one
+abbrev pub is_acknowledgeable : State → ℕ → Bool
+is_acknowledgeable s n = not s.numbers.answers && (nat_le s.numbers.confirmed n
+  && (if is_major_asked s.phase then nat_lt (n + 1) s.numbers.next else nat_lt n s.numbers.next))
+
+abbrev pub is_restart : ResyncType → Bool
+is_restart resync.Restart = true
+is_restart resync.Abandon = false
+is_restart resync.Set = false
+
+-- what a unit has to meet, in the order of its faults
+abbrev pub conditions : State → Meaning → List Condition
+conditions s (AC version_2 requirements serial sides octets) =
+  (version_2 && has_data (both_units s.units (functional_units requirements)), NotSelected)
+  ∷ (answers_wishes (both_units s.units (functional_units requirements)) s.wishes sides, BadTokens) ∷ []
+conditions s (DT octets) = (lacks s token.data_token, TokenHeld) ∷ []
+conditions s (GT tokens) = (is_within tokens (available s.units) && is_disjoint tokens s.held, BadTokens) ∷ []
+conditions s (PT tokens octets) = (is_within tokens (available s.units), BadTokens) ∷ []
+conditions s (MIP confirm n octets) =
+  (s.units.minor, NotSelected) ∷ (lacks s token.data_token && lacks s token.minor, TokenHeld) ∷ (n == s.numbers.next, BadNumber) ∷ []
+conditions s (MIA n octets) = (s.units.minor, NotSelected) ∷ (is_acknowledgeable s n, BadNumber) ∷ []
+conditions s (MAP n octets) =
+  (s.units.major, NotSelected) ∷ (lacks s token.data_token && (lacks s token.minor && lacks s token.major), TokenHeld)
+  ∷ (n == s.numbers.next, BadNumber) ∷ []
+conditions s (MAA n octets) = (n + 1 == s.numbers.next, BadNumber) ∷ []
+conditions s (RS kind n wishes octets) =
+  (s.units.resynchronize && is_restart kind, NotSelected)
+  ∷ (nat_le s.base n && (is_restarting s.phase || nat_le n s.numbers.next), BadNumber) ∷ []
+conditions s (RA n sides octets) = (n == s.numbers.next, BadNumber) ∷ (answers_wishes s.units s.wishes sides, BadTokens) ∷ []
+conditions s (FN octets) = (is_empty s.held, TokenHeld) ∷ []
+conditions s (NF octets) = (s.units.negotiated_release, NotSelected) ∷ []
+conditions s _ = []
+
+-- the fault of the first condition that does not hold
+abbrev pub first_fault : ℕ → List Condition → Option UnitFault
+first_fault n [] = None
+first_fault n (c ∷ cs) = if c.0 then first_fault n cs else Some (c.1 n)
+
+-- the lower number stands, and of equal numbers the caller's
+unfoldable pub stands : State → ℕ → Bool
+stands s n = not (is_restarting s.phase)
+  || (nat_lt n s.numbers.next || ((n == s.numbers.next) && not s.is_caller))
+
+-- version 2, and half-duplex or duplex
+abbrev pub is_acceptable : Bool → ℕ → Bool
+is_acceptable version_2 requirements = version_2 && has_data (functional_units requirements)
+
+-- the first number: the AC's, or the CN's where the AC names none
+abbrev pub agreed_base : FunctionalUnits → Option ℕ → ℕ → ℕ
+agreed_base units serial proposed = if has_points units then unwrap_or serial proposed else 0
+
+-- the state after a good unit
+abbrev pub becomes : State → Meaning → State
+becomes s (CN version_2 requirements serial wishes octets) =
+  if is_acceptable version_2 requirements
+  then record s { phase = Answering; units = functional_units requirements; wishes = wishes; proposed = unwrap_or serial 0 }
+  else without_tokens Ended s
+becomes s (AC version_2 requirements serial sides octets) =
+  opened_with (both_units s.units (functional_units requirements))
+    (of_asker (both_units s.units (functional_units requirements)) (stated (both_units s.units (functional_units requirements)) sides))
+    (agreed_base (both_units s.units (functional_units requirements)) serial s.proposed) s
+becomes s (RF reason octets) = without_tokens Ended s
+becomes s (DT octets) = s
+becomes s (GT tokens) = record s { held = united s.held tokens }
+becomes s (PT tokens octets) = s
+becomes s (MIP confirm n octets) = record s { numbers = point_taken s.numbers }
+becomes s (MIA n octets) = record s { numbers = minor_confirmed n s.numbers }
+becomes s (MAP n octets) = record s { phase = MajorDue; numbers = point_taken s.numbers }
+becomes s (MAA n octets) = record s { phase = Ready; numbers = major_confirmed s.numbers }
+becomes s (RS kind n wishes octets) =
+  if stands s n then record (without_tokens RestartDue s) { wishes = wishes; numbers = restarted_at n s.numbers } else s
+becomes s (RA n sides octets) = record s { phase = Ready; held = of_asker s.units (stated s.units sides) }
+becomes s (FN octets) = record s { phase = ReleaseDue }
+becomes s (DN octets) = without_tokens Ended s
+becomes s (NF octets) = record s { phase = Ready }
+becomes s (AB bits octets) = without_tokens Ended s
+becomes s AA = s
+
+-- what a good unit shows; before a CN was taken there is no user to be shown anything
+abbrev pub shown_for : State → Meaning → List Shown
+shown_for s (CN version_2 requirements serial wishes octets) =
+  if is_acceptable version_2 requirements then Connect requirements serial wishes octets ∷ [] else []
+shown_for s (AC version_2 requirements serial sides octets) =
+  Connected requirements serial (stated (both_units s.units (functional_units requirements)) sides) octets ∷ []
+shown_for s (RF reason octets) = RefusedBySession reason octets ∷ []
+shown_for s (DT octets) = Data octets ∷ []
+shown_for s (GT tokens) = Given tokens ∷ []
+shown_for s (PT tokens octets) = Asked tokens octets ∷ []
+shown_for s (MIP confirm n octets) = Minor n confirm octets ∷ []
+shown_for s (MIA n octets) = MinorConfirmed n octets ∷ []
+shown_for s (MAP n octets) = Major n octets ∷ []
+shown_for s (MAA n octets) = MajorConfirmed octets ∷ []
+shown_for s (RS kind n wishes octets) = if stands s n then Restart n wishes octets ∷ [] else []
+shown_for s (RA n sides octets) = Restarted n (stated s.units sides) octets ∷ []
+shown_for s (FN octets) = Release octets ∷ []
+shown_for s (DN octets) = Released octets ∷ []
+shown_for s (NF octets) = ReleaseRefused octets ∷ []
+shown_for s (AB bits octets) =
+  if is_wait_cn s.phase then [] else (if names bits 2 then Aborted octets else PeerAbort bits) ∷ []
+shown_for s AA = []
+
+-- what a good unit is answered by: a CN that cannot be accepted by RF, AB by AA
+abbrev pub reply_for : Meaning → Option Meaning
+reply_for (CN version_2 requirements serial wishes octets) =
+  if not version_2 then Some (RF 132 []) else (if not (has_data (functional_units requirements)) then Some (RF 134 []) else None)
+reply_for (AB bits octets) = Some AA
+reply_for _ = None
+
+abbrev pub closes_for : Meaning → Bool
+closes_for (RF reason octets) = true
+closes_for (DN octets) = true
+closes_for _ = false
+
+abbrev pub good : State → Meaning → Outcome
+good s u = record { next = becomes s u; shown = shown_for s u; reply = reply_for u; closes = closes_for u }
+
+-- a bad unit: AB is sent, for a protocol error, and the transport connection is released
+abbrev pub bad : State → UnitFault → Outcome
+bad s fault = record {
+  next = without_tokens Aborting s;
+  shown = if is_wait_cn s.phase then [] else BadUnit fault ∷ [];
+  reply = Some (AB 5 []);
+  closes = false }
+
+abbrev pub judged : State → Meaning → Option UnitFault → Outcome
+judged s u None = good s u
+judged s u (Some fault) = bad s fault
+
+-- RS, RA and AB: an end that has asked for a restart discards all else
+abbrev pub passes_restarting : Meaning → Bool
+passes_restarting (RS kind n wishes octets) = true
+passes_restarting (RA n sides octets) = true
+passes_restarting (AB bits octets) = true
+passes_restarting _ = false
+
+abbrev pub in_aborting : State → Meaning → Outcome
+in_aborting s (AB bits octets) = record (nothing (without_tokens Ended s)) { closes = true }
+in_aborting s AA = record (nothing (without_tokens Ended s)) { closes = true }
+in_aborting s _ = nothing s
+
+abbrev pub in_ended : State → Meaning → Outcome
+in_ended s (AB bits octets) = record (nothing s) { reply = Some AA }
+in_ended s _ = nothing s
+
+-- a unit that the phase expects
+unfoldable pub take_expected : State → Meaning → Outcome
+take_expected s u = judged s u (first_fault (si u) (conditions s u))
+
+-- one unit
+unfoldable pub respond_unit : State → Meaning → Outcome
+respond_unit s u =
+  if is_aborting s.phase then in_aborting s u
+  else if is_ended s.phase then in_ended s u
+  else if has_no_effect u || (is_restarting s.phase && not (passes_restarting u)) then nothing s
+  else if not (is_expected s.phase u) then bad s (Unexpected (si u))
+  else take_expected s u
+
+-- a unit that opens or aborts a connection, or answers an abort
+abbrev pub is_outside : Meaning → Bool
+is_outside (CN v u n w o) = true
+is_outside (AC v u n w o) = true
+is_outside (RF r o) = true
+is_outside (AB b o) = true
+is_outside AA = true
+is_outside _ = false
+
+abbrev pub is_resynchronize : Meaning → Bool
+is_resynchronize (RS kind n wishes octets) = true
+is_resynchronize _ = false
+
+abbrev pub first_reply : Option Meaning → Option Meaning → Option Meaning
+first_reply None b = b
+first_reply (Some a) b = Some a
+
+-- one outcome, and the unit that acts after it
+abbrev pub and_then : Outcome → Meaning → Outcome
+and_then first u = record {
+  next = (respond_unit first.next u).next;
+  shown = first.shown ++ (respond_unit first.next u).shown;
+  reply = first_reply first.reply (respond_unit first.next u).reply;
+  closes = first.closes || (respond_unit first.next u).closes }
+
+-- the units of a TSDU; a token item acts after the unit behind it, and before an RS has no effect
+unfoldable pub respond : State → Said → Outcome
+respond s (alone u) = respond_unit s u
+respond s (behind item u) = if is_resynchronize u then respond_unit s u else and_then (respond_unit s u) item
+
+-- a TSDU that is no session units
+unfoldable pub respond_fault : State → SpduFault → Outcome
+respond_fault s fault = if is_over s.phase then nothing s else bad s (Spelling fault)
+
+-- the transport connection was closed or broken, or had a fault; before a CN was taken there is no
+-- user to be shown it, and after an abort he was shown enough
+abbrev pub lost : State → Outcome
+lost s = record (nothing (without_tokens Ended s)) { shown = if shows_loss s.phase then Lost ∷ [] else [] }
+
+-- nothing is shown and nothing sent
+abbrev pub is_silent : Outcome → Bool
+is_silent o = is_nil o.shown && is_none o.reply

@@ -1,0 +1,59 @@
+-- What the user is shown.
+use Rattle.std.specs.Prelude.{ℕ, Bool, List, Option}
+use Rattle.osi_spdu.specs.declared.settings.TokenSetting.{TokenSetting}
+use Rattle.osi_session.specs.declared.sides.Sides.{Sides}
+use Rattle.osi_session.specs.declared.tokens.Tokens.{Tokens}
+use Rattle.osi_session.specs.declared.faults.UnitFault.{UnitFault}
+use Rattle.osi_session.specs.declared.indications.Indication.{Indication}
+use Rattle.osi_session.specs.declared.indications.Indication.TheVariants as indication
+use Rattle.osi_session.specs.declared.indications.AbortCause.{AbortCause}
+use Rattle.osi_session.specs.declared.indications.AbortCause.TheVariants as cause
+use Rattle.osi_session.specs.Tokens.{named}
+
+pub data Shown : Type 0 where
+  Connect : (requirements : ℕ) (serial : Option ℕ) (wishes : TokenSetting) (octets : List ℕ) → Shown
+  Connected : (requirements : ℕ) (serial : Option ℕ) (sides : Sides) (octets : List ℕ) → Shown
+  RefusedByTransport : (reason : ℕ) → Shown
+  RefusedBySession : (reason : ℕ) (octets : List ℕ) → Shown
+  Data : (octets : List ℕ) → Shown
+  Given : (tokens : Tokens) → Shown
+  Asked : (tokens : Tokens) (octets : List ℕ) → Shown
+  Minor : (number : ℕ) (confirm : Bool) (octets : List ℕ) → Shown
+  MinorConfirmed : (number : ℕ) (octets : List ℕ) → Shown
+  Major : (number : ℕ) (octets : List ℕ) → Shown
+  MajorConfirmed : (octets : List ℕ) → Shown
+  Restart : (number : ℕ) (wishes : TokenSetting) (octets : List ℕ) → Shown
+  Restarted : (number : ℕ) (sides : Sides) (octets : List ℕ) → Shown
+  Release : (octets : List ℕ) → Shown
+  Released : (octets : List ℕ) → Shown
+  ReleaseRefused : (octets : List ℕ) → Shown
+  Aborted : (octets : List ℕ) → Shown
+  Lost : Shown
+  PeerAbort : (bits : ℕ) → Shown
+  BadUnit : UnitFault → Shown
+
+abbrev pub abort_shown : AbortCause → Shown
+abort_shown cause.Lost = Lost
+abort_shown (cause.Peer bits) = PeerAbort bits
+abort_shown (cause.Unit fault) = BadUnit fault
+
+-- an indication in memory
+abbrev pub shown_by : Indication → Shown
+shown_by (indication.Connect requirements serial wishes octets) = Connect requirements.0 serial wishes octets
+shown_by (indication.Connected requirements serial sides octets) = Connected requirements.0 serial sides octets
+shown_by (indication.RefusedByTransport reason) = RefusedByTransport reason
+shown_by (indication.RefusedBySession reason octets) = RefusedBySession reason octets
+shown_by (indication.Data octets) = Data octets
+shown_by (indication.Given tokens) = Given (named tokens.0)
+shown_by (indication.Asked tokens octets) = Asked (named tokens.0) octets
+shown_by (indication.Minor number confirm octets) = Minor number confirm octets
+shown_by (indication.MinorConfirmed number octets) = MinorConfirmed number octets
+shown_by (indication.Major number octets) = Major number octets
+shown_by (indication.MajorConfirmed octets) = MajorConfirmed octets
+shown_by (indication.Restart number wishes octets) = Restart number wishes octets
+shown_by (indication.Restarted number sides octets) = Restarted number sides octets
+shown_by (indication.Release octets) = Release octets
+shown_by (indication.Released octets) = Released octets
+shown_by (indication.ReleaseRefused octets) = ReleaseRefused octets
+shown_by (indication.Aborted octets) = Aborted octets
+shown_by (indication.ProviderAbort cause) = abort_shown cause

@@ -1,0 +1,495 @@
+//! The table of calls.
+
+ghost use Rattle.std.specs.Prelude.{◌≡◌, ◌<◌, ◌≤◌, true, length, nat_le, Ok};
+ghost use Rattle.osi_session.specs.Allowed.{allowed, met, may_call, octets_of, most_of, has_right, is_restartable};
+ghost use Rattle.osi_session.specs.Calls.{called_by, Accept, Data, Give, Please, Minor, MinorConfirm, Major, MajorConfirm, Restart, RestartConfirm, Release, ReleaseRefuse};
+ghost use Rattle.osi_session.specs.Meanings.{meant_by};
+ghost use Rattle.osi_session.specs.Sound.{IsSound};
+ghost use Rattle.osi_session.specs.State.{without_tokens};
+ghost use Rattle.osi_session.specs.Steps.{Answers, step_of};
+ghost use Rattle.osi_session.specs.Tokens.{named, no_token, set_of};
+ghost use Rattle.osi_session.specs.Units.{available};
+
+use crate::faults::CallError;
+use crate::messages::Message;
+use crate::numbers::Numbers;
+use crate::phases::Phase;
+use crate::requests::Request;
+use crate::selected::{FunctionalUnits, is_profile};
+use crate::sides::{Sides, offered};
+use crate::state::State;
+use crate::tokens::Tokens;
+use osi_spdu::{Requirements, ResyncType, Serial, TokenSet, TokenSetting};
+
+/// The most octets of user data of a call other than data.
+pub(crate) const MOST_USER_DATA: usize = 10_240;
+
+/// The most octets of data: a TSDU has 4 more.
+const MOST_DATA: usize = 1_048_572;
+
+/// The number of the last point that there can be.
+const LAST_NUMBER: u32 = 999_999;
+
+/// A user's abort, which releases the transport connection too.
+const USER_ABORT: u8 = 0x03;
+
+/// The state after a call, and the unit that it sends.
+#[derive(Clone, Copy)]
+pub(crate) struct Step<'a> {
+    pub(crate) next: State,
+    pub(crate) sent: Message<'a>,
+}
+
+/// Whether the phase allows the call.
+fn may_call(phase: Phase, request: &Request) -> bool
+    ensures { result ≡ may_call phase (called_by request.now) }
+{
+    match request {
+        Request::Accept { .. } | Request::Refuse { .. } => phase.is_answering(),
+        Request::Data { .. } | Request::Minor { .. } => phase.is_ready(),
+        Request::Major { .. } | Request::Release { .. } => phase.is_ready(),
+        Request::Give { .. } => phase.may_give(),
+        Request::Please { .. } => phase.may_ask(),
+        Request::MinorConfirm { .. } => phase.may_confirm_minor(),
+        Request::MajorConfirm { .. } => phase.is_major_due(),
+        Request::Restart { .. } => phase.may_restart(),
+        Request::RestartConfirm { .. } => phase.is_restart_due(),
+        Request::ReleaseAccept { .. } | Request::ReleaseRefuse { .. } => phase.is_release_due(),
+        Request::Abort { .. } => phase.may_abort(),
+    }
+}
+
+/// Whether the user data of a call is not too long.
+fn fits(request: &Request) -> bool
+    ensures { result ≡ nat_le (length (octets_of (called_by request.now))) (most_of (called_by request.now)) }
+{
+    match request {
+        Request::Data { user_data } => user_data.len() <= MOST_DATA,
+        Request::Give { .. } => true,
+        Request::Accept { user_data, .. }
+        | Request::Refuse { user_data }
+        | Request::Please { user_data, .. }
+        | Request::Minor { user_data, .. }
+        | Request::MinorConfirm { user_data, .. }
+        | Request::Major { user_data }
+        | Request::MajorConfirm { user_data }
+        | Request::Restart { user_data, .. }
+        | Request::RestartConfirm { user_data, .. }
+        | Request::Release { user_data }
+        | Request::ReleaseAccept { user_data }
+        | Request::ReleaseRefuse { user_data }
+        | Request::Abort { user_data } => user_data.len() <= MOST_USER_DATA,
+    }
+}
+
+impl State {
+    /// The state without a token, in a phase in which none is held.
+    pub(crate) fn without_tokens(self, phase: Phase) -> State
+        ensures { result ≡ without_tokens phase self }
+    {
+        State {
+            phase,
+            held: Tokens::NONE,
+            ..self
+        }
+    }
+
+    /// The tokens that are held, or not available.
+    #[tactic(auto, unfolding(crate::specs::Units::available))]
+    fn rights(&self) -> Tokens
+        ensures { result ≡ set_of (has_right self.now) }
+    {
+        let there = self.units.available();
+        Tokens {
+            data_token: !there.data_token || self.held.data_token,
+            minor: !there.minor || self.held.minor,
+            major: !there.major || self.held.major,
+            release: !there.release || self.held.release,
+        }
+    }
+}
+
+#[tactic(auto, unfolding(crate::specs::Allowed::met))]
+fn accept<'a>(
+    state: &State,
+    requirements: Requirements,
+    serial: Serial,
+    sides: Sides,
+    user_data: &'a [u8],
+) -> Result<Step<'a>, CallError>
+    ensures { Answers result (met state.now (Accept requirements.0 serial.number sides user_data.entry.now)) }
+{
+    let units = FunctionalUnits::of(requirements);
+    if !(units.is_within(state.units) && is_profile(requirements)) {
+        return Err(CallError::NotSelected);
+    }
+    let settled = sides.settle(units, state.wishes);
+    let has_points = units.has_points();
+    let base = if has_points { serial.number } else { 0 };
+    Ok(Step {
+        next: State {
+            phase: Phase::Ready,
+            units,
+            held: settled.of_answerer(units),
+            base,
+            numbers: Numbers::from_base(base),
+            ..*state
+        },
+        sent: Message::Accept {
+            version_2: true,
+            requirements,
+            serial: if has_points { Some(serial) } else { None },
+            sides: settled.setting(),
+            user_data,
+        },
+    })
+}
+
+/// Data needs the data token, if there is one, and at least one octet.
+#[tactic(auto, unfolding(crate::specs::Allowed::met))]
+fn data<'a>(state: &State, user_data: &'a [u8]) -> Result<Step<'a>, CallError>
+    ensures { Answers result (met state.now (Data user_data.entry.now)) }
+{
+    if !state.rights().data_token {
+        return Err(CallError::TokenNotHeld);
+    }
+    if user_data.is_empty() {
+        return Err(CallError::Empty);
+    }
+    Ok(Step {
+        next: *state,
+        sent: Message::Data { user_data },
+    })
+}
+
+#[tactic(auto, unfolding(crate::specs::Allowed::met))]
+fn give<'a>(state: &State, tokens: TokenSet) -> Result<Step<'a>, CallError>
+    ensures { Answers result (met state.now (Give (named tokens.0))) }
+{
+    let tokens = Tokens::of(tokens);
+    if !tokens.is_within(state.units.available()) {
+        return Err(CallError::NotSelected);
+    }
+    if !tokens.is_within(state.held) {
+        return Err(CallError::TokenNotHeld);
+    }
+    if tokens.is_empty() {
+        return Err(CallError::Empty);
+    }
+    Ok(Step {
+        next: State {
+            held: state.held.without(tokens),
+            ..*state
+        },
+        sent: Message::Give { tokens },
+    })
+}
+
+#[tactic(auto, unfolding(crate::specs::Allowed::met))]
+fn please<'a>(
+    state: &State,
+    tokens: TokenSet,
+    user_data: &'a [u8],
+) -> Result<Step<'a>, CallError>
+    ensures { Answers result (met state.now (Please (named tokens.0) user_data.entry.now)) }
+{
+    let tokens = Tokens::of(tokens);
+    if !tokens.is_within(state.units.available()) {
+        return Err(CallError::NotSelected);
+    }
+    if !tokens.is_disjoint(state.held) {
+        return Err(CallError::TokenAlreadyHeld);
+    }
+    if tokens.is_empty() {
+        return Err(CallError::Empty);
+    }
+    Ok(Step {
+        next: *state,
+        sent: Message::Please { tokens, user_data },
+    })
+}
+
+#[tactic(auto, unfolding(crate::specs::Allowed::met))]
+fn minor<'a>(state: &State, confirm: bool, user_data: &'a [u8]) -> Result<Step<'a>, CallError>
+    ensures { Answers result (met state.now (Minor confirm user_data.entry.now)) }
+{
+    let rights = state.rights();
+    if !state.units.minor {
+        return Err(CallError::NotSelected);
+    }
+    if !(rights.data_token && rights.minor) {
+        return Err(CallError::TokenNotHeld);
+    }
+    if state.numbers.next > LAST_NUMBER {
+        return Err(CallError::SerialsUsedUp);
+    }
+    let number = Serial {
+        number: state.numbers.next,
+    };
+    Ok(Step {
+        next: State {
+            numbers: state.numbers.point_sent(),
+            ..*state
+        },
+        sent: Message::MinorPoint {
+            confirm,
+            number,
+            user_data,
+        },
+    })
+}
+
+/// A minor point may be confirmed where points were taken last, once, up to the last.
+#[tactic(auto, unfolding(crate::specs::Allowed::met))]
+fn minor_confirm<'a>(
+    state: &State,
+    number: u32,
+    user_data: &'a [u8],
+) -> Result<Step<'a>, CallError>
+    requires { state.now.numbers.next ≤ 1000000 }
+    ensures { Answers result (met state.now (MinorConfirm number user_data.entry.now)) }
+{
+    if !state.units.minor {
+        return Err(CallError::NotSelected);
+    }
+    let numbers = state.numbers;
+    if !(numbers.answers && numbers.confirmed <= number && number < numbers.next) {
+        return Err(CallError::BadNumber);
+    }
+    Ok(Step {
+        next: State {
+            numbers: numbers.minor_confirmed(number),
+            ..*state
+        },
+        sent: Message::MinorAck {
+            number: Serial { number },
+            user_data,
+        },
+    })
+}
+
+#[tactic(auto, unfolding(crate::specs::Allowed::met))]
+fn major<'a>(state: &State, user_data: &'a [u8]) -> Result<Step<'a>, CallError>
+    ensures { Answers result (met state.now (Major user_data.entry.now)) }
+{
+    let rights = state.rights();
+    if !state.units.major {
+        return Err(CallError::NotSelected);
+    }
+    if !(rights.data_token && rights.minor && rights.major) {
+        return Err(CallError::TokenNotHeld);
+    }
+    if state.numbers.next > LAST_NUMBER {
+        return Err(CallError::SerialsUsedUp);
+    }
+    let number = Serial {
+        number: state.numbers.next,
+    };
+    Ok(Step {
+        next: State {
+            phase: Phase::MajorAsked,
+            numbers: state.numbers.point_sent(),
+            ..*state
+        },
+        sent: Message::MajorPoint { number, user_data },
+    })
+}
+
+#[tactic(auto, unfolding(crate::specs::Allowed::met))]
+fn major_confirm<'a>(state: &State, user_data: &'a [u8]) -> Step<'a>
+    requires point { 0 < state.now.numbers.next }
+    requires last { state.now.numbers.next ≤ 1000000 }
+    ensures { Answers (Ok result) (met state.now (MajorConfirm user_data.entry.now)) }
+{
+    let number = Serial {
+        number: state.numbers.next - 1,
+    };
+    Step {
+        next: State {
+            phase: Phase::Ready,
+            numbers: state.numbers.major_confirmed(),
+            ..*state
+        },
+        sent: Message::MajorAck { number, user_data },
+    }
+}
+
+/// Whether the user may restart at this number: from V(R) to V(M), and below V(M) while a major
+/// point is outstanding.
+fn is_restartable(state: &State, number: u32) -> bool
+    ensures { result ≡ is_restartable state.now number }
+{
+    let numbers = state.numbers;
+    let below = if state.phase.in_major() {
+        number < numbers.next
+    } else {
+        number <= numbers.next
+    };
+    numbers.lowest <= number && number <= LAST_NUMBER && below
+}
+
+#[tactic(auto, unfolding(crate::specs::Allowed::met))]
+fn restart<'a>(
+    state: &State,
+    number: u32,
+    wishes: TokenSetting,
+    user_data: &'a [u8],
+) -> Result<Step<'a>, CallError>
+    ensures { Answers result (met state.now (Restart number wishes user_data.entry.now)) }
+{
+    if !state.units.resynchronize {
+        return Err(CallError::NotSelected);
+    }
+    if !is_restartable(state, number) {
+        return Err(CallError::BadNumber);
+    }
+    let wishes = offered(state.units, wishes);
+    Ok(Step {
+        next: State {
+            wishes,
+            numbers: state.numbers.restarted_at(number),
+            ..state.without_tokens(Phase::Restarting)
+        },
+        sent: Message::Restart {
+            kind: ResyncType::Restart,
+            number: Serial { number },
+            wishes,
+            user_data,
+        },
+    })
+}
+
+#[tactic(auto, unfolding(crate::specs::Allowed::met))]
+fn restart_confirm<'a>(state: &State, sides: Sides, user_data: &'a [u8]) -> Step<'a>
+    requires { state.now.numbers.next < 1000000 }
+    ensures { Answers (Ok result) (met state.now (RestartConfirm sides user_data.entry.now)) }
+{
+    let settled = sides.settle(state.units, state.wishes);
+    let number = Serial {
+        number: state.numbers.next,
+    };
+    Step {
+        next: State {
+            phase: Phase::Ready,
+            held: settled.of_answerer(state.units),
+            ..*state
+        },
+        sent: Message::RestartAck {
+            number,
+            sides: settled.setting(),
+            user_data,
+        },
+    }
+}
+
+/// Release needs all available tokens; with duplex, where no token says who may ask for it, the
+/// caller alone may.
+#[tactic(auto, unfolding(crate::specs::Allowed::met))]
+fn release<'a>(state: &State, user_data: &'a [u8]) -> Result<Step<'a>, CallError>
+    ensures { Answers result (met state.now (Release user_data.entry.now)) }
+{
+    let rights = state.rights();
+    let has_all = rights.data_token && rights.minor && rights.major && rights.release;
+    if !(has_all && (!state.units.duplex || state.is_caller)) {
+        return Err(CallError::TokenNotHeld);
+    }
+    Ok(Step {
+        next: State {
+            phase: Phase::Releasing,
+            ..*state
+        },
+        sent: Message::Finish { user_data },
+    })
+}
+
+#[tactic(auto, unfolding(crate::specs::Allowed::met))]
+fn release_refuse<'a>(state: &State, user_data: &'a [u8]) -> Result<Step<'a>, CallError>
+    ensures { Answers result (met state.now (ReleaseRefuse user_data.entry.now)) }
+{
+    if !state.units.negotiated_release {
+        return Err(CallError::NotSelected);
+    }
+    Ok(Step {
+        next: State {
+            phase: Phase::Ready,
+            ..*state
+        },
+        sent: Message::NotFinished { user_data },
+    })
+}
+
+/// A call that ends the connection, or begins to.
+fn over<'a>(state: &State, phase: Phase, sent: Message<'a>) -> Step<'a>
+    ensures { step_of result ≡ record { next = without_tokens phase state.now; sent = meant_by sent.entry } }
+{
+    Step {
+        next: state.without_tokens(phase),
+        sent,
+    }
+}
+
+/// What a call gives that its phase allows.
+#[tactic(auto, unfolding(crate::specs::Allowed::met))]
+fn decide_row<'a>(state: &State, request: Request<'a>) -> Result<Step<'a>, CallError>
+    requires sound { IsSound state.now }
+    requires allowed { may_call state.now.phase (called_by request) ≡ true }
+    ensures { Answers result (met state.now (called_by request.entry)) }
+{
+    match request {
+        Request::Accept {
+            requirements,
+            serial,
+            sides,
+            user_data,
+        } => accept(state, requirements, serial, sides, user_data),
+        Request::Refuse { user_data } => {
+            let reason = if user_data.is_empty() { 0 } else { 2 };
+            Ok(over(state, Phase::Ended, Message::Refuse { reason, user_data }))
+        }
+        Request::Data { user_data } => data(state, user_data),
+        Request::Give { tokens } => give(state, tokens),
+        Request::Please { tokens, user_data } => please(state, tokens, user_data),
+        Request::Minor { confirm, user_data } => minor(state, confirm, user_data),
+        Request::MinorConfirm { number, user_data } => minor_confirm(state, number, user_data),
+        Request::Major { user_data } => major(state, user_data),
+        Request::MajorConfirm { user_data } => Ok(major_confirm(state, user_data)),
+        Request::Restart {
+            number,
+            wishes,
+            user_data,
+        } => restart(state, number, wishes, user_data),
+        Request::RestartConfirm { sides, user_data } => Ok(restart_confirm(state, sides, user_data)),
+        Request::Release { user_data } => release(state, user_data),
+        Request::ReleaseAccept { user_data } => {
+            Ok(over(state, Phase::Ended, Message::Disconnect { user_data }))
+        }
+        Request::ReleaseRefuse { user_data } => release_refuse(state, user_data),
+        Request::Abort { user_data } => Ok(over(
+            state,
+            Phase::Aborting,
+            Message::Abort {
+                transport_disconnect: USER_ABORT,
+                user_data,
+            },
+        )),
+    }
+}
+
+/// The first error of a call, or the state after it and the unit that it sends.
+#[tactic(auto, unfolding(crate::specs::Allowed::allowed))]
+pub(crate) fn decide<'a>(state: &State, request: Request<'a>) -> Result<Step<'a>, CallError>
+    requires { IsSound state.now }
+    ensures { Answers result (allowed state.now (called_by request.entry)) }
+{
+    if state.phase.is_over() {
+        return Err(CallError::Ended);
+    }
+    if !may_call(state.phase, &request) {
+        return Err(CallError::BadState);
+    }
+    let step = decide_row(state, request)?;
+    if !fits(&request) {
+        return Err(CallError::TooLong);
+    }
+    Ok(step)
+}

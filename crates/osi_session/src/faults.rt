@@ -1,0 +1,65 @@
+use osi_spdu::SpduFault;
+use thiserror::Error;
+
+/// Why a call of the user is refused, by the first of these that applies. A refused call changes
+/// nothing.
+#[derive(Clone, Copy, PartialEq, Eq, Debug, Error)]
+pub enum CallError {
+    /// There was never such a connection. A session by itself never answers it.
+    #[error("no such connection")]
+    NoSuchConnection,
+    /// The connection is aborted, or gone.
+    #[error("the connection has ended")]
+    Ended,
+    /// The phase does not allow the call (X.225 annex A).
+    #[error("the call is not allowed now")]
+    BadState,
+    /// A functional unit, or a token, that the call needs is not selected.
+    #[error("functional unit not selected")]
+    NotSelected,
+    /// A token that the call needs is not held.
+    #[error("token not held")]
+    TokenNotHeld,
+    /// A token that is asked for is held.
+    #[error("token already held")]
+    TokenAlreadyHeld,
+    /// The number is of no point that the call may name.
+    #[error("bad synchronization point serial number")]
+    BadNumber,
+    /// All numbers up to 999,999 are used.
+    #[error("synchronization point serial numbers used up")]
+    SerialsUsedUp,
+    /// There is no octet of data, or no token.
+    #[error("nothing to send")]
+    Empty,
+    /// There are more than 10,240 octets of user data, or 1,048,572 octets of data.
+    #[error("too long")]
+    TooLong,
+    /// No memory for what is to be sent.
+    #[error("out of memory")]
+    OutOfMemory,
+}
+
+/// Why a unit that came is bad, by the first of these that applies, with the SI of the unit
+/// (X.225 section 8).
+#[derive(Clone, Copy, PartialEq, Eq, Debug, Error)]
+pub enum UnitFault {
+    /// The octets of the TSDU are no session units.
+    #[error("malformed TSDU: {0}")]
+    Spelling(SpduFault),
+    /// The phase does not expect this unit.
+    #[error("unexpected unit {0}")]
+    Unexpected(u8),
+    /// The version, a functional unit or the type of resynchronization is not selected.
+    #[error("unit {0} is not selected")]
+    NotSelected(u8),
+    /// The unit needs a token that this end holds.
+    #[error("unit {0} without its token")]
+    TokenHeld(u8),
+    /// The number is of no point that the unit may name.
+    #[error("bad number in unit {0}")]
+    BadNumber(u8),
+    /// The tokens are not those that may be named.
+    #[error("bad tokens in unit {0}")]
+    BadTokens(u8),
+}

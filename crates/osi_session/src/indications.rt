@@ -1,0 +1,143 @@
+use crate::faults::UnitFault;
+use crate::octets::Octets;
+use crate::sides::Sides;
+use osi_spdu::{Requirements, TokenSet, TokenSetting};
+
+/// What the user of a session is shown (X.215 section 10, indications and confirms). User data may
+/// be empty.
+#[derive(Drop)]
+pub enum Indication {
+    /// The peer asks for a connection (CN).
+    Connect {
+        /// The functional units that it names.
+        requirements: Requirements,
+        /// The number that it proposes for the first point, 0 to 999,999.
+        serial: Option<u32>,
+        /// The side that it wishes for each token.
+        wishes: TokenSetting,
+        /// User data.
+        user_data: Octets,
+    },
+    /// The peer accepts the connection (AC).
+    Connected {
+        /// The functional units that it names; those are selected that the CN names too.
+        requirements: Requirements,
+        /// The number of the first point, where it names one, 0 to 999,999.
+        serial: Option<u32>,
+        /// The side that holds each token; a token that is not available is the asker's.
+        sides: Sides,
+        /// User data.
+        user_data: Octets,
+    },
+    /// There is no transport connection, for this reason (X.224 section 13.5.3).
+    RefusedByTransport {
+        /// The reason of the DR.
+        reason: u8,
+    },
+    /// The peer refuses the connection (RF).
+    RefusedBySession {
+        /// The reason code; 0, 1 and 2 are of the called user.
+        reason: u8,
+        /// The octets behind the reason code.
+        user_data: Octets,
+    },
+    /// Data (DT).
+    Data {
+        /// The octets.
+        user_data: Octets,
+    },
+    /// The peer gives tokens (GT).
+    Given {
+        /// At least one token.
+        tokens: TokenSet,
+    },
+    /// The peer asks for tokens (PT).
+    Asked {
+        /// At least one token.
+        tokens: TokenSet,
+        /// User data.
+        user_data: Octets,
+    },
+    /// A minor synchronization point (MIP).
+    Minor {
+        /// Its number, 0 to 999,999.
+        number: u32,
+        /// The peer asks for its confirmation.
+        confirm: bool,
+        /// User data.
+        user_data: Octets,
+    },
+    /// The peer confirms the minor points up to this one (MIA).
+    MinorConfirmed {
+        /// The number of the point, 0 to 999,999.
+        number: u32,
+        /// User data.
+        user_data: Octets,
+    },
+    /// A major synchronization point (MAP).
+    Major {
+        /// Its number, 0 to 999,999.
+        number: u32,
+        /// User data.
+        user_data: Octets,
+    },
+    /// The peer confirms the major point (MAA).
+    MajorConfirmed {
+        /// User data.
+        user_data: Octets,
+    },
+    /// The peer restarts at a point (RS).
+    Restart {
+        /// The number that the next point has, 0 to 999,999.
+        number: u32,
+        /// The side that it wishes for each token.
+        wishes: TokenSetting,
+        /// User data.
+        user_data: Octets,
+    },
+    /// The peer answers the restart (RA).
+    Restarted {
+        /// The number that the next point has, 0 to 999,999.
+        number: u32,
+        /// The side that holds each token; a token that is not available is the asker's.
+        sides: Sides,
+        /// User data.
+        user_data: Octets,
+    },
+    /// The peer asks for the release (FN).
+    Release {
+        /// User data.
+        user_data: Octets,
+    },
+    /// The peer releases the connection (DN).
+    Released {
+        /// User data.
+        user_data: Octets,
+    },
+    /// The peer refuses the release (NF).
+    ReleaseRefused {
+        /// User data.
+        user_data: Octets,
+    },
+    /// The peer's user aborts (AB with bit 02).
+    Aborted {
+        /// User data.
+        user_data: Octets,
+    },
+    /// The connection is aborted by the provider.
+    ProviderAbort {
+        /// Why.
+        cause: AbortCause,
+    },
+}
+
+/// Why the provider aborts.
+#[derive(Clone, Copy, PartialEq, Eq, Debug)]
+pub enum AbortCause {
+    /// The transport connection was closed or broken, or had a fault.
+    Lost,
+    /// The peer's provider aborts (AB without bit 02): the octet of its parameter 17.
+    Peer(u8),
+    /// A unit that came is bad.
+    Unit(UnitFault),
+}

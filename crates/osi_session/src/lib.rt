@@ -1,0 +1,38 @@
+//! The session protocol machine (X.225 version 2): one side of one connection as a value. It is
+//! told of each call of its user and of each unit that comes, and tells what is sent and shown.
+#![tactic(auto)]
+
+mod calling;
+mod faults;
+mod grouping;
+mod indications;
+mod messages;
+mod numbers;
+mod octets;
+mod opening;
+mod phases;
+mod plans;
+mod reactions;
+mod reading;
+mod requests;
+mod selected;
+mod sides;
+mod sent;
+mod sessions;
+mod state;
+mod taken;
+mod taking;
+mod tokens;
+mod writing;
+
+pub use faults::{CallError, UnitFault};
+pub use indications::{AbortCause, Indication};
+pub use octets::Octets;
+pub use opening::Opening;
+pub use phases::Phase;
+pub use plans::Plan;
+pub use requests::Request;
+pub use sent::Sent;
+pub use sessions::Session;
+pub use sides::Sides;
+pub use taken::Taken;

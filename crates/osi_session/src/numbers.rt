@@ -1,0 +1,91 @@
+ghost use Rattle.std.specs.Prelude.{◌≡◌, ◌<◌, ◌≤◌, ◌+◌, ◌^◌};
+ghost use Rattle.osi_session.specs.Numbers.{from_base, point_sent, point_taken, minor_confirmed, major_confirmed, restarted_at};
+
+/// The numbers of synchronization points (X.225 section 5.9): V(M), V(A), V(R), and whether the
+/// points were last taken, so that this end answers them.
+#[derive(Clone, Copy, PartialEq, Eq, Debug)]
+pub(crate) struct Numbers {
+    /// V(M): the number of the next point.
+    pub(crate) next: u32,
+    /// V(A): the lowest number that is not yet confirmed.
+    pub(crate) confirmed: u32,
+    /// V(R): the lowest number at which this end may restart.
+    pub(crate) lowest: u32,
+    /// The answer flag: a point was taken after the last one that was sent.
+    pub(crate) answers: bool,
+}
+
+#[tactic(auto, unfolding(crate::specs::Numbers::point_sent, crate::specs::Numbers::point_taken, crate::specs::Numbers::minor_confirmed, crate::specs::Numbers::major_confirmed, crate::specs::Numbers::restarted_at))]
+impl Numbers {
+    /// Before any point.
+    pub(crate) fn from_base(base: u32) -> Numbers
+        ensures { result ≡ from_base base }
+    {
+        Numbers {
+            next: base,
+            confirmed: base,
+            lowest: base,
+            answers: false,
+        }
+    }
+
+    /// A point is sent. Where the last was taken, those before count as confirmed.
+    pub(crate) fn point_sent(self) -> Numbers
+        requires { self.next < 1000000 }
+        ensures { result ≡ point_sent self }
+    {
+        Numbers {
+            next: self.next + 1,
+            confirmed: if self.answers { self.next } else { self.confirmed },
+            answers: false,
+            ..self
+        }
+    }
+
+    /// A point is taken. Where the last was sent, those before count as confirmed.
+    pub(crate) fn point_taken(self) -> Numbers
+        requires { self.next < 1000000 }
+        ensures { result ≡ point_taken self }
+    {
+        Numbers {
+            next: self.next + 1,
+            confirmed: if self.answers { self.confirmed } else { self.next },
+            answers: true,
+            ..self
+        }
+    }
+
+    /// The minor points up to this one are confirmed.
+    pub(crate) fn minor_confirmed(self, number: u32) -> Numbers
+        requires { number < 1000000 }
+        ensures { result ≡ minor_confirmed number self }
+    {
+        Numbers {
+            confirmed: number + 1,
+            ..self
+        }
+    }
+
+    /// A major point is confirmed: all before the next number is.
+    pub(crate) fn major_confirmed(self) -> Numbers
+        ensures { result ≡ major_confirmed self }
+    {
+        Numbers {
+            confirmed: self.next,
+            lowest: self.next,
+            ..self
+        }
+    }
+
+    /// A restart: this number is the next again.
+    pub(crate) fn restarted_at(self, number: u32) -> Numbers
+        ensures { result ≡ restarted_at number self }
+    {
+        Numbers {
+            next: number,
+            confirmed: if number < self.confirmed { number } else { self.confirmed },
+            lowest: if number < self.lowest { number } else { self.lowest },
+            ..self
+        }
+    }
+}

@@ -1,0 +1,35 @@
+ghost use Rattle.std.specs.Prelude.{◌≡◌};
+
+use crate::sent::Sent;
+use crate::state::State;
+use std::marker::Model;
+
+/// What a call would do: the state after it, and the TSDU that it sends. It is made by
+/// `Session::plan` and done by `Session::commit`.
+#[derive(Drop)]
+pub struct Plan {
+    pub(crate) next: State,
+    pub(crate) sent: Sent,
+}
+
+impl Model for Plan {
+    ghost use Rattle.std.specs.Prelude.{◌≡◌, false};
+    ghost use Rattle.osi_session.specs.Phases.{is_wait_transport};
+    ghost use Rattle.osi_session.specs.Sessions.{Planned};
+    ghost use Rattle.osi_session.specs.Sound.{IsSound};
+
+    ghost Value = { Planned };
+
+    ghost view = { λ p. record { next = p.next; sent = p.sent } };
+
+    ghost invariant = { λ p. IsSound p.next × (is_wait_transport p.next.phase ≡ false) };
+}
+
+impl Plan {
+    /// The octets of the TSDU that is to be sent.
+    pub fn octets(&self) -> &[u8]
+        ensures { result.now ≡ self.now.sent }
+    {
+        self.sent.as_slice()
+    }
+}

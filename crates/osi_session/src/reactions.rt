@@ -1,0 +1,127 @@
+ghost use Rattle.std.specs.Prelude.{◌≡◌, []};
+ghost use Rattle.osi_session.specs.Respond.{nothing, shows, bad, lost};
+ghost use Rattle.osi_session.specs.Shown.{shown_by};
+ghost use Rattle.osi_session.specs.Steps.{outcome_of, reply_of};
+ghost use Rattle.osi_session.specs.Meanings.{meant_by};
+ghost use Rattle.osi_session.specs.Written.{user_data_of};
+
+use crate::faults::UnitFault;
+use crate::indications::{AbortCause, Indication};
+use crate::messages::Message;
+use crate::phases::Phase;
+use crate::state::State;
+
+/// The reason of an RF where the version is not supported.
+const VERSION_NOT_SUPPORTED: u8 = 132;
+
+/// The reason of an RF for a restriction of the implementation.
+const IMPLEMENTATION_RESTRICTION: u8 = 134;
+
+/// The octet of an AB for a protocol error, which releases the transport connection too.
+const PROTOCOL_ERROR: u8 = 0x05;
+
+/// What is sent in answer to a unit, besides what the user sends.
+#[derive(Clone, Copy, Debug)]
+pub(crate) enum Reply {
+    /// RF with reason 132: the peer has not version 2.
+    VersionNotSupported,
+    /// RF with reason 134: there is neither half-duplex nor duplex.
+    ImplementationRestriction,
+    /// AB for a protocol error, which releases the transport connection too.
+    ProtocolError,
+    /// AA.
+    AbortAccept,
+}
+
+impl Reply {
+    /// The unit that is sent.
+    #[tactic(auto, unfolding(crate::specs::Written::user_data_of))]
+    pub(crate) fn message(self) -> Message<'static>
+        ensures meaning { meant_by result ≡ reply_of self }
+        ensures short { user_data_of (meant_by result) ≡ [] }
+    {
+        match self {
+            Reply::VersionNotSupported => Message::Refuse {
+                reason: VERSION_NOT_SUPPORTED,
+                user_data: &[],
+            },
+            Reply::ImplementationRestriction => Message::Refuse {
+                reason: IMPLEMENTATION_RESTRICTION,
+                user_data: &[],
+            },
+            Reply::ProtocolError => Message::Abort {
+                transport_disconnect: PROTOCOL_ERROR,
+                user_data: &[],
+            },
+            Reply::AbortAccept => Message::AbortAccept,
+        }
+    }
+}
+
+/// What a unit does: the state after it, what the user is shown, what is sent, and whether the
+/// transport connection is closed.
+#[derive(Drop)]
+pub(crate) struct Reaction {
+    pub(crate) next: State,
+    pub(crate) shown: Option<Indication>,
+    pub(crate) reply: Option<Reply>,
+    pub(crate) closes: bool,
+}
+
+impl Reaction {
+    /// Only the state may change.
+    pub(crate) fn silent(next: State) -> Reaction
+        ensures { outcome_of result ≡ nothing next }
+    {
+        Reaction {
+            next,
+            shown: None,
+            reply: None,
+            closes: false,
+        }
+    }
+
+    /// The user is shown something, and nothing is sent.
+    pub(crate) fn showing(next: State, indication: Indication) -> Reaction
+        ensures { outcome_of result ≡ shows next (shown_by indication) }
+    {
+        Reaction {
+            shown: Some(indication),
+            ..Reaction::silent(next)
+        }
+    }
+
+    /// A bad unit: AB is sent. Before a CN was taken there is no user to be shown it.
+    pub(crate) fn bad(state: &State, fault: UnitFault) -> Reaction
+        ensures { outcome_of result ≡ bad state.now fault }
+    {
+        let cause = AbortCause::Unit(fault);
+        let shown = if state.phase.is_wait_cn() {
+            None
+        } else {
+            Some(Indication::ProviderAbort { cause })
+        };
+        Reaction {
+            next: state.without_tokens(Phase::Aborting),
+            shown,
+            reply: Some(Reply::ProtocolError),
+            closes: false,
+        }
+    }
+
+    /// The transport connection was closed or broken, or had a fault.
+    pub(crate) fn lost(state: &State) -> Reaction
+        ensures { outcome_of result ≡ lost state.now }
+    {
+        let cause = AbortCause::Lost;
+        let shown = if state.phase.shows_loss() {
+            Some(Indication::ProviderAbort { cause })
+        } else {
+            None
+        };
+        Reaction {
+            shown,
+            ..Reaction::silent(state.without_tokens(Phase::Ended))
+        }
+    }
+}
