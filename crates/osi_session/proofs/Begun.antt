@@ -1,6 +1,5 @@
 -- No unit goes back to awaiting the transport connection.
-use Rattle.std.proofs.Common.{◌≡◌, refl, Bool, true, false, not, ◌&&◌, ◌||◌, Option, Some, None, if◌then◌else◌}
-use Rattle.osi_session.specs.declared.phases.Phase.{Phase}
+use Rattle.std.proofs.Common.{◌≡◌, Bool, true, false, not, ◌&&◌, ◌||◌, Option, Some, None, if◌then◌else◌}
 use Rattle.osi_session.specs.declared.faults.UnitFault.{UnitFault}
 use Rattle.osi_session.specs.declared.state.State.{State}
 use Rattle.osi_session.specs.Phases.{is_wait_transport, is_aborting, is_ended, is_restarting}
@@ -59,9 +58,9 @@ pub unit_begun : (s : State) (u : Meaning) → Begins s (respond_unit s u).next
 unfolding respond_unit
 unit_begun s u =
     either (is_aborting s.phase) s _ _ (aborting_begun s u)
-      (either (is_ended s.phase) s _ _ (ended_begun s u)
-        (either (has_no_effect u || (is_restarting s.phase && not (passes_restarting u))) s _ _ (λ k. k)
-          (either (not (is_expected s.phase u)) s _ _ (λ k. absurd (cc)) (expected_begun s u))))
+    (either (is_ended s.phase) s _ _ (ended_begun s u)
+    (either (has_no_effect u || (is_restarting s.phase && not (passes_restarting u))) s _ _ (λ k. k)
+    (either (not (is_expected s.phase u)) s _ _ (λ k. absurd (cc)) (expected_begun s u))))
 
 pub respond_begun : (s : State) (said : Said) → is_wait_transport (respond s said).next.phase ≡ true → is_wait_transport s.phase ≡ true
 unfolding respond

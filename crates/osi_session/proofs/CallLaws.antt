@@ -1,15 +1,15 @@
 -- The table of calls never answers that memory is wanted, and sends no more user data than fits.
-use Rattle.std.proofs.Common.{◌≡◌, refl, sym, subst, ℕ, ◌≤◌, ◌<◌, Bool, true, false, not, ◌&&◌, ◌||◌, nat_le, nat_lt, List, [], ◌∷◌, length, Ok, Err, arith, if◌then◌else◌}
+use Rattle.std.proofs.Common.{◌≡◌, refl, sym, subst, ◌<◌, Bool, true, false, not, nat_le, List, [], ◌∷◌, length, Ok, Err, arith, if◌then◌else◌}
 use Rattle.std.proofs.lemmas.Bool.{leb-true}
 use Rattle.osi_session.specs.declared.faults.CallError.{CallError}
 use Rattle.osi_session.specs.declared.faults.CallError.TheVariants as error
 use Rattle.osi_session.specs.declared.state.State.{State}
 use Rattle.osi_session.specs.Phases.{is_over}
 use Rattle.osi_session.specs.Calls.{Call, Accept, Refuse, Data, Give, Please, Minor, MinorConfirm, Major, MajorConfirm, Restart, RestartConfirm, Release, ReleaseAccept, ReleaseRefuse, Abort}
-use Rattle.osi_session.specs.Allowed.{Test, Step, Answer, first_error, needs, may_call, octets_of, most_of, after, sends, met, sized, allowed}
+use Rattle.osi_session.specs.Allowed.{Test, Step, Answer, first_error, needs, may_call, octets_of, most_of, sends, met, sized, allowed}
 use Rattle.osi_session.specs.Sessions.{is_memory, Refused, RefusedBy}
 use Rattle.osi_session.specs.Written.{user_data_of}
-use Rattle.osi_session.proofs.Passed.{Passed, passed}
+use Rattle.osi_session.proofs.Passed.{passed}
 
 abbrev AllNamed : List Test → Type 0
 AllNamed [] = Unit {0}
@@ -59,8 +59,8 @@ allowed_named : (s : State) (c : Call) (e : CallError) → allowed s c ≡ Err e
 unfolding allowed
 allowed_named s c e h =
     else_named (is_over s.phase) _ error.Ended e refl
-      (else_named (not (may_call s.phase c)) _ error.BadState e refl
-        (sized_named (nat_le (length (octets_of c)) (most_of c)) (met s c) e (met_named s c e))) h
+    (else_named (not (may_call s.phase c)) _ error.BadState e refl
+    (sized_named (nat_le (length (octets_of c)) (most_of c)) (met s c) e (met_named s c e))) h
 
 -- an error of the table is answered as it is
 pub refused : (s : State) (c : Call) (e : CallError) → allowed s c ≡ Err e → Refused e (allowed s c)

@@ -1,7 +1,6 @@
 -- Where one of two outcomes shows or sends something, both together do.
-use Rattle.std.proofs.Common.{◌≡◌, refl, Bool, true, false, ◌&&◌, ◌||◌, List, [], ◌∷◌, ◌++◌, Option, Some, None}
+use Rattle.std.proofs.Common.{◌≡◌, refl, Bool, true, false, ◌&&◌, List, [], ◌∷◌, ◌++◌, Option, Some, None}
 use Rattle.std.specs.Prelude.{is_none}
-use Rattle.osi_session.specs.declared.state.State.{State}
 use Rattle.osi_session.specs.Shown.{Shown}
 use Rattle.osi_session.specs.Meanings.{Meaning}
 use Rattle.osi_session.specs.Respond.{Outcome, is_nil, is_silent, first_reply, respond_unit, and_then}

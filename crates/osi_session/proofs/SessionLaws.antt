@@ -1,6 +1,5 @@
 -- What is true of a session in memory.
 use Rattle.std.proofs.Common.{◌≡◌, refl, sym, subst, ℕ, if◌then◌else◌, ◌<◌, ◌≤◌, Bool, true, false, Option, Some, None, Ok, arith}
-use Rattle.osi_spdu.specs.declared.serials.Serial.{Serial}
 use Rattle.osi_session.specs.declared.requests.Request.{Request}
 use Rattle.osi_session.specs.declared.requests.Request.TheVariants as request
 use Rattle.osi_session.specs.declared.messages.Message.{Message}
@@ -10,14 +9,13 @@ use Rattle.osi_session.specs.Phases.{is_wait_transport, in_major, is_restart_due
 use Rattle.osi_session.specs.Sound.{IsSound, AreOrdered}
 use Rattle.osi_session.specs.Calls.{HasSerial, called_by}
 use Rattle.osi_session.specs.Meanings.{meant_by}
-use Rattle.osi_session.specs.Numbered.{IsSmall, IsNumbered, AreNumbered}
+use Rattle.osi_session.specs.Numbered.{IsNumbered, AreNumbered}
 use Rattle.osi_session.specs.Allowed.{Step, allowed}
 use Rattle.osi_session.specs.declared.opening.Opening.{Opening}
 use Rattle.osi_session.specs.declared.numbers.Numbers.{Numbers}
 use Rattle.osi_session.specs.Numbers.{from_base}
 use Rattle.osi_session.specs.Tokens.{no_token}
 use Rattle.osi_session.specs.Units.{functional_units, has_points}
-use Rattle.osi_session.specs.Meanings.{Meaning}
 use Rattle.osi_session.specs.declared.grouping.Messages.{Messages}
 use Rattle.osi_session.specs.Reading.{Said}
 use Rattle.osi_session.specs.Steps.{said_with, said_in}
@@ -70,12 +68,15 @@ pub at_first : (s : State) → s.base ≡ 0 → s.numbers ≡ from_base 0 → s.
 at_first s b n p m r t = record {
   ordered = subst (λ (v : Numbers). AreOrdered s.base v) (sym n) (subst (λ (x : ℕ). AreOrdered x (from_base 0)) (sym b) (from_ordered 0 (omega arith)));
   first = p;
-  major = λ k. absurd (cc); restart = λ k. absurd (cc); tokens = λ k. t }
+  major = λ k. absurd (cc);
+  restart = λ k. absurd (cc);
+  tokens = λ k. t;
+}
 
 pub awaiting_sound : IsSound awaiting
 awaiting_sound = at_first awaiting refl refl (omega arith) refl refl refl
 
-first_small : (b : Bool) (n : ℕ) → n ≤ 999999 → (if b then n else 0) < 1000000
+pub first_small : (b : Bool) (n : ℕ) → n ≤ 999999 → (if b then n else 0) < 1000000
 first_small true n h = omega arith
 first_small false n h = omega arith
 

@@ -1,49 +1,65 @@
 -- What is true of a session at all times is true after each accepted call.
-use Rattle.std.proofs.Common.{◌≡◌, refl, sym, ◌∙◌, ap, subst, ℕ, ◌+◌, ◌-◌, ◌≤◌, ◌<◌, Bool, true, false, not, ◌&&◌, ◌||◌, nat_le, nat_lt, List, [], ◌∷◌, length, Ok, arith, if◌then◌else◌}
+use Rattle.std.proofs.Common.{◌≡◌, refl, sym, subst, ℕ, ◌≤◌, ◌<◌, Bool, true, false, Ok, arith, if◌then◌else◌}
 use Rattle.std.proofs.lemmas.Bool.{leb-true, ltb-true, and_parts}
 use Rattle.osi_spdu.specs.declared.settings.TokenSetting.{TokenSetting}
 use Rattle.osi_session.specs.declared.phases.Phase.{Phase}
-use Rattle.osi_session.specs.declared.phases.Phase.TheVariants.{WaitTransport, WaitCn, Connecting, Answering, Ready, MajorAsked, MajorDue, Releasing, ReleaseDue, Restarting, RestartDue, Aborting, Ended}
+use Rattle.osi_session.specs.declared.phases.Phase.TheVariants.{Ready, MajorAsked, Releasing, Restarting, Aborting, Ended}
 use Rattle.osi_session.specs.declared.state.State.{State}
 use Rattle.osi_session.specs.declared.numbers.Numbers.{Numbers}
 use Rattle.osi_session.specs.declared.selected.FunctionalUnits.{FunctionalUnits}
 use Rattle.osi_session.specs.declared.tokens.Tokens.{Tokens}
-use Rattle.osi_session.specs.Tokens.{no_token}
 use Rattle.osi_session.specs.Units.{functional_units, has_points}
 use Rattle.osi_session.specs.Numbers.{point_sent, minor_confirmed, major_confirmed, restarted_at}
 use Rattle.osi_session.specs.Phases.{in_major, is_restart_due, may_hold, may_give, may_ask, is_ready, is_major_due, may_confirm_minor, is_wait_transport}
 use Rattle.osi_session.specs.State.{without_tokens}
 use Rattle.osi_session.specs.Sound.{IsSound, AreOrdered}
 use Rattle.osi_session.specs.Calls.{Call, Accept, Refuse, Data, Give, Please, Minor, MinorConfirm, Major, MajorConfirm, Restart, RestartConfirm, Release, ReleaseAccept, ReleaseRefuse, Abort, HasSerial}
-use Rattle.osi_session.specs.Allowed.{Step, base_for, opened_with, is_confirmable, is_restartable, last_number, needs, may_call, after, allowed}
-use Rattle.osi_session.proofs.Passed.{Passed, passed, AllHold}
+use Rattle.osi_session.specs.Allowed.{Step, opened_with, is_confirmable, is_restartable, last_number, needs, may_call, after, allowed}
+use Rattle.osi_session.proofs.Passed.{passed, AllHold}
 use Rattle.osi_session.proofs.PhaseLaws.{implied, excluded}
 use Rattle.osi_session.proofs.SoundNumbers.{from_ordered, sent_ordered, minor_ordered, major_ordered, restart_ordered}
 
 -- a phase in which no token is held, no point is outstanding and no restart is due
 pub bare : (p : Phase) (s : State) → in_major p ≡ false → is_restart_due p ≡ false → IsSound s → IsSound (without_tokens p s)
 bare p s m r h = record {
-  ordered = h.ordered; first = h.first;
-  major = λ k. absurd (cc); restart = λ k. absurd (cc); tokens = λ k. refl }
+  ordered = h.ordered;
+  first = h.first;
+  major = λ k. absurd (cc);
+  restart = λ k. absurd (cc);
+  tokens = λ k. refl;
+}
 
 -- a phase in which tokens may be held
 pub holding_phase : (p : Phase) (s : State) → in_major p ≡ false → is_restart_due p ≡ false → may_hold p ≡ true
     → IsSound s → IsSound (record s { phase = p })
 holding_phase p s m r t h = record {
-  ordered = h.ordered; first = h.first;
-  major = λ k. absurd (cc); restart = λ k. absurd (cc); tokens = λ k. absurd (cc) }
+  ordered = h.ordered;
+  first = h.first;
+  major = λ k. absurd (cc);
+  restart = λ k. absurd (cc);
+  tokens = λ k. absurd (cc);
+}
 
 -- the numbers move in a phase in which no restart is due
 pub moved : (v : Numbers) (s : State) → AreOrdered s.base v → (in_major s.phase ≡ true → s.base < v.next) → is_restart_due s.phase ≡ false
     → IsSound s → IsSound (record s { numbers = v })
 moved v s o m r h = record {
-  ordered = o; first = h.first; major = m; restart = λ k. absurd (cc); tokens = h.tokens }
+  ordered = o;
+  first = h.first;
+  major = m;
+  restart = λ k. absurd (cc);
+  tokens = h.tokens;
+}
 
 -- a connection that is opened
 pub opened : (units : FunctionalUnits) (held : Tokens) (base : ℕ) (s : State) → base ≤ 1000000 → IsSound s → IsSound (opened_with units held base s)
 opened units held base s small h = record {
-  ordered = from_ordered base small; first = h.first;
-  major = λ k. absurd (cc); restart = λ k. absurd (cc); tokens = λ k. absurd (cc) }
+  ordered = from_ordered base small;
+  first = h.first;
+  major = λ k. absurd (cc);
+  restart = λ k. absurd (cc);
+  tokens = λ k. absurd (cc);
+}
 
 base_small : (b : Bool) (serial : ℕ) → serial < 1000000 → (if b then serial else 0) ≤ 1000000
 base_small true serial h = omega arith
@@ -57,7 +73,7 @@ minor_moved s n c p h =
     let from = leb-true s.numbers.confirmed n (and_parts _ _ a).0 in
     let to = ltb-true n s.numbers.next (and_parts _ _ a).1 in
     moved (minor_confirmed n s.numbers) s (minor_ordered s.base n s.numbers h.ordered from to) h.major
-      (excluded may_confirm_minor is_restart_due (refl, refl, refl, refl, refl, refl, refl, refl, refl, refl, refl, refl, refl) s.phase p) h
+    (excluded may_confirm_minor is_restart_due (refl, refl, refl, refl, refl, refl, refl, refl, refl, refl, refl, refl, refl) s.phase p) h
 
 restart_moved : (s : State) (n : ℕ) (w : TokenSetting) → is_restartable s n ≡ true → IsSound s
     → IsSound (record (without_tokens Restarting s) { wishes = w; numbers = restarted_at n s.numbers })
@@ -67,8 +83,12 @@ restart_moved s n w r h =
     let top = leb-true n last_number (and_parts _ _ a.1).0 in
     let from = h.ordered.lowest_from in
     record {
-      ordered = restart_ordered s.base n s.numbers h.ordered (omega arith) (omega arith); first = h.first;
-      major = λ k. absurd (cc); restart = λ k. absurd (cc); tokens = λ k. refl }
+      ordered = restart_ordered s.base n s.numbers h.ordered (omega arith) (omega arith);
+      first = h.first;
+      major = λ k. absurd (cc);
+      restart = λ k. absurd (cc);
+      tokens = λ k. refl;
+    }
 
 pub major_moved : (s : State) → s.numbers.next < 1000000 → IsSound s
     → IsSound (record s { phase = MajorAsked; numbers = point_sent s.numbers })
@@ -76,8 +96,12 @@ unfolding point_sent
 major_moved s left h =
     let from = h.ordered.confirmed_from in let to = h.ordered.confirmed_to in
     record {
-      ordered = sent_ordered s.base s.numbers h.ordered left; first = h.first;
-      major = λ k. omega arith; restart = λ k. absurd (cc); tokens = λ k. absurd (cc) }
+      ordered = sent_ordered s.base s.numbers h.ordered left;
+      first = h.first;
+      major = λ k. omega arith;
+      restart = λ k. absurd (cc);
+      tokens = λ k. absurd (cc);
+    }
 
 major_same : (s : State) → IsSound s → in_major s.phase ≡ true → s.base < (major_confirmed s.numbers).next
 unfolding major_confirmed
@@ -89,22 +113,27 @@ after_sound s (Accept requirements serial sides octets) small p t h =
 after_sound s (Refuse octets) small p t h = bare Ended s refl refl h
 after_sound s (Data octets) small p t h = h
 after_sound s (Give tokens) small p t h =
-    record { ordered = h.ordered; first = h.first; major = h.major; restart = h.restart;
-      tokens = λ k. absurd (let m = implied may_give may_hold (refl, refl, refl, refl, refl, refl, refl, refl, refl, refl, refl, refl, refl) s.phase p in cc) }
+    record {
+      ordered = h.ordered;
+      first = h.first;
+      major = h.major;
+      restart = h.restart;
+      tokens = λ k. absurd (let m = implied may_give may_hold (refl, refl, refl, refl, refl, refl, refl, refl, refl, refl, refl, refl, refl) s.phase p in cc);
+    }
 after_sound s (Please tokens octets) small p t h = h
 after_sound s (Minor confirm octets) small p t h =
     let left = leb-true s.numbers.next last_number t.1.1.0 in
     let from = h.ordered.confirmed_from in let to = h.ordered.confirmed_to in
     moved (point_sent s.numbers) s (sent_ordered s.base s.numbers h.ordered (omega arith))
-      (λ k. absurd (let m = excluded is_ready in_major (refl, refl, refl, refl, refl, refl, refl, refl, refl, refl, refl, refl, refl) s.phase p in cc))
-      (excluded is_ready is_restart_due (refl, refl, refl, refl, refl, refl, refl, refl, refl, refl, refl, refl, refl) s.phase p) h
+    (λ k. absurd (let m = excluded is_ready in_major (refl, refl, refl, refl, refl, refl, refl, refl, refl, refl, refl, refl, refl) s.phase p in cc))
+    (excluded is_ready is_restart_due (refl, refl, refl, refl, refl, refl, refl, refl, refl, refl, refl, refl, refl) s.phase p) h
 after_sound s (MinorConfirm n octets) small p t h = minor_moved s n t.1.0 p h
 after_sound s (Major octets) small p t h =
     let left = leb-true s.numbers.next last_number t.1.1.0 in
     major_moved s (omega arith) h
 after_sound s (MajorConfirm octets) small p t h = holding_phase Ready (record s { numbers = major_confirmed s.numbers }) refl refl refl
     (moved (major_confirmed s.numbers) s (major_ordered s.base s.numbers h.ordered) (major_same s h)
-      (excluded is_major_due is_restart_due (refl, refl, refl, refl, refl, refl, refl, refl, refl, refl, refl, refl, refl) s.phase p) h)
+    (excluded is_major_due is_restart_due (refl, refl, refl, refl, refl, refl, refl, refl, refl, refl, refl, refl, refl) s.phase p) h)
 after_sound s (Restart n wishes octets) small p t h = restart_moved s n _ t.1.0 h
 after_sound s (RestartConfirm sides octets) small p t h =
     record { ordered = h.ordered; first = h.first; major = λ k. absurd (cc); restart = λ k. absurd (cc); tokens = λ k. absurd (cc) }

@@ -1,5 +1,5 @@
 -- The numbers stay in order, however they move.
-use Rattle.std.proofs.Common.{◌≡◌, refl, ℕ, ◌+◌, ◌≤◌, ◌<◌, Bool, true, false, nat_lt, arith, if◌then◌else◌}
+use Rattle.std.proofs.Common.{ℕ, ◌+◌, ◌≤◌, ◌<◌, Bool, true, false, nat_lt, arith, if◌then◌else◌}
 use Rattle.osi_session.specs.declared.numbers.Numbers.{Numbers}
 use Rattle.osi_session.specs.Numbers.{from_base, point_sent, point_taken, minor_confirmed, major_confirmed, restarted_at, lower}
 use Rattle.osi_session.specs.Sound.{AreOrdered}
@@ -17,7 +17,12 @@ lower_to n m = grind arith
 
 pub from_ordered : (base : ℕ) → base ≤ 1000000 → AreOrdered base (from_base base)
 from_ordered base h = record {
-  confirmed_from = omega arith; confirmed_to = omega arith; lowest_from = omega arith; lowest_to = omega arith; last = h }
+  confirmed_from = omega arith;
+  confirmed_to = omega arith;
+  lowest_from = omega arith;
+  lowest_to = omega arith;
+  last = h;
+}
 
 pub sent_ordered : (base : ℕ) (v : Numbers) → AreOrdered base v → v.next < 1000000 → AreOrdered base (point_sent v)
 unfolding point_sent
@@ -26,7 +31,10 @@ sent_ordered base v h k =
     record {
       confirmed_from = chosen_from v.answers base v.next v.confirmed (omega arith) a;
       confirmed_to = chosen_to v.answers v.next v.confirmed (v.next + 1) (omega arith) (omega arith);
-      lowest_from = c; lowest_to = omega arith; last = omega arith }
+      lowest_from = c;
+      lowest_to = omega arith;
+      last = omega arith;
+    }
 
 pub taken_ordered : (base : ℕ) (v : Numbers) → AreOrdered base v → v.next < 1000000 → AreOrdered base (point_taken v)
 unfolding point_taken
@@ -35,22 +43,34 @@ taken_ordered base v h k =
     record {
       confirmed_from = chosen_from v.answers base v.confirmed v.next a (omega arith);
       confirmed_to = chosen_to v.answers v.confirmed v.next (v.next + 1) (omega arith) (omega arith);
-      lowest_from = c; lowest_to = omega arith; last = omega arith }
+      lowest_from = c;
+      lowest_to = omega arith;
+      last = omega arith;
+    }
 
 pub minor_ordered : (base n : ℕ) (v : Numbers) → AreOrdered base v → v.confirmed ≤ n → n < v.next → AreOrdered base (minor_confirmed n v)
 unfolding minor_confirmed
 minor_ordered base n v h k l =
     let a = h.confirmed_from in
     record {
-      confirmed_from = omega arith; confirmed_to = omega arith;
-      lowest_from = h.lowest_from; lowest_to = h.lowest_to; last = h.last }
+      confirmed_from = omega arith;
+      confirmed_to = omega arith;
+      lowest_from = h.lowest_from;
+      lowest_to = h.lowest_to;
+      last = h.last;
+    }
 
 pub major_ordered : (base : ℕ) (v : Numbers) → AreOrdered base v → AreOrdered base (major_confirmed v)
 unfolding major_confirmed
 major_ordered base v h =
     let a = h.confirmed_from in let b = h.confirmed_to in
     record {
-      confirmed_from = omega arith; confirmed_to = omega arith; lowest_from = omega arith; lowest_to = omega arith; last = h.last }
+      confirmed_from = omega arith;
+      confirmed_to = omega arith;
+      lowest_from = omega arith;
+      lowest_to = omega arith;
+      last = h.last;
+    }
 
 pub restart_ordered : (base n : ℕ) (v : Numbers) → AreOrdered base v → base ≤ n → n < 1000000 → AreOrdered base (restarted_at n v)
 unfolding restarted_at
@@ -59,4 +79,5 @@ restart_ordered base n v h k l = record {
   confirmed_to = lower_to n v.confirmed;
   lowest_from = chosen_from (nat_lt n v.lowest) base n v.lowest k h.lowest_from;
   lowest_to = lower_to n v.lowest;
-  last = omega arith }
+  last = omega arith;
+}

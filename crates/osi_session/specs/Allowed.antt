@@ -1,13 +1,11 @@
 -- The table of calls: the first error that applies, or the new state and the unit that is sent.
-use Rattle.std.specs.Prelude.{ℕ, ◌+◌, ◌-◌, Bool, true, false, not, ◌&&◌, ◌||◌, if◌then◌else◌, nat_le, nat_lt, List, [], ◌∷◌, length, Option, Some, None, Result, Ok, Err}
-use Rattle.osi_spdu.specs.declared.settings.TokenSetting.{TokenSetting}
+use Rattle.std.specs.Prelude.{ℕ, ◌-◌, Bool, true, not, ◌&&◌, ◌||◌, if◌then◌else◌, nat_le, nat_lt, List, [], ◌∷◌, length, Option, Some, None, Result, Ok, Err}
 use Rattle.osi_spdu.specs.declared.fields.ResyncType.TheVariants as resync
 use Rattle.osi_session.specs.declared.phases.Phase.{Phase}
 use Rattle.osi_session.specs.declared.phases.Phase.TheVariants.{Ready, MajorAsked, Releasing, Restarting, Aborting, Ended}
 use Rattle.osi_session.specs.declared.faults.CallError.{CallError}
 use Rattle.osi_session.specs.declared.faults.CallError.TheVariants as error
 use Rattle.osi_session.specs.declared.tokens.Tokens.{Tokens}
-use Rattle.osi_session.specs.declared.sides.Sides.{Sides}
 use Rattle.osi_session.specs.declared.numbers.Numbers.{Numbers}
 use Rattle.osi_session.specs.declared.state.State.{State}
 use Rattle.osi_session.specs.declared.selected.FunctionalUnits.{FunctionalUnits}
@@ -59,7 +57,7 @@ is_confirmable v n = v.answers && (nat_le v.confirmed n && nat_lt n v.next)
 -- from V(R) to V(M); while a major point is outstanding, below V(M)
 abbrev pub is_restartable : State → ℕ → Bool
 is_restartable s n = nat_le s.numbers.lowest n && (nat_le n last_number
-  && (if in_major s.phase then nat_lt n s.numbers.next else nat_le n s.numbers.next))
+    && (if in_major s.phase then nat_lt n s.numbers.next else nat_le n s.numbers.next))
 
 -- the tests that many calls share
 
@@ -93,20 +91,20 @@ may_call p (Abort octets) = may_abort p
 -- what a call needs, in the order of its errors
 abbrev pub needs : State → Call → List Test
 needs s (Accept requirements serial sides octets) =
-  selected (units_within (functional_units requirements) s.units && is_profile requirements) ∷ []
+    selected (units_within (functional_units requirements) s.units && is_profile requirements) ∷ []
 needs s (Data octets) = holding (has_right s token.data_token) ∷ (nat_lt 0 (length octets), error.Empty) ∷ []
 needs s (Give tokens) =
-  selected (is_within tokens (available s.units)) ∷ holding (is_within tokens s.held)
-  ∷ (not (is_empty tokens), error.Empty) ∷ []
+    selected (is_within tokens (available s.units)) ∷ holding (is_within tokens s.held)
+    ∷ (not (is_empty tokens), error.Empty) ∷ []
 needs s (Please tokens octets) =
-  selected (is_within tokens (available s.units)) ∷ (is_disjoint tokens s.held, error.TokenAlreadyHeld)
-  ∷ (not (is_empty tokens), error.Empty) ∷ []
+    selected (is_within tokens (available s.units)) ∷ (is_disjoint tokens s.held, error.TokenAlreadyHeld)
+    ∷ (not (is_empty tokens), error.Empty) ∷ []
 needs s (Minor confirm octets) =
-  selected s.units.minor ∷ holding (has_right s token.data_token && has_right s token.minor) ∷ numbers_left s ∷ []
+    selected s.units.minor ∷ holding (has_right s token.data_token && has_right s token.minor) ∷ numbers_left s ∷ []
 needs s (MinorConfirm n octets) = selected s.units.minor ∷ (is_confirmable s.numbers n, error.BadNumber) ∷ []
 needs s (Major octets) =
-  selected s.units.major ∷ holding (has_right s token.data_token && (has_right s token.minor && has_right s token.major))
-  ∷ numbers_left s ∷ []
+    selected s.units.major ∷ holding (has_right s token.data_token && (has_right s token.minor && has_right s token.major))
+    ∷ numbers_left s ∷ []
 needs s (Restart n wishes octets) = selected s.units.resynchronize ∷ (is_restartable s n, error.BadNumber) ∷ []
 -- with duplex no token says who may ask, so only the caller may
 needs s (Release octets) = holding (each (has_right s) && (not s.units.duplex || s.is_caller)) ∷ []
@@ -145,7 +143,7 @@ opened_with units held base s = record s { phase = Ready; units = units; held = 
 -- the state after an accepted call
 abbrev pub after : State → Call → State
 after s (Accept requirements serial sides octets) =
-  opened_with (functional_units requirements)
+    opened_with (functional_units requirements)
     (of_answerer (functional_units requirements) (settle (functional_units requirements) s.wishes sides))
     (base_for (functional_units requirements) serial) s
 after s (Refuse octets) = without_tokens Ended s
@@ -157,7 +155,7 @@ after s (MinorConfirm n octets) = record s { numbers = minor_confirmed n s.numbe
 after s (Major octets) = record s { phase = MajorAsked; numbers = point_sent s.numbers }
 after s (MajorConfirm octets) = record s { phase = Ready; numbers = major_confirmed s.numbers }
 after s (Restart n wishes octets) =
-  record (without_tokens Restarting s) { wishes = offered s.units wishes; numbers = restarted_at n s.numbers }
+    record (without_tokens Restarting s) { wishes = offered s.units wishes; numbers = restarted_at n s.numbers }
 after s (RestartConfirm sides octets) = record s { phase = Ready; held = of_answerer s.units (settle s.units s.wishes sides) }
 after s (Release octets) = record s { phase = Releasing }
 after s (ReleaseAccept octets) = without_tokens Ended s
@@ -176,7 +174,7 @@ refusal_reason (b ∷ octets) = 2
 -- the unit that an accepted call sends
 abbrev pub sends : State → Call → Meaning
 sends s (Accept requirements serial sides octets) =
-  AC true requirements (serial_for (functional_units requirements) serial)
+    AC true requirements (serial_for (functional_units requirements) serial)
     (setting_of (settle (functional_units requirements) s.wishes sides)) octets
 sends s (Refuse octets) = RF (refusal_reason octets) octets
 sends s (Data octets) = DT octets
@@ -206,6 +204,6 @@ sized fits (Err e) = Err e
 -- the answer to a call; want of memory is not in it
 unfoldable pub allowed : State → Call → Answer
 allowed s c =
-  if is_over s.phase then Err error.Ended
-  else if not (may_call s.phase c) then Err error.BadState
-  else sized (nat_le (length (octets_of c)) (most_of c)) (met s c)
+    if is_over s.phase then Err error.Ended
+    else if not (may_call s.phase c) then Err error.BadState
+    else sized (nat_le (length (octets_of c)) (most_of c)) (met s c)

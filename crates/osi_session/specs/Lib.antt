@@ -1,11 +1,15 @@
 pub mod Allowed
 pub mod Calls
+pub mod Causes
 pub mod Meanings
 pub mod Numbered
 pub mod Numbers
 pub mod Phases
 pub mod Reading
 pub mod Respond
+pub mod Restarts
+pub mod Runs
+pub mod Sendable
 pub mod Sessions
 pub mod Shown
 pub mod Sides

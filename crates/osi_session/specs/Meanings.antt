@@ -29,9 +29,9 @@ pub data Meaning : Type 0 where
 -- what a unit in memory means
 abbrev pub meant_by : Message → Meaning
 meant_by (message.Connect version_2 requirements serial wishes data_octets) =
-  CN version_2 requirements.0 (option_map (λ s. s.number) serial) wishes data_octets.now
+    CN version_2 requirements.0 (option_map (λ s. s.number) serial) wishes data_octets.now
 meant_by (message.Accept version_2 requirements serial sides data_octets) =
-  AC version_2 requirements.0 (option_map (λ s. s.number) serial) sides data_octets.now
+    AC version_2 requirements.0 (option_map (λ s. s.number) serial) sides data_octets.now
 meant_by (message.Refuse reason data_octets) = RF reason data_octets.now
 meant_by (message.Data data_octets) = DT data_octets.now
 meant_by (message.Give tokens) = GT tokens

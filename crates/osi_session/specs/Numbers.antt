@@ -1,5 +1,5 @@
 -- The numbers of synchronization points, and how they move.
-use Rattle.std.specs.Prelude.{ℕ, ◌+◌, Bool, true, false, nat_lt, if◌then◌else◌}
+use Rattle.std.specs.Prelude.{ℕ, ◌+◌, true, false, nat_lt, if◌then◌else◌}
 use Rattle.osi_session.specs.declared.numbers.Numbers.{Numbers}
 
 abbrev pub from_base : ℕ → Numbers
@@ -10,14 +10,16 @@ unfoldable pub point_sent : Numbers → Numbers
 point_sent v = record v {
   next = v.next + 1;
   confirmed = if v.answers then v.next else v.confirmed;
-  answers = false }
+  answers = false;
+}
 
 -- a point is taken: where the last was sent, V(A) becomes V(M) and the flag goes on
 unfoldable pub point_taken : Numbers → Numbers
 point_taken v = record v {
   next = v.next + 1;
   confirmed = if v.answers then v.confirmed else v.next;
-  answers = true }
+  answers = true;
+}
 
 unfoldable pub minor_confirmed : ℕ → Numbers → Numbers
 minor_confirmed n v = record v { confirmed = n + 1 }

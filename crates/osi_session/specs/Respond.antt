@@ -6,20 +6,18 @@ use Rattle.osi_spdu.specs.declared.kinds.Kind.TheVariants as kind
 use Rattle.osi_spdu.specs.Kinds.{si_of}
 use Rattle.osi_spdu.specs.declared.fields.ResyncType.{ResyncType}
 use Rattle.osi_spdu.specs.declared.fields.ResyncType.TheVariants as resync
-use Rattle.osi_spdu.specs.declared.requirements.Requirements.{Requirements}
 use Rattle.osi_spdu.specs.declared.faults.SpduFault.{SpduFault}
 use Rattle.osi_session.specs.declared.phases.Phase.{Phase}
 use Rattle.osi_session.specs.declared.phases.Phase.TheVariants.{Answering, Ready, MajorDue, ReleaseDue, RestartDue, Aborting, Ended}
 use Rattle.osi_session.specs.declared.faults.UnitFault.{UnitFault}
 use Rattle.osi_session.specs.declared.faults.UnitFault.TheVariants.{Spelling, Unexpected, NotSelected, TokenHeld, BadNumber, BadTokens}
-use Rattle.osi_session.specs.declared.numbers.Numbers.{Numbers}
 use Rattle.osi_session.specs.declared.state.State.{State}
 use Rattle.osi_session.specs.declared.selected.FunctionalUnits.{FunctionalUnits}
 use Rattle.osi_session.specs.Tokens.{Token, has, no_token, is_empty, is_within, is_disjoint, united}
 use Rattle.osi_session.specs.Tokens as token
 use Rattle.osi_session.specs.Units.{names, functional_units, both_units, has_data, has_points, available}
 use Rattle.osi_session.specs.Sides.{stated, of_asker, answers_wishes}
-use Rattle.osi_session.specs.Numbers.{from_base, point_taken, minor_confirmed, major_confirmed, restarted_at}
+use Rattle.osi_session.specs.Numbers.{point_taken, minor_confirmed, major_confirmed, restarted_at}
 use Rattle.osi_session.specs.Phases.{is_wait_cn, is_connecting, is_ready, is_major_asked, is_releasing, is_restarting, is_aborting, is_ended, is_over, shows_loss, may_ask, takes_data, takes_please, takes_minor_ack, takes_restart}
 use Rattle.osi_session.specs.State.{without_tokens}
 use Rattle.osi_session.specs.Allowed.{opened_with}
@@ -103,7 +101,7 @@ lacks s t = not (has s.held t)
 -- the numbers that a minor confirmation may have; the major point itself is not one
 abbrev pub is_acknowledgeable : State → ℕ → Bool
 is_acknowledgeable s n = not s.numbers.answers && (nat_le s.numbers.confirmed n
-  && (if is_major_asked s.phase then nat_lt (n + 1) s.numbers.next else nat_lt n s.numbers.next))
+    && (if is_major_asked s.phase then nat_lt (n + 1) s.numbers.next else nat_lt n s.numbers.next))
 
 abbrev pub is_restart : ResyncType → Bool
 is_restart resync.Restart = true
@@ -113,21 +111,21 @@ is_restart resync.Set = false
 -- what a unit has to meet, in the order of its faults
 abbrev pub conditions : State → Meaning → List Condition
 conditions s (AC version_2 requirements serial sides octets) =
-  (version_2 && has_data (both_units s.units (functional_units requirements)), NotSelected)
-  ∷ (answers_wishes (both_units s.units (functional_units requirements)) s.wishes sides, BadTokens) ∷ []
+    (version_2 && has_data (both_units s.units (functional_units requirements)), NotSelected)
+    ∷ (answers_wishes (both_units s.units (functional_units requirements)) s.wishes sides, BadTokens) ∷ []
 conditions s (DT octets) = (lacks s token.data_token, TokenHeld) ∷ []
 conditions s (GT tokens) = (is_within tokens (available s.units) && is_disjoint tokens s.held, BadTokens) ∷ []
 conditions s (PT tokens octets) = (is_within tokens (available s.units), BadTokens) ∷ []
 conditions s (MIP confirm n octets) =
-  (s.units.minor, NotSelected) ∷ (lacks s token.data_token && lacks s token.minor, TokenHeld) ∷ (n == s.numbers.next, BadNumber) ∷ []
+    (s.units.minor, NotSelected) ∷ (lacks s token.data_token && lacks s token.minor, TokenHeld) ∷ (n == s.numbers.next, BadNumber) ∷ []
 conditions s (MIA n octets) = (s.units.minor, NotSelected) ∷ (is_acknowledgeable s n, BadNumber) ∷ []
 conditions s (MAP n octets) =
-  (s.units.major, NotSelected) ∷ (lacks s token.data_token && (lacks s token.minor && lacks s token.major), TokenHeld)
-  ∷ (n == s.numbers.next, BadNumber) ∷ []
+    (s.units.major, NotSelected) ∷ (lacks s token.data_token && (lacks s token.minor && lacks s token.major), TokenHeld)
+    ∷ (n == s.numbers.next, BadNumber) ∷ []
 conditions s (MAA n octets) = (n + 1 == s.numbers.next, BadNumber) ∷ []
 conditions s (RS kind n wishes octets) =
-  (s.units.resynchronize && is_restart kind, NotSelected)
-  ∷ (nat_le s.base n && (is_restarting s.phase || nat_le n s.numbers.next), BadNumber) ∷ []
+    (s.units.resynchronize && is_restart kind, NotSelected)
+    ∷ (nat_le s.base n && (is_restarting s.phase || nat_le n s.numbers.next), BadNumber) ∷ []
 conditions s (RA n sides octets) = (n == s.numbers.next, BadNumber) ∷ (answers_wishes s.units s.wishes sides, BadTokens) ∷ []
 conditions s (FN octets) = (is_empty s.held, TokenHeld) ∷ []
 conditions s (NF octets) = (s.units.negotiated_release, NotSelected) ∷ []
@@ -141,7 +139,7 @@ first_fault n (c ∷ cs) = if c.0 then first_fault n cs else Some (c.1 n)
 -- the lower number stands, and of equal numbers the caller's
 unfoldable pub stands : State → ℕ → Bool
 stands s n = not (is_restarting s.phase)
-  || (nat_lt n s.numbers.next || ((n == s.numbers.next) && not s.is_caller))
+    || (nat_lt n s.numbers.next || ((n == s.numbers.next) && not s.is_caller))
 
 -- version 2, and half-duplex or duplex
 abbrev pub is_acceptable : Bool → ℕ → Bool
@@ -154,11 +152,11 @@ agreed_base units serial proposed = if has_points units then unwrap_or serial pr
 -- the state after a good unit
 abbrev pub becomes : State → Meaning → State
 becomes s (CN version_2 requirements serial wishes octets) =
-  if is_acceptable version_2 requirements
-  then record s { phase = Answering; units = functional_units requirements; wishes = wishes; proposed = unwrap_or serial 0 }
-  else without_tokens Ended s
+    if is_acceptable version_2 requirements
+    then record s { phase = Answering; units = functional_units requirements; wishes = wishes; proposed = unwrap_or serial 0 }
+    else without_tokens Ended s
 becomes s (AC version_2 requirements serial sides octets) =
-  opened_with (both_units s.units (functional_units requirements))
+    opened_with (both_units s.units (functional_units requirements))
     (of_asker (both_units s.units (functional_units requirements)) (stated (both_units s.units (functional_units requirements)) sides))
     (agreed_base (both_units s.units (functional_units requirements)) serial s.proposed) s
 becomes s (RF reason octets) = without_tokens Ended s
@@ -170,7 +168,7 @@ becomes s (MIA n octets) = record s { numbers = minor_confirmed n s.numbers }
 becomes s (MAP n octets) = record s { phase = MajorDue; numbers = point_taken s.numbers }
 becomes s (MAA n octets) = record s { phase = Ready; numbers = major_confirmed s.numbers }
 becomes s (RS kind n wishes octets) =
-  if stands s n then record (without_tokens RestartDue s) { wishes = wishes; numbers = restarted_at n s.numbers } else s
+    if stands s n then record (without_tokens RestartDue s) { wishes = wishes; numbers = restarted_at n s.numbers } else s
 becomes s (RA n sides octets) = record s { phase = Ready; held = of_asker s.units (stated s.units sides) }
 becomes s (FN octets) = record s { phase = ReleaseDue }
 becomes s (DN octets) = without_tokens Ended s
@@ -181,9 +179,9 @@ becomes s AA = s
 -- what a good unit shows; before a CN was taken there is no user to be shown anything
 abbrev pub shown_for : State → Meaning → List Shown
 shown_for s (CN version_2 requirements serial wishes octets) =
-  if is_acceptable version_2 requirements then Connect requirements serial wishes octets ∷ [] else []
+    if is_acceptable version_2 requirements then Connect requirements serial wishes octets ∷ [] else []
 shown_for s (AC version_2 requirements serial sides octets) =
-  Connected requirements serial (stated (both_units s.units (functional_units requirements)) sides) octets ∷ []
+    Connected requirements serial (stated (both_units s.units (functional_units requirements)) sides) octets ∷ []
 shown_for s (RF reason octets) = RefusedBySession reason octets ∷ []
 shown_for s (DT octets) = Data octets ∷ []
 shown_for s (GT tokens) = Given tokens ∷ []
@@ -198,13 +196,13 @@ shown_for s (FN octets) = Release octets ∷ []
 shown_for s (DN octets) = Released octets ∷ []
 shown_for s (NF octets) = ReleaseRefused octets ∷ []
 shown_for s (AB bits octets) =
-  if is_wait_cn s.phase then [] else (if names bits 2 then Aborted octets else PeerAbort bits) ∷ []
+    if is_wait_cn s.phase then [] else (if names bits 2 then Aborted octets else PeerAbort bits) ∷ []
 shown_for s AA = []
 
 -- what a good unit is answered by: a CN that cannot be accepted by RF, AB by AA
 abbrev pub reply_for : Meaning → Option Meaning
 reply_for (CN version_2 requirements serial wishes octets) =
-  if not version_2 then Some (RF 132 []) else (if not (has_data (functional_units requirements)) then Some (RF 134 []) else None)
+    if not version_2 then Some (RF 132 []) else (if not (has_data (functional_units requirements)) then Some (RF 134 []) else None)
 reply_for (AB bits octets) = Some AA
 reply_for _ = None
 
@@ -222,7 +220,8 @@ bad s fault = record {
   next = without_tokens Aborting s;
   shown = if is_wait_cn s.phase then [] else BadUnit fault ∷ [];
   reply = Some (AB 5 []);
-  closes = false }
+  closes = false;
+}
 
 abbrev pub judged : State → Meaning → Option UnitFault → Outcome
 judged s u None = good s u
@@ -251,11 +250,11 @@ take_expected s u = judged s u (first_fault (si u) (conditions s u))
 -- one unit
 unfoldable pub respond_unit : State → Meaning → Outcome
 respond_unit s u =
-  if is_aborting s.phase then in_aborting s u
-  else if is_ended s.phase then in_ended s u
-  else if has_no_effect u || (is_restarting s.phase && not (passes_restarting u)) then nothing s
-  else if not (is_expected s.phase u) then bad s (Unexpected (si u))
-  else take_expected s u
+    if is_aborting s.phase then in_aborting s u
+    else if is_ended s.phase then in_ended s u
+    else if has_no_effect u || (is_restarting s.phase && not (passes_restarting u)) then nothing s
+    else if not (is_expected s.phase u) then bad s (Unexpected (si u))
+    else take_expected s u
 
 -- a unit that opens or aborts a connection, or answers an abort
 abbrev pub is_outside : Meaning → Bool
@@ -280,7 +279,8 @@ and_then first u = record {
   next = (respond_unit first.next u).next;
   shown = first.shown ++ (respond_unit first.next u).shown;
   reply = first_reply first.reply (respond_unit first.next u).reply;
-  closes = first.closes || (respond_unit first.next u).closes }
+  closes = first.closes || (respond_unit first.next u).closes;
+}
 
 -- the units of a TSDU; a token item acts after the unit behind it, and before an RS has no effect
 unfoldable pub respond : State → Said → Outcome

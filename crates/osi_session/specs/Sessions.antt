@@ -1,13 +1,10 @@
 -- What a session holds, and what its calls answer and leave.
-use Rattle.std.specs.Prelude.{◌≡◌, ℕ, ◌-◌, Bool, true, false, not, List, [], ◌∷◌, ◌++◌, length, Option, Some, None, option_map, Result, Ok, Err, IsOk, if◌then◌else◌, nat_le}
-use Rattle.osi_spdu.specs.declared.settings.TokenSetting.{TokenSetting}
+use Rattle.std.specs.Prelude.{◌≡◌, ℕ, Bool, true, false, not, List, ◌++◌, length, Option, Some, None, option_map, Result, Ok, Err, IsOk, if◌then◌else◌, nat_le}
 use Rattle.osi_spdu.specs.declared.settings.Wish.TheVariants.{Asker}
 use Rattle.osi_spdu.specs.Writing.{tsdu_octets}
-use Rattle.osi_session.specs.declared.phases.Phase.{Phase}
 use Rattle.osi_session.specs.declared.phases.Phase.TheVariants.{WaitTransport, WaitCn, Connecting, Ended}
 use Rattle.osi_session.specs.declared.faults.CallError.{CallError}
 use Rattle.osi_session.specs.declared.faults.CallError.TheVariants as error
-use Rattle.osi_session.specs.declared.indications.Indication.{Indication}
 use Rattle.osi_session.specs.declared.state.State.{State}
 use Rattle.osi_session.specs.declared.taken.Taken.{Taken}
 use Rattle.osi_session.specs.Tokens.{no_token}
@@ -17,9 +14,9 @@ use Rattle.osi_session.specs.Sides.{offered}
 use Rattle.osi_session.specs.Numbers.{from_base}
 use Rattle.osi_session.specs.Phases.{is_wait_transport}
 use Rattle.osi_session.specs.State.{without_tokens}
-use Rattle.osi_session.specs.Shown.{Shown, RefusedByTransport, shown_by}
+use Rattle.osi_session.specs.Shown.{Shown, RefusedByTransport}
 use Rattle.osi_session.specs.Written.{written, opening_units}
-use Rattle.osi_session.specs.Allowed.{Step, Answer, base_for, most_user_data}
+use Rattle.osi_session.specs.Allowed.{Answer, base_for, most_user_data}
 use Rattle.osi_session.specs.Respond.{Outcome, is_silent}
 use Rattle.osi_session.specs.Steps.{shown_list}
 
@@ -62,16 +59,22 @@ Calls (Err e) answer old new = Refused e answer × (new ≡ old)
 -- the calling end, before the transport connection is there
 abbrev pub asking : Opening → State
 asking o = record {
-  phase = WaitTransport; is_caller = true; units = functional_units o.requirements.0;
+  phase = WaitTransport;
+  is_caller = true;
+  units = functional_units o.requirements.0;
   wishes = offered (functional_units o.requirements.0) o.wishes;
-  held = no_token; proposed = base_for (functional_units o.requirements.0) o.serial.number; base = 0; numbers = from_base 0 }
+  held = no_token;
+  proposed = base_for (functional_units o.requirements.0) o.serial.number;
+  base = 0;
+  numbers = from_base 0;
+}
 
 -- a CN may ask for functional units that can be selected together, with short user data
 abbrev pub opens : Opening → Result Standing CallError
 opens o =
-  if not (is_profile o.requirements.0) then Err error.NotSelected
-  else if not (nat_le (length o.user_data.now) most_user_data) then Err error.TooLong
-  else Ok (record { state = asking o; waiting = Some (tsdu_octets (opening_units o)) })
+    if not (is_profile o.requirements.0) then Err error.NotSelected
+    else if not (nat_le (length o.user_data.now) most_user_data) then Err error.TooLong
+    else Ok (record { state = asking o; waiting = Some (tsdu_octets (opening_units o)) })
 
 abbrev pub Opens : Result Standing CallError → Result Standing CallError → Type 0
 Opens (Ok s) answer = answer ≡ Ok s
@@ -80,9 +83,15 @@ Opens (Err e) answer = Refused e answer
 -- the called end awaits a CN
 abbrev pub awaiting : State
 awaiting = record {
-  phase = WaitCn; is_caller = false; units = no_units;
+  phase = WaitCn;
+  is_caller = false;
+  units = no_units;
   wishes = record { data_token = Asker; minor = Asker; major = Asker; release = Asker };
-  held = no_token; proposed = 0; base = 0; numbers = from_base 0 }
+  held = no_token;
+  proposed = 0;
+  base = 0;
+  numbers = from_base 0;
+}
 
 -- the transport connection is there: the CN is sent
 abbrev pub after_opened : Standing → Standing
@@ -106,6 +115,6 @@ shown_in t = shown_list t.first ++ shown_list t.second
 -- something is shown or sent, and changes nothing.
 abbrev pub Takes : {E : Type 0} → Result Taken E → Outcome → Standing → Standing → Type 0
 Takes (Ok t) outcome old new =
-  (outcome ≡ record { next = new.state; shown = shown_in t; reply = outcome.reply; closes = t.closes })
-  × (t.reply ≡ option_map written outcome.reply) × (new.waiting ≡ old.waiting)
+    (outcome ≡ record { next = new.state; shown = shown_in t; reply = outcome.reply; closes = t.closes })
+    × (t.reply ≡ option_map written outcome.reply) × (new.waiting ≡ old.waiting)
 Takes (Err e) outcome old new = (is_silent outcome ≡ false) × (new ≡ old)

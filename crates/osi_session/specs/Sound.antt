@@ -1,5 +1,5 @@
 -- What is true of a session at all times.
-use Rattle.std.specs.Prelude.{◌≡◌, ◌≤◌, ◌<◌, ℕ, Bool, true, false}
+use Rattle.std.specs.Prelude.{◌≡◌, ◌≤◌, ◌<◌, ℕ, true, false}
 use Rattle.osi_session.specs.declared.state.State.{State}
 use Rattle.osi_session.specs.declared.numbers.Numbers.{Numbers}
 use Rattle.osi_session.specs.Phases.{in_major, is_restart_due, may_hold}

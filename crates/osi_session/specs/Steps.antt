@@ -1,5 +1,5 @@
 -- What calls and units in memory answer.
-use Rattle.std.specs.Prelude.{◌≡◌, ◌≤◌, ◌<◌, Bool, true, false, List, [], ◌∷◌, ◌++◌, Option, Some, None, option_map, Result, Ok, Err}
+use Rattle.std.specs.Prelude.{◌≡◌, false, List, [], ◌∷◌, ◌++◌, Option, Some, None, option_map, Result, Ok, Err}
 use Rattle.osi_session.specs.declared.faults.CallError.{CallError}
 use Rattle.osi_session.specs.declared.calling.Step as memory
 use Rattle.osi_session.specs.Meanings.{Meaning, meant_by}
@@ -45,7 +45,11 @@ Reacts (Err e) outcome = is_silent outcome ≡ false
 
 abbrev pub outcome_of_all : Reactions → Outcome
 outcome_of_all r = record {
-  next = r.next; shown = shown_list r.first ++ shown_list r.second; reply = option_map reply_of r.reply; closes = r.closes }
+  next = r.next;
+  shown = shown_list r.first ++ shown_list r.second;
+  reply = option_map reply_of r.reply;
+  closes = r.closes;
+}
 
 -- the same for all units of a TSDU
 abbrev pub ReactsAll : {E : Type 0} → Result Reactions E → Outcome → Type 0

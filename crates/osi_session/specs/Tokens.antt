@@ -1,5 +1,5 @@
 -- The four tokens, and sets of them.
-use Rattle.std.specs.Prelude.{ℕ, ◌+◌, ◌==◌, Bool, true, false, not, ◌&&◌, ◌||◌, if◌then◌else◌}
+use Rattle.std.specs.Prelude.{ℕ, ◌+◌, ◌==◌, Bool, true, false, not, ◌&&◌, ◌||◌}
 use Rattle.std.specs.Int.RustNames.{bit_and}
 use Rattle.osi_session.specs.declared.tokens.Tokens.{Tokens}
 

@@ -1,5 +1,5 @@
 -- The functional units of a session.
-use Rattle.std.specs.Prelude.{ℕ, ◌==◌, Bool, true, false, not, ◌&&◌, ◌||◌}
+use Rattle.std.specs.Prelude.{ℕ, ◌==◌, Bool, false, not, ◌&&◌, ◌||◌}
 use Rattle.std.specs.Int.RustNames.{bit_and}
 use Rattle.osi_session.specs.declared.tokens.Tokens.{Tokens}
 use Rattle.osi_session.specs.declared.selected.FunctionalUnits.{FunctionalUnits}
@@ -35,9 +35,9 @@ both_units a b = record {
 -- each of the first is in the second
 unfoldable pub units_within : FunctionalUnits → FunctionalUnits → Bool
 units_within a b =
-  (not a.half_duplex || b.half_duplex) && ((not a.duplex || b.duplex)
-  && ((not a.minor || b.minor) && ((not a.major || b.major)
-  && ((not a.resynchronize || b.resynchronize) && (not a.negotiated_release || b.negotiated_release)))))
+    (not a.half_duplex || b.half_duplex) && ((not a.duplex || b.duplex)
+    && ((not a.minor || b.minor) && ((not a.major || b.major)
+    && ((not a.resynchronize || b.resynchronize) && (not a.negotiated_release || b.negotiated_release)))))
 
 -- data can be sent
 unfoldable pub has_data : FunctionalUnits → Bool

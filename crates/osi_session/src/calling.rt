@@ -186,11 +186,7 @@ fn give<'a>(state: &State, tokens: TokenSet) -> Result<Step<'a>, CallError>
 }
 
 #[tactic(auto, unfolding(crate::specs::Allowed::met))]
-fn please<'a>(
-    state: &State,
-    tokens: TokenSet,
-    user_data: &'a [u8],
-) -> Result<Step<'a>, CallError>
+fn please<'a>(state: &State, tokens: TokenSet, user_data: &'a [u8]) -> Result<Step<'a>, CallError>
     ensures { Answers result (met state.now (Please (named tokens.0) user_data.entry.now)) }
 {
     let tokens = Tokens::of(tokens);
@@ -241,11 +237,7 @@ fn minor<'a>(state: &State, confirm: bool, user_data: &'a [u8]) -> Result<Step<'
 
 /// A minor point may be confirmed where points were taken last, once, up to the last.
 #[tactic(auto, unfolding(crate::specs::Allowed::met))]
-fn minor_confirm<'a>(
-    state: &State,
-    number: u32,
-    user_data: &'a [u8],
-) -> Result<Step<'a>, CallError>
+fn minor_confirm<'a>(state: &State, number: u32, user_data: &'a [u8]) -> Result<Step<'a>, CallError>
     requires { state.now.numbers.next ≤ 1000000 }
     ensures { Answers result (met state.now (MinorConfirm number user_data.entry.now)) }
 {
@@ -458,7 +450,9 @@ fn decide_row<'a>(state: &State, request: Request<'a>) -> Result<Step<'a>, CallE
             wishes,
             user_data,
         } => restart(state, number, wishes, user_data),
-        Request::RestartConfirm { sides, user_data } => Ok(restart_confirm(state, sides, user_data)),
+        Request::RestartConfirm { sides, user_data } => Ok(restart_confirm(
+            state, sides, user_data,
+        )),
         Request::Release { user_data } => release(state, user_data),
         Request::ReleaseAccept { user_data } => {
             Ok(over(state, Phase::Ended, Message::Disconnect { user_data }))

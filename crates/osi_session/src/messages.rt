@@ -21,13 +21,23 @@ pub(crate) enum Message<'a> {
         user_data: &'a [u8],
     },
     /// RF.
-    Refuse { reason: u8, user_data: &'a [u8] },
+    Refuse {
+        reason: u8,
+        user_data: &'a [u8],
+    },
     /// DT.
-    Data { user_data: &'a [u8] },
+    Data {
+        user_data: &'a [u8],
+    },
     /// GT.
-    Give { tokens: Tokens },
+    Give {
+        tokens: Tokens,
+    },
     /// PT.
-    Please { tokens: Tokens, user_data: &'a [u8] },
+    Please {
+        tokens: Tokens,
+        user_data: &'a [u8],
+    },
     /// MIP.
     MinorPoint {
         confirm: bool,
@@ -35,11 +45,20 @@ pub(crate) enum Message<'a> {
         user_data: &'a [u8],
     },
     /// MIA.
-    MinorAck { number: Serial, user_data: &'a [u8] },
+    MinorAck {
+        number: Serial,
+        user_data: &'a [u8],
+    },
     /// MAP.
-    MajorPoint { number: Serial, user_data: &'a [u8] },
+    MajorPoint {
+        number: Serial,
+        user_data: &'a [u8],
+    },
     /// MAA.
-    MajorAck { number: Serial, user_data: &'a [u8] },
+    MajorAck {
+        number: Serial,
+        user_data: &'a [u8],
+    },
     /// RS.
     Restart {
         kind: ResyncType,
@@ -54,11 +73,17 @@ pub(crate) enum Message<'a> {
         user_data: &'a [u8],
     },
     /// FN.
-    Finish { user_data: &'a [u8] },
+    Finish {
+        user_data: &'a [u8],
+    },
     /// DN.
-    Disconnect { user_data: &'a [u8] },
+    Disconnect {
+        user_data: &'a [u8],
+    },
     /// NF.
-    NotFinished { user_data: &'a [u8] },
+    NotFinished {
+        user_data: &'a [u8],
+    },
     /// AB.
     Abort {
         transport_disconnect: u8,

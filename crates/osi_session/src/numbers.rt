@@ -36,7 +36,11 @@ impl Numbers {
     {
         Numbers {
             next: self.next + 1,
-            confirmed: if self.answers { self.next } else { self.confirmed },
+            confirmed: if self.answers {
+                self.next
+            } else {
+                self.confirmed
+            },
             answers: false,
             ..self
         }
@@ -49,7 +53,11 @@ impl Numbers {
     {
         Numbers {
             next: self.next + 1,
-            confirmed: if self.answers { self.confirmed } else { self.next },
+            confirmed: if self.answers {
+                self.confirmed
+            } else {
+                self.next
+            },
             answers: true,
             ..self
         }
@@ -83,8 +91,16 @@ impl Numbers {
     {
         Numbers {
             next: number,
-            confirmed: if number < self.confirmed { number } else { self.confirmed },
-            lowest: if number < self.lowest { number } else { self.lowest },
+            confirmed: if number < self.confirmed {
+                number
+            } else {
+                self.confirmed
+            },
+            lowest: if number < self.lowest {
+                number
+            } else {
+                self.lowest
+            },
             ..self
         }
     }

@@ -164,7 +164,10 @@ impl Phase {
     pub(crate) fn may_restart(self) -> bool
         ensures { result ≡ may_restart self }
     {
-        matches!(self, Phase::Ready | Phase::MajorAsked | Phase::MajorDue | Phase::ReleaseDue)
+        matches!(
+            self,
+            Phase::Ready | Phase::MajorAsked | Phase::MajorDue | Phase::ReleaseDue
+        )
     }
 
     /// Data is taken.
@@ -178,7 +181,10 @@ impl Phase {
     pub(crate) fn takes_please(self) -> bool
         ensures { result ≡ takes_please self }
     {
-        matches!(self, Phase::Ready | Phase::MajorAsked | Phase::MajorDue | Phase::Releasing)
+        matches!(
+            self,
+            Phase::Ready | Phase::MajorAsked | Phase::MajorDue | Phase::Releasing
+        )
     }
 
     /// The confirmation of minor points is taken.
@@ -192,14 +198,25 @@ impl Phase {
     pub(crate) fn takes_restart(self) -> bool
         ensures { result ≡ takes_restart self }
     {
-        matches!(self, Phase::Ready | Phase::MajorAsked | Phase::MajorDue | Phase::Releasing | Phase::ReleaseDue | Phase::Restarting)
+        matches!(
+            self,
+            Phase::Ready
+                | Phase::MajorAsked
+                | Phase::MajorDue
+                | Phase::Releasing
+                | Phase::ReleaseDue
+                | Phase::Restarting
+        )
     }
 
     /// The user may abort.
     pub(crate) fn may_abort(self) -> bool
         ensures { result ≡ may_abort self }
     {
-        !matches!(self, Phase::WaitTransport | Phase::WaitCn | Phase::Aborting | Phase::Ended)
+        !matches!(
+            self,
+            Phase::WaitTransport | Phase::WaitCn | Phase::Aborting | Phase::Ended
+        )
     }
 
     /// The user is shown that the transport connection is lost.

@@ -531,12 +531,7 @@ fn not_finished(alloc: Global, state: &State, user_data: &[u8]) -> Result<Reacti
 /// AB, of the peer's user or of its provider. Before a CN was taken there is no user to be shown
 /// it.
 #[tactic(auto, unfolding(crate::specs::Respond::take_expected))]
-fn abort(
-    alloc: Global,
-    state: &State,
-    bits: u8,
-    user_data: &[u8],
-) -> Result<Reaction, AllocError>
+fn abort(alloc: Global, state: &State, bits: u8, user_data: &[u8]) -> Result<Reaction, AllocError>
     ensures { Reacts result (take_expected state.now (AB bits user_data.now)) }
 {
     let shown = if state.phase.is_wait_cn() {
@@ -556,13 +551,8 @@ fn abort(
     })
 }
 
-
 /// A unit of data, tokens or points that the phase expects.
-fn take_within(
-    alloc: Global,
-    state: &State,
-    message: Message<'_>,
-) -> Result<Reaction, AllocError>
+fn take_within(alloc: Global, state: &State, message: Message<'_>) -> Result<Reaction, AllocError>
     ensures { Reacts result (take_expected state.now (meant_by message.entry)) }
 {
     match message {
@@ -597,11 +587,7 @@ fn take_within(
 
 /// A unit that opens or aborts a connection, and that the phase expects.
 #[tactic(auto, unfolding(crate::specs::Respond::take_expected))]
-fn take_outside(
-    alloc: Global,
-    state: &State,
-    message: Message<'_>,
-) -> Result<Reaction, AllocError>
+fn take_outside(alloc: Global, state: &State, message: Message<'_>) -> Result<Reaction, AllocError>
     requires { is_outside (meant_by message) ≡ true }
     ensures { Reacts result (take_expected state.now (meant_by message.entry)) }
 {
@@ -612,14 +598,30 @@ fn take_outside(
             serial,
             wishes,
             user_data,
-        } => connect(alloc, state, version_2, requirements, serial, wishes, user_data),
+        } => connect(
+            alloc,
+            state,
+            version_2,
+            requirements,
+            serial,
+            wishes,
+            user_data,
+        ),
         Message::Accept {
             version_2,
             requirements,
             serial,
             sides,
             user_data,
-        } => accept(alloc, state, version_2, requirements, serial, sides, user_data),
+        } => accept(
+            alloc,
+            state,
+            version_2,
+            requirements,
+            serial,
+            sides,
+            user_data,
+        ),
         Message::Refuse { reason, user_data } => refuse(alloc, state, reason, user_data),
         Message::Abort {
             transport_disconnect,

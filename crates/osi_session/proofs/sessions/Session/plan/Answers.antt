@@ -10,6 +10,7 @@ written-requires c = c.group-group.ensures.fits
     (sent_short c.self.inside.state (called_by c.args.request) (step_of c.in_ok-step.step) c.in_ok-step.ensures)
 
 pub invariant_of-result : goal.invariant_of-result
-invariant_of-result c =
-    (request_sound c.self.inside.state c.args.request (step_of c.in_ok-step.step) c.in_ok-step.ensures c.self.invariant.0,
-     request_begun c.self.inside.state c.args.request (step_of c.in_ok-step.step) c.in_ok-step.ensures)
+invariant_of-result c = (
+  request_sound c.self.inside.state c.args.request (step_of c.in_ok-step.step) c.in_ok-step.ensures c.self.invariant.0,
+  request_begun c.self.inside.state c.args.request (step_of c.in_ok-step.step) c.in_ok-step.ensures,
+)

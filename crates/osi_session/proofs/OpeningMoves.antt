@@ -1,0 +1,115 @@
+-- What leads to a phase in which tokens may be held.
+use Rattle.std.proofs.Common.{inl, inr, ◌≡◌, refl, sym, subst, Bool, true, false, ◌||◌, List, [], ◌∷◌, if◌then◌else◌}
+use Rattle.std.specs.List.{list_any}
+use Rattle.std.proofs.lemmas.Bool.{cases_Bool, or_left, or_right}
+use Rattle.osi_session.specs.declared.phases.Phase.{Phase}
+use Rattle.osi_session.specs.declared.phases.Phase.TheVariants.{Ready, MajorAsked, MajorDue, Releasing, ReleaseDue}
+use Rattle.osi_session.specs.declared.state.State.{State}
+use Rattle.osi_session.specs.Phases.{is_wait_transport, is_ready, is_major_asked, is_major_due, is_releasing, is_release_due, may_hold}
+use Rattle.osi_session.specs.Calls.{Call, Accept, Refuse, Data, Give, Please, Minor, MinorConfirm, Major, MajorConfirm, Restart, RestartConfirm, Release, ReleaseAccept, ReleaseRefuse, Abort}
+use Rattle.osi_session.specs.Meanings.{Meaning, CN, AC, RF, DT, GT, PT, MIP, MIA, MAP, MAA, RS, RA, FN, DN, NF, AB, AA}
+use Rattle.osi_session.specs.Reading.{Said, alone, behind}
+use Rattle.osi_session.specs.Allowed.{Step, may_call, after, allowed}
+use Rattle.osi_session.specs.Respond.{is_expected, is_acceptable, is_resynchronize, stands, becomes, respond_unit, and_then, respond}
+use Rattle.osi_session.specs.Runs.{Event, called, taken, unread, opened, refused, broken, after_answer, after_event, after_events}
+use Rattle.osi_session.specs.Causes.{some_unit, call_opens, unit_opens, opens_connection}
+use Rattle.osi_session.proofs.Passed.{passed}
+use Rattle.osi_session.proofs.PhaseLaws.{implied}
+use Rattle.osi_session.proofs.RunCases.{call_cases, unit_cases, fault_cases, awaited_cases}
+
+-- tokens may be held after, where they could not be before, only by this cause
+abbrev OpenedBy : Bool → Phase → Phase → Type 0
+OpenedBy cause p q = may_hold p ≡ false → may_hold q ≡ true → cause ≡ true
+
+same : (cause : Bool) (p : Phase) → OpenedBy cause p p
+same cause p h k = absurd (cc)
+
+-- the phase before is one in which tokens may be held
+open_before : (cause : Bool) (p q : Phase) → may_hold p ≡ true → OpenedBy cause p q
+open_before cause p q m h k = absurd (cc)
+
+chosen : (cause b : Bool) (p : Phase) (x y : State) → OpenedBy cause p x.phase → OpenedBy cause p y.phase → OpenedBy cause p (if b then x else y).phase
+chosen cause true p x y h k = h
+chosen cause false p x y h k = k
+
+after_opens : (s : State) (c : Call) → may_call s.phase c ≡ true → OpenedBy (call_opens c) s.phase (after s c).phase
+after_opens s (Accept requirements serial sides octets) p = λ h k. refl
+after_opens s (Refuse octets) p = λ h k. absurd (cc)
+after_opens s (Data octets) p = same _ s.phase
+after_opens s (Give tokens) p = same _ s.phase
+after_opens s (Please tokens octets) p = same _ s.phase
+after_opens s (Minor confirm octets) p = same _ s.phase
+after_opens s (MinorConfirm n octets) p = same _ s.phase
+after_opens s (Major octets) p = open_before _ s.phase MajorAsked (implied is_ready may_hold (refl, refl, refl, refl, refl, refl, refl, refl, refl, refl, refl, refl, refl) s.phase p)
+after_opens s (MajorConfirm octets) p = open_before _ s.phase Ready (implied is_major_due may_hold (refl, refl, refl, refl, refl, refl, refl, refl, refl, refl, refl, refl, refl) s.phase p)
+after_opens s (Restart n wishes octets) p = λ h k. absurd (cc)
+after_opens s (RestartConfirm sides octets) p = λ h k. refl
+after_opens s (Release octets) p = open_before _ s.phase Releasing (implied is_ready may_hold (refl, refl, refl, refl, refl, refl, refl, refl, refl, refl, refl, refl, refl) s.phase p)
+after_opens s (ReleaseAccept octets) p = λ h k. absurd (cc)
+after_opens s (ReleaseRefuse octets) p = open_before _ s.phase Ready (implied is_release_due may_hold (refl, refl, refl, refl, refl, refl, refl, refl, refl, refl, refl, refl, refl) s.phase p)
+after_opens s (Abort octets) p = λ h k. absurd (cc)
+
+call_opened : (s : State) (c : Call) → OpenedBy (call_opens c) s.phase (after_answer s (allowed s c)).phase
+call_opened s c = call_cases (λ next. OpenedBy (call_opens c) s.phase next.phase) s c (same _ s.phase)
+    (λ x e. let q = passed s c x e in subst (λ (y : Step). OpenedBy (call_opens c) s.phase y.next.phase) (sym q.gives) (after_opens s c q.phase))
+
+becomes_opens : (s : State) (u : Meaning) → is_expected s.phase u ≡ true → OpenedBy (unit_opens u) s.phase (becomes s u).phase
+becomes_opens s (CN version_2 requirements serial wishes octets) p = chosen _ (is_acceptable version_2 requirements) s.phase _ _ (λ h k. absurd (cc)) (λ h k. absurd (cc))
+becomes_opens s (AC version_2 requirements serial sides octets) p = λ h k. refl
+becomes_opens s (RF reason octets) p = λ h k. absurd (cc)
+becomes_opens s (DT octets) p = same _ s.phase
+becomes_opens s (GT tokens) p = same _ s.phase
+becomes_opens s (PT tokens octets) p = same _ s.phase
+becomes_opens s (MIP confirm n octets) p = same _ s.phase
+becomes_opens s (MIA n octets) p = same _ s.phase
+becomes_opens s (MAP n octets) p = open_before _ s.phase MajorDue (implied is_ready may_hold (refl, refl, refl, refl, refl, refl, refl, refl, refl, refl, refl, refl, refl) s.phase p)
+becomes_opens s (MAA n octets) p = open_before _ s.phase Ready (implied is_major_asked may_hold (refl, refl, refl, refl, refl, refl, refl, refl, refl, refl, refl, refl, refl) s.phase p)
+becomes_opens s (RS kind n wishes octets) p = chosen _ (stands s n) s.phase _ _ (λ h k. absurd (cc)) (same _ s.phase)
+becomes_opens s (RA n sides octets) p = λ h k. refl
+becomes_opens s (FN octets) p = open_before _ s.phase ReleaseDue (implied is_ready may_hold (refl, refl, refl, refl, refl, refl, refl, refl, refl, refl, refl, refl, refl) s.phase p)
+becomes_opens s (DN octets) p = λ h k. absurd (cc)
+becomes_opens s (NF octets) p = open_before _ s.phase Ready (implied is_releasing may_hold (refl, refl, refl, refl, refl, refl, refl, refl, refl, refl, refl, refl, refl) s.phase p)
+becomes_opens s (AB bits octets) p = λ h k. absurd (cc)
+becomes_opens s AA p = same _ s.phase
+
+unit_opened : (s : State) (u : Meaning) → OpenedBy (unit_opens u) s.phase (respond_unit s u).next.phase
+unit_opened s u = unit_cases (λ next. OpenedBy (unit_opens u) s.phase next.phase) s u (record {
+  same = same _ s.phase;
+  ended = λ a h k. absurd (cc);
+  bad = λ a e h k. absurd (cc);
+  good = λ a e p m. becomes_opens s u p;
+})
+
+-- two units, one after the other
+both_opened : (a b : Bool) (p mid q : Phase) → OpenedBy a p mid → OpenedBy b mid q → OpenedBy (a || b) p q
+both_opened a b p mid q f g h k = elim (cases_Bool (may_hold mid)) [
+  | inl t ↦ or_left a b (f h t)
+  | inr t ↦ or_right a b (g t k)
+]
+
+weaker : (a b : Bool) (p q : Phase) → OpenedBy a p q → OpenedBy (a || b) p q
+weaker a b p q f h k = or_left a b (f h k)
+
+said_opened : (s : State) (said : Said) → OpenedBy (some_unit unit_opens said) s.phase (respond s said).next.phase
+unfolding respond
+said_opened s (alone u) = unit_opened s u
+said_opened s (behind item u) = by (is_resynchronize u)
+  where
+    by : (b : Bool) → OpenedBy (unit_opens u || unit_opens item) s.phase (if b then respond_unit s u else and_then (respond_unit s u) item).next.phase
+    by true = weaker (unit_opens u) (unit_opens item) s.phase (respond_unit s u).next.phase (unit_opened s u)
+    by false = both_opened (unit_opens u) (unit_opens item) s.phase (respond_unit s u).next.phase (respond_unit (respond_unit s u).next item).next.phase (unit_opened s u) (unit_opened (respond_unit s u).next item)
+
+pub event_opened : (s : State) (event : Event) → may_hold s.phase ≡ false → may_hold (after_event s event).phase ≡ true → opens_connection event ≡ true
+event_opened s (called c) = call_opened s c
+event_opened s (taken said) = said_opened s said
+event_opened s (unread fault) = fault_cases (λ next. OpenedBy false s.phase next.phase) s fault (same _ s.phase) (λ o h k. absurd (cc))
+event_opened s opened = awaited_cases (λ next. OpenedBy false s.phase next.phase) (is_wait_transport s.phase) _ s (λ w h k. absurd (cc)) (same _ s.phase)
+event_opened s refused = awaited_cases (λ next. OpenedBy false s.phase next.phase) (is_wait_transport s.phase) _ s (λ w h k. absurd (cc)) (same _ s.phase)
+event_opened s broken = λ h k. absurd (cc)
+
+pub some_opened : (s : State) (events : List Event) → may_hold s.phase ≡ false → may_hold (after_events s events).phase ≡ true → list_any opens_connection events ≡ true
+some_opened s [] h k = absurd (cc)
+some_opened s (event ∷ events) h k = elim (cases_Bool (may_hold (after_event s event).phase)) [
+  | inl t ↦ or_left (opens_connection event) (list_any opens_connection events) (event_opened s event h t)
+  | inr t ↦ or_right (opens_connection event) (list_any opens_connection events) (some_opened (after_event s event) events t k)
+]

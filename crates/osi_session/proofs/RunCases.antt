@@ -1,0 +1,74 @@
+-- The outcomes of each event.
+use Rattle.std.proofs.Common.{◌≡◌, refl, Bool, true, false, not, ◌&&◌, ◌||◌, Option, Some, None, Ok, Err, if◌then◌else◌}
+use Rattle.osi_spdu.specs.declared.faults.SpduFault.{SpduFault}
+use Rattle.osi_session.specs.declared.phases.Phase.TheVariants.{Aborting, Ended}
+use Rattle.osi_session.specs.declared.faults.UnitFault.{UnitFault}
+use Rattle.osi_session.specs.declared.state.State.{State}
+use Rattle.osi_session.specs.Phases.{is_aborting, is_ended, is_over, is_restarting}
+use Rattle.osi_session.specs.State.{without_tokens}
+use Rattle.osi_session.specs.Calls.{Call}
+use Rattle.osi_session.specs.Meanings.{Meaning, AB, AA}
+use Rattle.osi_session.specs.Allowed.{Step, Answer, allowed}
+use Rattle.osi_session.specs.Respond.{Outcome, si, conditions, first_fault, is_expected, has_no_effect, passes_restarting, becomes, judged, take_expected, in_aborting, in_ended, respond_unit, respond_fault}
+use Rattle.osi_session.specs.Runs.{after_answer}
+use Rattle.osi_session.proofs.SoundUnits.{AllMet, all_met}
+
+-- a call is accepted, or changes nothing
+answer_cases : (P : State → Type 0) (s : State) (c : Call) (a : Answer) → allowed s c ≡ a
+    → P s → ((x : Step) → allowed s c ≡ Ok x → P x.next) → P (after_answer s a)
+answer_cases P s c (Ok x) e h k = k x e
+answer_cases P s c (Err d) e h k = h
+
+pub call_cases : (P : State → Type 0) (s : State) (c : Call) → P s → ((x : Step) → allowed s c ≡ Ok x → P x.next) → P (after_answer s (allowed s c))
+call_cases P s c h k = answer_cases P s c (allowed s c) refl h k
+
+-- what a unit leaves: what was, or where an abort is answered the end, or where it is bad the abort, or what the table says
+pub record Leaves (P : State → Type 0) (s : State) (u : Meaning) : Type 0 where
+  pub same : P s
+  pub ended : is_aborting s.phase ≡ true → P (without_tokens Ended s)
+  pub bad : is_aborting s.phase ≡ false → is_ended s.phase ≡ false → P (without_tokens Aborting s)
+  pub good : is_aborting s.phase ≡ false → is_ended s.phase ≡ false → is_expected s.phase u ≡ true → AllMet (conditions s u) → P (becomes s u)
+
+either : (P : State → Type 0) (b : Bool) (x y : Outcome) → (b ≡ true → P x.next) → (b ≡ false → P y.next) → P (if b then x else y).next
+either P true x y h k = h refl
+either P false x y h k = k refl
+
+judged_cases : (P : State → Type 0) (s : State) (u : Meaning) (f : Option UnitFault) → P (without_tokens Aborting s) → (f ≡ None → P (becomes s u)) → P (judged s u f).next
+judged_cases P s u None h k = k refl
+judged_cases P s u (Some f) h k = h
+
+expected_cases : (P : State → Type 0) (s : State) (u : Meaning) → P (without_tokens Aborting s) → (AllMet (conditions s u) → P (becomes s u)) → P (take_expected s u).next
+unfolding take_expected
+expected_cases P s u h k = judged_cases P s u (first_fault (si u) (conditions s u)) h (λ e. k (all_met (si u) (conditions s u) e))
+
+aborting_cases : (P : State → Type 0) (s : State) (u : Meaning) → P s → P (without_tokens Ended s) → P (in_aborting s u).next
+aborting_cases P s (AB bits octets) h k = k
+aborting_cases P s AA h k = k
+aborting_cases P s _ h k = h
+
+ended_cases : (P : State → Type 0) (s : State) (u : Meaning) → P s → P (in_ended s u).next
+ended_cases P s (AB bits octets) h = h
+ended_cases P s _ h = h
+
+not_false : (b : Bool) → not b ≡ false → b ≡ true
+not_false true h = refl
+not_false false h = absurd (cc)
+
+pub unit_cases : (P : State → Type 0) (s : State) (u : Meaning) → Leaves P s u → P (respond_unit s u).next
+unfolding respond_unit
+unit_cases P s u h =
+    either P (is_aborting s.phase) _ _ (λ a. aborting_cases P s u h.same (h.ended a)) (λ a.
+    either P (is_ended s.phase) _ _ (λ e. ended_cases P s u h.same) (λ e.
+    either P (has_no_effect u || (is_restarting s.phase && not (passes_restarting u))) _ _ (λ n. h.same) (λ n.
+    either P (not (is_expected s.phase u)) _ _ (λ x. h.bad a e) (λ x.
+    expected_cases P s u (h.bad a e) (λ met. h.good a e (not_false (is_expected s.phase u) x) met)))))
+
+-- a TSDU that is no session units
+pub fault_cases : (P : State → Type 0) (s : State) (fault : SpduFault) → P s → (is_over s.phase ≡ false → P (without_tokens Aborting s)) → P (respond_fault s fault).next
+unfolding respond_fault
+fault_cases P s fault h k = either P (is_over s.phase) _ _ (λ o. h) k
+
+-- the transport connection is awaited, or nothing changes
+pub awaited_cases : (P : State → Type 0) (b : Bool) (x s : State) → (b ≡ true → P x) → P s → P (if b then x else s)
+awaited_cases P true x s h k = h refl
+awaited_cases P false x s h k = k

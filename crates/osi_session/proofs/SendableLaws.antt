@@ -1,0 +1,146 @@
+-- What an accepted call sends, and what a TSDU is answered by, can be sent.
+use Rattle.std.proofs.Common.{◌≡◌, refl, sym, subst, ℕ, ◌<◌, Bool, true, false, not, ◌&&◌, ◌||◌, nat_le, nat_lt, [], Option, Some, None, Ok, if◌then◌else◌, arith}
+use Rattle.std.proofs.lemmas.Bool.{leb-true, ltb-true, and_parts}
+use Rattle.osi_session.specs.declared.faults.UnitFault.{UnitFault}
+use Rattle.osi_session.specs.declared.state.State.{State}
+use Rattle.osi_session.specs.Units.{functional_units, has_points, has_data}
+use Rattle.osi_session.specs.Phases.{is_aborting, is_ended, is_restarting}
+use Rattle.osi_session.specs.Calls.{Call, Accept, Refuse, Data, Give, Please, Minor, MinorConfirm, Major, MajorConfirm, Restart, RestartConfirm, Release, ReleaseAccept, ReleaseRefuse, Abort, HasSerial}
+use Rattle.osi_session.specs.Meanings.{Meaning, CN, RF, AB, AA}
+use Rattle.osi_session.specs.Numbered.{IsSmall, IsNumbered}
+use Rattle.osi_session.specs.Reading.{Said, alone, behind}
+use Rattle.osi_session.specs.Sound.{IsSound}
+use Rattle.osi_session.specs.Allowed.{Step, last_number, needs, may_call, sends, allowed}
+use Rattle.osi_session.specs.Respond.{Outcome, si, conditions, first_fault, is_expected, has_no_effect, passes_restarting, is_resynchronize, reply_for, first_reply, judged, take_expected, in_aborting, in_ended, respond_unit, respond}
+use Rattle.osi_session.specs.Written.{user_data_of}
+use Rattle.osi_session.specs.Sendable.{IsSendable, is_of_version_2}
+use Rattle.osi_session.proofs.CallLaws.{sent_short}
+use Rattle.osi_session.proofs.Passed.{passed, AllHold}
+
+sends_version : (s : State) (c : Call) → is_of_version_2 (sends s c) ≡ true
+sends_version s (Accept requirements serial sides octets) = refl
+sends_version s (Refuse octets) = refl
+sends_version s (Data octets) = refl
+sends_version s (Give tokens) = refl
+sends_version s (Please tokens octets) = refl
+sends_version s (Minor confirm octets) = refl
+sends_version s (MinorConfirm n octets) = refl
+sends_version s (Major octets) = refl
+sends_version s (MajorConfirm octets) = refl
+sends_version s (Restart n wishes octets) = refl
+sends_version s (RestartConfirm sides octets) = refl
+sends_version s (Release octets) = refl
+sends_version s (ReleaseAccept octets) = refl
+sends_version s (ReleaseRefuse octets) = refl
+sends_version s (Abort octets) = refl
+
+serial_small : (b : Bool) (serial : ℕ) → serial < 1000000 → IsSmall (if b then Some serial else None)
+serial_small true serial h = omega arith
+serial_small false serial h = tt
+
+sends_numbered : (s : State) (c : Call) → HasSerial c → may_call s.phase c ≡ true → AllHold (needs s c) → IsSound s → IsNumbered (sends s c)
+sends_numbered s (Accept requirements serial sides octets) small p t h = serial_small (has_points (functional_units requirements)) serial small
+sends_numbered s (Refuse octets) small p t h = tt
+sends_numbered s (Data octets) small p t h = tt
+sends_numbered s (Give tokens) small p t h = tt
+sends_numbered s (Please tokens octets) small p t h = tt
+sends_numbered s (Minor confirm octets) small p t h = leb-true s.numbers.next last_number t.1.1.0
+sends_numbered s (MinorConfirm n octets) small p t h =
+    let a = and_parts s.numbers.answers (nat_le s.numbers.confirmed n && nat_lt n s.numbers.next) t.1.0 in
+    let to = ltb-true n s.numbers.next (and_parts (nat_le s.numbers.confirmed n) (nat_lt n s.numbers.next) a.1).1 in
+    let last = h.ordered.last in omega arith
+sends_numbered s (Major octets) small p t h = leb-true s.numbers.next last_number t.1.1.0
+sends_numbered s (MajorConfirm octets) small p t h = let last = h.ordered.last in omega arith
+sends_numbered s (Restart n wishes octets) small p t h = leb-true n last_number (and_parts _ _ (and_parts _ _ t.1.0).1).0
+sends_numbered s (RestartConfirm sides octets) small p t h = let last = h.restart p in omega arith
+sends_numbered s (Release octets) small p t h = tt
+sends_numbered s (ReleaseAccept octets) small p t h = tt
+sends_numbered s (ReleaseRefuse octets) small p t h = tt
+sends_numbered s (Abort octets) small p t h = tt
+
+-- what an accepted call sends can be sent
+pub sent_sendable : (s : State) (c : Call) (x : Step) → IsSound s → HasSerial c → allowed s c ≡ Ok x → IsSendable x.sent
+sent_sendable s c x sound small h =
+    let q = passed s c x h in
+    record {
+      version = subst (λ (y : Step). is_of_version_2 y.sent ≡ true) (sym q.gives) (sends_version s c);
+      numbered = subst (λ (y : Step). IsNumbered y.sent) (sym q.gives) (sends_numbered s c small q.phase q.needed sound);
+      short = sent_short s c x h;
+    }
+
+-- ---- answers to a TSDU
+
+-- an answer that can be sent, where there is one
+abbrev pub CanBeSent : Option Meaning → Type 0
+CanBeSent None = Unit {0}
+CanBeSent (Some m) = IsSendable m
+
+refuse_sendable : (reason : ℕ) → IsSendable (RF reason [])
+unfolding user_data_of
+refuse_sendable reason = record { version = refl; numbered = tt; short = omega arith }
+
+abort_sendable : (bits : ℕ) → IsSendable (AB bits [])
+unfolding user_data_of
+abort_sendable bits = record { version = refl; numbered = tt; short = omega arith }
+
+accept_sendable : IsSendable AA
+unfolding user_data_of
+accept_sendable = record { version = refl; numbered = tt; short = omega arith }
+
+either : (b : Bool) (x y : Option Meaning) → CanBeSent x → CanBeSent y → CanBeSent (if b then x else y)
+either true x y h k = h
+either false x y h k = k
+
+reply_sendable : (u : Meaning) → CanBeSent (reply_for u)
+reply_sendable (CN version_2 requirements serial wishes octets) =
+    either (not version_2) _ _ (refuse_sendable 132) (either (not (has_data (functional_units requirements))) _ _ (refuse_sendable 134) tt)
+reply_sendable (AB bits octets) = accept_sendable
+reply_sendable _ = tt
+
+abbrev Replies : Outcome → Type 0
+Replies o = CanBeSent o.reply
+
+either_replies : (b : Bool) (x y : Outcome) → Replies x → Replies y → Replies (if b then x else y)
+either_replies true x y h k = h
+either_replies false x y h k = k
+
+judged_replies : (s : State) (u : Meaning) (f : Option UnitFault) → Replies (judged s u f)
+judged_replies s u None = reply_sendable u
+judged_replies s u (Some f) = abort_sendable 5
+
+expected_replies : (s : State) (u : Meaning) → Replies (take_expected s u)
+unfolding take_expected
+expected_replies s u = judged_replies s u (first_fault (si u) (conditions s u))
+
+aborting_replies : (s : State) (u : Meaning) → Replies (in_aborting s u)
+aborting_replies s (AB bits octets) = tt
+aborting_replies s AA = tt
+aborting_replies s _ = tt
+
+ended_replies : (s : State) (u : Meaning) → Replies (in_ended s u)
+ended_replies s (AB bits octets) = accept_sendable
+ended_replies s _ = tt
+
+unit_replies : (s : State) (u : Meaning) → Replies (respond_unit s u)
+unfolding respond_unit
+unit_replies s u =
+    either_replies (is_aborting s.phase) _ _ (aborting_replies s u)
+    (either_replies (is_ended s.phase) _ _ (ended_replies s u)
+    (either_replies (has_no_effect u || (is_restarting s.phase && not (passes_restarting u))) _ _ tt
+    (either_replies (not (is_expected s.phase u)) _ _ (abort_sendable 5) (expected_replies s u))))
+
+first_sendable : (a b : Option Meaning) → CanBeSent a → CanBeSent b → CanBeSent (first_reply a b)
+first_sendable None b h k = k
+first_sendable (Some m) b h k = h
+
+respond_replies : (s : State) (said : Said) → Replies (respond s said)
+unfolding respond
+respond_replies s (alone u) = unit_replies s u
+respond_replies s (behind item u) =
+    either_replies (is_resynchronize u) _ _ (unit_replies s u)
+    (first_sendable (respond_unit s u).reply (respond_unit (respond_unit s u).next item).reply
+    (unit_replies s u) (unit_replies (respond_unit s u).next item))
+
+-- what a TSDU is answered by can be sent
+pub reply_can_be_sent : (s : State) (said : Said) (m : Meaning) → (respond s said).reply ≡ Some m → IsSendable m
+reply_can_be_sent s said m e = subst CanBeSent e (respond_replies s said)

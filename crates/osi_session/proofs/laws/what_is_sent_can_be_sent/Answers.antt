@@ -1,0 +1,8 @@
+use Rattle.osi_session.proofs.SendableLaws.{sent_sendable, reply_can_be_sent}
+use Rattle.osi_session.proofs.laws.what_is_sent_can_be_sent.Goals as goal
+
+pub returns-clause-called : goal.returns-clause-called
+returns-clause-called c = sent_sendable
+
+pub returns-clause-replied : goal.returns-clause-replied
+returns-clause-replied c = reply_can_be_sent

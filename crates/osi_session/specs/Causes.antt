@@ -1,0 +1,73 @@
+-- What opens_connection a connection, what gives a token to this side, and what sets the numbers anew.
+use Rattle.std.specs.Prelude.{Bool, true, false, not, ◌&&◌, ◌||◌}
+use Rattle.osi_session.specs.declared.state.State.{State}
+use Rattle.osi_session.specs.declared.sides.Sides.{Sides}
+use Rattle.osi_session.specs.declared.selected.FunctionalUnits.{FunctionalUnits}
+use Rattle.osi_session.specs.Tokens.{Token, has}
+use Rattle.osi_session.specs.Units.{functional_units, both_units, available}
+use Rattle.osi_session.specs.Sides.{settle, stated, side_for, is_asker}
+use Rattle.osi_session.specs.Calls.{Call, Accept, Restart, RestartConfirm}
+use Rattle.osi_session.specs.Meanings.{Meaning, AC, GT, RS, RA}
+use Rattle.osi_session.specs.Reading.{Said, alone, behind}
+use Rattle.osi_session.specs.Runs.{Event, called, taken}
+
+-- one of the units of a TSDU
+abbrev pub some_unit : (Meaning → Bool) → Said → Bool
+some_unit p (alone u) = p u
+some_unit p (behind item u) = p u || p item
+
+-- ---- a connection is opened, and after a restart opened again
+
+abbrev pub call_opens : Call → Bool
+call_opens (Accept requirements serial sides octets) = true
+call_opens (RestartConfirm sides octets) = true
+call_opens _ = false
+
+abbrev pub unit_opens : Meaning → Bool
+unit_opens (AC version_2 requirements serial sides octets) = true
+unit_opens (RA n sides octets) = true
+unit_opens _ = false
+
+abbrev pub opens_connection : Event → Bool
+opens_connection (called c) = call_opens c
+opens_connection (taken said) = some_unit unit_opens said
+opens_connection _ = false
+
+-- ---- a token is given to this side
+
+-- an available token that is settled as the asker's, and as the answerer's
+abbrev pub to_asker : FunctionalUnits → Sides → Token → Bool
+to_asker units sides t = has (available units) t && is_asker (side_for sides t)
+
+abbrev pub to_answerer : FunctionalUnits → Sides → Token → Bool
+to_answerer units sides t = has (available units) t && not (is_asker (side_for sides t))
+
+abbrev pub call_gives : State → Call → Token → Bool
+call_gives s (Accept requirements serial sides octets) t =
+    to_answerer (functional_units requirements) (settle (functional_units requirements) s.wishes sides) t
+call_gives s (RestartConfirm sides octets) t = to_answerer s.units (settle s.units s.wishes sides) t
+call_gives s _ t = false
+
+abbrev pub unit_gives : State → Meaning → Token → Bool
+unit_gives s (AC version_2 requirements serial sides octets) t =
+    to_asker (both_units s.units (functional_units requirements)) (stated (both_units s.units (functional_units requirements)) sides) t
+unit_gives s (RA n sides octets) t = to_asker s.units (stated s.units sides) t
+unit_gives s (GT tokens) t = has tokens t
+unit_gives s _ t = false
+
+-- ---- the numbers begin anew, or at the number of a restart
+
+abbrev pub call_renews : Call → Bool
+call_renews (Accept requirements serial sides octets) = true
+call_renews (Restart n wishes octets) = true
+call_renews _ = false
+
+abbrev pub unit_renews : Meaning → Bool
+unit_renews (AC version_2 requirements serial sides octets) = true
+unit_renews (RS kind n wishes octets) = true
+unit_renews _ = false
+
+abbrev pub renews : Event → Bool
+renews (called c) = call_renews c
+renews (taken said) = some_unit unit_renews said
+renews _ = false
