@@ -37,3 +37,8 @@ pub use sent::Sent;
 pub use sessions::Session;
 pub use sides::Sides;
 pub use taken::Taken;
+
+#[cfg(test)]
+mod test_words;
+#[cfg(test)]
+mod tests;
