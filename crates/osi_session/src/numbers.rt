@@ -1,5 +1,5 @@
 ghost use Rattle.std.specs.Prelude.{◌≡◌, ◌<◌, ◌≤◌, ◌+◌, ◌^◌};
-ghost use Rattle.osi_session.specs.Numbers.{from_base, point_sent, point_taken, minor_confirmed, major_confirmed, restarted_at};
+ghost use Rattle.osi_session.specs.Numbers.{from_base, point_sent, point_taken, minor_confirmed, major_confirmed, restarted_at, lower};
 
 /// The numbers of synchronization points (X.225 section 5.9): V(M), V(A), V(R), and whether the
 /// points were last taken, so that this end answers them.
@@ -34,13 +34,10 @@ impl Numbers {
         requires { self.next < 1000000 }
         ensures { result ≡ point_sent self }
     {
+        let turns = self.answers;
         Numbers {
             next: self.next + 1,
-            confirmed: if self.answers {
-                self.next
-            } else {
-                self.confirmed
-            },
+            confirmed: if turns { self.next } else { self.confirmed },
             answers: false,
             ..self
         }
@@ -51,13 +48,10 @@ impl Numbers {
         requires { self.next < 1000000 }
         ensures { result ≡ point_taken self }
     {
+        let goes_on = self.answers;
         Numbers {
             next: self.next + 1,
-            confirmed: if self.answers {
-                self.confirmed
-            } else {
-                self.next
-            },
+            confirmed: if goes_on { self.confirmed } else { self.next },
             answers: true,
             ..self
         }
@@ -91,17 +85,16 @@ impl Numbers {
     {
         Numbers {
             next: number,
-            confirmed: if number < self.confirmed {
-                number
-            } else {
-                self.confirmed
-            },
-            lowest: if number < self.lowest {
-                number
-            } else {
-                self.lowest
-            },
+            confirmed: lower(number, self.confirmed),
+            lowest: lower(number, self.lowest),
             ..self
         }
     }
+}
+
+/// The lower of two numbers.
+fn lower(number: u32, other: u32) -> u32
+    ensures { result ≡ lower number other }
+{
+    if number < other { number } else { other }
 }
