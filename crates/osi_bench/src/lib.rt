@@ -2,6 +2,7 @@
 #![tactic(auto)]
 
 mod links;
+mod sessions;
 mod tsdus;
 mod units;
 
@@ -96,4 +97,11 @@ pub extern "C" fn osi_bench_links(
         Some(moved) => moved.number(),
         None => 0,
     }
+}
+
+/// Sends data and a minor point, and confirms it, so many times over a pair of sessions, and answers
+/// the octets of the TSDUs.
+#[unsafe(no_mangle)]
+pub extern "C" fn osi_bench_sessions(alloc: Global, data: &[u8], rounds: usize) -> u64 {
+    sessions::over_a_connection(alloc, data, rounds)
 }

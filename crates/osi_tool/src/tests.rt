@@ -296,123 +296,127 @@ rest 0
     assert_eq!(rt; other(&rt, &listings), None);
 }
 
+/// TSDUs with each of the session units, their status, and the end of their listing.
+const NAMED: [(&[u8], u8, &str); 16] = [
+    (
+        &[1, 3, 16, 1, 0x41],
+        0,
+        "    tsdu 5\n    GT 16=41\nrest 0\n",
+    ),
+    (
+        &[2, 0, 1, 0, 0x41],
+        0,
+        "    tsdu 5\n    PT\n    DT octets 1\nrest 0\n",
+    ),
+    (
+        &[8, 3, 193, 1, 0x41],
+        0,
+        "    tsdu 5\n    NF 193=41\nrest 0\n",
+    ),
+    (&[9, 3, 17, 1, 1], 0, "    tsdu 5\n    FN 17=01\nrest 0\n"),
+    (&[10, 0], 0, "    tsdu 2\n    DN\nrest 0\n"),
+    (
+        &[12, 6, 17, 1, 1, 50, 1, 0],
+        0,
+        "    tsdu 8\n    RF 17=01 50=00\nrest 0\n",
+    ),
+    (&[13, 3, 10, 1, 0], 0, "    tsdu 5\n    CN\nrest 0\n"),
+    (
+        &[14, 4, 20, 2, 0, 2],
+        0,
+        "    tsdu 6\n    AC 20=0002\nrest 0\n",
+    ),
+    (&[25, 3, 17, 1, 4], 0, "    tsdu 5\n    AB 17=04\nrest 0\n"),
+    (&[26, 0], 0, "    tsdu 2\n    AA\nrest 0\n"),
+    (
+        &[1, 0, 34, 6, 26, 1, 0, 42, 1, 0x31],
+        0,
+        "    tsdu 10\n    GT\n    RA 26=00 42=31\nrest 0\n",
+    ),
+    (
+        &[1, 0, 41, 6, 15, 1, 1, 42, 1, 0x31],
+        0,
+        "    tsdu 10\n    GT\n    MAP 15=01 42=31\nrest 0\n",
+    ),
+    (
+        &[1, 0, 42, 3, 42, 1, 0x31],
+        0,
+        "    tsdu 7\n    GT\n    MAA 42=31\nrest 0\n",
+    ),
+    (
+        &[1, 0, 49, 6, 193, 1, 0x41, 42, 1, 0x31],
+        0,
+        "    tsdu 10\n    GT\n    MIP 42=31 193=41\nrest 0\n",
+    ),
+    (
+        &[1, 0, 50, 5, 42, 3, 0x30, 0x30, 0x31],
+        0,
+        "    tsdu 9\n    GT\n    MIA 42=31\nrest 0\n",
+    ),
+    (
+        &[1, 0, 53, 9, 26, 1, 0xAA, 27, 1, 0, 42, 1, 0x31],
+        0,
+        "    tsdu 13\n    GT\n    RS 26=aa 27=00 42=31\nrest 0\n",
+    ),
+];
+
 #[test]
 fn each_session_unit_has_its_name(rt: HostRuntime) -> Result<(), Fail> {
-    let tsdus: [(&[u8], u8, &str); 16] = [
-        (
-            &[1, 3, 16, 1, 0x41],
-            0,
-            "    tsdu 5\n    GT 16=41\nrest 0\n",
-        ),
-        (
-            &[2, 0, 1, 0, 0x41],
-            0,
-            "    tsdu 5\n    PT\n    DT octets 1\nrest 0\n",
-        ),
-        (
-            &[8, 3, 193, 1, 0x41],
-            0,
-            "    tsdu 5\n    NF 193=41\nrest 0\n",
-        ),
-        (&[9, 3, 17, 1, 1], 0, "    tsdu 5\n    FN 17=01\nrest 0\n"),
-        (&[10, 0], 0, "    tsdu 2\n    DN\nrest 0\n"),
-        (
-            &[12, 6, 17, 1, 1, 50, 1, 0],
-            0,
-            "    tsdu 8\n    RF 17=01 50=00\nrest 0\n",
-        ),
-        (&[13, 3, 10, 1, 0], 0, "    tsdu 5\n    CN\nrest 0\n"),
-        (
-            &[14, 4, 20, 2, 0, 2],
-            0,
-            "    tsdu 6\n    AC 20=0002\nrest 0\n",
-        ),
-        (&[25, 3, 17, 1, 4], 0, "    tsdu 5\n    AB 17=04\nrest 0\n"),
-        (&[26, 0], 0, "    tsdu 2\n    AA\nrest 0\n"),
-        (
-            &[1, 0, 34, 6, 26, 1, 0, 42, 1, 0x31],
-            0,
-            "    tsdu 10\n    GT\n    RA 26=00 42=31\nrest 0\n",
-        ),
-        (
-            &[1, 0, 41, 6, 15, 1, 1, 42, 1, 0x31],
-            0,
-            "    tsdu 10\n    GT\n    MAP 15=01 42=31\nrest 0\n",
-        ),
-        (
-            &[1, 0, 42, 3, 42, 1, 0x31],
-            0,
-            "    tsdu 7\n    GT\n    MAA 42=31\nrest 0\n",
-        ),
-        (
-            &[1, 0, 49, 6, 193, 1, 0x41, 42, 1, 0x31],
-            0,
-            "    tsdu 10\n    GT\n    MIP 42=31 193=41\nrest 0\n",
-        ),
-        (
-            &[1, 0, 50, 5, 42, 3, 0x30, 0x30, 0x31],
-            0,
-            "    tsdu 9\n    GT\n    MIA 42=31\nrest 0\n",
-        ),
-        (
-            &[1, 0, 53, 9, 26, 1, 0xAA, 27, 1, 0, 42, 1, 0x31],
-            0,
-            "    tsdu 13\n    GT\n    RS 26=aa 27=00 42=31\nrest 0\n",
-        ),
-    ];
-    assert_eq!(rt; other_units(&rt, &tsdus)?, None);
+    assert_eq!(rt; other_units(&rt, &NAMED)?, None);
     Ok(())
 }
 
+/// TSDUs with values that are listed as they are written, their status, and the end of their listing.
+const VALUES: [(&[u8], u8, &str); 9] = [
+    // an enclosure stands before the user information
+    (
+        &[1, 0, 1, 3, 25, 1, 3, 0x41, 0x42],
+        0,
+        "    tsdu 9\n    GT\n    DT 25=03 octets 2\nrest 0\n",
+    ),
+    // bits that are no tokens are written 0
+    (
+        &[1, 3, 16, 1, 0xFF],
+        0,
+        "    tsdu 5\n    GT 16=55\nrest 0\n",
+    ),
+    // groups and values without an octet
+    (
+        &[13, 4, 1, 0, 5, 0],
+        0,
+        "    tsdu 6\n    CN 1() 5()\nrest 0\n",
+    ),
+    (
+        &[13, 4, 51, 0, 52, 0],
+        0,
+        "    tsdu 6\n    CN 51= 52=\nrest 0\n",
+    ),
+    (&[25, 2, 49, 0], 0, "    tsdu 4\n    AB 49=\nrest 0\n"),
+    // empty user data is none
+    (&[9, 2, 193, 0], 0, "    tsdu 4\n    FN\nrest 0\n"),
+    // references in rising order of code
+    (
+        &[13, 8, 1, 6, 12, 1, 0xAB, 10, 1, 0],
+        0,
+        "    tsdu 10\n    CN 1(10=00 12=ab)\nrest 0\n",
+    ),
+    // a parameter of a group that is not the first of its table
+    (
+        &[14, 5, 5, 3, 22, 1, 2],
+        0,
+        "    tsdu 7\n    AC 5(22=02)\nrest 0\n",
+    ),
+    // user data of up to 512 octets, whichever code it has
+    (
+        &[13, 4, 194, 2, 0x41, 0x42],
+        0,
+        "    tsdu 6\n    CN 193=4142\nrest 0\n",
+    ),
+];
+
 #[test]
 fn values_are_listed_as_they_are_written(rt: HostRuntime) -> Result<(), Fail> {
-    let tsdus: [(&[u8], u8, &str); 9] = [
-        // an enclosure stands before the user information
-        (
-            &[1, 0, 1, 3, 25, 1, 3, 0x41, 0x42],
-            0,
-            "    tsdu 9\n    GT\n    DT 25=03 octets 2\nrest 0\n",
-        ),
-        // bits that are no tokens are written 0
-        (
-            &[1, 3, 16, 1, 0xFF],
-            0,
-            "    tsdu 5\n    GT 16=55\nrest 0\n",
-        ),
-        // groups and values without an octet
-        (
-            &[13, 4, 1, 0, 5, 0],
-            0,
-            "    tsdu 6\n    CN 1() 5()\nrest 0\n",
-        ),
-        (
-            &[13, 4, 51, 0, 52, 0],
-            0,
-            "    tsdu 6\n    CN 51= 52=\nrest 0\n",
-        ),
-        (&[25, 2, 49, 0], 0, "    tsdu 4\n    AB 49=\nrest 0\n"),
-        // empty user data is none
-        (&[9, 2, 193, 0], 0, "    tsdu 4\n    FN\nrest 0\n"),
-        // references in rising order of code
-        (
-            &[13, 8, 1, 6, 12, 1, 0xAB, 10, 1, 0],
-            0,
-            "    tsdu 10\n    CN 1(10=00 12=ab)\nrest 0\n",
-        ),
-        // a parameter of a group that is not the first of its table
-        (
-            &[14, 5, 5, 3, 22, 1, 2],
-            0,
-            "    tsdu 7\n    AC 5(22=02)\nrest 0\n",
-        ),
-        // user data of up to 512 octets, whichever code it has
-        (
-            &[13, 4, 194, 2, 0x41, 0x42],
-            0,
-            "    tsdu 6\n    CN 193=4142\nrest 0\n",
-        ),
-    ];
-    assert_eq!(rt; other_units(&rt, &tsdus)?, None);
+    assert_eq!(rt; other_units(&rt, &VALUES)?, None);
     Ok(())
 }
 

@@ -122,8 +122,8 @@ fn fields_of_a_request(rt: HostRuntime) -> Result<(), Fail> {
 }
 
 #[test]
-fn fields_of_the_others(rt: HostRuntime) -> Result<(), Fail> {
-    // CC with a calling selector; DR, DC, ER and both DT, with ignored bits set.
+fn fields_of_the_connection(rt: HostRuntime) -> Result<(), Fail> {
+    // CC with a calling selector; DR
     let octets = [0x0A, 0xD4, 0, 1, 0, 2, 0x20, 0xC1, 2, 1, 0, 9];
     let Some(Tpdu::Cc(cc)) = read_units(&octets)?.next() else {
         return Err("a CC".into());
@@ -139,6 +139,12 @@ fn fields_of_the_others(rt: HostRuntime) -> Result<(), Fail> {
     };
     assert_eq!(rt; (dr.destination(), dr.source(), dr.reason()), (1, 2, 0x85));
     assert_eq!(rt; dr.user(), [7].as_slice());
+    Ok(())
+}
+
+#[test]
+fn fields_of_the_others(rt: HostRuntime) -> Result<(), Fail> {
+    // DC, ER and DT of class 0, with ignored bits set
     let octets = [
         0x05, 0xC0, 0, 1, 0, 2, 0x04, 0x70, 0, 3, 2, 0x02, 0xF0, 0x7F, 5,
     ];
