@@ -1,6 +1,7 @@
 //! Transport units as a grammar of units.
 
 ghost use Rattle.std.specs.Prelude.{◌≡◌, ◌<◌, ◌++◌, length, Err, OnOk, OnErr};
+ghost use Rattle.bytes.specs.Filled.{UsesSpare};
 ghost use Rattle.osi_tpdu.specs.Laws.OneUnit.{stands_alone, one_reading};
 ghost use Rattle.osi_tpdu.specs.Laws.Written.{written_spells};
 ghost use Rattle.osi_tpdu.specs.Packet.{Follows};
@@ -55,6 +56,7 @@ impl<'a> Unit<'a> for Tpdu<'a> {
         ensures ok { OnOk result (out.new.items ≡ out.old.items ++ written (value self.now)) }
         ensures err { OnErr result (out.new.items ≡ out.old.items) }
         ensures full { OnErr result (out.old.spare < length (written (value self.now))) }
+        ensures spare { UsesSpare result out.old.spare out.new.spare (length (written (value self.now))) }
     {
         crate::writing::write(self, out)
     }

@@ -2,6 +2,7 @@
 
 ghost use Rattle.std.specs.Prelude.{◌≡◌, ◌+◌, ◌*◌, ◌<◌, ◌≤◌, ◌^◌, ◌++◌, ◌∷◌, [], length, Ok, IfSome, OnOk, OnErr, option_copied, option_map};
 ghost use Rattle.std.specs.List.{flat_map};
+ghost use Rattle.bytes.specs.Filled.{UsesSpare};
 ghost use Rattle.osi_tpkt.specs.Octets.{IsOctets};
 ghost use Rattle.osi_tpdu.specs.Limits.{size_code, selector_octets};
 ghost use Rattle.osi_tpdu.specs.Packet.{units_of};
@@ -167,6 +168,7 @@ fn put_request(out: &mut BytesMut, r: &ConnectRequest<'_>)
     requires counted { HasRoom (request (request_content r.now)) }
     requires room { length (written (request (request_content r.now))) ≤ out.old.spare }
     ensures items { out.new.items ≡ out.old.items ++ written (request (request_content r.now)) }
+    ensures spare { out.new.spare + length (written (request (request_content r.now))) ≡ out.old.spare }
     ensures in_range { IsInRange (request (request_content r.now)) }
 {
     let li = (6 + parameters_len(&r.parameters)) as u8;
@@ -181,6 +183,7 @@ fn put_confirm(out: &mut BytesMut, c: &ConnectConfirm<'_>)
     requires counted { HasRoom (confirm c.now.destination (confirm_content c.now)) }
     requires room { length (written (confirm c.now.destination (confirm_content c.now))) ≤ out.old.spare }
     ensures items { out.new.items ≡ out.old.items ++ written (confirm c.now.destination (confirm_content c.now)) }
+    ensures spare { out.new.spare + length (written (confirm c.now.destination (confirm_content c.now))) ≡ out.old.spare }
     ensures in_range { IsInRange (confirm c.now.destination (confirm_content c.now)) }
 {
     let li = (6 + parameters_len(&c.parameters)) as u8;
@@ -195,6 +198,7 @@ fn put_confirm(out: &mut BytesMut, c: &ConnectConfirm<'_>)
 fn put_disconnect(out: &mut BytesMut, d: &DisconnectRequest<'_>)
     requires { length (written (disconnect d.now.destination d.now.source d.now.reason d.now.user.now)) ≤ out.old.spare }
     ensures items { out.new.items ≡ out.old.items ++ written (disconnect d.now.destination d.now.source d.now.reason d.now.user.now) }
+    ensures spare { out.new.spare + length (written (disconnect d.now.destination d.now.source d.now.reason d.now.user.now)) ≡ out.old.spare }
     ensures in_range { IsInRange (disconnect d.now.destination d.now.source d.now.reason d.now.user.now) }
 {
     let (to_high, to_low) = (high_octet(d.destination), low_octet(d.destination));
@@ -206,6 +210,7 @@ fn put_disconnect(out: &mut BytesMut, d: &DisconnectRequest<'_>)
 fn put_disconnected(out: &mut BytesMut, d: DisconnectConfirm)
     requires { 6 ≤ out.old.spare }
     ensures items { out.new.items ≡ out.old.items ++ written (disconnected d.destination d.source) }
+    ensures spare { out.new.spare + length (written (disconnected d.destination d.source)) ≡ out.old.spare }
     ensures in_range { IsInRange (disconnected d.destination d.source) }
 {
     let (to_high, to_low) = (high_octet(d.destination), low_octet(d.destination));
@@ -216,6 +221,7 @@ fn put_disconnected(out: &mut BytesMut, d: DisconnectConfirm)
 fn put_data0(out: &mut BytesMut, d: &DataClass0<'_>)
     requires { 3 + length d.now.user.now ≤ out.old.spare }
     ensures items { out.new.items ≡ out.old.items ++ written (data0 d.now.end d.now.user.now) }
+    ensures spare { out.new.spare + length (written (data0 d.now.end d.now.user.now)) ≡ out.old.spare }
     ensures in_range { IsInRange (data0 d.now.end d.now.user.now) }
 {
     out.extend_reserved(&[2, 0xF0, with_bit(d.end, 0)]);
@@ -225,6 +231,7 @@ fn put_data0(out: &mut BytesMut, d: &DataClass0<'_>)
 fn put_data2(out: &mut BytesMut, d: &DataClass2<'_>)
     requires { 5 + length d.now.user.now ≤ out.old.spare }
     ensures items { out.new.items ≡ out.old.items ++ written (data2 d.now.destination d.now.number d.now.end d.now.user.now) }
+    ensures spare { out.new.spare + length (written (data2 d.now.destination d.now.number d.now.end d.now.user.now)) ≡ out.old.spare }
     ensures in_range { IsInRange (data2 d.now.destination d.now.number d.now.end d.now.user.now) }
 {
     let (to_high, to_low) = (high_octet(d.destination), low_octet(d.destination));
@@ -235,6 +242,7 @@ fn put_data2(out: &mut BytesMut, d: &DataClass2<'_>)
 fn put_acknowledge(out: &mut BytesMut, a: DataAcknowledgement)
     requires { 5 ≤ out.old.spare }
     ensures items { out.new.items ≡ out.old.items ++ written (acknowledge a.credit a.destination a.number) }
+    ensures spare { out.new.spare + length (written (acknowledge a.credit a.destination a.number)) ≡ out.old.spare }
     ensures in_range { IsInRange (acknowledge a.credit a.destination a.number) }
 {
     let (to_high, to_low) = (high_octet(a.destination), low_octet(a.destination));
@@ -244,6 +252,7 @@ fn put_acknowledge(out: &mut BytesMut, a: DataAcknowledgement)
 fn put_error(out: &mut BytesMut, e: ErrorReport)
     requires { 5 ≤ out.old.spare }
     ensures items { out.new.items ≡ out.old.items ++ written (error e.destination e.cause) }
+    ensures spare { out.new.spare + length (written (error e.destination e.cause)) ≡ out.old.spare }
     ensures in_range { IsInRange (error e.destination e.cause) }
 {
     let (to_high, to_low) = (high_octet(e.destination), low_octet(e.destination));
@@ -276,6 +285,8 @@ pub fn write(unit: &Tpdu<'_>, out: &mut BytesMut) -> Result<(), AllocError>
     ensures again { OnOk result (units_of (written (value unit.now)) ≡ Ok (value unit.now ∷ [])) }
     ensures err { OnErr result (out.new.items ≡ out.old.items) }
     ensures full { OnErr result (out.old.spare < length (written (value unit.now))) }
+    // The room that was there is used for what is written, and for nothing else.
+    ensures spare { UsesSpare result out.old.spare out.new.spare (length (written (value unit.now))) }
 {
     out.reserve(written_len(unit))?;
     match unit {

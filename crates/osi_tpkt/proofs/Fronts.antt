@@ -3,7 +3,7 @@ use Rattle.std.proofs.Common.{Result, Ok, Err, IfOk, OnOk, not, Option, Some, No
 use Rattle.std.proofs.lemmas.Bool.{cases_lt}
 use Rattle.std.proofs.lemmas.List.{append_assoc, get_or_append_left, length-append, length-replicate, length-take-le, take-append-drop, append-nil, drop_all, take_all, drop-take}
 use Rattle.osi_tpkt.specs.Octets.{IsOctets}
-use Rattle.osi_tpkt.specs.Packet.{IsPacket, IsWhole, IsPartial, IsBadVersion, IsBadLength, IsFaultOf, stated_length}
+use Rattle.osi_tpkt.specs.Packet.{IsPacket, IsWhole, IsPartial, IsBadVersion, IsBadLength, IsFaultOf, packet_of, stated_length}
 use Rattle.osi_tpkt.specs.declared.faults.TpktFault.{TpktFault}
 use Rattle.osi_tpkt.specs.declared.faults.TpktFault.TheVariants.{BadVersion, BadLength, OutOfMemory}
 use Rattle.osi_tpkt.specs.Header.{IsFront, IsFull, IsShort}
@@ -11,8 +11,8 @@ use Rattle.osi_tpkt.specs.Held.{Held}
 use Rattle.osi_tpkt.specs.Cutter.{Belongs}
 use Rattle.osi_tpkt.specs.declared.cutting.Fed.{Fed}
 use Rattle.osi_tpkt.specs.declared.headers.HeaderFault.{HeaderFault}
-use Rattle.osi_tpkt.specs.PacketLaws.{stated_length-append, packet_front}
-use Rattle.osi_tpkt.specs.OctetLaws.{octets_nil, octets_cons, octets_append, octets_left, octets_zeros}
+use Rattle.osi_tpkt.specs.PacketLaws.{stated_length-append, packet_front, written_packet}
+use Rattle.osi_tpkt.specs.OctetLaws.{octets_nil, octets_cons, octets_append, octets_left, octets_right, octets_zeros}
 
 -- the front part of octets with a good header, up to the length that it states
 pub front_part : (r more : List ℕ) → IsOctets (r ++ more) → get_or (r ++ more) 0 0 ≡ 3 → 7 ≤ stated_length (r ++ more) →
@@ -294,3 +294,10 @@ pub part_whole : (r : Result Fed HeaderFault) (held piece : List ℕ) → IsFron
 part_whole (Err e) held piece front long least used part = tt
 part_whole (Ok fed) held piece front long least used part =
     whole_part fed.whole held piece fed.used least used part
+
+-- what is written behind other octets and a header is a packet
+pub packet_behind : (before unit octets : List ℕ) → octets ≡ before ++ packet_of unit → IsOctets octets → 3 ≤ length unit → length unit ≤ 65531 →
+    IsPacket unit (packet_of unit)
+packet_behind before unit octets same known least most =
+    let packet : IsOctets (packet_of unit) = octets_right before (packet_of unit) (subst IsOctets same known) in
+    written_packet unit (record { at_least = least; at_most = most; octets = octets_right (take 4 (packet_of unit)) unit packet })

@@ -16,7 +16,7 @@ mod units;
 
 pub use cutting::{Cutter, Fed};
 pub use faults::TpktFault;
-pub use packets::{Packet, WriteError, write_packet};
+pub use packets::{Packet, WriteError, write_in_packet, write_packet};
 pub use units::Unit;
 
 #[cfg(test)]

@@ -1,4 +1,5 @@
 ghost use Rattle.std.specs.Prelude.{◌≡◌, ◌≤◌, ◌+◌, ◌<◌, ◌++◌, ◌↔◌, ◌⊎◌, length, IsSome, IfSome, Err, OnOk, OnErr};
+ghost use Rattle.bytes.specs.Filled.{UsesSpare};
 ghost use Rattle.osi_tpkt.specs.Octets.{IsOctets};
 ghost use Rattle.osi_tpkt.specs.Packet.{IsPacket, packet_of};
 
@@ -51,6 +52,7 @@ impl<'a> Unit<'a> for Packet<'a> {
     type Fault = TpktFault;
 
     ghost use Rattle.std.specs.Prelude.{◌≡◌, ◌++◌, ◌<◌, ℕ, List, [], length, OnOk, OnErr, IfOk, IfSome, IsOkAnd, IsSomeAnd, ◌↔◌};
+    ghost use Rattle.bytes.specs.Filled.{UsesSpare};
     ghost use Rattle.osi_tpkt.specs.Packet.{IsPacket, IsPartial, IsFaultOf, IsUnit, packet_of};
     ghost use Rattle.osi_tpkt.specs.PacketValue.{unit_of};
     ghost use Rattle.osi_tpkt.specs.PacketLaws.{Anything, written_packet, packet_reading};
@@ -123,6 +125,7 @@ pub fn write_packet(out: &mut BytesMut, unit: &[u8]) -> Result<(), WriteError>
     ensures bad_size { (result ≡ Err WriteError.BadSize)
         ↔ ((length unit.now < 3) ⊎ (65531 < length unit.now)) }
     ensures full { result ≡ Err WriteError.OutOfMemory → out.old.spare < length unit.now + 4 }
+    ensures spare { out.old.spare ≤ out.new.spare + (length unit.now + 4) }
 {
     let Some(packet) = Packet::new(unit) else {
         return Err(WriteError::BadSize);
@@ -130,5 +133,41 @@ pub fn write_packet(out: &mut BytesMut, unit: &[u8]) -> Result<(), WriteError>
     if packet.write(out).is_err() {
         return Err(WriteError::OutOfMemory);
     }
+    Ok(())
+}
+
+// What a slice holds are octets.
+fn are_octets(octets: &[u8])
+    ensures { IsOctets octets.now }
+{
+    let _octets = octets;
+}
+
+/// Appends the packet that carries a unit of any grammar (RFC 1006 section 6): its header and the
+/// written form of the unit behind it, with no other buffer. An `Err` leaves the octets of `out` as
+/// they were; want of memory comes only where `out` had no room and got none.
+pub fn write_in_packet<'a, U: Unit<'a>>(out: &mut BytesMut, unit: &U) -> Result<(), WriteError>
+    requires { U.fits (U.value unit.now) }
+    ensures ok { OnOk result (out.new.items ≡ out.old.items ++ packet_of (U.written (U.value unit.now))) }
+    ensures packet { OnOk result (IsPacket (U.written (U.value unit.now)) (packet_of (U.written (U.value unit.now)))) }
+    ensures err { OnErr result (out.new.items ≡ out.old.items) }
+    ensures bad_size { (result ≡ Err WriteError.BadSize)
+        ↔ ((length (U.written (U.value unit.now)) < 3) ⊎ (65531 < length (U.written (U.value unit.now)))) }
+    ensures full { result ≡ Err WriteError.OutOfMemory → out.old.spare < length (U.written (U.value unit.now)) + 4 }
+    ensures spare { out.old.spare ≤ out.new.spare + (length (U.written (U.value unit.now)) + 4) }
+{
+    let octets = unit.written_len();
+    if octets < 3 || octets > 65531 {
+        return Err(WriteError::BadSize);
+    }
+    let Ok(()) = out.reserve(octets + 4) else {
+        return Err(WriteError::OutOfMemory);
+    };
+    out.extend_reserved(&[3, 0]);
+    out.extend_reserved(&((octets + 4) as u16).to_be_bytes());
+    let Ok(()) = unit.write(out) else {
+        unreachable!()
+    };
+    are_octets(out.as_slice());
     Ok(())
 }

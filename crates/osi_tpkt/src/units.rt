@@ -1,5 +1,6 @@
 ghost use Rattle.std.specs.Prelude.{◌≡◌, ◌++◌, ◌<◌, ℕ, List, [], length, OnOk, OnErr, IfOk, IfSome, IsOkAnd, IsSomeAnd, ◌↔◌};
 ghost use Rattle.osi_tpkt.specs.Octets.{IsOctets};
+ghost use Rattle.bytes.specs.Filled.{UsesSpare};
 ghost use Rattle.osi_tpkt.specs.Unit.{IsAtFront};
 
 use bytes::BytesMut;
@@ -56,7 +57,9 @@ pub trait Unit<'a>: Sized + Drop {
         requires { fits (value self.now) }
         ensures ok { OnOk result (out.new.items ≡ out.old.items ++ written (value self.now)) }
         ensures err { OnErr result (out.new.items ≡ out.old.items) }
-        ensures full { OnErr result (out.old.spare < length (written (value self.now))) };
+        ensures full { OnErr result (out.old.spare < length (written (value self.now))) }
+        // The room that was there is used for what is written, and for nothing else.
+        ensures spare { UsesSpare result out.old.spare out.new.spare (length (written (value self.now))) };
 
     /// The number of octets that `write` appends.
     fn written_len(&self) -> usize
