@@ -2,6 +2,7 @@
 
 ghost use Rattle.std.specs.Prelude.{◌≡◌, ◌≤◌, ◌<◌, ◌^◌, ◌+◌, ◌++◌, [], ◌∷◌, length, nat_lt, Ok, OnOk, OnErr, if◌then◌else◌};
 ghost use Rattle.std.specs.List.{flat_map};
+ghost use Rattle.bytes.specs.Filled.{UsesSpare};
 ghost use Rattle.osi_spdu.specs.Codes.{number_of};
 ghost use Rattle.osi_spdu.specs.Octets.{octets_of};
 ghost use Rattle.osi_spdu.specs.Params.{known_of};
@@ -221,7 +222,8 @@ pub fn written_len(group: &Group) -> usize
 fn put_group(out: &mut BytesMut, group: &Group)
     requires small { TsduFits (units_of group.now) }
     requires room { length (tsdu_octets (units_of group.now)) ≤ out.old.spare }
-    ensures { out.new.items ≡ out.old.items ++ tsdu_octets (units_of group.now) }
+    ensures items { out.new.items ≡ out.old.items ++ tsdu_octets (units_of group.now) }
+    ensures spare { out.new.spare + length (tsdu_octets (units_of group.now)) ≡ out.old.spare }
 {
     put_unit(out, group.first());
     if let Some(second) = group.second() {
@@ -239,6 +241,8 @@ pub fn write_tsdu(group: &Group, out: &mut BytesMut) -> Result<(), AllocError>
     ensures ok { OnOk result (out.new.items ≡ out.old.items ++ tsdu_octets (units_of group.now)) }
     ensures err { OnErr result (out.new.items ≡ out.old.items) }
     ensures full { OnErr result (out.old.spare < length (tsdu_octets (units_of group.now))) }
+    // The room that was there is used for what is written, and for nothing else.
+    ensures spare { UsesSpare result out.old.spare out.new.spare (length (tsdu_octets (units_of group.now))) }
     // What is appended spells the units, and is read as them.
     ensures spelled { SpellsTsdu (units_of group.now) (tsdu_octets (units_of group.now)) }
     ensures read { tsdu_at (tsdu_octets (units_of group.now)) ≡ Ok (units_of group.now) }
