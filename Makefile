@@ -1,5 +1,6 @@
 # make: proves the program and builds it. make test: proves and tests everything.
-.PHONY: all test bench
+# make edits, or make edits CRATE=osi_spdu: tries the edits of crates/*/edits, which the prover must refuse.
+.PHONY: all test edits bench
 
 all:
 	cd crates/osi_tool && rt run -- --help > out.log 2>&1 || { cat out.log; exit 1; }
@@ -8,6 +9,9 @@ all:
 
 test:
 	bash .ci/run
+
+edits:
+	scripts/edits -v $(CRATE)
 
 bench:
 	bench/run
