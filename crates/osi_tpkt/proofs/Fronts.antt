@@ -3,10 +3,10 @@ use Rattle.std.proofs.Common.{Result, Ok, Err, IfOk, OnOk, not, Option, Some, No
 use Rattle.std.proofs.lemmas.Bool.{cases_lt}
 use Rattle.std.proofs.lemmas.List.{append_assoc, get_or_append_left, length-append, length-replicate, length-take-le, take-append-drop, append-nil, drop_all, take_all, drop-take}
 use Rattle.osi_tpkt.specs.Octets.{IsOctets}
-use Rattle.osi_tpkt.specs.Packet.{IsPacket, IsWhole, IsPartial, IsBadVersion, IsBadLength, IsFaultOf, packet_of, stated_length}
+use Rattle.osi_tpkt.specs.Packet.{IsPacket, IsOnePacket, IsPartial, IsBadVersion, IsBadLength, IsFaultOf, packet_of, stated_length}
 use Rattle.osi_tpkt.specs.declared.faults.TpktFault.{TpktFault}
 use Rattle.osi_tpkt.specs.declared.faults.TpktFault.TheVariants.{BadVersion, BadLength, OutOfMemory}
-use Rattle.osi_tpkt.specs.Header.{IsFront, IsFull, IsShort}
+use Rattle.osi_tpkt.specs.Header.{IsFront, IsFull, IsUnfinished}
 use Rattle.osi_tpkt.specs.Held.{Held}
 use Rattle.osi_tpkt.specs.Cutter.{Belongs}
 use Rattle.osi_tpkt.specs.declared.cutting.Fed.{Fed}
@@ -60,7 +60,7 @@ front_prefix r more f =
       within = λ h. let e = stated_length-append r more h in let g = f.within (omega arith) in omega arith;
     }
 
-pub partial_front : (r : List ℕ) → IsPartial r → IsFront r × IsShort r
+pub partial_front : (r : List ℕ) → IsPartial r → IsFront r × IsUnfinished r
 partial_front r p =
     let whole = packet_front _ _ p.completes.1 in
     let total = length-append r p.more in
@@ -91,7 +91,7 @@ full_packet (a ∷ b ∷ c ∷ d ∷ u) f g =
     }
 
 -- four octets or more: zeros complete it
-long_partial : (r : List ℕ) → IsFront r → IsShort r → 4 ≤ length r → IsPartial r
+long_partial : (r : List ℕ) → IsFront r → IsUnfinished r → 4 ≤ length r → IsPartial r
 long_partial r f g h =
     let n : ℕ = stated_length r - length r in
     let less = g h in
@@ -108,11 +108,11 @@ long_partial r f g h =
     record { more = replicate n 0; some = omega arith; completes = (drop 4 (r ++ replicate n 0), full_packet (r ++ replicate n 0) front (omega arith, omega arith)) }
 
 -- fewer than four: first the header is completed
-completed_partial : (r header : List ℕ) → IsPartial (r ++ header) → IsPartial r
+pub completed_partial : (r header : List ℕ) → IsPartial (r ++ header) → IsPartial r
 completed_partial r header p =
     let some = p.some in
     let total = length-append header p.more in
-    record { more = header ++ p.more; some = omega arith; completes = subst IsWhole (append_assoc r header p.more) p.completes }
+    record { more = header ++ p.more; some = omega arith; completes = subst IsOnePacket (append_assoc r header p.more) p.completes }
 
 -- the four octets of a header of at least 7
 header_partial : (b c d : ℕ) → b < 256 → c < 256 → d < 256 → 7 ≤ 256 * c + d → IsPartial (3 ∷ b ∷ c ∷ d ∷ [])
@@ -121,7 +121,7 @@ header_partial b c d hb hc hd h =
     (record { octets = octets_cons 3 (b ∷ c ∷ d ∷ []) (omega arith) (octets_cons b (c ∷ d ∷ []) hb (octets_cons c (d ∷ []) hc (octets_cons d [] hd octets_nil))); version = λ _. refl; at_least = λ _. h; within = λ _. omega arith })
     (λ _. omega arith) (omega arith)
 
-pub short_partial : (r : List ℕ) → IsFront r → IsShort r → IsPartial r
+pub short_partial : (r : List ℕ) → IsFront r → IsUnfinished r → IsPartial r
 short_partial [] f g = completed_partial [] (3 ∷ 0 ∷ 0 ∷ 7 ∷ []) (header_partial 0 0 7 (omega arith) (omega arith) (omega arith) (omega arith))
 short_partial (a ∷ []) f g =
     subst (λ x. IsPartial (x ∷ [])) (sym (f.version (omega arith)))
@@ -135,7 +135,7 @@ short_partial (a ∷ b ∷ c ∷ []) f g =
 short_partial (a ∷ b ∷ c ∷ d ∷ u) f g = long_partial (a ∷ b ∷ c ∷ d ∷ u) f g (omega arith)
 
 -- a packet is no proper prefix of one
-pub partial_not_whole : (r : List ℕ) → IsPartial r → IsWhole r → ⊥
+pub partial_not_whole : (r : List ℕ) → IsPartial r → IsOnePacket r → ⊥
 partial_not_whole r p w =
     let full = (packet_front _ _ w.1).1 in
     let less = (partial_front r p).1 full.0 in
@@ -193,12 +193,12 @@ one_fault at s (BadLength a) OutOfMemory h k = absurd k
 one_fault at s OutOfMemory g h k = absurd h
 
 -- what the header says of a front, said of packets
-pub stood : (whole : Bool) (x : List ℕ) (P : Type 0) → IsFront x → MatchBool whole (IsFull x) (IsShort x × P) → MatchBool whole (IsWhole x) (IsPartial x × P)
+pub stood : (whole : Bool) (x : List ℕ) (P : Type 0) → IsFront x → MatchBool whole (IsFull x) (IsUnfinished x × P) → MatchBool whole (IsOnePacket x) (IsPartial x × P)
 stood true x P f g = (drop 4 x, full_packet x f g)
 stood false x P f g = (short_partial x f g.0, g.1)
 
 -- the same where no whole packet was found
-pub none_partial : {A : Type 0} (o : Option A) (s : List ℕ) → IsFront s → IfNone o (IsShort s) → IfNone o (IsPartial s)
+pub none_partial : {A : Type 0} (o : Option A) (s : List ℕ) → IsFront s → IfNone o (IsUnfinished s) → IfNone o (IsPartial s)
 none_partial None s f h = short_partial s f h
 none_partial (Some x) s f h = h
 
@@ -223,7 +223,7 @@ where_short P Q true e h = absurd (cc)
 where_short P Q false e h = h
 
 -- a piece that was used whole
-pub short_whole_piece : (octets : List ℕ) (used : ℕ) → IsFront (take used octets) → IsShort (take used octets) × (used ≡ length octets) → IsPartial octets
+pub short_whole_piece : (octets : List ℕ) (used : ℕ) → IsFront (take used octets) → IsUnfinished (take used octets) × (used ≡ length octets) → IsPartial octets
 short_whole_piece octets used front short =
     let all : take used octets ≡ octets = ap (λ k. take k octets) short.1 ∙ take_all (length octets) octets (omega arith) in
     subst IsPartial all (short_partial (take used octets) front short.0)
@@ -233,13 +233,13 @@ empty_partial = completed_partial [] (3 ∷ 0 ∷ 0 ∷ 7 ∷ []) (header_partia
 
 -- what was surveyed of a piece is what belongs to the packet
 pub surveyed : (held octets piece : List ℕ) (fed : Fed) → held ≡ octets → fed.used ≤ length piece → IsFront (held ++ take fed.used piece) →
-    MatchBool fed.whole (IsFull (held ++ take fed.used piece)) (IsShort (held ++ take fed.used piece) × (fed.used ≡ length piece)) →
+    MatchBool fed.whole (IsFull (held ++ take fed.used piece)) (IsUnfinished (held ++ take fed.used piece) × (fed.used ≡ length piece)) →
     Belongs octets piece fed
 surveyed held octets piece fed same within front whole =
     subst (λ x. Belongs x piece fed) same
     (record { within = within; whole = stood fed.whole (held ++ take fed.used piece) (fed.used ≡ length piece) front whole })
 
-long_or_all : (whole : Bool) (x : List ℕ) (P : Type 0) → MatchBool whole (IsWhole x) (IsPartial x × P) → IsFront x × ((4 ≤ length x) ⊎ P)
+long_or_all : (whole : Bool) (x : List ℕ) (P : Type 0) → MatchBool whole (IsOnePacket x) (IsPartial x × P) → IsFront x × ((4 ≤ length x) ⊎ P)
 long_or_all true x P h = let front = packet_front h.0 x h.1 in (front.0, inl front.1.0)
 long_or_all false x P h = ((partial_front x h.0).0, inr h.1)
 
@@ -264,7 +264,7 @@ counted false held used stated piece h = omega (arith, h.0, h.1)
 whole_part : (whole : Bool) (held piece : List ℕ) (used : ℕ) → 7 ≤ stated_length (held ++ piece) → used ≤ length piece →
     MatchBool whole (length held + used ≡ stated_length (held ++ piece))
     ((length held + length piece < stated_length (held ++ piece)) × (used ≡ length piece)) →
-    MatchBool whole (IsFull (held ++ take used piece)) (IsShort (held ++ take used piece) × (used ≡ length piece))
+    MatchBool whole (IsFull (held ++ take used piece)) (IsUnfinished (held ++ take used piece) × (used ≡ length piece))
 whole_part true held piece used least some h =
     let size = length-append held (take used piece) in
     let taken = length-take-le used piece some in
@@ -290,7 +290,7 @@ pub part_whole : (r : Result Fed HeaderFault) (held piece : List ℕ) → IsFron
     OnOk r (7 ≤ stated_length (held ++ piece)) → IfOk r (λ fed. fed.used ≤ length piece) →
     IfOk r (λ fed. MatchBool fed.whole (length held + fed.used ≡ stated_length (held ++ piece))
     ((length held + length piece < stated_length (held ++ piece)) × (fed.used ≡ length piece))) →
-    IfOk r (λ fed. MatchBool fed.whole (IsFull (held ++ take fed.used piece)) (IsShort (held ++ take fed.used piece) × (fed.used ≡ length piece)))
+    IfOk r (λ fed. MatchBool fed.whole (IsFull (held ++ take fed.used piece)) (IsUnfinished (held ++ take fed.used piece) × (fed.used ≡ length piece)))
 part_whole (Err e) held piece front long least used part = tt
 part_whole (Ok fed) held piece front long least used part =
     whole_part fed.whole held piece fed.used least used part
@@ -301,3 +301,18 @@ pub packet_behind : (before unit octets : List ℕ) → octets ≡ before ++ pac
 packet_behind before unit octets same known least most =
     let packet : IsOctets (packet_of unit) = octets_right before (packet_of unit) (subst IsOctets same known) in
     written_packet unit (record { at_least = least; at_most = most; octets = octets_right (take 4 (packet_of unit)) unit packet })
+
+whole_where : (P Q : Type 0) (whole : Bool) → whole ≡ true → MatchBool whole P Q → P
+whole_where P Q true e h = h
+whole_where P Q false e h = absurd (cc)
+
+-- a packet that comes to stand needed some of the piece
+pub belonging_some : (octets piece : List ℕ) (fed : Fed) → IsPartial octets → Belongs octets piece fed → fed.whole ≡ true → 0 < fed.used
+belonging_some octets piece fed partial h whole = elim (cases_lt 0 fed.used) [
+  | inl some ↦ some
+  | inr none ↦
+      let no_more : fed.used ≡ 0 = omega arith in
+      let same : octets ++ take fed.used piece ≡ octets = ap (λ n. octets ++ take n piece) no_more ∙ append-nil octets in
+      absurd (partial_not_whole octets partial (subst IsOnePacket same
+      (whole_where (IsOnePacket (octets ++ take fed.used piece)) (IsPartial (octets ++ take fed.used piece) × (fed.used ≡ length piece)) fed.whole whole h.whole)))
+]

@@ -1,3 +1,4 @@
 pub mod Fronts
 pub mod Streams
+pub mod Holding
 pub mod Runs

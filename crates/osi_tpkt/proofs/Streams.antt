@@ -57,6 +57,10 @@ one_reading (u ∷ us) (v ∷ vs) s r q nr nq h k =
     let more = one_reading us vs h.1 r q nr nq h.4 (subst (λ x. ArePackets vs x q) (sym rest) k.4) in
     (ap (λ x. x ∷ us) one.1 ∙ ap (λ x. v ∷ x) more.0, more.1)
 
+-- the same where a proper prefix of a packet is left
+pub one_list : (s r q : List ℕ) (us vs : List (List ℕ)) → IsPartial r → IsPartial q → ArePackets us s r → ArePackets vs s q → (us ≡ vs) × (r ≡ q)
+one_list s r q us vs left right h k = one_reading us vs s r q (partial_no_packet r left) (partial_no_packet q right) h k
+
 -- octets end a stream in at most one way
 one_end : (at : ℕ) (r : List ℕ) (e f : Ending) → EndsAt at r e → EndsAt at r f → e ≡ f
 one_end at r (Faulty f) (Faulty g) h k = ap Faulty (one_fault at r f g h k)

@@ -1,6 +1,6 @@
 -- What each call of a cutter does.
 use Rattle.std.specs.Prelude.{◌≡◌, ℕ, ◌+◌, ◌<◌, ◌≤◌, List, [], ◌++◌, length, take, Some, None, Result, Ok, Err, MatchBool, true, IfOk}
-use Rattle.osi_tpkt.specs.Packet.{IsPacket, IsWhole, IsPartial, IsFaultOf}
+use Rattle.osi_tpkt.specs.Packet.{IsPacket, IsOnePacket, IsPartial, IsFaultOf}
 use Rattle.osi_tpkt.specs.Stream.{offset_of}
 use Rattle.osi_tpkt.specs.Held.{Held}
 use Rattle.osi_tpkt.specs.declared.faults.TpktFault.{TpktFault}
@@ -16,26 +16,28 @@ pub record Gains (old : Held) (more : List ℕ) (new : Held) : Type 0 where
 -- that it makes whole, or all of it
 pub record Belongs (octets piece : List ℕ) (fed : Fed) : Type 0 where
   pub within : fed.used ≤ length piece
-  pub whole : MatchBool fed.whole (IsWhole (octets ++ take fed.used piece))
+  pub whole : MatchBool fed.whole (IsOnePacket (octets ++ take fed.used piece))
       (IsPartial (octets ++ take fed.used piece) × (fed.used ≡ length piece))
 
 -- what feeding a piece does where no packet stands and no fault was answered: what belongs to the packet is
 -- held; or the fault is kept and nothing is used; or there is no room for what belongs, and nothing changes
-abbrev pub Takes : Held → List ℕ → Result Fed TpktFault → Held → Type 0
-Takes old piece (Ok fed) new = Belongs old.octets piece fed × Gains old (take fed.used piece) new
-Takes old piece (Err (BadVersion at)) new =
+abbrev pub TakesPiece : Held → List ℕ → Result Fed TpktFault → Held → Type 0
+TakesPiece old piece (Ok fed) new = Belongs old.octets piece fed × Gains old (take fed.used piece) new
+TakesPiece old piece (Err (BadVersion at)) new =
     IsFaultOf old.offset (old.octets ++ piece) (BadVersion at) × (new ≡ record old { fault = Some (BadVersion at) })
-Takes old piece (Err (BadLength at)) new =
+TakesPiece old piece (Err (BadLength at)) new =
     IsFaultOf old.offset (old.octets ++ piece) (BadLength at) × (new ≡ record old { fault = Some (BadLength at) })
-Takes old piece (Err OutOfMemory) new =
+TakesPiece old piece (Err OutOfMemory) new =
     (fed : Fed) × Belongs old.octets piece fed × (old.room < length old.octets + fed.used) × (new ≡ old)
 
 -- feeding a piece
 pub record Feeds (old : Held) (piece : List ℕ) (result : Result Fed TpktFault) (new : Held) : Type 0 where
   pub used : IfOk result (λ fed. fed.used ≤ length piece)
-  pub standing : IsWhole old.octets → (result ≡ Ok (record { used = 0; whole = true })) × (new ≡ old)
+  -- a packet that comes to stand used some of the piece
+  pub progress : old.fault ≡ None → IsPartial old.octets → IfOk result (λ fed. fed.whole ≡ true → 0 < fed.used)
+  pub standing : IsOnePacket old.octets → (result ≡ Ok (record { used = 0; whole = true })) × (new ≡ old)
   pub again : (f : TpktFault) → old.fault ≡ Some f → (result ≡ Err f) × (new ≡ old)
-  pub taken : old.fault ≡ None → IsPartial old.octets → Takes old piece result new
+  pub taken : old.fault ≡ None → IsPartial old.octets → TakesPiece old piece result new
 
 -- dropping the packet that stands
 pub record Advances (old new : Held) : Type 0 where

@@ -15,5 +15,5 @@ abbrev pub IsFull : List ℕ → Type 0
 IsFull h = (4 ≤ length h) × (length h ≡ stated_length h)
 
 -- fewer octets have come than a header says, or than a header has
-abbrev pub IsShort : List ℕ → Type 0
-IsShort h = 4 ≤ length h → length h < stated_length h
+abbrev pub IsUnfinished : List ℕ → Type 0
+IsUnfinished h = 4 ≤ length h → length h < stated_length h

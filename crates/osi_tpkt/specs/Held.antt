@@ -1,5 +1,6 @@
 -- What contracts see of a cutter.
-use Rattle.std.specs.Prelude.{ℕ, List, [], Option, None}
+use Rattle.std.specs.Prelude.{◌≡◌, ℕ, ◌<◌, ◌^◌, ◌⊎◌, List, [], Option, None}
+use Rattle.osi_tpkt.specs.Packet.{IsOnePacket, IsPartial}
 use Rattle.osi_tpkt.specs.declared.faults.TpktFault.{TpktFault}
 
 pub record Held : Type 0 where
@@ -15,3 +16,8 @@ pub record Held : Type 0 where
 -- a new cutter
 abbrev pub fresh : Held
 fresh = record { offset = 0; octets = []; fault = None; room = 0 }
+
+-- what is true of every cutter: a proper prefix of a packet is held, or a packet stands and no fault was answered
+pub record IsHolding (held : Held) : Type 0 where
+  pub offset : held.offset < 2 ^ 64
+  pub octets : IsPartial held.octets ⊎ (IsOnePacket held.octets × (held.fault ≡ None))

@@ -16,14 +16,14 @@ pub record IsPacket (u b : List ℕ) : Type 0 where
   pub at_most : length u ≤ 65531
 
 -- the octets are one packet
-abbrev pub IsWhole : List ℕ → Type 0
-IsWhole b = (u : List ℕ) × IsPacket u b
+abbrev pub IsOnePacket : List ℕ → Type 0
+IsOnePacket b = (u : List ℕ) × IsPacket u b
 
 -- the octets are a proper prefix of a packet, the empty one included
 pub record IsPartial (r : List ℕ) : Type 0 where
   pub more : List ℕ
   pub some : 0 < length more
-  pub completes : IsWhole (r ++ more)
+  pub completes : IsOnePacket (r ++ more)
 
 -- no packet begins so: the first octet is not the version
 abbrev pub IsBadVersion : List ℕ → Type 0

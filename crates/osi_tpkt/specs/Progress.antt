@@ -1,6 +1,6 @@
 -- How far a cutter is with the packet whose octets it holds.
-use Rattle.std.specs.Prelude.{ℕ, List, Option, Some, None}
-use Rattle.osi_tpkt.specs.Header.{IsFront, IsFull, IsShort}
+use Rattle.std.specs.Prelude.{ℕ, ◌<◌, ◌^◌, List, Option, Some, None}
+use Rattle.osi_tpkt.specs.Header.{IsFront, IsFull, IsUnfinished}
 use Rattle.osi_tpkt.specs.declared.faults.TpktFault.{TpktFault}
 use Rattle.osi_tpkt.specs.declared.faults.TpktFault.TheVariants.{BadVersion, BadLength}
 use Rattle.osi_tpkt.specs.declared.headers.HeaderFault.TheVariants.{Version, Length}
@@ -15,7 +15,12 @@ fault_of at (Refused Version) = Some (BadVersion at)
 fault_of at (Refused Length) = Some (BadLength at)
 
 -- what is true of the octets held: after a fault no packet stands
-abbrev pub IsSound : List ℕ → Progress → Type 0
-IsSound octets Partial = IsFront octets × IsShort octets
-IsSound octets Whole = IsFront octets × IsFull octets
-IsSound octets (Refused f) = IsFront octets × IsShort octets
+abbrev pub FitsProgress : List ℕ → Progress → Type 0
+FitsProgress octets Partial = IsFront octets × IsUnfinished octets
+FitsProgress octets Whole = IsFront octets × IsFull octets
+FitsProgress octets (Refused f) = IsFront octets × IsUnfinished octets
+
+-- what is true of the fields of a cutter
+pub record IsKept (at : ℕ) (octets : List ℕ) (stage : Progress) : Type 0 where
+  pub offset : at < 2 ^ 64
+  pub progress : FitsProgress octets stage

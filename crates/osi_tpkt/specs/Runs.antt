@@ -1,27 +1,27 @@
 -- Runs of calls of one cutter, the octets that they used and the packets that they gave.
-use Rattle.std.specs.Prelude.{◌≡◌, ℕ, ◌⊎◌, List, [], ◌∷◌, ◌++◌, length, take, Some, Result, Ok, Err, Contains}
+use Rattle.std.specs.Prelude.{◌≡◌, ℕ, ◌+◌, ◌-◌, ◌⊎◌, List, [], ◌∷◌, ◌++◌, length, take, Some, Result, Ok, Err, Contains}
 use Rattle.std.specs.List.{flat_map}
-use Rattle.osi_tpkt.specs.Packet.{IsPacket, IsPartial}
-use Rattle.osi_tpkt.specs.Stream.{Cuts}
+use Rattle.osi_tpkt.specs.Packet.{IsPacket, IsPartial, IsFaultOf}
+use Rattle.osi_tpkt.specs.Stream.{ArePackets, Cuts, offset_of}
 use Rattle.osi_tpkt.specs.Stream.Ending.{Faulty, Rest}
-use Rattle.osi_tpkt.specs.Held.{Held}
+use Rattle.osi_tpkt.specs.Held.{Held, IsHolding}
 use Rattle.osi_tpkt.specs.Cutter.{Feeds, Advances}
 use Rattle.osi_tpkt.specs.declared.faults.TpktFault.{TpktFault}
 use Rattle.osi_tpkt.specs.declared.cutting.Fed.{Fed}
 
 -- a call, with what it was given and what it answered
-pub data Call : Type 0 where
-  Feed : List ℕ → Result Fed TpktFault → Call
-  Advance : Call
+pub data CutterCall : Type 0 where
+  Feed : List ℕ → Result Fed TpktFault → CutterCall
+  Advance : CutterCall
 
 -- the octets that a call used
-abbrev pub used_by : Call → List ℕ
+abbrev pub used_by : CutterCall → List ℕ
 used_by (Feed piece (Ok fed)) = take fed.used piece
 used_by (Feed piece (Err f)) = []
 used_by Advance = []
 
 -- the octets that the calls used, in order
-abbrev pub stream_of : List Call → List ℕ
+abbrev pub stream_of : List CutterCall → List ℕ
 stream_of calls = flat_map used_by calls
 
 -- what is dropped is the unit of the packet that stands, or nothing
@@ -29,20 +29,29 @@ abbrev pub Drops : List ℕ → List (List ℕ) → Type 0
 Drops octets units = ((u : List ℕ) × IsPacket u octets × (units ≡ u ∷ [])) ⊎ (IsPartial octets × (units ≡ []))
 
 -- one call, and the units of the packets that it drops
-abbrev pub Step : Held → Call → List (List ℕ) → Held → Type 0
-Step old (Feed piece result) units new = Feeds old piece result new × (units ≡ [])
-Step old Advance units new = Advances old new × Drops old.octets units
+abbrev pub CutterStep : Held → CutterCall → List (List ℕ) → Held → Type 0
+CutterStep old (Feed piece result) units new = Feeds old piece result new × (units ≡ [])
+CutterStep old Advance units new = Advances old new × Drops old.octets units
 
 -- calls one after the other, and the units of the packets that they drop
-abbrev pub Run : Held → List Call → List (List ℕ) → Held → Type 0
-Run old [] units new = (units ≡ []) × (new ≡ old)
-Run old (call ∷ calls) units new =
-    (mid : Held) × (first : List (List ℕ)) × (rest : List (List ℕ)) × Step old call first mid × Run mid calls rest new × (units ≡ first ++ rest)
+abbrev pub CutterRun : Held → List CutterCall → List (List ℕ) → Held → Type 0
+CutterRun old [] units new = (units ≡ []) × (new ≡ old)
+CutterRun old (call ∷ calls) units new =
+    (mid : Held) × (first : List (List ℕ)) × (rest : List (List ℕ)) × CutterStep old call first mid × CutterRun mid calls rest new × (units ≡ first ++ rest)
 
 -- the packets dropped, and the one that stands, are those of the stream that was used; a fault is that of
 -- this stream with a piece that was refused behind it
-pub record IsReading (calls : List Call) (units : List (List ℕ)) (held : Held) : Type 0 where
+pub record CutterReads (calls : List CutterCall) (units : List (List ℕ)) (held : Held) : Type 0 where
   pub partial : IsPartial held.octets → Cuts (stream_of calls) units (Rest (length held.octets))
   pub standing : (u : List ℕ) → IsPacket u held.octets → Cuts (stream_of calls) (units ++ u ∷ []) (Rest 0)
   pub faulty : (f : TpktFault) → held.fault ≡ Some f →
       (piece : List ℕ) × Contains calls (Feed piece (Err f)) × Cuts (stream_of calls ++ piece) units (Faulty f)
+
+-- the same of a cutter in any state: what it held and the octets used behind it are the packets dropped and
+-- what is held now; a fault was there before, or is that of what is held with a piece that was refused behind it
+pub record CutterReadsOn (old : Held) (calls : List CutterCall) (units : List (List ℕ)) (new : Held) : Type 0 where
+  pub packets : ArePackets units (old.octets ++ stream_of calls) new.octets
+  pub offset : new.offset ≡ offset_of (old.offset + (length (old.octets ++ stream_of calls) - length new.octets))
+  pub sound : IsHolding new
+  pub faulty : (f : TpktFault) → new.fault ≡ Some f → (old.fault ≡ Some f)
+      ⊎ ((piece : List ℕ) × Contains calls (Feed piece (Err f)) × IsFaultOf new.offset (new.octets ++ piece) f)

@@ -1,5 +1,5 @@
-ghost use Rattle.std.specs.Prelude.{◌≡◌, ◌≢◌, ◌+◌, ◌≤◌, ◌++◌, ℕ, List, [], length, None, Some, Ok, Err, true, IsOk, IfOk, IfSome, IfNone};
-ghost use Rattle.osi_tpkt.specs.Packet.{IsPacket, IsWhole, IsPartial, IsFaultOf};
+ghost use Rattle.std.specs.Prelude.{◌≡◌, ◌≢◌, ◌+◌, ◌<◌, ◌≤◌, ◌++◌, ℕ, List, [], length, None, Some, Ok, Err, true, IsOk, IfOk, IfSome, IfNone};
+ghost use Rattle.osi_tpkt.specs.Packet.{IsPacket, IsOnePacket, IsPartial, IsFaultOf};
 
 use crate::faults::TpktFault;
 use crate::headers::{HeaderFault, survey};
@@ -42,7 +42,7 @@ impl Model for Cutter {
 
     ghost Value = { Held };
 
-    ghost use Rattle.osi_tpkt.specs.Progress.{fault_of, IsSound};
+    ghost use Rattle.osi_tpkt.specs.Progress.{fault_of, IsKept};
 
     ghost view = { λ c. record {
       offset = c.offset;
@@ -51,17 +51,18 @@ impl Model for Cutter {
       room = vec_capacity c.held;
     } };
 
-    ghost invariant = { λ c. IsSound c.held.items c.progress };
+    ghost invariant = { λ c. IsKept c.offset c.held.items c.progress };
 }
 
 impl Cutter {
-    ghost use Rattle.osi_tpkt.specs.Held.{fresh};
-    ghost use Rattle.osi_tpkt.specs.Cutter.{Takes};
+    ghost use Rattle.osi_tpkt.specs.Held.{IsHolding, fresh};
+    ghost use Rattle.osi_tpkt.specs.Cutter.{TakesPiece, Feeds, Advances};
     ghost use Rattle.osi_tpkt.specs.Stream.{offset_of};
 
     /// A cutter at the start of a stream. It takes no memory until it is fed.
     pub fn new(alloc: Global) -> Self
-        ensures { result ≡ fresh }
+        ensures value { result ≡ fresh }
+        ensures sound { IsHolding result }
     {
         Cutter {
             held: Vec::new(alloc),
@@ -70,7 +71,7 @@ impl Cutter {
         }
     }
 
-    /// Takes octets of the next piece of the stream, up to the end of the first packet that they
+    /// TakesPiece octets of the next piece of the stream, up to the end of the first packet that they
     /// make whole, or all of them. Octets of the piece that were not used are to be fed again after
     /// [`Cutter::advance`].
     ///
@@ -81,19 +82,24 @@ impl Cutter {
     #[inline]
     pub fn feed(&mut self, piece: &[u8]) -> Result<Fed, TpktFault>
         ensures used { IfOk result (λ fed. fed.used ≤ length piece.now) }
-        ensures standing { IsWhole self.old.octets →
+        ensures standing { IsOnePacket self.old.octets →
             (result ≡ Ok (record { used = 0; whole = true })) × (self.new ≡ self.old) }
         // A fault is kept, but for want of memory.
         ensures again { (f : TpktFault) → self.old.fault ≡ Some f →
             (result ≡ Err f) × (self.new ≡ self.old) }
         ensures lasting { self.new.fault ≢ Some TpktFault.OutOfMemory }
 
-        // Where neither stands, the piece is taken as `Takes` says, or its fault is answered.
+        // Where neither stands, the piece is taken as `TakesPiece` says, or its fault is answered.
         ensures empty { self.old.fault ≡ None → piece.now ≡ [] → IsOk result × (self.new ≡ self.old) }
         ensures refused { self.old.fault ≡ None → IsPartial self.old.octets → (f : TpktFault) →
             IsFaultOf self.old.offset (self.old.octets ++ piece.now) f → result ≡ Err f }
         ensures taken { self.old.fault ≡ None → IsPartial self.old.octets →
-            Takes self.old piece.now result self.new }
+            TakesPiece self.old piece.now result self.new }
+        // A packet that comes to stand used some of the piece.
+        ensures progress { self.old.fault ≡ None → IsPartial self.old.octets →
+            IfOk result (λ fed. fed.whole ≡ true → 0 < fed.used) }
+        ensures feeds { Feeds self.old piece.now result self.new }
+        ensures sound { IsHolding self.new }
     {
         match self.progress {
             Progress::Refused(header) => return Err(header.at(self.offset)),
@@ -131,6 +137,7 @@ impl Cutter {
     pub fn packet(&self) -> Option<&[u8]>
         ensures some { IfSome result (λ u. IsPacket u.now self.now.octets) }
         ensures none { IfNone result (IsPartial self.now.octets) }
+        ensures sound { IsHolding self.now }
     {
         match self.progress {
             Progress::Whole => Some(&self.held.as_slice()[4..]),
@@ -149,6 +156,8 @@ impl Cutter {
           room = self.old.room;
         } }
         ensures partial { IsPartial self.old.octets → self.new ≡ self.old }
+        ensures advances { Advances self.old self.new }
+        ensures sound { IsHolding self.new }
     {
         if let Progress::Whole = self.progress {
             self.offset = self.offset.saturating_add(self.rest_len() as u64);

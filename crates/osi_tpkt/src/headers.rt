@@ -1,6 +1,6 @@
 ghost use Rattle.std.specs.Prelude.{◌≡◌, ◌≢◌, ◌<◌, ◌≤◌, ◌+◌, ◌*◌, ◌++◌, ◌↔◌, length, take, Err, IfOk, OnOk, false, MatchBool, MatchOption, slice_index};
 ghost use Rattle.osi_tpkt.specs.Packet.{IsBadVersion, IsBadLength};
-ghost use Rattle.osi_tpkt.specs.Header.{IsFront, IsFull, IsShort};
+ghost use Rattle.osi_tpkt.specs.Header.{IsFront, IsFull, IsUnfinished};
 
 use crate::cutting::Fed;
 use crate::faults::TpktFault;
@@ -46,7 +46,7 @@ pub(crate) fn survey(held: &[u8], piece: &[u8]) -> Result<Fed, HeaderFault>
     ensures front { IfOk result (λ fed. IsFront (held.now ++ take fed.used piece.now)) }
     ensures whole { IfOk result (λ fed. MatchBool fed.whole
         (IsFull (held.now ++ take fed.used piece.now))
-        (IsShort (held.now ++ take fed.used piece.now) × (fed.used ≡ length piece.now))) }
+        (IsUnfinished (held.now ++ take fed.used piece.now) × (fed.used ≡ length piece.now))) }
     ensures version { result ≡ Err HeaderFault.Version → IsBadVersion (held.now ++ piece.now) }
     ensures length { result ≡ Err HeaderFault.Length → IsBadLength (held.now ++ piece.now) }
 {
@@ -64,7 +64,7 @@ fn survey_first(piece: &[u8]) -> Result<Fed, HeaderFault>
     ensures front { IfOk result (λ fed. IsFront (take fed.used piece.now)) }
     ensures whole { IfOk result (λ fed. MatchBool fed.whole
         (IsFull (take fed.used piece.now))
-        (IsShort (take fed.used piece.now) × (fed.used ≡ length piece.now))) }
+        (IsUnfinished (take fed.used piece.now) × (fed.used ≡ length piece.now))) }
     ensures version { result ≡ Err HeaderFault.Version → IsBadVersion piece.now }
     ensures length { result ≡ Err HeaderFault.Length → IsBadLength piece.now }
 {
@@ -84,7 +84,7 @@ fn survey_next(held: &[u8], piece: &[u8]) -> Result<Fed, HeaderFault>
     ensures front { IfOk result (λ fed. IsFront (held.now ++ take fed.used piece.now)) }
     ensures whole { IfOk result (λ fed. MatchBool fed.whole
         (IsFull (held.now ++ take fed.used piece.now))
-        (IsShort (held.now ++ take fed.used piece.now) × (fed.used ≡ length piece.now))) }
+        (IsUnfinished (held.now ++ take fed.used piece.now) × (fed.used ≡ length piece.now))) }
     ensures version { result ≡ Err HeaderFault.Version → IsBadVersion (held.now ++ piece.now) }
     ensures length { result ≡ Err HeaderFault.Length → IsBadLength (held.now ++ piece.now) }
 {

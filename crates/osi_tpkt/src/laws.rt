@@ -1,11 +1,11 @@
 //! Laws of packets and streams. Each function does nothing: its contract is the law.
 
-ghost use Rattle.std.specs.Prelude.{◌≡◌, ◌++◌, ℕ, List};
+ghost use Rattle.std.specs.Prelude.{◌≡◌, ◌++◌, ℕ, List, []};
 ghost use Rattle.osi_tpkt.specs.Octets.{IsOctets};
-ghost use Rattle.osi_tpkt.specs.Packet.{IsPacket};
-ghost use Rattle.osi_tpkt.specs.Stream.{Cuts, Ending};
-ghost use Rattle.osi_tpkt.specs.Held.{Held, fresh};
-ghost use Rattle.osi_tpkt.specs.Runs.{Call, Run, IsReading};
+ghost use Rattle.osi_tpkt.specs.Packet.{IsPacket, IsOnePacket, IsPartial};
+ghost use Rattle.osi_tpkt.specs.Stream.{ArePackets, Cuts, Ending};
+ghost use Rattle.osi_tpkt.specs.Held.{Held, IsHolding, fresh};
+ghost use Rattle.osi_tpkt.specs.Runs.{CutterCall, CutterRun, CutterReads, CutterReadsOn};
 
 /// No spelling of a packet begins another: where two packets stand at the front of the same
 /// octets, they are one, with one transport unit.
@@ -14,9 +14,19 @@ pub fn no_packet_begins_another()
         (b ≡ c) × (u ≡ v) }
 {}
 
-/// A stream is packets in at most one way, and has at most one ending.
+/// Nothing is a proper prefix of a packet, a front part of a proper prefix is one, and no packet is one.
+pub fn a_prefix_of_a_packet()
+    ensures nothing { IsPartial [] }
+    ensures front { (r more : List ℕ) → IsPartial (r ++ more) → IsPartial r }
+    ensures proper { (r : List ℕ) → IsPartial r → IsOnePacket r → ⊥ }
+{}
+
+/// A stream is packets in at most one way, and has at most one ending. So are octets of which a
+/// proper prefix of a packet is left.
 pub fn a_stream_has_one_cut()
-    ensures { (s : List ℕ) (us vs : List (List ℕ)) (e f : Ending) → Cuts s us e → Cuts s vs f →
+    ensures packets { (s r q : List ℕ) (us vs : List (List ℕ)) → IsPartial r → IsPartial q →
+        ArePackets us s r → ArePackets vs s q → (us ≡ vs) × (r ≡ q) }
+    ensures cut { (s : List ℕ) (us vs : List (List ℕ)) (e f : Ending) → Cuts s us e → Cuts s vs f →
         (us ≡ vs) × (e ≡ f) }
 {}
 
@@ -25,10 +35,24 @@ pub fn a_stream_has_a_cut()
     ensures { (s : List ℕ) → IsOctets s → (us : List (List ℕ)) × (e : Ending) × Cuts s us e }
 {}
 
+/// Packets one behind the other, and packets in what is left and what comes behind it, are packets
+/// one behind the other; and where packets are parted, so are their octets.
+pub fn packets_follow_one_another()
+    ensures joined { (us vs : List (List ℕ)) (s m t r : List ℕ) → ArePackets us s m → ArePackets vs (m ++ t) r →
+        ArePackets (us ++ vs) (s ++ t) r }
+    ensures parted { (us vs : List (List ℕ)) (s r : List ℕ) → ArePackets (us ++ vs) s r →
+        (m : List ℕ) × ArePackets us s m × ArePackets vs m r }
+{}
+
 /// Whatever calls are made of a new cutter, and however the stream is cut into the pieces that it
 /// is fed, the packets that it gives are those of the octets that were used, and a fault is that
-/// of these octets and the piece that was refused.
+/// of these octets and the piece that was refused. The same holds of a cutter in any state, behind
+/// the octets that it holds; and calls behind calls are calls.
 pub fn the_pieces_do_not_matter()
-    ensures { (calls : List Call) (units : List (List ℕ)) (held : Held) →
-        Run fresh calls units held → IsReading calls units held }
+    ensures new { (calls : List CutterCall) (units : List (List ℕ)) (held : Held) →
+        CutterRun fresh calls units held → CutterReads calls units held }
+    ensures any { (old new : Held) (calls : List CutterCall) (units : List (List ℕ)) → IsHolding old →
+        CutterRun old calls units new → CutterReadsOn old calls units new }
+    ensures joined { (old mid new : Held) (calls more : List CutterCall) (us vs : List (List ℕ)) →
+        CutterRun old calls us mid → CutterRun mid more vs new → CutterRun old (calls ++ more) (us ++ vs) new }
 {}

@@ -1,4 +1,4 @@
-ghost use Rattle.std.specs.Prelude.{◌≡◌, ◌≤◌, ◌+◌, ◌<◌, ◌++◌, ◌↔◌, ◌⊎◌, length, IsSome, IfSome, Err, OnOk, OnErr};
+ghost use Rattle.std.specs.Prelude.{◌≡◌, ◌≤◌, ◌+◌, ◌/◌, ◌%◌, ◌<◌, [], ◌∷◌, ◌++◌, ◌↔◌, ◌⊎◌, length, IsSome, IfSome, Err, OnOk, OnErr};
 ghost use Rattle.bytes.specs.Filled.{UsesSpare};
 ghost use Rattle.osi_tpkt.specs.Octets.{IsOctets};
 ghost use Rattle.osi_tpkt.specs.Packet.{IsPacket, packet_of};
@@ -94,8 +94,7 @@ impl<'a> Unit<'a> for Packet<'a> {
     fn write(&self, out: &mut BytesMut) -> Result<(), AllocError> {
         let octets = self.written_len();
         out.reserve(octets)?;
-        out.extend_reserved(&[3, 0]);
-        out.extend_reserved(&(octets as u16).to_be_bytes());
+        put_header(out, octets);
         out.extend_reserved(self.unit);
         Ok(())
     }
@@ -136,6 +135,17 @@ pub fn write_packet(out: &mut BytesMut, unit: &[u8]) -> Result<(), WriteError>
     Ok(())
 }
 
+// The header of a packet of so many octets, these four included.
+fn put_header(out: &mut BytesMut, octets: usize)
+    requires size { octets ≤ 65535 }
+    requires room { 4 ≤ out.old.spare }
+    ensures items { out.new.items ≡ out.old.items ++ 3 ∷ 0 ∷ (octets / 256) ∷ (octets % 256) ∷ [] }
+    ensures spare { out.new.spare + 4 ≡ out.old.spare }
+{
+    out.extend_reserved(&[3, 0]);
+    out.extend_reserved(&(octets as u16).to_be_bytes());
+}
+
 // What a slice holds are octets.
 fn are_octets(octets: &[u8])
     ensures { IsOctets octets.now }
@@ -163,8 +173,7 @@ pub fn write_in_packet<'a, U: Unit<'a>>(out: &mut BytesMut, unit: &U) -> Result<
     let Ok(()) = out.reserve(octets + 4) else {
         return Err(WriteError::OutOfMemory);
     };
-    out.extend_reserved(&[3, 0]);
-    out.extend_reserved(&((octets + 4) as u16).to_be_bytes());
+    put_header(out, octets + 4);
     let Ok(()) = unit.write(out) else {
         unreachable!()
     };

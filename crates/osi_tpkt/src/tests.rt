@@ -98,6 +98,10 @@ fn a_packet_is_read_and_written(rt: HostRuntime) -> Result<(), Fail> {
     assert_eq!(rt; packet.written_len(), 22);
     packet.write(&mut out)?;
     assert_eq!(rt; out.as_slice(), CONNECT_REQUEST.as_slice());
+    let mut out = BytesMut::new(rt.alloc());
+    write_in_packet(&mut out, &packet)?;
+    assert!(rt; out.as_slice().starts_with(&[3, 0, 0, 26]));
+    assert!(rt; out.as_slice().ends_with(&CONNECT_REQUEST));
     assert!(rt; Packet::read(&CONNECT_REQUEST[..21])?.is_none());
     assert!(rt; Packet::read(&[3, 0, 0, 6]).is_err());
     Ok(())

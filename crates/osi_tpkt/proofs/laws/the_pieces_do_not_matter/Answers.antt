@@ -1,5 +1,5 @@
-use Rattle.osi_tpkt.proofs.Runs.{any_run}
+use Rattle.osi_tpkt.proofs.Runs.{any_run, any_run_on, runs_joined}
 use Rattle.osi_tpkt.proofs.laws.the_pieces_do_not_matter.Goals as goal
 
 pub returns : goal.returns
-returns c = any_run
+returns c = record { new = any_run; any = any_run_on; joined = runs_joined }
