@@ -1,6 +1,3 @@
 pub mod Consumption
 pub mod Digits
-pub mod Fields
-pub mod Joining
-pub mod Listings
 pub mod Names

@@ -1,9 +1,3 @@
 pub mod Capture
-pub mod Lines
-pub mod SessionLines
-pub mod Streams
-pub mod Joins
-pub mod Listing
-pub mod Says
 pub mod Show
 pub mod Words

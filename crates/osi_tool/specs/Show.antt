@@ -2,7 +2,7 @@
 use Rattle.std.specs.Prelude.{ℕ, ◌≤◌, List, length, Option}
 use Rattle.std.specs.Io.KnownBytes.{Appends, Consumes}
 use Rattle.osi_tool.specs.Capture.{Captures}
-use Rattle.osi_tool.specs.Listing.{IsListing}
+use Rattle.osi_listing.specs.Listing.{IsListing}
 
 -- the text is a capture, and the listing of what it captures is written, and nothing else
 pub record Shows (text : List ℕ) (old new : Option (List ℕ)) (status : ℕ) : Type 0 where

@@ -8,14 +8,9 @@
 mod capture;
 mod faults;
 mod jobs;
-mod lines;
-mod listing;
-mod session_lines;
 mod showing;
-mod streams;
 #[cfg(test)]
 mod tests;
-mod units;
 mod words;
 
 use clap::Error;

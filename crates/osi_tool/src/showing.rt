@@ -5,7 +5,7 @@ ghost use Rattle.osi_tool.specs.Show.{Shows, TakesAtMost};
 
 use crate::capture::octets_of;
 use crate::faults::ToolFault;
-use crate::listing::list;
+use osi_listing::list;
 use std::alloc::Global;
 use std::io::{ErrorKind, Read, Write};
 

@@ -1,9 +1,9 @@
 use crate::faults::ToolFault;
 use crate::jobs::Job;
-use crate::listing::list;
 use crate::showing::{LONGEST_INPUT, show};
 use crate::words::job;
 use clap::error::ErrorKind;
+use osi_listing::list;
 use std::io;
 use std::io::{Read, Write};
 use std::test::Fail;

@@ -1,0 +1,13 @@
+use Rattle.std.proofs.Common.{List, length}
+use Rattle.osi_tpdu.specs.Units.{units_left}
+use Rattle.osi_listing.specs.Streams.{Part}
+use Rattle.osi_listing.specs.Says.{Holds}
+use Rattle.osi_listing.proofs.Listings.{Advanced}
+use Rattle.osi_listing.proofs.listing.list_each.Given as goal
+
+abbrev pub invariant-units : goal.invariant-units
+invariant-units l = (earlier : List Part) → Holds l.fn.streams earlier →
+    Advanced l.fn.text.items l.text.items l.refused l.streams (units_left l.units) earlier (units_left l.fn.units)
+
+abbrev pub decreases-units : goal.decreases-units
+decreases-units l = length (units_left l.units)

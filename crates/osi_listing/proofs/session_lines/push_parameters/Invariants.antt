@@ -1,0 +1,11 @@
+use Rattle.std.proofs.Common.{◌≡◌, ◌++◌, drop}
+use Rattle.std.specs.List.{flat_map}
+use Rattle.osi_spdu.specs.declared.codes.Code.{Code}
+use Rattle.osi_spdu.specs.Units.{said_by}
+use Rattle.osi_listing.specs.SessionLines.{parameter_field}
+use Rattle.osi_listing.proofs.session_lines.push_parameters.Given as goal
+
+abbrev pub invariant-codes : goal.invariant-codes
+invariant-codes l =
+    let field = λ (c : Code). parameter_field (said_by l.unit) c ((said_by l.unit).known c) in
+    l.text.items ++ flat_map field (drop l.code-index l.codes) ≡ l.fn.text.items ++ flat_map field l.codes

@@ -1,0 +1,7 @@
+use Rattle.std.proofs.Common.{rules}
+use Rattle.osi_listing.specs.Streams.{join_of}
+use Rattle.osi_listing.proofs.streams.Streams.new.Goals as goal
+
+pub returns : goal.returns
+unfolding join_of
+returns c = record { zero = search rules; two = λ d. search rules }

@@ -1,0 +1,183 @@
+ghost use Rattle.std.specs.Prelude.{◌≡◌, ◌++◌, ◌<◌, ◌^◌, ◌+◌, ◌∷◌, [], length, option_copied, OnOk};
+ghost use Rattle.std.specs.Fmt.{decimal};
+ghost use Rattle.hex.specs.Hex.{encode_lower};
+ghost use Rattle.osi_listing.specs.Lines.{packet_line, fault_line, rest_line, unit_fault_line, tsdu_line, too_long_line, number_field, reference_field, octet_field, octets_field};
+
+use osi_tpdu::TpduFault;
+use osi_tpkt::TpktFault;
+use std::alloc::{AllocError, Global};
+
+/// Adds words to a text.
+pub(crate) fn push_words(text: &mut Vec<u8>, words: &str) -> Result<(), AllocError>
+    ensures { OnOk result (text.new.items ≡ text.old.items ++ words.now) }
+{
+    text.extend_from_slice(words.as_bytes())
+}
+
+/// Adds a number in decimal.
+pub(crate) fn push_decimal(text: &mut Vec<u8>, number: u64) -> Result<(), AllocError>
+    ensures { OnOk result (text.new.items ≡ text.old.items ++ decimal number) }
+{
+    let mut buffer = itoa::Buffer::new();
+    text.extend_from_slice(buffer.format(number).as_bytes())
+}
+
+/// Adds octets in hexadecimal.
+pub(crate) fn push_hex(alloc: Global, text: &mut Vec<u8>, octets: &[u8]) -> Result<(), AllocError>
+    ensures { OnOk result (text.new.items ≡ text.old.items ++ encode_lower octets.now) }
+{
+    let digits = hex::encode(alloc, octets)?;
+    text.extend_from_slice(digits.as_bytes())
+}
+
+/// Adds an octet in hexadecimal.
+pub(crate) fn push_octet(text: &mut Vec<u8>, octet: u8) -> Result<(), AllocError>
+    ensures { OnOk result (text.new.items ≡ text.old.items ++ encode_lower (octet ∷ [])) }
+{
+    let mut digits = [0; 2];
+    let _ = hex::encode_to_slice([octet].as_slice(), &mut digits);
+    text.extend_from_slice(&digits)
+}
+
+/// Adds a word and a number.
+pub(crate) fn push_number_field(
+    text: &mut Vec<u8>,
+    word: &str,
+    number: u64,
+) -> Result<(), AllocError>
+    ensures { OnOk result (text.new.items ≡ text.old.items ++ number_field word.now number) }
+{
+    push_words(text, word)?;
+    push_decimal(text, number)
+}
+
+/// Adds a word and a reference.
+pub(crate) fn push_reference_field(
+    text: &mut Vec<u8>,
+    word: &str,
+    reference: u16,
+) -> Result<(), AllocError>
+    ensures { OnOk result (text.new.items ≡ text.old.items ++ reference_field word.now reference) }
+{
+    push_words(text, word)?;
+    let mut digits = [0; 4];
+    let octets = [(reference / 256) as u8, (reference % 256) as u8];
+    let _ = hex::encode_to_slice(octets.as_slice(), &mut digits);
+    text.extend_from_slice(&digits)
+}
+
+/// Adds a word and an octet, where it is there.
+pub(crate) fn push_octet_field(
+    text: &mut Vec<u8>,
+    word: &str,
+    octet: Option<u8>,
+) -> Result<(), AllocError>
+    ensures { OnOk result (text.new.items ≡ text.old.items ++ octet_field word.now octet) }
+{
+    match octet {
+        None => Ok(()),
+        Some(octet) => {
+            push_words(text, word)?;
+            push_octet(text, octet)
+        }
+    }
+}
+
+/// Adds a word and octets, where they are there.
+pub(crate) fn push_octets_field(
+    alloc: Global,
+    text: &mut Vec<u8>,
+    word: &str,
+    octets: Option<&[u8]>,
+) -> Result<(), AllocError>
+    ensures { OnOk result (text.new.items
+        ≡ text.old.items ++ octets_field word.now (option_copied octets.entry)) }
+{
+    match octets {
+        None => Ok(()),
+        Some(octets) => {
+            push_words(text, word)?;
+            push_hex(alloc, text, octets)
+        }
+    }
+}
+
+/// Adds the line of a packet, by its offset in the capture and its transport unit.
+#[tactic(auto, unfolding(crate::specs::Lines::packet_line))]
+pub(crate) fn push_packet(text: &mut Vec<u8>, offset: u64, unit: &[u8]) -> Result<(), AllocError>
+    requires some { 1 < length unit.now }
+    requires fits { length unit.now + 4 < 2 ^ 64 }
+    ensures { OnOk result (text.new.items ≡ text.old.items ++ packet_line offset unit.now) }
+{
+    push_words(text, "packet ")?;
+    push_decimal(text, offset)?;
+    push_words(text, " length ")?;
+    push_decimal(text, unit.len() as u64 + 4)?;
+    push_words(text, " code ")?;
+    push_octet(text, unit[1])?;
+    push_words(text, "\n")
+}
+
+/// Adds the line of a fault that ends a capture.
+#[tactic(auto, unfolding(crate::specs::Lines::fault_line))]
+pub(crate) fn push_fault(text: &mut Vec<u8>, fault: TpktFault) -> Result<(), AllocError>
+    ensures { OnOk result (text.new.items ≡ text.old.items ++ fault_line fault) }
+{
+    let (offset, name) = match fault {
+        TpktFault::BadVersion(offset) => (offset, "BadVersion"),
+        TpktFault::BadLength(offset) => (offset, "BadLength"),
+        TpktFault::OutOfMemory => (0, "OutOfMemory"),
+    };
+    push_words(text, "fault ")?;
+    push_decimal(text, offset)?;
+    push_words(text, " ")?;
+    push_words(text, name)?;
+    push_words(text, "\n")
+}
+
+/// Adds the line of the octets left over.
+#[tactic(auto, unfolding(crate::specs::Lines::rest_line))]
+pub(crate) fn push_rest(text: &mut Vec<u8>, octets: u64) -> Result<(), AllocError>
+    ensures { OnOk result (text.new.items ≡ text.old.items ++ rest_line octets) }
+{
+    push_words(text, "rest ")?;
+    push_decimal(text, octets)?;
+    push_words(text, "\n")
+}
+
+/// Adds the line of the fault of a packet's units.
+#[tactic(auto, unfolding(crate::specs::Lines::unit_fault_line))]
+pub(crate) fn push_unit_fault(text: &mut Vec<u8>, fault: TpduFault) -> Result<(), AllocError>
+    ensures { OnOk result (text.new.items ≡ text.old.items ++ unit_fault_line fault) }
+{
+    let (offset, name) = match fault {
+        TpduFault::BadLi(offset) => (offset, "BadLi"),
+        TpduFault::UnknownCode(offset) => (offset, "UnknownCode"),
+        TpduFault::BadParameterLength(offset) => (offset, "BadParameterLength"),
+        TpduFault::BadParameterValue(offset) => (offset, "BadParameterValue"),
+        TpduFault::DuplicateParameter(offset) => (offset, "DuplicateParameter"),
+    };
+    push_words(text, "  fault ")?;
+    push_decimal(text, offset as u64)?;
+    push_words(text, " ")?;
+    push_words(text, name)?;
+    push_words(text, "\n")
+}
+
+/// Adds the line of a whole TSDU, by the number of its octets.
+#[tactic(auto, unfolding(crate::specs::Lines::tsdu_line))]
+pub(crate) fn push_tsdu(text: &mut Vec<u8>, octets: u64) -> Result<(), AllocError>
+    ensures { OnOk result (text.new.items ≡ text.old.items ++ tsdu_line octets) }
+{
+    push_words(text, "    tsdu ")?;
+    push_decimal(text, octets)?;
+    push_words(text, "\n")
+}
+
+/// Adds the line of a TSDU that has passed its limit.
+#[tactic(auto, unfolding(crate::specs::Lines::too_long_line))]
+pub(crate) fn push_too_long(text: &mut Vec<u8>) -> Result<(), AllocError>
+    ensures { OnOk result (text.new.items ≡ text.old.items ++ too_long_line) }
+{
+    push_words(text, "  fault 0 TsduTooLong\n")
+}

@@ -1,0 +1,144 @@
+ghost use Rattle.std.specs.Prelude.{◌≡◌, ◌==◌, ℕ, List, [], if◌then◌else◌, IfOk, OnOk};
+ghost use Rattle.osi_listing.specs.Streams.{joined, brought};
+ghost use Rattle.osi_listing.specs.Streams.Join.{Begun};
+ghost use Rattle.osi_listing.specs.Joins.{join_value, outcome_value, join_at};
+
+use osi_tpdu::Tpdu;
+use std::alloc::{AllocError, Global};
+use std::collections::BTreeMap;
+use std::mem;
+
+/// The greatest number of octets of a TSDU.
+pub(crate) const LONGEST_TSDU: usize = 1_048_576;
+
+/// What is joined of the TSDU under way in one stream.
+#[derive(Drop)]
+pub(crate) struct Join {
+    /// Its octets; none while its parts are dropped.
+    octets: Vec<u8>,
+    /// Whether its parts are dropped up to the next EOT, since it is too long.
+    is_dropped: bool,
+}
+
+/// What a part brings.
+#[derive(Drop)]
+pub(crate) enum Outcome {
+    /// Nothing as yet.
+    Nothing,
+    /// A whole TSDU.
+    Whole(Vec<u8>),
+    /// A TSDU that is too long from this part on.
+    TooLong,
+}
+
+impl Join {
+    /// A stream at the start of a TSDU.
+    pub(crate) fn new(alloc: Global) -> Self
+        ensures { join_value result ≡ Begun [] }
+    {
+        Join {
+            octets: Vec::new(alloc),
+            is_dropped: false,
+        }
+    }
+
+    /// Takes the next part of the stream, of which the last of a TSDU has EOT.
+    pub(crate) fn take(
+        &mut self,
+        alloc: Global,
+        end: bool,
+        part: &[u8],
+    ) -> Result<Outcome, AllocError>
+        ensures joined { IfOk result (λ o. join_value self.new ≡ joined (join_value self.old) end part.now) }
+        ensures brought { IfOk result (λ o. outcome_value o ≡ brought (join_value self.old) end part.now) }
+    {
+        if self.is_dropped {
+            self.octets.clear();
+            self.is_dropped = !end;
+            return Ok(Outcome::Nothing);
+        }
+        if self.octets.len().saturating_add(part.len()) > LONGEST_TSDU {
+            self.octets.clear();
+            self.is_dropped = !end;
+            return Ok(Outcome::TooLong);
+        }
+        self.octets.extend_from_slice(part)?;
+        if !end {
+            return Ok(Outcome::Nothing);
+        }
+        Ok(Outcome::Whole(mem::replace(&mut self.octets, Vec::new(alloc))))
+    }
+}
+
+/// The streams of class 2, each under its DST-REF.
+type References = BTreeMap<u16, Join>;
+
+/// Takes the next part of the stream of a DST-REF, and leaves the others as they were.
+fn take_for(
+    references: &mut References,
+    alloc: Global,
+    destination: u16,
+    end: bool,
+    part: &[u8],
+) -> Result<Outcome, AllocError>
+    ensures joined { IfOk result (λ o. (d : ℕ) → join_at references.new d
+        ≡ (if d == destination then joined (join_at references.old destination) end part.now
+        else join_at references.old d)) }
+    ensures brought { IfOk result (λ o. outcome_value o
+        ≡ brought (join_at references.old destination) end part.now) }
+{
+    let mut join = match references.remove(&destination) {
+        Some(join) => join,
+        None => Join::new(alloc),
+    };
+    let outcome = join.take(alloc, end, part)?;
+    references.insert(destination, join)?;
+    Ok(outcome)
+}
+
+/// All streams of a capture: one of class 0, and one of class 2 for each DST-REF.
+#[derive(Drop)]
+pub(crate) struct Streams {
+    class_0: Join,
+    class_2: References,
+}
+
+impl Streams {
+    ghost use Rattle.std.specs.Prelude.{◌++◌, None, Some, option_to_list};
+    ghost use Rattle.osi_tpdu.specs.View.{value};
+    ghost use Rattle.osi_listing.specs.Streams.{Part, part_of};
+    ghost use Rattle.osi_listing.specs.Says.{Holds};
+    ghost use Rattle.osi_listing.specs.Listing.{outcome_entries, part_entries};
+
+    /// No stream has begun.
+    pub(crate) fn new(alloc: Global) -> Self
+        ensures { Holds result [] }
+    {
+        Streams {
+            class_0: Join::new(alloc),
+            class_2: BTreeMap::new(alloc),
+        }
+    }
+
+    /// Takes a unit, which adds to its stream where it is a data unit.
+    pub(crate) fn take(&mut self, alloc: Global, unit: &Tpdu) -> Result<Outcome, AllocError>
+        ensures entries { IfOk result (λ o. (earlier : List Part) → Holds self.old earlier →
+            outcome_entries (outcome_value o) ≡ part_entries earlier (part_of (value unit.now))) }
+        ensures holds { OnOk result ((earlier : List Part) → Holds self.old earlier →
+            Holds self.new (earlier ++ option_to_list (part_of (value unit.now)))) }
+    {
+        match unit {
+            Tpdu::Dt0(data) => self.class_0.take(alloc, data.end, data.user),
+            Tpdu::Dt2(data) => {
+                take_for(
+                    &mut self.class_2,
+                    alloc,
+                    data.destination,
+                    data.end,
+                    data.user,
+                )
+            }
+            _ => Ok(Outcome::Nothing),
+        }
+    }
+}

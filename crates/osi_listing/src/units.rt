@@ -1,0 +1,159 @@
+ghost use Rattle.std.specs.Prelude.{◌≡◌, ◌++◌, option_copied, option_map, OnOk};
+ghost use Rattle.osi_tpdu.specs.Limits.{size_code, selector_octets};
+ghost use Rattle.osi_tpdu.specs.Value.{request as a_request, confirm as a_confirm};
+ghost use Rattle.osi_tpdu.specs.View.{value, request_content, confirm_content, parameter_values};
+ghost use Rattle.osi_listing.specs.Lines.{fixed_fields, parameter_fields, unit_fields, unit_line};
+
+use crate::lines::{
+    push_number_field, push_octet_field, push_octets_field, push_reference_field, push_words,
+};
+use osi_tpdu::{ConnectConfirm, ConnectParameters, ConnectRequest, Selector, SizeCode, Tpdu};
+use std::alloc::{AllocError, Global};
+
+/// Adds the line of a transport unit.
+#[tactic(auto, unfolding(crate::specs::Lines::unit_line))]
+pub(crate) fn push_unit(alloc: Global, text: &mut Vec<u8>, unit: &Tpdu) -> Result<(), AllocError>
+    ensures { OnOk result (text.new.items ≡ text.old.items ++ unit_line (value unit.now)) }
+{
+    push_words(text, "  ")?;
+    push_unit_fields(alloc, text, unit)?;
+    push_words(text, "\n")
+}
+
+#[tactic(auto, unfolding(crate::specs::Lines::unit_fields))]
+fn push_unit_fields(alloc: Global, text: &mut Vec<u8>, unit: &Tpdu) -> Result<(), AllocError>
+    ensures { OnOk result (text.new.items ≡ text.old.items ++ unit_fields (value unit.now)) }
+{
+    match unit {
+        Tpdu::Cr(request) => push_request(alloc, text, request),
+        Tpdu::Cc(confirm) => push_confirm(alloc, text, confirm),
+        Tpdu::Dr(request) => {
+            push_reference_field(text, "DR dst ", request.destination)?;
+            push_reference_field(text, " src ", request.source)?;
+            push_number_field(text, " reason ", u64::from(request.reason))
+        }
+        Tpdu::Dc(confirm) => {
+            push_reference_field(text, "DC dst ", confirm.destination)?;
+            push_reference_field(text, " src ", confirm.source)
+        }
+        Tpdu::Dt0(data) => {
+            push_number_field(text, "DT number ", 0)?;
+            push_number_field(text, " eot ", u64::from(data.end))?;
+            push_number_field(text, " octets ", data.user.len() as u64)
+        }
+        Tpdu::Dt2(data) => {
+            push_reference_field(text, "DT dst ", data.destination)?;
+            push_number_field(text, " number ", u64::from(data.number))?;
+            push_number_field(text, " eot ", u64::from(data.end))?;
+            push_number_field(text, " octets ", data.user.len() as u64)
+        }
+        Tpdu::Ak(ack) => {
+            push_number_field(text, "AK credit ", u64::from(ack.credit))?;
+            push_reference_field(text, " dst ", ack.destination)?;
+            push_number_field(text, " number ", u64::from(ack.number))
+        }
+        Tpdu::Er(report) => {
+            push_reference_field(text, "ER dst ", report.destination)?;
+            push_number_field(text, " cause ", u64::from(report.cause))
+        }
+    }
+}
+
+/// A CR. Its DST-REF is no part of it, and shown as 0000.
+#[tactic(auto, unfolding(crate::specs::Lines::unit_fields))]
+fn push_request(
+    alloc: Global,
+    text: &mut Vec<u8>,
+    request: &ConnectRequest,
+) -> Result<(), AllocError>
+    ensures { OnOk result (text.new.items
+        ≡ text.old.items ++ unit_fields (a_request (request_content request.now))) }
+{
+    push_words(text, "CR")?;
+    let fixed = ConnectFields {
+        credit: request.credit,
+        destination: 0,
+        source: request.source,
+        class: request.class,
+        options: request.options,
+    };
+    push_connect_fields(text, fixed)?;
+    push_parameter_fields(alloc, text, &request.parameters)
+}
+
+/// A CC.
+#[tactic(auto, unfolding(crate::specs::Lines::unit_fields))]
+fn push_confirm(
+    alloc: Global,
+    text: &mut Vec<u8>,
+    confirm: &ConnectConfirm,
+) -> Result<(), AllocError>
+    ensures { OnOk result (text.new.items
+        ≡ text.old.items ++ unit_fields (a_confirm confirm.now.destination (confirm_content confirm.now))) }
+{
+    push_words(text, "CC")?;
+    let fixed = ConnectFields {
+        credit: confirm.credit,
+        destination: confirm.destination,
+        source: confirm.source,
+        class: confirm.class,
+        options: confirm.options,
+    };
+    push_connect_fields(text, fixed)?;
+    push_parameter_fields(alloc, text, &confirm.parameters)
+}
+
+/// The fixed part of a CR or CC.
+#[derive(Clone, Copy)]
+struct ConnectFields {
+    credit: u8,
+    destination: u16,
+    source: u16,
+    class: u8,
+    options: u8,
+}
+
+fn push_connect_fields(text: &mut Vec<u8>, fields: ConnectFields) -> Result<(), AllocError>
+    ensures { OnOk result (text.new.items ≡ text.old.items ++ fixed_fields fields.credit
+        fields.destination fields.source fields.class fields.options) }
+{
+    push_number_field(text, " credit ", u64::from(fields.credit))?;
+    push_reference_field(text, " dst ", fields.destination)?;
+    push_reference_field(text, " src ", fields.source)?;
+    push_number_field(text, " class ", u64::from(fields.class))?;
+    push_number_field(text, " options ", u64::from(fields.options))
+}
+
+#[tactic(auto, unfolding(crate::specs::Lines::parameter_fields))]
+fn push_parameter_fields(
+    alloc: Global,
+    text: &mut Vec<u8>,
+    parameters: &ConnectParameters,
+) -> Result<(), AllocError>
+    ensures { OnOk result (text.new.items
+        ≡ text.old.items ++ parameter_fields (parameter_values parameters.now)) }
+{
+    push_octet_field(text, " size ", size_octet(parameters.size))?;
+    push_octets_field(alloc, text, " calling ", selector_slice(parameters.calling))?;
+    push_octets_field(alloc, text, " called ", selector_slice(parameters.called))?;
+    push_octet_field(text, " more ", parameters.additional_options)?;
+    push_octets_field(alloc, text, " also ", parameters.alternative_classes)
+}
+
+fn size_octet(size: Option<SizeCode>) -> Option<u8>
+    ensures { result ≡ option_map size_code size }
+{
+    match size {
+        Some(size) => Some(size.code()),
+        None => None,
+    }
+}
+
+fn selector_slice<'a>(selector: Option<Selector<'a>>) -> Option<&'a [u8]>
+    ensures { option_copied result ≡ option_map selector_octets selector.entry }
+{
+    match selector {
+        Some(selector) => Some(selector.octets()),
+        None => None,
+    }
+}
