@@ -3,8 +3,8 @@ use Rattle.std.proofs.Common.{◌≡◌, Bool, true, false, not, ◌&&◌, ◌||
 use Rattle.osi_session.specs.declared.faults.UnitFault.{UnitFault}
 use Rattle.osi_session.specs.declared.state.State.{State}
 use Rattle.osi_session.specs.Phases.{is_wait_transport, is_aborting, is_ended, is_restarting}
-use Rattle.osi_session.specs.Meanings.{Meaning, CN, AC, RF, DT, GT, PT, MIP, MIA, MAP, MAA, RS, RA, FN, DN, NF, AB, AA}
-use Rattle.osi_session.specs.Reading.{Said, alone, behind}
+use Rattle.osi_message.specs.Meanings.{Meaning, CN, AC, RF, DT, GT, PT, MIP, MIA, MAP, MAA, RS, RA, FN, DN, NF, AB, AA}
+use Rattle.osi_message.specs.Reading.{Said, alone, behind}
 use Rattle.osi_session.specs.Respond.{Outcome, si, conditions, first_fault, is_expected, is_acceptable, is_resynchronize, stands, becomes, judged, take_expected, in_aborting, in_ended, has_no_effect, passes_restarting, respond_unit, respond}
 
 abbrev Begins : State → State → Type 0

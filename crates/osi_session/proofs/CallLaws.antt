@@ -8,7 +8,7 @@ use Rattle.osi_session.specs.Phases.{is_over}
 use Rattle.osi_session.specs.Calls.{Call, Accept, Refuse, Data, Give, Please, Minor, MinorConfirm, Major, MajorConfirm, Restart, RestartConfirm, Release, ReleaseAccept, ReleaseRefuse, Abort}
 use Rattle.osi_session.specs.Allowed.{Test, Step, Answer, first_error, needs, may_call, octets_of, most_of, sends, met, sized, allowed}
 use Rattle.osi_session.specs.Sessions.{is_memory, Refused, RefusedBy}
-use Rattle.osi_session.specs.Written.{user_data_of}
+use Rattle.osi_message.specs.Written.{user_data_of}
 use Rattle.osi_session.proofs.Passed.{passed}
 
 abbrev AllNamed : List Test → Type 0

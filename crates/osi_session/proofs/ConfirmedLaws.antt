@@ -11,9 +11,9 @@ use Rattle.osi_session.specs.Numbers.{point_sent, point_taken, minor_confirmed, 
 use Rattle.osi_session.specs.Phases.{is_wait_transport, is_wait_cn, is_aborting, is_ended, is_restarting}
 use Rattle.osi_session.specs.Sound.{IsSound, AreOrdered}
 use Rattle.osi_session.specs.Calls.{Call, Accept, Refuse, Data, Give, Please, Minor, MinorConfirm, Major, MajorConfirm, Restart, RestartConfirm, Release, ReleaseAccept, ReleaseRefuse, Abort}
-use Rattle.osi_session.specs.Meanings.{Meaning, CN, AC, RF, DT, GT, PT, MIP, MIA, MAP, MAA, RS, RA, FN, DN, NF, AB, AA}
-use Rattle.osi_session.specs.Reading.{Said, alone, behind}
-use Rattle.osi_session.specs.Numbered.{AreNumbered}
+use Rattle.osi_message.specs.Meanings.{Meaning, CN, AC, RF, DT, GT, PT, MIP, MIA, MAP, MAA, RS, RA, FN, DN, NF, AB, AA}
+use Rattle.osi_message.specs.Reading.{Said, alone, behind}
+use Rattle.osi_message.specs.Numbered.{AreNumbered}
 use Rattle.osi_session.specs.Shown.{MinorConfirmed, BadUnit}
 use Rattle.osi_session.specs.Allowed.{Step, needs, after, allowed}
 use Rattle.osi_session.specs.Respond.{Outcome, si, conditions, first_fault, is_expected, has_no_effect, passes_restarting, is_resynchronize, is_acceptable, stands, becomes, bad, judged, take_expected, respond_unit, and_then, respond}

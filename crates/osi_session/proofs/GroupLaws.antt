@@ -2,7 +2,7 @@
 use Rattle.std.proofs.Common.{◌≡◌, refl, Bool, true, false, ◌&&◌, List, [], ◌∷◌, ◌++◌, Option, Some, None}
 use Rattle.std.specs.Prelude.{is_none}
 use Rattle.osi_session.specs.Shown.{Shown}
-use Rattle.osi_session.specs.Meanings.{Meaning}
+use Rattle.osi_message.specs.Meanings.{Meaning}
 use Rattle.osi_session.specs.Respond.{Outcome, is_nil, is_silent, first_reply, respond_unit, and_then}
 
 loud_first : (a b : List Shown) (r t : Option Meaning) → (is_nil a && is_none r) ≡ false → (is_nil (a ++ b) && is_none (first_reply r t)) ≡ false

@@ -3,16 +3,16 @@ use Rattle.std.proofs.Common.{◌≡◌, refl, sym, ◌∙◌, subst, Bool, true
 use Rattle.std.proofs.lemmas.Bool.{or_left, or_right, and_parts}
 use Rattle.osi_session.specs.declared.phases.Phase.TheVariants.{Answering, RestartDue, Ended}
 use Rattle.osi_session.specs.declared.state.State.{State}
-use Rattle.osi_session.specs.declared.tokens.Tokens.{Tokens}
+use Rattle.osi_message.specs.declared.tokens.Tokens.{Tokens}
 use Rattle.osi_session.specs.declared.sides.Sides.{Sides}
 use Rattle.osi_session.specs.declared.selected.FunctionalUnits.{FunctionalUnits}
-use Rattle.osi_session.specs.Tokens.{Token, data_token, minor, major, release, has, set_of, each, no_token, is_within, without, united}
+use Rattle.osi_message.specs.Tokens.{Token, data_token, minor, major, release, has, set_of, each, no_token, is_within, without, united}
 use Rattle.osi_session.specs.Units.{functional_units, both_units, available}
 use Rattle.osi_session.specs.Sides.{side_for, is_asker, settle, stated, of_asker, of_answerer}
 use Rattle.osi_session.specs.Numbers.{restarted_at}
 use Rattle.osi_session.specs.State.{without_tokens}
 use Rattle.osi_session.specs.Calls.{Call, Accept, Refuse, Data, Give, Please, Minor, MinorConfirm, Major, MajorConfirm, Restart, RestartConfirm, Release, ReleaseAccept, ReleaseRefuse, Abort}
-use Rattle.osi_session.specs.Meanings.{Meaning, CN, AC, RF, DT, GT, PT, MIP, MIA, MAP, MAA, RS, RA, FN, DN, NF, AB, AA}
+use Rattle.osi_message.specs.Meanings.{Meaning, CN, AC, RF, DT, GT, PT, MIP, MIA, MAP, MAA, RS, RA, FN, DN, NF, AB, AA}
 use Rattle.osi_session.specs.Allowed.{Step, after, allowed}
 use Rattle.osi_session.specs.Respond.{is_acceptable, stands, becomes, respond_unit}
 use Rattle.osi_session.specs.Causes.{to_asker, to_answerer, call_gives, unit_gives}

@@ -7,8 +7,8 @@ use Rattle.osi_session.specs.declared.phases.Phase.TheVariants.{Ready, MajorAske
 use Rattle.osi_session.specs.declared.state.State.{State}
 use Rattle.osi_session.specs.Phases.{is_wait_transport, is_ready, is_major_asked, is_major_due, is_releasing, is_release_due, may_hold}
 use Rattle.osi_session.specs.Calls.{Call, Accept, Refuse, Data, Give, Please, Minor, MinorConfirm, Major, MajorConfirm, Restart, RestartConfirm, Release, ReleaseAccept, ReleaseRefuse, Abort}
-use Rattle.osi_session.specs.Meanings.{Meaning, CN, AC, RF, DT, GT, PT, MIP, MIA, MAP, MAA, RS, RA, FN, DN, NF, AB, AA}
-use Rattle.osi_session.specs.Reading.{Said, alone, behind}
+use Rattle.osi_message.specs.Meanings.{Meaning, CN, AC, RF, DT, GT, PT, MIP, MIA, MAP, MAA, RS, RA, FN, DN, NF, AB, AA}
+use Rattle.osi_message.specs.Reading.{Said, alone, behind}
 use Rattle.osi_session.specs.Allowed.{Step, may_call, after, allowed}
 use Rattle.osi_session.specs.Respond.{is_expected, is_acceptable, is_resynchronize, stands, becomes, respond_unit, and_then, respond}
 use Rattle.osi_session.specs.Runs.{Event, called, taken, unread, opened, refused, broken, after_answer, after_event, after_events}

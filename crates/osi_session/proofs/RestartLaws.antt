@@ -6,7 +6,7 @@ use Rattle.osi_spdu.specs.declared.settings.TokenSetting.{TokenSetting}
 use Rattle.osi_session.specs.declared.state.State.{State}
 use Rattle.osi_session.specs.Phases.{is_aborting, is_ended, is_restarting, is_restart_due, takes_restart}
 use Rattle.osi_session.specs.Numbers.{restarted_at, lower}
-use Rattle.osi_session.specs.Meanings.{RS}
+use Rattle.osi_message.specs.Meanings.{RS}
 use Rattle.osi_session.specs.Respond.{Outcome, si, conditions, first_fault, judged, stands, becomes, good, take_expected, respond_unit, respond}
 use Rattle.osi_session.specs.Restarts.{HasAsked, AreCrossed, after_restart}
 use Rattle.osi_session.proofs.PhaseLaws.{implied, excluded}

@@ -7,7 +7,7 @@ use Rattle.osi_session.specs.declared.state.State.{State}
 use Rattle.osi_session.specs.Phases.{is_aborting, is_ended, is_over, is_restarting}
 use Rattle.osi_session.specs.State.{without_tokens}
 use Rattle.osi_session.specs.Calls.{Call}
-use Rattle.osi_session.specs.Meanings.{Meaning, AB, AA}
+use Rattle.osi_message.specs.Meanings.{Meaning, AB, AA}
 use Rattle.osi_session.specs.Allowed.{Step, Answer, allowed}
 use Rattle.osi_session.specs.Respond.{Outcome, si, conditions, first_fault, is_expected, has_no_effect, passes_restarting, becomes, judged, take_expected, in_aborting, in_ended, respond_unit, respond_fault}
 use Rattle.osi_session.specs.Runs.{after_answer}

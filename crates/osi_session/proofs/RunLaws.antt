@@ -10,8 +10,8 @@ use Rattle.osi_session.specs.Numbers.{from_base}
 use Rattle.osi_session.specs.Phases.{is_wait_transport, is_wait_cn, is_aborting, is_ended, is_over, is_restart_due, in_major}
 use Rattle.osi_session.specs.Sound.{IsSound, AreOrdered}
 use Rattle.osi_session.specs.Calls.{Call}
-use Rattle.osi_session.specs.Meanings.{Meaning}
-use Rattle.osi_session.specs.Reading.{Said, alone, behind}
+use Rattle.osi_message.specs.Meanings.{Meaning}
+use Rattle.osi_message.specs.Reading.{Said, alone, behind}
 use Rattle.osi_session.specs.Allowed.{allowed}
 use Rattle.osi_session.specs.Respond.{is_resynchronize, respond_unit, and_then, respond}
 use Rattle.osi_session.specs.declared.opening.Opening.{Opening}

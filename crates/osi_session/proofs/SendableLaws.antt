@@ -6,14 +6,14 @@ use Rattle.osi_session.specs.declared.state.State.{State}
 use Rattle.osi_session.specs.Units.{functional_units, has_points, has_data}
 use Rattle.osi_session.specs.Phases.{is_aborting, is_ended, is_restarting}
 use Rattle.osi_session.specs.Calls.{Call, Accept, Refuse, Data, Give, Please, Minor, MinorConfirm, Major, MajorConfirm, Restart, RestartConfirm, Release, ReleaseAccept, ReleaseRefuse, Abort, HasSerial}
-use Rattle.osi_session.specs.Meanings.{Meaning, CN, RF, AB, AA}
-use Rattle.osi_session.specs.Numbered.{IsSmall, IsNumbered}
-use Rattle.osi_session.specs.Reading.{Said, alone, behind}
+use Rattle.osi_message.specs.Meanings.{Meaning, CN, RF, AB, AA}
+use Rattle.osi_message.specs.Numbered.{IsSmall, IsNumbered}
+use Rattle.osi_message.specs.Reading.{Said, alone, behind}
 use Rattle.osi_session.specs.Sound.{IsSound}
 use Rattle.osi_session.specs.Allowed.{Step, last_number, needs, may_call, sends, allowed}
 use Rattle.osi_session.specs.Respond.{Outcome, si, conditions, first_fault, is_expected, has_no_effect, passes_restarting, is_resynchronize, reply_for, first_reply, judged, take_expected, in_aborting, in_ended, respond_unit, respond}
-use Rattle.osi_session.specs.Written.{user_data_of}
-use Rattle.osi_session.specs.Sendable.{IsSendable, is_of_version_2}
+use Rattle.osi_message.specs.Written.{user_data_of}
+use Rattle.osi_message.specs.Sendable.{IsSendable, is_of_version_2}
 use Rattle.osi_session.proofs.CallLaws.{sent_short}
 use Rattle.osi_session.proofs.Passed.{passed, AllHold}
 

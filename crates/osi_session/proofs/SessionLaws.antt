@@ -2,23 +2,20 @@
 use Rattle.std.proofs.Common.{◌≡◌, refl, sym, subst, ℕ, if◌then◌else◌, ◌<◌, ◌≤◌, Bool, true, false, Option, Some, None, Ok, arith}
 use Rattle.osi_session.specs.declared.requests.Request.{Request}
 use Rattle.osi_session.specs.declared.requests.Request.TheVariants as request
-use Rattle.osi_session.specs.declared.messages.Message.{Message}
-use Rattle.osi_session.specs.declared.messages.Message.TheVariants as message
 use Rattle.osi_session.specs.declared.state.State.{State}
 use Rattle.osi_session.specs.Phases.{is_wait_transport, in_major, is_restart_due}
 use Rattle.osi_session.specs.Sound.{IsSound, AreOrdered}
 use Rattle.osi_session.specs.Calls.{HasSerial, called_by}
-use Rattle.osi_session.specs.Meanings.{meant_by}
-use Rattle.osi_session.specs.Numbered.{IsNumbered, AreNumbered}
 use Rattle.osi_session.specs.Allowed.{Step, allowed}
 use Rattle.osi_session.specs.declared.opening.Opening.{Opening}
 use Rattle.osi_session.specs.declared.numbers.Numbers.{Numbers}
 use Rattle.osi_session.specs.Numbers.{from_base}
-use Rattle.osi_session.specs.Tokens.{no_token}
+use Rattle.osi_message.specs.Tokens.{no_token}
 use Rattle.osi_session.specs.Units.{functional_units, has_points}
-use Rattle.osi_session.specs.declared.grouping.Messages.{Messages}
-use Rattle.osi_session.specs.Reading.{Said}
-use Rattle.osi_session.specs.Steps.{said_with, said_in}
+use Rattle.osi_message.specs.declared.tsdus.Messages.{Messages}
+use Rattle.osi_message.specs.Reading.{Said}
+use Rattle.osi_message.specs.Tsdus.{said_in}
+use Rattle.osi_message.specs.Laws.Numbers.{messages_numbered}
 use Rattle.osi_session.specs.Respond.{Outcome, respond}
 use Rattle.osi_session.specs.Sessions.{awaiting, asking}
 use Rattle.osi_session.proofs.SoundCalls.{call_sound, call_begun}
@@ -37,26 +34,8 @@ request_sound s r x h sound = call_sound s (called_by r) x (request_small r) h s
 pub request_begun : (s : State) (r : Request) (x : Step) → allowed s (called_by r) ≡ Ok x → is_wait_transport x.next.phase ≡ false
 request_begun s r x h = call_begun s (called_by r) x h
 
--- the numbers in a unit in memory are those that a point may have
-pub meant_numbered : (m : Message) → IsNumbered (meant_by m)
-meant_numbered (message.Connect version_2 requirements None wishes octets) = tt
-meant_numbered (message.Connect version_2 requirements (Some serial) wishes octets) = serial.small
-meant_numbered (message.Accept version_2 requirements None sides octets) = tt
-meant_numbered (message.Accept version_2 requirements (Some serial) sides octets) = serial.small
-meant_numbered (message.MinorPoint confirm number octets) = number.small
-meant_numbered (message.MinorAck number octets) = number.small
-meant_numbered (message.MajorPoint number octets) = number.small
-meant_numbered (message.MajorAck number octets) = number.small
-meant_numbered (message.Restart kind number wishes octets) = number.small
-meant_numbered (message.RestartAck number sides octets) = number.small
-meant_numbered _ = tt
-
-said_numbered : (first : Message) (second : Option Message) → AreNumbered (said_with (meant_by first) second)
-said_numbered first None = meant_numbered first
-said_numbered first (Some second) = (meant_numbered first, meant_numbered second)
-
 pub group_sound : (s : State) (m : Messages) (o : Outcome) → respond s (said_in m) ≡ o → IsSound s → IsSound o.next
-group_sound s m o e h = subst (λ (x : Outcome). IsSound x.next) e (respond_sound s (said_in m) (said_numbered m.first m.second) h)
+group_sound s m o e h = subst (λ (x : Outcome). IsSound x.next) e (respond_sound s (said_in m) (messages_numbered m) h)
 
 pub group_begun : (s : State) (said : Said) (o : Outcome) → respond s said ≡ o
     → is_wait_transport o.next.phase ≡ true → is_wait_transport s.phase ≡ true

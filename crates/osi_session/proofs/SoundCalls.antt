@@ -7,7 +7,7 @@ use Rattle.osi_session.specs.declared.phases.Phase.TheVariants.{Ready, MajorAske
 use Rattle.osi_session.specs.declared.state.State.{State}
 use Rattle.osi_session.specs.declared.numbers.Numbers.{Numbers}
 use Rattle.osi_session.specs.declared.selected.FunctionalUnits.{FunctionalUnits}
-use Rattle.osi_session.specs.declared.tokens.Tokens.{Tokens}
+use Rattle.osi_message.specs.declared.tokens.Tokens.{Tokens}
 use Rattle.osi_session.specs.Units.{functional_units, has_points}
 use Rattle.osi_session.specs.Numbers.{point_sent, minor_confirmed, major_confirmed, restarted_at}
 use Rattle.osi_session.specs.Phases.{in_major, is_restart_due, may_hold, may_give, may_ask, is_ready, is_major_due, may_confirm_minor, is_wait_transport}

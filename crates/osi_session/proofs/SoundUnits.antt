@@ -10,9 +10,9 @@ use Rattle.osi_session.specs.Numbers.{point_taken, minor_confirmed, major_confir
 use Rattle.osi_session.specs.Phases.{in_major, is_restart_due, may_hold, may_ask, is_ready, is_wait_cn, is_major_asked, is_aborting, is_ended, is_restarting, takes_minor_ack}
 use Rattle.osi_session.specs.State.{without_tokens}
 use Rattle.osi_session.specs.Sound.{IsSound}
-use Rattle.osi_session.specs.Meanings.{Meaning, CN, AC, RF, DT, GT, PT, MIP, MIA, MAP, MAA, RS, RA, FN, DN, NF, AB, AA}
-use Rattle.osi_session.specs.Reading.{Said, alone, behind}
-use Rattle.osi_session.specs.Numbered.{IsSmall, IsNumbered, AreNumbered}
+use Rattle.osi_message.specs.Meanings.{Meaning, CN, AC, RF, DT, GT, PT, MIP, MIA, MAP, MAA, RS, RA, FN, DN, NF, AB, AA}
+use Rattle.osi_message.specs.Reading.{Said, alone, behind}
+use Rattle.osi_message.specs.Numbered.{IsSmall, IsNumbered, AreNumbered}
 use Rattle.osi_session.specs.Respond.{Outcome, Condition, si, conditions, first_fault, is_expected, is_acceptable, is_acknowledgeable, is_resynchronize, stands, becomes, judged, take_expected, in_aborting, in_ended, has_no_effect, passes_restarting, respond_unit, respond}
 use Rattle.osi_session.proofs.PhaseLaws.{implied, excluded}
 use Rattle.osi_session.proofs.SoundNumbers.{taken_ordered, minor_ordered, major_ordered, restart_ordered}

@@ -5,18 +5,18 @@ use Rattle.osi_session.specs.declared.phases.Phase.{Phase}
 use Rattle.osi_session.specs.declared.phases.Phase.TheVariants.{Ready, MajorAsked, Releasing, Restarting, Aborting, Ended}
 use Rattle.osi_session.specs.declared.faults.CallError.{CallError}
 use Rattle.osi_session.specs.declared.faults.CallError.TheVariants as error
-use Rattle.osi_session.specs.declared.tokens.Tokens.{Tokens}
+use Rattle.osi_message.specs.declared.tokens.Tokens.{Tokens}
 use Rattle.osi_session.specs.declared.numbers.Numbers.{Numbers}
 use Rattle.osi_session.specs.declared.state.State.{State}
 use Rattle.osi_session.specs.declared.selected.FunctionalUnits.{FunctionalUnits}
-use Rattle.osi_session.specs.Tokens.{Token, has, no_token, is_empty, is_within, is_disjoint, without, each}
-use Rattle.osi_session.specs.Tokens as token
+use Rattle.osi_message.specs.Tokens.{Token, has, no_token, is_empty, is_within, is_disjoint, without, each}
+use Rattle.osi_message.specs.Tokens as token
 use Rattle.osi_session.specs.Units.{functional_units, units_within, is_profile, has_points, available}
 use Rattle.osi_session.specs.Sides.{settle, of_answerer, offered, setting_of}
 use Rattle.osi_session.specs.Numbers.{from_base, point_sent, minor_confirmed, major_confirmed, restarted_at}
 use Rattle.osi_session.specs.Phases.{is_over, is_ready, is_answering, is_major_due, is_restart_due, is_release_due, in_major, may_give, may_ask, may_confirm_minor, may_restart, may_abort}
 use Rattle.osi_session.specs.State.{without_tokens}
-use Rattle.osi_session.specs.Meanings.{Meaning, AC, RF, DT, GT, PT, MIP, MIA, MAP, MAA, RS, RA, FN, DN, NF, AB}
+use Rattle.osi_message.specs.Meanings.{Meaning, AC, RF, DT, GT, PT, MIP, MIA, MAP, MAA, RS, RA, FN, DN, NF, AB}
 use Rattle.osi_session.specs.Calls.{Call, Accept, Refuse, Data, Give, Please, Minor, MinorConfirm, Major, MajorConfirm, Restart, RestartConfirm, Release, ReleaseAccept, ReleaseRefuse, Abort}
 
 -- a test of a call, and the error where it fails

@@ -2,10 +2,10 @@
 use Rattle.std.specs.Prelude.{ℕ, ◌<◌, Bool, List}
 use Rattle.osi_spdu.specs.declared.settings.TokenSetting.{TokenSetting}
 use Rattle.osi_session.specs.declared.sides.Sides.{Sides}
-use Rattle.osi_session.specs.declared.tokens.Tokens.{Tokens}
+use Rattle.osi_message.specs.declared.tokens.Tokens.{Tokens}
 use Rattle.osi_session.specs.declared.requests.Request.{Request}
 use Rattle.osi_session.specs.declared.requests.Request.TheVariants as request
-use Rattle.osi_session.specs.Tokens.{named}
+use Rattle.osi_message.specs.Tokens.{named}
 
 pub data Call : Type 0 where
   Accept : (requirements serial : ℕ) (sides : Sides) (octets : List ℕ) → Call

@@ -3,12 +3,12 @@ use Rattle.std.specs.Prelude.{Bool, true, false, not, ◌&&◌, ◌||◌}
 use Rattle.osi_session.specs.declared.state.State.{State}
 use Rattle.osi_session.specs.declared.sides.Sides.{Sides}
 use Rattle.osi_session.specs.declared.selected.FunctionalUnits.{FunctionalUnits}
-use Rattle.osi_session.specs.Tokens.{Token, has}
+use Rattle.osi_message.specs.Tokens.{Token, has}
 use Rattle.osi_session.specs.Units.{functional_units, both_units, available}
 use Rattle.osi_session.specs.Sides.{settle, stated, side_for, is_asker}
 use Rattle.osi_session.specs.Calls.{Call, Accept, Restart, RestartConfirm}
-use Rattle.osi_session.specs.Meanings.{Meaning, AC, GT, RS, RA}
-use Rattle.osi_session.specs.Reading.{Said, alone, behind}
+use Rattle.osi_message.specs.Meanings.{Meaning, AC, GT, RS, RA}
+use Rattle.osi_message.specs.Reading.{Said, alone, behind}
 use Rattle.osi_session.specs.Runs.{Event, called, taken}
 
 -- one of the units of a TSDU

@@ -13,16 +13,16 @@ use Rattle.osi_session.specs.declared.faults.UnitFault.{UnitFault}
 use Rattle.osi_session.specs.declared.faults.UnitFault.TheVariants.{Spelling, Unexpected, NotSelected, TokenHeld, BadNumber, BadTokens}
 use Rattle.osi_session.specs.declared.state.State.{State}
 use Rattle.osi_session.specs.declared.selected.FunctionalUnits.{FunctionalUnits}
-use Rattle.osi_session.specs.Tokens.{Token, has, no_token, is_empty, is_within, is_disjoint, united}
-use Rattle.osi_session.specs.Tokens as token
-use Rattle.osi_session.specs.Units.{names, functional_units, both_units, has_data, has_points, available}
+use Rattle.osi_message.specs.Tokens.{Token, has, no_token, is_empty, is_within, is_disjoint, united}
+use Rattle.osi_message.specs.Tokens as token
+use Rattle.osi_session.specs.Units.{functional_units, both_units, has_data, has_points, available}
 use Rattle.osi_session.specs.Sides.{stated, of_asker, answers_wishes}
 use Rattle.osi_session.specs.Numbers.{point_taken, minor_confirmed, major_confirmed, restarted_at}
 use Rattle.osi_session.specs.Phases.{is_wait_cn, is_connecting, is_ready, is_major_asked, is_releasing, is_restarting, is_aborting, is_ended, is_over, shows_loss, may_ask, takes_data, takes_please, takes_minor_ack, takes_restart}
 use Rattle.osi_session.specs.State.{without_tokens}
 use Rattle.osi_session.specs.Allowed.{opened_with}
-use Rattle.osi_session.specs.Meanings.{Meaning, CN, AC, RF, DT, GT, PT, MIP, MIA, MAP, MAA, RS, RA, FN, DN, NF, AB, AA}
-use Rattle.osi_session.specs.Reading.{Said, alone, behind}
+use Rattle.osi_message.specs.Meanings.{Meaning, CN, AC, RF, DT, GT, PT, MIP, MIA, MAP, MAA, RS, RA, FN, DN, NF, AB, AA}
+use Rattle.osi_message.specs.Reading.{Said, alone, behind, names}
 use Rattle.osi_session.specs.Shown.{Shown, Connect, Connected, RefusedBySession, Data, Given, Asked, Minor, MinorConfirmed, Major, MajorConfirmed, Restart, Restarted, Release, Released, ReleaseRefused, Aborted, Lost, PeerAbort, BadUnit}
 
 abbrev pub is_nil : List Shown → Bool

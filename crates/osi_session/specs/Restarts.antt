@@ -3,10 +3,10 @@ use Rattle.std.specs.Prelude.{◌≡◌, ◌≤◌, ℕ, true, false, List}
 use Rattle.osi_spdu.specs.declared.fields.ResyncType.TheVariants.{Restart}
 use Rattle.osi_spdu.specs.declared.settings.TokenSetting.{TokenSetting}
 use Rattle.osi_session.specs.declared.state.State.{State}
-use Rattle.osi_session.specs.Tokens.{no_token}
+use Rattle.osi_message.specs.Tokens.{no_token}
 use Rattle.osi_session.specs.Phases.{is_restarting}
-use Rattle.osi_session.specs.Meanings.{GT, RS}
-use Rattle.osi_session.specs.Reading.{behind}
+use Rattle.osi_message.specs.Meanings.{GT, RS}
+use Rattle.osi_message.specs.Reading.{behind}
 use Rattle.osi_session.specs.Respond.{respond}
 
 -- a side that has asked for a restart; the number that it asked for is its V(M)

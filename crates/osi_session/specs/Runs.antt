@@ -3,13 +3,13 @@ use Rattle.std.specs.Prelude.{◌≡◌, ◌<◌, true, ◌||◌, if◌then◌el
 use Rattle.osi_spdu.specs.declared.faults.SpduFault.{SpduFault}
 use Rattle.osi_session.specs.declared.phases.Phase.TheVariants.{Connecting, Ended}
 use Rattle.osi_session.specs.declared.state.State.{State}
-use Rattle.osi_session.specs.Tokens.{no_token}
+use Rattle.osi_message.specs.Tokens.{no_token}
 use Rattle.osi_session.specs.Numbers.{from_base}
 use Rattle.osi_session.specs.Phases.{is_wait_transport, is_wait_cn}
 use Rattle.osi_session.specs.State.{without_tokens}
 use Rattle.osi_session.specs.Calls.{Call, HasSerial}
-use Rattle.osi_session.specs.Reading.{Said}
-use Rattle.osi_session.specs.Numbered.{AreNumbered}
+use Rattle.osi_message.specs.Reading.{Said}
+use Rattle.osi_message.specs.Numbered.{AreNumbered}
 use Rattle.osi_session.specs.Allowed.{Answer, allowed}
 use Rattle.osi_session.specs.Respond.{respond, respond_fault, lost}
 

@@ -7,7 +7,7 @@ use Rattle.osi_session.specs.declared.faults.CallError.{CallError}
 use Rattle.osi_session.specs.declared.faults.CallError.TheVariants as error
 use Rattle.osi_session.specs.declared.state.State.{State}
 use Rattle.osi_session.specs.declared.taken.Taken.{Taken}
-use Rattle.osi_session.specs.Tokens.{no_token}
+use Rattle.osi_message.specs.Tokens.{no_token}
 use Rattle.osi_session.specs.declared.opening.Opening.{Opening}
 use Rattle.osi_session.specs.Units.{no_units, functional_units, is_profile}
 use Rattle.osi_session.specs.Sides.{offered}
@@ -15,7 +15,8 @@ use Rattle.osi_session.specs.Numbers.{from_base}
 use Rattle.osi_session.specs.Phases.{is_wait_transport}
 use Rattle.osi_session.specs.State.{without_tokens}
 use Rattle.osi_session.specs.Shown.{Shown, RefusedByTransport}
-use Rattle.osi_session.specs.Written.{written, opening_units}
+use Rattle.osi_message.specs.Written.{written}
+use Rattle.osi_session.specs.Openings.{opening_units}
 use Rattle.osi_session.specs.Allowed.{Answer, base_for, most_user_data}
 use Rattle.osi_session.specs.Respond.{Outcome, is_silent}
 use Rattle.osi_session.specs.Steps.{shown_list}

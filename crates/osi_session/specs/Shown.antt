@@ -2,13 +2,13 @@
 use Rattle.std.specs.Prelude.{ℕ, Bool, List, Option}
 use Rattle.osi_spdu.specs.declared.settings.TokenSetting.{TokenSetting}
 use Rattle.osi_session.specs.declared.sides.Sides.{Sides}
-use Rattle.osi_session.specs.declared.tokens.Tokens.{Tokens}
+use Rattle.osi_message.specs.declared.tokens.Tokens.{Tokens}
 use Rattle.osi_session.specs.declared.faults.UnitFault.{UnitFault}
 use Rattle.osi_session.specs.declared.indications.Indication.{Indication}
 use Rattle.osi_session.specs.declared.indications.Indication.TheVariants as indication
 use Rattle.osi_session.specs.declared.indications.AbortCause.{AbortCause}
 use Rattle.osi_session.specs.declared.indications.AbortCause.TheVariants as cause
-use Rattle.osi_session.specs.Tokens.{named}
+use Rattle.osi_message.specs.Tokens.{named}
 
 pub data Shown : Type 0 where
   Connect : (requirements : ℕ) (serial : Option ℕ) (wishes : TokenSetting) (octets : List ℕ) → Shown

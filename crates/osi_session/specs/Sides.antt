@@ -8,8 +8,8 @@ use Rattle.osi_spdu.specs.declared.settings.Side.TheVariants as side
 use Rattle.osi_spdu.specs.Fields.{wish_of}
 use Rattle.osi_session.specs.declared.sides.Sides.{Sides}
 use Rattle.osi_session.specs.declared.selected.FunctionalUnits.{FunctionalUnits}
-use Rattle.osi_session.specs.declared.tokens.Tokens.{Tokens}
-use Rattle.osi_session.specs.Tokens.{Token, data_token, minor, major, release, has, set_of, each}
+use Rattle.osi_message.specs.declared.tokens.Tokens.{Tokens}
+use Rattle.osi_message.specs.Tokens.{Token, data_token, minor, major, release, has, set_of, each}
 use Rattle.osi_session.specs.Units.{available}
 
 abbrev pub wish_for : TokenSetting → Token → Wish

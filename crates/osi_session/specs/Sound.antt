@@ -3,7 +3,7 @@ use Rattle.std.specs.Prelude.{◌≡◌, ◌≤◌, ◌<◌, ℕ, true, false}
 use Rattle.osi_session.specs.declared.state.State.{State}
 use Rattle.osi_session.specs.declared.numbers.Numbers.{Numbers}
 use Rattle.osi_session.specs.Phases.{in_major, is_restart_due, may_hold}
-use Rattle.osi_session.specs.Tokens.{no_token}
+use Rattle.osi_message.specs.Tokens.{no_token}
 
 -- V(A) and V(R) are between the base and V(M), and V(M) is at most one above the last number
 pub record AreOrdered (base : ℕ) (v : Numbers) : Type 0 where

@@ -1,7 +1,7 @@
 -- What a session knows, and how its phase and tokens move.
 use Rattle.osi_session.specs.declared.phases.Phase.{Phase}
 use Rattle.osi_session.specs.declared.state.State.{State}
-use Rattle.osi_session.specs.Tokens.{no_token}
+use Rattle.osi_message.specs.Tokens.{no_token}
 
 -- no token is held in the phases after these
 abbrev pub without_tokens : Phase → State → State

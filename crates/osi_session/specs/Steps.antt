@@ -2,16 +2,13 @@
 use Rattle.std.specs.Prelude.{◌≡◌, false, List, [], ◌∷◌, ◌++◌, Option, Some, None, option_map, Result, Ok, Err}
 use Rattle.osi_session.specs.declared.faults.CallError.{CallError}
 use Rattle.osi_session.specs.declared.calling.Step as memory
-use Rattle.osi_session.specs.Meanings.{Meaning, meant_by}
+use Rattle.osi_message.specs.Meanings.{Meaning, meant_by}
 use Rattle.osi_session.specs.declared.indications.Indication.{Indication}
 use Rattle.osi_session.specs.declared.reactions.Reply.{Reply}
 use Rattle.osi_session.specs.declared.reactions.Reply.TheVariants as replies
 use Rattle.osi_session.specs.declared.reactions.Reaction.{Reaction}
 use Rattle.osi_session.specs.declared.grouping.Reactions.{Reactions}
-use Rattle.osi_session.specs.declared.grouping.Messages.{Messages}
-use Rattle.osi_session.specs.declared.messages.Message.{Message}
-use Rattle.osi_session.specs.Reading.{Said, alone, behind}
-use Rattle.osi_session.specs.Meanings.{RF, AB, AA}
+use Rattle.osi_message.specs.Meanings.{RF, AB, AA}
 use Rattle.osi_session.specs.Shown.{Shown, shown_by}
 use Rattle.osi_session.specs.Allowed.{Step, Answer}
 use Rattle.osi_session.specs.Respond.{Outcome, is_silent}
@@ -55,11 +52,3 @@ outcome_of_all r = record {
 abbrev pub ReactsAll : {E : Type 0} → Result Reactions E → Outcome → Type 0
 ReactsAll (Ok r) outcome = outcome ≡ outcome_of_all r
 ReactsAll (Err e) outcome = is_silent outcome ≡ false
-
--- the units of a TSDU in memory
-abbrev pub said_with : Meaning → Option Message → Said
-said_with first None = alone first
-said_with first (Some second) = behind first (meant_by second)
-
-abbrev pub said_in : Messages → Said
-said_in m = said_with (meant_by m.first) m.second

@@ -1,11 +1,9 @@
 -- The functional units of a session.
 use Rattle.std.specs.Prelude.{ℕ, ◌==◌, Bool, false, not, ◌&&◌, ◌||◌}
 use Rattle.std.specs.Int.RustNames.{bit_and}
-use Rattle.osi_session.specs.declared.tokens.Tokens.{Tokens}
+use Rattle.osi_message.specs.declared.tokens.Tokens.{Tokens}
+use Rattle.osi_message.specs.Reading.{names}
 use Rattle.osi_session.specs.declared.selected.FunctionalUnits.{FunctionalUnits}
-
-abbrev pub names : ℕ → ℕ → Bool
-names bits bit = bit_and bits bit == bit
 
 -- the functional units that session user requirements name
 abbrev pub functional_units : ℕ → FunctionalUnits

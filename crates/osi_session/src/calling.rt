@@ -3,22 +3,21 @@
 ghost use Rattle.std.specs.Prelude.{◌≡◌, ◌<◌, ◌≤◌, true, length, nat_le, Ok};
 ghost use Rattle.osi_session.specs.Allowed.{allowed, met, may_call, octets_of, most_of, has_right, is_restartable};
 ghost use Rattle.osi_session.specs.Calls.{called_by, Accept, Data, Give, Please, Minor, MinorConfirm, Major, MajorConfirm, Restart, RestartConfirm, Release, ReleaseRefuse};
-ghost use Rattle.osi_session.specs.Meanings.{meant_by};
+ghost use Rattle.osi_message.specs.Meanings.{meant_by};
 ghost use Rattle.osi_session.specs.Sound.{IsSound};
 ghost use Rattle.osi_session.specs.State.{without_tokens};
 ghost use Rattle.osi_session.specs.Steps.{Answers, step_of};
-ghost use Rattle.osi_session.specs.Tokens.{named, no_token, set_of};
+ghost use Rattle.osi_message.specs.Tokens.{named, no_token, set_of};
 ghost use Rattle.osi_session.specs.Units.{available};
 
 use crate::faults::CallError;
-use crate::messages::Message;
 use crate::numbers::Numbers;
 use crate::phases::Phase;
 use crate::requests::Request;
 use crate::selected::{FunctionalUnits, is_profile};
 use crate::sides::{Sides, offered};
 use crate::state::State;
-use crate::tokens::Tokens;
+use osi_message::{Message, Tokens};
 use osi_spdu::{Requirements, ResyncType, Serial, TokenSet, TokenSetting};
 
 /// The most octets of user data of a call other than data.

@@ -1,18 +1,17 @@
 //! What the units of a TSDU do, one after the other.
 
 ghost use Rattle.std.specs.Prelude.{◌≡◌};
-ghost use Rattle.osi_spdu.specs.Groups.{units_of};
-ghost use Rattle.osi_session.specs.Meanings.{meant_by};
-ghost use Rattle.osi_session.specs.Reading.{behind, said_by_units};
+ghost use Rattle.osi_message.specs.Meanings.{meant_by};
+ghost use Rattle.osi_message.specs.Reading.{behind};
 ghost use Rattle.osi_session.specs.Respond.{respond};
-ghost use Rattle.osi_session.specs.Steps.{ReactsAll, outcome_of, outcome_of_all, said_in};
+ghost use Rattle.osi_message.specs.Tsdus.{said_in};
+ghost use Rattle.osi_session.specs.Steps.{ReactsAll, outcome_of, outcome_of_all};
 
 use crate::indications::Indication;
-use crate::messages::Message;
 use crate::reactions::{Reaction, Reply};
 use crate::state::State;
-use crate::taking::take_unit;
-use osi_spdu::Group;
+use crate::taking::{is_restart, take_unit};
+use osi_message::{Message, Messages};
 use std::alloc::{AllocError, Global};
 
 /// What the units of a TSDU do: at most two indications, and at most one unit that is sent.
@@ -23,31 +22,6 @@ pub(crate) struct Reactions {
     pub(crate) second: Option<Indication>,
     pub(crate) reply: Option<Reply>,
     pub(crate) closes: bool,
-}
-
-/// The units of a TSDU: one alone, or a token item and the unit behind it.
-#[derive(Clone, Copy)]
-pub(crate) struct Messages<'a> {
-    first: Message<'a>,
-    second: Option<Message<'a>>,
-}
-
-impl<'a> Messages<'a> {
-    pub(crate) fn of(group: &Group<'a>) -> Messages<'a>
-        ensures { said_in result ≡ said_by_units (units_of group.now) }
-    {
-        let first = Message::of(group.first());
-        match group.second() {
-            None => Messages {
-                first,
-                second: None,
-            },
-            Some(second) => Messages {
-                first,
-                second: Some(Message::of(&second)),
-            },
-        }
-    }
 }
 
 impl Reactions {
@@ -76,7 +50,7 @@ fn take_behind(
 ) -> Result<Reactions, AllocError>
     ensures { ReactsAll result (respond state.now (behind (meant_by item.entry) (meant_by unit.entry))) }
 {
-    let restarts = unit.is_restart();
+    let restarts = is_restart(&unit);
     let first = take_unit(alloc, state, unit)?;
     if restarts {
         return Ok(Reactions::of(first));

@@ -1,6 +1,6 @@
 use crate::faults::UnitFault;
-use crate::octets::Octets;
 use crate::sides::Sides;
+use osi_message::Octets;
 use osi_spdu::{Requirements, TokenSet, TokenSetting};
 
 /// What the user of a session is shown (X.215 section 10, indications and confirms). User data may

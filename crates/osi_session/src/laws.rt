@@ -14,42 +14,37 @@ ghost use Rattle.osi_session.specs.declared.opening.Opening.{Opening};
 ghost use Rattle.osi_session.specs.declared.requests.Request.{Request};
 ghost use Rattle.osi_session.specs.declared.state.State.{State};
 ghost use Rattle.osi_session.specs.declared.taken.Taken.{Taken};
-ghost use Rattle.osi_session.specs.declared.tokens.Tokens.{Tokens};
+ghost use Rattle.osi_message.specs.declared.tokens.Tokens.{Tokens};
 ghost use Rattle.osi_session.specs.Allowed.{Step, allowed};
 ghost use Rattle.osi_session.specs.Calls.{Call, Give, MinorConfirm, HasSerial, called_by};
 ghost use Rattle.osi_session.specs.Causes.{opens_connection, call_gives, unit_gives, renews};
-ghost use Rattle.osi_session.specs.Meanings.{Meaning, MIA, RS};
+ghost use Rattle.osi_message.specs.Meanings.{Meaning, MIA, RS};
 ghost use Rattle.osi_session.specs.Numbers.{lower};
 ghost use Rattle.osi_session.specs.Phases.{is_over, is_ended, is_restarting, is_restart_due, may_hold};
-ghost use Rattle.osi_session.specs.Reading.{Said, alone, said_by_units};
+ghost use Rattle.osi_message.specs.Reading.{Said, alone, said_by_units};
 ghost use Rattle.osi_session.specs.Respond.{respond_unit, respond, respond_fault, stands, lost};
 ghost use Rattle.osi_session.specs.Restarts.{HasAsked, AreCrossed, after_restart};
 ghost use Rattle.osi_session.specs.Runs.{Event, called, taken, unread, opened, refused, broken, after_event, after_events, HasNumbers, IsFresh};
 ghost use Rattle.osi_session.specs.Sessions.{Standing, Calls, Takes, awaiting, after_opened, after_refused, asking};
 ghost use Rattle.osi_session.specs.Shown.{MinorConfirmed};
 ghost use Rattle.osi_session.specs.Sound.{IsSound};
-ghost use Rattle.osi_session.specs.Tokens.{Token, has};
-ghost use Rattle.osi_session.specs.Written.{spelled, written, opening_units, asked_for};
-ghost use Rattle.osi_session.specs.Sendable.{IsSendable, said_of};
+ghost use Rattle.osi_message.specs.Tokens.{Token, has};
+ghost use Rattle.osi_session.specs.Openings.{opening_units, asked_for};
+ghost use Rattle.osi_message.specs.Sendable.{IsSendable};
 
-use osi_spdu::laws;
+use osi_message::laws;
 
-/// What is sent means what was to be sent: the octets in which a meaning is sent are read as its units,
-/// and these say it, alone or behind a GT with no token. The octets of the CN of a caller are read, and
-/// ask for what the caller asks for.
-pub fn what_is_sent_is_read()
-    ensures read { (m : Meaning) → IsSendable m → tsdu_at (written m) ≡ Ok (spelled m) }
-    ensures said { (m : Meaning) → IsSendable m → said_by_units (spelled m) ≡ said_of m }
+/// The octets of the CN of a caller are read, and ask for what the caller asks for.
+pub fn what_is_asked_is_read()
     ensures opening { (o : Opening) → length o.user_data.now < 65000 →
         tsdu_at (tsdu_octets (opening_units o)) ≡ Ok (opening_units o) }
     ensures asked { (o : Opening) → said_by_units (opening_units o) ≡ alone (asked_for o) }
 {
-    laws::serial_digits();
-    laws::again();
+    laws::a_connect_is_read();
 }
 
 /// What an accepted call sends can be sent, and so can what a TSDU is answered by. So each is read as
-/// in [`what_is_sent_is_read`].
+/// in [`osi_message::laws::what_is_sent_is_read`].
 pub fn what_is_sent_can_be_sent()
     ensures called { (s : State) (c : Call) (x : Step) → IsSound s → HasSerial c → allowed s c ≡ Ok x → IsSendable x.sent }
     ensures replied { (s : State) (said : Said) (m : Meaning) → (respond s said).reply ≡ Some m → IsSendable m }

@@ -2,11 +2,11 @@ ghost use Rattle.std.specs.Prelude.{◌≡◌, ◌<◌, length, option_map};
 ghost use Rattle.osi_spdu.specs.Groups.{units_of};
 ghost use Rattle.osi_spdu.specs.Writing.{TsduFits};
 ghost use Rattle.osi_session.specs.Allowed.{serial_for};
-ghost use Rattle.osi_session.specs.Written.{opening_units};
+ghost use Rattle.osi_session.specs.Openings.{opening_units};
 
 use crate::selected::FunctionalUnits;
 use crate::sides::offered;
-use crate::writing::{alone, connect};
+use osi_message::connect_group;
 use osi_spdu::{Group, Requirements, Selector, Serial, Terms, TokenSetting};
 
 /// What a CN asks for (X.225 section 8, connect).
@@ -50,11 +50,11 @@ impl<'a> Opening<'a> {
             token_setting: offered(units, self.wishes),
             user_requirements: self.requirements,
         };
-        alone(connect(
+        connect_group(
             terms,
             self.calling_selector,
             self.called_selector,
             self.user_data,
-        ))
+        )
     }
 }

@@ -1,7 +1,7 @@
 ghost use Rattle.std.specs.Prelude.{◌≡◌};
 
-use crate::sent::Sent;
 use crate::state::State;
+use osi_message::Sent;
 use std::marker::Model;
 
 /// What a call would do: the state after it, and the TSDU that it sends. It is made by

@@ -2,14 +2,14 @@ ghost use Rattle.std.specs.Prelude.{◌≡◌, []};
 ghost use Rattle.osi_session.specs.Respond.{nothing, shows, bad, lost};
 ghost use Rattle.osi_session.specs.Shown.{shown_by};
 ghost use Rattle.osi_session.specs.Steps.{outcome_of, reply_of};
-ghost use Rattle.osi_session.specs.Meanings.{meant_by};
-ghost use Rattle.osi_session.specs.Written.{user_data_of};
+ghost use Rattle.osi_message.specs.Meanings.{meant_by};
+ghost use Rattle.osi_message.specs.Written.{user_data_of};
 
 use crate::faults::UnitFault;
 use crate::indications::{AbortCause, Indication};
-use crate::messages::Message;
 use crate::phases::Phase;
 use crate::state::State;
+use osi_message::Message;
 
 /// The reason of an RF where the version is not supported.
 const VERSION_NOT_SUPPORTED: u8 = 132;
@@ -35,7 +35,7 @@ pub(crate) enum Reply {
 
 impl Reply {
     /// The unit that is sent.
-    #[tactic(auto, unfolding(crate::specs::Written::user_data_of))]
+    #[tactic(auto, unfolding(osi_message::specs::Written::user_data_of))]
     pub(crate) fn message(self) -> Message<'static>
         ensures meaning { meant_by result ≡ reply_of self }
         ensures short { user_data_of (meant_by result) ≡ [] }

@@ -1,8 +1,8 @@
 ghost use Rattle.std.specs.Prelude.{◌≡◌};
 ghost use Rattle.osi_session.specs.Units.{functional_units, both_units, has_points, has_data, is_profile, units_within, available};
 
-use crate::tokens::Tokens;
 use bitflags::Flags;
+use osi_message::Tokens;
 use osi_spdu::Requirements;
 
 /// The functional units that have a meaning here (X.215 section 6.3), by name.

@@ -1,10 +1,10 @@
 ghost use Rattle.std.specs.Prelude.{◌≡◌, false, option_map, is_none, IfOk, OnErr};
 ghost use Rattle.osi_session.specs.Steps.{reply_of};
-ghost use Rattle.osi_session.specs.Written.{written};
+ghost use Rattle.osi_message.specs.Written.{written};
 
 use crate::calling::{MOST_USER_DATA, decide};
 use crate::faults::{CallError, UnitFault};
-use crate::grouping::{Messages, Reactions, take_all};
+use crate::grouping::{Reactions, take_all};
 use crate::indications::Indication;
 use crate::opening::Opening;
 use crate::phases::Phase;
@@ -12,9 +12,9 @@ use crate::plans::Plan;
 use crate::reactions::{Reaction, Reply};
 use crate::requests::Request;
 use crate::selected::is_profile;
-use crate::sent::Sent;
 use crate::state::State;
 use crate::taken::Taken;
+use osi_message::{Messages, Sent};
 use osi_spdu::{Group, SpduFault, TokenSet};
 use std::alloc::{AllocError, Global};
 use std::marker::Model;
@@ -59,7 +59,7 @@ impl Session {
     ghost use Rattle.std.specs.Prelude.{true};
     ghost use Rattle.osi_spdu.specs.Groups.{units_of};
     ghost use Rattle.osi_session.specs.Phases.{is_wait_transport};
-    ghost use Rattle.osi_session.specs.Reading.{said_by_units};
+    ghost use Rattle.osi_message.specs.Reading.{said_by_units};
     ghost use Rattle.osi_session.specs.Respond.{respond, respond_fault};
     ghost use Rattle.osi_session.specs.Sessions.{Opens, opens, Takes};
     ghost use Rattle.osi_session.specs.Sound.{IsSound};
@@ -71,7 +71,7 @@ impl Session {
     ghost use Rattle.osi_session.specs.Respond.{lost};
     ghost use Rattle.osi_session.specs.Shown.{shown_by};
     ghost use Rattle.osi_session.specs.Steps.{shown_list};
-    ghost use Rattle.osi_session.specs.Tokens.{token_octet};
+    ghost use Rattle.osi_message.specs.Tokens.{token_octet};
     ghost use Rattle.osi_session.specs.State.{without_tokens};
 
     /// The calling side: the CN is made, and is sent once the transport connection is there.

@@ -3,7 +3,7 @@ ghost use Rattle.osi_session.specs.Sides.{settled, settle, stated, stated_side, 
 ghost use Rattle.osi_session.specs.Units.{available};
 
 use crate::selected::FunctionalUnits;
-use crate::tokens::Tokens;
+use osi_message::Tokens;
 use osi_spdu::{Side, TokenSetting, Wish};
 
 /// The side that holds each token at first, once it is settled (X.215 section 12.1.2).

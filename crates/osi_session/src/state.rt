@@ -6,7 +6,7 @@ use crate::opening::Opening;
 use crate::phases::Phase;
 use crate::selected::FunctionalUnits;
 use crate::sides::offered;
-use crate::tokens::Tokens;
+use osi_message::Tokens;
 use osi_spdu::{TokenSetting, Wish};
 
 /// What a session knows, apart from octets.

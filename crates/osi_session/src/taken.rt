@@ -1,5 +1,5 @@
 use crate::indications::Indication;
-use crate::sent::Sent;
+use osi_message::Sent;
 
 /// What a taken TSDU does, besides the new state: the indications in their order, at most one TSDU
 /// to send, and whether the transport connection is closed, with reason 128.

@@ -1,7 +1,7 @@
 //! The table of units.
 
 ghost use Rattle.std.specs.Prelude.{◌≡◌, ◌<◌, ◌≤◌, true, false, option_map, is_some};
-ghost use Rattle.osi_session.specs.Meanings.{meant_by, CN, AC, RF, DT, GT, PT, MIP, MIA, MAP, MAA, RS, RA, FN, DN, NF, AB, AA};
+ghost use Rattle.osi_message.specs.Meanings.{meant_by, CN, AC, RF, DT, GT, PT, MIP, MIA, MAP, MAA, RS, RA, FN, DN, NF, AB, AA};
 ghost use Rattle.osi_session.specs.Respond.{kind_of, has_no_effect, is_expected, passes_restarting, is_resynchronize, stands, is_acknowledgeable, take_expected, in_aborting, in_ended, respond_unit, agreed_base, is_outside};
 ghost use Rattle.osi_session.specs.Allowed.{opened_with};
 ghost use Rattle.osi_session.specs.Sides.{of_asker};
@@ -9,73 +9,69 @@ ghost use Rattle.osi_session.specs.Steps.{Reacts, outcome_of};
 
 use crate::faults::UnitFault;
 use crate::indications::{AbortCause, Indication};
-use crate::messages::Message;
 use crate::numbers::Numbers;
-use crate::octets::Octets;
 use crate::phases::Phase;
 use crate::reactions::{Reaction, Reply};
 use crate::selected::FunctionalUnits;
 use crate::sides::{Sides, answers_wishes};
 use crate::state::State;
-use crate::tokens::Tokens;
+use osi_message::{Message, Octets, Tokens};
 use osi_spdu::{Kind, Requirements, ResyncType, Serial, TokenSetting};
 use std::alloc::{AllocError, Global};
 
 /// The bit of a user's abort.
 const BY_USER: u8 = 0x02;
 
-impl Message<'_> {
-    /// Which unit it is.
-    fn kind(&self) -> Kind
-        ensures { result ≡ kind_of (meant_by self.now) }
-    {
-        match self {
-            Message::Connect { .. } => Kind::Connect,
-            Message::Accept { .. } => Kind::Accept,
-            Message::Refuse { .. } => Kind::Refuse,
-            Message::Data { .. } => Kind::DataTransfer,
-            Message::Give { .. } => Kind::GiveTokens,
-            Message::Please { .. } => Kind::PleaseTokens,
-            Message::MinorPoint { .. } => Kind::MinorSyncPoint,
-            Message::MinorAck { .. } => Kind::MinorSyncAck,
-            Message::MajorPoint { .. } => Kind::MajorSyncPoint,
-            Message::MajorAck { .. } => Kind::MajorSyncAck,
-            Message::Restart { .. } => Kind::Resynchronize,
-            Message::RestartAck { .. } => Kind::ResynchronizeAck,
-            Message::Finish { .. } => Kind::Finish,
-            Message::Disconnect { .. } => Kind::Disconnect,
-            Message::NotFinished { .. } => Kind::NotFinished,
-            Message::Abort { .. } => Kind::Abort,
-            Message::AbortAccept => Kind::AbortAccept,
-        }
+/// Which unit it is.
+fn kind_of(message: &Message) -> Kind
+    ensures { result ≡ kind_of (meant_by message.now) }
+{
+    match message {
+        Message::Connect { .. } => Kind::Connect,
+        Message::Accept { .. } => Kind::Accept,
+        Message::Refuse { .. } => Kind::Refuse,
+        Message::Data { .. } => Kind::DataTransfer,
+        Message::Give { .. } => Kind::GiveTokens,
+        Message::Please { .. } => Kind::PleaseTokens,
+        Message::MinorPoint { .. } => Kind::MinorSyncPoint,
+        Message::MinorAck { .. } => Kind::MinorSyncAck,
+        Message::MajorPoint { .. } => Kind::MajorSyncPoint,
+        Message::MajorAck { .. } => Kind::MajorSyncAck,
+        Message::Restart { .. } => Kind::Resynchronize,
+        Message::RestartAck { .. } => Kind::ResynchronizeAck,
+        Message::Finish { .. } => Kind::Finish,
+        Message::Disconnect { .. } => Kind::Disconnect,
+        Message::NotFinished { .. } => Kind::NotFinished,
+        Message::Abort { .. } => Kind::Abort,
+        Message::AbortAccept => Kind::AbortAccept,
     }
+}
 
-    /// A token item that names no token has no effect.
-    fn has_no_effect(&self) -> bool
-        ensures { result ≡ has_no_effect (meant_by self.now) }
-    {
-        match self {
-            Message::Give { tokens } | Message::Please { tokens, .. } => tokens.is_empty(),
-            _ => false,
-        }
+/// A token item that names no token has no effect.
+fn has_no_effect(message: &Message) -> bool
+    ensures { result ≡ has_no_effect (meant_by message.now) }
+{
+    match message {
+        Message::Give { tokens } | Message::Please { tokens, .. } => tokens.is_empty(),
+        _ => false,
     }
+}
 
-    /// An end that has asked for a restart takes this unit; it discards all others.
-    fn passes_restarting(&self) -> bool
-        ensures { result ≡ passes_restarting (meant_by self.now) }
-    {
-        matches!(
-            self,
-            Message::Restart { .. } | Message::RestartAck { .. } | Message::Abort { .. }
-        )
-    }
+/// An end that has asked for a restart takes this unit; it discards all others.
+fn passes_restarting(message: &Message) -> bool
+    ensures { result ≡ passes_restarting (meant_by message.now) }
+{
+    matches!(
+        message,
+        Message::Restart { .. } | Message::RestartAck { .. } | Message::Abort { .. }
+    )
+}
 
-    /// RS: a token item in front of it has no effect.
-    pub(crate) fn is_restart(&self) -> bool
-        ensures { result ≡ is_resynchronize (meant_by self.now) }
-    {
-        matches!(self, Message::Restart { .. })
-    }
+/// RS: a token item in front of it has no effect.
+pub(crate) fn is_restart(message: &Message) -> bool
+    ensures { result ≡ is_resynchronize (meant_by message.now) }
+{
+    matches!(message, Message::Restart { .. })
 }
 
 /// Whether the phase expects the unit.
@@ -672,11 +668,11 @@ pub(crate) fn take_unit(
     if state.phase.is_ended() {
         return Ok(take_ended(state, &message));
     }
-    if message.has_no_effect() || (state.phase.is_restarting() && !message.passes_restarting()) {
+    if has_no_effect(&message) || (state.phase.is_restarting() && !passes_restarting(&message)) {
         return Ok(Reaction::silent(*state));
     }
     if !is_expected(state.phase, &message) {
-        let fault = UnitFault::Unexpected(message.kind().si());
+        let fault = UnitFault::Unexpected(kind_of(&message).si());
         return Ok(Reaction::bad(state, fault));
     }
     take_within(alloc, state, message)

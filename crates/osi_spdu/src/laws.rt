@@ -3,11 +3,11 @@
 ghost use Rattle.std.specs.Prelude.{◌≡◌, ◌≤◌, ℕ, List, Ok, Some};
 ghost use Rattle.osi_tpkt.specs.Octets.{IsOctets};
 ghost use Rattle.osi_spdu.specs.Values.{digits_of, numeral};
-ghost use Rattle.osi_spdu.specs.Known.{Units};
+ghost use Rattle.osi_spdu.specs.Known.{Contents, Units};
 ghost use Rattle.osi_spdu.specs.Groups.{units_of};
 ghost use Rattle.osi_spdu.specs.Reading.{tsdu_at};
 ghost use Rattle.osi_spdu.specs.Spelling.{SpellsTsdu};
-ghost use Rattle.osi_spdu.specs.Writing.{tsdu_octets, IsFormedTsdu, TsduFits};
+ghost use Rattle.osi_spdu.specs.Writing.{tsdu_octets, free_len, IsCanonical, IsFormedTsdu, UnitFits, TsduFits};
 
 use crate::groups::Group;
 
@@ -40,6 +40,11 @@ pub fn again()
 /// What is spelled somehow has a written form that fits.
 pub fn fits()
     ensures { (units : Units) (octets : List ℕ) → SpellsTsdu units octets → TsduFits units }
+{}
+
+/// A unit whose values of any length have at most 65,000 octets together has a written form that fits.
+pub fn few_octets_fit()
+    ensures { (unit : Contents) → IsCanonical unit.known → free_len unit.known ≤ 65000 → UnitFits unit }
 {}
 
 /// The units of a group have a written form.

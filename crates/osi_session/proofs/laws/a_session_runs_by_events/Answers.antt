@@ -1,5 +1,6 @@
 use Rattle.std.proofs.Common.{refl}
-use Rattle.osi_session.proofs.EventLaws.{call_leaves, take_leaves, bad_leaves, opened_leaves, refused_leaves, units_numbered}
+use Rattle.osi_session.proofs.EventLaws.{call_leaves, take_leaves, bad_leaves, opened_leaves, refused_leaves}
+use Rattle.osi_message.specs.Laws.Numbers.{units_numbered}
 use Rattle.osi_session.proofs.SessionLaws.{request_small}
 use Rattle.osi_session.proofs.laws.a_session_runs_by_events.Goals as goal
 

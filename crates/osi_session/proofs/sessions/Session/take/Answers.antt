@@ -1,7 +1,8 @@
 use Rattle.std.proofs.Common.{◌≡◌, ap, subst, true}
 use Rattle.osi_session.specs.declared.state.State.{State}
 use Rattle.osi_session.specs.Phases.{is_wait_transport}
-use Rattle.osi_session.specs.Steps.{said_in, outcome_of_all}
+use Rattle.osi_message.specs.Tsdus.{said_in}
+use Rattle.osi_session.specs.Steps.{outcome_of_all}
 use Rattle.osi_session.proofs.SessionLaws.{group_sound, group_begun}
 use Rattle.osi_session.proofs.sessions.Session.take.Goals as goal
 

@@ -1,0 +1,5 @@
+pub mod FittingLaws
+pub mod ReadingLaws
+pub mod SendingLaws
+pub mod TokenLaws
+pub mod WritingLaws

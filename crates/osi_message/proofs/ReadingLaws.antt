@@ -1,0 +1,48 @@
+-- What is written of a field is read as it.
+use Rattle.std.proofs.Common.{◌≡◌, ◌∙◌, ℕ, ◌+◌, ◌*◌, ◌/◌, ◌%◌, ◌≤◌, refl, ap, eqb, arith}
+use Rattle.std.specs.Int.RustNames.{bit_and}
+use Rattle.std.proofs.lemmas.Nat.{and_assoc}
+use Rattle.osi_spdu.specs.declared.settings.Wish.{Wish}
+use Rattle.osi_spdu.specs.declared.settings.Wish.TheVariants.{Asker, Answerer, Choice}
+use Rattle.osi_spdu.specs.declared.settings.TokenSetting.{TokenSetting}
+use Rattle.osi_spdu.specs.Fields.{wish_number, setting_octets}
+use Rattle.osi_message.specs.Tokens.{named}
+use Rattle.osi_message.specs.Reading.{wish_named, setting_named, first_in}
+
+same_bit : (t b : ℕ) → bit_and 85 b ≡ b → eqb (bit_and (bit_and t 85) b) b ≡ eqb (bit_and t b) b
+same_bit t b e = ap (λ (x : ℕ). eqb x b) (and_assoc b t 85 ∙ ap (bit_and t) e)
+
+-- the bits that name no token make no difference
+pub named_again : (t : ℕ) → named (bit_and t 85) ≡ named t
+named_again t =
+    let a = same_bit t 1 refl in
+    let b = same_bit t 4 refl in
+    let c = same_bit t 16 refl in
+    let d = same_bit t 64 refl in
+    λ i. record { data_token = a i; minor = b i; major = c i; release = d i }
+
+wish_again : (w : Wish) → wish_named (wish_number w) ≡ w
+wish_again Asker = refl
+wish_again Answerer = refl
+wish_again Choice = refl
+
+wish_small : (w : Wish) → wish_number w ≤ 2
+wish_small Asker = omega arith
+wish_small Answerer = omega arith
+wish_small Choice = omega arith
+
+-- four pairs of bits are read as the wishes that they stand for
+pub pairs_again : (a b c d : ℕ) → a ≤ 2 → b ≤ 2 → c ≤ 2 → d ≤ 2 →
+    let n : ℕ = a + 4 * b + 16 * c + 64 * d in
+    (n % 4 ≡ a) × (n / 4 % 4 ≡ b) × (n / 16 % 4 ≡ c) × (n / 64 ≡ d)
+pairs_again a b c d p q r s = (omega arith, omega arith, omega arith, omega arith)
+
+pub setting_again : (s : TokenSetting) → setting_named (first_in (setting_octets s)) ≡ s
+setting_again s =
+    let e = pairs_again (wish_number s.data_token) (wish_number s.minor) (wish_number s.major) (wish_number s.release)
+    (wish_small s.data_token) (wish_small s.minor) (wish_small s.major) (wish_small s.release) in
+    let a = ap wish_named e.0 ∙ wish_again s.data_token in
+    let b = ap wish_named e.1 ∙ wish_again s.minor in
+    let c = ap wish_named e.2 ∙ wish_again s.major in
+    let d = ap wish_named e.3 ∙ wish_again s.release in
+    λ i. record { data_token = a i; minor = b i; major = c i; release = d i }

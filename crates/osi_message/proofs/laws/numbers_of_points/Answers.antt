@@ -1,0 +1,8 @@
+use Rattle.osi_message.specs.Laws.Numbers.{meant_numbered, units_numbered}
+use Rattle.osi_message.proofs.laws.numbers_of_points.Goals as goal
+
+pub returns-clause-message : goal.returns-clause-message
+returns-clause-message c = meant_numbered
+
+pub returns-clause-units : goal.returns-clause-units
+returns-clause-units c = units_numbered

@@ -1,0 +1,20 @@
+use Rattle.std.proofs.Common.{◌∙◌, Some, sym, subst, arith}
+use Rattle.osi_spdu.specs.declared.kinds.Kind.TheVariants.{GiveTokens}
+use Rattle.osi_spdu.specs.Known.{nothing}
+use Rattle.osi_spdu.specs.Kinds.{codes_of}
+use Rattle.osi_spdu.specs.Units.{said_by}
+use Rattle.osi_spdu.specs.Writing.{body_octets, UnitFits, TsduFits}
+use Rattle.osi_message.specs.Written.{unit_with, behind_tokens}
+use Rattle.osi_message.proofs.WritingLaws.{none_known}
+use Rattle.osi_message.proofs.writing.behind.Goals as goal
+
+token_fits : UnitFits (unit_with GiveTokens nothing)
+unfolding body_octets codes_of
+token_fits = omega arith
+
+pub returns-clause-units : goal.returns-clause-units
+returns-clause-units c = c.behind_give_tokens.ensures ∙ (λ i. record { first = unit_with GiveTokens (none_known i); second = Some (said_by c.args.unit) })
+
+pub returns-clause-fits : goal.returns-clause-fits
+returns-clause-fits c = λ fits.
+    subst TsduFits (sym (returns-clause-units c)) (let both : TsduFits (behind_tokens (said_by c.args.unit)) = record { first = token_fits; second = fits } in both)

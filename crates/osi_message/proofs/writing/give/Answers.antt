@@ -1,0 +1,12 @@
+use Rattle.std.proofs.Common.{◌∙◌, ℕ, ◌∷◌, [], ap}
+use Rattle.osi_spdu.specs.declared.kinds.Kind.TheVariants.{GiveTokens}
+use Rattle.osi_message.specs.Written.{unit_with, unit_of}
+use Rattle.osi_message.proofs.WritingLaws.{give_known, set_kept}
+use Rattle.osi_spdu.specs.Known.{put, nothing}
+use Rattle.osi_spdu.specs.declared.codes.Code.TheVariants.{TokenItem}
+use Rattle.osi_message.proofs.writing.give.Goals as goal
+
+pub returns-clause-units : goal.returns-clause-units
+unfolding unit_of
+returns-clause-units c = c.give_tokens.ensures.units ∙ ap (unit_with GiveTokens) (give_known c.set.result)
+    ∙ ap (λ (b : ℕ). unit_with GiveTokens (put TokenItem (b ∷ []) nothing)) (set_kept c.set.result c.args.tokens c.set.ensures.octet)

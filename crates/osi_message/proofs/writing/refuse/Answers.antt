@@ -1,0 +1,12 @@
+use Rattle.std.proofs.Common.{◌∙◌, ap, arith}
+use Rattle.osi_spdu.specs.declared.kinds.Kind.TheVariants.{Refuse}
+use Rattle.osi_message.specs.Written.{unit_with, unit_of}
+use Rattle.osi_message.proofs.WritingLaws.{refuse_known}
+use Rattle.osi_message.proofs.writing.refuse.Goals as goal
+
+pub returns-clause-units : goal.returns-clause-units
+unfolding unit_of
+returns-clause-units c = c.refuse.ensures.units ∙ ap (unit_with Refuse) (refuse_known (record { code = c.args.reason; data_octets = c.args.user_data }))
+
+pub returns-clause-fits : goal.returns-clause-fits
+returns-clause-fits c = λ few. c.refuse.ensures.fits (omega arith)

@@ -1,0 +1,8 @@
+pub mod Meanings
+pub mod Numbered
+pub mod Reading
+pub mod Sendable
+pub mod Tokens
+pub mod Tsdus
+pub mod Written
+pub mod Laws

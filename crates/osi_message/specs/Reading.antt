@@ -1,0 +1,118 @@
+-- What the parameters of a session unit mean, those that are absent included.
+use Rattle.std.specs.Prelude.{ℕ, ◌+◌, ◌*◌, ◌/◌, ◌%◌, ◌==◌, Bool, List, [], ◌∷◌, drop, Option, Some, None, unwrap_or, if◌then◌else◌}
+use Rattle.osi_spdu.specs.declared.kinds.Kind.{Kind}
+use Rattle.osi_spdu.specs.declared.kinds.Kind.TheVariants.{GiveTokens, PleaseTokens, DataTransfer, NotFinished, Finish, Disconnect, Refuse, Connect, Accept, Abort, AbortAccept, ResynchronizeAck, MajorSyncPoint, MajorSyncAck, MinorSyncPoint, MinorSyncAck, Resynchronize}
+use Rattle.osi_spdu.specs.declared.codes.Code.TheVariants.{SyncType, TokenItem, TransportDisconnect, UserRequirements, Version, InitialNumber, Number, Reason, UserData}
+use Rattle.osi_spdu.specs.declared.codes.Code.TheVariants as code
+use Rattle.osi_spdu.specs.declared.settings.Wish.{Wish}
+use Rattle.osi_spdu.specs.declared.settings.Wish.TheVariants.{Asker, Answerer, Choice}
+use Rattle.osi_spdu.specs.declared.settings.TokenSetting.{TokenSetting}
+use Rattle.osi_spdu.specs.declared.fields.ResyncType.{ResyncType}
+use Rattle.osi_spdu.specs.declared.fields.ResyncType.TheVariants.{Restart, Abandon, Set}
+use Rattle.osi_spdu.specs.Values.{numeral}
+use Rattle.osi_spdu.specs.Known.{Known, Contents, Units}
+use Rattle.osi_message.specs.declared.tokens.Tokens.{Tokens}
+use Rattle.osi_message.specs.Tokens.{named}
+use Rattle.std.specs.Int.RustNames.{bit_and}
+use Rattle.osi_message.specs.Meanings.{Meaning, CN, AC, RF, DT, GT, PT, MIP, MIA, MAP, MAA, RS, RA, FN, DN, NF, AB, AA}
+
+-- a bit is set
+abbrev pub names : ℕ → ℕ → Bool
+names bits bit = bit_and bits bit == bit
+
+abbrev pub octets_in : Option (List ℕ) → List ℕ
+octets_in value = unwrap_or value []
+
+abbrev pub first_in : List ℕ → ℕ
+first_in [] = 0
+first_in (b ∷ octets) = b
+
+-- the one octet of a parameter, 0 where it is absent
+abbrev pub octet_in : Option (List ℕ) → ℕ
+octet_in value = first_in (octets_in value)
+
+abbrev pub two_in : List ℕ → ℕ
+two_in [] = 0
+two_in (high ∷ []) = 0
+two_in (high ∷ low ∷ octets) = 256 * high + low
+
+-- absent requirements are half-duplex, minor, activity, capability and exceptions (0349)
+abbrev pub requirements_in : Option (List ℕ) → ℕ
+requirements_in None = 841
+requirements_in (Some value) = two_in value
+
+abbrev pub wish_named : ℕ → Wish
+wish_named pair = if pair == 0 then Asker else if pair == 1 then Answerer else Choice
+
+-- an absent setting is 00
+abbrev pub setting_named : ℕ → TokenSetting
+setting_named octet = record {
+  data_token = wish_named (octet % 4);
+  minor = wish_named (octet / 4 % 4);
+  major = wish_named (octet / 16 % 4);
+  release = wish_named (octet / 64);
+}
+
+abbrev pub resync_named : ℕ → ResyncType
+resync_named octet = if octet == 0 then Restart else if octet == 1 then Abandon else Set
+
+abbrev pub serial_in : Option (List ℕ) → Option ℕ
+serial_in None = None
+serial_in (Some digits) = numeral digits
+
+abbrev pub number_in : Option (List ℕ) → ℕ
+number_in value = unwrap_or (serial_in value) 0
+
+-- bit 2 of the version is version 2
+abbrev pub has_version_2 : Known → Bool
+has_version_2 known = names (octet_in (known Version)) 2
+
+-- a minor point whose sync type is absent, or has bit 1 clear, asks for its confirmation
+abbrev pub asks : Known → Bool
+asks known = octet_in (known SyncType) == 0
+
+abbrev pub tokens_in : Known → Tokens
+tokens_in known = named (octet_in (known TokenItem))
+
+abbrev pub setting_in : Known → TokenSetting
+setting_in known = setting_named (octet_in (known code.TokenSetting))
+
+abbrev pub data_in : Known → List ℕ
+data_in known = octets_in (known UserData)
+
+abbrev pub meaning_by : Kind → Known → List ℕ → Meaning
+meaning_by Connect known information =
+    CN (has_version_2 known) (requirements_in (known UserRequirements)) (serial_in (known InitialNumber)) (setting_in known) (data_in known)
+meaning_by Accept known information =
+    AC (has_version_2 known) (requirements_in (known UserRequirements)) (serial_in (known InitialNumber)) (setting_in known) (data_in known)
+meaning_by Refuse known information = RF (octet_in (known Reason)) (drop 1 (octets_in (known Reason)))
+meaning_by DataTransfer known information = DT information
+meaning_by GiveTokens known information = GT (tokens_in known)
+meaning_by PleaseTokens known information = PT (tokens_in known) (data_in known)
+meaning_by MinorSyncPoint known information = MIP (asks known) (number_in (known Number)) (data_in known)
+meaning_by MinorSyncAck known information = MIA (number_in (known Number)) (data_in known)
+meaning_by MajorSyncPoint known information = MAP (number_in (known Number)) (data_in known)
+meaning_by MajorSyncAck known information = MAA (number_in (known Number)) (data_in known)
+meaning_by Resynchronize known information =
+    RS (resync_named (octet_in (known code.ResyncType))) (number_in (known Number)) (setting_in known) (data_in known)
+meaning_by ResynchronizeAck known information = RA (number_in (known Number)) (setting_in known) (data_in known)
+meaning_by Finish known information = FN (data_in known)
+meaning_by Disconnect known information = DN (data_in known)
+meaning_by NotFinished known information = NF (data_in known)
+meaning_by Abort known information = AB (octet_in (known TransportDisconnect)) (data_in known)
+meaning_by AbortAccept known information = AA
+
+unfoldable pub meaning : Contents → Meaning
+meaning unit = meaning_by unit.kind unit.known unit.information
+
+-- a TSDU: a unit alone, or a unit behind a token item
+pub data Said : Type 0 where
+  alone : Meaning → Said
+  behind : (item : Meaning) (unit : Meaning) → Said
+
+abbrev pub said_with : Meaning → Option Contents → Said
+said_with first None = alone first
+said_with first (Some second) = behind first (meaning second)
+
+abbrev pub said_by_units : Units → Said
+said_by_units units = said_with (meaning units.first) units.second

@@ -1,0 +1,23 @@
+-- What can be sent, and what is said by it.
+use Rattle.std.specs.Prelude.{◌≡◌, ◌<◌, Bool, true, length, if◌then◌else◌}
+use Rattle.osi_message.specs.Tokens.{no_token}
+use Rattle.osi_message.specs.Meanings.{Meaning, CN, AC, GT}
+use Rattle.osi_message.specs.Numbered.{IsNumbered}
+use Rattle.osi_message.specs.Reading.{Said, alone, behind}
+use Rattle.osi_message.specs.Written.{is_second, user_data_of}
+
+-- data, and what has to do with points, is said behind a GT with no token
+abbrev pub said_of : Meaning → Said
+said_of m = if is_second m then behind (GT no_token) m else alone m
+
+-- a CN and an AC are of version 2
+abbrev pub is_of_version_2 : Meaning → Bool
+is_of_version_2 (CN version_2 requirements serial wishes octets) = version_2
+is_of_version_2 (AC version_2 requirements serial sides octets) = version_2
+is_of_version_2 _ = true
+
+-- what the parameters of a unit have room for
+pub record IsSendable (m : Meaning) : Type 0 where
+  pub version : is_of_version_2 m ≡ true
+  pub numbered : IsNumbered m
+  pub short : length (user_data_of m) < 65000

@@ -1,0 +1,42 @@
+ghost use Rattle.std.specs.Prelude.{◌≡◌, IfOk};
+
+use std::alloc::{AllocError, Global};
+use std::marker::Model;
+
+/// Octets that an indication or a TSDU owns.
+#[derive(Drop)]
+pub struct Octets {
+    items: Vec<u8>,
+}
+
+impl Model for Octets {
+    ghost use Rattle.std.specs.Prelude.{ℕ, List};
+
+    ghost Value = { List ℕ };
+
+    ghost view = { λ o. o.items.items };
+}
+
+impl Octets {
+    /// A copy of these octets.
+    pub fn copy(alloc: Global, octets: &[u8]) -> Result<Octets, AllocError>
+        ensures { IfOk result (λ o. o ≡ octets.now) }
+    {
+        let items = Vec::from_slice(alloc, octets)?;
+        Ok(Octets { items })
+    }
+
+    /// The octets.
+    pub fn as_slice(&self) -> &[u8]
+        ensures { result.now ≡ self.now }
+    {
+        self.items.as_slice()
+    }
+
+    /// The octets, which are not copied.
+    pub fn into_vec(self) -> Vec<u8>
+        ensures { result.items ≡ self }
+    {
+        self.items
+    }
+}
