@@ -2,12 +2,11 @@
 use Rattle.std.proofs.Common.{◌≡◌, Bool, true, false, not, ◌&&◌, ◌||◌, Option, Some, None, if◌then◌else◌}
 use Rattle.osi_session.specs.declared.faults.UnitFault.{UnitFault}
 use Rattle.osi_session.specs.declared.state.State.{State}
-use Rattle.osi_session.specs.Phases.{is_wait_transport, is_aborting, is_ended, is_restarting}
+use Rattle.osi_session.specs.Phases.{is_wait_transport, is_aborting, is_ended}
 use Rattle.osi_message.specs.Meanings.{Meaning, CN, AC, RF, DT, GT, PT, MIP, MIA, MAP, MAA, RS, RA, FN, DN, NF, AB, AA}
-use Rattle.osi_message.specs.Reading.{Said, alone, behind}
-use Rattle.osi_session.specs.Respond.{Outcome, si, conditions, first_fault, is_expected, is_acceptable, is_resynchronize, stands, becomes, judged, take_expected, in_aborting, in_ended, has_no_effect, passes_restarting, respond_unit, respond}
+use Rattle.osi_session.specs.Respond.{Outcome, si, conditions, first_fault, is_expected, is_acceptable, stands, becomes, judged, take_expected, in_aborting, in_ended, drops, respond_unit}
 
-abbrev Begins : State → State → Type 0
+abbrev pub Begins : State → State → Type 0
 Begins s next = is_wait_transport next.phase ≡ true → is_wait_transport s.phase ≡ true
 
 chosen : (b : Bool) (s x y : State) → Begins s x → Begins s y → Begins s (if b then x else y)
@@ -59,11 +58,5 @@ unfolding respond_unit
 unit_begun s u =
     either (is_aborting s.phase) s _ _ (aborting_begun s u)
     (either (is_ended s.phase) s _ _ (ended_begun s u)
-    (either (has_no_effect u || (is_restarting s.phase && not (passes_restarting u))) s _ _ (λ k. k)
+    (either (drops s u) s _ _ (λ k. k)
     (either (not (is_expected s.phase u)) s _ _ (λ k. absurd (cc)) (expected_begun s u))))
-
-pub respond_begun : (s : State) (said : Said) → is_wait_transport (respond s said).next.phase ≡ true → is_wait_transport s.phase ≡ true
-unfolding respond
-respond_begun s (alone u) k = unit_begun s u k
-respond_begun s (behind item u) k =
-    either (is_resynchronize u) s _ _ (unit_begun s u) (λ l. unit_begun s u (unit_begun (respond_unit s u).next item l)) k

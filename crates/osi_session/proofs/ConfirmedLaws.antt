@@ -1,6 +1,6 @@
 -- What raises V(A), and that it does not fall but by a restart.
 use Rattle.std.proofs.Common.{◌≡◌, refl, sym, subst, ℕ, ◌+◌, ◌≤◌, Bool, true, false, not, ◌&&◌, ◌||◌, nat_le, nat_lt, List, [], ◌∷◌, Ok, Option, Some, None, if◌then◌else◌, arith}
-use Rattle.std.specs.List.{AllByRecursion}
+use Rattle.std.specs.List.{AllByRecursion, list_any}
 use Rattle.std.proofs.lemmas.Bool.{leb-true, and_parts}
 use Rattle.osi_session.specs.declared.faults.UnitFault.{UnitFault}
 use Rattle.osi_spdu.specs.declared.fields.ResyncType.{ResyncType}
@@ -8,21 +8,22 @@ use Rattle.osi_spdu.specs.declared.settings.TokenSetting.{TokenSetting}
 use Rattle.osi_session.specs.declared.state.State.{State}
 use Rattle.osi_session.specs.declared.numbers.Numbers.{Numbers}
 use Rattle.osi_session.specs.Numbers.{point_sent, point_taken, minor_confirmed, major_confirmed}
-use Rattle.osi_session.specs.Phases.{is_wait_transport, is_wait_cn, is_aborting, is_ended, is_restarting}
+use Rattle.osi_session.specs.Phases.{is_wait_cn, is_aborting, is_ended}
 use Rattle.osi_session.specs.Sound.{IsSound, AreOrdered}
 use Rattle.osi_session.specs.Calls.{Call, Accept, Refuse, Data, Give, Please, Minor, MinorConfirm, Major, MajorConfirm, Restart, RestartConfirm, Release, ReleaseAccept, ReleaseRefuse, Abort}
 use Rattle.osi_message.specs.Meanings.{Meaning, CN, AC, RF, DT, GT, PT, MIP, MIA, MAP, MAA, RS, RA, FN, DN, NF, AB, AA}
-use Rattle.osi_message.specs.Reading.{Said, alone, behind}
-use Rattle.osi_message.specs.Numbered.{AreNumbered}
+use Rattle.osi_message.specs.Numbered.{IsNumbered}
 use Rattle.osi_session.specs.Shown.{MinorConfirmed, BadUnit}
-use Rattle.osi_session.specs.Allowed.{Step, needs, after, allowed}
-use Rattle.osi_session.specs.Respond.{Outcome, si, conditions, first_fault, is_expected, has_no_effect, passes_restarting, is_resynchronize, is_acceptable, stands, becomes, bad, judged, take_expected, respond_unit, and_then, respond}
-use Rattle.osi_session.specs.Runs.{Event, called, taken, unread, opened, refused, broken, after_event, after_events, HasNumbers}
-use Rattle.osi_session.specs.Causes.{some_unit, call_renews, unit_renews, renews}
-use Rattle.osi_session.proofs.Passed.{passed, AllHold}
-use Rattle.osi_session.proofs.SoundUnits.{AllMet, unit_sound}
-use Rattle.osi_session.proofs.RunCases.{call_cases, unit_cases, fault_cases, awaited_cases}
-use Rattle.osi_session.proofs.RunLaws.{event_sound}
+use Rattle.osi_session.specs.Allowed.{Step, needs, after, allowed, AllHold}
+use Rattle.osi_session.specs.Respond.{Outcome, si, conditions, first_fault, is_expected, drops, is_acceptable, stands, becomes, bad, judged, take_expected, respond_unit, and_then, is_faulty, verdict, AllMet, respond_all, acting}
+use Rattle.osi_session.specs.Moves.{Input, called, taken, unread, opened, refused, broken, Standing, after_input, after_inputs}
+use Rattle.osi_session.specs.Runs.{HasNumbers}
+use Rattle.osi_session.proofs.ActingLaws.{acting_numbered}
+use Rattle.osi_session.specs.Causes.{call_renews, unit_renews, renews}
+use Rattle.osi_session.proofs.Passed.{passed}
+use Rattle.osi_session.proofs.SoundUnits.{unit_sound}
+use Rattle.osi_session.proofs.RunCases.{call_cases, unit_cases, taken_cases, fault_cases, opened_cases, refused_cases, broken_cases}
+use Rattle.osi_session.proofs.RunLaws.{input_sound}
 
 -- ---- a confirmation raises V(A)
 
@@ -66,7 +67,7 @@ unit_confirms s n octets =
     let u = MIA n octets in
     either n octets (is_aborting s.phase) _ _ (λ h. absurd (cc))
     (either n octets (is_ended s.phase) _ _ (λ h. absurd (cc))
-    (either n octets (has_no_effect u || (is_restarting s.phase && not (passes_restarting u))) _ _ (λ h. absurd (cc))
+    (either n octets (drops s u) _ _ (λ h. absurd (cc))
     (either n octets (not (is_expected s.phase u)) _ _ (bad_confirms s n octets _) (expected_confirms s n octets))))
 
 -- ---- V(A) does not fall
@@ -154,36 +155,34 @@ or_parts : (a b : Bool) → (a || b) ≡ false → (a ≡ false) × (b ≡ false
 or_parts true b h = absurd (cc)
 or_parts false b h = (refl, h)
 
-said_rises : (s : State) (said : Said) → some_unit unit_renews said ≡ false → AreNumbered said → IsSound s → Rises s.numbers (respond s said).next.numbers
-unfolding respond
-said_rises s (alone u) r small h = unit_rises s u r h
-said_rises s (behind item u) r small h = by (is_resynchronize u)
-  where
-    parts : (unit_renews u ≡ false) × (unit_renews item ≡ false)
-    parts = or_parts (unit_renews u) (unit_renews item) r
+either_rises : (v : Numbers) (b : Bool) (x y : Outcome) → Rises v x.next.numbers → Rises v y.next.numbers → Rises v (if b then x else y).next.numbers
+either_rises v true x y h k = h
+either_rises v false x y h k = k
 
-    by : (b : Bool) → Rises s.numbers (if b then respond_unit s u else and_then (respond_unit s u) item).next.numbers
-    by true = unit_rises s u parts.0 h
-    by false =
-        let one = unit_rises s u parts.0 h in
-        let two = unit_rises (respond_unit s u).next item parts.1 (unit_sound s u small.1 h) in
-        omega arith
+all_rises : (s : State) (us : List Meaning) → list_any unit_renews us ≡ false → AllByRecursion IsNumbered us → IsSound s → Rises s.numbers (respond_all s us).next.numbers
+unfolding respond_all
+all_rises s [] r small h = same s.numbers
+all_rises s (u ∷ us) r small h =
+    let parts = or_parts (unit_renews u) (list_any unit_renews us) r in
+    let one = unit_rises s u parts.0 h in
+    let more = all_rises (respond_unit s u).next us parts.1 small.1 (unit_sound s u small.0 h) in
+    either_rises s.numbers (is_faulty (verdict s u)) _ _ one (omega arith)
 
-event_rises : (s : State) (event : Event) → renews event ≡ false → HasNumbers event → IsSound s → Rises s.numbers (after_event s event).numbers
-event_rises s (called c) r small h = call_cases (λ next. Rises s.numbers next.numbers) s c (same s.numbers)
-    (λ x e. let q = passed s c x e in subst (λ (y : Step). Rises s.numbers y.next.numbers) (sym q.gives) (after_rises s c r q.needed h))
-event_rises s (taken said) r small h = said_rises s said r small h
-event_rises s (unread fault) r small h = fault_cases (λ next. Rises s.numbers next.numbers) s fault (same s.numbers) (λ o. same s.numbers)
-event_rises s opened r small h = awaited_cases (λ next. Rises s.numbers next.numbers) (is_wait_transport s.phase) _ s (λ w. same s.numbers) (same s.numbers)
-event_rises s refused r small h = awaited_cases (λ next. Rises s.numbers next.numbers) (is_wait_transport s.phase) _ s (λ w. same s.numbers) (same s.numbers)
-event_rises s broken r small h = same s.numbers
+input_rises : (s : Standing) (input : Input) → renews input ≡ false → HasNumbers input → IsSound s.state → Rises s.state.numbers (after_input s input).state.numbers
+input_rises s (called c) r small h = call_cases (λ next. Rises s.state.numbers next.numbers) s c (same s.state.numbers)
+    (λ x e. let q = passed s.state c x e in subst (λ (y : Step). Rises s.state.numbers y.next.numbers) (sym q.gives) (after_rises s.state c r q.needed h))
+input_rises s (taken said) r small h = taken_cases (λ next. Rises s.state.numbers next.numbers) s said (all_rises s.state (acting said) r (acting_numbered said small) h)
+input_rises s (unread fault) r small h = fault_cases (λ next. Rises s.state.numbers next.numbers) s fault (same s.state.numbers) (λ o. same s.state.numbers)
+input_rises s opened r small h = opened_cases (λ next. Rises s.state.numbers next.numbers) s (λ w. same s.state.numbers) (same s.state.numbers)
+input_rises s (refused reason) r small h = refused_cases (λ next. Rises s.state.numbers next.numbers) s reason (λ w. same s.state.numbers) (same s.state.numbers)
+input_rises s broken r small h = broken_cases (λ next. Rises s.state.numbers next.numbers) s (same s.state.numbers)
 
-pub never_falls : (s : State) (events : List Event) → AllByRecursion HasNumbers events → AllByRecursion (λ e. renews e ≡ false) events → IsSound s
-    → s.numbers.confirmed ≤ (after_events s events).numbers.confirmed
+pub never_falls : (s : Standing) (inputs : List Input) → AllByRecursion HasNumbers inputs → AllByRecursion (λ i. renews i ≡ false) inputs → IsSound s.state
+    → s.state.numbers.confirmed ≤ (after_inputs s inputs).state.numbers.confirmed
 never_falls s [] small r h = omega arith
-never_falls s (event ∷ events) small r h =
-    let one = event_rises s event r.0 small.0 h in
-    let more = never_falls (after_event s event) events small.1 r.1 (event_sound s event small.0 h) in
+never_falls s (input ∷ inputs) small r h =
+    let one = input_rises s input r.0 small.0 h in
+    let more = never_falls (after_input s input) inputs small.1 r.1 (input_sound s input small.0 h) in
     omega arith
 
 pub yielded : (s : State) (kind : ResyncType) (n : ℕ) (wishes : TokenSetting) (octets : List ℕ) → stands s n ≡ false

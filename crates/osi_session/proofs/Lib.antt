@@ -1,8 +1,8 @@
+pub mod ActingLaws
 pub mod Begun
 pub mod CallLaws
 pub mod GroupLaws
 pub mod ConfirmedLaws
-pub mod EventLaws
 pub mod HeldLaws
 pub mod OpeningMoves
 pub mod Passed
@@ -15,3 +15,5 @@ pub mod SessionLaws
 pub mod SoundCalls
 pub mod SoundNumbers
 pub mod SoundUnits
+pub mod TsduLaws
+pub mod VerdictLaws

@@ -5,17 +5,16 @@ use Rattle.std.proofs.lemmas.Bool.{cases_Bool, or_left, or_right}
 use Rattle.osi_session.specs.declared.phases.Phase.{Phase}
 use Rattle.osi_session.specs.declared.phases.Phase.TheVariants.{Ready, MajorAsked, MajorDue, Releasing, ReleaseDue}
 use Rattle.osi_session.specs.declared.state.State.{State}
-use Rattle.osi_session.specs.Phases.{is_wait_transport, is_ready, is_major_asked, is_major_due, is_releasing, is_release_due, may_hold}
+use Rattle.osi_session.specs.Phases.{is_ready, is_major_asked, is_major_due, is_releasing, is_release_due, may_hold}
 use Rattle.osi_session.specs.Calls.{Call, Accept, Refuse, Data, Give, Please, Minor, MinorConfirm, Major, MajorConfirm, Restart, RestartConfirm, Release, ReleaseAccept, ReleaseRefuse, Abort}
 use Rattle.osi_message.specs.Meanings.{Meaning, CN, AC, RF, DT, GT, PT, MIP, MIA, MAP, MAA, RS, RA, FN, DN, NF, AB, AA}
-use Rattle.osi_message.specs.Reading.{Said, alone, behind}
-use Rattle.osi_session.specs.Allowed.{Step, may_call, after, allowed}
-use Rattle.osi_session.specs.Respond.{is_expected, is_acceptable, is_resynchronize, stands, becomes, respond_unit, and_then, respond}
-use Rattle.osi_session.specs.Runs.{Event, called, taken, unread, opened, refused, broken, after_answer, after_event, after_events}
+use Rattle.osi_session.specs.Allowed.{Step, may_call, after}
+use Rattle.osi_session.specs.Respond.{Outcome, is_expected, is_acceptable, stands, becomes, respond_unit, and_then, is_faulty, verdict, respond_all, acting}
+use Rattle.osi_session.specs.Moves.{Input, called, taken, unread, opened, refused, broken, Standing, after_input, after_inputs}
 use Rattle.osi_session.specs.Causes.{some_unit, call_opens, unit_opens, opens_connection}
 use Rattle.osi_session.proofs.Passed.{passed}
 use Rattle.osi_session.proofs.PhaseLaws.{implied}
-use Rattle.osi_session.proofs.RunCases.{call_cases, unit_cases, fault_cases, awaited_cases}
+use Rattle.osi_session.proofs.RunCases.{call_cases, unit_cases, taken_cases, fault_cases, opened_cases, refused_cases, broken_cases}
 
 -- tokens may be held after, where they could not be before, only by this cause
 abbrev OpenedBy : Bool → Phase → Phase → Type 0
@@ -40,18 +39,18 @@ after_opens s (Give tokens) p = same _ s.phase
 after_opens s (Please tokens octets) p = same _ s.phase
 after_opens s (Minor confirm octets) p = same _ s.phase
 after_opens s (MinorConfirm n octets) p = same _ s.phase
-after_opens s (Major octets) p = open_before _ s.phase MajorAsked (implied is_ready may_hold (refl, refl, refl, refl, refl, refl, refl, refl, refl, refl, refl, refl, refl) s.phase p)
-after_opens s (MajorConfirm octets) p = open_before _ s.phase Ready (implied is_major_due may_hold (refl, refl, refl, refl, refl, refl, refl, refl, refl, refl, refl, refl, refl) s.phase p)
+after_opens s (Major octets) p = open_before _ s.phase MajorAsked (implied is_ready may_hold refl s.phase p)
+after_opens s (MajorConfirm octets) p = open_before _ s.phase Ready (implied is_major_due may_hold refl s.phase p)
 after_opens s (Restart n wishes octets) p = λ h k. absurd (cc)
 after_opens s (RestartConfirm sides octets) p = λ h k. refl
-after_opens s (Release octets) p = open_before _ s.phase Releasing (implied is_ready may_hold (refl, refl, refl, refl, refl, refl, refl, refl, refl, refl, refl, refl, refl) s.phase p)
+after_opens s (Release octets) p = open_before _ s.phase Releasing (implied is_ready may_hold refl s.phase p)
 after_opens s (ReleaseAccept octets) p = λ h k. absurd (cc)
-after_opens s (ReleaseRefuse octets) p = open_before _ s.phase Ready (implied is_release_due may_hold (refl, refl, refl, refl, refl, refl, refl, refl, refl, refl, refl, refl, refl) s.phase p)
+after_opens s (ReleaseRefuse octets) p = open_before _ s.phase Ready (implied is_release_due may_hold refl s.phase p)
 after_opens s (Abort octets) p = λ h k. absurd (cc)
 
-call_opened : (s : State) (c : Call) → OpenedBy (call_opens c) s.phase (after_answer s (allowed s c)).phase
-call_opened s c = call_cases (λ next. OpenedBy (call_opens c) s.phase next.phase) s c (same _ s.phase)
-    (λ x e. let q = passed s c x e in subst (λ (y : Step). OpenedBy (call_opens c) s.phase y.next.phase) (sym q.gives) (after_opens s c q.phase))
+call_opened : (s : Standing) (c : Call) → OpenedBy (call_opens c) s.state.phase (after_input s (called c)).state.phase
+call_opened s c = call_cases (λ next. OpenedBy (call_opens c) s.state.phase next.phase) s c (same _ s.state.phase)
+    (λ x e. let q = passed s.state c x e in subst (λ (y : Step). OpenedBy (call_opens c) s.state.phase y.next.phase) (sym q.gives) (after_opens s.state c q.phase))
 
 becomes_opens : (s : State) (u : Meaning) → is_expected s.phase u ≡ true → OpenedBy (unit_opens u) s.phase (becomes s u).phase
 becomes_opens s (CN version_2 requirements serial wishes octets) p = chosen _ (is_acceptable version_2 requirements) s.phase _ _ (λ h k. absurd (cc)) (λ h k. absurd (cc))
@@ -62,13 +61,13 @@ becomes_opens s (GT tokens) p = same _ s.phase
 becomes_opens s (PT tokens octets) p = same _ s.phase
 becomes_opens s (MIP confirm n octets) p = same _ s.phase
 becomes_opens s (MIA n octets) p = same _ s.phase
-becomes_opens s (MAP n octets) p = open_before _ s.phase MajorDue (implied is_ready may_hold (refl, refl, refl, refl, refl, refl, refl, refl, refl, refl, refl, refl, refl) s.phase p)
-becomes_opens s (MAA n octets) p = open_before _ s.phase Ready (implied is_major_asked may_hold (refl, refl, refl, refl, refl, refl, refl, refl, refl, refl, refl, refl, refl) s.phase p)
+becomes_opens s (MAP n octets) p = open_before _ s.phase MajorDue (implied is_ready may_hold refl s.phase p)
+becomes_opens s (MAA n octets) p = open_before _ s.phase Ready (implied is_major_asked may_hold refl s.phase p)
 becomes_opens s (RS kind n wishes octets) p = chosen _ (stands s n) s.phase _ _ (λ h k. absurd (cc)) (same _ s.phase)
 becomes_opens s (RA n sides octets) p = λ h k. refl
-becomes_opens s (FN octets) p = open_before _ s.phase ReleaseDue (implied is_ready may_hold (refl, refl, refl, refl, refl, refl, refl, refl, refl, refl, refl, refl, refl) s.phase p)
+becomes_opens s (FN octets) p = open_before _ s.phase ReleaseDue (implied is_ready may_hold refl s.phase p)
 becomes_opens s (DN octets) p = λ h k. absurd (cc)
-becomes_opens s (NF octets) p = open_before _ s.phase Ready (implied is_releasing may_hold (refl, refl, refl, refl, refl, refl, refl, refl, refl, refl, refl, refl, refl) s.phase p)
+becomes_opens s (NF octets) p = open_before _ s.phase Ready (implied is_releasing may_hold refl s.phase p)
 becomes_opens s (AB bits octets) p = λ h k. absurd (cc)
 becomes_opens s AA p = same _ s.phase
 
@@ -90,26 +89,30 @@ both_opened a b p mid q f g h k = elim (cases_Bool (may_hold mid)) [
 weaker : (a b : Bool) (p q : Phase) → OpenedBy a p q → OpenedBy (a || b) p q
 weaker a b p q f h k = or_left a b (f h k)
 
-said_opened : (s : State) (said : Said) → OpenedBy (some_unit unit_opens said) s.phase (respond s said).next.phase
-unfolding respond
-said_opened s (alone u) = unit_opened s u
-said_opened s (behind item u) = by (is_resynchronize u)
-  where
-    by : (b : Bool) → OpenedBy (unit_opens u || unit_opens item) s.phase (if b then respond_unit s u else and_then (respond_unit s u) item).next.phase
-    by true = weaker (unit_opens u) (unit_opens item) s.phase (respond_unit s u).next.phase (unit_opened s u)
-    by false = both_opened (unit_opens u) (unit_opens item) s.phase (respond_unit s u).next.phase (respond_unit (respond_unit s u).next item).next.phase (unit_opened s u) (unit_opened (respond_unit s u).next item)
+either_opened : (cause b : Bool) (p : Phase) (x y : Outcome) → OpenedBy cause p x.next.phase → OpenedBy cause p y.next.phase → OpenedBy cause p (if b then x else y).next.phase
+either_opened cause true p x y h k = h
+either_opened cause false p x y h k = k
 
-pub event_opened : (s : State) (event : Event) → may_hold s.phase ≡ false → may_hold (after_event s event).phase ≡ true → opens_connection event ≡ true
-event_opened s (called c) = call_opened s c
-event_opened s (taken said) = said_opened s said
-event_opened s (unread fault) = fault_cases (λ next. OpenedBy false s.phase next.phase) s fault (same _ s.phase) (λ o h k. absurd (cc))
-event_opened s opened = awaited_cases (λ next. OpenedBy false s.phase next.phase) (is_wait_transport s.phase) _ s (λ w h k. absurd (cc)) (same _ s.phase)
-event_opened s refused = awaited_cases (λ next. OpenedBy false s.phase next.phase) (is_wait_transport s.phase) _ s (λ w h k. absurd (cc)) (same _ s.phase)
-event_opened s broken = λ h k. absurd (cc)
+all_opened : (s : State) (us : List Meaning) → OpenedBy (list_any unit_opens us) s.phase (respond_all s us).next.phase
+unfolding respond_all
+all_opened s [] = same false s.phase
+all_opened s (u ∷ us) =
+    let one = weaker (unit_opens u) (list_any unit_opens us) s.phase (respond_unit s u).next.phase (unit_opened s u) in
+    let both = both_opened (unit_opens u) (list_any unit_opens us) s.phase (respond_unit s u).next.phase
+    (respond_all (respond_unit s u).next us).next.phase (unit_opened s u) (all_opened (respond_unit s u).next us) in
+    either_opened (unit_opens u || list_any unit_opens us) (is_faulty (verdict s u)) s.phase _ _ one both
 
-pub some_opened : (s : State) (events : List Event) → may_hold s.phase ≡ false → may_hold (after_events s events).phase ≡ true → list_any opens_connection events ≡ true
+pub input_opened : (s : Standing) (input : Input) → may_hold s.state.phase ≡ false → may_hold (after_input s input).state.phase ≡ true → opens_connection input ≡ true
+input_opened s (called c) = call_opened s c
+input_opened s (taken said) = taken_cases (λ next. OpenedBy (some_unit unit_opens said) s.state.phase next.phase) s said (all_opened s.state (acting said))
+input_opened s (unread fault) = fault_cases (λ next. OpenedBy false s.state.phase next.phase) s fault (same _ s.state.phase) (λ o h k. absurd (cc))
+input_opened s opened = opened_cases (λ next. OpenedBy false s.state.phase next.phase) s (λ w h k. absurd (cc)) (same _ s.state.phase)
+input_opened s (refused reason) = refused_cases (λ next. OpenedBy false s.state.phase next.phase) s reason (λ w h k. absurd (cc)) (same _ s.state.phase)
+input_opened s broken = broken_cases (λ next. OpenedBy false s.state.phase next.phase) s (λ h k. absurd (cc))
+
+pub some_opened : (s : Standing) (inputs : List Input) → may_hold s.state.phase ≡ false → may_hold (after_inputs s inputs).state.phase ≡ true → list_any opens_connection inputs ≡ true
 some_opened s [] h k = absurd (cc)
-some_opened s (event ∷ events) h k = elim (cases_Bool (may_hold (after_event s event).phase)) [
-  | inl t ↦ or_left (opens_connection event) (list_any opens_connection events) (event_opened s event h t)
-  | inr t ↦ or_right (opens_connection event) (list_any opens_connection events) (some_opened (after_event s event) events t k)
+some_opened s (input ∷ inputs) h k = elim (cases_Bool (may_hold (after_input s input).state.phase)) [
+  | inl t ↦ or_left (opens_connection input) (list_any opens_connection inputs) (input_opened s input h t)
+  | inr t ↦ or_right (opens_connection input) (list_any opens_connection inputs) (some_opened (after_input s input) inputs t k)
 ]

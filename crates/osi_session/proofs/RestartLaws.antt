@@ -6,10 +6,12 @@ use Rattle.osi_spdu.specs.declared.settings.TokenSetting.{TokenSetting}
 use Rattle.osi_session.specs.declared.state.State.{State}
 use Rattle.osi_session.specs.Phases.{is_aborting, is_ended, is_restarting, is_restart_due, takes_restart}
 use Rattle.osi_session.specs.Numbers.{restarted_at, lower}
-use Rattle.osi_message.specs.Meanings.{RS}
-use Rattle.osi_session.specs.Respond.{Outcome, si, conditions, first_fault, judged, stands, becomes, good, take_expected, respond_unit, respond}
+use Rattle.osi_message.specs.Tokens.{no_token}
+use Rattle.osi_message.specs.Meanings.{GT, RS}
+use Rattle.osi_session.specs.Respond.{Outcome, si, conditions, first_fault, judged, stands, becomes, good, take_expected, respond_unit}
 use Rattle.osi_session.specs.Restarts.{HasAsked, AreCrossed, after_restart}
 use Rattle.osi_session.proofs.PhaseLaws.{implied, excluded}
+use Rattle.osi_session.proofs.VerdictLaws.{in_front, empty_item}
 
 -- at a side that has asked for a restart a lower number stands
 lower_stands : (s : State) (n : ℕ) → is_restarting s.phase ≡ true → n < s.numbers.next → stands s n ≡ true
@@ -60,16 +62,16 @@ good_restart : (s : State) (n : ℕ) (wishes : TokenSetting) (octets : List ℕ)
 unfolding respond_unit take_expected
 good_restart s n wishes octets x from =
     let r = x.phase in
-    let a = excluded is_restarting is_aborting (refl, refl, refl, refl, refl, refl, refl, refl, refl, refl, refl, refl, refl) s.phase r in
-    let e = excluded is_restarting is_ended (refl, refl, refl, refl, refl, refl, refl, refl, refl, refl, refl, refl, refl) s.phase r in
-    let t = implied is_restarting takes_restart (refl, refl, refl, refl, refl, refl, refl, refl, refl, refl, refl, refl, refl) s.phase r in
+    let a = excluded is_restarting is_aborting refl s.phase r in
+    let e = excluded is_restarting is_ended refl s.phase r in
+    let t = implied is_restarting takes_restart refl s.phase r in
     let d : (is_restarting s.phase && false) ≡ false = rw r refl in
     other (is_aborting s.phase) _ _ a ∙ other (is_ended s.phase) _ _ e ∙ other (is_restarting s.phase && false) _ _ d
     ∙ other (not (takes_restart s.phase)) _ _ (ap not t) ∙ ap (judged s (RS Restart n wishes octets)) (expected s n wishes octets x from)
 
 taken : (s : State) (n : ℕ) (wishes : TokenSetting) (octets : List ℕ) → HasAsked s → s.base ≤ n → after_restart s n wishes octets ≡ becomes s (RS Restart n wishes octets)
-unfolding respond
-taken s n wishes octets x from = ap (λ (o : Outcome). o.next) (good_restart s n wishes octets x from)
+taken s n wishes octets x from =
+    ap (λ (o : Outcome). o.next) (in_front s (GT no_token) (RS Restart n wishes octets) empty_item ∙ good_restart s n wishes octets x from)
 
 stands_next : (s : State) (n : ℕ) (wishes : TokenSetting) (octets : List ℕ) → HasAsked s → s.base ≤ n → stands s n ≡ true
     → ((after_restart s n wishes octets).numbers.next ≡ n) × (is_restart_due (after_restart s n wishes octets).phase ≡ true)

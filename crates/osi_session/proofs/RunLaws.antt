@@ -11,33 +11,33 @@ use Rattle.osi_session.specs.Phases.{is_wait_transport, is_wait_cn, is_aborting,
 use Rattle.osi_session.specs.Sound.{IsSound, AreOrdered}
 use Rattle.osi_session.specs.Calls.{Call}
 use Rattle.osi_message.specs.Meanings.{Meaning}
-use Rattle.osi_message.specs.Reading.{Said, alone, behind}
 use Rattle.osi_session.specs.Allowed.{allowed}
-use Rattle.osi_session.specs.Respond.{is_resynchronize, respond_unit, and_then, respond}
+use Rattle.osi_session.specs.Respond.{respond_unit}
 use Rattle.osi_session.specs.declared.opening.Opening.{Opening}
 use Rattle.osi_session.specs.Units.{functional_units, has_points}
 use Rattle.osi_session.specs.Sessions.{awaiting, asking}
 use Rattle.osi_session.proofs.SessionLaws.{first_small}
-use Rattle.osi_session.specs.Runs.{Event, called, taken, unread, opened, refused, broken, after_event, after_events, HasNumbers, IsFresh}
+use Rattle.osi_session.specs.Moves.{Input, called, taken, unread, opened, refused, broken, Standing, after_input, after_inputs}
+use Rattle.osi_session.specs.Runs.{HasNumbers, IsFresh}
+use Rattle.osi_session.proofs.TsduLaws.{respond_sound}
 use Rattle.osi_session.proofs.PhaseLaws.{implied, excluded}
-use Rattle.osi_session.proofs.RunCases.{call_cases, unit_cases, fault_cases, awaited_cases}
+use Rattle.osi_session.proofs.RunCases.{call_cases, unit_cases, said_kept, taken_cases, fault_cases, opened_cases, refused_cases, broken_cases}
 use Rattle.osi_session.proofs.SoundCalls.{bare, call_sound}
 use Rattle.osi_session.proofs.SoundNumbers.{from_ordered}
-use Rattle.osi_session.proofs.SoundUnits.{respond_sound}
 
 -- ---- what is true at all times
 
-pub event_sound : (s : State) (event : Event) → HasNumbers event → IsSound s → IsSound (after_event s event)
-event_sound s (called c) has h = call_cases IsSound s c h (λ x e. call_sound s c x has e h)
-event_sound s (taken said) has h = respond_sound s said has h
-event_sound s (unread fault) has h = fault_cases IsSound s fault h (λ o. bare Aborting s refl refl h)
-event_sound s opened has h = awaited_cases IsSound (is_wait_transport s.phase) _ s (λ w. bare Connecting s refl refl h) h
-event_sound s refused has h = awaited_cases IsSound (is_wait_transport s.phase) _ s (λ w. bare Ended s refl refl h) h
-event_sound s broken has h = bare Ended s refl refl h
+pub input_sound : (s : Standing) (input : Input) → HasNumbers input → IsSound s.state → IsSound (after_input s input).state
+input_sound s (called c) has h = call_cases IsSound s c h (λ x e. call_sound s.state c x has e h)
+input_sound s (taken said) has h = taken_cases IsSound s said (respond_sound s.state said has h)
+input_sound s (unread fault) has h = fault_cases IsSound s fault h (λ o. bare Aborting s.state refl refl h)
+input_sound s opened has h = opened_cases IsSound s (λ w. bare Connecting s.state refl refl h) h
+input_sound s (refused reason) has h = refused_cases IsSound s reason (λ w. bare Ended s.state refl refl h) h
+input_sound s broken has h = broken_cases IsSound s (bare Ended s.state refl refl h)
 
-pub events_sound : (s : State) (events : List Event) → AllByRecursion HasNumbers events → IsSound s → IsSound (after_events s events)
-events_sound s [] has h = h
-events_sound s (event ∷ events) has h = events_sound (after_event s event) events has.1 (event_sound s event has.0 h)
+pub inputs_sound : (s : Standing) (inputs : List Input) → AllByRecursion HasNumbers inputs → IsSound s.state → IsSound (after_inputs s inputs).state
+inputs_sound s [] has h = h
+inputs_sound s (input ∷ inputs) has h = inputs_sound (after_input s input) inputs has.1 (input_sound s input has.0 h)
 
 pub awaiting_fresh : IsFresh awaiting
 awaiting_fresh = record { phase = refl; held = refl; base = refl; numbers = refl; first = omega arith }
@@ -53,8 +53,8 @@ asking_fresh o = record {
 
 pub fresh_sound : (s : State) → IsFresh s → IsSound s
 fresh_sound s h =
-    let major = excluded (λ p. is_wait_transport p || is_wait_cn p) in_major (refl, refl, refl, refl, refl, refl, refl, refl, refl, refl, refl, refl, refl) s.phase h.phase in
-    let restart = excluded (λ p. is_wait_transport p || is_wait_cn p) is_restart_due (refl, refl, refl, refl, refl, refl, refl, refl, refl, refl, refl, refl, refl) s.phase h.phase in
+    let major = excluded (λ p. is_wait_transport p || is_wait_cn p) in_major refl s.phase h.phase in
+    let restart = excluded (λ p. is_wait_transport p || is_wait_cn p) is_restart_due refl s.phase h.phase in
     let base = sym h.base in
     record {
       ordered = subst (λ (v : Numbers). AreOrdered s.base v) (sym h.numbers) (subst (λ (b : ℕ). AreOrdered b (from_base 0)) base (from_ordered 0 (omega arith)));
@@ -71,7 +71,7 @@ unit_over s u h = unit_cases (λ next. is_over next.phase ≡ true) s u (record 
   same = h;
   ended = λ a. refl;
   bad = λ a e. refl;
-  good = λ a e. absurd (let w = implied is_over (λ p. is_aborting p || is_ended p) (refl, refl, refl, refl, refl, refl, refl, refl, refl, refl, refl, refl, refl) s.phase h in (let f : (is_aborting s.phase || is_ended s.phase) ≡ false = rw (a, e) refl in cc));
+  good = λ a e. absurd (let w = implied is_over (λ p. is_aborting p || is_ended p) refl s.phase h in (let f : (is_aborting s.phase || is_ended s.phase) ≡ false = rw (a, e) refl in cc));
 })
 
 unit_ended : (s : State) (u : Meaning) → is_ended s.phase ≡ true → is_ended (respond_unit s u).next.phase ≡ true
@@ -82,47 +82,39 @@ unit_ended s u h = unit_cases (λ next. is_ended next.phase ≡ true) s u (recor
   good = λ a e. absurd (cc);
 })
 
-either : (P : State → Type 0) (b : Bool) (x y : State) → P x → P y → P (if b then x else y)
-either P true x y h k = h
-either P false x y h k = k
-
-said_kept : (P : State → Type 0) (s : State) (said : Said) → ((r : State) (u : Meaning) → P r → P (respond_unit r u).next) → P s → P (respond s said).next
-unfolding respond
-said_kept P s (alone u) k h = k s u h
-said_kept P s (behind item u) k h =
-    by (is_resynchronize u)
-  where
-    by : (b : Bool) → P (if b then respond_unit s u else and_then (respond_unit s u) item).next
-    by true = k s u h
-    by false = k (respond_unit s u).next item (k s u h)
-
 over_refused : (s : State) (c : Call) → is_over s.phase ≡ true → allowed s c ≡ Err error.Ended
 unfolding allowed
 over_refused s c h = rw h refl
 
-pub event_over : (s : State) (event : Event) → is_over s.phase ≡ true → is_over (after_event s event).phase ≡ true
-event_over s (called c) h = call_cases (λ r. is_over r.phase ≡ true) s c h (λ x e. absurd (let o = over_refused s c h in cc))
-event_over s (taken said) h = said_kept (λ r. is_over r.phase ≡ true) s said unit_over h
-event_over s (unread fault) h = fault_cases (λ r. is_over r.phase ≡ true) s fault h (λ o. refl)
-event_over s opened h = awaited_cases (λ r. is_over r.phase ≡ true) (is_wait_transport s.phase) _ s (λ w. absurd (let o = excluded is_wait_transport is_over (refl, refl, refl, refl, refl, refl, refl, refl, refl, refl, refl, refl, refl) s.phase w in cc)) h
-event_over s refused h = awaited_cases (λ r. is_over r.phase ≡ true) (is_wait_transport s.phase) _ s (λ w. refl) h
-event_over s broken h = refl
-
 ended_over : (p : Phase) → is_ended p ≡ true → is_over p ≡ true
-ended_over p h = implied is_ended is_over (refl, refl, refl, refl, refl, refl, refl, refl, refl, refl, refl, refl, refl) p h
+ended_over p h = implied is_ended is_over refl p h
 
-pub event_ended : (s : State) (event : Event) → is_ended s.phase ≡ true → is_ended (after_event s event).phase ≡ true
-event_ended s (called c) h = call_cases (λ r. is_ended r.phase ≡ true) s c h (λ x e. absurd (let o = over_refused s c (ended_over s.phase h) in cc))
-event_ended s (taken said) h = said_kept (λ r. is_ended r.phase ≡ true) s said unit_ended h
-event_ended s (unread fault) h = fault_cases (λ r. is_ended r.phase ≡ true) s fault h (λ o. absurd (let w = ended_over s.phase h in cc))
-event_ended s opened h = awaited_cases (λ r. is_ended r.phase ≡ true) (is_wait_transport s.phase) _ s (λ w. absurd (let o = excluded is_wait_transport is_ended (refl, refl, refl, refl, refl, refl, refl, refl, refl, refl, refl, refl, refl) s.phase w in cc)) h
-event_ended s refused h = awaited_cases (λ r. is_ended r.phase ≡ true) (is_wait_transport s.phase) _ s (λ w. refl) h
-event_ended s broken h = refl
+abbrev IsOver : State → Type 0
+IsOver s = is_over s.phase ≡ true
 
-pub stays_over : (s : State) (events : List Event) → is_over s.phase ≡ true → is_over (after_events s events).phase ≡ true
+abbrev HasEnded : State → Type 0
+HasEnded s = is_ended s.phase ≡ true
+
+pub input_over : (s : Standing) (input : Input) → is_over s.state.phase ≡ true → is_over (after_input s input).state.phase ≡ true
+input_over s (called c) h = call_cases IsOver s c h (λ x e. absurd (let o = over_refused s.state c h in cc))
+input_over s (taken said) h = taken_cases IsOver s said (said_kept IsOver s.state said unit_over h)
+input_over s (unread fault) h = fault_cases IsOver s fault h (λ o. refl)
+input_over s opened h = opened_cases IsOver s (λ w. absurd (let o = excluded is_wait_transport is_over refl s.state.phase w in cc)) h
+input_over s (refused reason) h = refused_cases IsOver s reason (λ w. refl) h
+input_over s broken h = broken_cases IsOver s refl
+
+pub input_ended : (s : Standing) (input : Input) → is_ended s.state.phase ≡ true → is_ended (after_input s input).state.phase ≡ true
+input_ended s (called c) h = call_cases HasEnded s c h (λ x e. absurd (let o = over_refused s.state c (ended_over s.state.phase h) in cc))
+input_ended s (taken said) h = taken_cases HasEnded s said (said_kept HasEnded s.state said unit_ended h)
+input_ended s (unread fault) h = fault_cases HasEnded s fault h (λ o. absurd (let w = ended_over s.state.phase h in cc))
+input_ended s opened h = opened_cases HasEnded s (λ w. absurd (let o = excluded is_wait_transport is_ended refl s.state.phase w in cc)) h
+input_ended s (refused reason) h = refused_cases HasEnded s reason (λ w. refl) h
+input_ended s broken h = broken_cases HasEnded s refl
+
+pub stays_over : (s : Standing) (inputs : List Input) → is_over s.state.phase ≡ true → is_over (after_inputs s inputs).state.phase ≡ true
 stays_over s [] h = h
-stays_over s (event ∷ events) h = stays_over (after_event s event) events (event_over s event h)
+stays_over s (input ∷ inputs) h = stays_over (after_input s input) inputs (input_over s input h)
 
-pub stays_ended : (s : State) (events : List Event) → is_ended s.phase ≡ true → is_ended (after_events s events).phase ≡ true
+pub stays_ended : (s : Standing) (inputs : List Input) → is_ended s.state.phase ≡ true → is_ended (after_inputs s inputs).state.phase ≡ true
 stays_ended s [] h = h
-stays_ended s (event ∷ events) h = stays_ended (after_event s event) events (event_ended s event h)
+stays_ended s (input ∷ inputs) h = stays_ended (after_input s input) inputs (input_ended s input h)

@@ -1,21 +1,21 @@
 -- What an accepted call sends, and what a TSDU is answered by, can be sent.
-use Rattle.std.proofs.Common.{◌≡◌, refl, sym, subst, ℕ, ◌<◌, Bool, true, false, not, ◌&&◌, ◌||◌, nat_le, nat_lt, [], Option, Some, None, Ok, if◌then◌else◌, arith}
+use Rattle.std.proofs.Common.{◌≡◌, refl, sym, subst, ℕ, ◌<◌, Bool, true, false, not, ◌&&◌, nat_le, nat_lt, List, [], ◌∷◌, Option, Some, None, Ok, if◌then◌else◌, arith}
 use Rattle.std.proofs.lemmas.Bool.{leb-true, ltb-true, and_parts}
 use Rattle.osi_session.specs.declared.faults.UnitFault.{UnitFault}
 use Rattle.osi_session.specs.declared.state.State.{State}
 use Rattle.osi_session.specs.Units.{functional_units, has_points, has_data}
-use Rattle.osi_session.specs.Phases.{is_aborting, is_ended, is_restarting}
+use Rattle.osi_session.specs.Phases.{is_aborting, is_ended}
 use Rattle.osi_session.specs.Calls.{Call, Accept, Refuse, Data, Give, Please, Minor, MinorConfirm, Major, MajorConfirm, Restart, RestartConfirm, Release, ReleaseAccept, ReleaseRefuse, Abort, HasSerial}
 use Rattle.osi_message.specs.Meanings.{Meaning, CN, RF, AB, AA}
 use Rattle.osi_message.specs.Numbered.{IsSmall, IsNumbered}
-use Rattle.osi_message.specs.Reading.{Said, alone, behind}
+use Rattle.osi_message.specs.Reading.{Said}
 use Rattle.osi_session.specs.Sound.{IsSound}
-use Rattle.osi_session.specs.Allowed.{Step, last_number, needs, may_call, sends, allowed}
-use Rattle.osi_session.specs.Respond.{Outcome, si, conditions, first_fault, is_expected, has_no_effect, passes_restarting, is_resynchronize, reply_for, first_reply, judged, take_expected, in_aborting, in_ended, respond_unit, respond}
+use Rattle.osi_session.specs.Allowed.{Step, last_number, needs, may_call, sends, allowed, AllHold}
+use Rattle.osi_session.specs.Respond.{Outcome, si, conditions, first_fault, is_expected, drops, reply_for, first_reply, judged, take_expected, in_aborting, in_ended, respond_unit, is_faulty, verdict, respond_all, acting, respond}
 use Rattle.osi_message.specs.Written.{user_data_of}
 use Rattle.osi_message.specs.Sendable.{IsSendable, is_of_version_2}
 use Rattle.osi_session.proofs.CallLaws.{sent_short}
-use Rattle.osi_session.proofs.Passed.{passed, AllHold}
+use Rattle.osi_session.proofs.Passed.{passed}
 
 sends_version : (s : State) (c : Call) → is_of_version_2 (sends s c) ≡ true
 sends_version s (Accept requirements serial sides octets) = refl
@@ -126,21 +126,21 @@ unfolding respond_unit
 unit_replies s u =
     either_replies (is_aborting s.phase) _ _ (aborting_replies s u)
     (either_replies (is_ended s.phase) _ _ (ended_replies s u)
-    (either_replies (has_no_effect u || (is_restarting s.phase && not (passes_restarting u))) _ _ tt
+    (either_replies (drops s u) _ _ tt
     (either_replies (not (is_expected s.phase u)) _ _ (abort_sendable 5) (expected_replies s u))))
 
 first_sendable : (a b : Option Meaning) → CanBeSent a → CanBeSent b → CanBeSent (first_reply a b)
 first_sendable None b h k = k
 first_sendable (Some m) b h k = h
 
-respond_replies : (s : State) (said : Said) → Replies (respond s said)
-unfolding respond
-respond_replies s (alone u) = unit_replies s u
-respond_replies s (behind item u) =
-    either_replies (is_resynchronize u) _ _ (unit_replies s u)
-    (first_sendable (respond_unit s u).reply (respond_unit (respond_unit s u).next item).reply
-    (unit_replies s u) (unit_replies (respond_unit s u).next item))
+all_replies : (s : State) (us : List Meaning) → Replies (respond_all s us)
+unfolding respond_all
+all_replies s [] = tt
+all_replies s (u ∷ us) =
+    either_replies (is_faulty (verdict s u)) _ _ (unit_replies s u)
+    (first_sendable (respond_unit s u).reply (respond_all (respond_unit s u).next us).reply
+    (unit_replies s u) (all_replies (respond_unit s u).next us))
 
 -- what a TSDU is answered by can be sent
 pub reply_can_be_sent : (s : State) (said : Said) (m : Meaning) → (respond s said).reply ≡ Some m → IsSendable m
-reply_can_be_sent s said m e = subst CanBeSent e (respond_replies s said)
+reply_can_be_sent s said m e = subst CanBeSent e (all_replies s (acting said))

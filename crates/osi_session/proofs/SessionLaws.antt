@@ -20,8 +20,7 @@ use Rattle.osi_session.specs.Respond.{Outcome, respond}
 use Rattle.osi_session.specs.Sessions.{awaiting, asking}
 use Rattle.osi_session.proofs.SoundCalls.{call_sound, call_begun}
 use Rattle.osi_session.proofs.SoundNumbers.{from_ordered}
-use Rattle.osi_session.proofs.SoundUnits.{respond_sound}
-use Rattle.osi_session.proofs.Begun.{respond_begun}
+use Rattle.osi_session.proofs.TsduLaws.{respond_sound, respond_begun}
 
 -- the number of an Accept in memory is one that a point may have
 pub request_small : (r : Request) → HasSerial (called_by r)

@@ -14,8 +14,8 @@ use Rattle.osi_session.specs.Phases.{in_major, is_restart_due, may_hold, may_giv
 use Rattle.osi_session.specs.State.{without_tokens}
 use Rattle.osi_session.specs.Sound.{IsSound, AreOrdered}
 use Rattle.osi_session.specs.Calls.{Call, Accept, Refuse, Data, Give, Please, Minor, MinorConfirm, Major, MajorConfirm, Restart, RestartConfirm, Release, ReleaseAccept, ReleaseRefuse, Abort, HasSerial}
-use Rattle.osi_session.specs.Allowed.{Step, opened_with, is_confirmable, is_restartable, last_number, needs, may_call, after, allowed}
-use Rattle.osi_session.proofs.Passed.{passed, AllHold}
+use Rattle.osi_session.specs.Allowed.{Step, opened_with, is_confirmable, is_restartable, last_number, needs, may_call, after, allowed, AllHold}
+use Rattle.osi_session.proofs.Passed.{passed}
 use Rattle.osi_session.proofs.PhaseLaws.{implied, excluded}
 use Rattle.osi_session.proofs.SoundNumbers.{from_ordered, sent_ordered, minor_ordered, major_ordered, restart_ordered}
 
@@ -73,7 +73,7 @@ minor_moved s n c p h =
     let from = leb-true s.numbers.confirmed n (and_parts _ _ a).0 in
     let to = ltb-true n s.numbers.next (and_parts _ _ a).1 in
     moved (minor_confirmed n s.numbers) s (minor_ordered s.base n s.numbers h.ordered from to) h.major
-    (excluded may_confirm_minor is_restart_due (refl, refl, refl, refl, refl, refl, refl, refl, refl, refl, refl, refl, refl) s.phase p) h
+    (excluded may_confirm_minor is_restart_due refl s.phase p) h
 
 restart_moved : (s : State) (n : ℕ) (w : TokenSetting) → is_restartable s n ≡ true → IsSound s
     → IsSound (record (without_tokens Restarting s) { wishes = w; numbers = restarted_at n s.numbers })
@@ -118,22 +118,22 @@ after_sound s (Give tokens) small p t h =
       first = h.first;
       major = h.major;
       restart = h.restart;
-      tokens = λ k. absurd (let m = implied may_give may_hold (refl, refl, refl, refl, refl, refl, refl, refl, refl, refl, refl, refl, refl) s.phase p in cc);
+      tokens = λ k. absurd (let m = implied may_give may_hold refl s.phase p in cc);
     }
 after_sound s (Please tokens octets) small p t h = h
 after_sound s (Minor confirm octets) small p t h =
     let left = leb-true s.numbers.next last_number t.1.1.0 in
     let from = h.ordered.confirmed_from in let to = h.ordered.confirmed_to in
     moved (point_sent s.numbers) s (sent_ordered s.base s.numbers h.ordered (omega arith))
-    (λ k. absurd (let m = excluded is_ready in_major (refl, refl, refl, refl, refl, refl, refl, refl, refl, refl, refl, refl, refl) s.phase p in cc))
-    (excluded is_ready is_restart_due (refl, refl, refl, refl, refl, refl, refl, refl, refl, refl, refl, refl, refl) s.phase p) h
+    (λ k. absurd (let m = excluded is_ready in_major refl s.phase p in cc))
+    (excluded is_ready is_restart_due refl s.phase p) h
 after_sound s (MinorConfirm n octets) small p t h = minor_moved s n t.1.0 p h
 after_sound s (Major octets) small p t h =
     let left = leb-true s.numbers.next last_number t.1.1.0 in
     major_moved s (omega arith) h
 after_sound s (MajorConfirm octets) small p t h = holding_phase Ready (record s { numbers = major_confirmed s.numbers }) refl refl refl
     (moved (major_confirmed s.numbers) s (major_ordered s.base s.numbers h.ordered) (major_same s h)
-    (excluded is_major_due is_restart_due (refl, refl, refl, refl, refl, refl, refl, refl, refl, refl, refl, refl, refl) s.phase p) h)
+    (excluded is_major_due is_restart_due refl s.phase p) h)
 after_sound s (Restart n wishes octets) small p t h = restart_moved s n _ t.1.0 h
 after_sound s (RestartConfirm sides octets) small p t h =
     record { ordered = h.ordered; first = h.first; major = λ k. absurd (cc); restart = λ k. absurd (cc); tokens = λ k. absurd (cc) }
@@ -146,11 +146,11 @@ after_sound s (Abort octets) small p t h = bare Aborting s refl refl h
 pub after_begun : (s : State) (c : Call) → may_call s.phase c ≡ true → is_wait_transport (after s c).phase ≡ false
 after_begun s (Accept requirements serial sides octets) p = refl
 after_begun s (Refuse octets) p = refl
-after_begun s (Data octets) p = excluded is_ready is_wait_transport (refl, refl, refl, refl, refl, refl, refl, refl, refl, refl, refl, refl, refl) s.phase p
-after_begun s (Give tokens) p = excluded may_give is_wait_transport (refl, refl, refl, refl, refl, refl, refl, refl, refl, refl, refl, refl, refl) s.phase p
-after_begun s (Please tokens octets) p = excluded may_ask is_wait_transport (refl, refl, refl, refl, refl, refl, refl, refl, refl, refl, refl, refl, refl) s.phase p
-after_begun s (Minor confirm octets) p = excluded is_ready is_wait_transport (refl, refl, refl, refl, refl, refl, refl, refl, refl, refl, refl, refl, refl) s.phase p
-after_begun s (MinorConfirm n octets) p = excluded may_confirm_minor is_wait_transport (refl, refl, refl, refl, refl, refl, refl, refl, refl, refl, refl, refl, refl) s.phase p
+after_begun s (Data octets) p = excluded is_ready is_wait_transport refl s.phase p
+after_begun s (Give tokens) p = excluded may_give is_wait_transport refl s.phase p
+after_begun s (Please tokens octets) p = excluded may_ask is_wait_transport refl s.phase p
+after_begun s (Minor confirm octets) p = excluded is_ready is_wait_transport refl s.phase p
+after_begun s (MinorConfirm n octets) p = excluded may_confirm_minor is_wait_transport refl s.phase p
 after_begun s (Major octets) p = refl
 after_begun s (MajorConfirm octets) p = refl
 after_begun s (Restart n wishes octets) p = refl

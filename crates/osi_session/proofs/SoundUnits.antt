@@ -7,20 +7,15 @@ use Rattle.osi_session.specs.declared.faults.UnitFault.{UnitFault}
 use Rattle.osi_session.specs.declared.state.State.{State}
 use Rattle.osi_session.specs.Units.{functional_units, both_units, has_points}
 use Rattle.osi_session.specs.Numbers.{point_taken, minor_confirmed, major_confirmed, restarted_at}
-use Rattle.osi_session.specs.Phases.{in_major, is_restart_due, may_hold, may_ask, is_ready, is_wait_cn, is_major_asked, is_aborting, is_ended, is_restarting, takes_minor_ack}
+use Rattle.osi_session.specs.Phases.{in_major, is_restart_due, may_hold, may_ask, is_ready, is_wait_cn, is_major_asked, is_aborting, is_ended, takes_minor_ack}
 use Rattle.osi_session.specs.State.{without_tokens}
 use Rattle.osi_session.specs.Sound.{IsSound}
 use Rattle.osi_message.specs.Meanings.{Meaning, CN, AC, RF, DT, GT, PT, MIP, MIA, MAP, MAA, RS, RA, FN, DN, NF, AB, AA}
-use Rattle.osi_message.specs.Reading.{Said, alone, behind}
-use Rattle.osi_message.specs.Numbered.{IsSmall, IsNumbered, AreNumbered}
-use Rattle.osi_session.specs.Respond.{Outcome, Condition, si, conditions, first_fault, is_expected, is_acceptable, is_acknowledgeable, is_resynchronize, stands, becomes, judged, take_expected, in_aborting, in_ended, has_no_effect, passes_restarting, respond_unit, respond}
+use Rattle.osi_message.specs.Numbered.{IsSmall, IsNumbered}
+use Rattle.osi_session.specs.Respond.{Outcome, Condition, si, conditions, first_fault, is_expected, is_acceptable, is_acknowledgeable, stands, becomes, judged, take_expected, in_aborting, in_ended, drops, respond_unit, AllMet}
 use Rattle.osi_session.proofs.PhaseLaws.{implied, excluded}
 use Rattle.osi_session.proofs.SoundNumbers.{taken_ordered, minor_ordered, major_ordered, restart_ordered}
 use Rattle.osi_session.proofs.SoundCalls.{bare, holding_phase, moved, opened}
-
-abbrev pub AllMet : List Condition → Type 0
-AllMet [] = Unit {0}
-AllMet (c ∷ cs) = (c.0 ≡ true) × AllMet cs
 
 none_if : (b : Bool) (a : Option UnitFault) (f : UnitFault) → (if b then a else Some f) ≡ None → (b ≡ true) × (a ≡ None)
 none_if true a f h = (refl, h)
@@ -55,7 +50,7 @@ minor_moved s n c p h =
     let from = leb-true s.numbers.confirmed n (and_parts _ _ a).0 in
     let to = below (is_major_asked s.phase) n s.numbers.next (and_parts _ _ a).1 in
     moved (minor_confirmed n s.numbers) s (minor_ordered s.base n s.numbers h.ordered from to) h.major
-    (excluded takes_minor_ack is_restart_due (refl, refl, refl, refl, refl, refl, refl, refl, refl, refl, refl, refl, refl) s.phase p) h
+    (excluded takes_minor_ack is_restart_due refl s.phase p) h
 
 restart_moved : (s : State) (n : ℕ) (w : TokenSetting) → s.base ≤ n → n ≤ 999999 → IsSound s
     → IsSound (record (without_tokens RestartDue s) { wishes = w; numbers = restarted_at n s.numbers })
@@ -97,7 +92,7 @@ becomes_sound s (CN version_2 requirements serial wishes octets) small p t h =
       first = first_small serial small;
       major = λ k. absurd (cc);
       restart = λ k. absurd (cc);
-      tokens = λ k. h.tokens (excluded is_wait_cn may_hold (refl, refl, refl, refl, refl, refl, refl, refl, refl, refl, refl, refl, refl) s.phase p);
+      tokens = λ k. h.tokens (excluded is_wait_cn may_hold refl s.phase p);
     })
     (bare Ended s refl refl h)
 becomes_sound s (AC version_2 requirements serial sides octets) small p t h =
@@ -110,18 +105,18 @@ becomes_sound s (GT tokens) small p t h =
       first = h.first;
       major = h.major;
       restart = h.restart;
-      tokens = λ k. absurd (let m = implied may_ask may_hold (refl, refl, refl, refl, refl, refl, refl, refl, refl, refl, refl, refl, refl) s.phase p in cc);
+      tokens = λ k. absurd (let m = implied may_ask may_hold refl s.phase p in cc);
     }
 becomes_sound s (PT tokens octets) small p t h = h
 becomes_sound s (MIP confirm n octets) small p t h =
     moved (point_taken s.numbers) s (taken_ordered s.base s.numbers h.ordered (same_small n s.numbers.next t.1.1.0 small))
-    (λ k. absurd (let m = excluded is_ready in_major (refl, refl, refl, refl, refl, refl, refl, refl, refl, refl, refl, refl, refl) s.phase p in cc))
-    (excluded is_ready is_restart_due (refl, refl, refl, refl, refl, refl, refl, refl, refl, refl, refl, refl, refl) s.phase p) h
+    (λ k. absurd (let m = excluded is_ready in_major refl s.phase p in cc))
+    (excluded is_ready is_restart_due refl s.phase p) h
 becomes_sound s (MIA n octets) small p t h = minor_moved s n t.1.0 p h
 becomes_sound s (MAP n octets) small p t h = major_moved s (same_small n s.numbers.next t.1.1.0 small) h
 becomes_sound s (MAA n octets) small p t h = holding_phase Ready (record s { numbers = major_confirmed s.numbers }) refl refl refl
     (moved (major_confirmed s.numbers) s (major_ordered s.base s.numbers h.ordered) (major_same s h)
-    (excluded is_major_asked is_restart_due (refl, refl, refl, refl, refl, refl, refl, refl, refl, refl, refl, refl, refl) s.phase p) h)
+    (excluded is_major_asked is_restart_due refl s.phase p) h)
 becomes_sound s (RS kind n wishes octets) small p t h =
     chosen (stands s n) _ _ (restart_moved s n wishes (leb-true s.base n (and_parts _ _ t.1.0).0) small h) h
 becomes_sound s (RA n sides octets) small p t h =
@@ -164,14 +159,6 @@ unfolding respond_unit
 unit_sound s u small h =
     either (is_aborting s.phase) _ _ (λ k. aborting_sound s u h) (λ k.
     either (is_ended s.phase) _ _ (λ l. ended_sound s u h) (λ l.
-    either (has_no_effect u || (is_restarting s.phase && not (passes_restarting u))) _ _ (λ m. h) (λ m.
+    either (drops s u) _ _ (λ m. h) (λ m.
     either (not (is_expected s.phase u)) _ _ (λ n. bare Aborting s refl refl h) (λ n.
     expected_sound s u small (not_false (is_expected s.phase u) n) h))))
-
--- a TSDU keeps what is true at all times
-pub respond_sound : (s : State) (said : Said) → AreNumbered said → IsSound s → IsSound (respond s said).next
-unfolding respond
-respond_sound s (alone u) small h = unit_sound s u small h
-respond_sound s (behind item u) small h =
-    either (is_resynchronize u) _ _ (λ k. unit_sound s u small.1 h)
-    (λ k. unit_sound (respond_unit s u).next item small.0 (unit_sound s u small.1 h))

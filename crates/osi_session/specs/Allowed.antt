@@ -1,5 +1,5 @@
 -- The table of calls: the first error that applies, or the new state and the unit that is sent.
-use Rattle.std.specs.Prelude.{ℕ, ◌-◌, Bool, true, not, ◌&&◌, ◌||◌, if◌then◌else◌, nat_le, nat_lt, List, [], ◌∷◌, length, Option, Some, None, Result, Ok, Err}
+use Rattle.std.specs.Prelude.{◌≡◌, ℕ, ◌-◌, Bool, true, not, ◌&&◌, ◌||◌, if◌then◌else◌, nat_le, nat_lt, List, [], ◌∷◌, length, Option, Some, None, Result, Ok, Err}
 use Rattle.osi_spdu.specs.declared.fields.ResyncType.TheVariants as resync
 use Rattle.osi_session.specs.declared.phases.Phase.{Phase}
 use Rattle.osi_session.specs.declared.phases.Phase.TheVariants.{Ready, MajorAsked, Releasing, Restarting, Aborting, Ended}
@@ -70,6 +70,10 @@ holding b = (b, error.TokenNotHeld)
 abbrev pub numbers_left : State → Test
 numbers_left s = (nat_le s.numbers.next last_number, error.SerialsUsedUp)
 
+-- a point: its unit is selected, its tokens are there, and there is a number for it
+abbrev pub point_needs : State → Bool → Bool → List Test
+point_needs s unit rights = selected unit ∷ holding rights ∷ numbers_left s ∷ []
+
 -- the phases in which a call is allowed
 abbrev pub may_call : Phase → Call → Bool
 may_call p (Accept requirements serial sides octets) = is_answering p
@@ -99,12 +103,10 @@ needs s (Give tokens) =
 needs s (Please tokens octets) =
     selected (is_within tokens (available s.units)) ∷ (is_disjoint tokens s.held, error.TokenAlreadyHeld)
     ∷ (not (is_empty tokens), error.Empty) ∷ []
-needs s (Minor confirm octets) =
-    selected s.units.minor ∷ holding (has_right s token.data_token && has_right s token.minor) ∷ numbers_left s ∷ []
+needs s (Minor confirm octets) = point_needs s s.units.minor (has_right s token.data_token && has_right s token.minor)
 needs s (MinorConfirm n octets) = selected s.units.minor ∷ (is_confirmable s.numbers n, error.BadNumber) ∷ []
 needs s (Major octets) =
-    selected s.units.major ∷ holding (has_right s token.data_token && (has_right s token.minor && has_right s token.major))
-    ∷ numbers_left s ∷ []
+    point_needs s s.units.major (has_right s token.data_token && (has_right s token.minor && has_right s token.major))
 needs s (Restart n wishes octets) = selected s.units.resynchronize ∷ (is_restartable s n, error.BadNumber) ∷ []
 -- with duplex no token says who may ask, so only the caller may
 needs s (Release octets) = holding (each (has_right s) && (not s.units.duplex || s.is_caller)) ∷ []
@@ -207,3 +209,14 @@ allowed s c =
     if is_over s.phase then Err error.Ended
     else if not (may_call s.phase c) then Err error.BadState
     else sized (nat_le (length (octets_of c)) (most_of c)) (met s c)
+
+abbrev pub AllHold : List Test → Type 0
+AllHold [] = Unit {0}
+AllHold (t ∷ ts) = (t.0 ≡ true) × AllHold ts
+
+-- what an accepted call passed, and what it gives
+pub record Passed (s : State) (c : Call) (x : Step) : Type 0 where
+  pub phase : may_call s.phase c ≡ true
+  pub needed : AllHold (needs s c)
+  pub size : nat_le (length (octets_of c)) (most_of c) ≡ true
+  pub gives : x ≡ record { next = after s c; sent = sends s c }

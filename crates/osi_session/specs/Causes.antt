@@ -1,5 +1,6 @@
--- What opens_connection a connection, what gives a token to this side, and what sets the numbers anew.
+-- What opens a connection, what gives a token to this side, and what sets the numbers anew.
 use Rattle.std.specs.Prelude.{Bool, true, false, not, ◌&&◌, ◌||◌}
+use Rattle.std.specs.List.{list_any}
 use Rattle.osi_session.specs.declared.state.State.{State}
 use Rattle.osi_session.specs.declared.sides.Sides.{Sides}
 use Rattle.osi_session.specs.declared.selected.FunctionalUnits.{FunctionalUnits}
@@ -8,13 +9,13 @@ use Rattle.osi_session.specs.Units.{functional_units, both_units, available}
 use Rattle.osi_session.specs.Sides.{settle, stated, side_for, is_asker}
 use Rattle.osi_session.specs.Calls.{Call, Accept, Restart, RestartConfirm}
 use Rattle.osi_message.specs.Meanings.{Meaning, AC, GT, RS, RA}
-use Rattle.osi_message.specs.Reading.{Said, alone, behind}
-use Rattle.osi_session.specs.Runs.{Event, called, taken}
+use Rattle.osi_message.specs.Reading.{Said}
+use Rattle.osi_session.specs.Respond.{acting}
+use Rattle.osi_session.specs.Moves.{Input, called, taken}
 
--- one of the units of a TSDU
+-- one of the units of a TSDU that act
 abbrev pub some_unit : (Meaning → Bool) → Said → Bool
-some_unit p (alone u) = p u
-some_unit p (behind item u) = p u || p item
+some_unit p said = list_any p (acting said)
 
 -- ---- a connection is opened, and after a restart opened again
 
@@ -28,7 +29,7 @@ unit_opens (AC version_2 requirements serial sides octets) = true
 unit_opens (RA n sides octets) = true
 unit_opens _ = false
 
-abbrev pub opens_connection : Event → Bool
+abbrev pub opens_connection : Input → Bool
 opens_connection (called c) = call_opens c
 opens_connection (taken said) = some_unit unit_opens said
 opens_connection _ = false
@@ -67,7 +68,7 @@ unit_renews (AC version_2 requirements serial sides octets) = true
 unit_renews (RS kind n wishes octets) = true
 unit_renews _ = false
 
-abbrev pub renews : Event → Bool
+abbrev pub renews : Input → Bool
 renews (called c) = call_renews c
 renews (taken said) = some_unit unit_renews said
 renews _ = false

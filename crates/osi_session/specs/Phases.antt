@@ -1,5 +1,5 @@
 -- Sets of phases.
-use Rattle.std.specs.Prelude.{Bool, true, false}
+use Rattle.std.specs.Prelude.{Bool, true, false, ◌&&◌}
 use Rattle.osi_session.specs.declared.phases.Phase.{Phase}
 use Rattle.osi_session.specs.declared.phases.Phase.TheVariants.{WaitTransport, WaitCn, Connecting, Answering, Ready, MajorAsked, MajorDue, Releasing, ReleaseDue, Restarting, RestartDue, Aborting, Ended}
 
@@ -143,3 +143,9 @@ shows_loss WaitCn = false
 shows_loss Aborting = false
 shows_loss Ended = false
 shows_loss _ = true
+
+-- a test that each phase passes
+abbrev pub every_phase : (Phase → Bool) → Bool
+every_phase f =
+    f WaitTransport && (f WaitCn && (f Connecting && (f Answering && (f Ready && (f MajorAsked && (f MajorDue
+    && (f Releasing && (f ReleaseDue && (f Restarting && (f RestartDue && (f Aborting && f Ended)))))))))))

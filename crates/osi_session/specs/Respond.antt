@@ -1,6 +1,6 @@
 -- The table of units: what the user is shown, what is sent, whether the transport connection is
--- closed, and the new state.
-use Rattle.std.specs.Prelude.{ℕ, ◌+◌, Bool, true, false, not, ◌&&◌, ◌||◌, if◌then◌else◌, ◌==◌, nat_le, nat_lt, List, [], ◌∷◌, ◌++◌, Option, Some, None, unwrap_or, is_none}
+-- closed, and the new state; then the units of a TSDU, one after the other.
+use Rattle.std.specs.Prelude.{◌≡◌, ℕ, ◌+◌, Bool, true, false, not, ◌&&◌, ◌||◌, if◌then◌else◌, ◌==◌, nat_le, nat_lt, List, [], ◌∷◌, ◌++◌, Option, Some, None, unwrap_or, is_none}
 use Rattle.osi_spdu.specs.declared.kinds.Kind.{Kind}
 use Rattle.osi_spdu.specs.declared.kinds.Kind.TheVariants as kind
 use Rattle.osi_spdu.specs.Kinds.{si_of}
@@ -13,14 +13,14 @@ use Rattle.osi_session.specs.declared.faults.UnitFault.{UnitFault}
 use Rattle.osi_session.specs.declared.faults.UnitFault.TheVariants.{Spelling, Unexpected, NotSelected, TokenHeld, BadNumber, BadTokens}
 use Rattle.osi_session.specs.declared.state.State.{State}
 use Rattle.osi_session.specs.declared.selected.FunctionalUnits.{FunctionalUnits}
-use Rattle.osi_message.specs.Tokens.{Token, has, no_token, is_empty, is_within, is_disjoint, united}
+use Rattle.osi_message.specs.Tokens.{Token, has, no_token, is_empty, is_within, is_disjoint, united, token_octet}
 use Rattle.osi_message.specs.Tokens as token
 use Rattle.osi_session.specs.Units.{functional_units, both_units, has_data, has_points, available}
 use Rattle.osi_session.specs.Sides.{stated, of_asker, answers_wishes}
 use Rattle.osi_session.specs.Numbers.{point_taken, minor_confirmed, major_confirmed, restarted_at}
 use Rattle.osi_session.specs.Phases.{is_wait_cn, is_connecting, is_ready, is_major_asked, is_releasing, is_restarting, is_aborting, is_ended, is_over, shows_loss, may_ask, takes_data, takes_please, takes_minor_ack, takes_restart}
 use Rattle.osi_session.specs.State.{without_tokens}
-use Rattle.osi_session.specs.Allowed.{opened_with}
+use Rattle.osi_session.specs.Allowed.{base_for, opened_with}
 use Rattle.osi_message.specs.Meanings.{Meaning, CN, AC, RF, DT, GT, PT, MIP, MIA, MAP, MAA, RS, RA, FN, DN, NF, AB, AA}
 use Rattle.osi_message.specs.Reading.{Said, alone, behind, names}
 use Rattle.osi_session.specs.Shown.{Shown, Connect, Connected, RefusedBySession, Data, Given, Asked, Minor, MinorConfirmed, Major, MajorConfirmed, Restart, Restarted, Release, Released, ReleaseRefused, Aborted, Lost, PeerAbort, BadUnit}
@@ -108,6 +108,10 @@ is_restart resync.Restart = true
 is_restart resync.Abandon = false
 is_restart resync.Set = false
 
+-- a point: its unit is selected, this side holds none of its tokens, and its number is V(M)
+abbrev pub point_conditions : State → Bool → Bool → ℕ → List Condition
+point_conditions s unit lacking n = (unit, NotSelected) ∷ (lacking, TokenHeld) ∷ (n == s.numbers.next, BadNumber) ∷ []
+
 -- what a unit has to meet, in the order of its faults
 abbrev pub conditions : State → Meaning → List Condition
 conditions s (AC version_2 requirements serial sides octets) =
@@ -116,12 +120,10 @@ conditions s (AC version_2 requirements serial sides octets) =
 conditions s (DT octets) = (lacks s token.data_token, TokenHeld) ∷ []
 conditions s (GT tokens) = (is_within tokens (available s.units) && is_disjoint tokens s.held, BadTokens) ∷ []
 conditions s (PT tokens octets) = (is_within tokens (available s.units), BadTokens) ∷ []
-conditions s (MIP confirm n octets) =
-    (s.units.minor, NotSelected) ∷ (lacks s token.data_token && lacks s token.minor, TokenHeld) ∷ (n == s.numbers.next, BadNumber) ∷ []
+conditions s (MIP confirm n octets) = point_conditions s s.units.minor (lacks s token.data_token && lacks s token.minor) n
 conditions s (MIA n octets) = (s.units.minor, NotSelected) ∷ (is_acknowledgeable s n, BadNumber) ∷ []
 conditions s (MAP n octets) =
-    (s.units.major, NotSelected) ∷ (lacks s token.data_token && (lacks s token.minor && lacks s token.major), TokenHeld)
-    ∷ (n == s.numbers.next, BadNumber) ∷ []
+    point_conditions s s.units.major (lacks s token.data_token && (lacks s token.minor && lacks s token.major)) n
 conditions s (MAA n octets) = (n + 1 == s.numbers.next, BadNumber) ∷ []
 conditions s (RS kind n wishes octets) =
     (s.units.resynchronize && is_restart kind, NotSelected)
@@ -147,7 +149,7 @@ is_acceptable version_2 requirements = version_2 && has_data (functional_units r
 
 -- the first number: the AC's, or the CN's where the AC names none
 abbrev pub agreed_base : FunctionalUnits → Option ℕ → ℕ → ℕ
-agreed_base units serial proposed = if has_points units then unwrap_or serial proposed else 0
+agreed_base units serial proposed = base_for units (unwrap_or serial proposed)
 
 -- the state after a good unit
 abbrev pub becomes : State → Meaning → State
@@ -184,8 +186,8 @@ shown_for s (AC version_2 requirements serial sides octets) =
     Connected requirements serial (stated (both_units s.units (functional_units requirements)) sides) octets ∷ []
 shown_for s (RF reason octets) = RefusedBySession reason octets ∷ []
 shown_for s (DT octets) = Data octets ∷ []
-shown_for s (GT tokens) = Given tokens ∷ []
-shown_for s (PT tokens octets) = Asked tokens octets ∷ []
+shown_for s (GT tokens) = Given (token_octet tokens) ∷ []
+shown_for s (PT tokens octets) = Asked (token_octet tokens) octets ∷ []
 shown_for s (MIP confirm n octets) = Minor n confirm octets ∷ []
 shown_for s (MIA n octets) = MinorConfirmed n octets ∷ []
 shown_for s (MAP n octets) = Major n octets ∷ []
@@ -234,6 +236,10 @@ passes_restarting (RA n sides octets) = true
 passes_restarting (AB bits octets) = true
 passes_restarting _ = false
 
+-- what is discarded: a token item that names no token, and while a restart is awaited all but these three
+abbrev pub drops : State → Meaning → Bool
+drops s u = has_no_effect u || (is_restarting s.phase && not (passes_restarting u))
+
 abbrev pub in_aborting : State → Meaning → Outcome
 in_aborting s (AB bits octets) = record (nothing (without_tokens Ended s)) { closes = true }
 in_aborting s AA = record (nothing (without_tokens Ended s)) { closes = true }
@@ -252,7 +258,7 @@ unfoldable pub respond_unit : State → Meaning → Outcome
 respond_unit s u =
     if is_aborting s.phase then in_aborting s u
     else if is_ended s.phase then in_ended s u
-    else if has_no_effect u || (is_restarting s.phase && not (passes_restarting u)) then nothing s
+    else if drops s u then nothing s
     else if not (is_expected s.phase u) then bad s (Unexpected (si u))
     else take_expected s u
 
@@ -269,23 +275,90 @@ abbrev pub is_resynchronize : Meaning → Bool
 is_resynchronize (RS kind n wishes octets) = true
 is_resynchronize _ = false
 
+-- a bad unit is the one that is answered by AB
+abbrev pub replies_abort : Option Meaning → Bool
+replies_abort (Some (AB bits octets)) = true
+replies_abort _ = false
+
+-- GT or PT
+abbrev pub is_token_item : Meaning → Bool
+is_token_item (GT tokens) = true
+is_token_item (PT tokens octets) = true
+is_token_item _ = false
+
 abbrev pub first_reply : Option Meaning → Option Meaning → Option Meaning
 first_reply None b = b
 first_reply (Some a) b = Some a
 
--- one outcome, and the unit that acts after it
-abbrev pub and_then : Outcome → Meaning → Outcome
-and_then first u = record {
-  next = (respond_unit first.next u).next;
-  shown = first.shown ++ (respond_unit first.next u).shown;
-  reply = first_reply first.reply (respond_unit first.next u).reply;
-  closes = first.closes || (respond_unit first.next u).closes;
+-- one outcome, and the one of what acts after it
+abbrev pub and_then : Outcome → Outcome → Outcome
+and_then first second = record {
+  next = second.next;
+  shown = first.shown ++ second.shown;
+  reply = first_reply first.reply second.reply;
+  closes = first.closes || second.closes;
 }
 
--- the units of a TSDU; a token item acts after the unit behind it, and before an RS has no effect
-unfoldable pub respond : State → Said → Outcome
-respond s (alone u) = respond_unit s u
-respond s (behind item u) = if is_resynchronize u then respond_unit s u else and_then (respond_unit s u) item
+-- what becomes of a unit: the connection is over; it is discarded; it is bad, by its first fault; it is good
+pub data Verdict : Type 0 where
+  over : Verdict
+  dropped : Verdict
+  faulty : (fault : UnitFault) → Verdict
+  fine : Verdict
+
+abbrev pub by_fault : Option UnitFault → Verdict
+by_fault None = fine
+by_fault (Some fault) = faulty fault
+
+abbrev pub verdict : State → Meaning → Verdict
+verdict s u =
+    if is_over s.phase then over
+    else if drops s u then dropped
+    else if not (is_expected s.phase u) then faulty (Unexpected (si u))
+    else by_fault (first_fault (si u) (conditions s u))
+
+-- what a verdict means
+abbrev pub enacted : State → Meaning → Verdict → Outcome
+enacted s u over = if is_aborting s.phase then in_aborting s u else in_ended s u
+enacted s u dropped = nothing s
+enacted s u (faulty fault) = bad s fault
+enacted s u fine = good s u
+
+abbrev pub is_faulty : Verdict → Bool
+is_faulty over = false
+is_faulty dropped = false
+is_faulty (faulty fault) = true
+is_faulty fine = false
+
+-- the state after a unit that is good, or that is discarded
+abbrev pub after_unit : State → Meaning → State
+after_unit s u = if drops s u then s else becomes s u
+
+abbrev pub AllMet : List Condition → Type 0
+AllMet [] = Unit {0}
+AllMet (c ∷ cs) = (c.0 ≡ true) × AllMet cs
+
+-- a unit that the phase expects and that meets each of its conditions
+pub record IsGood (s : State) (u : Meaning) : Type 0 where
+  pub expected : is_expected s.phase u ≡ true
+  pub met : AllMet (conditions s u)
+
+-- units, one after the other; the first that is bad is the last that acts
+unfoldable pub respond_all : State → List Meaning → Outcome
+respond_all s [] = nothing s
+respond_all s (u ∷ us) =
+    if is_faulty (verdict s u) then respond_unit s u
+    else and_then (respond_unit s u) (respond_all (respond_unit s u).next us)
+
+-- the units of a TSDU in the order in which they act: a token item acts after those behind it, and
+-- where one of these is an RS it does not act
+unfoldable pub acting : Said → List Meaning
+acting (alone u) = u ∷ []
+acting (behind item u) = if is_resynchronize u then u ∷ [] else u ∷ item ∷ []
+
+-- the units of a TSDU
+abbrev pub respond : State → Said → Outcome
+respond s said = respond_all s (acting said)
 
 -- a TSDU that is no session units
 unfoldable pub respond_fault : State → SpduFault → Outcome

@@ -1,14 +1,12 @@
--- What the user is shown.
+-- What the user is shown; tokens by their octet.
 use Rattle.std.specs.Prelude.{ℕ, Bool, List, Option}
 use Rattle.osi_spdu.specs.declared.settings.TokenSetting.{TokenSetting}
 use Rattle.osi_session.specs.declared.sides.Sides.{Sides}
-use Rattle.osi_message.specs.declared.tokens.Tokens.{Tokens}
 use Rattle.osi_session.specs.declared.faults.UnitFault.{UnitFault}
 use Rattle.osi_session.specs.declared.indications.Indication.{Indication}
 use Rattle.osi_session.specs.declared.indications.Indication.TheVariants as indication
 use Rattle.osi_session.specs.declared.indications.AbortCause.{AbortCause}
 use Rattle.osi_session.specs.declared.indications.AbortCause.TheVariants as cause
-use Rattle.osi_message.specs.Tokens.{named}
 
 pub data Shown : Type 0 where
   Connect : (requirements : ℕ) (serial : Option ℕ) (wishes : TokenSetting) (octets : List ℕ) → Shown
@@ -16,8 +14,8 @@ pub data Shown : Type 0 where
   RefusedByTransport : (reason : ℕ) → Shown
   RefusedBySession : (reason : ℕ) (octets : List ℕ) → Shown
   Data : (octets : List ℕ) → Shown
-  Given : (tokens : Tokens) → Shown
-  Asked : (tokens : Tokens) (octets : List ℕ) → Shown
+  Given : (tokens : ℕ) → Shown
+  Asked : (tokens : ℕ) (octets : List ℕ) → Shown
   Minor : (number : ℕ) (confirm : Bool) (octets : List ℕ) → Shown
   MinorConfirmed : (number : ℕ) (octets : List ℕ) → Shown
   Major : (number : ℕ) (octets : List ℕ) → Shown
@@ -44,8 +42,8 @@ shown_by (indication.Connected requirements serial sides octets) = Connected req
 shown_by (indication.RefusedByTransport reason) = RefusedByTransport reason
 shown_by (indication.RefusedBySession reason octets) = RefusedBySession reason octets
 shown_by (indication.Data octets) = Data octets
-shown_by (indication.Given tokens) = Given (named tokens.0)
-shown_by (indication.Asked tokens octets) = Asked (named tokens.0) octets
+shown_by (indication.Given tokens) = Given tokens.0
+shown_by (indication.Asked tokens octets) = Asked tokens.0 octets
 shown_by (indication.Minor number confirm octets) = Minor number confirm octets
 shown_by (indication.MinorConfirmed number octets) = MinorConfirmed number octets
 shown_by (indication.Major number octets) = Major number octets

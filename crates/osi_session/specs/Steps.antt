@@ -1,6 +1,7 @@
 -- What calls and units in memory answer.
-use Rattle.std.specs.Prelude.{◌≡◌, false, List, [], ◌∷◌, ◌++◌, Option, Some, None, option_map, Result, Ok, Err}
+use Rattle.std.specs.Prelude.{◌≡◌, if◌then◌else◌, false, List, [], ◌∷◌, ◌++◌, Option, Some, None, option_map, Result, Ok, Err}
 use Rattle.osi_session.specs.declared.faults.CallError.{CallError}
+use Rattle.osi_session.specs.declared.state.State.{State}
 use Rattle.osi_session.specs.declared.calling.Step as memory
 use Rattle.osi_message.specs.Meanings.{Meaning, meant_by}
 use Rattle.osi_session.specs.declared.indications.Indication.{Indication}
@@ -11,7 +12,7 @@ use Rattle.osi_session.specs.declared.grouping.Reactions.{Reactions}
 use Rattle.osi_message.specs.Meanings.{RF, AB, AA}
 use Rattle.osi_session.specs.Shown.{Shown, shown_by}
 use Rattle.osi_session.specs.Allowed.{Step, Answer}
-use Rattle.osi_session.specs.Respond.{Outcome, is_silent}
+use Rattle.osi_session.specs.Respond.{Outcome, is_silent, is_resynchronize, replies_abort, respond_unit, and_then}
 
 abbrev pub step_of : memory.Step → Step
 step_of s = record { next = s.next; sent = meant_by s.sent }
@@ -52,3 +53,10 @@ outcome_of_all r = record {
 abbrev pub ReactsAll : {E : Type 0} → Result Reactions E → Outcome → Type 0
 ReactsAll (Ok r) outcome = outcome ≡ outcome_of_all r
 ReactsAll (Err e) outcome = is_silent outcome ≡ false
+
+-- a unit, and the token item in front of it, which acts after it unless the unit is an RS or bad
+unfoldable pub behind_unit : State → Meaning → Meaning → Outcome
+behind_unit s item u =
+    if is_resynchronize u then respond_unit s u
+    else if replies_abort (respond_unit s u).reply then respond_unit s u
+    else and_then (respond_unit s u) (respond_unit (respond_unit s u).next item)

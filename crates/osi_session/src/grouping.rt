@@ -2,10 +2,9 @@
 
 ghost use Rattle.std.specs.Prelude.{◌≡◌};
 ghost use Rattle.osi_message.specs.Meanings.{meant_by};
-ghost use Rattle.osi_message.specs.Reading.{behind};
-ghost use Rattle.osi_session.specs.Respond.{respond};
 ghost use Rattle.osi_message.specs.Tsdus.{said_in};
-ghost use Rattle.osi_session.specs.Steps.{ReactsAll, outcome_of, outcome_of_all};
+ghost use Rattle.osi_session.specs.Respond.{respond_unit, respond};
+ghost use Rattle.osi_session.specs.Steps.{ReactsAll, behind_unit, outcome_of, outcome_of_all};
 
 use crate::indications::Indication;
 use crate::reactions::{Reaction, Reply};
@@ -39,23 +38,26 @@ impl Reactions {
     }
 }
 
-/// A unit, and the token item that stands before it and acts after it. Before an RS it has no
-/// effect, and is not checked.
-#[tactic(auto, unfolding(crate::specs::Respond::respond), using(crate::proofs::GroupLaws::first_loud, crate::proofs::GroupLaws::second_loud))]
+/// A unit, and the token item that stands before it and acts after it. Before an RS it does not act,
+/// nor behind a bad unit.
+#[tactic(auto, unfolding(crate::specs::Steps::behind_unit), using(crate::proofs::GroupLaws::first_loud, crate::proofs::GroupLaws::second_loud))]
 fn take_behind(
     alloc: Global,
     state: &State,
     item: Message<'_>,
     unit: Message<'_>,
 ) -> Result<Reactions, AllocError>
-    ensures { ReactsAll result (respond state.now (behind (meant_by item.entry) (meant_by unit.entry))) }
+    ensures { ReactsAll result (behind_unit state.now (meant_by item.entry) (meant_by unit.entry)) }
 {
     let restarts = is_restart(&unit);
     let first = take_unit(alloc, state, unit)?;
-    if restarts {
+    if restarts || first.is_bad() {
         return Ok(Reactions::of(first));
     }
-    let second = take_unit(alloc, &first.next, item)?;
+    let second = match take_unit(alloc, &first.next, item) {
+        Ok(second) => second,
+        Err(error) => return Err(error),
+    };
     Ok(Reactions {
         next: second.next,
         first: first.shown,
@@ -68,8 +70,15 @@ fn take_behind(
     })
 }
 
+/// A unit that acts alone.
+fn take_alone(alloc: Global, state: &State, unit: Message<'_>) -> Result<Reactions, AllocError>
+    ensures { ReactsAll result (respond_unit state.now (meant_by unit.entry)) }
+{
+    let reaction = take_unit(alloc, state, unit)?;
+    Ok(Reactions::of(reaction))
+}
+
 /// What the units of a TSDU do.
-#[tactic(auto, unfolding(crate::specs::Respond::respond))]
 pub(crate) fn take_all(
     alloc: Global,
     state: &State,
@@ -78,10 +87,7 @@ pub(crate) fn take_all(
     ensures { ReactsAll result (respond state.now (said_in messages.entry)) }
 {
     match messages.second {
-        None => {
-            let reaction = take_unit(alloc, state, messages.first)?;
-            Ok(Reactions::of(reaction))
-        }
+        None => take_alone(alloc, state, messages.first),
         Some(second) => take_behind(alloc, state, messages.first, second),
     }
 }

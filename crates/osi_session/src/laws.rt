@@ -1,10 +1,8 @@
 //! Laws of the definitions that the contracts cite. Each function does nothing: its clauses are the
 //! laws.
 
-ghost use Rattle.std.specs.Prelude.{◌≡◌, ◌+◌, ◌<◌, ◌≤◌, ◌⊎◌, ℕ, true, false, ◌||◌, length, List, [], ◌∷◌, Some, Ok};
-ghost use Rattle.std.specs.declared.alloc.AllocError.{AllocError};
+ghost use Rattle.std.specs.Prelude.{◌≡◌, ◌+◌, ◌<◌, ◌≤◌, ◌⊎◌, ℕ, true, false, ◌||◌, if◌then◌else◌, length, List, [], ◌∷◌, Some, Ok};
 ghost use Rattle.std.specs.List.{AllByRecursion, list_any};
-ghost use Rattle.osi_spdu.specs.declared.faults.SpduFault.{SpduFault};
 ghost use Rattle.osi_spdu.specs.declared.fields.ResyncType.{ResyncType};
 ghost use Rattle.osi_spdu.specs.declared.settings.TokenSetting.{TokenSetting};
 ghost use Rattle.osi_spdu.specs.Known.{Units};
@@ -13,19 +11,19 @@ ghost use Rattle.osi_spdu.specs.Writing.{tsdu_octets};
 ghost use Rattle.osi_session.specs.declared.opening.Opening.{Opening};
 ghost use Rattle.osi_session.specs.declared.requests.Request.{Request};
 ghost use Rattle.osi_session.specs.declared.state.State.{State};
-ghost use Rattle.osi_session.specs.declared.taken.Taken.{Taken};
 ghost use Rattle.osi_message.specs.declared.tokens.Tokens.{Tokens};
-ghost use Rattle.osi_session.specs.Allowed.{Step, allowed};
+ghost use Rattle.osi_session.specs.Allowed.{Step, allowed, Passed};
 ghost use Rattle.osi_session.specs.Calls.{Call, Give, MinorConfirm, HasSerial, called_by};
 ghost use Rattle.osi_session.specs.Causes.{opens_connection, call_gives, unit_gives, renews};
 ghost use Rattle.osi_message.specs.Meanings.{Meaning, MIA, RS};
 ghost use Rattle.osi_session.specs.Numbers.{lower};
 ghost use Rattle.osi_session.specs.Phases.{is_over, is_ended, is_restarting, is_restart_due, may_hold};
-ghost use Rattle.osi_message.specs.Reading.{Said, alone, said_by_units};
-ghost use Rattle.osi_session.specs.Respond.{respond_unit, respond, respond_fault, stands, lost};
+ghost use Rattle.osi_message.specs.Reading.{Said, alone, behind, said_by_units};
+ghost use Rattle.osi_session.specs.Moves.{Input, called, taken, Standing, after_input, after_inputs};
+ghost use Rattle.osi_session.specs.Respond.{nothing, respond_unit, respond, stands, drops, verdict, enacted, fine, IsGood, has_no_effect, is_token_item, is_resynchronize, and_then};
 ghost use Rattle.osi_session.specs.Restarts.{HasAsked, AreCrossed, after_restart};
-ghost use Rattle.osi_session.specs.Runs.{Event, called, taken, unread, opened, refused, broken, after_event, after_events, HasNumbers, IsFresh};
-ghost use Rattle.osi_session.specs.Sessions.{Standing, Calls, Takes, awaiting, after_opened, after_refused, asking};
+ghost use Rattle.osi_session.specs.Runs.{HasNumbers, IsFresh};
+ghost use Rattle.osi_session.specs.Sessions.{awaiting, asking};
 ghost use Rattle.osi_session.specs.Shown.{MinorConfirmed};
 ghost use Rattle.osi_session.specs.Sound.{IsSound};
 ghost use Rattle.osi_message.specs.Tokens.{Token, has};
@@ -50,19 +48,38 @@ pub fn what_is_sent_can_be_sent()
     ensures replied { (s : State) (said : Said) (m : Meaning) → (respond s said).reply ≡ Some m → IsSendable m }
 {}
 
-/// The calls of a session that succeed leave the state of an event, so that the laws over lists of
-/// events are laws over lists of its calls; a call that fails changes nothing. The numbers in each call
-/// and in the units of each TSDU are those that a point may have.
-pub fn a_session_runs_by_events()
-    ensures call { (c : Call) (sent : List ℕ) (old new : Standing) → Calls (Ok sent) (allowed old.state c) old new →
-        new.state ≡ after_event old.state (called c) }
-    ensures take { (t : Taken) (said : Said) (old new : Standing) → Takes {E = AllocError} (Ok t) (respond old.state said) old new →
-        new.state ≡ after_event old.state (taken said) }
-    ensures take_bad { (t : Taken) (fault : SpduFault) (old new : Standing) →
-        Takes {E = AllocError} (Ok t) (respond_fault old.state fault) old new → new.state ≡ after_event old.state (unread fault) }
-    ensures opened { (s : Standing) → (after_opened s).state ≡ after_event s.state opened }
-    ensures refused { (s : Standing) → (after_refused s).state ≡ after_event s.state refused }
-    ensures broken { (s : State) → (lost s).next ≡ after_event s broken }
+/// What becomes of a unit: the table of units enacts its verdict. A unit that is not discarded, that
+/// the phase expects and that meets its conditions is good.
+pub fn what_becomes_of_a_unit()
+    ensures enacted { (s : State) (u : Meaning) → respond_unit s u ≡ enacted s u (verdict s u) }
+    ensures good { (s : State) (u : Meaning) → is_over s.phase ≡ false → drops s u ≡ false → IsGood s u → verdict s u ≡ fine }
+{}
+
+/// A token item that names no token changes nothing, in a TSDU of its own or in front of a unit; so
+/// what is said of a unit does what the unit does.
+pub fn an_empty_token_item_changes_nothing()
+    ensures item { (s : State) (item : Meaning) → has_no_effect item ≡ true → respond_unit s item ≡ nothing s }
+    ensures in_front { (s : State) (item u : Meaning) → has_no_effect item ≡ true → respond s (behind item u) ≡ respond_unit s u }
+    ensures said { (s : State) (u : Meaning) → respond s (said_of u) ≡ respond_unit s u }
+{}
+
+/// A TSDU of one unit does what the unit does. Of two units the token item acts after the other, and
+/// in front of an RS it does not act.
+pub fn what_two_units_do()
+    ensures alone { (s : State) (u : Meaning) → respond s (alone u) ≡ respond_unit s u }
+    ensures behind { (s : State) (item u : Meaning) → is_token_item item ≡ true → respond s (behind item u) ≡
+        (if is_resynchronize u then respond_unit s u else and_then (respond_unit s u) (respond_unit (respond_unit s u).next item)) }
+{}
+
+/// An accepted call passed each test of its row, in its phase, with user data that is short enough,
+/// and gives what the row says; and a call that passes each test is accepted.
+pub fn what_an_accepted_call_passed()
+    ensures passed { (s : State) (c : Call) (x : Step) → allowed s c ≡ Ok x → Passed s c x }
+    ensures accepted { (s : State) (c : Call) (x : Step) → Passed s c x → allowed s c ≡ Ok x }
+{}
+
+/// The numbers in a call, and in the units of a TSDU, are those that a point may have.
+pub fn what_happens_has_numbers()
     ensures request { (request : Request) → HasNumbers (called (called_by request)) }
     ensures units { (units : Units) → HasNumbers (taken (said_by_units units)) }
 {}
@@ -75,23 +92,22 @@ pub fn numbers_stay_in_order()
     ensures called { IsFresh awaiting }
     ensures caller { (o : Opening) → IsFresh (asking o) }
     ensures begins { (s : State) → IsFresh s → IsSound s }
-    ensures kept { (s : State) (events : List Event) → AllByRecursion HasNumbers events → IsSound s → IsSound (after_events s events) }
+    ensures kept { (s : Standing) (inputs : List Input) → AllByRecursion HasNumbers inputs → IsSound s.state → IsSound (after_inputs s inputs).state }
 {}
 
-/// Over every list of events a session that is aborted or ended stays so, and one that is ended
-/// stays ended.
+/// Whatever happens, a session that is aborted or ended stays so, and one that is ended stays ended.
 pub fn an_ended_session_stays_ended()
-    ensures over { (s : State) (events : List Event) → is_over s.phase ≡ true → is_over (after_events s events).phase ≡ true }
-    ensures ended { (s : State) (events : List Event) → is_ended s.phase ≡ true → is_ended (after_events s events).phase ≡ true }
+    ensures over { (s : Standing) (inputs : List Input) → is_over s.state.phase ≡ true → is_over (after_inputs s inputs).state.phase ≡ true }
+    ensures ended { (s : Standing) (inputs : List Input) → is_ended s.state.phase ≡ true → is_ended (after_inputs s inputs).state.phase ≡ true }
 {}
 
 /// Tokens come to be held only where a connection is opened: by a call of Accept or RestartConfirm, or
-/// by a TSDU with an AC or an RA. The same over every list of events.
+/// by a TSDU with an AC or an RA. The same over whatever happens.
 pub fn what_opens_a_connection()
-    ensures event { (s : State) (event : Event) → may_hold s.phase ≡ false → may_hold (after_event s event).phase ≡ true →
-        opens_connection event ≡ true }
-    ensures events { (s : State) (events : List Event) → may_hold s.phase ≡ false →
-        may_hold (after_events s events).phase ≡ true → list_any opens_connection events ≡ true }
+    ensures input { (s : Standing) (input : Input) → may_hold s.state.phase ≡ false →
+        may_hold (after_input s input).state.phase ≡ true → opens_connection input ≡ true }
+    ensures inputs { (s : Standing) (inputs : List Input) → may_hold s.state.phase ≡ false →
+        may_hold (after_inputs s inputs).state.phase ≡ true → list_any opens_connection inputs ≡ true }
 {}
 
 /// Tokens that are given were held, and are not held after. A token is held after a call or a unit
@@ -125,7 +141,7 @@ pub fn a_restart_that_crosses_another()
 {}
 
 /// A confirmation of a minor point raises V(A) to the number after it: a MinorConfirm that is accepted,
-/// and an MIA that is shown. V(A) does not fall over any list of events in which no connection is
+/// and an MIA that is shown. V(A) does not fall over any list of inputs in which no connection is
 /// opened by Accept or AC and no restart is asked for or taken; and an RS that does not stand changes
 /// no number.
 pub fn what_is_confirmed_stays_confirmed()
@@ -133,9 +149,9 @@ pub fn what_is_confirmed_stays_confirmed()
         (s.numbers.confirmed ≤ n) × (x.next.numbers.confirmed ≡ n + 1) }
     ensures unit { (s : State) (n : ℕ) (octets : List ℕ) → (respond_unit s (MIA n octets)).shown ≡ MinorConfirmed n octets ∷ [] →
         (respond_unit s (MIA n octets)).next.numbers.confirmed ≡ n + 1 }
-    ensures kept { (s : State) (events : List Event) → AllByRecursion HasNumbers events →
-        AllByRecursion (λ e. renews e ≡ false) events → IsSound s →
-        s.numbers.confirmed ≤ (after_events s events).numbers.confirmed }
+    ensures kept { (s : Standing) (inputs : List Input) → AllByRecursion HasNumbers inputs →
+        AllByRecursion (λ i. renews i ≡ false) inputs → IsSound s.state →
+        s.state.numbers.confirmed ≤ (after_inputs s inputs).state.numbers.confirmed }
     ensures yielded { (s : State) (kind : ResyncType) (n : ℕ) (wishes : TokenSetting) (octets : List ℕ) → stands s n ≡ false →
         (respond_unit s (RS kind n wishes octets)).next.numbers ≡ s.numbers }
 {}

@@ -1,5 +1,5 @@
 ghost use Rattle.std.specs.Prelude.{◌≡◌, []};
-ghost use Rattle.osi_session.specs.Respond.{nothing, shows, bad, lost};
+ghost use Rattle.osi_session.specs.Respond.{nothing, shows, bad, lost, replies_abort};
 ghost use Rattle.osi_session.specs.Shown.{shown_by};
 ghost use Rattle.osi_session.specs.Steps.{outcome_of, reply_of};
 ghost use Rattle.osi_message.specs.Meanings.{meant_by};
@@ -107,6 +107,13 @@ impl Reaction {
             reply: Some(Reply::ProtocolError),
             closes: false,
         }
+    }
+
+    /// Whether the unit was bad.
+    pub(crate) fn is_bad(&self) -> bool
+        ensures { result ≡ replies_abort (outcome_of self.now).reply }
+    {
+        matches!(self.reply, Some(Reply::ProtocolError))
     }
 
     /// The transport connection was closed or broken, or had a fault.

@@ -1,0 +1,220 @@
+-- What becomes of a unit, and of a token item that names no token.
+use Rattle.std.proofs.Common.{inl, inr, ◌≡◌, refl, sym, ◌∙◌, ap, subst, Bool, true, false, not, ◌||◌, List, [], ◌∷◌, ◌++◌, Option, Some, None, if◌then◌else◌}
+use Rattle.std.proofs.lemmas.Bool.{cases_Bool}
+use Rattle.std.proofs.lemmas.List.{append-nil}
+use Rattle.osi_session.specs.declared.phases.Phase.TheVariants.{Aborting}
+use Rattle.osi_session.specs.declared.faults.UnitFault.{UnitFault}
+use Rattle.osi_session.specs.declared.faults.UnitFault.TheVariants.{Unexpected}
+use Rattle.osi_session.specs.declared.state.State.{State}
+use Rattle.osi_message.specs.Tokens.{no_token, is_empty}
+use Rattle.osi_session.specs.Phases.{is_aborting, is_ended, is_over}
+use Rattle.osi_session.specs.State.{without_tokens}
+use Rattle.osi_message.specs.Meanings.{Meaning, CN, AC, RF, DT, GT, PT, MIP, MIA, MAP, MAA, RS, RA, FN, DN, NF, AB, AA}
+use Rattle.osi_message.specs.Reading.{Said, alone, behind}
+use Rattle.osi_session.specs.Units.{functional_units, has_data}
+use Rattle.osi_message.specs.Written.{is_second}
+use Rattle.osi_message.specs.Sendable.{said_of}
+use Rattle.osi_session.specs.Respond.{Outcome, Condition, si, conditions, first_fault, is_expected, drops, nothing, good, bad, judged, take_expected, in_aborting, in_ended, has_no_effect, is_token_item, is_resynchronize, reply_for, first_reply, replies_abort, respond_unit, and_then, Verdict, over, dropped, faulty, fine, by_fault, verdict, enacted, is_faulty, AllMet, IsGood, respond_all, acting, respond}
+use Rattle.osi_session.specs.Steps.{behind_unit}
+use Rattle.osi_session.proofs.PhaseLaws.{implied, every_is}
+
+live : (s : State) (u : Meaning) (d x : Bool) (f : Option UnitFault) →
+    (if d then nothing s else if not x then bad s (Unexpected (si u)) else judged s u f)
+    ≡ enacted s u (if d then dropped else if not x then faulty (Unexpected (si u)) else by_fault f)
+live s u true x f = refl
+live s u false false f = refl
+live s u false true None = refl
+live s u false true (Some fault) = refl
+
+neither : (a e o : Bool) → (not o || (a || e)) ≡ true → a ≡ false → e ≡ false → o ≡ false
+neither a e false w h k = refl
+neither true e true w h k = absurd (cc)
+neither false true true w h k = absurd (cc)
+neither false false true w h k = absurd (cc)
+
+not_over : (s : State) → is_aborting s.phase ≡ false → is_ended s.phase ≡ false → is_over s.phase ≡ false
+not_over s a e = neither _ _ _ (every_is (λ p. not (is_over p) || (is_aborting p || is_ended p)) refl s.phase) a e
+
+-- the table of units enacts the verdict
+pub enacts : (s : State) (u : Meaning) → respond_unit s u ≡ enacted s u (verdict s u)
+unfolding respond_unit take_expected
+enacts s u = elim (cases_Bool (is_aborting s.phase)) [
+  | inl a ↦ let o = implied is_aborting is_over refl s.phase a in rw (a, o, a) refl
+  | inr a ↦ elim (cases_Bool (is_ended s.phase)) [
+    | inl e ↦ let o = implied is_ended is_over refl s.phase e in rw (a, e, o, a) refl
+    | inr e ↦ let o = not_over s a e in rw (a, e, o) (live s u (drops s u) (is_expected s.phase u) (first_fault (si u) (conditions s u)))
+  ]
+]
+
+all_passed : (s : State) (u : Meaning) (cs : List Condition) → AllMet cs → first_fault (si u) cs ≡ None
+all_passed s u [] h = refl
+all_passed s u (c ∷ cs) h = rw h.0 (all_passed s u cs h.1)
+
+-- a unit that is not discarded, that the phase expects and that meets its conditions is good
+pub good_is_fine : (s : State) (u : Meaning) → is_over s.phase ≡ false → drops s u ≡ false → IsGood s u → verdict s u ≡ fine
+good_is_fine s u o d h = let f = all_passed s u (conditions s u) h.met in let x = h.expected in rw (o, d, x, f) refl
+
+-- ---- a token item that names no token
+
+same_of : (a e : Bool) (o : Outcome) → (if a then o else if e then o else o) ≡ o
+same_of true e o = refl
+same_of false true o = refl
+same_of false false o = refl
+
+pub no_effect : (s : State) (u : Meaning) → has_no_effect u ≡ true → respond_unit s u ≡ nothing s
+unfolding respond_unit
+no_effect s (GT tokens) h = rw h (same_of (is_aborting s.phase) (is_ended s.phase) (nothing s))
+no_effect s (PT tokens octets) h = rw h (same_of (is_aborting s.phase) (is_ended s.phase) (nothing s))
+no_effect s _ h = absurd (cc)
+
+reply_none : (r : Option Meaning) → first_reply r None ≡ r
+reply_none None = refl
+reply_none (Some m) = refl
+
+or_false : (b : Bool) → (b || false) ≡ b
+or_false true = refl
+or_false false = refl
+
+pub and_nothing : (o : Outcome) → and_then o (nothing o.next) ≡ o
+and_nothing o =
+    let shown = append-nil o.shown in
+    let reply = reply_none o.reply in
+    let closes = or_false o.closes in
+    λ i. record { next = o.next; shown = shown i; reply = reply i; closes = closes i }
+
+-- a unit by itself
+pub one : (s : State) (u : Meaning) → respond_all s (u ∷ []) ≡ respond_unit s u
+unfolding respond_all
+one s u = by (is_faulty (verdict s u))
+  where
+    by : (b : Bool) → (if b then respond_unit s u else and_then (respond_unit s u) (nothing (respond_unit s u).next)) ≡ respond_unit s u
+    by true = refl
+    by false = and_nothing (respond_unit s u)
+
+same_rest : (b : Bool) (o p q : Outcome) → p ≡ q → (if b then o else and_then o p) ≡ (if b then o else and_then o q)
+same_rest true o p q h = refl
+same_rest false o p q h = ap (and_then o) h
+
+-- behind other units a token item that names no token changes nothing
+pub behind_all : (s : State) (us : List Meaning) (item : Meaning) → has_no_effect item ≡ true → respond_all s (us ++ item ∷ []) ≡ respond_all s us
+unfolding respond_all
+behind_all s [] item h = one s item ∙ no_effect s item h
+behind_all s (u ∷ us) item h = same_rest (is_faulty (verdict s u)) (respond_unit s u) _ _ (behind_all (respond_unit s u).next us item h)
+
+either : (b : Bool) (s : State) (x y : List Meaning) (o : Outcome) → respond_all s x ≡ o → respond_all s y ≡ o → respond_all s (if b then x else y) ≡ o
+either true s x y o h k = h
+either false s x y o h k = k
+
+-- in front of a unit it changes nothing
+pub in_front : (s : State) (item u : Meaning) → has_no_effect item ≡ true → respond s (behind item u) ≡ respond_unit s u
+unfolding acting
+in_front s item u h = either (is_resynchronize u) s (u ∷ []) (u ∷ item ∷ []) (respond_unit s u) (one s u) (behind_all s (u ∷ []) item h ∙ one s u)
+
+pub empty_item : has_no_effect (GT no_token) ≡ true
+unfolding is_empty
+empty_item = refl
+
+pub said_alone : (s : State) (u : Meaning) → respond s (alone u) ≡ respond_unit s u
+unfolding acting
+said_alone s u = one s u
+
+-- what is said of a unit does what the unit does
+pub of_said : (s : State) (u : Meaning) → respond s (said_of u) ≡ respond_unit s u
+of_said s u = by (is_second u)
+  where
+    by : (b : Bool) → respond s (if b then behind (GT no_token) u else alone u) ≡ respond_unit s u
+    by true = in_front s (GT no_token) u empty_item
+    by false = said_alone s u
+
+-- ---- at most one unit behind a token item
+
+faulty_is : (v : Verdict) → is_faulty v ≡ true → (f : UnitFault) × (v ≡ faulty f)
+faulty_is over h = absurd (cc)
+faulty_is dropped h = absurd (cc)
+faulty_is (faulty f) h = (f, refl)
+faulty_is fine h = absurd (cc)
+
+after_abort : (s : State) (item : Meaning) → is_token_item item ≡ true → respond_unit (without_tokens Aborting s) item ≡ nothing (without_tokens Aborting s)
+unfolding respond_unit
+after_abort s (GT tokens) h = refl
+after_abort s (PT tokens octets) h = refl
+after_abort s _ h = absurd (cc)
+
+after_bad : (s : State) (u item : Meaning) → is_token_item item ≡ true → is_faulty (verdict s u) ≡ true
+    → and_then (respond_unit s u) (respond_unit (respond_unit s u).next item) ≡ respond_unit s u
+after_bad s u item t h =
+    let w = faulty_is (verdict s u) h in
+    let e = enacts s u ∙ ap (enacted s u) w.1 in
+    subst (λ (o : Outcome). and_then o (respond_unit o.next item) ≡ o) (sym e)
+    (ap (and_then (bad s w.0)) (after_abort s item t) ∙ and_nothing (bad s w.0))
+
+pub two : (s : State) (u item : Meaning) → is_token_item item ≡ true
+    → respond_all s (u ∷ item ∷ []) ≡ and_then (respond_unit s u) (respond_unit (respond_unit s u).next item)
+unfolding respond_all
+two s u item t = by (is_faulty (verdict s u)) refl
+  where
+    by : (b : Bool) → is_faulty (verdict s u) ≡ b
+        → (if b then respond_unit s u else and_then (respond_unit s u) (respond_all (respond_unit s u).next (item ∷ [])))
+        ≡ and_then (respond_unit s u) (respond_unit (respond_unit s u).next item)
+    by true h = sym (after_bad s u item t h)
+    by false h = ap (and_then (respond_unit s u)) (one (respond_unit s u).next item)
+
+choice : (b : Bool) (s : State) (x y : List Meaning) (o p : Outcome) → respond_all s x ≡ o → respond_all s y ≡ p
+    → respond_all s (if b then x else y) ≡ (if b then o else p)
+choice true s x y o p h k = h
+choice false s x y o p h k = k
+
+-- a token item acts after the unit behind it, and in front of an RS it does not act
+pub item_and_unit : (s : State) (item u : Meaning) → is_token_item item ≡ true →
+    respond s (behind item u) ≡ (if is_resynchronize u then respond_unit s u else and_then (respond_unit s u) (respond_unit (respond_unit s u).next item))
+unfolding acting
+item_and_unit s item u t = choice (is_resynchronize u) s (u ∷ []) (u ∷ item ∷ []) _ _ (one s u) (two s u item t)
+
+-- ---- a bad unit is one that is answered by AB
+
+no_abort_if : (b : Bool) (x y : Option Meaning) → replies_abort x ≡ false → replies_abort y ≡ false → replies_abort (if b then x else y) ≡ false
+no_abort_if true x y h k = h
+no_abort_if false x y h k = k
+
+good_reply : (u : Meaning) → replies_abort (reply_for u) ≡ false
+good_reply (CN version_2 requirements serial wishes octets) =
+    no_abort_if (not version_2) _ _ refl (no_abort_if (not (has_data (functional_units requirements))) _ _ refl refl)
+good_reply (AB bits octets) = refl
+good_reply _ = refl
+
+aborting_reply : (s : State) (u : Meaning) → replies_abort (in_aborting s u).reply ≡ false
+aborting_reply s (AB bits octets) = refl
+aborting_reply s AA = refl
+aborting_reply s _ = refl
+
+ended_reply : (s : State) (u : Meaning) → replies_abort (in_ended s u).reply ≡ false
+ended_reply s (AB bits octets) = refl
+ended_reply s _ = refl
+
+over_reply : (b : Bool) (x y : Outcome) → replies_abort x.reply ≡ false → replies_abort y.reply ≡ false → replies_abort (if b then x else y).reply ≡ false
+over_reply true x y h k = h
+over_reply false x y h k = k
+
+enacted_reply : (s : State) (u : Meaning) (v : Verdict) → replies_abort (enacted s u v).reply ≡ is_faulty v
+enacted_reply s u over = over_reply (is_aborting s.phase) _ _ (aborting_reply s u) (ended_reply s u)
+enacted_reply s u dropped = refl
+enacted_reply s u (faulty f) = refl
+enacted_reply s u fine = good_reply u
+
+pub bad_is_aborted : (s : State) (u : Meaning) → replies_abort (respond_unit s u).reply ≡ is_faulty (verdict s u)
+bad_is_aborted s u = ap (λ (o : Outcome). replies_abort o.reply) (enacts s u) ∙ enacted_reply s u (verdict s u)
+
+-- ---- two units, step by step
+
+-- the second acts unless the first is bad
+pub second_acts : (s : State) (u item : Meaning) → respond_all s (u ∷ item ∷ []) ≡
+    (if replies_abort (respond_unit s u).reply then respond_unit s u
+    else and_then (respond_unit s u) (respond_unit (respond_unit s u).next item))
+unfolding respond_all
+second_acts s u item =
+    same_rest (is_faulty (verdict s u)) (respond_unit s u) _ _ (one (respond_unit s u).next item)
+    ∙ ap (λ (b : Bool). if b then respond_unit s u else and_then (respond_unit s u) (respond_unit (respond_unit s u).next item)) (sym (bad_is_aborted s u))
+
+pub step_by_step : (s : State) (item u : Meaning) → respond s (behind item u) ≡ behind_unit s item u
+unfolding acting behind_unit
+step_by_step s item u = choice (is_resynchronize u) s (u ∷ []) (u ∷ item ∷ []) _ _ (one s u) (second_acts s u item)
