@@ -1,7 +1,7 @@
 //! TSDUs that go over a pair of links, of which one sends and one receives.
 
-use osi_class::{Class0, Class2, Link, Out};
-use osi_tpdu::{DataAcknowledgement, DataClass0, DataClass2, SizeCode, Tpdu, Window};
+use osi_class::{Class0, Class2, Credit, Link};
+use osi_tpdu::{SizeCode, Window};
 use std::alloc::Global;
 
 /// The reference that each unit of class 2 is for.
@@ -38,45 +38,18 @@ impl Moved {
 }
 
 /// Hands the next unit of one end to the other; false where there is none, or it is refused.
-fn pass_class0(from: &mut Class0, to: &mut Class0) -> bool {
+fn pass(from: &mut impl Link, to: &mut impl Link) -> bool {
     match from.next_out() {
-        Some(Out::Data { end, octets, .. }) => to
-            .take(&Tpdu::Dt0(DataClass0 { end, user: octets }))
-            .is_ok(),
-        _ => false,
+        None => false,
+        Some(out) => to.take(&out.unit(REFERENCE)).is_ok(),
     }
-}
-
-/// Hands the next unit of one end to the other; false where there is none, or it is refused.
-fn pass_class2(from: &mut Class2, to: &mut Class2) -> bool {
-    let unit = match from.next_out() {
-        None => return false,
-        Some(
-            Out::Data {
-                end,
-                number,
-                octets,
-            },
-        ) => Tpdu::Dt2(DataClass2 {
-            destination: REFERENCE,
-            number,
-            end,
-            user: octets,
-        }),
-        Some(Out::Ack { number, credit }) => Tpdu::Ak(DataAcknowledgement {
-            credit,
-            destination: REFERENCE,
-            number,
-        }),
-    };
-    to.take(&unit).is_ok()
 }
 
 /// Moves a TSDU over two ends of class 0. A unit has at least one octet, or it is the only one.
 fn move_class0(from: &mut Class0, to: &mut Class0, tsdu: &[u8]) -> Option<Vec<u8>> {
     from.send_tsdu(tsdu).ok()?;
     for _ in 0..=tsdu.len() {
-        if !pass_class0(from, to) {
+        if !pass(from, to) {
             break;
         }
     }
@@ -87,7 +60,7 @@ fn move_class0(from: &mut Class0, to: &mut Class0, tsdu: &[u8]) -> Option<Vec<u8
 fn move_class2(from: &mut Class2, to: &mut Class2, tsdu: &[u8]) -> Option<Vec<u8>> {
     from.send_tsdu(tsdu).ok()?;
     for _ in 0..=tsdu.len() {
-        if !pass_class2(from, to) || !pass_class2(to, from) {
+        if !pass(from, to) || !pass(to, from) {
             break;
         }
     }
@@ -109,7 +82,9 @@ pub(crate) fn over_class0(alloc: Global, tsdu: &[u8], rounds: usize) -> Moved {
 
 /// A link of class 2 with the largest size, window and first credit.
 fn open_class2(alloc: Global) -> Option<Class2> {
-    Class2::new(alloc, SizeCode::new(13), Window::new(15)?, 15)
+    let window = Window::new(15)?;
+    let credit = Credit::new(15)?;
+    Some(Class2::new(alloc, SizeCode::new(13), window, credit))
 }
 
 /// Moves a TSDU so many times over a pair of links of class 2.

@@ -4,7 +4,7 @@ use Rattle.std.proofs.lemmas.Bool.{ltb-true}
 use Rattle.osi_class.specs.Ends.{Ends}
 use Rattle.osi_class.specs.Flow.{Flow, ack_number, after_acked}
 use Rattle.osi_class.specs.Link.{Standing, Given, ack, given_part, next_by, next, sent_flow, two_standing}
-use Rattle.osi_class.specs.Runs.{left_of_tsdus, left_of_acks, left_to_give}
+use Rattle.osi_class.specs.Giving.{left_of_tsdus, left_of_acks, left_to_give}
 use Rattle.osi_class.specs.Tsdus.{Part, give}
 use Rattle.osi_class.proofs.Order.{choose_some, at_some}
 
@@ -21,22 +21,22 @@ give_less limit room (t ∷ more) =
 abbrev Lowers : ℕ → Given × Standing → Type 0
 Lowers n (given, new) = left_to_give new < n
 
-given_lowers : (e : Ends) (flow : Option Flow) (number : ℕ) (o : Option (Part × List (List ℕ))) → IfSome o (Less e.unsent) →
+given_lowers : (e : Ends) (flow : Option Flow) (number : Option ℕ) (o : Option (Part × List (List ℕ))) → IfSome o (Less e.unsent) →
     IfSome (given_part e flow number o) (Lowers (left_of_tsdus e.unsent + left_of_acks flow))
 given_lowers e flow number None less = tt
 given_lowers e flow number (Some ((end, octets), rest)) less = omega arith
 
 next_lowers : (e : Ends) (flow : Option Flow) → 0 < e.limit → IfSome (next_by e flow) (Lowers (left_of_tsdus e.unsent + left_of_acks flow))
-next_lowers e None room = given_lowers e None 0 (give e.limit e.unsent) (give_less e.limit room e.unsent)
+next_lowers e None room = given_lowers e None None (give e.limit e.unsent) (give_less e.limit room e.unsent)
 next_lowers e (Some f) room =
     let n : ℕ = left_of_tsdus e.unsent + f.receiver.waiting in
     choose_some (Lowers n) (nat_lt 0 f.receiver.waiting)
     (Some (ack (ack_number f.receiver) f.receiver.window, two_standing e (record f { receiver = after_acked f.receiver })))
-    (if nat_lt 0 f.sender.credit then given_part e (Some (sent_flow f)) f.sender.next (give e.limit e.unsent) else None)
+    (if nat_lt 0 f.sender.credit then given_part e (Some (sent_flow f)) (Some f.sender.next) (give e.limit e.unsent) else None)
     (λ t. let h : 0 < f.receiver.waiting = ltb-true 0 f.receiver.waiting t in omega arith)
     (λ _. choose_some (Lowers n) (nat_lt 0 f.sender.credit)
-    (given_part e (Some (sent_flow f)) f.sender.next (give e.limit e.unsent)) None
-    (λ _. given_lowers e (Some (sent_flow f)) f.sender.next (give e.limit e.unsent) (give_less e.limit room e.unsent))
+    (given_part e (Some (sent_flow f)) (Some f.sender.next) (give e.limit e.unsent)) None
+    (λ _. given_lowers e (Some (sent_flow f)) (Some f.sender.next) (give e.limit e.unsent) (give_less e.limit room e.unsent))
     (λ _. tt))
 
 pub giving_lowers : (old new : Standing) (given : Given) → 0 < old.ends.limit → next old ≡ Some (given, new) →

@@ -1,20 +1,21 @@
 -- What calls of links of class 2 do to the flow control between them.
-use Rattle.std.proofs.Common.{◌≡◌, ℕ, ◌<◌, ◌≤◌, Bool, true, List, [], ◌∷◌, ◌++◌, Option, Some, None, Result, Ok, Err, inl, inr, refl, sym, ◌∙◌, ap, subst, nat_lt, if◌then◌else◌, IfSome, IfOk}
+use Rattle.std.proofs.Common.{◌≡◌, ℕ, ◌<◌, ◌≤◌, Bool, true, List, [], ◌∷◌, ◌++◌, Option, Some, None, Result, Ok, Err, inl, inr, refl, sym, ◌∙◌, ap, subst, nat_lt, is_some, if◌then◌else◌, IfSome, IfOk}
 use Rattle.std.specs.List.{flat_map}
 use Rattle.std.proofs.lemmas.Bool.{ltb-true}
 use Rattle.std.proofs.lemmas.Grind.{flat_map-append}
 use Rattle.osi_tpdu.specs.Value.{Value, request, confirm, disconnect, disconnected, data0, data2, acknowledge, error}
 use Rattle.osi_class.specs.declared.faults.LinkFault.{LinkFault}
 use Rattle.osi_class.specs.declared.faults.LinkFault.TheVariants.{OutOfSequence}
-use Rattle.osi_class.specs.Between.{Pair, swapped, Comes, LeftMoves, Turn, at_left, at_right, Turns, TurnsAlong, opened_pair}
-use Rattle.osi_class.specs.Credit.{Direction, InStep, write_unit, take_unit, write_ack, take_ack, known_after, opened, owed}
+use Rattle.osi_class.specs.Between.{LinkPair, swapped, Comes, LeftMoves, Turn, at_left, at_right, Turns, TurnsAlong, opened_pair}
+use Rattle.osi_class.specs.Owed.{Direction, InStep, write_unit, take_unit, write_ack, take_ack, known_after, opened, owed}
 use Rattle.osi_class.specs.Directions.{unit_numbers, ack_numbers, direction, HaveFlows, StepsOrStays, TurnSteps, Agree}
 use Rattle.osi_class.specs.Ends.{Ends}
 use Rattle.osi_class.specs.Flow.{Flow, Sender, Receiver, acknowledged, is_awaited, ack_number, after_acked, after_taken, after_sent, fresh_sender, fresh_receiver}
 use Rattle.osi_class.specs.Joining.{Joining, joined}
-use Rattle.osi_class.specs.Link.{Standing, Given, part, ack, given_part, next_by, with_joined, with_sender, taken_by, taken, taken_flow, sent_flow, two_standing}
+use Rattle.osi_class.specs.Link.{Standing, Given, part0, part2, ack, given_part, next_by, with_joined, with_sender, taken_by, taken, taken_flow, sent_flow, two_standing}
 use Rattle.osi_class.specs.Runs.{Move, hand_in, give_out, take_in, hand_out, Moves}
 use Rattle.osi_class.specs.Tsdus.{Part, give}
+use Rattle.osi_class.proofs.Classes.{class_turn}
 use Rattle.osi_class.proofs.Order.{append_nil, choose_some, choose_ok, at_some, at_ok}
 use Rattle.osi_class.proofs.Owed.{step_keeps, step_window, begins}
 
@@ -22,7 +23,8 @@ use Rattle.osi_class.proofs.Owed.{step_keeps, step_window, begins}
 abbrev FlowMoves : Move → Flow → Flow → Type 0
 FlowMoves (hand_in tsdu) f g = g ≡ f
 FlowMoves (hand_out tsdu) f g = g ≡ f
-FlowMoves (give_out (part end number octets)) f g = (0 < f.sender.credit) × (number ≡ f.sender.next) × (g ≡ sent_flow f)
+FlowMoves (give_out (part0 end octets)) f g = ⊥
+FlowMoves (give_out (part2 number end octets)) f g = (0 < f.sender.credit) × (number ≡ f.sender.next) × (g ≡ sent_flow f)
 FlowMoves (give_out (ack number credit)) f g =
     (0 < f.receiver.waiting) × (number ≡ ack_number f.receiver) × (credit ≡ f.receiver.window) × (g ≡ record f { receiver = after_acked f.receiver })
 FlowMoves (take_in (data2 destination number end octets)) f g = (is_awaited f.receiver number ≡ true) × (g ≡ taken_flow f)
@@ -37,7 +39,7 @@ abbrev NextReaches : Flow → Given × Standing → Type 0
 NextReaches f (given, new) = Reaches (give_out given) f new
 
 given_reaches : (e : Ends) (f : Flow) → 0 < f.sender.credit → (o : Option (Part × List (List ℕ))) →
-    IfSome (given_part e (Some (sent_flow f)) f.sender.next o) (NextReaches f)
+    IfSome (given_part e (Some (sent_flow f)) (Some f.sender.next) o) (NextReaches f)
 given_reaches e f credit None = tt
 given_reaches e f credit (Some ((end, octets), rest)) = (sent_flow f, refl, (credit, refl, refl))
 
@@ -45,10 +47,10 @@ next_reaches : (e : Ends) (f : Flow) → IfSome (next_by e (Some f)) (NextReache
 next_reaches e f =
     choose_some (NextReaches f) (nat_lt 0 f.receiver.waiting)
     (Some (ack (ack_number f.receiver) f.receiver.window, two_standing e (record f { receiver = after_acked f.receiver })))
-    (if nat_lt 0 f.sender.credit then given_part e (Some (sent_flow f)) f.sender.next (give e.limit e.unsent) else None)
+    (if nat_lt 0 f.sender.credit then given_part e (Some (sent_flow f)) (Some f.sender.next) (give e.limit e.unsent) else None)
     (λ t. (record f { receiver = after_acked f.receiver }, refl, (ltb-true 0 f.receiver.waiting t, refl, refl, refl)))
     (λ _. choose_some (NextReaches f) (nat_lt 0 f.sender.credit)
-    (given_part e (Some (sent_flow f)) f.sender.next (give e.limit e.unsent)) None
+    (given_part e (Some (sent_flow f)) (Some f.sender.next) (give e.limit e.unsent)) None
     (λ t. given_reaches e f (ltb-true 0 f.sender.credit t) (give e.limit e.unsent))
     (λ _. tt))
 
@@ -106,30 +108,30 @@ none_after : {A : Type 0} (f : Given → List A) (old new more : List Given) →
 none_after f old new more e none =
     after_units f old new more e ∙ ap (λ l. flat_map f old ++ l) none ∙ append_nil (flat_map f old)
 
-take_left : (unit : Value) (old new : Pair) (l g r : Flow) → LeftMoves (take_in unit) old new →
+take_left : (unit : Value) (old new : LinkPair) (l g r : Flow) → LeftMoves (take_in unit) old new →
     Comes (take_in unit) old.leftward new.leftward → FlowMoves (take_in unit) l g →
     StepsOrStays (direction l old r) (direction g new r)
-take_left (data2 destination number end octets) old new l g r m (part e n o, says, comes) (awaited, is) =
+take_left (data2 destination number end octets) old new l g r m (given, says, comes) (awaited, is) =
+    let come : old.leftward ≡ part2 number end octets ∷ new.leftward = comes ∙ ap (λ (x : List Given). x ++ new.leftward) (sym says) in
     inl (make_same g.sender l.sender (flat_map unit_numbers new.rightward) (flat_map unit_numbers old.rightward) r.receiver r.receiver
     (flat_map ack_numbers new.leftward) (flat_map ack_numbers old.leftward)
     (ap (λ (f : Flow). f.sender) is) (none_after unit_numbers old.rightward new.rightward [] m.given refl) refl
-    (sym (ap (λ (x : List Given). flat_map ack_numbers x) comes)))
-take_left (data2 destination number end octets) old new l g r m (ack n c, says, comes) moves = absurd says
-take_left (acknowledge credit destination number) old new l g r m (ack n c, says, comes) (taken, is) =
+    (sym (ap (λ (x : List Given). flat_map ack_numbers x) come)))
+take_left (acknowledge credit destination number) old new l g r m (given, says, comes) (taken, is) =
+    let come : old.leftward ≡ ack number credit ∷ new.leftward = comes ∙ ap (λ (x : List Given). x ++ new.leftward) (sym says) in
     inr (
       take_ack,
       (
-        (n, c),
+        (number, credit),
         flat_map ack_numbers new.leftward,
         g.sender,
-        ap (λ (x : List Given). flat_map ack_numbers x) comes,
-        sym (ap (λ (x : ℕ). acknowledged l.sender x credit) says.0 ∙ ap (λ (x : ℕ). acknowledged l.sender n x) says.1) ∙ taken,
+        ap (λ (x : List Given). flat_map ack_numbers x) come,
+        taken,
         make_same g.sender g.sender (flat_map unit_numbers new.rightward) (flat_map unit_numbers old.rightward) r.receiver r.receiver
             (flat_map ack_numbers new.leftward) (flat_map ack_numbers new.leftward)
             refl (none_after unit_numbers old.rightward new.rightward [] m.given refl) refl refl,
       ),
     )
-take_left (acknowledge credit destination number) old new l g r m (part e n o, says, comes) moves = absurd says
 take_left (data0 end octets) old new l g r m comes moves = absurd moves
 take_left (request c) old new l g r m comes moves = absurd moves
 take_left (confirm destination c) old new l g r m comes moves = absurd moves
@@ -138,7 +140,7 @@ take_left (disconnected destination source) old new l g r m comes moves = absurd
 take_left (error destination cause) old new l g r m comes moves = absurd moves
 
 -- a call at the left link
-left_steps : (move : Move) (old new : Pair) (l g r : Flow) → LeftMoves move old new → FlowMoves move l g →
+left_steps : (move : Move) (old new : LinkPair) (l g r : Flow) → LeftMoves move old new → FlowMoves move l g →
     StepsOrStays (direction l old r) (direction g new r)
 left_steps (hand_in tsdu) old new l g r m e =
     inl (make_same g.sender l.sender (flat_map unit_numbers new.rightward) (flat_map unit_numbers old.rightward) r.receiver r.receiver
@@ -150,7 +152,8 @@ left_steps (hand_out tsdu) old new l g r m e =
     (flat_map ack_numbers new.leftward) (flat_map ack_numbers old.leftward)
     (ap (λ (f : Flow). f.sender) e) (none_after unit_numbers old.rightward new.rightward [] m.given refl) refl
     (ap (λ (x : List Given). flat_map ack_numbers x) (sym m.comes)))
-left_steps (give_out (part end number octets)) old new l g r m (credit, is, e) =
+left_steps (give_out (part0 end octets)) old new l g r m moves = absurd moves
+left_steps (give_out (part2 number end octets)) old new l g r m (credit, is, e) =
     inr (
       write_unit,
       (
@@ -159,7 +162,7 @@ left_steps (give_out (part end number octets)) old new l g r m (credit, is, e) =
             (flat_map unit_numbers new.rightward) (flat_map unit_numbers old.rightward ++ l.sender.next ∷ []) r.receiver r.receiver
             (flat_map ack_numbers new.leftward) (flat_map ack_numbers old.leftward)
             (ap (λ (f : Flow). f.sender) e)
-            (after_units unit_numbers old.rightward new.rightward (part end number octets ∷ []) m.given
+            (after_units unit_numbers old.rightward new.rightward (part2 number end octets ∷ []) m.given
             ∙ ap (λ (n : ℕ). flat_map unit_numbers old.rightward ++ n ∷ []) is) refl
             (ap (λ (x : List Given). flat_map ack_numbers x) (sym m.comes)),
       ),
@@ -171,29 +174,29 @@ left_steps (give_out (ack number credit)) old new l g r m (waiting, is, window, 
     (ap (λ (x : List Given). flat_map ack_numbers x) (sym m.comes)))
 left_steps (take_in unit) old new l g r m moves = take_left unit old new l g r m m.comes moves
 
-take_right : (unit : Value) (old new : Pair) (l r h : Flow) → LeftMoves (take_in unit) (swapped old) (swapped new) →
+take_right : (unit : Value) (old new : LinkPair) (l r h : Flow) → LeftMoves (take_in unit) (swapped old) (swapped new) →
     Comes (take_in unit) old.rightward new.rightward → FlowMoves (take_in unit) r h →
     StepsOrStays (direction l old r) (direction l new h)
-take_right (data2 destination number end octets) old new l r h m (part e n o, says, comes) (awaited, is) =
+take_right (data2 destination number end octets) old new l r h m (given, says, comes) (awaited, is) =
+    let come : old.rightward ≡ part2 number end octets ∷ new.rightward = comes ∙ ap (λ (x : List Given). x ++ new.rightward) (sym says) in
     inr (
       take_unit,
       (
-        n,
+        number,
         flat_map unit_numbers new.rightward,
-        ap (λ (x : List Given). flat_map unit_numbers x) comes,
-        sym (ap (λ (x : ℕ). is_awaited r.receiver x) says.0) ∙ awaited,
+        ap (λ (x : List Given). flat_map unit_numbers x) come,
+        awaited,
         make_same l.sender l.sender (flat_map unit_numbers new.rightward) (flat_map unit_numbers new.rightward) h.receiver (after_taken r.receiver)
             (flat_map ack_numbers new.leftward) (flat_map ack_numbers old.leftward)
             refl refl (ap (λ (f : Flow). f.receiver) is) (none_after ack_numbers old.leftward new.leftward [] m.given refl),
       ),
     )
-take_right (data2 destination number end octets) old new l r h m (ack n c, says, comes) moves = absurd says
-take_right (acknowledge credit destination number) old new l r h m (ack n c, says, comes) (taken, is) =
+take_right (acknowledge credit destination number) old new l r h m (given, says, comes) (taken, is) =
+    let come : old.rightward ≡ ack number credit ∷ new.rightward = comes ∙ ap (λ (x : List Given). x ++ new.rightward) (sym says) in
     inl (make_same l.sender l.sender (flat_map unit_numbers new.rightward) (flat_map unit_numbers old.rightward) h.receiver r.receiver
     (flat_map ack_numbers new.leftward) (flat_map ack_numbers old.leftward)
-    refl (sym (ap (λ (x : List Given). flat_map unit_numbers x) comes)) (ap (λ (f : Flow). f.receiver) is)
+    refl (sym (ap (λ (x : List Given). flat_map unit_numbers x) come)) (ap (λ (f : Flow). f.receiver) is)
     (none_after ack_numbers old.leftward new.leftward [] m.given refl))
-take_right (acknowledge credit destination number) old new l r h m (part e n o, says, comes) moves = absurd says
 take_right (data0 end octets) old new l r h m comes moves = absurd moves
 take_right (request c) old new l r h m comes moves = absurd moves
 take_right (confirm destination c) old new l r h m comes moves = absurd moves
@@ -202,7 +205,7 @@ take_right (disconnected destination source) old new l r h m comes moves = absur
 take_right (error destination cause) old new l r h m comes moves = absurd moves
 
 -- a call at the right link
-right_steps : (move : Move) (old new : Pair) (l r h : Flow) → LeftMoves move (swapped old) (swapped new) → FlowMoves move r h →
+right_steps : (move : Move) (old new : LinkPair) (l r h : Flow) → LeftMoves move (swapped old) (swapped new) → FlowMoves move r h →
     StepsOrStays (direction l old r) (direction l new h)
 right_steps (hand_in tsdu) old new l r h m e =
     inl (make_same l.sender l.sender (flat_map unit_numbers new.rightward) (flat_map unit_numbers old.rightward) h.receiver r.receiver
@@ -214,11 +217,12 @@ right_steps (hand_out tsdu) old new l r h m e =
     (flat_map ack_numbers new.leftward) (flat_map ack_numbers old.leftward)
     refl (ap (λ (x : List Given). flat_map unit_numbers x) (sym m.comes)) (ap (λ (f : Flow). f.receiver) e)
     (none_after ack_numbers old.leftward new.leftward [] m.given refl))
-right_steps (give_out (part end number octets)) old new l r h m (credit, is, e) =
+right_steps (give_out (part0 end octets)) old new l r h m moves = absurd moves
+right_steps (give_out (part2 number end octets)) old new l r h m (credit, is, e) =
     inl (make_same l.sender l.sender (flat_map unit_numbers new.rightward) (flat_map unit_numbers old.rightward) h.receiver r.receiver
     (flat_map ack_numbers new.leftward) (flat_map ack_numbers old.leftward)
     refl (ap (λ (x : List Given). flat_map unit_numbers x) (sym m.comes)) (ap (λ (f : Flow). f.receiver) e)
-    (none_after ack_numbers old.leftward new.leftward (part end number octets ∷ []) m.given refl))
+    (none_after ack_numbers old.leftward new.leftward (part2 number end octets ∷ []) m.given refl))
 right_steps (give_out (ack number credit)) old new l r h m (waiting, is, window, e) =
     let acks = flat_map ack_numbers old.leftward in
     inr (
@@ -236,7 +240,7 @@ right_steps (give_out (ack number credit)) old new l r h m (waiting, is, window,
     )
 right_steps (take_in unit) old new l r h m moves = take_right unit old new l r h m m.comes moves
 
-pub turn_steps : (turn : Turn) (old new : Pair) (l r : Flow) → HaveFlows old l r → Turns turn old new → TurnSteps old l r new
+pub turn_steps : (turn : Turn) (old new : LinkPair) (l r : Flow) → HaveFlows old l r → Turns turn old new → TurnSteps old l r new
 turn_steps (at_left move) old new l r have m =
     let reached = move_reaches move old.left new.left l have.left m.moves in
     record {
@@ -254,17 +258,19 @@ turn_steps (at_right move) old new l r have m =
       steps = right_steps move old new l r reached.0 m reached.2;
     }
 
-agree_turn : (turn : Turn) (old new : Pair) (units : ℕ) → Agree old units → Turns turn old new → Agree new units
+agree_turn : (turn : Turn) (old new : LinkPair) (units : ℕ) → Agree old units → Turns turn old new → Agree new units
 agree_turn turn old new units a m =
     let t = turn_steps turn old new a.left_flow a.right_flow a.have m in
     let before : Direction = direction a.left_flow old a.right_flow in
     let after : Direction = direction t.left_flow new t.right_flow in
+    let class_after = class_turn turn old new true (ap (λ (f : Option Flow). is_some f) a.have.left) a.class m in
     elim t.steps [
       | inl same ↦ record {
         left_flow = t.left_flow;
         right_flow = t.right_flow;
         have = t.have;
         known = a.known;
+        class = class_after;
         in_step = let P : Direction → Type 0 = λ d. InStep d a.known in subst P (sym same) a.in_step;
         window = ap (λ (d : Direction). d.receiver.window) same ∙ a.window;
       }
@@ -273,13 +279,14 @@ agree_turn turn old new units a m =
         right_flow = t.right_flow;
         have = t.have;
         known = known_after made.0 a.known;
+        class = class_after;
         in_step = step_keeps made.0 before after a.known a.in_step made.1;
         window = step_window made.0 before after made.1 ∙ a.window;
       }
     ]
 
-pub agree_turns : (turns : List Turn) (old new : Pair) (units : ℕ) → Agree old units → TurnsAlong old turns new → Agree new units
-agree_turns [] old new units a e = let P : Pair → Type 0 = λ p. Agree p units in subst P (sym e) a
+pub agree_turns : (turns : List Turn) (old new : LinkPair) (units : ℕ) → Agree old units → TurnsAlong old turns new → Agree new units
+agree_turns [] old new units a e = let P : LinkPair → Type 0 = λ p. Agree p units in subst P (sym e) a
 agree_turns (turn ∷ turns) old new units a (mid, first, rest) =
     agree_turns turns mid new units (agree_turn turn old mid units a first) rest
 
@@ -295,7 +302,8 @@ agree_begins left right l r units is_l is_r sender receiver small =
       known = 0;
       in_step = let P : Direction → Type 0 = λ d. InStep d 0 in subst P (sym same) (begins units small);
       window = ap (λ (x : Receiver). x.window) receiver;
+      class = tt;
     }
 
-pub agree_owed : (p : Pair) (units : ℕ) (a : Agree p units) → owed (direction a.left_flow p a.right_flow) ≡ units
+pub agree_owed : (p : LinkPair) (units : ℕ) (a : Agree p units) → owed (direction a.left_flow p a.right_flow) ≡ units
 agree_owed p units a = a.in_step.owed ∙ a.window

@@ -1,11 +1,17 @@
+pub mod Arrival
+pub mod Classes
 pub mod Ending
 pub mod Flows
+pub mod Giving
 pub mod Moves
 pub mod Nothing
 pub mod Numbers
+pub mod Oldest
 pub mod Order
 pub mod Owed
+pub mod RoomLaws
 pub mod SendLaws
 pub mod Short
+pub mod SoundLaws
 pub mod TakeLaws
 pub mod Ways

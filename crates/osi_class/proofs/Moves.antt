@@ -8,7 +8,7 @@ use Rattle.osi_class.specs.Ends.{Ends}
 use Rattle.osi_class.specs.Flow.{Flow, Sender, acknowledged, is_awaited, ack_number, after_acked}
 use Rattle.osi_class.specs.Joining.{Joining, joined}
 use Rattle.osi_class.specs.Link.{Standing, Given, ack, given_part, next_by, next, with_joined, with_sender, taken_by, taken, taken_flow, sent_flow, two_standing}
-use Rattle.osi_class.specs.Runs.{Move, hand_in, give_out, take_in, hand_out, Moves, Run, given_parts, unit_parts, tsdu_in, part_out, part_in, tsdu_out, tsdus_in, parts_out, parts_in, tsdus_out}
+use Rattle.osi_class.specs.Runs.{Move, hand_in, give_out, take_in, hand_out, Moves, MovesAlong, given_parts, unit_parts, tsdu_in, part_out, part_in, tsdu_out, tsdus_in, parts_out, parts_in, tsdus_out}
 use Rattle.osi_class.specs.Tsdus.{Part, tsdus_after, uncut, give, MakeTheSame}
 use Rattle.osi_class.proofs.Order.{choose_some, choose_ok, at_some, at_ok, same_behind_all, Cuts, give_cuts, made, joined_makes, JoinsPart}
 
@@ -34,24 +34,28 @@ no_takes old new e = record { same = λ later. ap (λ (j : Joining). made j late
 abbrev pub NextKeeps : Ends → Given × Standing → Type 0
 NextKeeps e (g, new) = Keeps e new.ends (given_parts g) [] [] []
 
-given_keeps : (e : Ends) (flow : Option Flow) (number : ℕ) (o : Option (Part × List (List ℕ))) →
+given_keeps : (e : Ends) (flow : Option Flow) (number : Option ℕ) (o : Option (Part × List (List ℕ))) →
     IfSome o (Cuts e.unsent) → IfSome (given_part e flow number o) (NextKeeps e)
 given_keeps e flow number None cuts = cuts
-given_keeps e flow number (Some ((end, octets), rest)) cuts = record {
+given_keeps e flow None (Some ((end, octets), rest)) cuts = record {
+  sends = record { same = cuts };
+  takes = record { same = λ later. refl };
+}
+given_keeps e flow (Some number) (Some ((end, octets), rest)) cuts = record {
   sends = record { same = cuts };
   takes = record { same = λ later. refl };
 }
 
 next_keeps : (e : Ends) (flow : Option Flow) → IfSome (next_by e flow) (NextKeeps e)
-next_keeps e None = given_keeps e None 0 (give e.limit e.unsent) (give_cuts e.limit e.unsent)
+next_keeps e None = given_keeps e None None (give e.limit e.unsent) (give_cuts e.limit e.unsent)
 next_keeps e (Some f) =
     choose_some (NextKeeps e) (nat_lt 0 f.receiver.waiting)
     (Some (ack (ack_number f.receiver) f.receiver.window, two_standing e (record f { receiver = after_acked f.receiver })))
-    (if nat_lt 0 f.sender.credit then given_part e (Some (sent_flow f)) f.sender.next (give e.limit e.unsent) else None)
+    (if nat_lt 0 f.sender.credit then given_part e (Some (sent_flow f)) (Some f.sender.next) (give e.limit e.unsent) else None)
     (λ _. record { sends = no_sends e e refl; takes = no_takes e e refl })
     (λ _. choose_some (NextKeeps e) (nat_lt 0 f.sender.credit)
-    (given_part e (Some (sent_flow f)) f.sender.next (give e.limit e.unsent)) None
-    (λ _. given_keeps e (Some (sent_flow f)) f.sender.next (give e.limit e.unsent) (give_cuts e.limit e.unsent))
+    (given_part e (Some (sent_flow f)) (Some f.sender.next) (give e.limit e.unsent)) None
+    (λ _. given_keeps e (Some (sent_flow f)) (Some f.sender.next) (give e.limit e.unsent) (give_cuts e.limit e.unsent))
     (λ _. tt))
 
 -- what taking a unit keeps
@@ -112,7 +116,7 @@ move_keeps (hand_out tsdu) old new e =
     })
 
 -- and so does a list of calls
-pub sends_run : (old new : Standing) (moves : List Move) → Run old moves new →
+pub sends_run : (old new : Standing) (moves : List Move) → MovesAlong old moves new →
     (later : List (List ℕ)) →
     MakeTheSame (parts_out moves ++ uncut (new.ends.unsent ++ later)) (uncut (old.ends.unsent ++ (tsdus_in moves ++ later)))
 sends_run old new [] e later begun = ap (λ (s : Standing). tsdus_after begun (uncut (s.ends.unsent ++ later))) e
@@ -124,7 +128,7 @@ sends_run old new (move ∷ moves) (mid, first, rest) later begun =
     let right = ap (λ (ts : List (List ℕ)). tsdus_after begun (uncut (old.ends.unsent ++ ts))) (append_assoc (tsdu_in move) (tsdus_in moves) later) in
     left ∙ behind ∙ one ∙ sym right
 
-pub takes_run : (old new : Standing) (moves : List Move) (later : List Part) → Run old moves new →
+pub takes_run : (old new : Standing) (moves : List Move) (later : List Part) → MovesAlong old moves new →
     made old.ends.joining (parts_in moves ++ later) ≡ tsdus_out moves ++ made new.ends.joining later
 takes_run old new [] later e = ap (λ (s : Standing). made s.ends.joining later) (sym e)
 takes_run old new (move ∷ moves) later (mid, first, rest) =

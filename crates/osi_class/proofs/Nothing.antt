@@ -25,7 +25,7 @@ choose_none false true a o h (inl k) = cc
 choose_none false true a o h (inr e) = e
 choose_none false false a o h either = refl
 
-given_none : (e : Ends) (flow : Option Flow) (number : ℕ) (o : Option (Part × List (List ℕ))) → given_part e flow number o ≡ None → o ≡ None
+given_none : (e : Ends) (flow : Option Flow) (number : Option ℕ) (o : Option (Part × List (List ℕ))) → given_part e flow number o ≡ None → o ≡ None
 given_none e flow number None h = refl
 given_none e flow number (Some ((end, octets), rest)) h = cc
 
@@ -38,14 +38,14 @@ give_none limit [] h = refl
 give_none limit (t ∷ more) h =
     absurd (some_chosen (nat_lt limit (length t)) ((false, take limit t), drop limit t ∷ more) ((true, t), more) h)
 
-part_none : (e : Ends) (flow : Option Flow) (number : ℕ) → (given_part e flow number (give e.limit e.unsent) ≡ None) ↔ (e.unsent ≡ [])
+part_none : (e : Ends) (flow : Option Flow) (number : Option ℕ) → (given_part e flow number (give e.limit e.unsent) ≡ None) ↔ (e.unsent ≡ [])
 part_none e flow number = (
   λ h. give_none e.limit e.unsent (given_none e flow number (give e.limit e.unsent) h),
   λ h. ap (λ (u : List (List ℕ)). given_part e flow number (give e.limit u)) h,
 )
 
 pub class_0 : (e : Ends) → (next (zero_standing e) ≡ None) ↔ (e.unsent ≡ [])
-class_0 e = part_none e None 0
+class_0 e = part_none e None None
 
 pub class_2 : (e : Ends) (f : Flow) →
     (next (two_standing e f) ≡ None) ↔ ((f.receiver.waiting ≡ 0) × ((e.unsent ≡ []) ⊎ (f.sender.credit ≡ 0)))
@@ -53,8 +53,8 @@ class_2 e f =
     let w = nat_lt 0 f.receiver.waiting in
     let c = nat_lt 0 f.sender.credit in
     let a : Given × Standing = (ack (ack_number f.receiver) f.receiver.window, two_standing e (record f { receiver = after_acked f.receiver })) in
-    let o = given_part e (Some (sent_flow f)) f.sender.next (give e.limit e.unsent) in
-    let parts = part_none e (Some (sent_flow f)) f.sender.next in (
+    let o = given_part e (Some (sent_flow f)) (Some f.sender.next) (give e.limit e.unsent) in
+    let parts = part_none e (Some (sent_flow f)) (Some f.sender.next) in (
       λ h. let both = none_chosen w c a o h in
           let none : f.receiver.waiting ≤ 0 = ltb-false 0 f.receiver.waiting both.0 in
           (closed f.receiver.waiting none, elim both.1 [ inl k ↦ inr (closed f.sender.credit (ltb-false 0 f.sender.credit k)) | inr k ↦ inl (parts.0 k) ]),

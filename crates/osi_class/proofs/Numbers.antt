@@ -3,7 +3,7 @@ use Rattle.std.proofs.Common.{◌≡◌, ℕ, zero, suc, ◌+◌, ◌-◌, ◌%�
 use Rattle.std.proofs.lemmas.Bool.{le-ltb}
 use Rattle.std.proofs.lemmas.List.{map-append}
 use Rattle.osi_class.specs.Flow.{Sender, steps_before, acknowledged}
-use Rattle.osi_class.specs.Credit.{numbers, restoring}
+use Rattle.osi_class.specs.Owed.{numbers, restoring}
 
 -- the number after the one of a count is that of the next count
 pub next_number : (count : ℕ) → (count % 128 + 1) % 128 ≡ (count + 1) % 128

@@ -2,7 +2,7 @@
 use Rattle.std.proofs.Common.{◌≡◌, ℕ, suc, ◌+◌, ◌-◌, ◌%◌, ◌<◌, ◌≤◌, true, ◌==◌, List, [], ◌∷◌, ◌++◌, length, Ok, refl, sym, ◌∙◌, ap, subst, arith, nat_lt, eq-eqb}
 use Rattle.std.proofs.lemmas.Bool.{lt-ltb}
 use Rattle.osi_class.specs.Flow.{Sender, steps_before, after_sent, acknowledged, is_awaited, after_taken, ack_number, after_acked}
-use Rattle.osi_class.specs.Credit.{numbers, restoring, Direction, unknown, owed, InStep, Step, write_unit, take_unit, write_ack, take_ack, Steps, known_after, StepsAlong, opened, restored}
+use Rattle.osi_class.specs.Owed.{numbers, restoring, Direction, unknown, owed, InStep, CreditStep, write_unit, take_unit, write_ack, take_ack, CreditSteps, known_after, StepsAlong, opened, restored}
 use Rattle.osi_class.proofs.Numbers.{earlier_number, steps_between, numbers_snoc, restoring_snoc, acknowledged_is}
 
 length_snoc : {A : Type 0} (xs : List A) (x : A) → length (xs ++ x ∷ []) ≡ suc (length xs)
@@ -139,7 +139,7 @@ ack_taken d known ack rest h e =
       window = h.window;
     }
 
-pub step_keeps : (step : Step) (old new : Direction) (known : ℕ) → InStep old known → Steps step old new →
+pub step_keeps : (step : CreditStep) (old new : Direction) (known : ℕ) → InStep old known → CreditSteps step old new →
     InStep new (known_after step known)
 step_keeps write_unit old new known h (credit, e) =
     let P : Direction → Type 0 = λ d. InStep d known in
@@ -156,7 +156,7 @@ step_keeps take_ack old new known h (ack, rest, sender, first, taken, e) =
     let is : restored old.sender ≡ sender = cc in
     subst P (sym e) (subst (λ (s : Sender). P (record old { sender = s; acks = rest })) is (ack_taken old known ack rest h first))
 
-pub step_window : (step : Step) (old new : Direction) → Steps step old new → new.receiver.window ≡ old.receiver.window
+pub step_window : (step : CreditStep) (old new : Direction) → CreditSteps step old new → new.receiver.window ≡ old.receiver.window
 step_window write_unit old new (credit, e) = ap (λ (d : Direction). d.receiver.window) e
 step_window take_unit old new (number, rest, first, awaited, e) = ap (λ (d : Direction). d.receiver.window) e
 step_window write_ack old new (waiting, e) = ap (λ (d : Direction). d.receiver.window) e
@@ -168,7 +168,7 @@ record EndsInStep (d : Direction) (units : ℕ) : Type 0 where
   in_step : InStep d known
   window : d.receiver.window ≡ units
 
-steps_keep : (steps : List Step) (old new : Direction) (known : ℕ) → InStep old known → StepsAlong old steps new →
+steps_keep : (steps : List CreditStep) (old new : Direction) (known : ℕ) → InStep old known → StepsAlong old steps new →
     EndsInStep new old.receiver.window
 steps_keep [] old new known h e = record {
   known = known;
@@ -205,7 +205,7 @@ nothing_under_way d known h no_units no_acks none =
     let ho = h.owed in
     omega arith
 
-pub always : (window : ℕ) (steps : List Step) (d : Direction) → window ≤ 15 → StepsAlong (opened window) steps d → owed d ≡ window
+pub always : (window : ℕ) (steps : List CreditStep) (d : Direction) → window ≤ 15 → StepsAlong (opened window) steps d → owed d ≡ window
 always window steps d small run =
     let end = steps_keep steps (opened window) d 0 (begins window small) run in
     end.in_step.owed ∙ end.window

@@ -1,19 +1,19 @@
 -- What is sent, over a list of calls.
 use Rattle.std.proofs.Common.{◌≡◌, ℕ, List, [], ◌++◌, sym, ◌∙◌, ap}
 use Rattle.osi_class.specs.Link.{Standing}
-use Rattle.osi_class.specs.Runs.{Move, Run, tsdus_in, parts_out}
+use Rattle.osi_class.specs.Runs.{Move, MovesAlong, tsdus_in, parts_out}
 use Rattle.osi_class.specs.Tsdus.{tsdus, tsdus_after, uncut, MakeTheSame}
 use Rattle.osi_class.proofs.Order.{append_nil, uncut_tsdus}
 use Rattle.osi_class.proofs.Moves.{sends_run}
 
-pub kept : (old new : Standing) (moves : List Move) → Run old moves new →
+pub kept : (old new : Standing) (moves : List Move) → MovesAlong old moves new →
     MakeTheSame (parts_out moves ++ uncut new.ends.unsent) (uncut (old.ends.unsent ++ tsdus_in moves))
 kept old new moves run begun =
     ap (λ (u : List (List ℕ)). tsdus_after begun (parts_out moves ++ uncut u)) (sym (append_nil new.ends.unsent))
     ∙ sends_run old new moves run [] begun
     ∙ ap (λ (u : List (List ℕ)). tsdus_after begun (uncut (old.ends.unsent ++ u))) (append_nil (tsdus_in moves))
 
-pub all : (old new : Standing) (moves : List Move) → Run old moves new → old.ends.unsent ≡ [] →
+pub all : (old new : Standing) (moves : List Move) → MovesAlong old moves new → old.ends.unsent ≡ [] →
     tsdus (parts_out moves ++ uncut new.ends.unsent) ≡ tsdus_in moves
 all old new moves run nothing =
     kept old new moves run []

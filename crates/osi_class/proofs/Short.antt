@@ -3,25 +3,26 @@ use Rattle.std.proofs.Common.{◌≡◌, ℕ, ◌+◌, ◌≤◌, Bool, true, fa
 use Rattle.std.specs.List.{flat_map, AllByRecursion}
 use Rattle.std.proofs.lemmas.Bool.{le-ltb}
 use Rattle.std.proofs.lemmas.List.{append_cancel_left, map-append}
-use Rattle.osi_class.specs.Between.{Pair, Turn, TurnsAlong, left_in, right_out, parts_under_way, under_way, IsWhole, IsShort}
+use Rattle.osi_class.specs.declared.limits.TheConstants.{LONGEST_TSDU}
+use Rattle.osi_class.specs.Between.{LinkPair, Turn, TurnsAlong, left_in, right_out, parts_under_way, under_way, HasWholeTsdus, IsShortTsdu}
 use Rattle.osi_class.specs.Joining.{with_part, joined}
 use Rattle.osi_class.specs.Tsdus.{Part, tsdus_after, uncut}
 use Rattle.osi_class.proofs.Order.{append_nil}
 use Rattle.osi_class.proofs.Ways.{whole_kept}
 
-all_behind : (xs ys : List (List ℕ)) → AllByRecursion IsShort (xs ++ ys) → AllByRecursion IsShort ys
+all_behind : (xs ys : List (List ℕ)) → AllByRecursion IsShortTsdu (xs ++ ys) → AllByRecursion IsShortTsdu ys
 all_behind [] ys all = all
 all_behind (x ∷ xs) ys all = all_behind xs ys all.1
 
-all_both : (xs ys : List (List ℕ)) → AllByRecursion IsShort xs → AllByRecursion IsShort ys → AllByRecursion IsShort (xs ++ ys)
+all_both : (xs ys : List (List ℕ)) → AllByRecursion IsShortTsdu xs → AllByRecursion IsShortTsdu ys → AllByRecursion IsShortTsdu (xs ++ ys)
 all_both [] ys a b = b
 all_both (x ∷ xs) ys a b = (a.0, all_both xs ys a.1 b)
 
 -- the last of these parts ends its TSDU
-abbrev End : List ℕ → List Part → Type 0
+abbrev pub End : List ℕ → List Part → Type 0
 End begun parts = (t : List ℕ) → tsdus_after begun (parts ++ (true, t) ∷ []) ≡ tsdus_after begun parts ++ t ∷ []
 
-begun_short : (parts : List Part) (begun : List ℕ) → End begun parts → AllByRecursion IsShort (tsdus_after begun parts) → IsShort begun
+begun_short : (parts : List Part) (begun : List ℕ) → End begun parts → AllByRecursion IsShortTsdu (tsdus_after begun parts) → IsShortTsdu begun
 begun_short [] begun ends all =
     let one : (begun ++ []) ∷ [] ≡ [] ∷ [] = ends [] in
     let none : begun ++ [] ≡ [] = cc in
@@ -32,26 +33,26 @@ begun_short ((false, octets) ∷ parts) begun ends all =
     let n = length-append begun octets in
     omega arith
 begun_short ((true, octets) ∷ parts) begun ends all =
-    let first : IsShort (begun ++ octets) = all.0 in
+    let first : IsShortTsdu (begun ++ octets) = all.0 in
     let n = length-append begun octets in
     omega arith
 
 part_short : (end : Bool) (octets : List ℕ) (rest : List Part) (begun : List ℕ) → End begun ((end, octets) ∷ rest) →
-    AllByRecursion IsShort (tsdus_after begun ((end, octets) ∷ rest)) → length begun + length octets ≤ 1048576
+    AllByRecursion IsShortTsdu (tsdus_after begun ((end, octets) ∷ rest)) → length begun + length octets ≤ LONGEST_TSDU
 part_short false octets rest begun ends all =
     let more = begun_short rest (begun ++ octets) ends all in
     let n = length-append begun octets in
     omega arith
 part_short true octets rest begun ends all =
-    let first : IsShort (begun ++ octets) = all.0 in
+    let first : IsShortTsdu (begun ++ octets) = all.0 in
     let n = length-append begun octets in
     omega arith
 
 -- all that is under way, as parts
-abbrev pending : Pair → List Part
+abbrev pub pending : LinkPair → List Part
 pending p = parts_under_way p.rightward ++ uncut p.left.ends.unsent
 
-pending_end : (p : Pair) → IsWhole p → End p.right.ends.joining.begun (pending p)
+pub pending_end : (p : LinkPair) → HasWholeTsdus p → End p.right.ends.joining.begun (pending p)
 pending_end p whole t =
     let j = p.right.ends.joining in
     let ps = parts_under_way p.rightward in
@@ -66,25 +67,25 @@ pending_end p whole t =
     ap (λ (x : List Part). tsdus_after j.begun x) longer
     ∙ append_cancel_left j.whole (tsdus_after j.begun (ps ++ uncut (unsent ++ t ∷ []))) (tsdus_after j.begun (pending p) ++ t ∷ []) all
 
-pub not_too_long : (p : Pair) (end : Bool) (octets : List ℕ) (rest : List Part) → IsWhole p → AllByRecursion IsShort (under_way p) →
+pub not_too_long : (p : LinkPair) (end : Bool) (octets : List ℕ) (rest : List Part) → HasWholeTsdus p → AllByRecursion IsShortTsdu (under_way p) →
     parts_under_way p.rightward ≡ (end, octets) ∷ rest →
     joined p.right.ends.joining end octets ≡ Ok (with_part p.right.ends.joining end octets)
 not_too_long p end octets rest whole all first =
     let j = p.right.ends.joining in
     let here : pending p ≡ (end, octets) ∷ (rest ++ uncut p.left.ends.unsent) = ap (λ (x : List Part). x ++ uncut p.left.ends.unsent) first in
     let ends = subst (λ (x : List Part). End j.begun x) here (pending_end p whole) in
-    let Shorts : List Part → Type 0 = λ x. AllByRecursion IsShort (tsdus_after j.begun x) in
-    let under : AllByRecursion IsShort (j.whole ++ tsdus_after j.begun (pending p)) =
-    subst (λ (u : List (List ℕ)). AllByRecursion IsShort (j.whole ++ tsdus_after j.begun (parts_under_way p.rightward ++ uncut u)))
+    let Shorts : List Part → Type 0 = λ x. AllByRecursion IsShortTsdu (tsdus_after j.begun x) in
+    let under : AllByRecursion IsShortTsdu (j.whole ++ tsdus_after j.begun (pending p)) =
+    subst (λ (u : List (List ℕ)). AllByRecursion IsShortTsdu (j.whole ++ tsdus_after j.begun (parts_under_way p.rightward ++ uncut u)))
     (append_nil p.left.ends.unsent) all in
     let parts = subst Shorts here (all_behind j.whole (tsdus_after j.begun (pending p)) under) in
     let short = part_short end octets (rest ++ uncut p.left.ends.unsent) j.begun ends parts in
-    let no : nat_lt 1048576 (length j.begun + length octets) ≡ false = le-ltb 1048576 (length j.begun + length octets) short in
+    let no : nat_lt LONGEST_TSDU (length j.begun + length octets) ≡ false = le-ltb LONGEST_TSDU (length j.begun + length octets) short in
     rw no
 
-pub stays_short : (old new : Pair) (turns : List Turn) → IsWhole old → AllByRecursion IsShort (under_way old) →
-    AllByRecursion IsShort (flat_map left_in turns) → TurnsAlong old turns new → AllByRecursion IsShort (under_way new)
+pub stays_short : (old new : LinkPair) (turns : List Turn) → HasWholeTsdus old → AllByRecursion IsShortTsdu (under_way old) →
+    AllByRecursion IsShortTsdu (flat_map left_in turns) → TurnsAlong old turns new → AllByRecursion IsShortTsdu (under_way new)
 stays_short old new turns whole all handed run =
     all_behind (flat_map right_out turns) (under_way new)
-    (subst (λ (ts : List (List ℕ)). AllByRecursion IsShort ts) (whole_kept old new turns whole run)
+    (subst (λ (ts : List (List ℕ)). AllByRecursion IsShortTsdu ts) (whole_kept old new turns whole run)
     (all_both (under_way old) (flat_map left_in turns) all handed))

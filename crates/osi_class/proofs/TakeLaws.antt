@@ -1,12 +1,12 @@
 -- What is taken, over a list of calls.
 use Rattle.std.proofs.Common.{◌≡◌, ℕ, List, [], ◌++◌, sym, ◌∙◌, ap}
 use Rattle.osi_class.specs.Link.{Standing}
-use Rattle.osi_class.specs.Runs.{Move, Run, parts_in, tsdus_out}
+use Rattle.osi_class.specs.Runs.{Move, MovesAlong, parts_in, tsdus_out}
 use Rattle.osi_class.specs.Tsdus.{Part, tsdus, tsdus_after}
 use Rattle.osi_class.proofs.Order.{append_nil}
 use Rattle.osi_class.proofs.Moves.{takes_run}
 
-pub all : (old new : Standing) (moves : List Move) → Run old moves new →
+pub all : (old new : Standing) (moves : List Move) → MovesAlong old moves new →
     old.ends.joining.whole ≡ [] → old.ends.joining.begun ≡ [] →
     tsdus (parts_in moves) ≡ tsdus_out moves ++ new.ends.joining.whole
 all old new moves run none_whole none_begun =

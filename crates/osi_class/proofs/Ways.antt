@@ -1,31 +1,30 @@
 -- The law of order between two links.
-use Rattle.std.proofs.Common.{◌≡◌, ℕ, Bool, List, [], ◌∷◌, ◌++◌, map, refl, sym, ◌∙◌, ap, append_assoc}
+use Rattle.std.proofs.Common.{◌≡◌, ℕ, List, [], ◌∷◌, ◌++◌, map, refl, sym, ◌∙◌, ap, append_assoc}
 use Rattle.std.specs.List.{flat_map}
 use Rattle.std.proofs.lemmas.Grind.{flat_map-append}
 use Rattle.std.proofs.lemmas.List.{append_cancel_left}
 use Rattle.osi_tpdu.specs.Value.{Value, request, confirm, disconnect, disconnected, data0, data2, acknowledge, error}
-use Rattle.osi_class.specs.Link.{Standing, Given, part, ack}
+use Rattle.osi_class.specs.Link.{Standing, Given, given_in}
 use Rattle.osi_class.specs.Runs.{Move, hand_in, give_out, take_in, hand_out, given_parts, unit_parts, tsdu_in, part_out, part_in, tsdu_out}
 use Rattle.osi_class.specs.Tsdus.{Part, tsdus_after, uncut, MakeTheSame}
-use Rattle.osi_class.specs.Between.{Pair, swapped, Says, Comes, given_by, Turn, at_left, at_right, Turns, TurnsAlong, opposite, left_in, right_out, parts_under_way, under_way_before, under_way, IsWhole, IsFresh, opened_pair}
+use Rattle.osi_class.specs.Between.{LinkPair, swapped, Says, Comes, given_by, Turn, at_left, at_right, Turns, TurnsAlong, opposite, left_in, right_out, parts_under_way, under_way_before, under_way, HasWholeTsdus, IsFresh, opened_pair}
 use Rattle.osi_class.proofs.Order.{append_nil, same_behind_all, uncut_tsdus, made}
 use Rattle.osi_class.proofs.Moves.{move_keeps}
 
--- the parts that a unit has are those that were given
+-- the parts that a unit has are those that it brings
+brought_parts : (unit : Value) → parts_under_way (given_in unit) ≡ unit_parts unit
+brought_parts (data0 end octets) = refl
+brought_parts (data2 destination number end octets) = refl
+brought_parts (acknowledge credit destination number) = refl
+brought_parts (request c) = refl
+brought_parts (confirm destination c) = refl
+brought_parts (disconnect destination source reason user) = refl
+brought_parts (disconnected destination source) = refl
+brought_parts (error destination cause) = refl
+
 said_parts : (unit : Value) (given : Given) → Says unit given → unit_parts unit ≡ given_parts given
-said_parts (data0 end octets) (part e n o) (same_end, same) =
-    ap (λ (x : Bool). (x, octets) ∷ []) same_end ∙ ap (λ (x : List ℕ). (e, x) ∷ []) same
-said_parts (data2 destination number end octets) (part e n o) (same_number, same_end, same) =
-    ap (λ (x : Bool). (x, octets) ∷ []) same_end ∙ ap (λ (x : List ℕ). (e, x) ∷ []) same
-said_parts (acknowledge credit destination number) (ack n c) says = refl
-said_parts (data0 end octets) (ack n c) says = absurd says
-said_parts (data2 destination number end octets) (ack n c) says = absurd says
-said_parts (acknowledge credit destination number) (part e n o) says = absurd says
-said_parts (request c) given says = absurd says
-said_parts (confirm destination c) given says = absurd says
-said_parts (disconnect destination source reason user) given says = absurd says
-said_parts (disconnected destination source) given says = absurd says
-said_parts (error destination cause) given says = absurd says
+said_parts unit given says =
+    sym (brought_parts unit) ∙ ap (λ (g : List Given). parts_under_way g) says ∙ append_nil (given_parts given)
 
 -- what a call gives
 given_by_parts : (move : Move) → parts_under_way (given_by move) ≡ part_out move
@@ -44,7 +43,7 @@ come_parts (hand_in tsdu) old new e = ap (λ (g : List Given). parts_under_way g
 come_parts (give_out unit) old new e = ap (λ (g : List Given). parts_under_way g) e
 come_parts (hand_out tsdu) old new e = ap (λ (g : List Given). parts_under_way g) e
 
-turn_keeps : (turn : Turn) (old new : Pair) → Turns turn old new → (later : List (List ℕ)) →
+turn_keeps : (turn : Turn) (old new : LinkPair) → Turns turn old new → (later : List (List ℕ)) →
     under_way_before old (left_in turn ++ later) ≡ right_out turn ++ under_way_before new later
 turn_keeps (at_left move) old new m later =
     let sends = (move_keeps move old.left new.left m.moves).sends.same later in
@@ -70,9 +69,9 @@ turn_keeps (at_right move) old new m later =
     ∙ takes
     ∙ ap (λ (s : Standing). tsdu_out move ++ made new.right.ends.joining (parts_under_way new.rightward ++ uncut (s.ends.unsent ++ later))) (sym m.right)
 
-pub turns_keep : (old new : Pair) (turns : List Turn) (later : List (List ℕ)) → TurnsAlong old turns new →
+pub turns_keep : (old new : LinkPair) (turns : List Turn) (later : List (List ℕ)) → TurnsAlong old turns new →
     under_way_before old (flat_map left_in turns ++ later) ≡ flat_map right_out turns ++ under_way_before new later
-turns_keep old new [] later e = ap (λ (p : Pair). under_way_before p later) (sym e)
+turns_keep old new [] later e = ap (λ (p : LinkPair). under_way_before p later) (sym e)
 turns_keep old new (turn ∷ turns) later (mid, first, rest) =
     ap (λ (ts : List (List ℕ)). under_way_before old ts) (append_assoc (left_in turn) (flat_map left_in turns) later)
     ∙ turn_keeps turn old mid first (flat_map left_in turns ++ later)
@@ -80,14 +79,14 @@ turns_keep old new (turn ∷ turns) later (mid, first, rest) =
     ∙ sym (append_assoc (right_out turn) (flat_map right_out turns) (under_way_before new later))
 
 -- where what is under way is whole, so that what is handed in stands behind it
-pub whole_kept : (old new : Pair) (turns : List Turn) → IsWhole old → TurnsAlong old turns new →
+pub whole_kept : (old new : LinkPair) (turns : List Turn) → HasWholeTsdus old → TurnsAlong old turns new →
     under_way old ++ flat_map left_in turns ≡ flat_map right_out turns ++ under_way new
 whole_kept old new turns whole run =
     sym (whole (flat_map left_in turns))
     ∙ ap (λ (ts : List (List ℕ)). under_way_before old ts) (sym (append_nil (flat_map left_in turns)))
     ∙ turns_keep old new turns [] run
 
-pub stays_whole : (old new : Pair) (turns : List Turn) → IsWhole old → TurnsAlong old turns new → IsWhole new
+pub stays_whole : (old new : LinkPair) (turns : List Turn) → HasWholeTsdus old → TurnsAlong old turns new → HasWholeTsdus new
 stays_whole old new turns whole run later =
     append_cancel_left (flat_map right_out turns) (under_way_before new later) (under_way new ++ later)
     (sym (turns_keep old new turns later run)
@@ -96,7 +95,7 @@ stays_whole old new turns whole run later =
     ∙ ap (λ (ts : List (List ℕ)). ts ++ later) (whole_kept old new turns whole run)
     ∙ append_assoc (flat_map right_out turns) (under_way new) later)
 
-pub other_way : (old new : Pair) (turns : List Turn) → TurnsAlong old turns new → TurnsAlong (swapped old) (map opposite turns) (swapped new)
+pub other_way : (old new : LinkPair) (turns : List Turn) → TurnsAlong old turns new → TurnsAlong (swapped old) (map opposite turns) (swapped new)
 other_way old new [] e = ap swapped e
 other_way old new (at_left move ∷ turns) (mid, first, rest) = (swapped mid, first, other_way mid new turns rest)
 other_way old new (at_right move ∷ turns) (mid, first, rest) = (swapped mid, first, other_way mid new turns rest)
@@ -110,7 +109,7 @@ fresh_under_way left right (none_unsent, some, more) (unsent, none_begun, none_w
     ∙ ap (λ (u : List (List ℕ)). u ++ later) none_unsent
 
 pub begins : (left right : Standing) → IsFresh left → IsFresh right →
-    IsWhole (opened_pair left right) × (under_way (opened_pair left right) ≡ [])
+    HasWholeTsdus (opened_pair left right) × (under_way (opened_pair left right) ≡ [])
 begins left right a b =
     let none = fresh_under_way left right a b [] in
     (λ later. fresh_under_way left right a b later ∙ ap (λ (ts : List (List ℕ)). ts ++ later) (sym none), none)

@@ -1,29 +1,26 @@
 -- Two links and the units between them, over lists of calls at both.
-use Rattle.std.specs.Prelude.{◌≡◌, ℕ, List, [], ◌∷◌, ◌++◌, ◌≤◌, length}
-use Rattle.std.specs.List.{flat_map}
-use Rattle.osi_tpdu.specs.Value.{Value, data0, data2, acknowledge}
-use Rattle.osi_class.specs.Link.{Standing, Given, part, ack}
-use Rattle.osi_class.specs.Runs.{Move, give_out, take_in, Moves, given_parts, tsdu_in, tsdu_out}
+use Rattle.std.specs.Prelude.{◌≡◌, ℕ, Bool, List, [], ◌∷◌, ◌++◌, ◌≤◌, length, None, Ok}
+use Rattle.std.specs.List.{flat_map, AllByRecursion}
+use Rattle.osi_tpdu.specs.Value.{Value}
+use Rattle.osi_class.specs.declared.limits.TheConstants.{LONGEST_TSDU}
+use Rattle.osi_class.specs.Link.{Standing, Given, next, taken, given_in, is_of_two}
+use Rattle.osi_class.specs.Runs.{Move, hand_in, give_out, take_in, hand_out, Moves, given_parts, tsdu_in, tsdu_out}
 use Rattle.osi_class.specs.Tsdus.{Part, tsdus_after, uncut}
 
 -- `rightward`: the units that the left link gave and the right one has not taken, the oldest first;
 -- `leftward`: those the other way
-pub record Pair : Type 0 where
+pub record LinkPair : Type 0 where
   pub left : Standing
   pub rightward : List Given
   pub right : Standing
   pub leftward : List Given
 
-abbrev pub swapped : Pair → Pair
+abbrev pub swapped : LinkPair → LinkPair
 swapped p = record { left = p.right; rightward = p.leftward; right = p.left; leftward = p.rightward }
 
--- a unit says what was given: a DT its end, number and octets, without the number in class 0, and
--- an AK its number and credit
+-- a unit says what was given, whatever its reference
 abbrev pub Says : Value → Given → Type 0
-Says (data0 end octets) (part e n o) = (end ≡ e) × (octets ≡ o)
-Says (data2 destination number end octets) (part e n o) = (number ≡ n) × (end ≡ e) × (octets ≡ o)
-Says (acknowledge credit destination number) (ack n c) = (number ≡ n) × (credit ≡ c)
-Says unit given = ⊥
+Says unit given = given_in unit ≡ given ∷ []
 
 -- a unit that is taken is the oldest under way
 abbrev pub Comes : Move → List Given → List Given → Type 0
@@ -35,7 +32,7 @@ given_by (give_out unit) = unit ∷ []
 given_by move = []
 
 -- a call at the left link
-pub record LeftMoves (move : Move) (old new : Pair) : Type 0 where
+pub record LeftMoves (move : Move) (old new : LinkPair) : Type 0 where
   pub moves : Moves move old.left new.left
   pub given : new.rightward ≡ old.rightward ++ given_by move
   pub comes : Comes move old.leftward new.leftward
@@ -45,13 +42,13 @@ pub data Turn : Type 0 where
   at_left : Move → Turn
   at_right : Move → Turn
 
-abbrev pub Turns : Turn → Pair → Pair → Type 0
+abbrev pub Turns : Turn → LinkPair → LinkPair → Type 0
 Turns (at_left move) old new = LeftMoves move old new
 Turns (at_right move) old new = LeftMoves move (swapped old) (swapped new)
 
-abbrev pub TurnsAlong : Pair → List Turn → Pair → Type 0
+abbrev pub TurnsAlong : LinkPair → List Turn → LinkPair → Type 0
 TurnsAlong old [] new = new ≡ old
-TurnsAlong old (turn ∷ turns) new = (mid : Pair) × Turns turn old mid × TurnsAlong mid turns new
+TurnsAlong old (turn ∷ turns) new = (mid : LinkPair) × Turns turn old mid × TurnsAlong mid turns new
 
 abbrev pub opposite : Turn → Turn
 opposite (at_left move) = at_right move
@@ -67,30 +64,59 @@ abbrev pub right_out : Turn → List (List ℕ)
 right_out (at_left move) = []
 right_out (at_right move) = tsdu_out move
 
+-- each is a unit of class 2, or each one of class 0
+abbrev pub AreOfClass : Bool → List Given → Type 0
+AreOfClass is_two units = AllByRecursion (λ unit. is_of_two unit ≡ is_two) units
+
 abbrev pub parts_under_way : List Given → List Part
 parts_under_way units = flat_map given_parts units
 
 -- the TSDUs that were handed in at the left and not yet handed out at the right, where these are
 -- handed in later
-abbrev pub under_way_before : Pair → List (List ℕ) → List (List ℕ)
+abbrev pub under_way_before : LinkPair → List (List ℕ) → List (List ℕ)
 under_way_before p later = p.right.ends.joining.whole
     ++ tsdus_after p.right.ends.joining.begun (parts_under_way p.rightward ++ uncut (p.left.ends.unsent ++ later))
 
-abbrev pub under_way : Pair → List (List ℕ)
+abbrev pub under_way : LinkPair → List (List ℕ)
 under_way p = under_way_before p []
 
 -- no part is under way without the rest of its TSDU
-abbrev pub IsWhole : Pair → Type 0
-IsWhole p = (later : List (List ℕ)) → under_way_before p later ≡ under_way p ++ later
+abbrev pub HasWholeTsdus : LinkPair → Type 0
+HasWholeTsdus p = (later : List (List ℕ)) → under_way_before p later ≡ under_way p ++ later
 
 -- nothing is to be sent, and nothing was taken
 abbrev pub IsFresh : Standing → Type 0
 IsFresh s = (s.ends.unsent ≡ []) × (s.ends.joining.begun ≡ []) × (s.ends.joining.whole ≡ [])
 
+-- two links with these units under way to the left one, and none to the right
+abbrev pub awaiting_pair : Standing → Standing → List Given → LinkPair
+awaiting_pair left right units = record { left = left; rightward = []; right = right; leftward = units }
+
 -- two links with nothing under way between them
-abbrev pub opened_pair : Standing → Standing → Pair
-opened_pair left right = record { left = left; rightward = []; right = right; leftward = [] }
+abbrev pub opened_pair : Standing → Standing → LinkPair
+opened_pair left right = awaiting_pair left right []
+
+-- a call that takes nothing and hands nothing out
+abbrev pub OnlySends : Move → Type 0
+OnlySends (hand_in tsdu) = Unit {0}
+OnlySends (give_out unit) = Unit {0}
+OnlySends (take_in unit) = ⊥
+OnlySends (hand_out tsdu) = ⊥
+
+-- nothing is under way, neither link gives anything, and nothing waits to be handed out at the right
+pub record IsQuiet (p : LinkPair) : Type 0 where
+  pub rightward : p.rightward ≡ []
+  pub leftward : p.leftward ≡ []
+  pub left : next p.left ≡ None
+  pub right : next p.right ≡ None
+  pub handed_out : p.right.ends.joining.whole ≡ []
+
+-- the right link takes this unit, and these are then under way to it
+pub record TakesOldest (p : LinkPair) (unit : Value) (rest : List Given) : Type 0 where
+  pub new : Standing
+  pub taken : taken p.right unit ≡ Ok new
+  pub turn : Turns (at_right (take_in unit)) p (record { left = p.left; rightward = rest; right = new; leftward = p.leftward })
 
 -- short enough to be taken
-abbrev pub IsShort : List ℕ → Type 0
-IsShort tsdu = length tsdu ≤ 1048576
+abbrev pub IsShortTsdu : List ℕ → Type 0
+IsShortTsdu tsdu = length tsdu ≤ LONGEST_TSDU

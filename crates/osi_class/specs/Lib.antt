@@ -1,13 +1,16 @@
 pub mod AnyLink
 pub mod Between
-pub mod Credit
 pub mod Directions
 pub mod Ends
 pub mod Flow
+pub mod Giving
 pub mod Joining
+pub mod Limits
 pub mod Link
 pub mod Negotiation
+pub mod Owed
 pub mod Runs
 pub mod Sending
+pub mod Sound
 pub mod Taking
 pub mod Tsdus

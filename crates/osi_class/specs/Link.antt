@@ -1,10 +1,10 @@
 -- What a link holds, and what each call answers and leaves.
-use Rattle.std.specs.Prelude.{◌≡◌, ℕ, ◌-◌, ◌<◌, Bool, List, [], ◌∷◌, ◌++◌, nat_lt, Option, Some, None, Result, Ok, Err, if◌then◌else◌}
+use Rattle.std.specs.Prelude.{◌≡◌, ℕ, ◌-◌, ◌<◌, ◌≤◌, Bool, true, false, ◌||◌, List, [], ◌∷◌, ◌++◌, length, nat_lt, Option, Some, None, Result, Ok, Err, if◌then◌else◌}
 use Rattle.osi_tpdu.specs.Value.{Value, data0, data2, acknowledge}
 use Rattle.osi_class.specs.declared.faults.LinkFault.{LinkFault}
 use Rattle.osi_class.specs.declared.faults.LinkFault.TheVariants.{WrongForm, OutOfSequence}
 use Rattle.osi_class.specs.declared.units.Out.{Out}
-use Rattle.osi_class.specs.declared.units.Out.TheVariants.{Data, Ack}
+use Rattle.osi_class.specs.declared.units.Out.TheVariants.{Data0, Data2, Ack}
 use Rattle.osi_class.specs.Ends.{Ends, fresh_ends}
 use Rattle.osi_class.specs.Flow.{Flow, Sender, fresh_sender, fresh_receiver, after_sent, acknowledged, is_awaited, after_taken, ack_number, after_acked}
 use Rattle.osi_class.specs.Joining.{Joining, joined}
@@ -36,25 +36,53 @@ fresh_two unit_size window credit = record {
 abbrev pub with_tsdu : Standing → List ℕ → Standing
 with_tsdu s tsdu = record s { ends = record s.ends { unsent = s.ends.unsent ++ tsdu ∷ [] } }
 
--- a DT: EOT, number, octets; an AK: number, credit
+-- a DT of class 0: EOT, octets; a DT of class 2: number, EOT, octets; an AK: number, credit
 pub data Given : Type 0 where
-  part : Bool → ℕ → List ℕ → Given
+  part0 : Bool → List ℕ → Given
+  part2 : ℕ → Bool → List ℕ → Given
   ack : ℕ → ℕ → Given
 
 abbrev pub given : Out → Given
-given (Data end number octets) = part end number octets.now
+given (Data0 end octets) = part0 end octets.now
+given (Data2 number end octets) = part2 number end octets.now
 given (Ack number credit) = ack number credit
 
--- the number of a unit and the credit of an AK are in the range of their fields
-abbrev pub IsInRange : Out → Type 0
-IsInRange (Data end number octets) = number < 128
-IsInRange (Ack number credit) = (number < 128) × (credit < 16)
+-- the octets go into a unit of 8,192, and the numbers are in the range of their fields
+abbrev pub FitsAUnit : Out → Type 0
+FitsAUnit (Data0 end octets) = length octets.now ≤ 8189
+FitsAUnit (Data2 number end octets) = (number < 128) × (length octets.now ≤ 8189)
+FitsAUnit (Ack number credit) = (number < 128) × (credit < 16)
+
+-- units of class 2 alone are numbered
+abbrev pub is_of_two : Given → Bool
+is_of_two (part0 end octets) = false
+is_of_two (part2 number end octets) = true
+is_of_two (ack number credit) = true
+
+-- the unit of its class for the connection that its taker gave this reference, which a DT of class 0
+-- does not name
+abbrev pub unit_of : ℕ → Given → Value
+unit_of destination (part0 end octets) = data0 end octets
+unit_of destination (part2 number end octets) = data2 destination number end octets
+unit_of destination (ack number credit) = acknowledge credit destination number
+
+-- what a unit brings to the link of its connection
+abbrev pub given_in : Value → List Given
+given_in (data0 end octets) = part0 end octets ∷ []
+given_in (data2 destination number end octets) = part2 number end octets ∷ []
+given_in (acknowledge credit destination number) = ack number credit ∷ []
+given_in unit = []
+
+-- a part as a unit: without a number in class 0, with this one in class 2
+abbrev pub part_under : Option ℕ → Bool → List ℕ → Given
+part_under None end octets = part0 end octets
+part_under (Some number) end octets = part2 number end octets
 
 -- the next part under this number, and the link after it, with this flow
-abbrev pub given_part : Ends → Option Flow → ℕ → Option ((Bool × List ℕ) × List (List ℕ)) → Option (Given × Standing)
+abbrev pub given_part : Ends → Option Flow → Option ℕ → Option ((Bool × List ℕ) × List (List ℕ)) → Option (Given × Standing)
 given_part e flow number None = None
 given_part e flow number (Some ((end, octets), unsent)) =
-    Some (part end number octets, record { ends = record e { unsent = unsent }; flow = flow })
+    Some (part_under number end octets, record { ends = record e { unsent = unsent }; flow = flow })
 
 abbrev pub sent_flow : Flow → Flow
 sent_flow f = record f { sender = after_sent f.sender }
@@ -62,11 +90,11 @@ sent_flow f = record f { sender = after_sent f.sender }
 -- The unit that is given next, and the link after it. In class 2 Acks come first, each with the
 -- whole window as its credit, and data only where there is credit.
 abbrev pub next_by : Ends → Option Flow → Option (Given × Standing)
-next_by e None = given_part e None 0 (give e.limit e.unsent)
+next_by e None = given_part e None None (give e.limit e.unsent)
 next_by e (Some f) =
     if nat_lt 0 f.receiver.waiting
     then Some (ack (ack_number f.receiver) f.receiver.window, two_standing e (record f { receiver = after_acked f.receiver }))
-    else (if nat_lt 0 f.sender.credit then given_part e (Some (sent_flow f)) f.sender.next (give e.limit e.unsent)
+    else (if nat_lt 0 f.sender.credit then given_part e (Some (sent_flow f)) (Some f.sender.next) (give e.limit e.unsent)
     else None)
 
 abbrev pub next : Standing → Option (Given × Standing)
@@ -101,6 +129,15 @@ taken_by e flow unit = Err WrongForm
 
 abbrev pub taken : Standing → Value → Result Standing LinkFault
 taken s unit = taken_by s.ends s.flow unit
+
+-- memory is needed for the octets of a part, and for the place of a TSDU that it ends
+abbrev pub part_needs_memory : Bool → List ℕ → Bool
+part_needs_memory end octets = end || nat_lt 0 (length octets)
+
+abbrev pub needs_memory : Value → Bool
+needs_memory (data0 end octets) = part_needs_memory end octets
+needs_memory (data2 destination number end octets) = part_needs_memory end octets
+needs_memory unit = false
 
 -- the first whole TSDU is handed out, none exactly where none stands whole
 abbrev pub Hands : Option (List ℕ) → Standing → Standing → Type 0

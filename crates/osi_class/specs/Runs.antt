@@ -1,10 +1,9 @@
 -- Calls of one link that were neither refused nor answered by none, and what goes in and comes out
 -- in them. A call that was refused or answered by none changes nothing.
-use Rattle.std.specs.Prelude.{◌≡◌, ℕ, List, [], ◌∷◌, Some, Ok, ◌+◌, length, Option, None}
+use Rattle.std.specs.Prelude.{◌≡◌, ℕ, List, [], ◌∷◌, Some, Ok}
 use Rattle.std.specs.List.{flat_map}
 use Rattle.osi_tpdu.specs.Value.{Value, data0, data2}
-use Rattle.osi_class.specs.Flow.{Flow}
-use Rattle.osi_class.specs.Link.{Standing, Given, part, ack, with_tsdu, next, taken, Hands}
+use Rattle.osi_class.specs.Link.{Standing, Given, part0, part2, ack, with_tsdu, next, taken, Hands}
 use Rattle.osi_class.specs.Tsdus.{Part}
 
 -- `send_tsdu` with this TSDU; `next_out` with this answer; `take` with this unit; `next_tsdu` with
@@ -22,12 +21,13 @@ Moves (take_in unit) old new = taken old unit ≡ Ok new
 Moves (hand_out tsdu) old new = Hands (Some tsdu) old new
 
 -- one after the other
-abbrev pub Run : Standing → List Move → Standing → Type 0
-Run old [] new = new ≡ old
-Run old (move ∷ moves) new = (mid : Standing) × Moves move old mid × Run mid moves new
+abbrev pub MovesAlong : Standing → List Move → Standing → Type 0
+MovesAlong old [] new = new ≡ old
+MovesAlong old (move ∷ moves) new = (mid : Standing) × Moves move old mid × MovesAlong mid moves new
 
 abbrev pub given_parts : Given → List Part
-given_parts (part end number octets) = (end, octets) ∷ []
+given_parts (part0 end octets) = (end, octets) ∷ []
+given_parts (part2 number end octets) = (end, octets) ∷ []
 given_parts (ack number credit) = []
 
 abbrev pub unit_parts : Value → List Part
@@ -66,15 +66,3 @@ parts_in moves = flat_map part_in moves
 
 abbrev pub tsdus_out : List Move → List (List ℕ)
 tsdus_out moves = flat_map tsdu_out moves
-
--- how much is left to give: each octet and each TSDU that is to be sent, and each Ack that waits
-abbrev pub left_of_tsdus : List (List ℕ) → ℕ
-left_of_tsdus [] = 0
-left_of_tsdus (tsdu ∷ more) = length tsdu + 1 + left_of_tsdus more
-
-abbrev pub left_of_acks : Option Flow → ℕ
-left_of_acks None = 0
-left_of_acks (Some f) = f.receiver.waiting
-
-abbrev pub left_to_give : Standing → ℕ
-left_to_give s = left_of_tsdus s.ends.unsent + left_of_acks s.flow

@@ -1,14 +1,14 @@
 -- What a call that takes a unit answers, and what it leaves.
-use Rattle.std.specs.Prelude.{◌≡◌, Result, Ok, Err, IsOk}
+use Rattle.std.specs.Prelude.{◌≡◌, Bool, true, Result, Ok, Err, IsOk}
 use Rattle.osi_class.specs.declared.faults.LinkFault.{LinkFault}
 use Rattle.osi_class.specs.declared.faults.LinkFault.TheVariants.{WrongForm, OutOfSequence, CreditReduced, TsduTooLong, OutOfMemory}
 
 -- `taken` is what the definitions say of the call: the new state or a fault. Want of memory comes
--- last, where they would have it taken, and then nothing has changed either.
-abbrev pub Takes : {S A : Type 0} → Result A LinkFault → Result S LinkFault → S → S → Type 0
-Takes (Ok done) taken old new = taken ≡ Ok new
-Takes (Err WrongForm) taken old new = (taken ≡ Err WrongForm) × (new ≡ old)
-Takes (Err OutOfSequence) taken old new = (taken ≡ Err OutOfSequence) × (new ≡ old)
-Takes (Err CreditReduced) taken old new = (taken ≡ Err CreditReduced) × (new ≡ old)
-Takes (Err TsduTooLong) taken old new = (taken ≡ Err TsduTooLong) × (new ≡ old)
-Takes (Err OutOfMemory) taken old new = IsOk taken × (new ≡ old)
+-- last, where they would have it taken and it needs memory, and then nothing has changed either.
+abbrev pub TakesUnit : {S A : Type 0} → Result A LinkFault → Bool → Result S LinkFault → S → S → Type 0
+TakesUnit (Ok done) needs taken old new = taken ≡ Ok new
+TakesUnit (Err WrongForm) needs taken old new = (taken ≡ Err WrongForm) × (new ≡ old)
+TakesUnit (Err OutOfSequence) needs taken old new = (taken ≡ Err OutOfSequence) × (new ≡ old)
+TakesUnit (Err CreditReduced) needs taken old new = (taken ≡ Err CreditReduced) × (new ≡ old)
+TakesUnit (Err TsduTooLong) needs taken old new = (taken ≡ Err TsduTooLong) × (new ≡ old)
+TakesUnit (Err OutOfMemory) needs taken old new = (needs ≡ true) × IsOk taken × (new ≡ old)

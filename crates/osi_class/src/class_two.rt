@@ -1,19 +1,17 @@
 use crate::faults::LinkFault;
 use crate::flow::{ReceivingFlow, SendingFlow};
 use crate::joining::Incoming;
+use crate::limits::Credit;
 use crate::links::Link;
 use crate::sending::Outgoing;
-use crate::sizes::most_octets;
-use crate::units::Out;
+use crate::sizes::{most_octets, room_within};
+use crate::units::{Out, Room};
 use osi_tpdu::{SizeCode, Tpdu, Window};
 use std::alloc::{AllocError, Global};
 use std::marker::Model;
 
 /// The octets of a class 2 data unit before its user data (X.224 section 13.7.1).
 const HEADER: usize = 5;
-
-/// The most credit that a CR, a CC or an AK can give (X.224 section 13.3.3).
-const MOST_CREDIT: u8 = 15;
 
 /// A link of class 2 with explicit flow control (X.224 section 10): data units are numbered from 0
 /// modulo 128 each way, and sent only as far as the peer gave credit. Each unit taken gives one Ack,
@@ -29,7 +27,7 @@ pub struct Class2 {
 }
 
 impl Model for Class2 {
-    ghost use Rattle.std.specs.Prelude.{◌<◌};
+    ghost use Rattle.std.specs.Prelude.{◌≤◌};
     ghost use Rattle.osi_class.specs.Link.{Two};
 
     ghost Value = { Two };
@@ -39,32 +37,28 @@ impl Model for Class2 {
       flow = record { sender = l.sending; receiver = l.receiving };
     } };
 
-    ghost invariant = { λ l. 0 < l.limit };
+    ghost invariant = { λ l. (123 ≤ l.limit) × (l.limit ≤ 8189) };
 }
 
 impl Class2 {
-    ghost use Rattle.std.specs.Prelude.{◌≡◌, ◌≤◌, ◌↔◌, IsSome, IfSome};
+    ghost use Rattle.std.specs.Prelude.{◌≡◌};
     ghost use Rattle.osi_tpdu.specs.Limits.{window_units};
     ghost use Rattle.osi_class.specs.Ends.{unit_size};
+    ghost use Rattle.osi_class.specs.Limits.{credit_units};
     ghost use Rattle.osi_class.specs.Link.{fresh_two};
 
     /// A link with nothing sent and nothing taken, for the size that was selected (header included,
-    /// 128 octets where none was), this end's window, and the peer's first credit; `None` for a
-    /// credit of over 15.
-    pub fn new(alloc: Global, size: Option<SizeCode>, window: Window, credit: u8) -> Option<Self>
-        ensures range { IsSome result ↔ (credit ≤ 15) }
-        ensures value { IfSome result (λ link. link ≡ fresh_two (unit_size size) (window_units window) credit) }
+    /// 128 octets where none was), this end's window, and the peer's first credit.
+    pub fn new(alloc: Global, size: Option<SizeCode>, window: Window, credit: Credit) -> Self
+        ensures { result ≡ fresh_two (unit_size size) (window_units window) (credit_units credit) }
     {
-        if credit > MOST_CREDIT {
-            return None;
-        }
-        Some(Class2 {
+        Class2 {
             outgoing: Outgoing::new(alloc),
             incoming: Incoming::new(alloc),
             limit: most_octets(size) - HEADER,
             sending: SendingFlow::new(credit),
             receiving: ReceivingFlow::new(window),
-        })
+        }
     }
 }
 
@@ -103,14 +97,24 @@ impl Link for Class2 {
             return None;
         }
         let end = self.outgoing.advance(self.limit)?;
-        Some(Out::Data {
-            end,
+        Some(Out::Data2 {
             number: self.sending.count_unit(),
+            end,
             octets: self.outgoing.part(),
         })
     }
 
     fn next_tsdu(&mut self) -> Option<Vec<u8>> {
         self.incoming.pop()
+    }
+
+    fn begun_octets(&self) -> usize {
+        let _credit = self.sending.credit();
+        let _window = self.receiving.window();
+        self.incoming.begun_octets()
+    }
+
+    fn room_for(&self, tsdu: &[u8]) -> Room {
+        room_within(self.limit, self.sending.credit(), tsdu.len())
     }
 }

@@ -2,8 +2,8 @@ use crate::faults::LinkFault;
 use crate::joining::Incoming;
 use crate::links::Link;
 use crate::sending::Outgoing;
-use crate::sizes::most_octets;
-use crate::units::Out;
+use crate::sizes::{count_parts, most_octets};
+use crate::units::{Out, Room};
 use osi_tpdu::{SizeCode, Tpdu};
 use std::alloc::{AllocError, Global};
 use std::marker::Model;
@@ -21,14 +21,14 @@ pub struct Class0 {
 }
 
 impl Model for Class0 {
-    ghost use Rattle.std.specs.Prelude.{◌<◌};
+    ghost use Rattle.std.specs.Prelude.{◌≤◌};
     ghost use Rattle.osi_class.specs.Ends.{Ends};
 
     ghost Value = { Ends };
 
     ghost view = { λ l. record { limit = l.limit; unsent = l.outgoing.unsent; joining = l.incoming } };
 
-    ghost invariant = { λ l. 0 < l.limit };
+    ghost invariant = { λ l. (123 ≤ l.limit) × (l.limit ≤ 8189) };
 }
 
 impl Class0 {
@@ -66,14 +66,25 @@ impl Link for Class0 {
 
     fn next_out(&mut self) -> Option<Out<'_>> {
         let end = self.outgoing.advance(self.limit)?;
-        Some(Out::Data {
+        Some(Out::Data0 {
             end,
-            number: 0,
             octets: self.outgoing.part(),
         })
     }
 
     fn next_tsdu(&mut self) -> Option<Vec<u8>> {
         self.incoming.pop()
+    }
+
+    fn begun_octets(&self) -> usize {
+        self.incoming.begun_octets()
+    }
+
+    fn room_for(&self, tsdu: &[u8]) -> Room {
+        let octets = tsdu.len();
+        Room {
+            units: count_parts(self.limit, octets),
+            octets,
+        }
     }
 }

@@ -2,7 +2,7 @@ use crate::class_two::Class2;
 use crate::class_zero::Class0;
 use crate::faults::LinkFault;
 use crate::links::Link;
-use crate::units::Out;
+use crate::units::{Out, Room};
 use osi_tpdu::Tpdu;
 use std::alloc::AllocError;
 
@@ -45,6 +45,20 @@ impl Link for AnyLink {
         match self {
             AnyLink::Zero(link) => link.next_tsdu(),
             AnyLink::Two(link) => link.next_tsdu(),
+        }
+    }
+
+    fn begun_octets(&self) -> usize {
+        match self {
+            AnyLink::Zero(link) => link.begun_octets(),
+            AnyLink::Two(link) => link.begun_octets(),
+        }
+    }
+
+    fn room_for(&self, tsdu: &[u8]) -> Room {
+        match self {
+            AnyLink::Zero(link) => link.room_for(tsdu),
+            AnyLink::Two(link) => link.room_for(tsdu),
         }
     }
 }

@@ -1,8 +1,10 @@
-ghost use Rattle.std.specs.Prelude.{◌≡◌, ◌<◌, ◌≤◌, ◌==◌, nat_lt, option_map, IfSome, IfNone};
+ghost use Rattle.std.specs.Prelude.{◌≡◌, ◌<◌, ◌≤◌, ◌+◌, ◌==◌, false, nat_lt, option_map, IfSome, IfNone};
+ghost use Rattle.osi_class.specs.Limits.{credit_units};
 ghost use Rattle.osi_class.specs.Flow.{fresh_sender, fresh_receiver, after_sent, acknowledged, is_awaited, after_taken, ack_number, after_acked};
-ghost use Rattle.osi_class.specs.Taking.{Takes};
+ghost use Rattle.osi_class.specs.Taking.{TakesUnit};
 
 use crate::faults::LinkFault;
+use crate::limits::Credit;
 use osi_tpdu::Window;
 use std::marker::Model;
 
@@ -33,15 +35,24 @@ impl Model for SendingFlow {
 
 impl SendingFlow {
     /// Nothing sent, with the peer's first credit.
-    pub fn new(credit: u8) -> Self
-        requires { credit ≤ 15 }
-        ensures { result ≡ fresh_sender credit }
+    pub fn new(credit: Credit) -> Self
+        ensures { result ≡ fresh_sender (credit_units credit) }
     {
         SendingFlow {
             next: 0,
             unacknowledged: 0,
-            credit,
+            credit: credit.units(),
         }
+    }
+
+    /// How many units may be sent now, 0 to 15. What was sent and not acknowledged and this are at
+    /// most 15 together.
+    pub fn credit(&self) -> u8
+        ensures value { result ≡ self.now.credit }
+        ensures next { self.now.next < 128 }
+        ensures at_most { self.now.unacknowledged + self.now.credit ≤ 15 }
+    {
+        self.credit
     }
 
     /// Whether a unit may be sent now.
@@ -69,7 +80,7 @@ impl SendingFlow {
     pub fn acknowledge(&mut self, number: u8, credit: u8) -> Result<(), LinkFault>
         requires number { number < 128 }
         requires credit { credit ≤ 15 }
-        ensures { Takes result (acknowledged self.old number credit) self.old self.new }
+        ensures { TakesUnit result false (acknowledged self.old number credit) self.old self.new }
     {
         let left = (self.next + NUMBERS - number) % NUMBERS;
         if left > self.unacknowledged {
@@ -125,10 +136,13 @@ impl ReceivingFlow {
         }
     }
 
-    /// The credit of each Ack, 1 to 15.
+    /// The credit of each Ack, 1 to 15. No more Acks wait than that.
     pub fn window(&self) -> u8
         ensures value { result ≡ self.now.window }
+        ensures at_least { 1 ≤ result }
         ensures at_most { result ≤ 15 }
+        ensures expected { self.now.expected < 128 }
+        ensures waiting { self.now.waiting ≤ self.now.window }
     {
         self.window.units()
     }

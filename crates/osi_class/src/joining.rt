@@ -1,15 +1,14 @@
 ghost use Rattle.std.specs.Prelude.{◌≡◌, ◌≤◌, ◌+◌, [], true, length, option_map};
 ghost use Rattle.osi_class.specs.Joining.{Pops, joined};
-ghost use Rattle.osi_class.specs.Taking.{Takes};
+ghost use Rattle.osi_class.specs.Link.{part_needs_memory};
+ghost use Rattle.osi_class.specs.Taking.{TakesUnit};
 
 use crate::faults::LinkFault;
+use crate::limits::LONGEST_TSDU;
 use std::alloc::Global;
 use std::collections::VecDeque;
 use std::marker::Model;
 use std::mem;
-
-/// The longest TSDU that is taken, in octets.
-pub const LONGEST_TSDU: usize = 1_048_576;
 
 /// The TSDUs that were taken: the one whose end has not come, and those that stand whole.
 #[derive(Drop)]
@@ -21,13 +20,14 @@ pub struct Incoming {
 
 impl Model for Incoming {
     ghost use Rattle.std.specs.Prelude.{◌≤◌, length, map};
+    ghost use Rattle.osi_class.specs.declared.limits.TheConstants.{LONGEST_TSDU};
     ghost use Rattle.osi_class.specs.Joining.{Joining};
 
     ghost Value = { Joining };
 
     ghost view = { λ i. record { begun = i.begun.items; whole = map (λ v. v.items) i.whole.items } };
 
-    ghost invariant = { λ i. length i.begun.items ≤ 1048576 };
+    ghost invariant = { λ i. length i.begun.items ≤ LONGEST_TSDU };
 }
 
 impl Incoming {
@@ -44,10 +44,11 @@ impl Incoming {
     }
 
     /// Takes a part of a TSDU, whose octets are copied once. A TSDU of over [`LONGEST_TSDU`] octets
-    /// is `TsduTooLong`. After a fault nothing has changed.
+    /// is `TsduTooLong`. After a fault nothing has changed. Memory is needed only for a part that has
+    /// an octet or ends its TSDU.
     #[inline(always)]
     pub fn join(&mut self, last: bool, octets: &[u8]) -> Result<(), LinkFault>
-        ensures { Takes result (joined self.old last octets.now) self.old self.new }
+        ensures { TakesUnit result (part_needs_memory last octets.now) (joined self.old last octets.now) self.old self.new }
     {
         if octets.len() > LONGEST_TSDU - self.begun.len() {
             return Err(LinkFault::TsduTooLong);
@@ -61,11 +62,14 @@ impl Incoming {
     /// Takes a part that begins, continues or ends a TSDU of several.
     #[inline(never)]
     fn take_part(&mut self, last: bool, octets: &[u8]) -> Result<(), LinkFault>
-        requires { length self.old.begun + length octets.now ≤ 1048576 }
-        ensures { Takes result (joined self.old last octets.now) self.old self.new }
+        requires { length self.old.begun + length octets.now ≤ LONGEST_TSDU }
+        ensures { TakesUnit result (part_needs_memory last octets.now) (joined self.old last octets.now) self.old self.new }
     {
         if last {
             return self.finish(octets);
+        }
+        if octets.is_empty() {
+            return Ok(());
         }
         match self.begun.extend_from_slice(octets) {
             Ok(()) => Ok(()),
@@ -77,8 +81,8 @@ impl Incoming {
     #[inline(always)]
     fn take_whole(&mut self, octets: &[u8]) -> Result<(), LinkFault>
         requires begun { self.old.begun ≡ [] }
-        requires short { length octets.now ≤ 1048576 }
-        ensures { Takes result (joined self.old true octets.now) self.old self.new }
+        requires short { length octets.now ≤ LONGEST_TSDU }
+        ensures { TakesUnit result true (joined self.old true octets.now) self.old self.new }
     {
         let Ok(tsdu) = Vec::from_slice(self.alloc, octets) else {
             return Err(LinkFault::OutOfMemory);
@@ -91,8 +95,8 @@ impl Incoming {
 
     /// Takes the last part of a TSDU. The room for it among those that stand whole is made first.
     fn finish(&mut self, octets: &[u8]) -> Result<(), LinkFault>
-        requires { length self.old.begun + length octets.now ≤ 1048576 }
-        ensures { Takes result (joined self.old true octets.now) self.old self.new }
+        requires { length self.old.begun + length octets.now ≤ LONGEST_TSDU }
+        ensures { TakesUnit result true (joined self.old true octets.now) self.old self.new }
     {
         if self.whole.reserve(1).is_err() {
             return Err(LinkFault::OutOfMemory);
@@ -103,6 +107,14 @@ impl Incoming {
         let tsdu = mem::replace(&mut self.begun, Vec::new(self.alloc));
         self.whole.push_back_reserved(tsdu);
         Ok(())
+    }
+
+    /// How many octets were taken of the TSDU whose end has not come, at most [`LONGEST_TSDU`].
+    pub fn begun_octets(&self) -> usize
+        ensures value { result ≡ length self.now.begun }
+        ensures at_most { result ≤ LONGEST_TSDU }
+    {
+        self.begun.len()
     }
 
     /// The first TSDU that stands whole. It is not copied.

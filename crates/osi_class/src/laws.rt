@@ -1,25 +1,28 @@
 //! Laws of the definitions that the contracts cite. Each function does nothing: its clauses are the
 //! laws.
 
-ghost use Rattle.std.specs.Prelude.{Bool, ◌≡◌, ◌+◌, ◌%◌, ◌<◌, ◌≤◌, ◌++◌, ◌∷◌, ℕ, ◌↔◌, ◌⊎◌, List, [], map, Some, None, Ok, true};
+ghost use Rattle.std.specs.Prelude.{Bool, ◌≡◌, ◌+◌, ◌-◌, ◌%◌, ◌<◌, ◌≤◌, ◌++◌, ◌∷◌, ℕ, ◌↔◌, ◌⊎◌, List, [], map, Some, None, Ok, Option, is_some, true};
 ghost use Rattle.std.specs.List.{flat_map, AllByRecursion};
-ghost use Rattle.osi_class.specs.Between.{Pair, Turn, Turns, TurnsAlong, swapped, opposite, opened_pair, IsFresh, left_in, right_out, parts_under_way, IsShort, under_way, under_way_before, IsWhole};
-ghost use Rattle.osi_class.specs.Credit.{Direction, InStep, Step, Steps, StepsAlong, known_after, opened, owed, restored};
-ghost use Rattle.osi_class.specs.Directions.{direction, HaveFlows, TurnSteps, Agree};
-ghost use Rattle.osi_class.specs.Ends.{Ends};
+ghost use Rattle.osi_class.specs.Between.{LinkPair, Turn, at_right, Turns, TurnsAlong, swapped, opposite, opened_pair, awaiting_pair, IsFresh, OnlySends, IsQuiet, TakesOldest, given_by, left_in, right_out, parts_under_way, IsShortTsdu, under_way, under_way_before, HasWholeTsdus};
+ghost use Rattle.osi_class.specs.Owed.{Direction, InStep, CreditStep, CreditSteps, StepsAlong, known_after, opened, owed, restored};
+ghost use Rattle.osi_class.specs.Directions.{direction, HaveFlows, TurnSteps, Agree, AgreeZero, AgreeInClass};
+ghost use Rattle.osi_tpdu.specs.declared.limits.SizeCode.{SizeCode};
+ghost use Rattle.osi_class.specs.Ends.{Ends, unit_size, fresh_ends};
 ghost use Rattle.osi_class.specs.Flow.{Flow, fresh_sender, fresh_receiver, acknowledged, is_awaited, steps_before};
 ghost use Rattle.osi_class.specs.Joining.{joined, with_part};
-ghost use Rattle.osi_class.specs.Link.{Standing, Given, next, zero_standing, two_standing};
-ghost use Rattle.osi_class.specs.Runs.{left_to_give, Move, Run, tsdus_in, parts_out, parts_in, tsdus_out};
+ghost use Rattle.osi_class.specs.Link.{Standing, Given, next, is_of_two, unit_of, given_in, zero_standing, two_standing, fresh_two};
+ghost use Rattle.osi_class.specs.Giving.{left_to_give, drained};
+ghost use Rattle.osi_class.specs.Runs.{Move, Moves, MovesAlong, give_out, tsdus_in, parts_out, parts_in, tsdus_out};
+ghost use Rattle.osi_class.specs.Sound.{IsSound, TakesInRange};
 ghost use Rattle.osi_class.specs.Tsdus.{Part, MakeTheSame, tsdus, tsdus_after, uncut};
 
 /// What a link gave in a list of calls, followed by what is still to be given, has the TSDUs that
 /// were to be sent before and those handed in, in order. At a link that had nothing to send these
 /// are exactly those handed in.
 pub fn what_is_sent()
-    ensures kept { (old new : Standing) (moves : List Move) → Run old moves new →
+    ensures kept { (old new : Standing) (moves : List Move) → MovesAlong old moves new →
         MakeTheSame (parts_out moves ++ uncut new.ends.unsent) (uncut (old.ends.unsent ++ tsdus_in moves)) }
-    ensures all { (old new : Standing) (moves : List Move) → Run old moves new → old.ends.unsent ≡ [] →
+    ensures all { (old new : Standing) (moves : List Move) → MovesAlong old moves new → old.ends.unsent ≡ [] →
         tsdus (parts_out moves ++ uncut new.ends.unsent) ≡ tsdus_in moves }
 {}
 
@@ -27,10 +30,10 @@ pub fn what_is_sent()
 /// TSDUs of the units that were taken; what comes later continues the TSDU whose end has not come.
 /// So nothing is handed out before its EOT.
 pub fn what_is_taken()
-    ensures kept { (old new : Standing) (moves : List Move) (later : List Part) → Run old moves new →
+    ensures kept { (old new : Standing) (moves : List Move) (later : List Part) → MovesAlong old moves new →
         old.ends.joining.whole ++ tsdus_after old.ends.joining.begun (parts_in moves ++ later)
         ≡ tsdus_out moves ++ (new.ends.joining.whole ++ tsdus_after new.ends.joining.begun later) }
-    ensures all { (old new : Standing) (moves : List Move) → Run old moves new →
+    ensures all { (old new : Standing) (moves : List Move) → MovesAlong old moves new →
         old.ends.joining.whole ≡ [] → old.ends.joining.begun ≡ [] →
         tsdus (parts_in moves) ≡ tsdus_out moves ++ new.ends.joining.whole }
 {}
@@ -41,10 +44,10 @@ pub fn what_is_taken()
 /// keeps it.
 pub fn what_is_owed()
     ensures begins { (window : ℕ) → window ≤ 15 → InStep (opened window) 0 }
-    ensures kept { (step : Step) (old new : Direction) (known : ℕ) → InStep old known → Steps step old new →
+    ensures kept { (step : CreditStep) (old new : Direction) (known : ℕ) → InStep old known → CreditSteps step old new →
         InStep new (known_after step known) }
-    ensures window_kept { (step : Step) (old new : Direction) → Steps step old new → new.receiver.window ≡ old.receiver.window }
-    ensures always { (window : ℕ) (steps : List Step) (d : Direction) → window ≤ 15 → StepsAlong (opened window) steps d →
+    ensures window_kept { (step : CreditStep) (old new : Direction) → CreditSteps step old new → new.receiver.window ≡ old.receiver.window }
+    ensures always { (window : ℕ) (steps : List CreditStep) (d : Direction) → window ≤ 15 → StepsAlong (opened window) steps d →
         owed d ≡ window }
 {}
 
@@ -70,14 +73,14 @@ pub fn numbers_are_counts()
 /// to right, then what is handed in at the left, is what is handed out at the right, then what is
 /// under way after it. The other direction is the same law with the links swapped.
 pub fn what_is_between()
-    ensures kept { (old new : Pair) (turns : List Turn) (later : List (List ℕ)) → TurnsAlong old turns new →
+    ensures kept { (old new : LinkPair) (turns : List Turn) (later : List (List ℕ)) → TurnsAlong old turns new →
         under_way_before old (flat_map left_in turns ++ later) ≡ flat_map right_out turns ++ under_way_before new later }
     ensures begins { (left right : Standing) → IsFresh left → IsFresh right →
-        IsWhole (opened_pair left right) × (under_way (opened_pair left right) ≡ []) }
-    ensures whole { (old new : Pair) (turns : List Turn) → IsWhole old → TurnsAlong old turns new →
+        HasWholeTsdus (opened_pair left right) × (under_way (opened_pair left right) ≡ []) }
+    ensures whole { (old new : LinkPair) (turns : List Turn) → HasWholeTsdus old → TurnsAlong old turns new →
         under_way old ++ flat_map left_in turns ≡ flat_map right_out turns ++ under_way new }
-    ensures stays_whole { (old new : Pair) (turns : List Turn) → IsWhole old → TurnsAlong old turns new → IsWhole new }
-    ensures other_way { (old new : Pair) (turns : List Turn) → TurnsAlong old turns new →
+    ensures stays_whole { (old new : LinkPair) (turns : List Turn) → HasWholeTsdus old → TurnsAlong old turns new → HasWholeTsdus new }
+    ensures other_way { (old new : LinkPair) (turns : List Turn) → TurnsAlong old turns new →
         TurnsAlong (swapped old) (map opposite turns) (swapped new) }
 {}
 
@@ -93,25 +96,101 @@ pub fn when_nothing_comes()
 /// that begin with the receiver's window as the sender's credit agree after every list of calls, and
 /// what is owed is the window.
 pub fn credit_between()
-    ensures steps { (turn : Turn) (old new : Pair) (l r : Flow) → HaveFlows old l r → Turns turn old new → TurnSteps old l r new }
+    ensures steps { (turn : Turn) (old new : LinkPair) (l r : Flow) → HaveFlows old l r → Turns turn old new → TurnSteps old l r new }
     ensures begins { (left right : Standing) (l r : Flow) (units : ℕ) → left.flow ≡ Some l → right.flow ≡ Some r →
         l.sender ≡ fresh_sender units → r.receiver ≡ fresh_receiver units → units ≤ 15 → Agree (opened_pair left right) units }
-    ensures kept { (turns : List Turn) (old new : Pair) (units : ℕ) → Agree old units → TurnsAlong old turns new → Agree new units }
-    ensures owed { (p : Pair) (units : ℕ) (a : Agree p units) → owed (direction a.left_flow p a.right_flow) ≡ units }
+    ensures kept { (turns : List Turn) (old new : LinkPair) (units : ℕ) → Agree old units → TurnsAlong old turns new → Agree new units }
+    ensures owed { (p : LinkPair) (units : ℕ) (a : Agree p units) → owed (direction a.left_flow p a.right_flow) ≡ units }
 {}
 
-/// Each unit that a link gives leaves less to give, so a loop over `next_out` ends.
+/// Each unit that a link gives leaves less to give, so a loop over `next_out` ends. It is a unit of the
+/// link's class: a DT of class 0 alone in class 0, and a DT of class 2 or an AK in class 2. What was
+/// taken stays as it is.
 pub fn giving_ends()
-    ensures { (old new : Standing) (given : Given) → 0 < old.ends.limit → next old ≡ Some (given, new) →
+    ensures less { (old new : Standing) (given : Given) → 0 < old.ends.limit → next old ≡ Some (given, new) →
         left_to_give new < left_to_give old }
+    ensures class { (old new : Standing) (given : Given) → next old ≡ Some (given, new) → is_of_two given ≡ is_some old.flow }
+    ensures joining { (old new : Standing) (given : Given) → next old ≡ Some (given, new) → new.ends.joining ≡ old.ends.joining }
+{}
+
+/// What a link gives until it gives none, and the link after that (`drained`): nothing where it gives
+/// none, and else the next unit and what is given after it. Then nothing comes. It is what the calls
+/// of `next_out` give, and what was taken stays as it is.
+pub fn all_is_given()
+    ensures none { (s : Standing) → next s ≡ None → drained s ≡ record { units = []; link = s } }
+    ensures some { (s t : Standing) (unit : Given) → 0 < s.ends.limit → next s ≡ Some (unit, t) →
+        drained s ≡ record { units = unit ∷ (drained t).units; link = (drained t).link } }
+    ensures ends { (s : Standing) → 0 < s.ends.limit → next (drained s).link ≡ None }
+    ensures moves { (s : Standing) → MovesAlong s (map give_out (drained s).units) (drained s).link }
+    ensures limit { (s : Standing) → (drained s).link.ends.limit ≡ s.ends.limit }
+    ensures joining { (s : Standing) → (drained s).link.ends.joining ≡ s.ends.joining }
+    ensures class { (s : Standing) → is_some (drained s).link.flow ≡ is_some s.flow }
+{}
+
+/// A link begins with the bounds of `IsSound` and keeps them in every call, for units whose numbers are
+/// in the range of their fields. In every call it keeps its limit and its class.
+pub fn a_link_keeps_its_bounds()
+    ensures class_0 { (size : Option SizeCode) → IsSound (zero_standing (fresh_ends (unit_size size - 3))) }
+    ensures class_2 { (size : Option SizeCode) (window credit : ℕ) → 1 ≤ window → window ≤ 15 → credit ≤ 15 →
+        IsSound (two_standing (fresh_two (unit_size size) window credit).ends (fresh_two (unit_size size) window credit).flow) }
+    ensures kept { (move : Move) (old new : Standing) → IsSound old → TakesInRange move → Moves move old new → IsSound new }
+    ensures limit { (move : Move) (old new : Standing) → Moves move old new → new.ends.limit ≡ old.ends.limit }
+    ensures class { (move : Move) (old new : Standing) → Moves move old new → is_some new.flow ≡ is_some old.flow }
 {}
 
 /// Between two links whose users hand in TSDUs of at most 1,048,576 octets, none that is under way
 /// has more, and no part of one is refused as too long.
 pub fn no_tsdu_is_too_long()
-    ensures kept { (old new : Pair) (turns : List Turn) → IsWhole old → AllByRecursion IsShort (under_way old) →
-        AllByRecursion IsShort (flat_map left_in turns) → TurnsAlong old turns new → AllByRecursion IsShort (under_way new) }
-    ensures part { (p : Pair) (end : Bool) (octets : List ℕ) (rest : List Part) → IsWhole p → AllByRecursion IsShort (under_way p) →
+    ensures kept { (old new : LinkPair) (turns : List Turn) → HasWholeTsdus old → AllByRecursion IsShortTsdu (under_way old) →
+        AllByRecursion IsShortTsdu (flat_map left_in turns) → TurnsAlong old turns new → AllByRecursion IsShortTsdu (under_way new) }
+    ensures part { (p : LinkPair) (end : Bool) (octets : List ℕ) (rest : List Part) → HasWholeTsdus p → AllByRecursion IsShortTsdu (under_way p) →
         parts_under_way p.rightward ≡ (end, octets) ∷ rest →
         joined p.right.ends.joining end octets ≡ Ok (with_part p.right.ends.joining end octets) }
+{}
+
+/// A unit that a link gives, written for any reference, brings its peer's link what was given.
+pub fn a_unit_says_what_was_given()
+    ensures { (destination : ℕ) (unit : Given) → given_in (unit_of destination unit) ≡ unit ∷ [] }
+{}
+
+/// Two links of class 0 with none but units of class 0 between them stay so, whatever is called. With
+/// [`credit_between`], which says it of class 2, links that were opened in one class agree after every
+/// list of calls.
+pub fn class_0_between()
+    ensures begins { (left right : Standing) → left.flow ≡ None → right.flow ≡ None → AgreeZero (opened_pair left right) }
+    ensures kept { (turns : List Turn) (old new : LinkPair) → AgreeZero old → TurnsAlong old turns new → AgreeZero new }
+{}
+
+/// Between links that agree, with whole TSDUs under way and none that is too long, the unit that is
+/// oldest under way is taken: a DT or an AK, in both classes.
+pub fn the_oldest_is_taken()
+    ensures class_0 { (p : LinkPair) (unit : Given) (rest : List Given) (destination : ℕ) → AgreeZero p → HasWholeTsdus p →
+        AllByRecursion IsShortTsdu (under_way p) → p.rightward ≡ unit ∷ rest → TakesOldest p (unit_of destination unit) rest }
+    ensures class_2 { (p : LinkPair) (units back : ℕ) (unit : Given) (rest : List Given) (destination : ℕ) →
+        Agree p units → Agree (swapped p) back → HasWholeTsdus p →
+        AllByRecursion IsShortTsdu (under_way p) → p.rightward ≡ unit ∷ rest → TakesOldest p (unit_of destination unit) rest }
+{}
+
+/// Between links that agree, where no unit is under way, neither link gives one and no whole TSDU
+/// waits to be handed out, nothing is left behind: what was handed in at the left is what was handed
+/// out at the right, over every list of calls, nothing is unsent, and no TSDU is begun.
+pub fn all_arrives()
+    ensures handed { (old new : LinkPair) (turns : List Turn) → HasWholeTsdus old → under_way old ≡ [] → TurnsAlong old turns new →
+        AgreeInClass new → IsQuiet new → flat_map left_in turns ≡ flat_map right_out turns }
+    ensures unsent { (p : LinkPair) → AgreeInClass p → IsQuiet p → p.left.ends.unsent ≡ [] }
+    ensures begun { (p : LinkPair) → HasWholeTsdus p → p.rightward ≡ [] → p.left.ends.unsent ≡ [] → p.right.ends.joining.begun ≡ [] }
+    ensures under_way { (p : LinkPair) → p.rightward ≡ [] → p.left.ends.unsent ≡ [] → p.right.ends.joining.whole ≡ [] → under_way p ≡ [] }
+{}
+
+/// A link may send before its peer's link is opened. The pair then begins with the units that it gave
+/// under way, as if both links had been open from the start; so the other laws hold from there on.
+pub fn units_before_opening()
+    ensures turns { (left right new : Standing) (moves : List Move) → AllByRecursion OnlySends moves → MovesAlong right moves new →
+        TurnsAlong (opened_pair left right) (map at_right moves) (awaiting_pair left new (flat_map given_by moves)) }
+    ensures whole { (left right new : Standing) (moves : List Move) → IsFresh left → IsFresh right → AllByRecursion OnlySends moves →
+        MovesAlong right moves new → HasWholeTsdus (awaiting_pair left new (flat_map given_by moves)) }
+    ensures whole_back { (left right new : Standing) (moves : List Move) → IsFresh left → IsFresh right → AllByRecursion OnlySends moves →
+        MovesAlong right moves new → HasWholeTsdus (swapped (awaiting_pair left new (flat_map given_by moves))) }
+    ensures under_way { (left right new : Standing) (moves : List Move) → IsFresh left → IsFresh right → AllByRecursion OnlySends moves →
+        MovesAlong right moves new → under_way (swapped (awaiting_pair left new (flat_map given_by moves))) ≡ tsdus_in moves }
 {}

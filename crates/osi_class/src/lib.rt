@@ -9,6 +9,7 @@ mod faults;
 mod flow;
 mod joining;
 pub mod laws;
+mod limits;
 mod links;
 mod negotiation;
 mod sending;
@@ -20,11 +21,12 @@ pub use class_two::Class2;
 pub use class_zero::Class0;
 pub use either::AnyLink;
 pub use faults::LinkFault;
-pub use joining::LONGEST_TSDU;
+pub use limits::{Credit, LONGEST_TSDU};
 pub use links::Link;
 pub use negotiation::answer;
+pub use sizes::smaller_size;
 pub use terms::{Answer, Class, Local};
-pub use units::Out;
+pub use units::{Out, Room};
 
 #[cfg(test)]
 mod tests;

@@ -1,5 +1,5 @@
 use crate::faults::LinkFault;
-use crate::units::Out;
+use crate::units::{Out, Room};
 use osi_tpdu::Tpdu;
 use std::alloc::AllocError;
 
@@ -10,12 +10,15 @@ use std::alloc::AllocError;
 /// their order. What a link holds and each call does is stated on its `standing`, which both
 /// classes have; the laws over lists of calls are in [`crate::laws`].
 pub trait Link {
-    ghost use Rattle.std.specs.Prelude.{◌≡◌, ◌<◌, IfSome, OnOk, OnErr, option_map};
+    ghost use Rattle.std.specs.Prelude.{◌≡◌, ◌≤◌, ◌+◌, ◌*◌, None, length, IfSome, OnOk, OnErr, option_map};
     ghost use Rattle.std.specs.Borrow.{sem};
     ghost use Rattle.std.specs.Io.BufRead.{Rests};
     ghost use Rattle.osi_tpdu.specs.View.{value};
-    ghost use Rattle.osi_class.specs.Link.{Standing, with_tsdu, taken, next, Gives, Hands, IsInRange};
-    ghost use Rattle.osi_class.specs.Taking.{Takes};
+    ghost use Rattle.osi_class.specs.declared.limits.TheConstants.{LONGEST_TSDU};
+    ghost use Rattle.osi_class.specs.Giving.{all_given, octets_in};
+    ghost use Rattle.osi_class.specs.Link.{Standing, with_tsdu, taken, needs_memory, next, Gives, Hands, FitsAUnit};
+    ghost use Rattle.osi_class.specs.Sound.{IsSound};
+    ghost use Rattle.osi_class.specs.Taking.{TakesUnit};
 
     ghost standing: { Self → Standing };
 
@@ -23,23 +26,43 @@ pub trait Link {
     /// Where no memory is found, nothing has changed.
     fn send_tsdu(&mut self, tsdu: &[u8]) -> Result<(), AllocError>
         ensures ok { OnOk result (standing self.new ≡ with_tsdu (standing self.old) tsdu.now) }
-        ensures err { OnErr result (self.new ≡ self.old) };
+        ensures err { OnErr result (self.new ≡ self.old) }
+        ensures limit { (standing self.new).ends.limit ≡ (standing self.old).ends.limit };
 
     /// Takes a unit that came for this connection. It is refused with the first fault that applies,
-    /// in the order of [`LinkFault`], and the link is then as before.
+    /// in the order of [`LinkFault`], and the link is then as before. `OutOfMemory` comes only for a
+    /// DT that would be taken and that has an octet or ends its TSDU.
     fn take(&mut self, unit: &Tpdu<'_>) -> Result<(), LinkFault>
-        ensures { Takes result (taken (standing self.old) (value unit.now)) (standing self.old) (standing self.new) };
+        ensures taken { TakesUnit result (needs_memory (value unit.now)) (taken (standing self.old) (value unit.now)) (standing self.old) (standing self.new) }
+        ensures limit { (standing self.new).ends.limit ≡ (standing self.old).ends.limit };
 
     /// The next unit to be written, none exactly where no Ack waits and either no data is left or,
     /// in class 2, there is no credit. A part of a TSDU is lent from where the TSDU is kept, and no
-    /// memory is taken. The place for data in a unit is never empty.
+    /// memory is taken. A unit carries at least 123 octets, but for the last of a TSDU, and at most
+    /// 8,189. Each leaves less to give, so that a loop ends ([`crate::laws::giving_ends`]).
     fn next_out(&mut self) -> Option<Out<'_>>
         ensures* given { sem 𝓛 (Rests Self.row self.entry (λ new. Gives result (next (standing self.old)) (standing self.old) (standing new))) }
-        ensures in_range { IfSome result IsInRange }
-        ensures room { 0 < (standing self.old).ends.limit };
+        ensures fits { IfSome result FitsAUnit }
+        ensures at_least { 123 ≤ (standing self.old).ends.limit }
+        ensures at_most { (standing self.old).ends.limit ≤ 8189 };
 
     /// The first TSDU of which all units were taken, none exactly where none is whole. It is not
     /// copied.
     fn next_tsdu(&mut self) -> Option<Vec<u8>>
-        ensures { Hands (option_map (λ v. v.items) result) (standing self.old) (standing self.new) };
+        ensures handed { Hands (option_map (λ v. v.items) result) (standing self.old) (standing self.new) }
+        ensures limit { (standing self.new).ends.limit ≡ (standing self.old).ends.limit };
+
+    /// How many octets were taken of the TSDU whose end has not come, at most 1,048,576.
+    fn begun_octets(&self) -> usize
+        ensures value { result ≡ length (standing self.now).ends.joining.begun }
+        ensures at_most { result ≤ LONGEST_TSDU }
+        ensures sound { IsSound (standing self.now) };
+
+    /// What the units take that [`Link::next_out`] gives, up to none, once this TSDU is handed in at
+    /// a link that gives none now: how many they are, and how many octets of TSDUs are in them.
+    fn room_for(&self, tsdu: &[u8]) -> Room
+        ensures units { next (standing self.now) ≡ None → result.units ≡ length (all_given (with_tsdu (standing self.now) tsdu.now)) }
+        ensures octets { next (standing self.now) ≡ None → result.octets ≡ octets_in (all_given (with_tsdu (standing self.now) tsdu.now)) }
+        ensures few_units { 123 * result.units ≤ length tsdu.now + 123 }
+        ensures few_octets { result.octets ≤ length tsdu.now };
 }

@@ -1,16 +1,52 @@
-ghost use Rattle.std.specs.Prelude.{◌≡◌, ◌≤◌};
+ghost use Rattle.std.specs.Prelude.{◌≡◌, ◌<◌, ◌≤◌, ◌+◌, ◌*◌, min};
+ghost use Rattle.osi_tpdu.specs.Limits.{size_code};
 ghost use Rattle.osi_class.specs.Ends.{unit_size};
+ghost use Rattle.osi_class.specs.Giving.{parts_needed};
 
+use crate::units::Room;
 use osi_tpdu::SizeCode;
+
+/// The smaller of two sizes, as of the one that is proposed and the one that an end accepts (X.224
+/// section 13.3.4).
+pub fn smaller_size(a: SizeCode, b: SizeCode) -> SizeCode
+    ensures { size_code result ≡ min (size_code a) (size_code b) }
+{
+    if a.code() <= b.code() { a } else { b }
+}
 
 /// The most octets that a unit has, header included: the selected size, or 128 where none was
 /// selected (X.224 section 13.3.4).
 pub fn most_octets(size: Option<SizeCode>) -> usize
     ensures value { result ≡ unit_size size }
     ensures at_least { 128 ≤ result }
+    ensures at_most { result ≤ 8192 }
 {
     match size {
         None => 128,
         Some(code) => code.octets(),
+    }
+}
+
+/// In how many parts of `limit` octets or fewer a TSDU of so many octets is cut.
+pub fn count_parts(limit: usize, octets: usize) -> usize
+    requires { 123 ≤ limit }
+    ensures value { result ≡ parts_needed limit octets }
+    ensures at_most { 123 * result ≤ octets + 123 }
+{
+    octets.saturating_sub(1) / limit + 1
+}
+
+/// What is given of a TSDU of so many octets with this credit, in parts of `limit` octets or fewer.
+pub fn room_within(limit: usize, credit: u8, octets: usize) -> Room
+    requires at_least { 123 ≤ limit }
+    requires at_most { limit ≤ 8189 }
+    ensures units { result.units ≡ min (parts_needed limit octets) credit }
+    ensures octets { result.octets ≡ min octets (credit * limit) }
+    ensures few_units { 123 * result.units ≤ octets + 123 }
+{
+    let credit = usize::from(credit);
+    Room {
+        units: count_parts(limit, octets).min(credit),
+        octets: octets.min(credit * limit),
     }
 }

@@ -92,9 +92,10 @@ fn the_low_half_of_a_listed_class_does_not_count(rt: HostRuntime) -> Result<(), 
 /// EOT, number and count of octets of the next unit, if it is a DT.
 fn next_data(link: &mut impl Link) -> Option<(bool, u8, usize)> {
     match link.next_out()? {
-        Out::Data {
-            end,
+        Out::Data0 { end, octets } => Some((end, 0, octets.len())),
+        Out::Data2 {
             number,
+            end,
             octets,
         } => Some((end, number, octets.len())),
         Out::Ack { .. } => None,
@@ -104,8 +105,8 @@ fn next_data(link: &mut impl Link) -> Option<(bool, u8, usize)> {
 /// Number and credit of the next unit, if it is an AK.
 fn next_ack(link: &mut impl Link) -> Option<(u8, u8)> {
     match link.next_out()? {
-        Out::Data { .. } => None,
         Out::Ack { number, credit } => Some((number, credit)),
+        _ => None,
     }
 }
 
@@ -171,7 +172,7 @@ fn a_tsdu_is_cut_at_the_size(rt: HostRuntime) -> Result<(), Fail> {
 #[test]
 fn an_ack_sets_the_upper_edge(rt: HostRuntime) -> Result<(), Fail> {
     let window = Window::new(4).ok_or("window")?;
-    let mut link = Class2::new(rt.alloc(), SizeCode::new(7), window, 3).ok_or("credit")?;
+    let mut link = Class2::new(rt.alloc(), SizeCode::new(7), window, Credit::of(3));
     assert_eq!(rt;
         link.take(&acknowledgement(0, 2)),
         Err(LinkFault::CreditReduced)
@@ -187,14 +188,14 @@ fn an_ack_sets_the_upper_edge(rt: HostRuntime) -> Result<(), Fail> {
     }
     link.send_tsdu(b"A")?;
     assert_eq!(rt; next_data(&mut link), None);
-    assert!(rt; Class2::new(rt.alloc(), None, window, 16).is_none());
+    assert!(rt; Credit::new(16).is_none());
     Ok(())
 }
 
 #[test]
 fn numbers_go_round(rt: HostRuntime) -> Result<(), Fail> {
     let window = Window::new(1).ok_or("window")?;
-    let mut link = Class2::new(rt.alloc(), SizeCode::new(7), window, 1).ok_or("credit")?;
+    let mut link = Class2::new(rt.alloc(), SizeCode::new(7), window, Credit::of(1));
     let tsdu = vec![in rt.alloc(); 0x5a; 15_868]?;
     link.send_tsdu(tsdu.as_slice())?;
     for unit in 0..129u8 {
@@ -211,7 +212,7 @@ fn numbers_go_round(rt: HostRuntime) -> Result<(), Fail> {
 #[test]
 fn each_unit_taken_gives_one_ack(rt: HostRuntime) -> Result<(), Fail> {
     let window = Window::new(2).ok_or("window")?;
-    let class2 = Class2::new(rt.alloc(), None, window, 0).ok_or("credit")?;
+    let class2 = Class2::new(rt.alloc(), None, window, Credit::of(0));
     let mut link = AnyLink::Two(class2);
     assert_eq!(rt;
         link.take(&data_unit(1, true, b"A")),

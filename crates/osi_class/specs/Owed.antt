@@ -38,31 +38,31 @@ pub record InStep (d : Direction) (known : ℕ) : Type 0 where
   pub owed : owed d ≡ d.receiver.window
   pub window : d.receiver.window ≤ 15
 
-pub data Step : Type 0 where
-  write_unit : Step
-  take_unit : Step
-  write_ack : Step
-  take_ack : Step
+pub data CreditStep : Type 0 where
+  write_unit : CreditStep
+  take_unit : CreditStep
+  write_ack : CreditStep
+  take_ack : CreditStep
 
 -- what each step does, as the links do it
-abbrev pub Steps : Step → Direction → Direction → Type 0
-Steps write_unit old new = (0 < old.sender.credit) ×
+abbrev pub CreditSteps : CreditStep → Direction → Direction → Type 0
+CreditSteps write_unit old new = (0 < old.sender.credit) ×
     (new ≡ record old { sender = after_sent old.sender; units = old.units ++ old.sender.next ∷ [] })
-Steps take_unit old new = (number : ℕ) × (rest : List ℕ) × (old.units ≡ number ∷ rest) × (is_awaited old.receiver number ≡ true) ×
+CreditSteps take_unit old new = (number : ℕ) × (rest : List ℕ) × (old.units ≡ number ∷ rest) × (is_awaited old.receiver number ≡ true) ×
     (new ≡ record old { units = rest; receiver = after_taken old.receiver })
-Steps write_ack old new = (0 < old.receiver.waiting) ×
+CreditSteps write_ack old new = (0 < old.receiver.waiting) ×
     (new ≡ record old { receiver = after_acked old.receiver; acks = old.acks ++ (ack_number old.receiver, old.receiver.window) ∷ [] })
-Steps take_ack old new = (ack : ℕ × ℕ) × (rest : List (ℕ × ℕ)) × (sender : Sender) × (old.acks ≡ ack ∷ rest) × (acknowledged old.sender ack.0 ack.1 ≡ Ok sender) ×
+CreditSteps take_ack old new = (ack : ℕ × ℕ) × (rest : List (ℕ × ℕ)) × (sender : Sender) × (old.acks ≡ ack ∷ rest) × (acknowledged old.sender ack.0 ack.1 ≡ Ok sender) ×
     (new ≡ record old { sender = sender; acks = rest })
 
-abbrev pub known_after : Step → ℕ → ℕ
+abbrev pub known_after : CreditStep → ℕ → ℕ
 known_after take_ack known = known + 1
 known_after step known = known
 
 -- steps one after the other
-abbrev pub StepsAlong : Direction → List Step → Direction → Type 0
+abbrev pub StepsAlong : Direction → List CreditStep → Direction → Type 0
 StepsAlong old [] new = new ≡ old
-StepsAlong old (step ∷ steps) new = (mid : Direction) × Steps step old mid × StepsAlong mid steps new
+StepsAlong old (step ∷ steps) new = (mid : Direction) × CreditSteps step old mid × StepsAlong mid steps new
 
 -- a direction where nothing was sent and the whole window is open
 abbrev pub opened : ℕ → Direction

@@ -1,0 +1,5 @@
+use Rattle.osi_class.proofs.Oldest.{said}
+use Rattle.osi_class.proofs.laws.a_unit_says_what_was_given.Goals as goal
+
+pub returns : goal.returns
+returns c = said

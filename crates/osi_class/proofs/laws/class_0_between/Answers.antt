@@ -1,0 +1,8 @@
+use Rattle.osi_class.proofs.Classes.{zero_begins, zero_turns}
+use Rattle.osi_class.proofs.laws.class_0_between.Goals as goal
+
+pub returns-clause-begins : goal.returns-clause-begins
+returns-clause-begins c = zero_begins
+
+pub returns-clause-kept : goal.returns-clause-kept
+returns-clause-kept c = zero_turns

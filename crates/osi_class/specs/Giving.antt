@@ -1,0 +1,52 @@
+-- All that a link gives, one unit after the other, until it gives none.
+use Rattle.std.specs.Prelude.{ℕ, zero, suc, ◌+◌, ◌-◌, ◌/◌, List, [], ◌∷◌, length, Option, Some, None}
+use Rattle.osi_class.specs.Flow.{Flow}
+use Rattle.osi_class.specs.Link.{Standing, Given, part0, part2, ack, next}
+
+-- how much is left to give: each octet and each TSDU that is to be sent, and each Ack that waits
+abbrev pub left_of_tsdus : List (List ℕ) → ℕ
+left_of_tsdus [] = 0
+left_of_tsdus (tsdu ∷ more) = length tsdu + 1 + left_of_tsdus more
+
+abbrev pub left_of_acks : Option Flow → ℕ
+left_of_acks None = 0
+left_of_acks (Some f) = f.receiver.waiting
+
+abbrev pub left_to_give : Standing → ℕ
+left_to_give s = left_of_tsdus s.ends.unsent + left_of_acks s.flow
+
+-- `units`: what was given, in order; `link`: the link after it
+pub record Drained : Type 0 where
+  pub units : List Given
+  pub link : Standing
+
+-- the next unit, and then what more of the link after it; nothing where there is none
+abbrev pub drained_by : Option (Given × Standing) → Standing → (Standing → Drained) → Drained
+drained_by None s more = record { units = []; link = s }
+drained_by (Some (unit, t)) s more = record { units = unit ∷ (more t).units; link = (more t).link }
+
+-- at most so many units
+abbrev pub drained_within : ℕ → Standing → Drained
+drained_within zero s = record { units = []; link = s }
+drained_within (suc n) s = drained_by (next s) s (drained_within n)
+
+-- Each unit leaves less to give, so that there are no more than what is left to give.
+unfoldable pub drained : Standing → Drained
+drained s = drained_within (left_to_give s) s
+
+abbrev pub all_given : Standing → List Given
+all_given s = (drained s).units
+
+abbrev pub octets_of : Given → ℕ
+octets_of (part0 end octets) = length octets
+octets_of (part2 number end octets) = length octets
+octets_of (ack number credit) = 0
+
+-- the octets of TSDUs in units
+abbrev pub octets_in : List Given → ℕ
+octets_in [] = 0
+octets_in (unit ∷ units) = octets_of unit + octets_in units
+
+-- in how many parts a TSDU of so many octets is cut: an empty one is one part too
+abbrev pub parts_needed : ℕ → ℕ → ℕ
+parts_needed limit octets = (octets - 1) / limit + 1

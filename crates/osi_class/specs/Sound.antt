@@ -1,0 +1,29 @@
+-- The bounds that every link keeps.
+use Rattle.std.specs.Prelude.{◌+◌, ◌<◌, ◌≤◌, length, IfSome}
+use Rattle.osi_tpdu.specs.Value as values
+use Rattle.osi_class.specs.declared.limits.TheConstants.{LONGEST_TSDU}
+use Rattle.osi_class.specs.Flow.{Flow}
+use Rattle.osi_class.specs.Link.{Standing}
+use Rattle.osi_class.specs.Runs.{Move, take_in}
+
+-- units that were sent and not acknowledged, and credit that is open, are 15 at most; a window has 1
+-- to 15 units, and no more Acks wait than it has
+pub record IsSoundFlow (f : Flow) : Type 0 where
+  pub next : f.sender.next < 128
+  pub credit : f.sender.unacknowledged + f.sender.credit ≤ 15
+  pub window_least : 1 ≤ f.receiver.window
+  pub window_most : f.receiver.window ≤ 15
+  pub expected : f.receiver.expected < 128
+  pub waiting : f.receiver.waiting ≤ f.receiver.window
+
+-- a unit carries 123 to 8,189 octets, and a TSDU whose end has not come is not too long
+pub record IsSound (s : Standing) : Type 0 where
+  pub least : 123 ≤ s.ends.limit
+  pub most : s.ends.limit ≤ 8189
+  pub begun : length s.ends.joining.begun ≤ LONGEST_TSDU
+  pub flow : IfSome s.flow IsSoundFlow
+
+-- a unit that is taken has each number in the range of its field
+abbrev pub TakesInRange : Move → Type 0
+TakesInRange (take_in unit) = values.IsInRange unit
+TakesInRange move = Unit {0}

@@ -1,0 +1,44 @@
+ghost use Rattle.std.specs.Prelude.{◌≡◌, ◌≤◌, ◌↔◌, IsSome, IfSome};
+
+/// The longest TSDU that is taken, in octets.
+pub const LONGEST_TSDU: usize = 1_048_576;
+
+/// How many units of class 2 may be sent: the credit that a CR, a CC or an AK gives (X.224 section
+/// 13.3.3).
+#[derive(Clone, Copy, PartialEq, Eq, PartialOrd, Ord, Debug)]
+pub struct Credit {
+    units: u8,
+    pub ghost at_most: { units ≤ 15 },
+}
+
+impl Credit {
+    ghost use Rattle.osi_class.specs.Limits.{credit_units};
+
+    /// A credit of 0 to 15 units; `None` for every other number.
+    pub fn new(units: u8) -> Option<Self>
+        ensures range { IsSome result ↔ (units ≤ 15) }
+        ensures value { IfSome result (λ c. credit_units c ≡ units) }
+    {
+        if units <= 15 {
+            Some(Credit { units })
+        } else {
+            None
+        }
+    }
+
+    /// The credit of so many units, as a CR, a CC or an AK holds it: 0 to 15.
+    pub fn of(units: u8) -> Self
+        requires { units ≤ 15 }
+        ensures { credit_units result ≡ units }
+    {
+        Credit { units }
+    }
+
+    /// The number of units, 0 to 15.
+    pub fn units(self) -> u8
+        ensures value { result ≡ credit_units self }
+        ensures at_most { result ≤ 15 }
+    {
+        self.units
+    }
+}
