@@ -27,6 +27,3 @@ pub use negotiation::answer;
 pub use sizes::smaller_size;
 pub use terms::{Answer, Class, Local};
 pub use units::{Out, Room};
-
-#[cfg(test)]
-mod tests;

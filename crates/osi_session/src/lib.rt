@@ -29,8 +29,3 @@ pub use requests::Request;
 pub use sessions::Session;
 pub use sides::Sides;
 pub use taken::Taken;
-
-#[cfg(test)]
-mod test_words;
-#[cfg(test)]
-mod tests;

@@ -37,6 +37,3 @@ pub use settings::{Side, TokenSetting, Wish};
 pub use tokens::TokenSet;
 pub use units::Spdu;
 pub use writing::{write_tsdu, written_len};
-
-#[cfg(test)]
-mod tests;

@@ -38,6 +38,3 @@ pub use report::ErrorReport;
 pub use tsaps::{Selector, Tsap};
 pub use unit::Tpdu;
 pub use writing::{write, written_len};
-
-#[cfg(test)]
-mod tests;

@@ -18,6 +18,3 @@ pub use cutting::{Cutter, Fed};
 pub use faults::TpktFault;
 pub use packets::{Packet, WriteError, write_in_packet, write_packet};
 pub use units::Unit;
-
-#[cfg(test)]
-mod tests;

@@ -1,7 +1,7 @@
 //! What the tests say: calls, TSDUs and what they show, in few words.
 
-use crate::*;
 use bitflags::Flags;
+use osi_session::*;
 use osi_spdu::{Requirements, Serial, Side, SpduFault, TokenSet, TokenSetting, Wish, read_tsdu};
 use std::alloc::Global;
 use std::test::Fail;

@@ -1,6 +1,6 @@
-use super::*;
 use bitflags::Flags;
 use bytes::BytesMut;
+use osi_spdu::*;
 use osi_tpkt::Unit;
 use std::alloc::Global;
 use std::test::*;

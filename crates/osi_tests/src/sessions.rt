@@ -1,6 +1,6 @@
-use crate::test_words::*;
-use crate::*;
+use crate::session_words::*;
 use bitflags::Flags;
+use osi_session::*;
 use std::test::Fail;
 
 fn opening_goes_on(left: &mut Session, right: &mut Session) -> Result<(), Fail> {

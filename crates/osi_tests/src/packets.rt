@@ -1,5 +1,5 @@
-use super::*;
 use bytes::BytesMut;
+use osi_tpkt::*;
 use std::process::Abort;
 use std::test::Fail;
 

@@ -1,5 +1,5 @@
-use super::*;
 use bytes::BytesMut;
+use osi_tpdu::*;
 use osi_tpkt::Unit;
 use std::test::*;
 

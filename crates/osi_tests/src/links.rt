@@ -1,6 +1,6 @@
 ghost use Rattle.std.specs.Prelude.{◌<◌};
 
-use super::*;
+use osi_class::*;
 use osi_tpdu::{
     ConnectParameters, ConnectRequest, DataAcknowledgement, DataClass0, DataClass2, SizeCode, Tpdu,
     Window,

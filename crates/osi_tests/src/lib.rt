@@ -1,0 +1,18 @@
+//! Tests over the public items of all crates: worked examples, printed text, and that calls succeed
+//! where memory is ample.
+#![tactic(auto)]
+
+#[cfg(test)]
+mod links;
+#[cfg(test)]
+mod listings;
+#[cfg(test)]
+mod packets;
+#[cfg(test)]
+mod session_units;
+#[cfg(test)]
+mod session_words;
+#[cfg(test)]
+mod sessions;
+#[cfg(test)]
+mod transport_units;
