@@ -28,7 +28,7 @@ ghost use Rattle.osi_session.specs.Shown.{MinorConfirmed};
 ghost use Rattle.osi_session.specs.Sound.{IsSound};
 ghost use Rattle.osi_message.specs.Tokens.{Token, has};
 ghost use Rattle.osi_session.specs.Openings.{opening_units, asked_for};
-ghost use Rattle.osi_message.specs.Sendable.{IsSendable};
+ghost use Rattle.osi_message.specs.Sendable.{IsSendable, said_of};
 
 use osi_message::laws;
 
