@@ -16,6 +16,10 @@ with_part j true octets = record { begun = []; whole = j.whole ++ (j.begun ++ oc
 abbrev pub joined : Joining → Bool → List ℕ → Result Joining LinkFault
 joined j last octets = if nat_lt LONGEST_TSDU (length j.begun + length octets) then Err TsduTooLong else Ok (with_part j last octets)
 
+-- one part joined to a TSDU of which so much was taken
+abbrev pub joined_to : List ℕ → Bool → List ℕ → Result Joining LinkFault
+joined_to begun last octets = joined (record { begun = begun; whole = [] }) last octets
+
 -- the first whole TSDU is handed out, none exactly where none stands whole
 abbrev pub Pops : Option (List ℕ) → Joining → Joining → Type 0
 Pops None old new = (old.whole ≡ []) × (new ≡ old)

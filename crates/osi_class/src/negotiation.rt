@@ -1,7 +1,10 @@
-ghost use Rattle.std.specs.Prelude.{◌≡◌, ◌==◌, ◌%◌, ◌/◌, option_map};
+ghost use Rattle.std.specs.Prelude.{◌≡◌, ◌==◌, ◌%◌, ◌/◌, min, option_map};
 ghost use Rattle.std.specs.List.{list_any, list_all};
-ghost use Rattle.osi_class.specs.Negotiation.{proposes, proposes_zero_alone, smaller_size, answer_to};
+ghost use Rattle.osi_tpdu.specs.Limits.{size_code};
+ghost use Rattle.osi_tpdu.specs.View.{request_content};
+ghost use Rattle.osi_class.specs.Negotiation.{proposes, proposes_zero_alone, selection, selected_by};
 
+use crate::sizes::smaller_size;
 use crate::terms::{Answer, Class, Local};
 use osi_tpdu::{ConnectRequest, SizeCode};
 
@@ -19,7 +22,7 @@ const NEGOTIATION_FAILED: u8 = 130;
 /// proposes none, none is selected. In an octet of the alternative classes the high half alone
 /// counts. A refusal gives no reason where class 0 alone was proposed.
 pub fn answer(request: &ConnectRequest<'_>, local: &Local) -> Answer
-    ensures { result ≡ answer_to request.now local.now }
+    ensures { selection result ≡ selected_by (request_content request.now) local.now }
 {
     let size = selected_size(request.parameters.size, local.size);
     if local.class2 && is_proposed(request, 2) && !refuses_flow_control(request) {
@@ -42,7 +45,7 @@ pub fn answer(request: &ConnectRequest<'_>, local: &Local) -> Answer
 
 /// Whether the CR prefers a class or lists it.
 fn is_proposed(request: &ConnectRequest<'_>, class: u8) -> bool
-    ensures { result ≡ proposes request.now class }
+    ensures { result ≡ proposes (request_content request.now) class }
 {
     if request.class == class {
         return true;
@@ -55,7 +58,7 @@ fn is_proposed(request: &ConnectRequest<'_>, class: u8) -> bool
 
 /// Whether the CR prefers class 0 and lists no other.
 fn is_zero_alone(request: &ConnectRequest<'_>) -> bool
-    ensures { result ≡ proposes_zero_alone request.now }
+    ensures { result ≡ proposes_zero_alone (request_content request.now) }
 {
     if request.class != 0 {
         return false;
@@ -90,11 +93,10 @@ fn refuses_flow_control(request: &ConnectRequest<'_>) -> bool
 
 /// The smaller of the proposed size and this end's, or none where none was proposed.
 fn selected_size(proposed: Option<SizeCode>, local: SizeCode) -> Option<SizeCode>
-    ensures { result ≡ option_map (λ size. smaller_size size local) proposed }
+    ensures { option_map size_code result ≡ option_map (λ code. min code (size_code local)) (option_map size_code proposed) }
 {
     match proposed {
         None => None,
-        Some(size) if size.code() <= local.code() => Some(size),
-        Some(_) => Some(local),
+        Some(size) => Some(smaller_size(size, local)),
     }
 }
