@@ -1,7 +1,7 @@
 -- A unit that is in range and has room is written as a spelling of it, which is read again.
 use Rattle.std.proofs.Common.{◌≡◌, [], ◌∷◌, Ok, sym, subst}
 use Rattle.osi_tpdu.specs.declared.unit.Tpdu.{Tpdu}
-use Rattle.osi_tpdu.specs.Value.{IsInRange}
+use Rattle.osi_tpdu.specs.Value.{HasFieldsInRange}
 use Rattle.osi_tpdu.specs.Spelling.{Spells}
 use Rattle.osi_tpdu.specs.Writing.{written, HasRoom}
 use Rattle.osi_tpdu.specs.Packet.{units_of}
@@ -9,8 +9,8 @@ use Rattle.osi_tpdu.specs.View.{value}
 use Rattle.osi_tpdu.specs.Laws.Written.{written_spells}
 use Rattle.osi_tpdu.proofs.PacketLaws.{units_only}
 
-pub unit_spelled : (u t : Tpdu) → u ≡ t → IsInRange (value t) → HasRoom (value u) → Spells (value u) (written (value u))
-unit_spelled u t is range room = written_spells (value u) (record { in_range = subst (λ (w : Tpdu). IsInRange (value w)) (sym is) range; counted = room })
+pub unit_spelled : (u t : Tpdu) → u ≡ t → HasFieldsInRange (value t) → HasRoom (value u) → Spells (value u) (written (value u))
+unit_spelled u t is range room = written_spells (value u) (record { in_range = subst (λ (w : Tpdu). HasFieldsInRange (value w)) (sym is) range; counted = room })
 
-pub unit_read : (u t : Tpdu) → u ≡ t → IsInRange (value t) → HasRoom (value u) → units_of (written (value u)) ≡ Ok (value u ∷ [])
+pub unit_read : (u t : Tpdu) → u ≡ t → HasFieldsInRange (value t) → HasRoom (value u) → units_of (written (value u)) ≡ Ok (value u ∷ [])
 unit_read u t is range room = units_only (written (value u)) (value u ∷ []) (unit_spelled u t is range room)

@@ -10,9 +10,9 @@ abbrev pub ◌>>=◌ : {A B : Type 0} → Result A TpduFault → (A → Result B
 (Err e) >>= f = Err e
 
 -- what a function returned, seen by view, is what reading gives
-abbrev pub Gives : {X Y : Type 0} → (X → Y) → Result X TpduFault → Result Y TpduFault → Type 0
-Gives view (Ok x) read = read ≡ Ok (view x)
-Gives view (Err e) read = read ≡ Err e
+abbrev pub ReadsAs : {X Y : Type 0} → (X → Y) → Result X TpduFault → Result Y TpduFault → Type 0
+ReadsAs view (Ok x) read = read ≡ Ok (view x)
+ReadsAs view (Err e) read = read ≡ Err e
 
 -- the header that the length indicator counts, and the octets behind it
 unfoldable pub header_at : ℕ → List ℕ → Result (List ℕ × List ℕ) TpduFault

@@ -3,7 +3,7 @@
 use Rattle.std.specs.Prelude.{◌≡◌, ℕ, ◌+◌, ◌*◌, ◌/◌, ◌%◌, ◌<◌, ◌≤◌, Bool, true, false, ◌==◌, List, [], ◌∷◌, ◌++◌, length, map, filter, Option, option_map, option_to_list}
 use Rattle.std.specs.List.{flat_map}
 use Rattle.osi_tpkt.specs.Octets.{IsOctets}
-use Rattle.osi_tpdu.specs.Value.{Parameters, Connect, Value, request, confirm, disconnect, disconnected, data0, data2, acknowledge, error, user_data, IsInRange}
+use Rattle.osi_tpdu.specs.Value.{Parameters, Connect, Value, request, confirm, disconnect, disconnected, data0, data2, acknowledge, error, user_data, HasFieldsInRange}
 
 -- a parameter: a code, and as many octets as its length says
 pub record Item : Type 0 where
@@ -64,5 +64,5 @@ pub record Spells (v : Value) (octets : List ℕ) : Type 0 where
   pub fields : IsHeader v header
   pub counted : length header ≤ 254
   pub whole : octets ≡ length header ∷ header ++ user_data v
-  pub in_range : IsInRange v
+  pub in_range : HasFieldsInRange v
   pub are_octets : IsOctets octets

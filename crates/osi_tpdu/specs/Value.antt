@@ -1,5 +1,5 @@
 -- What transport units say, apart from where their octets lie.
-use Rattle.std.specs.Prelude.{ℕ, ◌<◌, ◌≤◌, Bool, true, false, List, [], length, Option, IfSome}
+use Rattle.std.specs.Prelude.{ℕ, ◌<◌, ◌≤◌, Bool, true, false, List, [], length, Option, Some, None, IfSome}
 use Rattle.osi_tpkt.specs.Octets.{IsOctets}
 
 -- the known parameters of a CR or CC: the TPDU size, the two transport selectors, the additional
@@ -60,6 +60,17 @@ may_be_followed (disconnect destination source reason user) = false
 may_be_followed (data0 end user) = false
 may_be_followed (data2 destination number end user) = false
 
+-- the reference that the receiver gave the connection: none in a CR, nor in a DT of class 0
+abbrev pub destination_of : Value → Option ℕ
+destination_of (request c) = None
+destination_of (confirm destination c) = Some destination
+destination_of (disconnect destination source reason user) = Some destination
+destination_of (disconnected destination source) = Some destination
+destination_of (data0 end user) = None
+destination_of (data2 destination number end user) = Some destination
+destination_of (acknowledge credit destination number) = Some destination
+destination_of (error destination cause) = Some destination
+
 abbrev pub IsReference : ℕ → Type 0
 IsReference n = n < 65536
 
@@ -79,12 +90,12 @@ pub record IsConnect (c : Connect) : Type 0 where
   pub user : IsOctets c.user
 
 -- each number is in the range of its field
-abbrev pub IsInRange : Value → Type 0
-IsInRange (request c) = IsConnect c
-IsInRange (confirm destination c) = IsReference destination × IsConnect c
-IsInRange (disconnect destination source reason user) = IsReference destination × IsReference source × (reason < 256) × IsOctets user
-IsInRange (disconnected destination source) = IsReference destination × IsReference source
-IsInRange (data0 end user) = IsOctets user
-IsInRange (data2 destination number end user) = IsReference destination × (number < 128) × IsOctets user
-IsInRange (acknowledge credit destination number) = (credit < 16) × IsReference destination × (number < 128)
-IsInRange (error destination cause) = IsReference destination × (cause < 256)
+abbrev pub HasFieldsInRange : Value → Type 0
+HasFieldsInRange (request c) = IsConnect c
+HasFieldsInRange (confirm destination c) = IsReference destination × IsConnect c
+HasFieldsInRange (disconnect destination source reason user) = IsReference destination × IsReference source × (reason < 256) × IsOctets user
+HasFieldsInRange (disconnected destination source) = IsReference destination × IsReference source
+HasFieldsInRange (data0 end user) = IsOctets user
+HasFieldsInRange (data2 destination number end user) = IsReference destination × (number < 128) × IsOctets user
+HasFieldsInRange (acknowledge credit destination number) = (credit < 16) × IsReference destination × (number < 128)
+HasFieldsInRange (error destination cause) = IsReference destination × (cause < 256)

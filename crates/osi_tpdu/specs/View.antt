@@ -1,6 +1,7 @@
 -- What the units that the code holds say.
 use Rattle.std.specs.Prelude.{option_map, option_copied}
 use Rattle.osi_tpdu.specs.declared.connect.ConnectParameters.{ConnectParameters}
+use Rattle.osi_tpdu.specs.declared.connect.ConnectFields.{ConnectFields}
 use Rattle.osi_tpdu.specs.declared.connect_request.ConnectRequest.{ConnectRequest}
 use Rattle.osi_tpdu.specs.declared.connect_confirm.ConnectConfirm.{ConnectConfirm}
 use Rattle.osi_tpdu.specs.declared.unit.Tpdu.{Tpdu}
@@ -17,11 +18,14 @@ parameter_values p = record {
   alternative = option_copied p.alternative_classes;
 }
 
+abbrev pub connect_content : ConnectFields → Connect
+connect_content f = record { credit = f.credit; source = f.source; class = f.class; options = f.options; parameters = parameter_values f.parameters; user = f.user.now }
+
 abbrev pub request_content : ConnectRequest → Connect
-request_content r = record { credit = r.credit; source = r.source; class = r.class; options = r.options; parameters = parameter_values r.parameters; user = r.user.now }
+request_content r = connect_content r.fields
 
 abbrev pub confirm_content : ConnectConfirm → Connect
-confirm_content c = record { credit = c.credit; source = c.source; class = c.class; options = c.options; parameters = parameter_values c.parameters; user = c.user.now }
+confirm_content c = connect_content c.fields
 
 abbrev pub value : Tpdu → Value
 value (Cr r) = request (request_content r)

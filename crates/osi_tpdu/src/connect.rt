@@ -1,4 +1,4 @@
-ghost use Rattle.std.specs.Prelude.{◌≡◌, None};
+ghost use Rattle.std.specs.Prelude.{◌≡◌, ◌<◌, None};
 
 use crate::limits::SizeCode;
 use crate::tsaps::Selector;
@@ -69,5 +69,70 @@ impl<'a> ConnectParameters<'a> {
         ensures { result ≡ self.now.alternative_classes }
     {
         self.alternative_classes
+    }
+}
+
+/// The fields that a CR and a CC share (X.224 sections 13.3 and 13.4).
+#[derive(Clone, Copy, PartialEq, Eq, Debug)]
+pub struct ConnectFields<'a> {
+    /// CDT: the first credit, 0 to 15.
+    pub credit: u8,
+    /// SRC-REF: the reference that the sender gave the connection.
+    pub source: u16,
+    /// The class that a CR prefers or a CC selects, 0 to 15.
+    pub class: u8,
+    /// The low half of the class octet: bit 2 asks for extended formats, bit 1 for no explicit flow
+    /// control.
+    pub options: u8,
+    /// The parameters that are known here.
+    pub parameters: ConnectParameters<'a>,
+    /// User data, up to the end of the packet.
+    pub user: &'a [u8],
+    pub ghost credit_fits: { credit < 16 },
+    pub ghost class_fits: { class < 16 },
+    pub ghost options_fit: { options < 16 },
+}
+
+impl<'a> ConnectFields<'a> {
+    /// CDT: the first credit, 0 to 15.
+    pub fn credit(&self) -> u8
+        ensures { result ≡ self.now.credit }
+    {
+        self.credit
+    }
+
+    /// SRC-REF: the reference that the sender gave the connection.
+    pub fn source(&self) -> u16
+        ensures { result ≡ self.now.source }
+    {
+        self.source
+    }
+
+    /// The class that a CR prefers or a CC selects, 0 to 15.
+    pub fn class(&self) -> u8
+        ensures { result ≡ self.now.class }
+    {
+        self.class
+    }
+
+    /// The low half of the class octet, 0 to 15.
+    pub fn options(&self) -> u8
+        ensures { result ≡ self.now.options }
+    {
+        self.options
+    }
+
+    /// The parameters that are known here.
+    pub fn parameters(&self) -> ConnectParameters<'a>
+        ensures { result ≡ self.now.parameters }
+    {
+        self.parameters
+    }
+
+    /// User data, up to the end of the packet.
+    pub fn user(&self) -> &'a [u8]
+        ensures { result ≡ self.now.user }
+    {
+        self.user
     }
 }

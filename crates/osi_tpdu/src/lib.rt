@@ -24,7 +24,7 @@ mod unit;
 mod writing;
 
 pub use acknowledgement::DataAcknowledgement;
-pub use connect::ConnectParameters;
+pub use connect::{ConnectFields, ConnectParameters};
 pub use connect_confirm::ConnectConfirm;
 pub use connect_request::ConnectRequest;
 pub use data_class_0::DataClass0;

@@ -1,7 +1,7 @@
 //! Reading the parameters of a header (X.224 section 13.2.3).
 
 ghost use Rattle.std.specs.Prelude.{◌≡◌, ◌+◌, ◌<◌, ◌≤◌, ◌^◌, length, IfOk};
-ghost use Rattle.osi_tpdu.specs.Reading.{Gives, parameter_at, with_size, with_calling, with_called, with_additional, with_alternative, with_parameter, known_at, all_skipped_at};
+ghost use Rattle.osi_tpdu.specs.Reading.{ReadsAs, parameter_at, with_size, with_calling, with_called, with_additional, with_alternative, with_parameter, known_at, all_skipped_at};
 ghost use Rattle.osi_tpdu.specs.View.{parameter_values};
 
 use crate::connect::ConnectParameters;
@@ -24,7 +24,7 @@ pub(crate) const ALTERNATIVE_CLASSES: u8 = 0xC7;
 #[tactic(auto, unfolding(crate::specs::Reading::parameter_at))]
 fn read_parameter(at: usize, octets: &[u8]) -> Result<(u8, &[u8], &[u8]), TpduFault>
     requires { 1 ≤ length octets.now }
-    ensures gives { Gives (λ r. (r.0, r.1.now, r.2.now)) result (parameter_at at octets.now) }
+    ensures gives { ReadsAs (λ r. (r.0, r.1.now, r.2.now)) result (parameter_at at octets.now) }
     ensures lengths { IfOk result (λ r. 2 + length r.1.now + length r.2.now ≡ length octets.now) }
 {
     if octets.len() < 2 {
@@ -45,7 +45,7 @@ fn add_size<'a>(
     value: &[u8],
     known: ConnectParameters<'a>,
 ) -> Result<ConnectParameters<'a>, TpduFault>
-    ensures { Gives parameter_values result (with_size at value.now (parameter_values known.entry)) }
+    ensures { ReadsAs parameter_values result (with_size at value.now (parameter_values known.entry)) }
 {
     if value.len() != 1 {
         return Err(TpduFault::BadParameterLength(at));
@@ -67,7 +67,7 @@ fn add_calling<'a>(
     value: &'a [u8],
     known: ConnectParameters<'a>,
 ) -> Result<ConnectParameters<'a>, TpduFault>
-    ensures { Gives parameter_values result (with_calling at value.now (parameter_values known.entry)) }
+    ensures { ReadsAs parameter_values result (with_calling at value.now (parameter_values known.entry)) }
 {
     let Some(selector) = Selector::new(value) else {
         return Err(TpduFault::BadParameterLength(at));
@@ -86,7 +86,7 @@ fn add_called<'a>(
     value: &'a [u8],
     known: ConnectParameters<'a>,
 ) -> Result<ConnectParameters<'a>, TpduFault>
-    ensures { Gives parameter_values result (with_called at value.now (parameter_values known.entry)) }
+    ensures { ReadsAs parameter_values result (with_called at value.now (parameter_values known.entry)) }
 {
     let Some(selector) = Selector::new(value) else {
         return Err(TpduFault::BadParameterLength(at));
@@ -105,7 +105,7 @@ fn add_additional_options<'a>(
     value: &[u8],
     known: ConnectParameters<'a>,
 ) -> Result<ConnectParameters<'a>, TpduFault>
-    ensures { Gives parameter_values result (with_additional at value.now (parameter_values known.entry)) }
+    ensures { ReadsAs parameter_values result (with_additional at value.now (parameter_values known.entry)) }
 {
     if value.len() != 1 {
         return Err(TpduFault::BadParameterLength(at));
@@ -124,7 +124,7 @@ fn add_alternative_classes<'a>(
     value: &'a [u8],
     known: ConnectParameters<'a>,
 ) -> Result<ConnectParameters<'a>, TpduFault>
-    ensures { Gives parameter_values result (with_alternative at value.now (parameter_values known.entry)) }
+    ensures { ReadsAs parameter_values result (with_alternative at value.now (parameter_values known.entry)) }
 {
     if known.alternative_classes.is_some() {
         return Err(TpduFault::DuplicateParameter(at));
@@ -142,7 +142,7 @@ fn add_parameter<'a>(
     value: &'a [u8],
     known: ConnectParameters<'a>,
 ) -> Result<ConnectParameters<'a>, TpduFault>
-    ensures { Gives parameter_values result (with_parameter at code value.now (parameter_values known.entry)) }
+    ensures { ReadsAs parameter_values result (with_parameter at code value.now (parameter_values known.entry)) }
 {
     match code {
         SIZE => add_size(at, value, known),
@@ -160,7 +160,7 @@ pub(crate) fn read_parameters(
     octets: &[u8],
 ) -> Result<ConnectParameters<'_>, TpduFault>
     requires { start + length octets.now < 2 ^ 64 }
-    ensures { Gives parameter_values result (known_at start octets.now) }
+    ensures { ReadsAs parameter_values result (known_at start octets.now) }
 {
     let mut known = ConnectParameters::none();
     let mut at = start;
@@ -177,7 +177,7 @@ pub(crate) fn read_parameters(
 // Parameters that fill the octets, of which none is known.
 pub(crate) fn skip_parameters(start: usize, octets: &[u8]) -> Result<(), TpduFault>
     requires { start + length octets.now < 2 ^ 64 }
-    ensures { Gives (λ _. tt) result (all_skipped_at start octets.now) }
+    ensures { ReadsAs (λ _. tt) result (all_skipped_at start octets.now) }
 {
     let mut at = start;
     let mut rest = octets;

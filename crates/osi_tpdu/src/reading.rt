@@ -1,12 +1,12 @@
 //! Reading one unit (X.224 section 13).
 
 ghost use Rattle.std.specs.Prelude.{◌≡◌, ◌+◌, ◌<◌, ◌≤◌, ◌^◌, length, IfOk};
-ghost use Rattle.osi_tpdu.specs.Reading.{Gives, header_at, connect_of, request_of, confirm_of, disconnect_of, disconnected_of, transfer_of, acknowledge_of, error_of, value_of, unit_at};
-ghost use Rattle.osi_tpdu.specs.Value.{request, confirm};
-ghost use Rattle.osi_tpdu.specs.View.{request_content, confirm_content, value};
+ghost use Rattle.osi_tpdu.specs.Reading.{ReadsAs, header_at, connect_of, request_of, confirm_of, disconnect_of, disconnected_of, transfer_of, acknowledge_of, error_of, value_of, unit_at};
+ghost use Rattle.osi_tpdu.specs.View.{connect_content, value};
 ghost use Rattle.osi_tpdu.specs.Writing.{Fits};
 
 use crate::acknowledgement::DataAcknowledgement;
+use crate::connect::ConnectFields;
 use crate::connect_confirm::ConnectConfirm;
 use crate::connect_request::ConnectRequest;
 use crate::data_class_0::DataClass0;
@@ -25,7 +25,7 @@ const GREATEST_LI: usize = 254;
 // The header of the unit at the front, and the octets behind it.
 #[tactic(auto, unfolding(crate::specs::Reading::header_at))]
 fn read_header(at: usize, octets: &[u8]) -> Result<(&[u8], &[u8]), TpduFault>
-    ensures gives { Gives (λ r. (r.0.now, r.1.now)) result (header_at at octets.now) }
+    ensures gives { ReadsAs (λ r. (r.0.now, r.1.now)) result (header_at at octets.now) }
     ensures lengths { IfOk result (λ r. length r.0.now + length r.1.now + 1 ≡ length octets.now) }
     ensures least { IfOk result (λ r. 1 ≤ length r.0.now) }
 {
@@ -40,51 +40,58 @@ fn read_header(at: usize, octets: &[u8]) -> Result<(&[u8], &[u8]), TpduFault>
     Ok(counted.split_at(li))
 }
 
-#[tactic(auto, unfolding(crate::specs::Reading::connect_of, crate::specs::Reading::request_of))]
-fn read_request<'a>(at: usize, header: &'a [u8], user: &'a [u8]) -> Result<Tpdu<'a>, TpduFault>
+// What a CR and a CC share. It is inlined, as `read_fields` is.
+#[inline(always)]
+#[tactic(auto, unfolding(crate::specs::Reading::connect_of))]
+fn read_connect<'a>(
+    at: usize,
+    header: &'a [u8],
+    user: &'a [u8],
+) -> Result<ConnectFields<'a>, TpduFault>
     requires { at + length header.now + 1 < 2 ^ 64 }
-    ensures { Gives value result (request_of at header.now user.now) }
+    ensures gives { ReadsAs connect_content result (connect_of at header.now user.now) }
+    ensures long { IfOk result (λ _. 6 ≤ length header.now) }
 {
     if header.len() < 6 {
         return Err(TpduFault::BadLi(at));
     }
     let (_, variable) = header.split_at(6);
     let parameters = read_parameters(at + 7, variable)?;
-    Ok(Tpdu::Cr(ConnectRequest {
+    Ok(ConnectFields {
         credit: low_half(header[0]),
         source: reference(3, header),
         class: high_half(header[5]),
         options: low_half(header[5]),
         parameters,
         user,
-    }))
+    })
 }
 
-#[tactic(auto, unfolding(crate::specs::Reading::connect_of, crate::specs::Reading::confirm_of))]
+#[tactic(auto, unfolding(crate::specs::Reading::request_of))]
+fn read_request<'a>(at: usize, header: &'a [u8], user: &'a [u8]) -> Result<Tpdu<'a>, TpduFault>
+    requires { at + length header.now + 1 < 2 ^ 64 }
+    ensures { ReadsAs value result (request_of at header.now user.now) }
+{
+    let fields = read_connect(at, header, user)?;
+    Ok(Tpdu::Cr(ConnectRequest { fields }))
+}
+
+#[tactic(auto, unfolding(crate::specs::Reading::confirm_of))]
 fn read_confirm<'a>(at: usize, header: &'a [u8], user: &'a [u8]) -> Result<Tpdu<'a>, TpduFault>
     requires { at + length header.now + 1 < 2 ^ 64 }
-    ensures { Gives value result (confirm_of at header.now user.now) }
+    ensures { ReadsAs value result (confirm_of at header.now user.now) }
 {
-    if header.len() < 6 {
-        return Err(TpduFault::BadLi(at));
-    }
-    let (_, variable) = header.split_at(6);
-    let parameters = read_parameters(at + 7, variable)?;
+    let fields = read_connect(at, header, user)?;
     Ok(Tpdu::Cc(ConnectConfirm {
-        credit: low_half(header[0]),
         destination: reference(1, header),
-        source: reference(3, header),
-        class: high_half(header[5]),
-        options: low_half(header[5]),
-        parameters,
-        user,
+        fields,
     }))
 }
 
 #[tactic(auto, unfolding(crate::specs::Reading::disconnect_of))]
 fn read_disconnect<'a>(at: usize, header: &[u8], user: &'a [u8]) -> Result<Tpdu<'a>, TpduFault>
     requires { at + length header.now + 1 < 2 ^ 64 }
-    ensures { Gives value result (disconnect_of at header.now user.now) }
+    ensures { ReadsAs value result (disconnect_of at header.now user.now) }
 {
     if header.len() < 6 {
         return Err(TpduFault::BadLi(at));
@@ -101,7 +108,7 @@ fn read_disconnect<'a>(at: usize, header: &[u8], user: &'a [u8]) -> Result<Tpdu<
 
 #[tactic(auto, unfolding(crate::specs::Reading::disconnected_of))]
 fn read_disconnected<'a>(at: usize, header: &[u8]) -> Result<Tpdu<'a>, TpduFault>
-    ensures { Gives value result (disconnected_of at header.now) }
+    ensures { ReadsAs value result (disconnected_of at header.now) }
 {
     if header.len() != 5 {
         return Err(TpduFault::BadLi(at));
@@ -115,7 +122,7 @@ fn read_disconnected<'a>(at: usize, header: &[u8]) -> Result<Tpdu<'a>, TpduFault
 // The length of its header tells the class of a DT.
 #[tactic(auto, unfolding(crate::specs::Reading::transfer_of))]
 fn read_transfer<'a>(at: usize, header: &[u8], user: &'a [u8]) -> Result<Tpdu<'a>, TpduFault>
-    ensures { Gives value result (transfer_of at header.now user.now) }
+    ensures { ReadsAs value result (transfer_of at header.now user.now) }
 {
     match header.len() {
         2 => Ok(Tpdu::Dt0(DataClass0 {
@@ -134,7 +141,7 @@ fn read_transfer<'a>(at: usize, header: &[u8], user: &'a [u8]) -> Result<Tpdu<'a
 
 #[tactic(auto, unfolding(crate::specs::Reading::acknowledge_of))]
 fn read_acknowledge<'a>(at: usize, header: &[u8]) -> Result<Tpdu<'a>, TpduFault>
-    ensures { Gives value result (acknowledge_of at header.now) }
+    ensures { ReadsAs value result (acknowledge_of at header.now) }
 {
     if header.len() != 4 {
         return Err(TpduFault::BadLi(at));
@@ -149,7 +156,7 @@ fn read_acknowledge<'a>(at: usize, header: &[u8]) -> Result<Tpdu<'a>, TpduFault>
 #[tactic(auto, unfolding(crate::specs::Reading::error_of))]
 fn read_error<'a>(at: usize, header: &[u8]) -> Result<Tpdu<'a>, TpduFault>
     requires { at + length header.now + 1 < 2 ^ 64 }
-    ensures { Gives value result (error_of at header.now) }
+    ensures { ReadsAs value result (error_of at header.now) }
 {
     if header.len() < 4 {
         return Err(TpduFault::BadLi(at));
@@ -169,7 +176,7 @@ fn read_error<'a>(at: usize, header: &[u8]) -> Result<Tpdu<'a>, TpduFault>
 fn read_fields<'a>(at: usize, header: &'a [u8], user: &'a [u8]) -> Result<Tpdu<'a>, TpduFault>
     requires least { 1 ≤ length header.now }
     requires room { at + length header.now + 1 < 2 ^ 64 }
-    ensures { Gives value result (value_of at header.now user.now) }
+    ensures { ReadsAs value result (value_of at header.now user.now) }
 {
     let code = header[0];
     match high_half(code) {
@@ -191,7 +198,7 @@ fn read_fields<'a>(at: usize, header: &'a [u8], user: &'a [u8]) -> Result<Tpdu<'
 #[tactic(auto, unfolding(crate::specs::Reading::unit_at))]
 pub(crate) fn read_unit(at: usize, octets: &[u8]) -> Result<(Tpdu<'_>, usize), TpduFault>
     requires { at + length octets.now < 2 ^ 64 }
-    ensures gives { Gives (λ r. (value r.0, r.1)) result (unit_at at octets.now) }
+    ensures gives { ReadsAs (λ r. (value r.0, r.1)) result (unit_at at octets.now) }
     ensures least { IfOk result (λ r. 1 ≤ r.1) }
     ensures most { IfOk result (λ r. r.1 ≤ length octets.now) }
     ensures fits { IfOk result (λ r. Fits (value r.0)) }

@@ -1,4 +1,4 @@
-ghost use Rattle.std.specs.Prelude.{◌≡◌, ◌≤◌, ◌↔◌, length, IsSome, IfSome};
+ghost use Rattle.std.specs.Prelude.{◌≡◌, ◌≤◌, ◌↔◌, ℕ, length, slice_index, IsSome, IfSome};
 
 /// A transport selector of at most 32 octets, where it was read: the name of a transport service
 /// access point below an address (X.224 section 13.3.4).
@@ -39,6 +39,7 @@ pub struct Tsap {
     octets: [u8; 32],
     len: usize,
     pub ghost at_most: { len ≤ 32 },
+    pub ghost zeros: { (i : ℕ) → len ≤ i → slice_index octets i ≡ 0 },
 }
 
 impl Tsap {

@@ -1,5 +1,5 @@
 ghost use Rattle.std.specs.Prelude.{◌≡◌};
-ghost use Rattle.osi_tpdu.specs.Value.{may_be_followed};
+ghost use Rattle.osi_tpdu.specs.Value.{destination_of, may_be_followed};
 ghost use Rattle.osi_tpdu.specs.View.{value};
 
 use crate::acknowledgement::DataAcknowledgement;
@@ -39,5 +39,21 @@ impl Tpdu<'_> {
         ensures { result ≡ may_be_followed (value self.now) }
     {
         matches!(self, Tpdu::Dc(_) | Tpdu::Ak(_) | Tpdu::Er(_))
+    }
+
+    /// DST-REF: the reference that the receiver gave the connection. A CR has none yet, and a DT of
+    /// class 0 needs none.
+    pub fn destination(&self) -> Option<u16>
+        ensures { result ≡ destination_of (value self.now) }
+    {
+        match self {
+            Tpdu::Cr(_) | Tpdu::Dt0(_) => None,
+            Tpdu::Cc(confirm) => Some(confirm.destination),
+            Tpdu::Dr(request) => Some(request.destination),
+            Tpdu::Dc(confirm) => Some(confirm.destination),
+            Tpdu::Dt2(data) => Some(data.destination),
+            Tpdu::Ak(acknowledgement) => Some(acknowledgement.destination),
+            Tpdu::Er(report) => Some(report.destination),
+        }
     }
 }

@@ -7,12 +7,12 @@ ghost use Rattle.osi_tpkt.specs.Octets.{IsOctets};
 ghost use Rattle.osi_tpdu.specs.Limits.{size_code, selector_octets};
 ghost use Rattle.osi_tpdu.specs.Packet.{units_of};
 ghost use Rattle.osi_tpdu.specs.Spelling.{item_octets, single, Spells};
-ghost use Rattle.osi_tpdu.specs.Value.{request, confirm, disconnect, disconnected, data0, data2, acknowledge, error, AreParameters, IsInRange};
-ghost use Rattle.osi_tpdu.specs.View.{parameter_values, request_content, confirm_content, value};
-ghost use Rattle.osi_tpdu.specs.Writing.{items_of, written_items, written_header, written, HasRoom};
+ghost use Rattle.osi_tpdu.specs.Value.{request, confirm, disconnect, disconnected, data0, data2, acknowledge, error, AreParameters, IsConnect, HasFieldsInRange};
+ghost use Rattle.osi_tpdu.specs.View.{parameter_values, connect_content, request_content, confirm_content, value};
+ghost use Rattle.osi_tpdu.specs.Writing.{items_of, written_items, connect_header, written_header, written, HasRoom};
 
 use crate::acknowledgement::DataAcknowledgement;
-use crate::connect::ConnectParameters;
+use crate::connect::{ConnectFields, ConnectParameters};
 use crate::connect_confirm::ConnectConfirm;
 use crate::connect_request::ConnectRequest;
 use crate::data_class_0::DataClass0;
@@ -164,19 +164,33 @@ fn put_parameters(out: &mut BytesMut, p: &ConnectParameters<'_>)
 
 // ---- units, where there is room for them
 
+// A CR or CC, by its code and DST-REF.
+fn put_connect(out: &mut BytesMut, code: u8, destination: u16, c: &ConnectFields<'_>)
+    requires code { code ≤ 240 }
+    requires counted { length (connect_header code destination (connect_content c.now)) ≤ 254 }
+    requires room { 1 + length (connect_header code destination (connect_content c.now)) + length c.now.user.now ≤ out.old.spare }
+    ensures items { out.new.items ≡ out.old.items
+        ++ length (connect_header code destination (connect_content c.now)) ∷ connect_header code destination (connect_content c.now) ++ c.now.user.now }
+    ensures spare { out.new.spare + (1 + length (connect_header code destination (connect_content c.now)) + length c.now.user.now) ≡ out.old.spare }
+    ensures in_range { IsConnect (connect_content c.now) }
+{
+    let li = (6 + parameters_len(&c.parameters)) as u8;
+    let class_octet = c.class * 16 + c.options;
+    let (to_high, to_low) = (high_octet(destination), low_octet(destination));
+    let (high, low) = (high_octet(c.source), low_octet(c.source));
+    out.extend_reserved(&[li, code + c.credit, to_high, to_low, high, low, class_octet]);
+    put_parameters(out, &c.parameters);
+    put_octets(out, c.user);
+}
+
 fn put_request(out: &mut BytesMut, r: &ConnectRequest<'_>)
     requires counted { HasRoom (request (request_content r.now)) }
     requires room { length (written (request (request_content r.now))) ≤ out.old.spare }
     ensures items { out.new.items ≡ out.old.items ++ written (request (request_content r.now)) }
     ensures spare { out.new.spare + length (written (request (request_content r.now))) ≡ out.old.spare }
-    ensures in_range { IsInRange (request (request_content r.now)) }
+    ensures in_range { HasFieldsInRange (request (request_content r.now)) }
 {
-    let li = (6 + parameters_len(&r.parameters)) as u8;
-    let class_octet = r.class * 16 + r.options;
-    let (high, low) = (high_octet(r.source), low_octet(r.source));
-    out.extend_reserved(&[li, 0xE0 + r.credit, 0, 0, high, low, class_octet]);
-    put_parameters(out, &r.parameters);
-    put_octets(out, r.user);
+    put_connect(out, 0xE0, 0, &r.fields);
 }
 
 fn put_confirm(out: &mut BytesMut, c: &ConnectConfirm<'_>)
@@ -184,22 +198,16 @@ fn put_confirm(out: &mut BytesMut, c: &ConnectConfirm<'_>)
     requires room { length (written (confirm c.now.destination (confirm_content c.now))) ≤ out.old.spare }
     ensures items { out.new.items ≡ out.old.items ++ written (confirm c.now.destination (confirm_content c.now)) }
     ensures spare { out.new.spare + length (written (confirm c.now.destination (confirm_content c.now))) ≡ out.old.spare }
-    ensures in_range { IsInRange (confirm c.now.destination (confirm_content c.now)) }
+    ensures in_range { HasFieldsInRange (confirm c.now.destination (confirm_content c.now)) }
 {
-    let li = (6 + parameters_len(&c.parameters)) as u8;
-    let class_octet = c.class * 16 + c.options;
-    let (to_high, to_low) = (high_octet(c.destination), low_octet(c.destination));
-    let (high, low) = (high_octet(c.source), low_octet(c.source));
-    out.extend_reserved(&[li, 0xD0 + c.credit, to_high, to_low, high, low, class_octet]);
-    put_parameters(out, &c.parameters);
-    put_octets(out, c.user);
+    put_connect(out, 0xD0, c.destination, &c.fields);
 }
 
 fn put_disconnect(out: &mut BytesMut, d: &DisconnectRequest<'_>)
     requires { length (written (disconnect d.now.destination d.now.source d.now.reason d.now.user.now)) ≤ out.old.spare }
     ensures items { out.new.items ≡ out.old.items ++ written (disconnect d.now.destination d.now.source d.now.reason d.now.user.now) }
     ensures spare { out.new.spare + length (written (disconnect d.now.destination d.now.source d.now.reason d.now.user.now)) ≡ out.old.spare }
-    ensures in_range { IsInRange (disconnect d.now.destination d.now.source d.now.reason d.now.user.now) }
+    ensures in_range { HasFieldsInRange (disconnect d.now.destination d.now.source d.now.reason d.now.user.now) }
 {
     let (to_high, to_low) = (high_octet(d.destination), low_octet(d.destination));
     let (high, low) = (high_octet(d.source), low_octet(d.source));
@@ -211,7 +219,7 @@ fn put_disconnected(out: &mut BytesMut, d: DisconnectConfirm)
     requires { 6 ≤ out.old.spare }
     ensures items { out.new.items ≡ out.old.items ++ written (disconnected d.destination d.source) }
     ensures spare { out.new.spare + length (written (disconnected d.destination d.source)) ≡ out.old.spare }
-    ensures in_range { IsInRange (disconnected d.destination d.source) }
+    ensures in_range { HasFieldsInRange (disconnected d.destination d.source) }
 {
     let (to_high, to_low) = (high_octet(d.destination), low_octet(d.destination));
     let (high, low) = (high_octet(d.source), low_octet(d.source));
@@ -222,7 +230,7 @@ fn put_data0(out: &mut BytesMut, d: &DataClass0<'_>)
     requires { 3 + length d.now.user.now ≤ out.old.spare }
     ensures items { out.new.items ≡ out.old.items ++ written (data0 d.now.end d.now.user.now) }
     ensures spare { out.new.spare + length (written (data0 d.now.end d.now.user.now)) ≡ out.old.spare }
-    ensures in_range { IsInRange (data0 d.now.end d.now.user.now) }
+    ensures in_range { HasFieldsInRange (data0 d.now.end d.now.user.now) }
 {
     out.extend_reserved(&[2, 0xF0, with_bit(d.end, 0)]);
     put_octets(out, d.user);
@@ -232,7 +240,7 @@ fn put_data2(out: &mut BytesMut, d: &DataClass2<'_>)
     requires { 5 + length d.now.user.now ≤ out.old.spare }
     ensures items { out.new.items ≡ out.old.items ++ written (data2 d.now.destination d.now.number d.now.end d.now.user.now) }
     ensures spare { out.new.spare + length (written (data2 d.now.destination d.now.number d.now.end d.now.user.now)) ≡ out.old.spare }
-    ensures in_range { IsInRange (data2 d.now.destination d.now.number d.now.end d.now.user.now) }
+    ensures in_range { HasFieldsInRange (data2 d.now.destination d.now.number d.now.end d.now.user.now) }
 {
     let (to_high, to_low) = (high_octet(d.destination), low_octet(d.destination));
     out.extend_reserved(&[4, 0xF0, to_high, to_low, with_bit(d.end, d.number)]);
@@ -243,7 +251,7 @@ fn put_acknowledge(out: &mut BytesMut, a: DataAcknowledgement)
     requires { 5 ≤ out.old.spare }
     ensures items { out.new.items ≡ out.old.items ++ written (acknowledge a.credit a.destination a.number) }
     ensures spare { out.new.spare + length (written (acknowledge a.credit a.destination a.number)) ≡ out.old.spare }
-    ensures in_range { IsInRange (acknowledge a.credit a.destination a.number) }
+    ensures in_range { HasFieldsInRange (acknowledge a.credit a.destination a.number) }
 {
     let (to_high, to_low) = (high_octet(a.destination), low_octet(a.destination));
     out.extend_reserved(&[4, 0x60 + a.credit, to_high, to_low, a.number]);
@@ -253,7 +261,7 @@ fn put_error(out: &mut BytesMut, e: ErrorReport)
     requires { 5 ≤ out.old.spare }
     ensures items { out.new.items ≡ out.old.items ++ written (error e.destination e.cause) }
     ensures spare { out.new.spare + length (written (error e.destination e.cause)) ≡ out.old.spare }
-    ensures in_range { IsInRange (error e.destination e.cause) }
+    ensures in_range { HasFieldsInRange (error e.destination e.cause) }
 {
     let (to_high, to_low) = (high_octet(e.destination), low_octet(e.destination));
     out.extend_reserved(&[4, 0x70, to_high, to_low, e.cause]);
@@ -265,8 +273,8 @@ pub fn written_len(unit: &Tpdu<'_>) -> usize
     ensures { result ≡ length (written (value unit.now)) }
 {
     match unit {
-        Tpdu::Cr(r) => 7 + parameters_len(&r.parameters) + r.user.len(),
-        Tpdu::Cc(c) => 7 + parameters_len(&c.parameters) + c.user.len(),
+        Tpdu::Cr(r) => 7 + parameters_len(&r.fields.parameters) + r.fields.user.len(),
+        Tpdu::Cc(c) => 7 + parameters_len(&c.fields.parameters) + c.fields.user.len(),
         Tpdu::Dr(d) => 7 + d.user.len(),
         Tpdu::Dc(_) => 6,
         Tpdu::Dt0(d) => 3 + d.user.len(),

@@ -365,7 +365,7 @@ Gains-past : (code : ℕ) (i : Item) (items : List Item) (o new : Option (List �
 Gains-past code i items o new ne e = rw ne at e
 
 -- the first item is read, and the others are still to be added
-pub record Takes (at : ℕ) (i : Item) (items : List Item) (p m : Parameters) : Type 0 where
+pub record TakesItem (at : ℕ) (i : Item) (items : List Item) (p m : Parameters) : Type 0 where
   pub more : Parameters
   pub read : with_parameter at i.code i.value p ≡ Ok more
   pub adds : Adds more items m
@@ -409,7 +409,7 @@ unknown_read : (at code : ℕ) (value : List ℕ) (p : Parameters) → eqb code 
 unfolding with_parameter
 unknown_read at code value p a b c d e = rw (a, b, c, d, e) refl
 
-size_taken : (at : ℕ) (value : List ℕ) (items : List Item) (p m : Parameters) → AreParameters m → Adds p (item 0xC0 value ∷ items) m → Takes at (item 0xC0 value) items p m
+size_taken : (at : ℕ) (value : List ℕ) (items : List Item) (p m : Parameters) → AreParameters m → Adds p (item 0xC0 value ∷ items) m → TakesItem at (item 0xC0 value) items p m
 size_taken at value items p m fits a =
     let f = first_value (single p.size) (single m.size) value (values_of 0xC0 items) a.size in
     let one = single_some m.size value f.1 in
@@ -426,7 +426,7 @@ size_taken at value items p m fits a =
       };
     }
 
-calling_taken : (at : ℕ) (value : List ℕ) (items : List Item) (p m : Parameters) → AreParameters m → Adds p (item 0xC1 value ∷ items) m → Takes at (item 0xC1 value) items p m
+calling_taken : (at : ℕ) (value : List ℕ) (items : List Item) (p m : Parameters) → AreParameters m → Adds p (item 0xC1 value ∷ items) m → TakesItem at (item 0xC1 value) items p m
 calling_taken at value items p m fits a =
     let f = first_value p.calling m.calling value (values_of 0xC1 items) a.calling in
     record {
@@ -441,7 +441,7 @@ calling_taken at value items p m fits a =
       };
     }
 
-called_taken : (at : ℕ) (value : List ℕ) (items : List Item) (p m : Parameters) → AreParameters m → Adds p (item 0xC2 value ∷ items) m → Takes at (item 0xC2 value) items p m
+called_taken : (at : ℕ) (value : List ℕ) (items : List Item) (p m : Parameters) → AreParameters m → Adds p (item 0xC2 value ∷ items) m → TakesItem at (item 0xC2 value) items p m
 called_taken at value items p m fits a =
     let f = first_value p.called m.called value (values_of 0xC2 items) a.called in
     record {
@@ -456,7 +456,7 @@ called_taken at value items p m fits a =
       };
     }
 
-additional_taken : (at : ℕ) (value : List ℕ) (items : List Item) (p m : Parameters) → Adds p (item 0xC6 value ∷ items) m → Takes at (item 0xC6 value) items p m
+additional_taken : (at : ℕ) (value : List ℕ) (items : List Item) (p m : Parameters) → Adds p (item 0xC6 value ∷ items) m → TakesItem at (item 0xC6 value) items p m
 additional_taken at value items p m a =
     let f = first_value (single p.additional) (single m.additional) value (values_of 0xC6 items) a.additional in
     let one = single_some m.additional value f.1 in
@@ -473,7 +473,7 @@ additional_taken at value items p m a =
       };
     }
 
-alternative_taken : (at : ℕ) (value : List ℕ) (items : List Item) (p m : Parameters) → Adds p (item 0xC7 value ∷ items) m → Takes at (item 0xC7 value) items p m
+alternative_taken : (at : ℕ) (value : List ℕ) (items : List Item) (p m : Parameters) → Adds p (item 0xC7 value ∷ items) m → TakesItem at (item 0xC7 value) items p m
 alternative_taken at value items p m a =
     let f = first_value p.alternative m.alternative value (values_of 0xC7 items) a.alternative in
     record {
@@ -489,7 +489,7 @@ alternative_taken at value items p m a =
     }
 
 abbrev Taken : ℕ → ℕ → List ℕ → List Item → Parameters → Parameters → Type 0
-Taken at code value items p m = Adds p (item code value ∷ items) m → Takes at (item code value) items p m
+Taken at code value items p m = Adds p (item code value ∷ items) m → TakesItem at (item code value) items p m
 
 pub test_eq : (a b : ℕ) → ((a ≡ b) × (eqb a b ≡ true)) ⊎ (eqb a b ≡ false)
 test_eq a b =

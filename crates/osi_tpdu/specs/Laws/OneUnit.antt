@@ -8,7 +8,7 @@ use Rattle.osi_tpkt.specs.Octets.{IsOctets}
 use Rattle.osi_tpkt.specs.Unit.{IsAtFront}
 use Rattle.osi_tpdu.specs.declared.faults.TpduFault.{TpduFault}
 use Rattle.osi_tpdu.specs.declared.faults.TpduFault.TheVariants.{BadLi, UnknownCode}
-use Rattle.osi_tpdu.specs.Value.{Parameters, Connect, Value, request, confirm, disconnect, disconnected, data0, data2, acknowledge, error, user_data, may_be_followed, IsReference, IsConnect, IsInRange}
+use Rattle.osi_tpdu.specs.Value.{Parameters, Connect, Value, request, confirm, disconnect, disconnected, data0, data2, acknowledge, error, user_data, may_be_followed, IsReference, IsConnect, HasFieldsInRange}
 use Rattle.osi_tpdu.specs.Spelling.{Item, Means, item_octets, two, below_bit, connect_part, IsHeader, Spells}
 use Rattle.osi_tpdu.specs.Reading.{header_at, reference_at, known_at, all_skipped_at, connect_of, request_of, confirm_of, disconnect_of, disconnected_of, transfer_of, acknowledge_of, error_of, value_of, unit_at}
 use Rattle.osi_tpdu.specs.Packet.{Follows}
@@ -116,7 +116,7 @@ number_read false n lt = omega arith
 -- the header is one of the value, and the value's user data is what stands behind it
 pub record IsRead (v : Value) (header behind : List ℕ) : Type 0 where
   pub fields : IsHeader v header
-  pub in_range : IsInRange v
+  pub in_range : HasFieldsInRange v
   pub user : user_data v ≡ cond (may_be_followed v) [] behind
 
 abbrev content : List ℕ → Parameters → List ℕ → Connect
@@ -446,7 +446,7 @@ error_only at destination cause items behind =
     let first = two_again destination in
     rw (long, skipped_only (at + 5) items) (λ i. Ok (error (first i) cause))
 
-value_only : (at : ℕ) (v : Value) (header behind : List ℕ) → IsHeader v header → IsInRange v → user_data v ≡ cond (may_be_followed v) [] behind → value_of at header behind ≡ Ok v
+value_only : (at : ℕ) (v : Value) (header behind : List ℕ) → IsHeader v header → HasFieldsInRange v → user_data v ≡ cond (may_be_followed v) [] behind → value_of at header behind ≡ Ok v
 value_only at (request c) header behind f r user = request_only at header behind f.0 c f.1 f.3 r f.2 user
 value_only at (confirm destination c) header behind f r user = confirm_only at header behind destination c f.0 f.2 r.1 f.1 user
 value_only at (disconnect destination source reason user) header behind f r e =
@@ -540,7 +540,7 @@ lead_user (data2 destination number end user) e = absurd cc
 lead_user (acknowledge credit destination number) e = refl
 lead_user (error destination cause) e = refl
 
-read_again : (at : ℕ) (v : Value) (header behind : List ℕ) → IsHeader v header → IsInRange v → length header ≤ 254 → user_data v ≡ cond (may_be_followed v) [] behind
+read_again : (at : ℕ) (v : Value) (header behind : List ℕ) → IsHeader v header → HasFieldsInRange v → length header ≤ 254 → user_data v ≡ cond (may_be_followed v) [] behind
     → unit_at at (length header ∷ header ++ behind) ≡ Ok (measured v header (length header ∷ header ++ behind))
 unfolding unit_at
 read_again at v header behind f r most user =

@@ -5,7 +5,7 @@ use Rattle.std.specs.List.{flat_map}
 use Rattle.std.proofs.lemmas.List.{append-nil, length-append}
 use Rattle.std.proofs.lemmas.List.Concat.{flat_map-append}
 use Rattle.osi_tpkt.specs.Octets.{IsOctets}
-use Rattle.osi_tpdu.specs.Value.{Parameters, AreParameters, Connect, Value, request, confirm, disconnect, disconnected, data0, data2, acknowledge, error, user_data, IsReference, IsConnect, IsInRange}
+use Rattle.osi_tpdu.specs.Value.{Parameters, AreParameters, Connect, Value, request, confirm, disconnect, disconnected, data0, data2, acknowledge, error, user_data, IsReference, IsConnect, HasFieldsInRange}
 use Rattle.osi_tpdu.specs.Spelling.{Item, Means, item_octets, below_bit, single, values_of, connect_part, IsHeader, Spells}
 use Rattle.osi_tpdu.specs.Writing.{items_of, written_items, written_header, written, HasRoom, HasFewClasses, Fits}
 use Rattle.osi_tpdu.specs.declared.tsaps.Selector.{Selector}
@@ -172,7 +172,7 @@ connect_are code destination c le to fits short =
     let is_first = two_are destination second to is_second in
     IsOctets-cons (code + c.credit) first (omega (arith, fits.credit)) is_first
 
-header_is : (v : Value) → IsInRange v → HasRoom v → IsOctets (written_header v)
+header_is : (v : Value) → HasFieldsInRange v → HasRoom v → IsOctets (written_header v)
 header_is (request c) r short = connect_are 0xE0 0 c (omega arith) (omega arith) r short
 header_is (confirm destination c) r short = connect_are 0xD0 destination c (omega arith) r.0 r.1 short
 header_is (disconnect destination source reason user) r short =
@@ -193,7 +193,7 @@ header_is (error destination cause) r short =
     let last = cause ∷ [] in
     IsOctets-cons 0x70 (destination / 256 ∷ destination % 256 ∷ last) (omega arith) (two_are destination last r.0 (IsOctets-cons cause [] r.1 IsOctets-nil))
 
-user_is : (v : Value) → IsInRange v → IsOctets (user_data v)
+user_is : (v : Value) → HasFieldsInRange v → IsOctets (user_data v)
 user_is (request c) r = r.user
 user_is (confirm destination c) r = r.1.user
 user_is (disconnect destination source reason user) r = r.3
@@ -321,8 +321,8 @@ parameters_most p few =
 
 -- the types bound all that a header has but its alternative classes
 pub few_fit : (t : Tpdu) → HasFewClasses (value t) → HasRoom (value t)
-few_fit (Cr r) few = omega (arith, parameters_most r.parameters few)
-few_fit (Cc c) few = omega (arith, parameters_most c.parameters few)
+few_fit (Cr r) few = omega (arith, parameters_most r.fields.parameters few)
+few_fit (Cc c) few = omega (arith, parameters_most c.fields.parameters few)
 few_fit (Dr d) few = omega arith
 few_fit (Dc d) few = omega arith
 few_fit (Dt0 d) few = omega arith

@@ -1,6 +1,6 @@
 ghost use Rattle.std.specs.Prelude.{◌≡◌, List, Err, IfOk, IfErr, IsOk, IsOkAnd, OnErr, MatchResult};
 ghost use Rattle.osi_tpdu.specs.Packet.{AreUnits, units_of};
-ghost use Rattle.osi_tpdu.specs.Reading.{Gives};
+ghost use Rattle.osi_tpdu.specs.Reading.{ReadsAs};
 ghost use Rattle.osi_tpdu.specs.Units.{units_left};
 ghost use Rattle.osi_tpdu.specs.Value.{Value};
 
@@ -34,7 +34,7 @@ pub fn read_units(packet: &[u8]) -> Result<Units<'_>, TpduFault>
     ensures only { (vs : List Value) → AreUnits vs packet.now → IsOkAnd result (λ u. units_left u ≡ vs) }
     ensures refused { OnErr result ((vs : List Value) → ¬ (AreUnits vs packet.now)) }
     // Which fault is the first.
-    ensures exact { Gives units_left result (units_of packet.now) }
+    ensures exact { ReadsAs units_left result (units_of packet.now) }
 {
     read_to_end(packet)?;
     Ok(Units {
