@@ -23,7 +23,8 @@ use Rattle.osi_message.specs.declared.tokens.Tokens.{Tokens}
 use Rattle.osi_message.specs.Tokens.{token_octet}
 use Rattle.osi_message.specs.Meanings.{Meaning, CN, AC, RF, DT, GT, PT, MIP, MIA, MAP, MAA, RS, RA, FN, DN, NF, AB, AA}
 use Rattle.osi_message.specs.Numbered.{IsSmall, IsNumbered}
-use Rattle.osi_message.specs.Written.{put_some, with_data, terms, numbered, sync_type, unit_with, unit_of, is_second, user_data_of, alone_units, behind_tokens, spelled, connect_unit, connect_units, IsAddress}
+use Rattle.osi_message.specs.Sendable.{IsAddress, IsAddressed}
+use Rattle.osi_message.specs.Written.{put_some, with_data, terms, numbered, sync_type, unit_with, unit_of, is_second, user_data_of, alone_units, behind_tokens, spelled, connect_unit}
 use Rattle.osi_message.proofs.ReadingLaws.{pairs_again}
 use Rattle.osi_message.proofs.SendingLaws.{HaveDigits}
 use Rattle.osi_message.proofs.WritingLaws.{octet_kept}
@@ -189,25 +190,25 @@ kind_good : (kind : ResyncType) (known : Known) → IsCanonical known → IsCano
 unfolding number_of
 kind_good kind known is = with_one code.ResyncType (resync_octet kind ∷ []) known (resync_good kind) refl refl is
 
-unit_good : HaveDigits → (m : Meaning) → IsNumbered m → IsCanonical (unit_of m).known
+unit_good : HaveDigits → (m : Meaning) → IsNumbered m → IsAddressed m → IsCanonical (unit_of m).known
 unfolding unit_of
-unit_good digits (CN version_2 requirements serial wishes octets) small = connect_good digits requirements serial wishes None None octets small tt tt
-unit_good digits (AC version_2 requirements serial sides octets) small = with_user_data octets _ (terms_good digits serial sides requirements small)
-unit_good digits (RF reason octets) small = refuse_good reason octets
-unit_good digits (DT octets) small = no_value
-unit_good digits (GT tokens) small = tokens_good tokens
-unit_good digits (PT tokens octets) small = with_user_data octets _ (tokens_good tokens)
-unit_good digits (MIP confirm n octets) small = with_user_data octets _ (sync_good confirm _ (numbered_good digits n small))
-unit_good digits (MIA n octets) small = with_user_data octets _ (numbered_good digits n small)
-unit_good digits (MAP n octets) small = with_user_data octets _ (open_good _ (numbered_good digits n small))
-unit_good digits (MAA n octets) small = with_user_data octets _ (numbered_good digits n small)
-unit_good digits (RS kind n wishes octets) small = with_user_data octets _ (set_good wishes _ (kind_good kind _ (numbered_good digits n small)))
-unit_good digits (RA n sides octets) small = with_user_data octets _ (set_good sides _ (numbered_good digits n small))
-unit_good digits (FN octets) small = with_user_data octets _ no_value
-unit_good digits (DN octets) small = with_user_data octets _ no_value
-unit_good digits (NF octets) small = with_user_data octets _ no_value
-unit_good digits (AB bits octets) small = with_user_data octets _ (abort_good bits)
-unit_good digits AA small = no_value
+unit_good digits (CN version_2 requirements serial wishes calling called octets) small to = connect_good digits requirements serial wishes calling called octets small to.0 to.1
+unit_good digits (AC version_2 requirements serial sides octets) small to = with_user_data octets _ (terms_good digits serial sides requirements small)
+unit_good digits (RF reason octets) small to = refuse_good reason octets
+unit_good digits (DT octets) small to = no_value
+unit_good digits (GT tokens) small to = tokens_good tokens
+unit_good digits (PT tokens octets) small to = with_user_data octets _ (tokens_good tokens)
+unit_good digits (MIP confirm n octets) small to = with_user_data octets _ (sync_good confirm _ (numbered_good digits n small))
+unit_good digits (MIA n octets) small to = with_user_data octets _ (numbered_good digits n small)
+unit_good digits (MAP n octets) small to = with_user_data octets _ (open_good _ (numbered_good digits n small))
+unit_good digits (MAA n octets) small to = with_user_data octets _ (numbered_good digits n small)
+unit_good digits (RS kind n wishes octets) small to = with_user_data octets _ (set_good wishes _ (kind_good kind _ (numbered_good digits n small)))
+unit_good digits (RA n sides octets) small to = with_user_data octets _ (set_good sides _ (numbered_good digits n small))
+unit_good digits (FN octets) small to = with_user_data octets _ no_value
+unit_good digits (DN octets) small to = with_user_data octets _ no_value
+unit_good digits (NF octets) small to = with_user_data octets _ no_value
+unit_good digits (AB bits octets) small to = with_user_data octets _ (abort_good bits)
+unit_good digits AA small to = no_value
 
 -- ---- a unit has what it must have, and nothing that it does not know
 
@@ -223,7 +224,7 @@ connect_formed requirements serial wishes calling called octets = refl
 
 unit_formed : (m : Meaning) → is_formed (unit_of m).kind (unit_of m).known ≡ true
 unfolding unit_of is_formed codes_of members_of required_of number_of
-unit_formed (CN version_2 requirements serial wishes octets) = refl
+unit_formed (CN version_2 requirements serial wishes calling called octets) = refl
 unit_formed (AC version_2 requirements serial sides octets) = refl
 unit_formed (RF reason octets) = refl
 unit_formed (DT octets) = refl
@@ -246,8 +247,8 @@ unfolding unit_of
 unit_informed (DT octets) = tt
 unit_informed _ = refl
 
-formed : HaveDigits → (m : Meaning) → IsNumbered m → IsFormedUnit (unit_of m)
-formed digits m small = record { canonical_values = unit_good digits m small; formed = unit_formed m; informed = unit_informed m }
+formed : HaveDigits → (m : Meaning) → IsNumbered m → IsAddressed m → IsFormedUnit (unit_of m)
+formed digits m small to = record { canonical_values = unit_good digits m small to; formed = unit_formed m; informed = unit_informed m }
 
 no_tokens_formed : IsFormedUnit (unit_with GiveTokens nothing)
 unfolding is_formed codes_of members_of required_of number_of
@@ -271,7 +272,7 @@ connect_len requirements serial wishes calling called octets = let d = data_len 
 
 unit_len : (m : Meaning) → free_len (unit_of m).known ≤ 1 + length (user_data_of m)
 unfolding unit_of user_data_of free_len number_of
-unit_len (CN version_2 requirements serial wishes octets) = let d = data_len octets in omega arith
+unit_len (CN version_2 requirements serial wishes calling called octets) = let d = data_len octets in omega arith
 unit_len (AC version_2 requirements serial sides octets) = let d = data_len octets in omega arith
 unit_len (RF reason octets) = omega arith
 unit_len (DT octets) = omega arith
@@ -289,8 +290,8 @@ unit_len (NF octets) = let d = data_len octets in omega arith
 unit_len (AB bits octets) = let d = data_len octets in omega arith
 unit_len AA = omega arith
 
-fits : HaveRoom → HaveDigits → (m : Meaning) → IsNumbered m → length (user_data_of m) < 65000 → UnitFits (unit_of m)
-fits room digits m small few = room (unit_of m) (unit_good digits m small) (let l = unit_len m in omega arith)
+fits : HaveRoom → HaveDigits → (m : Meaning) → IsNumbered m → IsAddressed m → length (user_data_of m) < 65000 → UnitFits (unit_of m)
+fits room digits m small to few = room (unit_of m) (unit_good digits m small to) (let l = unit_len m in omega arith)
 
 no_tokens_fit : HaveRoom → UnitFits (unit_with GiveTokens nothing)
 unfolding free_len
@@ -329,27 +330,10 @@ place_fits : HaveRoom → (b : Bool) (m : Meaning) → UnitFits (unit_of m) → 
 place_fits room true m fit = record { first = no_tokens_fit room; second = fit }
 place_fits room false m fit = record { first = fit; second = tt }
 
-pub spelled_formed : HaveDigits → (m : Meaning) → IsNumbered m → IsFormedTsdu (spelled m)
+pub spelled_formed : HaveDigits → (m : Meaning) → IsNumbered m → IsAddressed m → IsFormedTsdu (spelled m)
 unfolding spelled
-spelled_formed digits m small = place_formed (is_second m) m refl (formed digits m small)
+spelled_formed digits m small to = place_formed (is_second m) m refl (formed digits m small to)
 
-pub spelled_fits : HaveRoom → HaveDigits → (m : Meaning) → IsNumbered m → length (user_data_of m) < 65000 → TsduFits (spelled m)
+pub spelled_fits : HaveRoom → HaveDigits → (m : Meaning) → IsNumbered m → IsAddressed m → length (user_data_of m) < 65000 → TsduFits (spelled m)
 unfolding spelled
-spelled_fits room digits m small few = place_fits room (is_second m) m (fits room digits m small few)
-
--- ---- a CN with its selectors
-
-pub connect_is_formed : HaveDigits → (requirements : ℕ) (serial : Option ℕ) (wishes : TokenSetting) (calling called : Option (List ℕ)) (octets : List ℕ)
-    → IsSmall serial → IsAddress calling → IsAddress called → IsFormedTsdu (connect_units requirements serial wishes calling called octets)
-unfolding category_of may_stand
-connect_is_formed digits requirements serial wishes calling called octets small from to =
-    let good = connect_good digits requirements serial wishes calling called octets small from to in
-    let is = connect_formed requirements serial wishes calling called octets in
-    record { first = record { canonical_values = good; formed = is; informed = refl }; first_informed = refl; second = refl }
-
-pub connect_fits : HaveRoom → HaveDigits → (requirements : ℕ) (serial : Option ℕ) (wishes : TokenSetting) (calling called : Option (List ℕ)) (octets : List ℕ)
-    → IsSmall serial → IsAddress calling → IsAddress called → length octets < 65000 → TsduFits (connect_units requirements serial wishes calling called octets)
-connect_fits room digits requirements serial wishes calling called octets small from to few =
-    let good = connect_good digits requirements serial wishes calling called octets small from to in
-    let l = connect_len requirements serial wishes calling called octets in
-    record { first = room (connect_unit requirements serial wishes calling called octets) good (omega arith); second = tt }
+spelled_fits room digits m small to few = place_fits room (is_second m) m (fits room digits m small to few)

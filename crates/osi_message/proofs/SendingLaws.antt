@@ -40,13 +40,13 @@ resync_again Abandon = refl
 resync_again Set = refl
 
 -- a CN with its selectors
-pub connect_again : HaveDigits → (requirements : ℕ) (serial : Option ℕ) (wishes : TokenSetting) (calling called : Option (List ℕ)) (octets : List ℕ)
-    → IsSmall serial → meaning (connect_unit requirements serial wishes calling called octets) ≡ CN true requirements serial wishes octets
+connect_again : HaveDigits → (requirements : ℕ) (serial : Option ℕ) (wishes : TokenSetting) (calling called : Option (List ℕ)) (octets : List ℕ)
+    → IsSmall serial → meaning (connect_unit requirements serial wishes calling called octets) ≡ CN true requirements serial wishes calling called octets
 unfolding meaning number_of
 connect_again digits requirements serial wishes calling called octets small =
     let r = two_again requirements in let n = serial_again digits serial small in
     let w = setting_again wishes in let d = data_again octets in
-    λ i. CN true (r i) (n i) (w i) (d i)
+    λ i. CN true (r i) (n i) (w i) calling called (d i)
 
 minor_again : HaveDigits → (confirm : Bool) (n : ℕ) (octets : List ℕ) → n ≤ 999999 → meaning (unit_of (MIP confirm n octets)) ≡ MIP confirm n octets
 unfolding meaning unit_of number_of
@@ -55,8 +55,9 @@ minor_again digits false n octets small = let m = number_again digits n small in
 
 pub meaning_again : HaveDigits → (m : Meaning) → is_of_version_2 m ≡ true → IsNumbered m → meaning (unit_of m) ≡ m
 unfolding meaning unit_of number_of
-meaning_again digits (CN version_2 requirements serial wishes octets) v small =
-    connect_again digits requirements serial wishes None None octets small ∙ ap (λ (b : Bool). CN b requirements serial wishes octets) (sym v)
+meaning_again digits (CN version_2 requirements serial wishes calling called octets) v small =
+    connect_again digits requirements serial wishes calling called octets small
+    ∙ ap (λ (b : Bool). CN b requirements serial wishes calling called octets) (sym v)
 meaning_again digits (AC version_2 requirements serial sides octets) v small =
     let r = two_again requirements in let n = serial_again digits serial small in
     let w = setting_again sides in let d = data_again octets in let t = sym v in

@@ -2,7 +2,7 @@
 use Rattle.std.specs.Prelude.{ℕ, ◌+◌, ◌*◌, ◌/◌, ◌%◌, ◌==◌, Bool, List, [], ◌∷◌, drop, Option, Some, None, unwrap_or, if◌then◌else◌}
 use Rattle.osi_spdu.specs.declared.kinds.Kind.{Kind}
 use Rattle.osi_spdu.specs.declared.kinds.Kind.TheVariants.{GiveTokens, PleaseTokens, DataTransfer, NotFinished, Finish, Disconnect, Refuse, Connect, Accept, Abort, AbortAccept, ResynchronizeAck, MajorSyncPoint, MajorSyncAck, MinorSyncPoint, MinorSyncAck, Resynchronize}
-use Rattle.osi_spdu.specs.declared.codes.Code.TheVariants.{SyncType, TokenItem, TransportDisconnect, UserRequirements, Version, InitialNumber, Number, Reason, UserData}
+use Rattle.osi_spdu.specs.declared.codes.Code.TheVariants.{SyncType, TokenItem, TransportDisconnect, UserRequirements, Version, InitialNumber, Number, Reason, CallingSelector, CalledSelector, UserData}
 use Rattle.osi_spdu.specs.declared.codes.Code.TheVariants as code
 use Rattle.osi_spdu.specs.declared.settings.Wish.{Wish}
 use Rattle.osi_spdu.specs.declared.settings.Wish.TheVariants.{Asker, Answerer, Choice}
@@ -82,7 +82,8 @@ data_in known = octets_in (known UserData)
 
 abbrev pub meaning_by : Kind → Known → List ℕ → Meaning
 meaning_by Connect known information =
-    CN (has_version_2 known) (requirements_in (known UserRequirements)) (serial_in (known InitialNumber)) (setting_in known) (data_in known)
+    CN (has_version_2 known) (requirements_in (known UserRequirements)) (serial_in (known InitialNumber)) (setting_in known)
+    (known CallingSelector) (known CalledSelector) (data_in known)
 meaning_by Accept known information =
     AC (has_version_2 known) (requirements_in (known UserRequirements)) (serial_in (known InitialNumber)) (setting_in known) (data_in known)
 meaning_by Refuse known information = RF (octet_in (known Reason)) (drop 1 (octets_in (known Reason)))

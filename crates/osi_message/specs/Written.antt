@@ -1,5 +1,5 @@
 -- The units in which a meaning is sent.
-use Rattle.std.specs.Prelude.{ℕ, ◌≤◌, Bool, true, false, List, length, [], ◌∷◌, Option, Some, None, option_map, if◌then◌else◌}
+use Rattle.std.specs.Prelude.{ℕ, Bool, true, false, List, [], ◌∷◌, Option, Some, None, option_map, if◌then◌else◌}
 use Rattle.osi_spdu.specs.declared.kinds.Kind.{Kind}
 use Rattle.osi_spdu.specs.declared.kinds.Kind.TheVariants.{GiveTokens, PleaseTokens, DataTransfer, NotFinished, Finish, Disconnect, Refuse, Connect, Accept, Abort, AbortAccept, ResynchronizeAck, MajorSyncPoint, MajorSyncAck, MinorSyncPoint, MinorSyncAck, Resynchronize}
 use Rattle.osi_spdu.specs.declared.codes.Code.{Code}
@@ -36,7 +36,7 @@ terms serial setting requirements =
 abbrev pub numbered : ℕ → Known
 numbered n = put Number (digits_of n) nothing
 
--- a CN, with its selectors
+-- a CN with its selectors
 abbrev pub connect_unit : ℕ → Option ℕ → TokenSetting → Option (List ℕ) → Option (List ℕ) → List ℕ → Contents
 connect_unit requirements serial wishes calling called octets =
     unit_with Connect (with_data octets (put_some CallingSelector calling (put_some CalledSelector called (terms serial wishes requirements))))
@@ -47,7 +47,7 @@ sync_type confirm known = if confirm then known else put SyncType (1 ∷ []) kno
 
 -- the unit of a meaning
 unfoldable pub unit_of : Meaning → Contents
-unit_of (CN version_2 requirements serial wishes octets) = connect_unit requirements serial wishes None None octets
+unit_of (CN version_2 requirements serial wishes calling called octets) = connect_unit requirements serial wishes calling called octets
 unit_of (AC version_2 requirements serial sides octets) = unit_with Accept (with_data octets (terms serial sides requirements))
 unit_of (RF reason octets) = unit_with Refuse (put TransportDisconnect (1 ∷ []) (put Reason (reason ∷ octets) nothing))
 unit_of (DT octets) = record { kind = DataTransfer; known = nothing; information = octets }
@@ -68,7 +68,7 @@ unit_of AA = unit_with AbortAccept nothing
 
 -- data, and what has to do with points, stands behind a GT
 unfoldable pub is_second : Meaning → Bool
-is_second (CN version_2 requirements serial wishes octets) = false
+is_second (CN version_2 requirements serial wishes calling called octets) = false
 is_second (AC version_2 requirements serial sides octets) = false
 is_second (RF reason octets) = false
 is_second (DT octets) = true
@@ -94,15 +94,6 @@ alone_units unit = record { first = unit; second = None }
 abbrev pub behind_tokens : Contents → Units
 behind_tokens unit = record { first = unit_with GiveTokens nothing; second = Some unit }
 
--- a CN alone, with its selectors
-abbrev pub connect_units : ℕ → Option ℕ → TokenSetting → Option (List ℕ) → Option (List ℕ) → List ℕ → Units
-connect_units requirements serial wishes calling called octets = alone_units (connect_unit requirements serial wishes calling called octets)
-
--- a selector has at most 16 octets
-abbrev pub IsAddress : Option (List ℕ) → Type 0
-IsAddress None = Unit {0}
-IsAddress (Some octets) = length octets ≤ 16
-
 unfoldable pub spelled : Meaning → Units
 spelled m = if is_second m then behind_tokens (unit_of m) else alone_units (unit_of m)
 
@@ -112,7 +103,7 @@ written m = tsdu_octets (spelled m)
 
 -- what of the octets of a user stands in a parameter, whose length is bounded
 unfoldable pub user_data_of : Meaning → List ℕ
-user_data_of (CN version_2 requirements serial wishes octets) = octets
+user_data_of (CN version_2 requirements serial wishes calling called octets) = octets
 user_data_of (AC version_2 requirements serial sides octets) = octets
 user_data_of (RF reason octets) = octets
 user_data_of (DT octets) = []

@@ -16,4 +16,3 @@ pub use octets::Octets;
 pub use sent::Sent;
 pub use tokens::Tokens;
 pub use tsdus::Messages;
-pub use writing::connect_group;

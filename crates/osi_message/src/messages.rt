@@ -1,5 +1,5 @@
 use crate::tokens::Tokens;
-use osi_spdu::{Requirements, ResyncType, Serial, TokenSetting};
+use osi_spdu::{Requirements, ResyncType, Selector, Serial, TokenSetting};
 
 /// A session unit, with the fields that have a meaning here (X.225 section 8).
 #[derive(Clone, Copy, Debug)]
@@ -14,6 +14,10 @@ pub enum Message<'a> {
         serial: Option<Serial>,
         /// The side that is wished for each token.
         wishes: TokenSetting,
+        /// The address of the user that asks.
+        calling: Option<Selector<'a>>,
+        /// The address of the user that is asked.
+        called: Option<Selector<'a>>,
         /// User data.
         user_data: &'a [u8],
     },

@@ -125,6 +125,8 @@ fn connect<'a>(params: &Params<'a>) -> Message<'a>
         requirements: requirements(params),
         serial: serial(params),
         wishes: setting(params),
+        calling: params.calling_selector,
+        called: params.called_selector,
         user_data: user_data(params),
     }
 }

@@ -6,8 +6,8 @@ ghost use Rattle.osi_spdu.specs.Kinds.{category_of};
 ghost use Rattle.osi_spdu.specs.Groups.{units_of};
 ghost use Rattle.osi_spdu.specs.Units.{said_by};
 ghost use Rattle.osi_spdu.specs.Writing.{is_joined, UnitFits, TsduFits};
-ghost use Rattle.osi_message.specs.Meanings.{meant_by, AC, RF, GT, PT, MIP};
-ghost use Rattle.osi_message.specs.Written.{connect_unit, connect_units, alone_units, behind_tokens, is_second, unit_of, spelled, user_data_of};
+ghost use Rattle.osi_message.specs.Meanings.{selector_octets, meant_by, AC, RF, GT, PT, MIP};
+ghost use Rattle.osi_message.specs.Written.{connect_unit, alone_units, behind_tokens, is_second, unit_of, spelled, user_data_of};
 
 use crate::messages::Message;
 use crate::tokens::Tokens;
@@ -33,28 +33,16 @@ fn behind<'a>(unit: Spdu<'a>) -> Group<'a>
     Group::behind_give_tokens(unit)
 }
 
-/// A CN, with its selectors.
 fn connect<'a>(
-    terms: Terms,
+    requirements: Requirements,
+    serial: Option<Serial>,
+    wishes: TokenSetting,
     calling: Option<Selector<'a>>,
     called: Option<Selector<'a>>,
     user_data: &'a [u8],
 ) -> Spdu<'a>
-    ensures units { said_by result ≡ connect_unit terms.user_requirements.0 (option_map (λ s. s.number) terms.initial_number)
-        terms.token_setting (option_map (λ s. s.octets.now) calling.entry) (option_map (λ s. s.octets.now) called.entry) user_data.entry.now }
-    ensures place { is_joined (said_by result).kind None ≡ true }
-    ensures fits { length user_data.entry.now < 65000 → UnitFits (said_by result) }
-{
-    Spdu::connect(terms, calling, called, user_data)
-}
-
-fn connect_alone<'a>(
-    requirements: Requirements,
-    serial: Option<Serial>,
-    wishes: TokenSetting,
-    user_data: &'a [u8],
-) -> Spdu<'a>
-    ensures units { said_by result ≡ connect_unit requirements.0 (option_map (λ s. s.number) serial) wishes None None user_data.entry.now }
+    ensures units { said_by result ≡ connect_unit requirements.0 (option_map (λ s. s.number) serial)
+        wishes (selector_octets calling.entry) (selector_octets called.entry) user_data.entry.now }
     ensures place { is_joined (said_by result).kind None ≡ true }
     ensures fits { length user_data.entry.now < 65000 → UnitFits (said_by result) }
 {
@@ -63,7 +51,7 @@ fn connect_alone<'a>(
         token_setting: wishes,
         user_requirements: requirements,
     };
-    connect(terms, None, None, user_data)
+    Spdu::connect(terms, calling, called, user_data)
 }
 
 fn accept<'a>(
@@ -123,21 +111,6 @@ fn minor_point<'a>(confirm: bool, number: Serial, user_data: &'a [u8]) -> Spdu<'
     Spdu::minor_point(Some(SyncType::Open), number, user_data)
 }
 
-/// A CN with its selectors, alone, of version 2 (X.225 section 8, connect): the calling and the
-/// called session selector.
-pub fn connect_group<'a>(
-    terms: Terms,
-    calling: Option<Selector<'a>>,
-    called: Option<Selector<'a>>,
-    user_data: &'a [u8],
-) -> Group<'a>
-    ensures units { units_of result ≡ connect_units terms.user_requirements.0 (option_map (λ s. s.number) terms.initial_number)
-        terms.token_setting (option_map (λ s. s.octets.now) calling.entry) (option_map (λ s. s.octets.now) called.entry) user_data.entry.now }
-    ensures fits { length user_data.entry.now < 65000 → TsduFits (units_of result) }
-{
-    alone(connect(terms, calling, called, user_data))
-}
-
 impl<'a> Message<'a> {
     /// Whether the unit is of category 2: data, and what has to do with points.
     #[tactic(auto, unfolding(crate::specs::Written::is_second))]
@@ -169,9 +142,11 @@ impl<'a> Message<'a> {
                 requirements,
                 serial,
                 wishes,
+                calling,
+                called,
                 user_data,
                 ..
-            } => connect_alone(requirements, serial, wishes, user_data),
+            } => connect(requirements, serial, wishes, calling, called, user_data),
             Message::Accept {
                 requirements,
                 serial,
@@ -227,8 +202,8 @@ impl<'a> Message<'a> {
         }
     }
 
-    /// The units in which it is sent (X.225 sections 6.3.7 and 8). A CN is written without
-    /// selectors; it and an AC are of version 2 alone.
+    /// The units in which it is sent (X.225 sections 6.3.7 and 8). A CN and an AC are of version 2
+    /// alone.
     pub fn group(self) -> Group<'a>
         ensures units { units_of result ≡ spelled (meant_by self.entry) }
         ensures fits { length (user_data_of (meant_by self.entry)) < 65000 → TsduFits (units_of result) }

@@ -131,7 +131,7 @@ restart_held true s x t e = subst (HeldBy false s t) (sym e) (none s t)
 restart_held false s x t e = kept s t
 
 becomes_held : (s : State) (u : Meaning) (t : Token) → HeldBy (unit_gives s u t) s t (becomes s u).held
-becomes_held s (CN version_2 requirements serial wishes octets) t = opened_held (is_acceptable version_2 requirements) s
+becomes_held s (CN version_2 requirements serial wishes from to octets) t = opened_held (is_acceptable version_2 requirements) s
     (record s { phase = Answering; units = functional_units requirements; wishes = wishes; proposed = unwrap_or serial 0 }) (without_tokens Ended s) t refl refl
 becomes_held s (AC version_2 requirements serial sides octets) t =
     let units = both_units s.units (functional_units requirements) in

@@ -53,7 +53,7 @@ call_opened s c = call_cases (λ next. OpenedBy (call_opens c) s.state.phase nex
     (λ x e. let q = passed s.state c x e in subst (λ (y : Step). OpenedBy (call_opens c) s.state.phase y.next.phase) (sym q.gives) (after_opens s.state c q.phase))
 
 becomes_opens : (s : State) (u : Meaning) → is_expected s.phase u ≡ true → OpenedBy (unit_opens u) s.phase (becomes s u).phase
-becomes_opens s (CN version_2 requirements serial wishes octets) p = chosen _ (is_acceptable version_2 requirements) s.phase _ _ (λ h k. absurd (cc)) (λ h k. absurd (cc))
+becomes_opens s (CN version_2 requirements serial wishes from to octets) p = chosen _ (is_acceptable version_2 requirements) s.phase _ _ (λ h k. absurd (cc)) (λ h k. absurd (cc))
 becomes_opens s (AC version_2 requirements serial sides octets) p = λ h k. refl
 becomes_opens s (RF reason octets) p = λ h k. absurd (cc)
 becomes_opens s (DT octets) p = same _ s.phase

@@ -1,19 +1,22 @@
 -- What an accepted call sends, and what a TSDU is answered by, can be sent.
-use Rattle.std.proofs.Common.{◌≡◌, refl, sym, subst, ℕ, ◌<◌, Bool, true, false, not, ◌&&◌, nat_le, nat_lt, List, [], ◌∷◌, Option, Some, None, Ok, if◌then◌else◌, arith}
+use Rattle.std.proofs.Common.{◌≡◌, refl, sym, subst, ℕ, ◌<◌, Bool, true, false, not, ◌&&◌, nat_le, nat_lt, List, [], ◌∷◌, length, Option, Some, None, Ok, if◌then◌else◌, arith}
 use Rattle.std.proofs.lemmas.Bool.{leb-true, ltb-true, and_parts}
 use Rattle.osi_session.specs.declared.faults.UnitFault.{UnitFault}
+use Rattle.osi_spdu.specs.declared.selectors.Selector.{Selector}
+use Rattle.osi_session.specs.declared.opening.Opening.{Opening}
 use Rattle.osi_session.specs.declared.state.State.{State}
 use Rattle.osi_session.specs.Units.{functional_units, has_points, has_data}
 use Rattle.osi_session.specs.Phases.{is_aborting, is_ended}
 use Rattle.osi_session.specs.Calls.{Call, Accept, Refuse, Data, Give, Please, Minor, MinorConfirm, Major, MajorConfirm, Restart, RestartConfirm, Release, ReleaseAccept, ReleaseRefuse, Abort, HasSerial}
-use Rattle.osi_message.specs.Meanings.{Meaning, CN, RF, AB, AA}
+use Rattle.osi_message.specs.Meanings.{Meaning, CN, RF, AB, AA, selector_octets}
 use Rattle.osi_message.specs.Numbered.{IsSmall, IsNumbered}
 use Rattle.osi_message.specs.Reading.{Said}
+use Rattle.osi_session.specs.Openings.{asked_for}
 use Rattle.osi_session.specs.Sound.{IsSound}
 use Rattle.osi_session.specs.Allowed.{Step, last_number, needs, may_call, sends, allowed, AllHold}
 use Rattle.osi_session.specs.Respond.{Outcome, si, conditions, first_fault, is_expected, drops, reply_for, first_reply, judged, take_expected, in_aborting, in_ended, respond_unit, is_faulty, verdict, respond_all, acting, respond}
 use Rattle.osi_message.specs.Written.{user_data_of}
-use Rattle.osi_message.specs.Sendable.{IsSendable, is_of_version_2}
+use Rattle.osi_message.specs.Sendable.{IsAddress, IsAddressed, IsSendable, is_of_version_2}
 use Rattle.osi_session.proofs.CallLaws.{sent_short}
 use Rattle.osi_session.proofs.Passed.{passed}
 
@@ -33,6 +36,23 @@ sends_version s (Release octets) = refl
 sends_version s (ReleaseAccept octets) = refl
 sends_version s (ReleaseRefuse octets) = refl
 sends_version s (Abort octets) = refl
+
+sends_addressed : (s : State) (c : Call) → IsAddressed (sends s c)
+sends_addressed s (Accept requirements serial sides octets) = tt
+sends_addressed s (Refuse octets) = tt
+sends_addressed s (Data octets) = tt
+sends_addressed s (Give tokens) = tt
+sends_addressed s (Please tokens octets) = tt
+sends_addressed s (Minor confirm octets) = tt
+sends_addressed s (MinorConfirm n octets) = tt
+sends_addressed s (Major octets) = tt
+sends_addressed s (MajorConfirm octets) = tt
+sends_addressed s (Restart n wishes octets) = tt
+sends_addressed s (RestartConfirm sides octets) = tt
+sends_addressed s (Release octets) = tt
+sends_addressed s (ReleaseAccept octets) = tt
+sends_addressed s (ReleaseRefuse octets) = tt
+sends_addressed s (Abort octets) = tt
 
 serial_small : (b : Bool) (serial : ℕ) → serial < 1000000 → IsSmall (if b then Some serial else None)
 serial_small true serial h = omega arith
@@ -65,8 +85,24 @@ sent_sendable s c x sound small h =
     record {
       version = subst (λ (y : Step). is_of_version_2 y.sent ≡ true) (sym q.gives) (sends_version s c);
       numbered = subst (λ (y : Step). IsNumbered y.sent) (sym q.gives) (sends_numbered s c small q.phase q.needed sound);
+      addressed = subst (λ (y : Step). IsAddressed y.sent) (sym q.gives) (sends_addressed s c);
       short = sent_short s c x h;
     }
+
+-- ---- what a caller asks for
+
+address : (selector : Option Selector) → IsAddress (selector_octets selector)
+address None = tt
+address (Some s) = s.short
+
+pub asked_sendable : (o : Opening) → length o.user_data.now < 65000 → IsSendable (asked_for o)
+unfolding user_data_of
+asked_sendable o few = record {
+  version = refl;
+  numbered = serial_small (has_points (functional_units o.requirements.0)) o.serial.number (let s = o.serial.small in omega arith);
+  addressed = (address o.calling_selector, address o.called_selector);
+  short = few;
+}
 
 -- ---- answers to a TSDU
 
@@ -77,22 +113,22 @@ CanBeSent (Some m) = IsSendable m
 
 refuse_sendable : (reason : ℕ) → IsSendable (RF reason [])
 unfolding user_data_of
-refuse_sendable reason = record { version = refl; numbered = tt; short = omega arith }
+refuse_sendable reason = record { version = refl; numbered = tt; addressed = tt; short = omega arith }
 
 abort_sendable : (bits : ℕ) → IsSendable (AB bits [])
 unfolding user_data_of
-abort_sendable bits = record { version = refl; numbered = tt; short = omega arith }
+abort_sendable bits = record { version = refl; numbered = tt; addressed = tt; short = omega arith }
 
 accept_sendable : IsSendable AA
 unfolding user_data_of
-accept_sendable = record { version = refl; numbered = tt; short = omega arith }
+accept_sendable = record { version = refl; numbered = tt; addressed = tt; short = omega arith }
 
 either : (b : Bool) (x y : Option Meaning) → CanBeSent x → CanBeSent y → CanBeSent (if b then x else y)
 either true x y h k = h
 either false x y h k = k
 
 reply_sendable : (u : Meaning) → CanBeSent (reply_for u)
-reply_sendable (CN version_2 requirements serial wishes octets) =
+reply_sendable (CN version_2 requirements serial wishes from to octets) =
     either (not version_2) _ _ (refuse_sendable 132) (either (not (has_data (functional_units requirements))) _ _ (refuse_sendable 134) tt)
 reply_sendable (AB bits octets) = accept_sendable
 reply_sendable _ = tt

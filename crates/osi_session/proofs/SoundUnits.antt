@@ -85,7 +85,7 @@ same_small n next e h = grind arith
 
 -- the state after a good unit
 pub becomes_sound : (s : State) (u : Meaning) → IsNumbered u → is_expected s.phase u ≡ true → AllMet (conditions s u) → IsSound s → IsSound (becomes s u)
-becomes_sound s (CN version_2 requirements serial wishes octets) small p t h =
+becomes_sound s (CN version_2 requirements serial wishes from to octets) small p t h =
     chosen (is_acceptable version_2 requirements) _ _
     (record {
       ordered = h.ordered;

@@ -177,7 +177,7 @@ no_abort_if true x y h k = h
 no_abort_if false x y h k = k
 
 good_reply : (u : Meaning) → replies_abort (reply_for u) ≡ false
-good_reply (CN version_2 requirements serial wishes octets) =
+good_reply (CN version_2 requirements serial wishes from to octets) =
     no_abort_if (not version_2) _ _ refl (no_abort_if (not (has_data (functional_units requirements))) _ _ refl refl)
 good_reply (AB bits octets) = refl
 good_reply _ = refl

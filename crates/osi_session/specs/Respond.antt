@@ -43,7 +43,7 @@ shows s i = record (nothing s) { shown = i ∷ [] }
 
 -- which unit it is
 abbrev pub kind_of : Meaning → Kind
-kind_of (CN v u n w o) = kind.Connect
+kind_of (CN v u n w from to o) = kind.Connect
 kind_of (AC v u n w o) = kind.Accept
 kind_of (RF r o) = kind.Refuse
 kind_of (DT o) = kind.DataTransfer
@@ -73,7 +73,7 @@ has_no_effect _ = false
 
 -- the phases in which a unit is expected
 abbrev pub is_expected : Phase → Meaning → Bool
-is_expected p (CN v u n w o) = is_wait_cn p
+is_expected p (CN v u n w from to o) = is_wait_cn p
 is_expected p (AC v u n w o) = is_connecting p
 is_expected p (RF r o) = is_connecting p
 is_expected p (DT o) = takes_data p
@@ -153,7 +153,7 @@ agreed_base units serial proposed = base_for units (unwrap_or serial proposed)
 
 -- the state after a good unit
 abbrev pub becomes : State → Meaning → State
-becomes s (CN version_2 requirements serial wishes octets) =
+becomes s (CN version_2 requirements serial wishes from to octets) =
     if is_acceptable version_2 requirements
     then record s { phase = Answering; units = functional_units requirements; wishes = wishes; proposed = unwrap_or serial 0 }
     else without_tokens Ended s
@@ -180,7 +180,7 @@ becomes s AA = s
 
 -- what a good unit shows; before a CN was taken there is no user to be shown anything
 abbrev pub shown_for : State → Meaning → List Shown
-shown_for s (CN version_2 requirements serial wishes octets) =
+shown_for s (CN version_2 requirements serial wishes from to octets) =
     if is_acceptable version_2 requirements then Connect requirements serial wishes octets ∷ [] else []
 shown_for s (AC version_2 requirements serial sides octets) =
     Connected requirements serial (stated (both_units s.units (functional_units requirements)) sides) octets ∷ []
@@ -203,7 +203,7 @@ shown_for s AA = []
 
 -- what a good unit is answered by: a CN that cannot be accepted by RF, AB by AA
 abbrev pub reply_for : Meaning → Option Meaning
-reply_for (CN version_2 requirements serial wishes octets) =
+reply_for (CN version_2 requirements serial wishes from to octets) =
     if not version_2 then Some (RF 132 []) else (if not (has_data (functional_units requirements)) then Some (RF 134 []) else None)
 reply_for (AB bits octets) = Some AA
 reply_for _ = None
@@ -264,7 +264,7 @@ respond_unit s u =
 
 -- a unit that opens or aborts a connection, or answers an abort
 abbrev pub is_outside : Meaning → Bool
-is_outside (CN v u n w o) = true
+is_outside (CN v u n w from to o) = true
 is_outside (AC v u n w o) = true
 is_outside (RF r o) = true
 is_outside (AB b o) = true

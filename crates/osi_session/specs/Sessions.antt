@@ -1,7 +1,6 @@
 -- What a session holds, and what its calls answer and leave.
 use Rattle.std.specs.Prelude.{◌≡◌, ℕ, Bool, true, false, not, List, ◌++◌, length, Option, Some, None, option_map, Result, Ok, Err, IsOk, if◌then◌else◌, nat_le}
 use Rattle.osi_spdu.specs.declared.settings.Wish.TheVariants.{Asker}
-use Rattle.osi_spdu.specs.Writing.{tsdu_octets}
 use Rattle.osi_session.specs.declared.phases.Phase.TheVariants.{WaitTransport, WaitCn, Connecting, Ended}
 use Rattle.osi_session.specs.declared.faults.CallError.{CallError}
 use Rattle.osi_session.specs.declared.faults.CallError.TheVariants as error
@@ -16,7 +15,7 @@ use Rattle.osi_session.specs.Phases.{is_wait_transport}
 use Rattle.osi_session.specs.State.{without_tokens}
 use Rattle.osi_session.specs.Shown.{Shown, RefusedByTransport}
 use Rattle.osi_message.specs.Written.{written}
-use Rattle.osi_session.specs.Openings.{opening_units}
+use Rattle.osi_session.specs.Openings.{asked_for}
 use Rattle.osi_session.specs.Allowed.{Answer, base_for, most_user_data}
 use Rattle.osi_session.specs.Respond.{Outcome, is_silent}
 use Rattle.osi_session.specs.Steps.{shown_list}
@@ -75,7 +74,7 @@ abbrev pub opens : Opening → Result Standing CallError
 opens o =
     if not (is_profile o.requirements.0) then Err error.NotSelected
     else if not (nat_le (length o.user_data.now) most_user_data) then Err error.TooLong
-    else Ok (record { state = asking o; waiting = Some (tsdu_octets (opening_units o)) })
+    else Ok (record { state = asking o; waiting = Some (written (asked_for o)) })
 
 abbrev pub Opens : Result Standing CallError → Result Standing CallError → Type 0
 Opens (Ok s) answer = answer ≡ Ok s

@@ -6,8 +6,6 @@ ghost use Rattle.std.specs.List.{AllByRecursion, list_any};
 ghost use Rattle.osi_spdu.specs.declared.fields.ResyncType.{ResyncType};
 ghost use Rattle.osi_spdu.specs.declared.settings.TokenSetting.{TokenSetting};
 ghost use Rattle.osi_spdu.specs.Known.{Units};
-ghost use Rattle.osi_spdu.specs.Reading.{tsdu_at};
-ghost use Rattle.osi_spdu.specs.Writing.{tsdu_octets};
 ghost use Rattle.osi_session.specs.declared.opening.Opening.{Opening};
 ghost use Rattle.osi_session.specs.declared.requests.Request.{Request};
 ghost use Rattle.osi_session.specs.declared.state.State.{State};
@@ -27,25 +25,16 @@ ghost use Rattle.osi_session.specs.Sessions.{awaiting, asking};
 ghost use Rattle.osi_session.specs.Shown.{MinorConfirmed};
 ghost use Rattle.osi_session.specs.Sound.{IsSound};
 ghost use Rattle.osi_message.specs.Tokens.{Token, has};
-ghost use Rattle.osi_session.specs.Openings.{opening_units, asked_for};
+ghost use Rattle.osi_session.specs.Openings.{asked_for};
 ghost use Rattle.osi_message.specs.Sendable.{IsSendable, said_of};
 
-use osi_message::laws;
-
-/// The octets of the CN of a caller are read, and ask for what the caller asks for.
-pub fn what_is_asked_is_read()
-    ensures opening { (o : Opening) → length o.user_data.now < 65000 →
-        tsdu_at (tsdu_octets (opening_units o)) ≡ Ok (opening_units o) }
-    ensures asked { (o : Opening) → said_by_units (opening_units o) ≡ alone (asked_for o) }
-{
-    laws::a_connect_is_read();
-}
-
-/// What an accepted call sends can be sent, and so can what a TSDU is answered by. So each is read as
+/// What an accepted call sends can be sent, and so can what a TSDU is answered by and what a caller
+/// asks for. So each is read as
 /// in [`osi_message::laws::what_is_sent_is_read`].
 pub fn what_is_sent_can_be_sent()
     ensures called { (s : State) (c : Call) (x : Step) → IsSound s → HasSerial c → allowed s c ≡ Ok x → IsSendable x.sent }
     ensures replied { (s : State) (said : Said) (m : Meaning) → (respond s said).reply ≡ Some m → IsSendable m }
+    ensures asked { (o : Opening) → length o.user_data.now < 65000 → IsSendable (asked_for o) }
 {}
 
 /// What becomes of a unit: the table of units enacts its verdict. A unit that is not discarded, that

@@ -1,13 +1,13 @@
-ghost use Rattle.std.specs.Prelude.{◌≡◌, ◌<◌, length, option_map};
-ghost use Rattle.osi_spdu.specs.Groups.{units_of};
-ghost use Rattle.osi_spdu.specs.Writing.{TsduFits};
+ghost use Rattle.std.specs.Prelude.{◌≡◌, option_map};
 ghost use Rattle.osi_session.specs.Allowed.{serial_for};
-ghost use Rattle.osi_session.specs.Openings.{opening_units};
+ghost use Rattle.osi_message.specs.Meanings.{meant_by};
+ghost use Rattle.osi_message.specs.Written.{user_data_of};
+ghost use Rattle.osi_session.specs.Openings.{asked_for};
 
 use crate::selected::FunctionalUnits;
 use crate::sides::offered;
-use osi_message::connect_group;
-use osi_spdu::{Group, Requirements, Selector, Serial, Terms, TokenSetting};
+use osi_message::Message;
+use osi_spdu::{Requirements, Selector, Serial, TokenSetting};
 
 /// What a CN asks for (X.225 section 8, connect).
 #[derive(Clone, Copy, Debug)]
@@ -39,22 +39,21 @@ fn initial_number(units: FunctionalUnits, serial: Serial) -> Option<Serial>
 }
 
 impl<'a> Opening<'a> {
-    /// The CN, alone, of version 2 (X.225 section 8, connect).
-    pub(crate) fn group(&self) -> Group<'a>
-        ensures units { units_of result ≡ opening_units self.now }
-        ensures fits { length self.now.user_data.now < 65000 → TsduFits (units_of result) }
+    /// The CN, of version 2 (X.225 section 8, connect).
+    #[tactic(auto, unfolding(osi_message::specs::Written::user_data_of))]
+    pub(crate) fn message(&self) -> Message<'a>
+        ensures meaning { meant_by result ≡ asked_for self.now }
+        ensures data { user_data_of (meant_by result) ≡ self.now.user_data.now }
     {
         let units = FunctionalUnits::of(self.requirements);
-        let terms = Terms {
-            initial_number: initial_number(units, self.serial),
-            token_setting: offered(units, self.wishes),
-            user_requirements: self.requirements,
-        };
-        connect_group(
-            terms,
-            self.calling_selector,
-            self.called_selector,
-            self.user_data,
-        )
+        Message::Connect {
+            version_2: true,
+            requirements: self.requirements,
+            serial: initial_number(units, self.serial),
+            wishes: offered(units, self.wishes),
+            calling: self.calling_selector,
+            called: self.called_selector,
+            user_data: self.user_data,
+        }
     }
 }

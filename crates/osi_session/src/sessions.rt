@@ -89,7 +89,7 @@ impl Session {
         if opening.user_data.len() > MOST_USER_DATA {
             return Err(CallError::TooLong);
         }
-        let group = opening.group();
+        let group = opening.message().group();
         match Sent::written(alloc, &group) {
             Ok(sent) => Ok(Session {
                 alloc,

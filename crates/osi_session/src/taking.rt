@@ -1,6 +1,6 @@
 //! The table of units.
 
-ghost use Rattle.std.specs.Prelude.{◌≡◌, ◌<◌, ◌≤◌, true, false, option_map, is_some};
+ghost use Rattle.std.specs.Prelude.{◌≡◌, ◌<◌, ◌≤◌, true, false, None, option_map, is_some};
 ghost use Rattle.osi_message.specs.Meanings.{meant_by, CN, AC, RF, DT, GT, PT, MIP, MIA, MAP, MAA, RS, RA, FN, DN, NF, AB, AA};
 ghost use Rattle.osi_session.specs.Respond.{kind_of, has_no_effect, is_expected, passes_restarting, is_resynchronize, stands, is_acknowledgeable, take_expected, in_aborting, in_ended, respond_unit, agreed_base, is_outside};
 ghost use Rattle.osi_session.specs.Allowed.{opened_with};
@@ -109,7 +109,7 @@ fn connect(
     user_data: &[u8],
 ) -> Result<Reaction, AllocError>
     ensures { Reacts result (take_expected state.now
-        (CN version_2 requirements.0 (option_map (λ s. s.number) serial) wishes user_data.now)) }
+        (CN version_2 requirements.0 (option_map (λ s. s.number) serial) wishes None None user_data.now)) }
 {
     let units = FunctionalUnits::of(requirements);
     if !version_2 {
@@ -594,6 +594,7 @@ fn take_outside(alloc: Global, state: &State, message: Message<'_>) -> Result<Re
             serial,
             wishes,
             user_data,
+            ..
         } => connect(
             alloc,
             state,

@@ -92,8 +92,8 @@ units_numbered units = with_numbered units.first units.second
 
 -- the numbers in a unit in memory are those that a point may have
 pub meant_numbered : (m : Message) → IsNumbered (meant_by m)
-meant_numbered (message.Connect version_2 requirements None wishes octets) = tt
-meant_numbered (message.Connect version_2 requirements (Some serial) wishes octets) = serial.small
+meant_numbered (message.Connect version_2 requirements None wishes calling called octets) = tt
+meant_numbered (message.Connect version_2 requirements (Some serial) wishes calling called octets) = serial.small
 meant_numbered (message.Accept version_2 requirements None sides octets) = tt
 meant_numbered (message.Accept version_2 requirements (Some serial) sides octets) = serial.small
 meant_numbered (message.MinorPoint confirm number octets) = number.small

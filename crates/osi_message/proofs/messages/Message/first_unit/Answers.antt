@@ -16,7 +16,7 @@ unreachable-requires c = by c.args.self refl
     not_so m e = subst (λ (x : Message). is_second (meant_by x) ≡ false) e c.requires
 
     by : (m : Message) → c.args.self ≡ m → ⊥
-    by (message.Connect v r s w o) e = c.in_default.not-Connect v r s w o e
+    by (message.Connect v r s w a b o) e = c.in_default.not-Connect v r s w a b o e
     by (message.Accept v r s w o) e = c.in_default.not-Accept v r s w o e
     by (message.Refuse r o) e = c.in_default.not-Refuse r o e
     by (message.Give t) e = c.in_default.not-Give t e
@@ -37,7 +37,7 @@ unreachable-requires c = by c.args.self refl
 pub returns-clause-units : goal.returns-clause-units
 unfolding unit_of
 returns-clause-units c = elim c.match-self.branch [
-  | in-Connect w ↦ rw (w.result-is, w.in-Connect.is) (w.connect_alone.ensures.units)
+  | in-Connect w ↦ rw (w.result-is, w.in-Connect.is) (w.connect.ensures.units)
   | in-Accept w ↦ rw (w.result-is, w.in-Accept.is) (w.accept.ensures.units)
   | in-Refuse w ↦ rw (w.result-is, w.in-Refuse.is) (w.refuse.ensures.units)
   | in-Give w ↦ rw (w.result-is, w.in-Give.is) (w.give.ensures.units)
@@ -52,7 +52,7 @@ returns-clause-units c = elim c.match-self.branch [
 pub returns-clause-fits : goal.returns-clause-fits
 unfolding user_data_of
 returns-clause-fits c = elim c.match-self.branch [
-  | in-Connect w ↦ rw (w.result-is, w.in-Connect.is) (λ few. w.connect_alone.ensures.fits (omega arith))
+  | in-Connect w ↦ rw (w.result-is, w.in-Connect.is) (λ few. w.connect.ensures.fits (omega arith))
   | in-Accept w ↦ rw (w.result-is, w.in-Accept.is) (λ few. w.accept.ensures.fits (omega arith))
   | in-Refuse w ↦ rw (w.result-is, w.in-Refuse.is) (λ few. w.refuse.ensures.fits (omega arith))
   | in-Give w ↦ rw (w.result-is, w.in-Give.is) (λ few. w.give.ensures.fits)
