@@ -1,6 +1,6 @@
 -- The values in memory are in their written form.
-use Rattle.std.proofs.Common.{inl, inr, ◌≡◌, ℕ, ◌+◌, ◌*◌, ◌/◌, ◌%◌, ◌<◌, Bool, true, false, cond, not, ◌&&◌, List, [], ◌∷◌, length, Option, Some, None, Ok, option_map, refl, sym, ap, subst, ◌∙◌, arith}
-use Rattle.std.proofs.lemmas.Bool.{cases_Bool, and_parts, eqb-true, ne_eqb, le-leb, lt-ltb}
+use Rattle.std.proofs.Common.{inl, inr, ◌≡◌, ◌==◌, ◌≤◌, ◌||◌, ℕ, ◌+◌, ◌*◌, ◌/◌, ◌%◌, ◌<◌, Bool, true, false, cond, not, ◌&&◌, List, [], ◌∷◌, length, Option, Some, None, Ok, option_map, refl, sym, ap, subst, ◌∙◌, arith}
+use Rattle.std.proofs.lemmas.Bool.{cases_Bool, and_parts, or_cases, not-true, eqb-true, ne_eqb, le-leb, lt-ltb}
 use Rattle.osi_spdu.specs.declared.codes.Code.{Code}
 use Rattle.osi_spdu.specs.declared.codes.Code.TheVariants.{ConnectionIdentifier, ConnectAcceptItem, CalledReference, CallingReference, CommonReference, AdditionalReference, SyncType, TokenItem, TransportDisconnect, ProtocolOptions, UserRequirements, TsduMaximumSize, Version, InitialNumber, Enclosure, TokenSetting, ResyncType, Number, Reflect, Reason, CallingSelector, CalledSelector, UserData, ExtendedUserData}
 use Rattle.osi_spdu.specs.declared.kinds.Kind.{Kind}
@@ -9,7 +9,9 @@ use Rattle.osi_spdu.specs.declared.kinds.Category.{Category}
 use Rattle.osi_spdu.specs.declared.kinds.Category.TheVariants.{Zero, One, Two}
 use Rattle.osi_spdu.specs.declared.params.Params.{Params}
 use Rattle.osi_spdu.specs.declared.units.Spdu.{Spdu}
+use Rattle.osi_spdu.specs.declared.behind.Behind.{Behind}
 use Rattle.osi_spdu.specs.declared.groups.Group.{Group}
+use Rattle.std.specs.List.{AllByRecursion}
 use Rattle.osi_spdu.specs.declared.settings.Wish.{Wish}
 use Rattle.osi_spdu.specs.declared.settings.Wish.TheVariants as wishes
 use Rattle.osi_spdu.specs.declared.fields.SyncType as syncs
@@ -20,14 +22,15 @@ use Rattle.osi_spdu.specs.Codes.{number_of, is_same}
 use Rattle.osi_spdu.specs.Kinds.{category_of, may_stand}
 use Rattle.osi_spdu.specs.Values.{canonical, digits_of, is_setting}
 use Rattle.osi_spdu.specs.Fields.{sync_octet, token_octets, wish_number, setting_octets, resync_octet}
-use Rattle.osi_spdu.specs.Known.{some_octets}
-use Rattle.osi_spdu.specs.Reading.{tsdu_at}
-use Rattle.osi_spdu.specs.Spelling.{HasInformation, SpellsTsdu}
+use Rattle.osi_spdu.specs.Known.{some_octets, Units}
+use Rattle.osi_spdu.specs.Reading.{takes_rest, behind_at, tsdu_at}
+use Rattle.osi_spdu.specs.Spelling.{HasInformation, EndsTsdu, AreBehind, MayFollow, StandTogether, SpellsTsdu}
 use Rattle.osi_spdu.specs.Params.{place_of, cells_of, slots_of, known_of, present}
 use Rattle.osi_spdu.specs.Units.{said_by}
-use Rattle.osi_spdu.specs.Groups.{units_of}
-use Rattle.osi_spdu.specs.Writing.{is_informed, is_joined, is_zero, IsCanonical, IsFormedUnit, SecondIsFormed, IsFormedTsdu, TsduFits, tsdu_octets}
-use Rattle.osi_spdu.specs.Laws.Tsdus.{tsdu_only}
+use Rattle.osi_spdu.specs.Behind.{left_at, AreLeft, is_behind}
+use Rattle.osi_spdu.specs.Groups.{units_from, units_behind, units_of}
+use Rattle.osi_spdu.specs.Writing.{is_informed, is_joined, is_zero, IsCanonical, IsFormedUnit, IsFormedTsdu, TsduFits, tsdu_octets}
+use Rattle.osi_spdu.specs.Laws.Tsdus.{left_stands, tsdu_only}
 use Rattle.osi_spdu.specs.Laws.Written.{tsdu_written}
 use Rattle.std.proofs.lemmas.List.{nil_from_length}
 use Rattle.osi_spdu.proofs.Digits.{numeral_digits}
@@ -144,21 +147,13 @@ unit_formed u = record {
   informed = informed_from u.kind u.information.now u.informed;
 }
 
-first_plain : (kind : Kind) (information : List ℕ) → may_stand false (category_of kind) ≡ true → HasInformation kind information → information ≡ []
-unfolding may_stand category_of
-first_plain DataTransfer information e h = absurd cc
-first_plain _ information e h = h
+-- ---- the units behind the first
 
-joined_first : (kind : Kind) (o : Option Kind) → is_joined kind o ≡ true → may_stand false (category_of kind) ≡ true
-unfolding is_joined
-joined_first kind None e = e
-joined_first kind (Some second) e =
-    (and_parts (may_stand false (category_of kind)) (may_stand true (category_of second)) (and_parts (may_stand false (category_of kind) && may_stand true (category_of second)) (is_zero (category_of kind)) e).0).0
-
-category_zero : (category : Category) → is_zero category ≡ true → category ≡ Zero
-category_zero Zero e = refl
-category_zero One e = absurd cc
-category_zero Two e = absurd cc
+follow_none : (category : Category) → may_stand false category ≡ true → MayFollow category []
+unfolding may_stand
+follow_none Zero e = omega arith
+follow_none One e = refl
+follow_none Two e = absurd cc
 
 category_two : (category : Category) → may_stand true category ≡ true → category ≡ Two
 unfolding may_stand
@@ -166,20 +161,87 @@ category_two Zero e = absurd cc
 category_two One e = absurd cc
 category_two Two e = refl
 
-second_formed : (kind : Kind) (second : Option Spdu) → is_joined kind (option_map (λ s. s.kind) second) ≡ true → SecondIsFormed (category_of kind) (option_map said_by second)
+category_zero : (category : Category) → is_zero category ≡ true → category ≡ Zero
+category_zero Zero e = refl
+category_zero One e = absurd cc
+category_zero Two e = absurd cc
+
+ends_all : (kind : Kind) (units : Units) → units ≡ [] → EndsTsdu kind units
+ends_all DataTransfer units e = e
+ends_all _ units e = tt
+
+ends_none : (kind : Kind) (units : Units) → takes_rest kind ≡ false → EndsTsdu kind units
+ends_none DataTransfer units e = absurd cc
+ends_none _ units e = tt
+
+nothing_left : (room at : ℕ) (octets : List ℕ) → octets ≡ [] → left_at room at octets ≡ []
+unfolding left_at behind_at
+nothing_left room at octets e = ap (left_at room at) e
+
+-- a unit that may stand behind another, with those behind it
+behind_stands : (kind : Kind) (room at : ℕ) (octets : List ℕ) → is_behind (Some kind) octets ≡ true → (category_of kind ≡ Two) × EndsTsdu kind (left_at room at octets)
+unfolding is_behind
+behind_stands kind room at octets e =
+    let a = and_parts (may_stand true (category_of kind)) (not (takes_rest kind) || (length octets == 0)) e in (
+      category_two (category_of kind) a.0,
+      elim (or_cases (not (takes_rest kind)) (length octets == 0) a.1) [
+        | inl n ↦ ends_none kind (left_at room at octets) (not-true (takes_rest kind) n)
+        | inr z ↦ ends_all kind (left_at room at octets) (nothing_left room at octets (nil_from_length octets (eqb-true (length octets) 0 z)))
+      ],
+    )
+
+-- the units behind the first one
+pub record IsFormedBehind (units : Units) : Type 0 where
+  pub formed : AllByRecursion IsFormedUnit units
+  pub behind : AreBehind units
+  pub few : length units ≤ 16
+
+behind_from : (next : Option Spdu) (room at : ℕ) (octets : List ℕ) → is_behind (option_map (λ s. s.kind) next) octets ≡ true → AreLeft room at octets → room ≤ 15 → IsFormedBehind (units_from next (left_at room at octets))
+behind_from None room at octets behind left few = record { formed = tt; behind = tt; few = omega arith }
+behind_from (Some unit) room at octets behind left few =
+    let stands = behind_stands unit.kind room at octets behind in
+    let is = left_stands room at octets left.readable in
+    record { formed = (unit_formed unit, left.formed); behind = (stands.0, stands.1, is.0); few = omega (arith, is.1) }
+
+pub behind_formed : (b : Behind) → IsFormedBehind (units_behind b)
+behind_formed b = behind_from b.next b.room b.at b.rest.now b.stands b.left b.few
+
+may_follow : (category : Category) (units : Units) → category ≡ Zero → length units ≤ 16 → MayFollow category units
+may_follow Zero units e few = few
+may_follow One units e few = absurd cc
+may_follow Two units e few = absurd cc
+
+stand_together : (first : Kind) (next : Option Spdu) (others : Units) → is_joined first (option_map (λ s. s.kind) next) ≡ true → length (units_from next others) ≤ 16 → MayFollow (category_of first) (units_from next others)
 unfolding is_joined
-second_formed kind None e = e
-second_formed kind (Some u) e =
-    let a = and_parts (may_stand false (category_of kind) && may_stand true (category_of u.kind)) (is_zero (category_of kind)) e in
-    let b = and_parts (may_stand false (category_of kind)) (may_stand true (category_of u.kind)) a.0 in
-    (category_zero (category_of kind) a.1, category_two (category_of u.kind) b.1, unit_formed u)
+stand_together first None others e few = follow_none (category_of first) e
+stand_together first (Some unit) others e few =
+    let a = and_parts (may_stand false (category_of first) && may_stand true (category_of unit.kind)) (is_zero (category_of first)) e in
+    may_follow (category_of first) (units_from (Some unit) others) (category_zero (category_of first) a.1) few
 
 pub group_formed : (g : Group) → IsFormedTsdu (units_of g)
-group_formed g = record {
-  first = unit_formed g.first;
-  first_informed = first_plain g.first.kind g.first.information.now (joined_first g.first.kind (option_map (λ s. s.kind) g.second) g.joined) (unit_formed g.first).informed;
-  second = second_formed g.first.kind g.second g.joined;
-}
+unfolding StandTogether
+group_formed g =
+    let b = behind_formed g.behind in
+    record {
+      together = (stand_together g.first.kind g.behind.next (left_at g.behind.room g.behind.at g.behind.rest.now) g.joined b.few, b.behind);
+      formed = (unit_formed g.first, b.formed);
+    }
+
+first_alone : (kind : Kind) (information : List ℕ) → may_stand false (category_of kind) ≡ true → HasInformation kind information → information ≡ []
+unfolding may_stand category_of
+first_alone DataTransfer information e h = absurd cc
+first_alone _ information e h = h
+
+first_stands : (first : Kind) (next : Option Kind) → is_joined first next ≡ true → may_stand false (category_of first) ≡ true
+unfolding is_joined
+first_stands first None e = e
+first_stands first (Some second) e =
+    (and_parts (may_stand false (category_of first)) (may_stand true (category_of second))
+    (and_parts (may_stand false (category_of first) && may_stand true (category_of second)) (is_zero (category_of first)) e).0).0
+
+-- the first unit of a group has no information
+pub group_plain : (g : Group) → g.first.information.now ≡ []
+group_plain g = first_alone g.first.kind g.first.information.now (first_stands g.first.kind (option_map (λ s. s.kind) g.behind.next) g.joined) (unit_formed g.first).informed
 
 -- what a group is written as spells it, and is read as it
 pub group_spelled : (g : Group) → TsduFits (units_of g) → SpellsTsdu (units_of g) (tsdu_octets (units_of g))

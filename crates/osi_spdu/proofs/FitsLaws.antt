@@ -11,8 +11,8 @@ use Rattle.osi_spdu.specs.Codes.{number_of, is_same, is_group, slot_of, every_co
 use Rattle.osi_spdu.specs.Kinds.{codes_of, members_of}
 use Rattle.osi_spdu.specs.Known.{Known, nothing, some_octets, settled, Contents, Units}
 use Rattle.osi_spdu.specs.Reading.{code_among}
-use Rattle.osi_spdu.specs.Spelling.{length_octets, HasLength, Part, part_octets, Sole, IsPart, Spells, only, MemberOf, MeansInGroup, GroupOf, ParameterOf, KnownOf, MeansInUnit, SpellsUnit, SpellsSecond, SpellsTsdu}
-use Rattle.osi_spdu.specs.Writing.{written_item, among, written_code, member_octets, group_octets, value_octets, parameter_octets, body_octets, UnitFits, SecondFits, TsduFits}
+use Rattle.osi_spdu.specs.Spelling.{length_octets, HasLength, Part, part_octets, Sole, IsPart, Spells, only, MemberOf, MeansInGroup, GroupOf, ParameterOf, KnownOf, MeansInUnit, SpellsUnit, AreUnits, SpellsTsdu}
+use Rattle.osi_spdu.specs.Writing.{written_item, among, written_code, member_octets, group_octets, value_octets, parameter_octets, body_octets, UnitFits, TsduFits}
 use Rattle.osi_spdu.specs.Laws.Options.{Joins, first, sole_one, sole_same, sole_split}
 use Rattle.osi_spdu.specs.Laws.Steps.{same_true, same_refl}
 use Rattle.osi_spdu.specs.Laws.Levels.{JoinsAll}
@@ -443,13 +443,10 @@ unit_fits unit octets s =
     let b = body_short s.long (length s.body) s.counted in
     omega arith
 
-second_fits : (first : Contents) (second : Option Contents) (octets : List ℕ) → SpellsSecond first second octets → SecondFits second
-second_fits first None octets s = tt
-second_fits first (Some unit) octets s = unit_fits unit s.0 s.1
+pub units_fit : (units : Units) (octets : List ℕ) → AreUnits units octets → TsduFits units
+units_fit [] octets s = tt
+units_fit (unit ∷ units) octets s = (unit_fits unit s.0 s.3, units_fit units s.1 s.5)
 
 pub tsdu_fits : (units : Units) (octets : List ℕ) → SpellsTsdu units octets → TsduFits units
 unfolding SpellsTsdu
-tsdu_fits units octets s = record {
-  first = unit_fits units.first s.0 s.3;
-  second = second_fits units.first units.second s.1 s.5;
-}
+tsdu_fits units octets s = units_fit units octets s.1

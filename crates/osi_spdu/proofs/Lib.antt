@@ -5,7 +5,9 @@ pub mod Loops
 pub mod FormedLaws
 pub mod TsduLaws
 pub mod WritingLoops
+pub mod WritingUnits
 pub mod CanonicalLaws
+pub mod BehindLaws
 pub mod Shorter
 pub mod FitsLaws
 pub mod MadeLaws

@@ -1,5 +1,5 @@
 -- How the reader of a TSDU goes on behind the first unit.
-use Rattle.std.proofs.Common.{◌≡◌, ℕ, Bool, true, false, ◌&&◌, List, [], ◌∷◌, length, Some, None, Result, Ok, Err, refl, sym, ◌∙◌, arith}
+use Rattle.std.proofs.Common.{◌≡◌, ℕ, Bool, true, false, ◌&&◌, List, [], ◌∷◌, length, Some, None, Result, Ok, Err, refl, sym, ap, ◌∙◌, arith}
 use Rattle.std.specs.Prelude.{IfOk, IsOkAnd}
 use Rattle.osi_tpkt.specs.Octets.{IsOctets}
 use Rattle.osi_spdu.specs.declared.faults.SpduFault.{SpduFault}
@@ -9,14 +9,15 @@ use Rattle.osi_spdu.specs.Kinds.{category_of, may_stand}
 use Rattle.osi_spdu.specs.declared.kinds.Category.{Category}
 use Rattle.osi_spdu.specs.declared.kinds.Category.TheVariants.{Zero, One, Two}
 use Rattle.osi_spdu.specs.declared.reading.Found.{Found}
+use Rattle.osi_spdu.specs.declared.behind.Behind.{Behind}
 use Rattle.osi_spdu.specs.declared.groups.Group.{Group}
 use Rattle.osi_spdu.specs.Known.{Contents, Units}
 use Rattle.osi_spdu.specs.Params.{known_of}
 use Rattle.osi_spdu.specs.Writing.{is_formed, is_joined, IsFormedTsdu, TsduFits}
-use Rattle.osi_spdu.specs.Reading.{◌>>=◌, Gives, Placed, unit_at, ended, contents_of, takes_rest, joined, behind, continued, tsdu_at}
+use Rattle.osi_spdu.specs.Reading.{Gives, Placed, unit_at, contents_of, takes_rest, Next, next_if, next_at, behind_at, ended, continued, tsdu_at}
 use Rattle.osi_spdu.specs.Spelling.{SpellsTsdu}
 use Rattle.osi_spdu.specs.Found.{placed_of}
-use Rattle.osi_spdu.specs.Groups.{units_of}
+use Rattle.osi_spdu.specs.Groups.{units_behind, units_of}
 use Rattle.osi_spdu.specs.Laws.Steps.{ok_is}
 use Rattle.osi_spdu.proofs.FormedLaws.{placed_formed}
 use Rattle.osi_spdu.proofs.CanonicalLaws.{group_formed}
@@ -29,47 +30,50 @@ found_formed (Err d) second at octets fits e = tt
 
 -- ---- behind the first unit
 
-ended_at : (at : ℕ) (octets : List ℕ) (units : Units) → length octets ≡ 0 → ended at octets units ≡ Ok units
-ended_at at [] units e = refl
-ended_at at (b ∷ octets) units e = absurd (omega arith)
+later_ok : (r : Result Found SpduFault) (n : Next) (at : ℕ) (octets : List ℕ) → Gives placed_of r (unit_at true at octets) → IfOk r (λ f. next_if (takes_rest f.kind) (placed_of f) ≡ n) → IfOk r (λ f. next_at at octets ≡ Ok n)
+unfolding next_at
+later_ok (Ok f) n at octets e h = rw e (ap (λ (x : Next). Ok x) h)
+later_ok (Err d) n at octets e h = tt
 
-behind_none : (p : Placed) (octets : List ℕ) → length octets ≡ 0 → behind p octets ≡ Ok (record { first = contents_of p []; second = None })
-behind_none p [] e = refl
-behind_none p (b ∷ octets) e = absurd (omega arith)
+pub tsdu_goes : (octets : List ℕ) (p : Placed) → unit_at false 0 octets ≡ Ok p → tsdu_at octets ≡ continued (category_of p.kind) p
+unfolding tsdu_at
+tsdu_goes octets p e = rw e refl
 
-pub continued_alone : (category : Category) (p : Placed) → length p.rest ≡ 0 → continued category p ≡ Ok (record { first = contents_of p []; second = None })
-continued_alone Zero p e = behind_none p p.rest e
-continued_alone One p e = ended_at p.end p.rest (record { first = contents_of p []; second = None }) e
-continued_alone Two p e = ended_at p.end p.rest (record { first = contents_of p []; second = None }) e
+continued_zero : (category : Category) (p : Placed) (units : Units) → category ≡ Zero → behind_at 16 p.end p.rest ≡ Ok units → continued category p ≡ Ok (contents_of p [] ∷ units)
+continued_zero Zero p units e h = rw h refl
+continued_zero One p units e h = absurd cc
+continued_zero Two p units e h = absurd cc
 
-behind_some : (p : Placed) (octets : List ℕ) → (length octets ≡ 0 → ⊥) → behind p octets ≡ (unit_at true p.end octets >>= joined (contents_of p []))
-behind_some p [] h = absurd (h refl)
-behind_some p (b ∷ octets) h = refl
+pub tsdu_behind : (octets : List ℕ) (p : Placed) (r : Result Behind SpduFault) → unit_at false 0 octets ≡ Ok p → category_of p.kind ≡ Zero → Gives units_behind r (behind_at 16 p.end p.rest)
+    → IfOk r (λ b. tsdu_at octets ≡ Ok (contents_of p [] ∷ units_behind b))
+tsdu_behind octets p (Ok b) e zero_kind h = tsdu_goes octets p e ∙ continued_zero (category_of p.kind) p (units_behind b) zero_kind h
+tsdu_behind octets p (Err f) e zero_kind h = tt
 
-pub continued_zero : (category : Category) (p : Placed) → category ≡ Zero → (length p.rest ≡ 0 → ⊥) → continued category p ≡ (unit_at true p.end p.rest >>= joined (contents_of p []))
-continued_zero Zero p e h = behind_some p p.rest h
-continued_zero One p e h = absurd cc
-continued_zero Two p e h = absurd cc
+pub tsdu_behind_bad : (octets : List ℕ) (p : Placed) (f : SpduFault) → unit_at false 0 octets ≡ Ok p → category_of p.kind ≡ Zero → behind_at 16 p.end p.rest ≡ Err f → tsdu_at octets ≡ Err f
+tsdu_behind_bad octets p f e zero_kind h = tsdu_goes octets p e ∙ bad (category_of p.kind) zero_kind
+  where
+    bad : (category : Category) → category ≡ Zero → continued category p ≡ Err f
+    bad Zero same = rw h refl
+    bad One same = absurd cc
+    bad Two same = absurd cc
 
-ended_some : (at : ℕ) (octets : List ℕ) (units : Units) → (length octets ≡ 0 → ⊥) → ended at octets units ≡ Err (TrailingOctets at)
-ended_some at [] units h = absurd (h refl)
-ended_some at (b ∷ octets) units h = refl
+ended_none : (at : ℕ) (octets : List ℕ) (unit : Contents) → length octets ≡ 0 → ended at octets unit ≡ Ok (unit ∷ [])
+ended_none at [] unit e = refl
+ended_none at (b ∷ octets) unit e = absurd (omega arith)
+
+ended_some : (at : ℕ) (octets : List ℕ) (unit : Contents) → (length octets ≡ 0 → ⊥) → ended at octets unit ≡ Err (TrailingOctets at)
+ended_some at [] unit h = absurd (h refl)
+ended_some at (b ∷ octets) unit h = refl
+
+pub continued_alone : (category : Category) (p : Placed) → (category ≡ Zero → ⊥) → length p.rest ≡ 0 → continued category p ≡ Ok (contents_of p [] ∷ [])
+continued_alone Zero p other e = absurd (other refl)
+continued_alone One p other e = ended_none p.end p.rest (contents_of p []) e
+continued_alone Two p other e = ended_none p.end p.rest (contents_of p []) e
 
 pub continued_trailing : (category : Category) (p : Placed) → (category ≡ Zero → ⊥) → (length p.rest ≡ 0 → ⊥) → continued category p ≡ Err (TrailingOctets p.end)
 continued_trailing Zero p other h = absurd (other refl)
-continued_trailing One p other h = ended_some p.end p.rest (record { first = contents_of p []; second = None }) h
-continued_trailing Two p other h = ended_some p.end p.rest (record { first = contents_of p []; second = None }) h
-
--- ---- the second unit
-
-pub joined_all : (first : Contents) (p : Placed) → takes_rest p.kind ≡ true → joined first p ≡ Ok (record { first = first; second = Some (contents_of p p.rest) })
-joined_all first p e = rw e refl
-
-pub joined_none : (first : Contents) (p : Placed) → takes_rest p.kind ≡ false → length p.rest ≡ 0 → joined first p ≡ Ok (record { first = first; second = Some (contents_of p []) })
-joined_none first p e h = rw e (ended_at p.end p.rest (record { first = first; second = Some (contents_of p []) }) h)
-
-pub joined_trailing : (first : Contents) (p : Placed) → takes_rest p.kind ≡ false → (length p.rest ≡ 0 → ⊥) → joined first p ≡ Err (TrailingOctets p.end)
-joined_trailing first p e h = rw e (ended_some p.end p.rest (record { first = first; second = Some (contents_of p []) }) h)
+continued_trailing One p other h = ended_some p.end p.rest (contents_of p []) h
+continued_trailing Two p other h = ended_some p.end p.rest (contents_of p []) h
 
 -- ---- the laws, at what a reader returned
 
@@ -89,10 +93,6 @@ joined_ok first second e h = rw e h_true
   where
     h_true : (true && may_stand true (category_of second) && true) ≡ true
     h_true = rw h refl
-
-pub tsdu_goes : (octets : List ℕ) (p : Placed) → unit_at false 0 octets ≡ Ok p → tsdu_at octets ≡ continued (category_of p.kind) p
-unfolding tsdu_at
-tsdu_goes octets p e = rw e refl
 
 pub all_fits : (r : Result Group SpduFault) (octets : List ℕ) → IsOctets octets → Gives units_of r (tsdu_at octets) → IfOk r (λ g. TsduFits (units_of g))
 all_fits (Ok g) octets fits e = tsdu_fits (units_of g) octets (tsdu_found octets (units_of g) fits e)

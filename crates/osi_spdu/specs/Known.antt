@@ -31,7 +31,6 @@ pub record Contents : Type 0 where
   pub known : Known
   pub information : List ℕ
 
--- what a TSDU says: a unit, and the unit behind it, if there is one
-pub record Units : Type 0 where
-  pub first : Contents
-  pub second : Option Contents
+-- what a TSDU says: its units in their order
+abbrev pub Units : Type 0
+Units = List Contents

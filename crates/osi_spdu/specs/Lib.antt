@@ -9,6 +9,7 @@ pub mod Octets
 pub mod Fields
 pub mod Params
 pub mod Counted
+pub mod Behind
 pub mod Groups
 pub mod Units
 pub mod Found

@@ -123,11 +123,6 @@ unit_at second at (si ∷ octets) = do
   whole ← all_there at (required_of kind) raw
   Ok (record { kind = kind; known = settled whole; end = at + (1 + m.used + length m.value); rest = m.rest })
 
--- nothing stands behind the last unit
-abbrev pub ended : ℕ → List ℕ → Units → Result Units SpduFault
-ended at [] units = Ok units
-ended at (b ∷ octets) units = Err (TrailingOctets at)
-
 abbrev pub contents_of : Placed → List ℕ → Contents
 contents_of unit information = record { kind = unit.kind; known = unit.known; information = information }
 
@@ -136,24 +131,43 @@ abbrev pub takes_rest : Kind → Bool
 takes_rest DataTransfer = true
 takes_rest _ = false
 
-abbrev pub joined : Contents → Placed → Result Units SpduFault
-joined first unit =
-    if takes_rest unit.kind then Ok (record { first = first; second = Some (contents_of unit unit.rest) })
-    else ended unit.end unit.rest (record { first = first; second = Some (contents_of unit []) })
+-- a unit behind another, where it ends with its user information, and the octets behind that
+pub record Next : Type 0 where
+  pub unit : Contents
+  pub end : ℕ
+  pub rest : List ℕ
 
--- the unit behind this one
-abbrev pub second_at : Contents → ℕ → List ℕ → Result Units SpduFault
-second_at first at octets = unit_at true at octets >>= joined first
+abbrev pub next_if : Bool → Placed → Next
+next_if true unit = record { unit = contents_of unit unit.rest; end = unit.end + length unit.rest; rest = [] }
+next_if false unit = record { unit = contents_of unit []; end = unit.end; rest = unit.rest }
 
--- behind a unit of category 0 stands nothing, or a unit of category 2
-abbrev pub behind : Placed → List ℕ → Result Units SpduFault
-behind unit [] = Ok (record { first = contents_of unit []; second = None })
-behind unit (b ∷ octets) = second_at (contents_of unit []) unit.end (b ∷ octets)
+unfoldable pub next_at : ℕ → List ℕ → Result Next SpduFault
+next_at at octets = unit_at true at octets >>= λ unit. Ok (next_if (takes_rest unit.kind) unit)
 
+-- the fault of a unit for which there is no room
+abbrev pub crowded : ℕ → Option Kind → SpduFault
+crowded at None = UnknownSi at
+crowded at (Some kind) = BadConcatenation at
+
+-- the units behind the first one; the first argument says how many there may be
+unfoldable pub behind_at : ℕ → ℕ → List ℕ → Result Units SpduFault
+behind_at room at [] = Ok []
+behind_at zero at (si ∷ octets) = Err (crowded at (kind_named true si))
+behind_at (suc room) at (si ∷ octets) = do
+  next ← next_at at (si ∷ octets)
+  others ← behind_at room next.end next.rest
+  Ok (next.unit ∷ others)
+
+-- nothing stands behind a unit of category 1
+abbrev pub ended : ℕ → List ℕ → Contents → Result Units SpduFault
+ended at [] unit = Ok (unit ∷ [])
+ended at (b ∷ octets) unit = Err (TrailingOctets at)
+
+-- behind a unit of category 0 stand at most 16 others
 abbrev pub continued : Category → Placed → Result Units SpduFault
-continued Zero unit = behind unit unit.rest
-continued One unit = ended unit.end unit.rest (record { first = contents_of unit []; second = None })
-continued Two unit = ended unit.end unit.rest (record { first = contents_of unit []; second = None })
+continued Zero unit = behind_at 16 unit.end unit.rest >>= λ behind. Ok (contents_of unit [] ∷ behind)
+continued One unit = ended unit.end unit.rest (contents_of unit [])
+continued Two unit = ended unit.end unit.rest (contents_of unit [])
 
 -- all of a TSDU
 unfoldable pub tsdu_at : List ℕ → Result Units SpduFault

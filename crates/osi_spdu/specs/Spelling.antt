@@ -1,12 +1,13 @@
 -- Which octets spell a TSDU, X.225 section 8: by items, without order.
-use Rattle.std.specs.Prelude.{◌≡◌, ◌<◌, ℕ, ◌/◌, ◌%◌, ◌++◌, Bool, true, false, List, [], ◌∷◌, length, map, Option, Some, None, IsSome}
+use Rattle.std.specs.Prelude.{◌≡◌, ◌<◌, ◌≤◌, ℕ, ◌/◌, ◌%◌, ◌++◌, Bool, true, false, List, [], ◌∷◌, length, map, Option, Some, None, IsSome}
 use Rattle.std.specs.List.{flat_map, AllByRecursion}
 use Rattle.osi_spdu.specs.declared.codes.Code.{Code}
 use Rattle.osi_spdu.specs.declared.kinds.Kind.{Kind}
 use Rattle.osi_spdu.specs.declared.kinds.Kind.TheVariants.{DataTransfer}
-use Rattle.osi_spdu.specs.declared.kinds.Category.TheVariants.{Zero, Two}
+use Rattle.osi_spdu.specs.declared.kinds.Category.{Category}
+use Rattle.osi_spdu.specs.declared.kinds.Category.TheVariants.{Zero, One, Two}
 use Rattle.osi_spdu.specs.Codes.{is_group, slot_of}
-use Rattle.osi_spdu.specs.Kinds.{si_of, category_of, codes_of, members_of, required_of, may_stand}
+use Rattle.osi_spdu.specs.Kinds.{si_of, category_of, codes_of, members_of, required_of}
 use Rattle.osi_spdu.specs.Values.{canonical}
 use Rattle.osi_spdu.specs.Known.{Known, nothing, put, settled, Contents, Units}
 use Rattle.osi_spdu.specs.Reading.{code_among}
@@ -95,16 +96,35 @@ abbrev pub HasInformation : Kind → List ℕ → Type 0
 HasInformation DataTransfer information = Unit {0}
 HasInformation _ information = information ≡ []
 
--- what stands behind the first unit
-abbrev pub SpellsSecond : Contents → Option Contents → List ℕ → Type 0
-SpellsSecond first None octets = (octets ≡ []) × (may_stand false (category_of first.kind) ≡ true)
-SpellsSecond first (Some unit) octets =
-    (front : List ℕ) × SpellsUnit unit front × (octets ≡ front ++ unit.information)
-    × HasInformation unit.kind unit.information
-    × (category_of first.kind ≡ Zero) × (category_of unit.kind ≡ Two)
+-- a DT is the last unit of its TSDU
+abbrev pub EndsTsdu : Kind → Units → Type 0
+EndsTsdu DataTransfer units = units ≡ []
+EndsTsdu _ units = Unit {0}
 
--- The octets are a TSDU: one unit of category 0 or 1, or one of category 0 and one of category 2.
+-- units of category 2, of which a DT is the last
+abbrev pub AreBehind : Units → Type 0
+AreBehind [] = Unit {0}
+AreBehind (unit ∷ units) = (category_of unit.kind ≡ Two) × EndsTsdu unit.kind units × AreBehind units
+
+-- behind a unit of category 0 stand at most 16 others, behind one of category 1 none
+abbrev pub MayFollow : Category → Units → Type 0
+MayFollow Zero units = length units ≤ 16
+MayFollow One units = units ≡ []
+MayFollow Two units = ⊥
+
+-- Units that stand together in a TSDU (section 6.3.7): one of category 0 or 1, and behind one of
+-- category 0 units of category 2.
+unfoldable pub StandTogether : Units → Type 0
+StandTogether [] = ⊥
+StandTogether (first ∷ behind) = MayFollow (category_of first.kind) behind × AreBehind behind
+
+-- the units one after the other, each with its user information behind it
+abbrev pub AreUnits : Units → List ℕ → Type 0
+AreUnits [] octets = octets ≡ []
+AreUnits (unit ∷ units) octets =
+    (front : List ℕ) × (rest : List ℕ) × (octets ≡ front ++ (unit.information ++ rest))
+    × SpellsUnit unit front × HasInformation unit.kind unit.information × AreUnits units rest
+
+-- The octets are a TSDU of these units.
 unfoldable pub SpellsTsdu : Units → List ℕ → Type 0
-SpellsTsdu units octets =
-    (front rest : List ℕ) × (octets ≡ front ++ rest)
-    × SpellsUnit units.first front × (units.first.information ≡ []) × SpellsSecond units.first units.second rest
+SpellsTsdu units octets = StandTogether units × AreUnits units octets

@@ -1,6 +1,6 @@
 -- The written form of a TSDU: known parameters alone, in rising order of code, each length as short as it can be.
-use Rattle.std.specs.Prelude.{◌≡◌, ◌<◌, ℕ, ◌++◌, ◌+◌, ◌==◌, ◌&&◌, ◌||◌, Bool, true, false, List, [], length, nat_lt, Option, Some, None, is_some, is_none, if◌then◌else◌}
-use Rattle.std.specs.List.{flat_map, list_any, list_all}
+use Rattle.std.specs.Prelude.{◌≡◌, ◌<◌, ℕ, ◌++◌, ◌+◌, ◌==◌, ◌&&◌, ◌||◌, Bool, true, false, List, [], ◌∷◌, length, nat_lt, Option, Some, None, is_some, is_none, if◌then◌else◌}
+use Rattle.std.specs.List.{flat_map, list_any, list_all, AllByRecursion}
 use Rattle.osi_spdu.specs.declared.codes.Code.{Code}
 use Rattle.osi_spdu.specs.declared.codes.Code.TheVariants.{CalledReference, CallingReference, CommonReference, AdditionalReference, Reflect, Reason, UserData, ExtendedUserData}
 use Rattle.osi_spdu.specs.declared.kinds.Kind.{Kind}
@@ -11,7 +11,7 @@ use Rattle.osi_spdu.specs.Kinds.{si_of, category_of, codes_of, members_of, requi
 use Rattle.osi_spdu.specs.Values.{canonical}
 use Rattle.osi_spdu.specs.Known.{Known, Contents, Units}
 use Rattle.osi_spdu.specs.Reading.{takes_rest}
-use Rattle.osi_spdu.specs.Spelling.{item_octets, HasInformation}
+use Rattle.osi_spdu.specs.Spelling.{item_octets, HasInformation, StandTogether}
 
 -- code or SI, the shortest length indicator, value
 abbrev pub written_item : ℕ → List ℕ → List ℕ
@@ -52,12 +52,10 @@ body_octets kind known = flat_map (λ c. parameter_octets kind known c (known c)
 unfoldable pub unit_octets : Contents → List ℕ
 unit_octets unit = written_item (si_of unit.kind) (body_octets unit.kind unit.known)
 
-abbrev pub second_octets : Option Contents → List ℕ
-second_octets None = []
-second_octets (Some unit) = unit_octets unit ++ unit.information
-
+-- the units one after the other, each with its user information behind it
 unfoldable pub tsdu_octets : Units → List ℕ
-tsdu_octets units = unit_octets units.first ++ second_octets units.second
+tsdu_octets [] = []
+tsdu_octets (unit ∷ units) = unit_octets unit ++ (unit.information ++ tsdu_octets units)
 
 -- ---- what has a written form
 
@@ -100,22 +98,13 @@ pub record IsFormedUnit (unit : Contents) : Type 0 where
 abbrev pub UnitFits : Contents → Type 0
 UnitFits unit = length (body_octets unit.kind unit.known) < 65536
 
-abbrev pub SecondIsFormed : Category → Option Contents → Type 0
-SecondIsFormed category None = may_stand false category ≡ true
-SecondIsFormed category (Some unit) = (category ≡ Zero) × (category_of unit.kind ≡ Two) × IsFormedUnit unit
+abbrev pub TsduFits : Units → Type 0
+TsduFits units = AllByRecursion UnitFits units
 
-abbrev pub SecondFits : Option Contents → Type 0
-SecondFits None = Unit {0}
-SecondFits (Some unit) = UnitFits unit
-
+-- units that stand together and are formed
 pub record IsFormedTsdu (units : Units) : Type 0 where
-  pub first : IsFormedUnit units.first
-  pub first_informed : units.first.information ≡ []
-  pub second : SecondIsFormed (category_of units.first.kind) units.second
-
-pub record TsduFits (units : Units) : Type 0 where
-  pub first : UnitFits units.first
-  pub second : SecondFits units.second
+  pub together : StandTogether units
+  pub formed : AllByRecursion IsFormedUnit units
 
 -- ---- what surely fits
 

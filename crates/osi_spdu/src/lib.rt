@@ -1,6 +1,7 @@
 //! Session protocol data units (X.225 section 8).
 #![tactic(auto)]
 
+mod behind;
 mod codes;
 mod faults;
 mod fields;
@@ -21,6 +22,7 @@ mod tokens;
 mod units;
 mod writing;
 
+pub use behind::Behind;
 pub use codes::Code;
 pub use faults::SpduFault;
 pub use fields::{Enclosure, Reason, ResyncType, SyncType, TsduMaximumSize};

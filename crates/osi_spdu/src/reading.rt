@@ -1,14 +1,16 @@
-ghost use Rattle.std.specs.Prelude.{◌≡◌, ◌<◌, ◌+◌, ◌^◌, true, length, IfOk, IsOkAnd};
+ghost use Rattle.std.specs.Prelude.{◌≡◌, ◌<◌, ◌+◌, ◌^◌, true, length, Some, IfOk, IsOkAnd};
 ghost use Rattle.osi_spdu.specs.Kinds.{category_of, kind_named, may_stand};
 ghost use Rattle.osi_spdu.specs.Known.{Units};
 ghost use Rattle.osi_spdu.specs.Params.{known_of};
 ghost use Rattle.osi_spdu.specs.Units.{said_by};
 ghost use Rattle.osi_spdu.specs.Writing.{is_formed, IsFormedTsdu, TsduFits};
-ghost use Rattle.osi_spdu.specs.Reading.{Gives, placed_kind, unit_at, second_at, tsdu_at};
+ghost use Rattle.osi_spdu.specs.Reading.{Gives, placed_kind, unit_at, next_at, tsdu_at};
 ghost use Rattle.osi_spdu.specs.Spelling.{SpellsTsdu};
-ghost use Rattle.osi_spdu.specs.Found.{placed_of};
+ghost use Rattle.osi_spdu.specs.Behind.{is_behind};
+ghost use Rattle.osi_spdu.specs.Found.{placed_of, later_of};
 ghost use Rattle.osi_spdu.specs.Groups.{units_of};
 
+use crate::behind::Behind;
 use crate::faults::SpduFault;
 use crate::groups::Group;
 use crate::kinds::{Category, Kind, kind_named};
@@ -23,6 +25,14 @@ struct Found<'a> {
     params: Params<'a>,
     end: usize,
     rest: &'a [u8],
+}
+
+/// A unit behind another, where it ends with its user information, and the octets behind that.
+#[derive(Clone, Copy)]
+pub(crate) struct Later<'a> {
+    pub(crate) unit: Spdu<'a>,
+    pub(crate) end: usize,
+    pub(crate) rest: &'a [u8],
 }
 
 /// The unit that an SI names, if it may stand in its place.
@@ -78,22 +88,28 @@ fn found_at<'a>(second: bool, at: usize, octets: &'a [u8]) -> Result<Found<'a>, 
     unit_at(second, at, octets)
 }
 
-/// The unit behind one of category 0, with the user information of a DT.
+/// A unit behind another, with the user information of a DT.
 #[inline(always)]
-#[tactic(auto, unfolding(crate::specs::Writing::is_joined))]
-fn read_second<'a>(first: Spdu<'a>, at: usize, octets: &'a [u8]) -> Result<Group<'a>, SpduFault>
-    requires room { at + length octets.now < 2 ^ 64 }
-    requires zero { category_of (said_by first).kind ≡ Category.Zero }
-    ensures { Gives units_of result (second_at (said_by first.entry) at octets.now) }
+#[tactic(auto, unfolding(crate::specs::Reading::next_at, crate::specs::Behind::is_behind))]
+pub(crate) fn next_at<'a>(at: usize, octets: &'a [u8]) -> Result<Later<'a>, SpduFault>
+    requires { at + length octets.now < 2 ^ 64 }
+    ensures value { Gives later_of result (next_at at octets.now) }
+    ensures whole { IfOk result (λ l. l.end + length l.rest.now ≡ at + length octets.now) }
+    ensures stands { IfOk result (λ l. is_behind (Some l.unit.kind) l.rest.now ≡ true) }
 {
-    let second = found_at(true, at, octets)?;
-    if second.kind.takes_rest() {
-        return Ok(Group::pair(first, Spdu::with(second.kind, second.params, second.rest)));
+    let found = found_at(true, at, octets)?;
+    if found.kind.takes_rest() {
+        return Ok(Later {
+            unit: Spdu::with(found.kind, found.params, found.rest),
+            end: found.end + found.rest.len(),
+            rest: &[],
+        });
     }
-    if !second.rest.is_empty() {
-        return Err(SpduFault::TrailingOctets(second.end));
-    }
-    Ok(Group::pair(first, Spdu::new(second.kind, second.params)))
+    Ok(Later {
+        unit: Spdu::new(found.kind, found.params),
+        end: found.end,
+        rest: found.rest,
+    })
 }
 
 #[inline(always)]
@@ -103,12 +119,17 @@ fn read_all(octets: &[u8]) -> Result<Group<'_>, SpduFault>
 {
     let found = found_at(false, 0, octets)?;
     let first = Spdu::new(found.kind, found.params);
-    if found.rest.is_empty() {
-        return Ok(Group::alone(first));
-    }
     match found.kind.category() {
-        Category::Zero => read_second(first, found.end, found.rest),
-        _ => Err(SpduFault::TrailingOctets(found.end)),
+        Category::Zero => {
+            let behind = Behind::read(found.end, found.rest)?;
+            Ok(Group::with(first, behind))
+        }
+        _ => {
+            if !found.rest.is_empty() {
+                return Err(SpduFault::TrailingOctets(found.end));
+            }
+            Ok(Group::alone(first))
+        }
     }
 }
 

@@ -1,6 +1,6 @@
 //! The written form of units: known parameters alone, in rising order of code.
 
-ghost use Rattle.std.specs.Prelude.{◌≡◌, ◌≤◌, ◌<◌, ◌^◌, ◌+◌, ◌++◌, [], ◌∷◌, length, nat_lt, Ok, OnOk, OnErr, if◌then◌else◌};
+ghost use Rattle.std.specs.Prelude.{◌≡◌, ◌≤◌, ◌<◌, ◌^◌, ◌+◌, ◌*◌, ◌++◌, [], ◌∷◌, length, nat_lt, Ok, OnOk, OnErr, if◌then◌else◌};
 ghost use Rattle.std.specs.List.{flat_map};
 ghost use Rattle.bytes.specs.Filled.{UsesSpare};
 ghost use Rattle.osi_spdu.specs.Codes.{number_of};
@@ -10,8 +10,9 @@ ghost use Rattle.osi_spdu.specs.Reading.{tsdu_at};
 ghost use Rattle.osi_spdu.specs.Spelling.{length_octets, SpellsTsdu};
 ghost use Rattle.osi_spdu.specs.Writing.{written_code, member_octets, members_octets, parameter_octets, body_octets, unit_octets, tsdu_octets, UnitFits, TsduFits};
 ghost use Rattle.osi_spdu.specs.Units.{said_by};
-ghost use Rattle.osi_spdu.specs.Groups.{units_of};
+ghost use Rattle.osi_spdu.specs.Groups.{units_behind, units_of};
 
+use crate::behind::Behind;
 use crate::codes::Code;
 use crate::groups::Group;
 use crate::kinds::Kind;
@@ -205,16 +206,37 @@ fn put_unit(out: &mut BytesMut, unit: &Spdu)
     put_body(out, kind, params);
 }
 
+/// How many octets the units behind the first one are.
+fn behind_len(mut behind: Behind) -> usize
+    requires { TsduFits (units_behind behind) }
+    ensures value { result ≡ length (tsdu_octets (units_behind behind.entry)) }
+    ensures small { result ≤ 2 ^ 63 + 65540 * 16 }
+{
+    let mut len = 0;
+    'units: while let Some(unit) = behind.next() {
+        len += unit_len(&unit) + unit.information().len();
+    }
+    len
+}
+
 /// How many octets `write_tsdu` appends.
 #[tactic(auto, unfolding(crate::specs::Writing::tsdu_octets))]
 pub fn written_len(group: &Group) -> usize
     requires { TsduFits (units_of group.now) }
     ensures { result ≡ length (tsdu_octets (units_of group.now)) }
 {
-    let first = unit_len(group.first());
-    match group.second() {
-        None => first,
-        Some(second) => first + unit_len(&second) + second.information().len(),
+    unit_len(group.first()) + behind_len(group.behind())
+}
+
+fn put_behind(out: &mut BytesMut, mut behind: Behind)
+    requires small { TsduFits (units_behind behind) }
+    requires room { length (tsdu_octets (units_behind behind)) ≤ out.old.spare }
+    ensures items { out.new.items ≡ out.old.items ++ tsdu_octets (units_behind behind.entry) }
+    ensures spare { out.new.spare + length (tsdu_octets (units_behind behind.entry)) ≡ out.old.spare }
+{
+    'units: while let Some(unit) = behind.next() {
+        put_unit(out, &unit);
+        out.extend_reserved(unit.information());
     }
 }
 
@@ -226,10 +248,7 @@ fn put_group(out: &mut BytesMut, group: &Group)
     ensures spare { out.new.spare + length (tsdu_octets (units_of group.now)) ≡ out.old.spare }
 {
     put_unit(out, group.first());
-    if let Some(second) = group.second() {
-        put_unit(out, &second);
-        out.extend_reserved(second.information());
-    }
+    put_behind(out, group.behind());
 }
 
 /// Appends the written form of the units of a TSDU (X.225 section 8).

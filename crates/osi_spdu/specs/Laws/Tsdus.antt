@@ -1,9 +1,12 @@
 -- Units and TSDUs: what is read is spelled so, and what is spelled so is read.
-use Rattle.std.proofs.Common.{◌⊎◌, inl, inr, ◌≡◌, ℕ, ◌+◌, Bool, true, false, List, [], ◌∷◌, ◌++◌, length, Option, Some, None, Ok, Err, refl, sym, ap, subst, ◌∙◌, eqb, arith}
-use Rattle.std.specs.Prelude.{is_some, IsSome}
+use Rattle.std.proofs.Common.{◌⊎◌, inl, inr, ◌≡◌, ℕ, zero, suc, ◌+◌, ◌≤◌, Bool, true, false, List, [], ◌∷◌, ◌++◌, length, Option, Some, None, Result, Ok, Err, refl, sym, ap, subst, ◌∙◌, eqb, arith}
+use Rattle.std.specs.Prelude.{is_some, is_ok, IsSome}
+use Rattle.std.specs.Result.{result_unwrap_or}
 use Rattle.std.specs.List.{flat_map, find, AllByRecursion}
 use Rattle.std.proofs.lemmas.Bool.{eqb-true}
+use Rattle.std.proofs.lemmas.List.{append-nil}
 use Rattle.osi_tpkt.specs.Octets.{IsOctets}
+use Rattle.osi_spdu.specs.declared.faults.SpduFault.{SpduFault}
 use Rattle.osi_spdu.specs.declared.faults.SpduFault.TheVariants.{MissingParameter, BadConcatenation}
 use Rattle.osi_spdu.specs.declared.codes.Code.{Code}
 use Rattle.osi_spdu.specs.declared.kinds.Kind.{Kind}
@@ -13,8 +16,9 @@ use Rattle.osi_spdu.specs.declared.kinds.Category.TheVariants.{Zero, One, Two}
 use Rattle.osi_spdu.specs.Codes.{number_of}
 use Rattle.osi_spdu.specs.Kinds.{si_of, category_of, required_of, kind_named, may_stand, one_kind, later_kinds}
 use Rattle.osi_spdu.specs.Known.{Known, nothing, settled, Contents, Units}
-use Rattle.osi_spdu.specs.Reading.{◌>>=◌, Measured, measured_at, params_of, in_unit, all_there, Placed, placed_kind, unit_at, ended, contents_of, takes_rest, joined, behind, continued, tsdu_at}
-use Rattle.osi_spdu.specs.Spelling.{length_octets, part_octets, item_octets, Spells, MeansInUnit, SpellsUnit, HasInformation, SpellsSecond, SpellsTsdu}
+use Rattle.osi_spdu.specs.Reading.{◌>>=◌, Measured, measured_at, params_of, in_unit, all_there, Placed, placed_kind, unit_at, contents_of, takes_rest, Next, next_if, next_at, behind_at, ended, continued, tsdu_at}
+use Rattle.osi_spdu.specs.Spelling.{length_octets, part_octets, item_octets, Spells, MeansInUnit, SpellsUnit, HasInformation, EndsTsdu, AreBehind, MayFollow, StandTogether, AreUnits, SpellsTsdu}
+use Rattle.osi_spdu.specs.Behind.{left_at}
 use Rattle.osi_spdu.specs.Laws.Steps.{bind_ok, bind_of, ok_is}
 use Rattle.osi_spdu.specs.Laws.Lengths.{octets-tail, measured_ok, measured_again, indicator_len, chosen}
 use Rattle.osi_spdu.specs.Laws.Levels.{params_found, params_only, unit_follows}
@@ -139,23 +143,17 @@ unit_only second at unit front rest s stands =
     (bind_of (all_there at (required_of kind) s.raw) (λ w. Ok (last made w)) s.raw (Ok want) (there_back at (required_of kind) s.raw s.required) finish))) in
     (end, subst (λ (f : List ℕ). unit_at second at (f ++ rest) ≡ Ok want) (sym s.whole) whole)
 
--- ---- a TSDU
-
-abbrev alone : Contents → Units
-alone first = record { first = first; second = None }
-
-abbrev pair : Contents → Contents → Units
-pair first second = record { first = first; second = Some second }
-
-ended_ok : (at : ℕ) (octets : List ℕ) (units more : Units) → ended at octets units ≡ Ok more → (octets ≡ []) × (units ≡ more)
-ended_ok at [] units more e = (refl, ok_is units more e)
-ended_ok at (b ∷ octets) units more e = absurd cc
+-- ---- a unit behind another
 
 second_stands : (category : Category) → may_stand true category ≡ true → category ≡ Two
 unfolding may_stand
 second_stands Zero e = absurd cc
 second_stands One e = absurd cc
 second_stands Two e = refl
+
+two_second : (category : Category) → category ≡ Two → may_stand true category ≡ true
+unfolding may_stand
+two_second category e = rw e refl
 
 informed_all : (kind : Kind) (information : List ℕ) → takes_rest kind ≡ true → HasInformation kind information
 informed_all DataTransfer information e = tt
@@ -165,53 +163,189 @@ informed_none : (kind : Kind) → HasInformation kind []
 informed_none DataTransfer = tt
 informed_none _ = refl
 
-informed_ok : (kind : Kind) (information : List ℕ) → HasInformation kind information → (takes_rest kind ≡ true) ⊎ ((takes_rest kind ≡ false) × (information ≡ []))
-informed_ok DataTransfer information h = inl refl
-informed_ok _ information h = inr (refl, h)
+informed_plain : (kind : Kind) (information : List ℕ) → takes_rest kind ≡ false → HasInformation kind information → information ≡ []
+informed_plain DataTransfer information e h = absurd cc
+informed_plain _ information e h = h
 
--- what stands behind a first unit of category 0
-joined_found : (first : Contents) (octets : List ℕ) (p : Placed) (units : Units) → category_of first.kind ≡ Zero → IsUnitAt true octets p → joined first p ≡ Ok units
-    → (units.first ≡ first) × SpellsSecond first units.second octets
-joined_found first octets p units nought is e =
-    let two : category_of p.kind ≡ Two = second_stands (category_of p.kind) is.stands in
-    elim (chosen (takes_rest p.kind) (Ok (pair first (contents_of p p.rest))) (ended p.end p.rest (pair first (contents_of p []))) (Ok units) e) [
-      | inl q ↦ subst (λ (u : Units). (u.first ≡ first) × SpellsSecond first u.second octets) (ok_is (pair first (contents_of p p.rest)) units q.1)
-          (refl, (is.front, is.spelled p.rest, is.parts, informed_all p.kind p.rest q.0, nought, two))
-      | inr q ↦
-          let r = ended_ok p.end p.rest (pair first (contents_of p [])) units q.1 in
-          subst (λ (u : Units). (u.first ≡ first) × SpellsSecond first u.second octets) r.1
-          (refl, (is.front, is.spelled [], is.parts ∙ ap (λ (t : List ℕ). is.front ++ t) r.0, informed_none p.kind, nought, two))
-    ]
+ends_none : (kind : Kind) (units : Units) → takes_rest kind ≡ false → EndsTsdu kind units
+ends_none DataTransfer units e = absurd cc
+ends_none _ units e = tt
 
--- a first unit, and what stands behind it
-first_found : (octets : List ℕ) (p : Placed) (units : Units) (rest : List ℕ) → p.rest ≡ rest → IsUnitAt false octets p → (units.first ≡ contents_of p []) × SpellsSecond (contents_of p []) units.second rest
-    → SpellsTsdu units octets
-unfolding SpellsTsdu
-first_found octets p units rest same is h =
-    let spelled : SpellsUnit units.first is.front = subst (λ (c : Contents). SpellsUnit c is.front) (sym h.0) (is.spelled []) in
-    let informed : units.first.information ≡ [] = ap (λ (c : Contents). c.information) h.0 in
-    let second : SpellsSecond units.first units.second rest = subst (λ (c : Contents). SpellsSecond c units.second rest) (sym h.0) h.1 in
-    (is.front, rest, is.parts ∙ ap (λ (t : List ℕ). is.front ++ t) same, spelled, informed, second)
+ends_all : (kind : Kind) (units : Units) → units ≡ [] → EndsTsdu kind units
+ends_all DataTransfer units e = e
+ends_all _ units e = tt
 
-behind_found : (octets : List ℕ) (p : Placed) (units : Units) (rest : List ℕ) → p.rest ≡ rest → category_of p.kind ≡ Zero → IsUnitAt false octets p → behind p rest ≡ Ok units → SpellsTsdu units octets
-behind_found octets p units [] same nought is e =
-    first_found octets p units [] same is
-    (subst (λ (u : Units). (u.first ≡ contents_of p []) × SpellsSecond (contents_of p []) u.second []) (ok_is (alone (contents_of p [])) units e) (refl, (refl, is.stands)))
-behind_found octets p units (b ∷ rest) same nought is e =
-    let a = bind_ok (unit_at true p.end (b ∷ rest)) (joined (contents_of p [])) units e in
-    let second = unit_found true p.end (b ∷ rest) a.0 (subst IsOctets same is.rest_octets) a.1 in
-    first_found octets p units (b ∷ rest) same is (joined_found (contents_of p []) (b ∷ rest) a.0 units nought second a.2)
+ended_units : (kind : Kind) (units : Units) → takes_rest kind ≡ true → EndsTsdu kind units → units ≡ []
+ended_units DataTransfer units e h = h
+ended_units _ units e h = absurd cc
 
-ended_found : (octets : List ℕ) (p : Placed) (units : Units) → IsUnitAt false octets p → ended p.end p.rest (alone (contents_of p [])) ≡ Ok units → SpellsTsdu units octets
-ended_found octets p units is e =
-    let r = ended_ok p.end p.rest (alone (contents_of p [])) units e in
-    first_found octets p units [] r.0 is
-    (subst (λ (u : Units). (u.first ≡ contents_of p []) × SpellsSecond (contents_of p []) u.second []) r.1 (refl, (refl, is.stands)))
+-- octets that begin with a unit of category 2 and its user information
+record IsNext (octets : List ℕ) (n : Next) : Type 0 where
+  front : List ℕ
+  parts : octets ≡ front ++ (n.unit.information ++ n.rest)
+  spelled : SpellsUnit n.unit front
+  informed : HasInformation n.unit.kind n.unit.information
+  rest_octets : IsOctets n.rest
+
+next_is : (octets : List ℕ) (p : Placed) (b : Bool) → takes_rest p.kind ≡ b → IsUnitAt true octets p → IsNext octets (next_if b p)
+next_is octets p true e is = record {
+  front = is.front;
+  parts = is.parts ∙ ap (λ (t : List ℕ). is.front ++ t) (sym (append-nil p.rest));
+  spelled = is.spelled p.rest;
+  informed = informed_all p.kind p.rest e;
+  rest_octets = λ i. omega arith;
+}
+next_is octets p false e is = record {
+  front = is.front;
+  parts = is.parts;
+  spelled = is.spelled [];
+  informed = informed_none p.kind;
+  rest_octets = is.rest_octets;
+}
+
+next_found : (at : ℕ) (octets : List ℕ) (n : Next) → IsOctets octets → next_at at octets ≡ Ok n → IsNext octets n
+unfolding next_at
+next_found at octets n fits e =
+    let a = bind_ok (unit_at true at octets) (λ p. Ok (next_if (takes_rest p.kind) p)) n e in
+    subst (λ (x : Next). IsNext octets x) (ok_is (next_if (takes_rest a.0.kind) a.0) n a.2) (next_is octets a.0 (takes_rest a.0.kind) refl (unit_found true at octets a.0 fits a.1))
+
+next_if_only : (unit : Contents) (end : ℕ) (rest : List ℕ) (b : Bool) → takes_rest unit.kind ≡ b → HasInformation unit.kind unit.information → (takes_rest unit.kind ≡ true → rest ≡ [])
+    → (end' : ℕ) × (next_if b (let p : Placed = record { kind = unit.kind; known = unit.known; end = end; rest = unit.information ++ rest } in p) ≡ (let n : Next = record { unit = unit; end = end'; rest = rest } in n))
+next_if_only unit end rest true e h ends =
+    let none = ends e in
+    let all : unit.information ++ rest ≡ unit.information = ap (λ (t : List ℕ). unit.information ++ t) none ∙ append-nil unit.information in
+    (end + length (unit.information ++ rest), λ i. (let n : Next = record { unit = (let c : Contents = record { kind = unit.kind; known = unit.known; information = all i } in c); end = end + length (unit.information ++ rest); rest = sym none i } in n))
+next_if_only unit end rest false e h ends =
+    let none = informed_plain unit.kind unit.information e h in
+    (end, λ i. (let n : Next = record { unit = (let c : Contents = record { kind = unit.kind; known = unit.known; information = sym none i } in c); end = end; rest = ap (λ (t : List ℕ). t ++ rest) none i } in n))
+
+next_only : (at : ℕ) (unit : Contents) (front rest : List ℕ) → SpellsUnit unit front → HasInformation unit.kind unit.information → category_of unit.kind ≡ Two
+    → (takes_rest unit.kind ≡ true → rest ≡ [])
+    → (end : ℕ) × (next_at at (front ++ (unit.information ++ rest)) ≡ Ok (record { unit = unit; end = end; rest = rest }))
+unfolding next_at
+next_only at unit front rest s h two ends =
+    let u = unit_only true at unit front (unit.information ++ rest) s (two_second (category_of unit.kind) two) in
+    let made : Placed = record { kind = unit.kind; known = unit.known; end = u.0; rest = unit.information ++ rest } in
+    let n = next_if_only unit u.0 rest (takes_rest unit.kind) refl h ends in
+    (n.0, bind_of (unit_at true at (front ++ (unit.information ++ rest))) (λ p. Ok (next_if (takes_rest p.kind) p)) made _ u.1 (ap (λ (x : Next). Ok x) n.1))
+
+-- ---- the units behind the first
+
+pub behind_found : (room at : ℕ) (octets : List ℕ) (units : Units) → IsOctets octets → behind_at room at octets ≡ Ok units → AreUnits units octets
+unfolding behind_at
+behind_found room at [] units fits e = subst (λ (us : Units). AreUnits us []) (ok_is [] units e) refl
+behind_found zero at (si ∷ octets) units fits e = absurd cc
+behind_found (suc room) at (si ∷ octets) units fits e =
+    let a = bind_ok (next_at at (si ∷ octets)) (λ n. behind_at room n.end n.rest >>= λ others. Ok (n.unit ∷ others)) units e in
+    let n = a.0 in
+    let b = bind_ok (behind_at room n.end n.rest) (λ others. Ok (n.unit ∷ others)) units a.2 in
+    let is = next_found at (si ∷ octets) n fits a.1 in
+    let r = behind_found room n.end n.rest b.0 is.rest_octets b.1 in
+    subst (λ (us : Units). AreUnits us (si ∷ octets)) (ok_is (n.unit ∷ b.0) units b.2) (is.front, n.rest, is.parts, is.spelled, is.informed, r)
+
+-- which units stand there, whatever the octets are
+stands_ok : (second : Bool) (at : ℕ) (octets : List ℕ) (p : Placed) → unit_at second at octets ≡ Ok p → may_stand second (category_of p.kind) ≡ true
+unfolding unit_at
+stands_ok second at [] p e = absurd cc
+stands_ok second at (si ∷ octets) p e =
+    let last = λ (kind : Kind) (m : Measured) (whole : Known).
+    (let r : Placed = record { kind = kind; known = settled whole; end = at + (1 + m.used + length m.value); rest = m.rest } in r) in
+    let a = bind_ok (placed_kind second at (kind_named second si)) (λ kind. measured_at at octets >>= λ m. params_of (in_unit kind) (at + (1 + m.used)) nothing m.value >>= λ raw. all_there at (required_of kind) raw >>= λ whole. Ok (last kind m whole)) p e in
+    let kind = a.0 in
+    let b = bind_ok (measured_at at octets) (λ m. params_of (in_unit kind) (at + (1 + m.used)) nothing m.value >>= λ raw. all_there at (required_of kind) raw >>= λ whole. Ok (last kind m whole)) p a.2 in
+    let m = b.0 in
+    let c = bind_ok (params_of (in_unit kind) (at + (1 + m.used)) nothing m.value) (λ raw. all_there at (required_of kind) raw >>= λ whole. Ok (last kind m whole)) p b.2 in
+    let d = bind_ok (all_there at (required_of kind) c.0) (λ whole. Ok (last kind m whole)) p c.2 in
+    subst (λ (x : Placed). may_stand second (category_of x.kind) ≡ true) (ok_is (last kind m d.0) p d.2) ((placed_ok second at (kind_named second si) kind a.1).1)
+
+-- a unit of category 2, behind which nothing stands where it is a DT
+record IsSecond (n : Next) : Type 0 where
+  two : category_of n.unit.kind ≡ Two
+  ends : (units : Units) → (n.rest ≡ [] → units ≡ []) → EndsTsdu n.unit.kind units
+
+second_is : (p : Placed) (b : Bool) → takes_rest p.kind ≡ b → may_stand true (category_of p.kind) ≡ true → IsSecond (next_if b p)
+second_is p true e s = record { two = second_stands (category_of p.kind) s; ends = λ units h. ends_all p.kind units (h refl) }
+second_is p false e s = record { two = second_stands (category_of p.kind) s; ends = λ units h. ends_none p.kind units e }
+
+second_found : (at : ℕ) (octets : List ℕ) (n : Next) → next_at at octets ≡ Ok n → IsSecond n
+unfolding next_at
+second_found at octets n e =
+    let a = bind_ok (unit_at true at octets) (λ p. Ok (next_if (takes_rest p.kind) p)) n e in
+    subst IsSecond (ok_is (next_if (takes_rest a.0.kind) a.0) n a.2) (second_is a.0 (takes_rest a.0.kind) refl (stands_ok true at octets a.0 a.1))
+
+abbrev Standing : Units → ℕ → Type 0
+Standing units room = AreBehind units × (length units ≤ room)
+
+pub behind_stands : (room at : ℕ) (octets : List ℕ) (units : Units) → behind_at room at octets ≡ Ok units → AreBehind units × (length units ≤ room)
+unfolding behind_at
+behind_stands room at [] units e = subst (λ (us : Units). Standing us room) (ok_is [] units e) (tt, omega arith)
+behind_stands zero at (si ∷ octets) units e = absurd cc
+behind_stands (suc room) at (si ∷ octets) units e =
+    let a = bind_ok (next_at at (si ∷ octets)) (λ n. behind_at room n.end n.rest >>= λ others. Ok (n.unit ∷ others)) units e in
+    let n = a.0 in
+    let b = bind_ok (behind_at room n.end n.rest) (λ others. Ok (n.unit ∷ others)) units a.2 in
+    let is = second_found at (si ∷ octets) n a.1 in
+    let r = behind_stands room n.end n.rest b.0 b.1 in
+    let none : n.rest ≡ [] → b.0 ≡ [] = λ h. sym (ok_is [] b.0 (sym (ap (behind_at room n.end) h) ∙ b.1)) in
+    subst (λ (us : Units). Standing us (suc room)) (ok_is (n.unit ∷ b.0) units b.2) ((is.two, is.ends b.0 none, r.0), omega (arith, r.1))
+
+-- a unit is never empty, so octets with a unit begin with an octet
+behind_cons : (room at : ℕ) (front tail : List ℕ) (unit : Contents) → SpellsUnit unit front
+    → behind_at (suc room) at (front ++ tail) ≡ (next_at at (front ++ tail) >>= λ n. behind_at room n.end n.rest >>= λ others. Ok (n.unit ∷ others))
+unfolding behind_at
+behind_cons room at front tail unit s =
+    subst (λ (f : List ℕ). behind_at (suc room) at (f ++ tail) ≡ (next_at at (f ++ tail) >>= λ n. behind_at room n.end n.rest >>= λ others. Ok (n.unit ∷ others))) (sym s.whole) refl
+
+none_spelled : (units : Units) (octets : List ℕ) → units ≡ [] → AreUnits units octets → octets ≡ []
+none_spelled [] octets e s = s
+none_spelled (unit ∷ units) octets e s = absurd cc
+
+pub behind_only : (room at : ℕ) (units : Units) (octets : List ℕ) → AreUnits units octets → AreBehind units → length units ≤ room → behind_at room at octets ≡ Ok units
+unfolding behind_at
+behind_only room at [] octets s are few = ap (behind_at room at) s
+behind_only zero at (unit ∷ units) octets s are few = absurd (omega arith)
+behind_only (suc room) at (unit ∷ units) octets s are few =
+    let front = s.0 in
+    let rest = s.1 in
+    let ends : takes_rest unit.kind ≡ true → rest ≡ [] = λ t. none_spelled units rest (ended_units unit.kind units t are.1) s.5 in
+    let n = next_only at unit front rest s.3 s.4 are.0 ends in
+    let made : Next = record { unit = unit; end = n.0; rest = rest } in
+    let others = behind_only room n.0 units rest s.5 are.2 (omega arith) in
+    let one = behind_cons room at front (unit.information ++ rest) unit s.3 in
+    ap (behind_at (suc room) at) s.2 ∙ one
+    ∙ bind_of (next_at at (front ++ (unit.information ++ rest))) (λ x. behind_at room x.end x.rest >>= λ us. Ok (x.unit ∷ us)) made (Ok (unit ∷ units)) n.1
+    (bind_of (behind_at room n.0 rest) (λ us. Ok (unit ∷ us)) units (Ok (unit ∷ units)) others refl)
+
+-- ---- a TSDU
+
+ended_ok : (at : ℕ) (octets : List ℕ) (unit : Contents) (units : Units) → ended at octets unit ≡ Ok units → (octets ≡ []) × (unit ∷ [] ≡ units)
+ended_ok at [] unit units e = (refl, ok_is (unit ∷ []) units e)
+ended_ok at (b ∷ octets) unit units e = absurd cc
+
+not_second : (category : Category) → may_stand false category ≡ true → category ≡ Two → ⊥
+unfolding may_stand
+not_second Zero e h = absurd cc
+not_second One e h = absurd cc
+not_second Two e h = absurd cc
+
+-- a first unit with those behind it
+first_found : (octets : List ℕ) (p : Placed) (behind : Units) → IsUnitAt false octets p → MayFollow (category_of p.kind) behind → AreBehind behind → AreUnits behind p.rest
+    → SpellsTsdu (contents_of p [] ∷ behind) octets
+unfolding SpellsTsdu StandTogether
+first_found octets p behind is follow are spelled = ((follow, are), (is.front, p.rest, is.parts, is.spelled [], informed_none p.kind, spelled))
+
+ended_found : (octets : List ℕ) (p : Placed) (units : Units) → category_of p.kind ≡ One → IsUnitAt false octets p → ended p.end p.rest (contents_of p []) ≡ Ok units → SpellsTsdu units octets
+ended_found octets p units one is e =
+    let r = ended_ok p.end p.rest (contents_of p []) units e in
+    subst (λ (us : Units). SpellsTsdu us octets) r.1 (first_found octets p [] is (rw one refl) tt r.0)
 
 continued_found : (octets : List ℕ) (p : Placed) (units : Units) (category : Category) → category_of p.kind ≡ category → IsUnitAt false octets p → continued category p ≡ Ok units → SpellsTsdu units octets
-continued_found octets p units Zero same is e = behind_found octets p units p.rest refl same is e
-continued_found octets p units One same is e = ended_found octets p units is e
-continued_found octets p units Two same is e = ended_found octets p units is e
+continued_found octets p units Zero same is e =
+    let a = bind_ok (behind_at 16 p.end p.rest) (λ behind. Ok (contents_of p [] ∷ behind)) units e in
+    let r = behind_stands 16 p.end p.rest a.0 a.1 in
+    subst (λ (us : Units). SpellsTsdu us octets) (ok_is (contents_of p [] ∷ a.0) units a.2) (first_found octets p a.0 is (rw same r.1) r.0 (behind_found 16 p.end p.rest a.0 is.rest_octets a.1))
+continued_found octets p units One same is e = ended_found octets p units same is e
+continued_found octets p units Two same is e = absurd (not_second (category_of p.kind) is.stands same)
 
 pub tsdu_found : (octets : List ℕ) (units : Units) → IsOctets octets → tsdu_at octets ≡ Ok units → SpellsTsdu units octets
 unfolding tsdu_at
@@ -221,64 +355,54 @@ tsdu_found octets units fits e =
 
 -- ---- and back
 
-one_of : (category : Category) → may_stand false category ≡ true → (category ≡ Zero) ⊎ (category ≡ One)
+first_stands : (category : Category) (behind : Units) → MayFollow category behind → may_stand false category ≡ true
 unfolding may_stand
-one_of Zero e = inl refl
-one_of One e = inr refl
-one_of Two e = absurd cc
+first_stands Zero behind h = refl
+first_stands One behind h = refl
+first_stands Two behind h = absurd h
 
-zero_first : (category : Category) → category ≡ Zero → may_stand false category ≡ true
-unfolding may_stand
-zero_first category e = rw e refl
+first_plain : (kind : Kind) → may_stand false (category_of kind) ≡ true → takes_rest kind ≡ false
+unfolding may_stand category_of
+first_plain DataTransfer e = absurd cc
+first_plain _ e = refl
 
-two_second : (category : Category) → category ≡ Two → may_stand true category ≡ true
-unfolding may_stand
-two_second category e = rw e refl
-
--- a unit is never empty, so what stands behind the first one begins with an octet
-behind_cons : (p : Placed) (front tail : List ℕ) (unit : Contents) → SpellsUnit unit front → behind p (front ++ tail) ≡ (unit_at true p.end (front ++ tail) >>= joined (contents_of p []))
-behind_cons p front tail unit s = subst (λ (f : List ℕ). behind p (f ++ tail) ≡ (unit_at true p.end (f ++ tail) >>= joined (contents_of p []))) (sym s.whole) refl
-
-joined_only : (first : Contents) (unit : Contents) (end : ℕ) → HasInformation unit.kind unit.information
-    → joined first (record { kind = unit.kind; known = unit.known; end = end; rest = unit.information }) ≡ Ok (pair first unit)
-joined_only first unit end h =
-    elim (informed_ok unit.kind unit.information h) [
-      | inl q ↦ rw q refl
-      | inr q ↦ rw q.0 (rw q.1 refl)
-    ]
-
-pub second_only : (first : Contents) (second : Option Contents) (end : ℕ) (rest : List ℕ) → SpellsSecond first second rest → first.information ≡ []
-    → continued (category_of first.kind) (record { kind = first.kind; known = first.known; end = end; rest = rest }) ≡ Ok (record { first = first; second = second })
-second_only first None end rest s empty =
-    let same : Ok (alone (let c : Contents = record { kind = first.kind; known = first.known; information = [] } in c)) ≡ Ok (alone first) =
-    ap (λ (i : List ℕ). Ok (alone (let c : Contents = record { kind = first.kind; known = first.known; information = i } in c))) (sym empty) in
-    elim (one_of (category_of first.kind) s.1) [
-      | inl q ↦ rw (q, s.0) same
-      | inr q ↦ rw (q, s.0) same
-    ]
-second_only first (Some unit) end rest s empty =
-    let p : Placed = record { kind = first.kind; known = first.known; end = end; rest = rest } in
-    let u = unit_only true end unit s.0 unit.information s.1 (two_second (category_of unit.kind) s.5) in
-    let made : Placed = record { kind = unit.kind; known = unit.known; end = u.0; rest = unit.information } in
-    let front = contents_of p [] in
-    let one : behind p (s.0 ++ unit.information) ≡ Ok (pair front unit) =
-    behind_cons p s.0 unit.information unit s.1
-    ∙ bind_of (unit_at true end (s.0 ++ unit.information)) (joined front) made (Ok (pair front unit)) u.1 (joined_only front unit u.0 s.3) in
-    let same : Ok (pair front unit) ≡ Ok (pair first unit) =
-    ap (λ (i : List ℕ). Ok (pair (let c : Contents = record { kind = first.kind; known = first.known; information = i } in c) unit)) (sym empty) in
-    let whole : behind p rest ≡ Ok (pair first unit) = subst (λ (r : List ℕ). behind p r ≡ Ok (pair first unit)) (sym s.2) (one ∙ same) in
-    rw s.4 whole
-
-first_stands : (first : Contents) (second : Option Contents) (rest : List ℕ) → SpellsSecond first second rest → may_stand false (category_of first.kind) ≡ true
-first_stands first None rest s = s.1
-first_stands first (Some unit) rest s = zero_first (category_of first.kind) s.4
+continued_only : (category : Category) (p : Placed) (behind : Units) → MayFollow category behind → AreBehind behind → AreUnits behind p.rest
+    → continued category p ≡ Ok (contents_of p [] ∷ behind)
+continued_only Zero p behind few are spelled =
+    bind_of (behind_at 16 p.end p.rest) (λ us. Ok (contents_of p [] ∷ us)) behind (Ok (contents_of p [] ∷ behind)) (behind_only 16 p.end behind p.rest spelled are few) refl
+continued_only One p behind none are spelled =
+    let empty = none_spelled behind p.rest none spelled in
+    ap (λ (r : List ℕ). ended p.end r (contents_of p [])) empty ∙ ap (λ (us : Units). Ok (contents_of p [] ∷ us)) (sym none)
+continued_only Two p behind h are spelled = absurd h
 
 pub tsdu_only : (units : Units) (octets : List ℕ) → SpellsTsdu units octets → tsdu_at octets ≡ Ok units
-unfolding tsdu_at SpellsTsdu
-tsdu_only units octets s =
-    let stands = first_stands units.first units.second s.1 s.5 in
-    let u = unit_only false 0 units.first s.0 s.1 s.3 stands in
-    let made : Placed = record { kind = units.first.kind; known = units.first.known; end = u.0; rest = s.1 } in
-    let one : tsdu_at (s.0 ++ s.1) ≡ Ok units =
-    bind_of (unit_at false 0 (s.0 ++ s.1)) (λ unit. continued (category_of unit.kind) unit) made (Ok units) u.1 (second_only units.first units.second u.0 s.1 s.5 s.4) in
-    subst (λ (o : List ℕ). tsdu_at o ≡ Ok units) (sym s.2) one
+unfolding tsdu_at SpellsTsdu StandTogether
+tsdu_only [] octets s = absurd s.0
+tsdu_only (first ∷ behind) octets s =
+    let u = s.1 in
+    let stands = first_stands (category_of first.kind) behind s.0.0 in
+    let empty : first.information ≡ [] = informed_plain first.kind first.information (first_plain first.kind stands) u.4 in
+    let whole : octets ≡ u.0 ++ u.1 = u.2 ∙ ap (λ (t : List ℕ). u.0 ++ (t ++ u.1)) empty in
+    let one = unit_only false 0 first u.0 u.1 u.3 stands in
+    let p : Placed = record { kind = first.kind; known = first.known; end = one.0; rest = u.1 } in
+    let same : contents_of p [] ≡ first = λ i. (let c : Contents = record { kind = first.kind; known = first.known; information = sym empty i } in c) in
+    let read : tsdu_at (u.0 ++ u.1) ≡ Ok (contents_of p [] ∷ behind) =
+    bind_of (unit_at false 0 (u.0 ++ u.1)) (λ unit. continued (category_of unit.kind) unit) p (Ok (contents_of p [] ∷ behind)) one.1 (continued_only (category_of first.kind) p behind s.0.0 s.0.1 u.5) in
+    ap tsdu_at whole ∙ read ∙ ap (λ (c : Contents). Ok (c ∷ behind)) same
+
+-- ---- the units that are left
+
+abbrev read : Units → Result Units SpduFault
+read units = Ok units
+
+left_from : (r : Result Units SpduFault) → is_ok r ≡ true → r ≡ Ok (result_unwrap_or r [])
+left_from (Ok units) e = refl
+left_from (Err f) e = absurd cc
+
+-- what can be read is what is left
+pub left_read : (room at : ℕ) (octets : List ℕ) → is_ok (behind_at room at octets) ≡ true → behind_at room at octets ≡ Ok (left_at room at octets)
+unfolding left_at
+left_read room at octets e = left_from (behind_at room at octets) e
+
+pub left_stands : (room at : ℕ) (octets : List ℕ) → is_ok (behind_at room at octets) ≡ true → AreBehind (left_at room at octets) × (length (left_at room at octets) ≤ room)
+left_stands room at octets e = behind_stands room at octets (left_at room at octets) (left_read room at octets e)

@@ -8,11 +8,11 @@ use Rattle.osi_spdu.specs.declared.codes.Code.{Code}
 use Rattle.osi_spdu.specs.declared.codes.Code.TheVariants.{UserData, ExtendedUserData}
 use Rattle.osi_spdu.specs.declared.kinds.Kind.{Kind}
 use Rattle.osi_spdu.specs.Codes.{number_of, is_same, is_group, slot_of, every_code}
-use Rattle.osi_spdu.specs.Kinds.{category_of, codes_of, members_of, required_of}
+use Rattle.osi_spdu.specs.Kinds.{codes_of, members_of, required_of}
 use Rattle.osi_spdu.specs.Values.{canonical}
 use Rattle.osi_spdu.specs.Known.{Known, some_octets, settled, Contents, Units}
-use Rattle.osi_spdu.specs.Spelling.{length_octets, HasLength, Part, part_octets, Sole, IsPart, Spells, only, MemberOf, MeansInGroup, GroupOf, ParameterOf, KnownOf, MeansInUnit, SpellsUnit, SpellsSecond, SpellsTsdu}
-use Rattle.osi_spdu.specs.Writing.{written_item, among, written_code, member_octets, group_octets, value_octets, parameter_octets, body_octets, unit_octets, second_octets, tsdu_octets, may_be_there, is_formed, IsCanonical, IsFormedUnit, UnitFits, SecondIsFormed, SecondFits, IsFormedTsdu, TsduFits}
+use Rattle.osi_spdu.specs.Spelling.{length_octets, HasLength, Part, part_octets, Sole, IsPart, Spells, only, MemberOf, MeansInGroup, GroupOf, ParameterOf, KnownOf, MeansInUnit, SpellsUnit, AreUnits, SpellsTsdu}
+use Rattle.osi_spdu.specs.Writing.{written_item, among, written_code, member_octets, group_octets, value_octets, parameter_octets, body_octets, unit_octets, tsdu_octets, may_be_there, is_formed, IsCanonical, IsFormedUnit, UnitFits, IsFormedTsdu, TsduFits}
 use Rattle.osi_spdu.specs.Laws.Options.{sole_one}
 use Rattle.osi_spdu.specs.Laws.Steps.{same_true, same_refl}
 use Rattle.osi_spdu.specs.Laws.Levels.{group_form}
@@ -341,12 +341,12 @@ unit_written unit is fits =
     body_counted true e = fits
     body_counted false e = (let l = ltb-false 254 (length (body_octets unit.kind unit.known)) e in omega arith)
 
-second_written : (first : Contents) (second : Option Contents) → SecondIsFormed (category_of first.kind) second → SecondFits second → SpellsSecond first second (second_octets second)
-second_written first None is fits = (refl, is)
-second_written first (Some unit) is fits = (unit_octets unit, unit_written unit is.2 fits, refl, is.2.informed, is.0, is.1)
+units_written : (units : Units) → AllByRecursion IsFormedUnit units → TsduFits units → AreUnits units (tsdu_octets units)
+unfolding tsdu_octets
+units_written [] is fits = refl
+units_written (unit ∷ units) is fits = (unit_octets unit, tsdu_octets units, refl, unit_written unit is.0 fits.0, is.0.informed, units_written units is.1 fits.1)
 
 -- the written form spells its value
 pub tsdu_written : (units : Units) → IsFormedTsdu units → TsduFits units → SpellsTsdu units (tsdu_octets units)
-unfolding SpellsTsdu tsdu_octets
-tsdu_written units is fits =
-    (unit_octets units.first, second_octets units.second, refl, unit_written units.first is.first fits.first, is.first_informed, second_written units.first units.second is.second fits.second)
+unfolding SpellsTsdu
+tsdu_written units is fits = (is.together, units_written units is.formed fits)

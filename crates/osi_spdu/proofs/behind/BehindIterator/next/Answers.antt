@@ -1,0 +1,45 @@
+use Rattle.std.proofs.Common.{◌≡◌, ◌≤◌, ◌∙◌, ◌∷◌, [], length, ap, sym, arith, rules}
+use Rattle.osi_spdu.specs.Found.{later_of}
+use Rattle.osi_spdu.specs.Units.{said_by}
+use Rattle.osi_spdu.specs.Behind.{left_at}
+use Rattle.osi_spdu.specs.Groups.{units_from}
+use Rattle.osi_spdu.proofs.BehindLaws.{left_empty, left_goes, left_never_bad}
+use Rattle.osi_spdu.proofs.behind.BehindIterator.next.Goals as goal
+
+pub returns-then-is_empty-clause-steps : goal.returns-then-is_empty-clause-steps
+returns-then-is_empty-clause-steps c =
+    let s = c.args.self.now in
+    let none : length s.rest.now ≡ 0 = search rules in
+    ap (λ o. units_from o (left_at s.room s.at s.rest.now)) c.in_ok-unit.was
+    ∙ ap (λ us. said_by c.in_ok-unit.unit ∷ us) (left_empty s.room s.at s.rest.now none ∙ sym c.none.ensures.units)
+
+pub unreachable-requires : goal.unreachable-requires
+unreachable-requires c =
+    let s = c.args.self.now in
+    let some : 1 ≤ length s.rest.now = search rules in
+    left_never_bad s.room s.at s.rest.now c.in_default.field-0 some s.left c.in_default.ensures.value
+
+pub overflow_sub-self : goal.overflow_sub-self
+overflow_sub-self c =
+    let s = c.args.self.now in
+    let some : 1 ≤ length s.rest.now = search rules in
+    let g = left_goes s.room s.at s.rest.now (later_of c.in-Ok.later) some s.left c.in-Ok.ensures.value in
+    omega (arith, g.some)
+
+pub invariant_of-self-clause-left : goal.invariant_of-self-clause-left
+invariant_of-self-clause-left c =
+    let s = c.args.self.now in
+    let some : 1 ≤ length s.rest.now = search rules in
+    (left_goes s.room s.at s.rest.now (later_of c.in-Ok.later) some s.left c.in-Ok.ensures.value).left
+
+pub returns-clause-steps : goal.returns-clause-steps
+returns-clause-steps c =
+    let s = c.args.self.now in
+    let some : 1 ≤ length s.rest.now = search rules in
+    ap (λ o. units_from o (left_at s.room s.at s.rest.now)) c.in_ok-unit.was
+    ∙ ap (λ us. said_by c.in_ok-unit.unit ∷ us) (left_goes s.room s.at s.rest.now (later_of c.in-Ok.later) some s.left c.in-Ok.ensures.value).given
+
+pub returns-clause-goes : goal.returns-clause-goes
+returns-clause-goes c =
+    let shorter = ap length (returns-clause-steps c) in
+    search rules

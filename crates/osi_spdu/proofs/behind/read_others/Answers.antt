@@ -1,0 +1,37 @@
+use Rattle.std.proofs.Common.{◌≡◌, ◌≤◌, ◌∙◌, Err, length, ap, sym, arith, rules}
+use Rattle.std.proofs.lemmas.Result.{err_from_is_err_and}
+use Rattle.osi_spdu.specs.Found.{later_of}
+use Rattle.osi_spdu.proofs.BehindLaws.{behind_full, behind_bad, left_none, leads_start, leads_next}
+use Rattle.osi_spdu.proofs.CanonicalLaws.{unit_formed}
+use Rattle.osi_spdu.proofs.behind.read_others.Goals as goal
+
+pub units-init : goal.units-init
+units-init c = record { leads = leads_start c.args.room c.args.at c.args.octets.now; within = c.requires }
+
+pub returns-then-room-eq0-clause-refused : goal.returns-then-room-eq0-clause-refused
+returns-then-room-eq0-clause-refused c =
+    let some : 1 ≤ length c.units.rest.now = search rules in
+    c.units.invariant.leads.refused c.crowded.result
+    (behind_full c.units.room c.units.at c.units.rest.now c.if-room-eq0.true some ∙ ap (λ f. Err f) (sym c.crowded.ensures))
+
+pub returns-in_err-later-clause-refused : goal.returns-in_err-later-clause-refused
+returns-in_err-later-clause-refused c =
+    let some : 1 ≤ length c.units.rest.now = search rules in
+    let room : 1 ≤ c.units.room = omega (arith, c.if-room-eq0.false) in
+    let e = err_from_is_err_and c.from_residual.result c.from_residual.ensures.1 in
+    rw (e.1, e.2) (c.units.invariant.leads.refused _ (behind_bad c.units.room c.units.at c.units.rest.now _ room some c.in_err-later.ensures.value))
+
+pub units-preserved : goal.units-preserved
+units-preserved c =
+    let some : 1 ≤ length c.units.rest.now = search rules in
+    let room : 1 ≤ c.units.room = omega (arith, c.if-room-eq0.false) in
+    record {
+      leads = leads_next c.args.room c.args.at c.args.octets.now c.units.room c.units.at c.units.rest.now (later_of c.in_ok-later.later) c.units.invariant.leads room some
+          c.in_ok-later.ensures.value (unit_formed c.in_ok-later.later.unit);
+      within = omega (arith, c.units.invariant.within, c.in_ok-later.ensures.whole);
+    }
+
+pub returns-clause-left : goal.returns-clause-left
+returns-clause-left c =
+    let none : length c.units.rest.now ≡ 0 = search rules in
+    c.units.invariant.leads.left (left_none c.units.room c.units.at c.units.rest.now none)

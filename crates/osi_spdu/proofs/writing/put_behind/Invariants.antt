@@ -1,0 +1,10 @@
+use Rattle.std.proofs.Common.{length}
+use Rattle.osi_spdu.specs.Groups.{units_behind}
+use Rattle.osi_spdu.proofs.WritingUnits.{IsPuttingUnits}
+use Rattle.osi_spdu.proofs.writing.put_behind.Given as goal
+
+abbrev pub invariant-units : goal.invariant-units
+invariant-units l = IsPuttingUnits (units_behind l.behind) l.out.items l.out.spare (units_behind l.fn.behind) l.fn.out.items l.fn.out.spare
+
+abbrev pub decreases-units : goal.decreases-units
+decreases-units l = length (units_behind l.behind)

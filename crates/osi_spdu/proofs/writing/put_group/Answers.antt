@@ -1,0 +1,42 @@
+use Rattle.std.proofs.Common.{◌≡◌, ◌++◌, ◌∙◌, ℕ, List, length, ap, sym, arith, append_assoc}
+use Rattle.osi_spdu.specs.Units.{said_by}
+use Rattle.osi_spdu.specs.Groups.{units_behind}
+use Rattle.osi_spdu.specs.Writing.{unit_octets, tsdu_octets}
+use Rattle.osi_spdu.proofs.WritingUnits.{first_octets, first_len}
+use Rattle.osi_spdu.proofs.CanonicalLaws.{group_plain}
+use Rattle.osi_spdu.proofs.writing.put_group.Goals as goal
+
+pub put_unit-requires-clause-room : goal.put_unit-requires-clause-room
+put_unit-requires-clause-room c =
+    let g = c.args.group.now in
+    let n = first_len (said_by g.first) (units_behind g.behind) (group_plain g) in
+    let first = ap (λ x. length (unit_octets x)) c.first.ensures in
+    omega (arith, n, c.requires.room)
+
+pub put_behind-requires-clause-room : goal.put_behind-requires-clause-room
+put_behind-requires-clause-room c =
+    let g = c.args.group.now in
+    let n = first_len (said_by g.first) (units_behind g.behind) (group_plain g) in
+    let first = ap (λ x. length (unit_octets x)) c.first.ensures in
+    let behind = ap (λ us. length (tsdu_octets us)) c.behind.ensures in
+    omega (arith, n, c.requires.room, c.put_unit.ensures.spare)
+
+pub returns-clause-spare : goal.returns-clause-spare
+returns-clause-spare c =
+    let g = c.args.group.now in
+    let n = first_len (said_by g.first) (units_behind g.behind) (group_plain g) in
+    let first = ap (λ x. length (unit_octets x)) c.first.ensures in
+    let behind = ap (λ us. length (tsdu_octets us)) c.behind.ensures in
+    omega (arith, n, c.put_unit.ensures.spare, c.put_behind.ensures.spare)
+
+pub returns-clause-items : goal.returns-clause-items
+returns-clause-items c =
+    let g = c.args.group.now in
+    let u = said_by g.first in
+    let rest = tsdu_octets (units_behind g.behind) in
+    let before = c.args.out.now.items in
+    let first : unit_octets (said_by c.first.result.now) ≡ unit_octets u = ap unit_octets c.first.ensures in
+    let behind : tsdu_octets (units_behind c.behind.result) ≡ rest = ap tsdu_octets c.behind.ensures in
+    c.put_behind.ensures.items ∙ ap (λ (t : List ℕ). c.put_unit.new.out.items ++ t) behind
+    ∙ ap (λ (t : List ℕ). t ++ rest) (c.put_unit.ensures.items ∙ ap (λ (t : List ℕ). before ++ t) first) ∙ append_assoc before (unit_octets u) rest
+    ∙ ap (λ (t : List ℕ). before ++ t) (sym (first_octets u (units_behind g.behind) (group_plain g)))
