@@ -1,7 +1,7 @@
 //! What is seen of the units of packets, as one number.
 
 use osi_tpdu::{
-    ConnectConfirm, ConnectParameters, ConnectRequest, DataAcknowledgement, DataClass0, DataClass2,
+    ConnectConfirm, ConnectFields, ConnectParameters, ConnectRequest, DataAcknowledgement, DataClass0, DataClass2,
     DisconnectConfirm, DisconnectRequest, ErrorReport, Selector, Tpdu, TpduFault, read_units,
 };
 
@@ -60,25 +60,23 @@ impl Sum {
             .with_length(47, p.alternative_classes())
     }
 
+    fn with_fields(self, f: &ConnectFields<'_>) -> Self {
+        self.with(3, f.user().len() as u64)
+            .with(7, u64::from(f.source()))
+            .with(11, u64::from(f.credit()))
+            .with(13, u64::from(f.class()))
+            .with(17, u64::from(f.options()))
+            .with_parameters(f.parameters())
+    }
+
     fn with_request(self, r: &ConnectRequest<'_>) -> Self {
-        self.with(1, 1)
-            .with(3, r.user().len() as u64)
-            .with(7, u64::from(r.source()))
-            .with(11, u64::from(r.credit()))
-            .with(13, u64::from(r.class()))
-            .with(17, u64::from(r.options()))
-            .with_parameters(r.parameters())
+        self.with(1, 1).with_fields(r.fields())
     }
 
     fn with_confirm(self, c: &ConnectConfirm<'_>) -> Self {
         self.with(1, 2)
-            .with(3, c.user().len() as u64)
             .with(5, u64::from(c.destination()))
-            .with(7, u64::from(c.source()))
-            .with(11, u64::from(c.credit()))
-            .with(13, u64::from(c.class()))
-            .with(17, u64::from(c.options()))
-            .with_parameters(c.parameters())
+            .with_fields(c.fields())
     }
 
     fn with_disconnect(self, d: &DisconnectRequest<'_>) -> Self {

@@ -1,13 +1,15 @@
 ghost use Rattle.std.specs.Prelude.{◌≡◌, ◌++◌, option_copied, option_map, OnOk};
 ghost use Rattle.osi_tpdu.specs.Limits.{size_code, selector_octets};
 ghost use Rattle.osi_tpdu.specs.Value.{request as a_request, confirm as a_confirm};
-ghost use Rattle.osi_tpdu.specs.View.{value, request_content, confirm_content, parameter_values};
-ghost use Rattle.osi_listing.specs.Lines.{fixed_fields, parameter_fields, unit_fields, unit_line};
+ghost use Rattle.osi_tpdu.specs.View.{value, connect_content, request_content, confirm_content, parameter_values};
+ghost use Rattle.osi_listing.specs.Lines.{connect_fields, parameter_fields, unit_fields, unit_line};
 
 use crate::lines::{
     push_number_field, push_octet_field, push_octets_field, push_reference_field, push_words,
 };
-use osi_tpdu::{ConnectConfirm, ConnectParameters, ConnectRequest, Selector, SizeCode, Tpdu};
+use osi_tpdu::{
+    ConnectConfirm, ConnectFields, ConnectParameters, ConnectRequest, Selector, SizeCode, Tpdu,
+};
 use std::alloc::{AllocError, Global};
 
 /// Adds the line of a transport unit.
@@ -70,15 +72,7 @@ fn push_request(
         ≡ text.old.items ++ unit_fields (a_request (request_content request.now))) }
 {
     push_words(text, "CR")?;
-    let fixed = ConnectFields {
-        credit: request.credit,
-        destination: 0,
-        source: request.source,
-        class: request.class,
-        options: request.options,
-    };
-    push_connect_fields(text, fixed)?;
-    push_parameter_fields(alloc, text, &request.parameters)
+    push_connect_fields(alloc, text, 0, &request.fields)
 }
 
 /// A CC.
@@ -92,36 +86,26 @@ fn push_confirm(
         ≡ text.old.items ++ unit_fields (a_confirm confirm.now.destination (confirm_content confirm.now))) }
 {
     push_words(text, "CC")?;
-    let fixed = ConnectFields {
-        credit: confirm.credit,
-        destination: confirm.destination,
-        source: confirm.source,
-        class: confirm.class,
-        options: confirm.options,
-    };
-    push_connect_fields(text, fixed)?;
-    push_parameter_fields(alloc, text, &confirm.parameters)
+    push_connect_fields(alloc, text, confirm.destination, &confirm.fields)
 }
 
-/// The fixed part of a CR or CC.
-#[derive(Clone, Copy)]
-struct ConnectFields {
-    credit: u8,
+/// What a CR and a CC share, with a DST-REF.
+fn push_connect_fields(
+    alloc: Global,
+    text: &mut Vec<u8>,
     destination: u16,
-    source: u16,
-    class: u8,
-    options: u8,
-}
-
-fn push_connect_fields(text: &mut Vec<u8>, fields: ConnectFields) -> Result<(), AllocError>
-    ensures { OnOk result (text.new.items ≡ text.old.items ++ fixed_fields fields.credit
-        fields.destination fields.source fields.class fields.options) }
+    fields: &ConnectFields,
+) -> Result<(), AllocError>
+    ensures { OnOk result (text.new.items
+        ≡ text.old.items ++ connect_fields destination (connect_content fields.now)
+        ++ parameter_fields (parameter_values fields.now.parameters)) }
 {
     push_number_field(text, " credit ", u64::from(fields.credit))?;
-    push_reference_field(text, " dst ", fields.destination)?;
+    push_reference_field(text, " dst ", destination)?;
     push_reference_field(text, " src ", fields.source)?;
     push_number_field(text, " class ", u64::from(fields.class))?;
-    push_number_field(text, " options ", u64::from(fields.options))
+    push_number_field(text, " options ", u64::from(fields.options))?;
+    push_parameter_fields(alloc, text, &fields.parameters)
 }
 
 #[tactic(auto, unfolding(crate::specs::Lines::parameter_fields))]

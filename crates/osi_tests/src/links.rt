@@ -2,7 +2,7 @@ ghost use Rattle.std.specs.Prelude.{◌<◌};
 
 use osi_class::*;
 use osi_tpdu::{
-    ConnectParameters, ConnectRequest, DataAcknowledgement, DataClass0, DataClass2, SizeCode, Tpdu,
+    ConnectFields, ConnectParameters, ConnectRequest, DataAcknowledgement, DataClass0, DataClass2, SizeCode, Tpdu,
     Window,
 };
 use std::alloc::Global;
@@ -31,14 +31,15 @@ fn request<'a>(class: u8, options: u8, alternatives: &'a [u8]) -> Result<Connect
         additional_options: None,
         alternative_classes: Some(alternatives),
     };
-    Ok(ConnectRequest {
+    let fields = ConnectFields {
         credit: 0,
         source: 1,
         class,
         options,
         parameters,
         user: &[],
-    })
+    };
+    Ok(ConnectRequest { fields })
 }
 
 fn accepts(class: Class) -> Answer {

@@ -98,12 +98,13 @@ fn fields_of_a_request(rt: HostRuntime) -> Result<(), Fail> {
     let Some(Tpdu::Cr(cr)) = read_units(&octets)?.next() else {
         return Err("a CR".into());
     };
-    assert_eq!(rt; cr.credit(), 7);
-    assert_eq!(rt; cr.source(), 0xABCD);
-    assert_eq!(rt; cr.class(), 4);
-    assert_eq!(rt; cr.options(), 0x0E);
-    assert_eq!(rt; cr.user(), [8, 9].as_slice());
-    let parameters = cr.parameters();
+    let fields = cr.fields();
+    assert_eq!(rt; fields.credit(), 7);
+    assert_eq!(rt; fields.source(), 0xABCD);
+    assert_eq!(rt; fields.class(), 4);
+    assert_eq!(rt; fields.options(), 0x0E);
+    assert_eq!(rt; fields.user(), [8, 9].as_slice());
+    let parameters = fields.parameters();
     assert_eq!(rt; parameters.size().ok_or("a size")?.octets(), 128);
     assert!(rt; parameters.calling().is_none());
     assert!(rt; parameters.called().is_none());
@@ -128,10 +129,12 @@ fn fields_of_the_connection(rt: HostRuntime) -> Result<(), Fail> {
     let Some(Tpdu::Cc(cc)) = read_units(&octets)?.next() else {
         return Err("a CC".into());
     };
-    assert_eq!(rt; (cc.credit(), cc.destination(), cc.source()), (4, 1, 2));
-    assert_eq!(rt; (cc.class(), cc.options()), (2, 0));
-    assert_eq!(rt; cc.user(), [9].as_slice());
-    let calling = cc.parameters().calling().ok_or("a selector")?;
+    assert_eq!(rt; Tpdu::Cc(cc).destination(), Some(1));
+    let fields = cc.fields();
+    assert_eq!(rt; (fields.credit(), fields.source()), (4, 2));
+    assert_eq!(rt; (fields.class(), fields.options()), (2, 0));
+    assert_eq!(rt; fields.user(), [9].as_slice());
+    let calling = fields.parameters().calling().ok_or("a selector")?;
     assert_eq!(rt; calling.octets(), [1, 0].as_slice());
     let octets = [0x08, 0x80, 0, 1, 0, 2, 0x85, 0xE0, 0, 7];
     let Some(Tpdu::Dr(dr)) = read_units(&octets)?.next() else {
