@@ -2,28 +2,23 @@ ghost use Rattle.std.specs.Prelude.{◌<◌};
 
 use osi_class::*;
 use osi_tpdu::{
-    ConnectFields, ConnectParameters, ConnectRequest, DataAcknowledgement, DataClass0, DataClass2, SizeCode, Tpdu,
-    Window,
+    ConnectFields, ConnectParameters, ConnectRequest, DataAcknowledgement, DataClass0, DataClass2,
+    SizeCode, Tpdu, Window,
 };
-use std::alloc::Global;
-use std::process::Abort;
 use std::test::Fail;
 
-/// Both classes, or those that are asked for, with size 0A and window 4.
-fn local(class0: bool, class2: bool) -> Result<Local, Fail> {
+/// Class 2, and class 0 if it is asked for, with size 0A and window 4.
+fn local(class0: bool) -> Result<Local, Fail> {
     Ok(Local {
         class0,
-        class2,
+        class2: true,
         size: SizeCode::new(10).ok_or("size")?,
         window: Window::new(4).ok_or("window")?,
     })
 }
 
-/// A CR with size 0A.
-fn request<'a>(class: u8, options: u8, alternatives: &'a [u8]) -> Result<ConnectRequest<'a>, Fail>
-    requires class { class < 16 }
-    requires options { options < 16 }
-{
+/// A CR with size 0A; class and options are the low halves of theirs.
+fn request<'a>(class: u8, options: u8, alternatives: &'a [u8]) -> ConnectRequest<'a> {
     let parameters = ConnectParameters {
         size: SizeCode::new(10),
         calling: None,
@@ -34,80 +29,118 @@ fn request<'a>(class: u8, options: u8, alternatives: &'a [u8]) -> Result<Connect
     let fields = ConnectFields {
         credit: 0,
         source: 1,
-        class,
-        options,
+        class: class % 16,
+        options: options % 16,
         parameters,
         user: &[],
     };
-    Ok(ConnectRequest { fields })
+    ConnectRequest { fields }
 }
 
-fn accepts(class: Class) -> Answer {
-    Answer::Accept {
-        class,
-        size: SizeCode::new(10),
+/// The class that is accepted, with size 0A, or the reason for which nothing is.
+fn accepted(request: &ConnectRequest, local: &Local) -> Result<Result<Class, u8>, Fail> {
+    match answer(request, local) {
+        Answer::Accept { class, size } if size == SizeCode::new(10) => Ok(Ok(class)),
+        Answer::Accept { .. } => Err(Fail::from("another size")),
+        Answer::Disconnect(reason) => Ok(Err(reason)),
     }
 }
 
-#[test]
-fn the_table_of_answers(rt: HostRuntime) -> Result<(), Fail> {
-    let both = local(true, true)?;
-    let two_alone = local(false, true)?;
-    assert_eq!(rt;
-        answer(&request(2, 0, &[0x00])?, &both),
-        accepts(Class::Two)
-    );
-    assert_eq!(rt;
-        answer(&request(4, 0, &[0x20])?, &both),
-        accepts(Class::Two)
-    );
-    assert_eq!(rt;
-        answer(&request(2, 1, &[0x00])?, &both),
-        accepts(Class::Zero)
-    );
-    assert_eq!(rt;
-        answer(&request(0, 0, &[])?, &two_alone),
-        Answer::Disconnect(0)
-    );
-    assert_eq!(rt;
-        answer(&request(4, 0, &[])?, &both),
-        Answer::Disconnect(130)
-    );
+/// Class, options and alternative classes of a CR, whether class 0 may be selected beside class 2,
+/// and the class that is accepted or the reason for which none is.
+const ANSWERS: [(u8, u8, &[u8], bool, Result<Class, u8>); 7] = [
+    (2, 0, &[0x00], true, Ok(Class::Two)),
+    (4, 0, &[0x20], true, Ok(Class::Two)),
+    (2, 1, &[0x00], true, Ok(Class::Zero)),
+    (0, 0, &[], false, Err(0)),
+    (4, 0, &[], true, Err(130)),
+    // the low half of a listed class does not count
+    (4, 0, &[0x2f], true, Ok(Class::Two)),
+    (4, 0, &[0x02], true, Ok(Class::Zero)),
+];
+
+fn is_answered(
+    request: &ConnectRequest,
+    class0: bool,
+    want: Result<Class, u8>,
+) -> Result<(), Fail> {
+    if accepted(request, &local(class0)?)? != want {
+        return Err(Fail::from("another answer"));
+    }
     Ok(())
 }
 
 #[test]
-fn the_low_half_of_a_listed_class_does_not_count(rt: HostRuntime) -> Result<(), Fail> {
-    let both = local(true, true)?;
-    assert_eq!(rt;
-        answer(&request(4, 0, &[0x2f])?, &both),
-        accepts(Class::Two)
-    );
-    assert_eq!(rt;
-        answer(&request(4, 0, &[0x02])?, &both),
-        accepts(Class::Zero)
-    );
+fn the_table_of_answers() -> Result<(), Fail> {
+    for (class, options, alternatives, class0, want) in ANSWERS {
+        is_answered(&request(class, options, alternatives), class0, want)?;
+    }
     Ok(())
 }
 
-/// EOT, number and count of octets of the next unit, if it is a DT.
-fn next_data(link: &mut impl Link) -> Option<(bool, u8, usize)> {
-    match link.next_out()? {
-        Out::Data0 { end, octets } => Some((end, 0, octets.len())),
-        Out::Data2 {
-            number,
-            end,
-            octets,
-        } => Some((end, number, octets.len())),
-        Out::Ack { .. } => None,
+fn sends(link: &mut impl Link, tsdu: &[u8]) -> Result<(), Fail> {
+    link.send_tsdu(tsdu)?;
+    Ok(())
+}
+
+/// The next unit is a DT of class 0 with this EOT and so many octets.
+fn gives_part(link: &mut impl Link, end: bool, count: usize) -> Result<(), Fail> {
+    match link.next_out() {
+        Some(Out::Data0 { end: e, octets }) if e == end && octets.len() == count => Ok(()),
+        _ => Err(Fail::from("no such DT")),
     }
 }
 
-/// Number and credit of the next unit, if it is an AK.
-fn next_ack(link: &mut impl Link) -> Option<(u8, u8)> {
-    match link.next_out()? {
-        Out::Ack { number, credit } => Some((number, credit)),
-        _ => None,
+/// The next unit is a DT of class 2 with this EOT and number, and so many octets.
+fn gives_data(link: &mut impl Link, end: bool, number: u8, count: usize) -> Result<(), Fail> {
+    match link.next_out() {
+        Some(
+            Out::Data2 {
+                number: n,
+                end: e,
+                octets,
+            },
+        ) if e == end && n == number && octets.len() == count => Ok(()),
+        _ => Err(Fail::from("no such DT")),
+    }
+}
+
+/// The next unit is an AK with this number and credit.
+fn gives_ack(link: &mut impl Link, number: u8, credit: u8) -> Result<(), Fail> {
+    match link.next_out() {
+        Some(
+            Out::Ack {
+                number: n,
+                credit: c,
+            },
+        ) if n == number && c == credit => Ok(()),
+        _ => Err(Fail::from("no such AK")),
+    }
+}
+
+fn gives_nothing(link: &mut impl Link) -> Result<(), Fail> {
+    match link.next_out() {
+        None => Ok(()),
+        Some(_) => Err(Fail::from("a unit is given")),
+    }
+}
+
+fn hands_out(link: &mut impl Link, octets: &[u8]) -> Result<(), Fail> {
+    match link.next_tsdu() {
+        Some(tsdu) if tsdu.as_slice() == octets => Ok(()),
+        _ => Err(Fail::from("another TSDU")),
+    }
+}
+
+fn is_taken(link: &mut impl Link, unit: &Tpdu<'_>) -> Result<(), Fail> {
+    link.take(unit)?;
+    Ok(())
+}
+
+fn is_refused(link: &mut impl Link, unit: &Tpdu<'_>, fault: LinkFault) -> Result<(), Fail> {
+    match link.take(unit) {
+        Err(found) if found == fault => Ok(()),
+        _ => Err(Fail::from("another answer")),
     }
 }
 
@@ -135,129 +168,151 @@ fn data_unit(number: u8, end: bool, user: &[u8]) -> Tpdu<'_>
     })
 }
 
+/// A DT of class 0.
+fn data(end: bool, user: &[u8]) -> Tpdu<'_> {
+    Tpdu::Dt0(DataClass0 { end, user })
+}
+
+/// A link of class 2 with this window, whose peer gave this credit.
+fn class_2(
+    rt: &HostRuntime,
+    size: Option<SizeCode>,
+    window: u8,
+    credit: u8,
+) -> Result<Class2, Fail> {
+    let window = Window::new(window).ok_or("window")?;
+    let credit = Credit::new(credit).ok_or("credit")?;
+    Ok(Class2::new(rt.alloc(), size, window, credit))
+}
+
+fn acks_go_on(link: &mut impl Link) -> Result<(), Fail> {
+    is_taken(link, &data(false, b"A"))?;
+    is_refused(link, &acknowledgement(0, 3), LinkFault::WrongForm)?;
+    is_taken(link, &data(true, b"B"))?;
+    hands_out(link, b"AB")?;
+    hands_nothing_out(link)?;
+    gives_nothing(link)
+}
+
 #[test]
 fn class_0_takes_no_ack(rt: HostRuntime) -> Result<(), Fail> {
     let mut link = Class0::new(rt.alloc(), None);
-    link.take(&Tpdu::Dt0(DataClass0 {
-        end: false,
-        user: b"A",
-    }))?;
-    assert_eq!(rt;
-        link.take(&acknowledgement(0, 3)),
-        Err(LinkFault::WrongForm)
-    );
-    link.take(&Tpdu::Dt0(DataClass0 {
-        end: true,
-        user: b"B",
-    }))?;
-    let tsdu = link.next_tsdu().ok_or("no TSDU")?;
-    assert_eq!(rt; tsdu.as_slice(), b"AB".as_slice());
-    assert!(rt; link.next_tsdu().is_none());
-    assert_eq!(rt; next_data(&mut link), None);
-    Ok(())
+    acks_go_on(&mut link)
+}
+
+fn hands_nothing_out(link: &mut impl Link) -> Result<(), Fail> {
+    match link.next_tsdu() {
+        None => Ok(()),
+        Some(_) => Err(Fail::from("a TSDU is handed out")),
+    }
+}
+
+fn parts_go_on(link: &mut impl Link, tsdu: &[u8]) -> Result<(), Fail> {
+    sends(link, tsdu)?;
+    sends(link, &[])?;
+    gives_part(link, false, 125)?;
+    gives_part(link, true, 1)?;
+    gives_part(link, true, 0)?;
+    gives_nothing(link)
 }
 
 #[test]
 fn a_tsdu_is_cut_at_the_size(rt: HostRuntime) -> Result<(), Fail> {
     let mut link = Class0::new(rt.alloc(), SizeCode::new(7));
     let tsdu = vec![in rt.alloc(); 0x5a; 126]?;
-    link.send_tsdu(tsdu.as_slice())?;
-    link.send_tsdu(&[])?;
-    assert_eq!(rt; next_data(&mut link), Some((false, 0, 125)));
-    assert_eq!(rt; next_data(&mut link), Some((true, 0, 1)));
-    assert_eq!(rt; next_data(&mut link), Some((true, 0, 0)));
-    assert_eq!(rt; next_data(&mut link), None);
+    parts_go_on(&mut link, tsdu.as_slice())
+}
+
+/// Fifteen TSDUs of an octet each go out at once.
+fn fifteen_go_out(link: &mut impl Link) -> Result<(), Fail> {
+    for number in 0..15u8 {
+        sends(link, b"A")?;
+        gives_data(link, true, number, 1)?;
+    }
     Ok(())
+}
+
+fn credit_goes_on(link: &mut impl Link) -> Result<(), Fail> {
+    is_refused(link, &acknowledgement(0, 2), LinkFault::CreditReduced)?;
+    is_refused(link, &acknowledgement(1, 3), LinkFault::OutOfSequence)?;
+    is_taken(link, &acknowledgement(0, 15))?;
+    fifteen_go_out(link)?;
+    sends(link, b"A")?;
+    gives_nothing(link)
 }
 
 #[test]
 fn an_ack_sets_the_upper_edge(rt: HostRuntime) -> Result<(), Fail> {
-    let window = Window::new(4).ok_or("window")?;
-    let mut link = Class2::new(rt.alloc(), SizeCode::new(7), window, Credit::of(3));
-    assert_eq!(rt;
-        link.take(&acknowledgement(0, 2)),
-        Err(LinkFault::CreditReduced)
-    );
-    assert_eq!(rt;
-        link.take(&acknowledgement(1, 3)),
-        Err(LinkFault::OutOfSequence)
-    );
-    assert_eq!(rt; link.take(&acknowledgement(0, 15)), Ok(()));
-    for number in 0..15u8 {
-        link.send_tsdu(b"A")?;
-        assert_eq!(rt; next_data(&mut link), Some((true, number, 1)));
-    }
-    link.send_tsdu(b"A")?;
-    assert_eq!(rt; next_data(&mut link), None);
+    let mut link = class_2(&rt, SizeCode::new(7), 4, 3)?;
+    credit_goes_on(&mut link)
+}
+
+#[test]
+fn a_first_credit_is_at_most_15(rt: HostRuntime) {
     assert!(rt; Credit::new(16).is_none());
-    Ok(())
+}
+
+/// A unit goes out, no other does, and it is acknowledged.
+fn a_unit_passes(link: &mut impl Link, number: u8) -> Result<(), Fail> {
+    gives_data(link, false, number, 123)?;
+    gives_nothing(link)?;
+    is_taken(link, &acknowledgement((number + 1) % 128, 1))
+}
+
+/// 129 units pass, whose numbers go round, and then the last one.
+fn numbers_go_on(link: &mut impl Link, tsdu: &[u8]) -> Result<(), Fail> {
+    sends(link, tsdu)?;
+    for unit in 0..129u8 {
+        a_unit_passes(link, unit % 128)?;
+    }
+    gives_data(link, true, 1, 1)?;
+    is_taken(link, &acknowledgement(2, 1))?;
+    gives_nothing(link)
 }
 
 #[test]
 fn numbers_go_round(rt: HostRuntime) -> Result<(), Fail> {
-    let window = Window::new(1).ok_or("window")?;
-    let mut link = Class2::new(rt.alloc(), SizeCode::new(7), window, Credit::of(1));
     let tsdu = vec![in rt.alloc(); 0x5a; 15_868]?;
-    link.send_tsdu(tsdu.as_slice())?;
-    for unit in 0..129u8 {
-        assert_eq!(rt; next_data(&mut link), Some((false, unit % 128, 123)));
-        assert_eq!(rt; next_data(&mut link), None);
-        link.take(&acknowledgement((unit + 1) % 128, 1))?;
-    }
-    assert_eq!(rt; next_data(&mut link), Some((true, 1, 1)));
-    link.take(&acknowledgement(2, 1))?;
-    assert_eq!(rt; next_data(&mut link), None);
-    Ok(())
+    let mut link = class_2(&rt, SizeCode::new(7), 1, 1)?;
+    numbers_go_on(&mut link, tsdu.as_slice())
+}
+
+fn window_goes_on(link: &mut impl Link) -> Result<(), Fail> {
+    is_refused(link, &data_unit(1, true, b"A"), LinkFault::OutOfSequence)?;
+    is_taken(link, &data_unit(0, false, b"A"))?;
+    is_taken(link, &data_unit(1, true, b"B"))?;
+    is_refused(link, &data_unit(2, true, b"C"), LinkFault::OutOfSequence)?;
+    gives_ack(link, 1, 2)?;
+    gives_ack(link, 2, 2)?;
+    gives_nothing(link)?;
+    is_taken(link, &data_unit(2, true, b"C"))?;
+    hands_out(link, b"AB")
 }
 
 #[test]
 fn each_unit_taken_gives_one_ack(rt: HostRuntime) -> Result<(), Fail> {
-    let window = Window::new(2).ok_or("window")?;
-    let class2 = Class2::new(rt.alloc(), None, window, Credit::of(0));
-    let mut link = AnyLink::Two(class2);
-    assert_eq!(rt;
-        link.take(&data_unit(1, true, b"A")),
-        Err(LinkFault::OutOfSequence)
-    );
-    link.take(&data_unit(0, false, b"A"))?;
-    link.take(&data_unit(1, true, b"B"))?;
-    assert_eq!(rt;
-        link.take(&data_unit(2, true, b"C")),
-        Err(LinkFault::OutOfSequence)
-    );
-    assert_eq!(rt; next_ack(&mut link), Some((1, 2)));
-    assert_eq!(rt; next_ack(&mut link), Some((2, 2)));
-    assert_eq!(rt; next_ack(&mut link), None);
-    link.take(&data_unit(2, true, b"C"))?;
-    let tsdu = link.next_tsdu().ok_or("no TSDU")?;
-    assert_eq!(rt; tsdu.as_slice(), b"AB".as_slice());
-    Ok(())
+    let mut link = AnyLink::Two(class_2(&rt, None, 2, 0)?);
+    window_goes_on(&mut link)
+}
+
+/// A link takes 16 units of 65,528 octets and one of 128, and no more than the end of that TSDU.
+fn longest_goes_on(link: &mut impl Link, part: &[u8]) -> Result<(), Fail> {
+    for _ in 0..16u8 {
+        is_taken(link, &data(false, part))?;
+    }
+    let (last, _) = part.split_at_checked(128).ok_or("128 octets")?;
+    is_taken(link, &data(false, last))?;
+    is_refused(link, &data(true, b"A"), LinkFault::TsduTooLong)?;
+    is_taken(link, &data(true, &[]))?;
+    match link.next_tsdu() {
+        Some(tsdu) if tsdu.len() == LONGEST_TSDU => Ok(()),
+        _ => Err(Fail::from("another TSDU")),
+    }
 }
 
 #[test]
 fn a_tsdu_has_at_most_1048576_octets(rt: HostRuntime) -> Result<(), Fail> {
-    let mut link = AnyLink::Zero(Class0::new(rt.alloc(), None));
     let part = vec![in rt.alloc(); 0x5a; 65_528]?;
-    for _ in 0..16u8 {
-        link.take(&Tpdu::Dt0(DataClass0 {
-            end: false,
-            user: part.as_slice(),
-        }))?;
-    }
-    link.take(&Tpdu::Dt0(DataClass0 {
-        end: false,
-        user: &part[..128],
-    }))?;
-    let one_more = Tpdu::Dt0(DataClass0 {
-        end: true,
-        user: b"A",
-    });
-    assert_eq!(rt; link.take(&one_more), Err(LinkFault::TsduTooLong));
-    link.take(&Tpdu::Dt0(DataClass0 {
-        end: true,
-        user: &[],
-    }))?;
-    let tsdu = link.next_tsdu().ok_or("no TSDU")?;
-    assert_eq!(rt; tsdu.len(), LONGEST_TSDU);
-    Ok(())
+    let mut link = AnyLink::Zero(Class0::new(rt.alloc(), None));
+    longest_goes_on(&mut link, part.as_slice())
 }

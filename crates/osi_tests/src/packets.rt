@@ -1,25 +1,50 @@
 use bytes::BytesMut;
 use osi_tpkt::*;
-use std::process::Abort;
 use std::test::Fail;
 
 /// The answer to a piece, where a first want of memory is to change nothing.
-fn fed(rt: &impl Abort, cutter: &mut Cutter, piece: &[u8]) -> Result<Fed, TpktFault> {
+fn fed(cutter: &mut Cutter, piece: &[u8]) -> Result<Result<Fed, TpktFault>, Fail> {
     let before = cutter.rest_len();
     let answer = cutter.feed(piece);
     if answer != Err(TpktFault::OutOfMemory) {
-        return answer;
+        return Ok(answer);
     }
-    assert_eq!(rt; cutter.rest_len(), before);
-    cutter.feed(piece)
+    if cutter.rest_len() != before {
+        return Err(Fail::from("want of memory has changed the cutter"));
+    }
+    Ok(cutter.feed(piece))
 }
 
-fn whole(used: usize) -> Result<Fed, TpktFault> {
-    Ok(Fed { used, whole: true })
+/// A cutter uses so many octets of a piece, and then a packet stands or does not.
+fn uses(cutter: &mut Cutter, piece: &[u8], used: usize, whole: bool) -> Result<(), Fail> {
+    if fed(cutter, piece)? != Ok(Fed { used, whole }) {
+        return Err(Fail::from("another answer"));
+    }
+    Ok(())
 }
 
-fn partial(used: usize) -> Result<Fed, TpktFault> {
-    Ok(Fed { used, whole: false })
+fn refuses(cutter: &mut Cutter, piece: &[u8], fault: TpktFault) -> Result<(), Fail> {
+    if fed(cutter, piece)? != Err(fault) {
+        return Err(Fail::from("another answer"));
+    }
+    Ok(())
+}
+
+/// A cutter holds so many octets of a packet, and no packet stands.
+fn holds(cutter: &Cutter, count: usize) -> Result<(), Fail> {
+    if cutter.rest_len() != count || cutter.packet().is_some() {
+        return Err(Fail::from("other octets are held"));
+    }
+    Ok(())
+}
+
+/// This packet stands, header and transport unit.
+fn has_packet(cutter: &Cutter, packet: &[u8]) -> Result<(), Fail> {
+    let (_, unit) = packet.split_at_checked(4).ok_or("a packet")?;
+    if cutter.rest_len() != packet.len() || cutter.packet() != Some(unit) {
+        return Err(Fail::from("another packet"));
+    }
+    Ok(())
 }
 
 /// A connect request of 22 octets, of which 18 are the transport unit.
@@ -28,100 +53,130 @@ const CONNECT_REQUEST: [u8; 22] = [
     0x01, 0x00, 0xc2, 0x02, 0x01, 0x02,
 ];
 
-#[test]
-fn a_header_is_judged_at_its_fourth_octet(rt: HostRuntime) {
-    let mut cutter = Cutter::new(rt.alloc());
-    assert_eq!(rt; fed(&rt, &mut cutter, &[]), partial(0));
-    assert_eq!(rt; cutter.rest_len(), 0);
-    assert_eq!(rt; fed(&rt, &mut cutter, &[3, 0, 0]), partial(3));
-    assert!(rt; cutter.packet().is_none());
-    assert_eq!(rt; cutter.rest_len(), 3);
-    assert_eq!(rt; fed(&rt, &mut cutter, &[6]), Err(TpktFault::BadLength(0)));
-    assert_eq!(rt;
-        fed(&rt, &mut cutter, &[7, 1]),
-        Err(TpktFault::BadLength(0))
-    );
-    assert_eq!(rt; cutter.rest_len(), 3);
+fn header_goes_on(cutter: &mut Cutter) -> Result<(), Fail> {
+    uses(cutter, &[], 0, false)?;
+    holds(cutter, 0)?;
+    uses(cutter, &[3, 0, 0], 3, false)?;
+    holds(cutter, 3)?;
+    refuses(cutter, &[6], TpktFault::BadLength(0))?;
+    refuses(cutter, &[7, 1], TpktFault::BadLength(0))?;
+    holds(cutter, 3)
 }
 
 #[test]
-fn a_version_is_judged_at_its_octet(rt: HostRuntime) {
+fn a_header_is_judged_at_its_fourth_octet(rt: HostRuntime) -> Result<(), Fail> {
     let mut cutter = Cutter::new(rt.alloc());
-    assert_eq!(rt; fed(&rt, &mut cutter, &[4]), Err(TpktFault::BadVersion(0)));
-    assert_eq!(rt; fed(&rt, &mut cutter, &[3]), Err(TpktFault::BadVersion(0)));
+    header_goes_on(&mut cutter)
 }
 
 #[test]
-fn a_fault_stands_behind_a_packet(rt: HostRuntime) {
+fn a_version_is_judged_at_its_octet(rt: HostRuntime) -> Result<(), Fail> {
     let mut cutter = Cutter::new(rt.alloc());
-    assert_eq!(rt; fed(&rt, &mut cutter, &CONNECT_REQUEST), whole(22));
-    assert!(rt; cutter.packet() == Some(&CONNECT_REQUEST[4..]));
-    assert_eq!(rt; cutter.rest_len(), 22);
-    assert_eq!(rt; fed(&rt, &mut cutter, &[4]), whole(0));
+    refuses(&mut cutter, &[4], TpktFault::BadVersion(0))?;
+    refuses(&mut cutter, &[3], TpktFault::BadVersion(0))
+}
+
+fn fault_goes_on(cutter: &mut Cutter) -> Result<(), Fail> {
+    uses(cutter, &CONNECT_REQUEST, 22, true)?;
+    has_packet(cutter, &CONNECT_REQUEST)?;
+    uses(cutter, &[4], 0, true)?;
     cutter.advance();
-    assert_eq!(rt; cutter.rest_len(), 0);
-    assert!(rt; cutter.packet().is_none());
-    assert_eq!(rt; fed(&rt, &mut cutter, &[4]), Err(TpktFault::BadVersion(22)));
+    holds(cutter, 0)?;
+    refuses(cutter, &[4], TpktFault::BadVersion(22))
 }
 
 #[test]
-fn octets_come_one_by_one(rt: HostRuntime) {
+fn a_fault_stands_behind_a_packet(rt: HostRuntime) -> Result<(), Fail> {
     let mut cutter = Cutter::new(rt.alloc());
-    for _ in 0..2 {
-        for octet in &CONNECT_REQUEST[..21] {
-            assert_eq!(rt; fed(&rt, &mut cutter, &[*octet]), partial(1));
-        }
-        assert_eq!(rt; fed(&rt, &mut cutter, &CONNECT_REQUEST[21..]), whole(1));
-        assert!(rt; cutter.packet() == Some(&CONNECT_REQUEST[4..]));
-        cutter.advance();
-    }
+    fault_goes_on(&mut cutter)
 }
 
-/// Reads a unit of any grammar, writes it and says how long it is.
-fn rewritten<'a, U: Unit<'a>>(octets: &'a [u8], out: &mut BytesMut) -> Option<usize> {
+/// A packet comes octet by octet.
+fn comes_slowly(cutter: &mut Cutter, packet: &[u8]) -> Result<(), Fail> {
+    let (last, first) = packet.split_last().ok_or("a packet")?;
+    for octet in first {
+        uses(cutter, &[*octet], 1, false)?;
+    }
+    uses(cutter, &[*last], 1, true)?;
+    has_packet(cutter, packet)
+}
+
+#[test]
+fn octets_come_one_by_one(rt: HostRuntime) -> Result<(), Fail> {
+    let mut cutter = Cutter::new(rt.alloc());
+    comes_slowly(&mut cutter, &CONNECT_REQUEST)?;
+    cutter.advance();
+    comes_slowly(&mut cutter, &CONNECT_REQUEST)
+}
+
+/// How many octets a unit of any grammar at the front has, where it is whole.
+fn octets_read<'a, U: Unit<'a>>(octets: &'a [u8]) -> Option<usize> {
     match U::read(octets) {
         Ok(Some((_, used))) => Some(used),
-        Ok(None) => {
-            let _ = out.reserve(1);
-            None
-        }
-        Err(_) => None,
+        Ok(None) | Err(_) => None,
     }
+}
+
+/// Octets are a unit of any grammar, which is written so.
+fn is_written_so<'a, U: Unit<'a>>(octets: &'a [u8], out: &mut BytesMut) -> Result<(), Fail> {
+    let Ok(Some((unit, _))) = U::read(octets) else {
+        return Err(Fail::from("no unit"));
+    };
+    unit.write(out)?;
+    if unit.written_len() != octets.len() || out.as_slice() != octets {
+        return Err(Fail::from("another written form"));
+    }
+    Ok(())
 }
 
 #[test]
 fn a_packet_is_read_and_written(rt: HostRuntime) -> Result<(), Fail> {
-    let mut out = BytesMut::new(rt.alloc());
-    assert_eq!(rt; rewritten::<Packet>(&CONNECT_REQUEST, &mut out), Some(22));
-    let (packet, used) = Packet::read(&CONNECT_REQUEST)?.ok_or("no packet")?;
-    assert_eq!(rt; used, 22);
-    assert_eq!(rt; packet.written_len(), 22);
-    packet.write(&mut out)?;
-    assert_eq!(rt; out.as_slice(), CONNECT_REQUEST.as_slice());
-    let mut out = BytesMut::new(rt.alloc());
-    write_in_packet(&mut out, &packet)?;
-    assert!(rt; out.as_slice().starts_with(&[3, 0, 0, 26]));
-    assert!(rt; out.as_slice().ends_with(&CONNECT_REQUEST));
-    assert!(rt; Packet::read(&CONNECT_REQUEST[..21])?.is_none());
-    assert!(rt; Packet::read(&[3, 0, 0, 6]).is_err());
+    assert_eq!(rt; octets_read::<Packet>(&CONNECT_REQUEST), Some(22));
+    is_written_so::<Packet>(&CONNECT_REQUEST, &mut BytesMut::new(rt.alloc()))
+}
+
+/// Octets are a proper part of a packet.
+fn is_cut(octets: &[u8]) -> bool {
+    match Packet::read(octets) {
+        Ok(None) => true,
+        Ok(Some(_)) | Err(_) => false,
+    }
+}
+
+fn has_fault(octets: &[u8], fault: TpktFault) -> bool {
+    match Packet::read(octets) {
+        Ok(_) => false,
+        Err(found) => found == fault,
+    }
+}
+
+#[test]
+fn a_packet_is_cut_or_has_a_fault(rt: HostRuntime) {
+    assert!(rt; is_cut(&CONNECT_REQUEST[..21]));
+    assert!(rt; has_fault(&[3, 0, 0, 6], TpktFault::BadLength(0)));
+}
+
+fn has_a_bad_size(out: &mut BytesMut, unit: &[u8]) -> Result<(), Fail> {
+    if write_packet(out, unit) != Err(WriteError::BadSize) || !out.is_empty() {
+        return Err(Fail::from("another answer"));
+    }
+    Ok(())
+}
+
+fn is_the_longest_packet(out: &mut BytesMut, unit: &[u8]) -> Result<(), Fail> {
+    write_packet(out, unit)?;
+    if out.len() != 65_535 || !out.as_slice().starts_with(&[3, 0, 0xff, 0xff, 7, 7]) {
+        return Err(Fail::from("another packet"));
+    }
     Ok(())
 }
 
 #[test]
 fn a_packet_carries_3_to_65531_octets(rt: HostRuntime) -> Result<(), Fail> {
     let octets = vec![in rt.alloc(); 7u8; 65532]?;
+    let (longest, _) = octets.as_slice().split_at_checked(65531).ok_or("octets")?;
     let mut out = BytesMut::new(rt.alloc());
-    assert_eq!(rt;
-        write_packet(&mut out, &octets.as_slice()[..2]),
-        Err(WriteError::BadSize)
-    );
-    assert_eq!(rt;
-        write_packet(&mut out, octets.as_slice()),
-        Err(WriteError::BadSize)
-    );
-    assert_eq!(rt; out.len(), 0);
-    write_packet(&mut out, &octets.as_slice()[..65531])?;
-    assert!(rt; out.as_slice().starts_with(&[3, 0, 0xff, 0xff, 7, 7]));
-    assert_eq!(rt; out.len(), 65535);
-    Ok(())
+    has_a_bad_size(&mut out, &[7, 7])?;
+    has_a_bad_size(&mut out, octets.as_slice())?;
+    is_the_longest_packet(&mut out, longest)
 }
