@@ -1,5 +1,6 @@
 # make: proves the program and builds it. make test: proves and tests everything.
-# make edits, or make edits CRATE=osi_spdu: tries the edits of crates/*/edits, which the prover must refuse.
+# make edits, or make edits CRATE=osi_spdu: tries the edits of crates/*/edits, which the prover must refuse, and the
+# functions of scripts/refused_borrows, which must not compile.
 .PHONY: all test edits bench
 
 all:
@@ -12,6 +13,7 @@ test:
 
 edits:
 	scripts/edits -v $(CRATE)
+	scripts/refused_borrows
 
 bench:
 	bench/run
