@@ -6,8 +6,10 @@ use Rattle.osi_spdu.specs.declared.codes.Code.TheVariants.{ConnectAcceptItem, Sy
 use Rattle.osi_spdu.specs.declared.codes.Code.TheVariants as code
 use Rattle.osi_spdu.specs.declared.fields.ResyncType.{ResyncType}
 use Rattle.osi_spdu.specs.declared.fields.ResyncType.TheVariants.{Restart, Abandon, Set}
-use Rattle.osi_spdu.specs.declared.kinds.Kind.TheVariants.{GiveTokens, Connect, MinorSyncPoint}
-use Rattle.osi_spdu.specs.declared.kinds.Category.TheVariants.{Two}
+use Rattle.osi_spdu.specs.declared.kinds.Kind.{Kind}
+use Rattle.osi_spdu.specs.declared.kinds.Kind.TheVariants.{GiveTokens, Connect, DataTransfer, MinorSyncPoint}
+use Rattle.osi_spdu.specs.declared.kinds.Category.{Category}
+use Rattle.osi_spdu.specs.declared.kinds.Category.TheVariants.{Zero, One, Two}
 use Rattle.osi_spdu.specs.declared.settings.TokenSetting.{TokenSetting}
 use Rattle.osi_spdu.specs.declared.settings.Wish.{Wish}
 use Rattle.osi_spdu.specs.declared.settings.Wish.TheVariants.{Asker, Answerer, Choice}
@@ -16,7 +18,7 @@ use Rattle.osi_spdu.specs.Kinds.{category_of, codes_of, members_of, required_of,
 use Rattle.osi_spdu.specs.Values.{digits_of, canonical}
 use Rattle.osi_spdu.specs.Fields.{wish_number, two_octets, setting_octets, resync_octet}
 use Rattle.osi_spdu.specs.Known.{Known, Contents, nothing, put, some_octets}
-use Rattle.osi_spdu.specs.Spelling.{HasInformation}
+use Rattle.osi_spdu.specs.Spelling.{HasInformation, EndsTsdu, MayFollow, StandTogether}
 use Rattle.osi_spdu.specs.Writing.{IsCanonical, IsFormedUnit, IsFormedTsdu, UnitFits, TsduFits, value_len, free_len, is_formed}
 use Rattle.osi_spdu.specs.Laws.Steps.{same_true}
 use Rattle.osi_message.specs.declared.tokens.Tokens.{Tokens}
@@ -310,7 +312,7 @@ second_place (RS kind n wishes octets) s = refl
 second_place (RA n sides octets) s = refl
 second_place _ s = absurd cc
 
-first_place : (m : Meaning) → is_second m ≡ false → ((unit_of m).information ≡ []) × (may_stand false (category_of (unit_of m).kind) ≡ true)
+first_place : (m : Meaning) → is_second m ≡ false → may_stand false (category_of (unit_of m).kind) ≡ true
 unfolding is_second unit_of category_of may_stand
 first_place (DT octets) s = absurd cc
 first_place (MIP confirm n octets) s = absurd cc
@@ -319,16 +321,33 @@ first_place (MAP n octets) s = absurd cc
 first_place (MAA n octets) s = absurd cc
 first_place (RS kind n wishes octets) s = absurd cc
 first_place (RA n sides octets) s = absurd cc
-first_place _ s = (refl, refl)
+first_place _ s = refl
+
+ends_none : (kind : Kind) → EndsTsdu kind []
+ends_none DataTransfer = refl
+ends_none _ = tt
+
+follows_none : (category : Category) → may_stand false category ≡ true → MayFollow category []
+unfolding may_stand
+follows_none Zero e = omega arith
+follows_none One e = refl
+follows_none Two e = absurd cc
+
+behind_formed : (unit : Contents) → category_of unit.kind ≡ Two → IsFormedUnit unit → IsFormedTsdu (behind_tokens unit)
+unfolding StandTogether category_of
+behind_formed unit two is = record { together = (omega arith, (two, ends_none unit.kind, tt)); formed = (no_tokens_formed, (is, tt)) }
+
+alone_formed : (unit : Contents) → may_stand false (category_of unit.kind) ≡ true → IsFormedUnit unit → IsFormedTsdu (alone_units unit)
+unfolding StandTogether
+alone_formed unit may is = record { together = (follows_none (category_of unit.kind) may, tt); formed = (is, tt) }
 
 place_formed : (b : Bool) (m : Meaning) → is_second m ≡ b → IsFormedUnit (unit_of m) → IsFormedTsdu (if b then behind_tokens (unit_of m) else alone_units (unit_of m))
-unfolding category_of
-place_formed true m s is = record { first = no_tokens_formed; first_informed = refl; second = (refl, second_place m s, is) }
-place_formed false m s is = let p = first_place m s in record { first = is; first_informed = p.0; second = p.1 }
+place_formed true m s is = behind_formed (unit_of m) (second_place m s) is
+place_formed false m s is = alone_formed (unit_of m) (first_place m s) is
 
 place_fits : HaveRoom → (b : Bool) (m : Meaning) → UnitFits (unit_of m) → TsduFits (if b then behind_tokens (unit_of m) else alone_units (unit_of m))
-place_fits room true m fit = record { first = no_tokens_fit room; second = fit }
-place_fits room false m fit = record { first = fit; second = tt }
+place_fits room true m fit = (no_tokens_fit room, (fit, tt))
+place_fits room false m fit = (fit, tt)
 
 pub spelled_formed : HaveDigits → (m : Meaning) → IsNumbered m → IsAddressed m → IsFormedTsdu (spelled m)
 unfolding spelled

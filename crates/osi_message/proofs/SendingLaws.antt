@@ -85,8 +85,8 @@ meaning_again digits AA v small = refl
 said_with_place : (b : Bool) (m : Meaning) → meaning (unit_of m) ≡ m
     → said_by_units (if b then behind_tokens (unit_of m) else alone_units (unit_of m)) ≡ (if b then behind (GT no_token) m else alone m)
 unfolding meaning number_of
-said_with_place true m e = ap (behind (GT no_token)) e
-said_with_place false m e = ap alone e
+said_with_place true m e = ap (λ (u : Meaning). behind (GT no_token) u) e
+said_with_place false m e = ap (λ (u : Meaning). alone u) e
 
 -- what is said by the units of a meaning
 pub said_again : HaveDigits → (m : Meaning) → is_of_version_2 m ≡ true → IsNumbered m → said_by_units (spelled m) ≡ said_of m

@@ -3,6 +3,5 @@ pub mod Numbered
 pub mod Reading
 pub mod Sendable
 pub mod Tokens
-pub mod Tsdus
 pub mod Written
 pub mod Laws

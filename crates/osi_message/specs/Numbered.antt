@@ -1,7 +1,8 @@
 -- The numbers in a unit are those that a point may have.
 use Rattle.std.specs.Prelude.{ℕ, ◌≤◌, Option, Some, None}
+use Rattle.std.specs.List.{AllByRecursion}
 use Rattle.osi_message.specs.Meanings.{Meaning, CN, AC, MIP, MIA, MAP, MAA, RS, RA}
-use Rattle.osi_message.specs.Reading.{Said, alone, behind}
+use Rattle.osi_message.specs.Reading.{Said}
 
 abbrev pub IsSmall : Option ℕ → Type 0
 IsSmall None = Unit {0}
@@ -19,5 +20,4 @@ IsNumbered (RA n sides octets) = n ≤ 999999
 IsNumbered _ = Unit {0}
 
 abbrev pub AreNumbered : Said → Type 0
-AreNumbered (alone u) = IsNumbered u
-AreNumbered (behind item u) = IsNumbered item × IsNumbered u
+AreNumbered said = AllByRecursion IsNumbered said

@@ -1,5 +1,5 @@
 -- What the parameters of a session unit mean, those that are absent included.
-use Rattle.std.specs.Prelude.{ℕ, ◌+◌, ◌*◌, ◌/◌, ◌%◌, ◌==◌, Bool, List, [], ◌∷◌, drop, Option, Some, None, unwrap_or, if◌then◌else◌}
+use Rattle.std.specs.Prelude.{ℕ, ◌+◌, ◌*◌, ◌/◌, ◌%◌, ◌==◌, Bool, List, [], ◌∷◌, drop, Option, Some, None, unwrap_or, if◌then◌else◌, map}
 use Rattle.osi_spdu.specs.declared.kinds.Kind.{Kind}
 use Rattle.osi_spdu.specs.declared.kinds.Kind.TheVariants.{GiveTokens, PleaseTokens, DataTransfer, NotFinished, Finish, Disconnect, Refuse, Connect, Accept, Abort, AbortAccept, ResynchronizeAck, MajorSyncPoint, MajorSyncAck, MinorSyncPoint, MinorSyncAck, Resynchronize}
 use Rattle.osi_spdu.specs.declared.codes.Code.TheVariants.{SyncType, TokenItem, TransportDisconnect, UserRequirements, Version, InitialNumber, Number, Reason, CallingSelector, CalledSelector, UserData}
@@ -106,14 +106,16 @@ meaning_by AbortAccept known information = AA
 unfoldable pub meaning : Contents → Meaning
 meaning unit = meaning_by unit.kind unit.known unit.information
 
--- a TSDU: a unit alone, or a unit behind a token item
-pub data Said : Type 0 where
-  alone : Meaning → Said
-  behind : (item : Meaning) (unit : Meaning) → Said
+-- what the units of a TSDU say, in their order
+abbrev pub Said : Type 0
+Said = List Meaning
 
-abbrev pub said_with : Meaning → Option Contents → Said
-said_with first None = alone first
-said_with first (Some second) = behind first (meaning second)
+-- a unit alone, and one behind a token item
+abbrev pub alone : Meaning → Said
+alone u = u ∷ []
+
+abbrev pub behind : Meaning → Meaning → Said
+behind item u = item ∷ u ∷ []
 
 abbrev pub said_by_units : Units → Said
-said_by_units units = said_with (meaning units.first) units.second
+said_by_units units = map meaning units

@@ -88,11 +88,11 @@ is_second AA = false
 
 -- a unit alone
 abbrev pub alone_units : Contents → Units
-alone_units unit = record { first = unit; second = None }
+alone_units unit = unit ∷ []
 
 -- a GT with no token, and the unit behind it
 abbrev pub behind_tokens : Contents → Units
-behind_tokens unit = record { first = unit_with GiveTokens nothing; second = Some unit }
+behind_tokens unit = unit_with GiveTokens nothing ∷ unit ∷ []
 
 unfoldable pub spelled : Meaning → Units
 spelled m = if is_second m then behind_tokens (unit_of m) else alone_units (unit_of m)

@@ -8,11 +8,9 @@ mod octets;
 mod reading;
 mod sent;
 mod tokens;
-mod tsdus;
 mod writing;
 
 pub use messages::Message;
 pub use octets::Octets;
 pub use sent::Sent;
 pub use tokens::Tokens;
-pub use tsdus::Messages;

@@ -9,12 +9,9 @@ use Rattle.osi_spdu.specs.Known.{Known, Contents, Units}
 use Rattle.osi_spdu.specs.Values.{is_digit, is_numeral, decimal_from, decimal, numeral}
 use Rattle.osi_message.specs.declared.messages.Message.{Message}
 use Rattle.osi_message.specs.declared.messages.Message.TheVariants as message
-use Rattle.osi_message.specs.declared.tsdus.Messages.{Messages}
 use Rattle.osi_message.specs.Meanings.{meant_by}
 use Rattle.osi_message.specs.Numbered.{IsSmall, IsNumbered, AreNumbered}
-use Rattle.osi_message.specs.Reading.{Said, serial_in, number_in, meaning_by, meaning, said_with, said_by_units}
-use Rattle.osi_message.specs.Tsdus as memory
-use Rattle.osi_message.specs.Tsdus.{said_in}
+use Rattle.osi_message.specs.Reading.{serial_in, number_in, meaning_by, meaning, said_by_units}
 
 -- ---- numbers of at most six digits
 
@@ -80,13 +77,10 @@ meaning_numbered : (unit : Contents) → IsNumbered (meaning unit)
 unfolding meaning
 meaning_numbered unit = by_numbered unit.kind unit.known unit.information
 
-with_numbered : (first : Contents) (second : Option Contents) → AreNumbered (said_with (meaning first) second)
-with_numbered first None = meaning_numbered first
-with_numbered first (Some second) = (meaning_numbered first, meaning_numbered second)
-
 -- the numbers in the units of a TSDU are those that a point may have
 pub units_numbered : (units : Units) → AreNumbered (said_by_units units)
-units_numbered units = with_numbered units.first units.second
+units_numbered [] = tt
+units_numbered (unit ∷ units) = (meaning_numbered unit, units_numbered units)
 
 -- ---- in memory
 
@@ -103,11 +97,3 @@ meant_numbered (message.MajorAck number octets) = number.small
 meant_numbered (message.Restart kind number wishes octets) = number.small
 meant_numbered (message.RestartAck number sides octets) = number.small
 meant_numbered _ = tt
-
-said_numbered : (first : Message) (second : Option Message) → AreNumbered (memory.said_with (meant_by first) second)
-said_numbered first None = meant_numbered first
-said_numbered first (Some second) = (meant_numbered first, meant_numbered second)
-
--- the numbers in the messages of a TSDU are those that a point may have
-pub messages_numbered : (m : Messages) → AreNumbered (said_in m)
-messages_numbered m = said_numbered m.first m.second

@@ -1,4 +1,4 @@
-use Rattle.std.proofs.Common.{◌∙◌, Some, sym, subst, arith}
+use Rattle.std.proofs.Common.{◌∙◌, [], ◌∷◌, sym, subst, arith}
 use Rattle.osi_spdu.specs.declared.kinds.Kind.TheVariants.{GiveTokens}
 use Rattle.osi_spdu.specs.Known.{nothing}
 use Rattle.osi_spdu.specs.Kinds.{codes_of}
@@ -13,8 +13,8 @@ unfolding body_octets codes_of
 token_fits = omega arith
 
 pub returns-clause-units : goal.returns-clause-units
-returns-clause-units c = c.behind_give_tokens.ensures ∙ (λ i. record { first = unit_with GiveTokens (none_known i); second = Some (said_by c.args.unit) })
+returns-clause-units c = c.behind_give_tokens.ensures ∙ (λ i. unit_with GiveTokens (none_known i) ∷ said_by c.args.unit ∷ [])
 
 pub returns-clause-fits : goal.returns-clause-fits
 returns-clause-fits c = λ fits.
-    subst TsduFits (sym (returns-clause-units c)) (let both : TsduFits (behind_tokens (said_by c.args.unit)) = record { first = token_fits; second = fits } in both)
+    subst TsduFits (sym (returns-clause-units c)) (let both : TsduFits (behind_tokens (said_by c.args.unit)) = (token_fits, (fits, tt)) in both)
