@@ -41,10 +41,11 @@ impl Sum {
             Ok(group) => group,
             Err(fault) => return self.with_spdu_fault(fault),
         };
-        let sum = self.with_spdu(group.first());
-        match group.second() {
-            Some(second) => sum.with_spdu(&second),
-            None => sum,
+        let mut sum = self.with_spdu(group.first());
+        let mut behind = group.behind();
+        'units: while let Some(unit) = behind.next() {
+            sum = sum.with_spdu(&unit);
         }
+        sum
     }
 }

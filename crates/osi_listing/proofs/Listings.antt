@@ -16,7 +16,7 @@ use Rattle.osi_spdu.specs.declared.faults.SpduFault.{SpduFault}
 use Rattle.osi_listing.specs.Lines.{packet_length, packet_line, fault_line, rest_line, tsdu_line}
 use Rattle.osi_listing.specs.SessionLines.{session_line, session_fault_line}
 use Rattle.osi_listing.specs.Streams.{Part, part_of, parts_of}
-use Rattle.osi_listing.specs.Listing.{Entry, line_of, is_refused, each_of, session_entries, part_entries, unit_entries, read_entries, read_parts, packet_entries, ending_entry, IsListing}
+use Rattle.osi_listing.specs.Listing.{Entry, line_of, is_refused, session_entries, part_entries, unit_entries, read_entries, read_parts, packet_entries, ending_entry, IsListing}
 use Rattle.osi_listing.specs.Listing.Entry.{Packet, TransportUnit, Tsdu, SessionUnit, SessionFault}
 use Rattle.osi_listing.specs.Says.{Says, Holds}
 use Rattle.osi_listing.specs.declared.streams.Streams.{Streams}
@@ -63,13 +63,33 @@ unfolding is_refused
 none_refused [] = refl
 none_refused (u ∷ us) = none_refused us
 
+-- the lines so far, with those of the units that are left, are those of all units
+pub record ListsUnits (text : List ℕ) (left : Units) (before : List ℕ) (all : Units) : Type 0 where
+  pub listed : text ++ flat_map session_line left ≡ before ++ flat_map session_line all
+
+pub lists_next : (text more : List ℕ) (unit : Contents) (left others : Units) (before : List ℕ) (all : Units) → left ≡ unit ∷ others → more ≡ text ++ session_line unit
+    → ListsUnits text left before all → ListsUnits more others before all
+lists_next text more unit left others before all e h so_far = record {
+  listed =
+      ap (λ (t : List ℕ). t ++ flat_map session_line others) h ∙ append_assoc text (session_line unit) (flat_map session_line others)
+      ∙ ap (λ (us : Units). text ++ flat_map session_line us) (sym e) ∙ so_far.listed;
+}
+
+-- the first unit, and those behind it
+pub lists_first : (before text : List ℕ) (first : Contents) (behind : Units) (all : Units) (a : Contents) (bs : Units) → all ≡ a ∷ bs → first ≡ a → behind ≡ bs → text ≡ before ++ session_line first
+    → ListsUnits text behind before all
+lists_first before text first behind all a bs whole e f h = lists_next before text first all behind before all (whole ∙ (λ i. sym e i ∷ sym f i)) h (record { listed = refl })
+
+pub lists_end : (text : List ℕ) (left : Units) (before : List ℕ) (all : Units) → left ≡ [] → ListsUnits text left before all → text ≡ before ++ flat_map session_line all
+lists_end text left before all e so_far = sym (append-nil text) ∙ ap (λ (us : Units). text ++ flat_map session_line us) (sym e) ∙ so_far.listed
+
 pub says_units : (old mid new octets : List ℕ) (units : Units) → mid ≡ old ++ tsdu_line (length octets) →
-    new ≡ mid ++ flat_map session_line (each_of units) → tsdu_at octets ≡ Ok units → Says old new false (Tsdu octets ∷ session_entries (tsdu_at octets))
+    new ≡ mid ++ flat_map session_line units → tsdu_at octets ≡ Ok units → Says old new false (Tsdu octets ∷ session_entries (tsdu_at octets))
 unfolding line_of is_refused
 says_units old mid new octets units first more read =
     subst (λ r. Says old new false (Tsdu octets ∷ session_entries r)) (sym read)
-    (says_both old mid new false false (Tsdu octets ∷ []) (map SessionUnit (each_of units)) (says_one old mid false (Tsdu octets) first refl)
-    (record { text = more ∙ ap (λ t. mid ++ t) (lines_of_units (each_of units)); told = none_refused (each_of units) }))
+    (says_both old mid new false false (Tsdu octets ∷ []) (map SessionUnit units) (says_one old mid false (Tsdu octets) first refl)
+    (record { text = more ∙ ap (λ t. mid ++ t) (lines_of_units units); told = none_refused units }))
 
 pub says_no_units : (old mid new octets : List ℕ) (f : SpduFault) → mid ≡ old ++ tsdu_line (length octets) → new ≡ mid ++ session_fault_line f →
     tsdu_at octets ≡ Err f → Says old new true (Tsdu octets ∷ session_entries (tsdu_at octets))

@@ -51,13 +51,9 @@ is_refused TsduFault = true
 is_refused (PacketFault f) = true
 is_refused (Left n) = false
 
--- the units of a TSDU, one or two
-abbrev pub each_of : Units → List Contents
-each_of units = units.first ∷ option_to_list units.second
-
 -- the session units of a TSDU; one that is no group of them has the fault alone
 abbrev pub session_entries : Result Units SpduFault → List Entry
-session_entries (Ok units) = map SessionUnit (each_of units)
+session_entries (Ok units) = map SessionUnit units
 session_entries (Err f) = SessionFault f ∷ []
 
 abbrev pub outcome_entries : Outcome → List Entry

@@ -7,7 +7,7 @@ ghost use Rattle.osi_tpdu.specs.View.{value};
 ghost use Rattle.osi_spdu.specs.Groups.{units_of as units_in};
 ghost use Rattle.osi_spdu.specs.Reading.{tsdu_at};
 ghost use Rattle.osi_listing.specs.Joins.{outcome_value};
-ghost use Rattle.osi_listing.specs.Listing.{IsListing, each_of, session_entries, outcome_entries, part_entries, unit_entries, read_entries, read_parts};
+ghost use Rattle.osi_listing.specs.Listing.{IsListing, session_entries, outcome_entries, part_entries, unit_entries, read_entries, read_parts};
 ghost use Rattle.osi_listing.specs.Listing.Entry.{TransportUnit, Tsdu};
 ghost use Rattle.osi_listing.specs.SessionLines.{session_line};
 ghost use Rattle.osi_listing.specs.Says.{Says, Holds};
@@ -159,11 +159,12 @@ fn list_tsdu(alloc: Global, text: &mut Vec<u8>, tsdu: &[u8]) -> Result<bool, All
 /// Adds the lines of the session units of a TSDU.
 fn push_session_units(alloc: Global, text: &mut Vec<u8>, group: &Group) -> Result<(), AllocError>
     ensures { OnOk result (text.new.items
-        ≡ text.old.items ++ flat_map session_line (each_of (units_in group.now))) }
+        ≡ text.old.items ++ flat_map session_line (units_in group.now)) }
 {
     push_session_unit(alloc, text, group.first())?;
-    match group.second() {
-        None => Ok(()),
-        Some(second) => push_session_unit(alloc, text, &second),
+    let mut behind = group.behind();
+    'units: while let Some(unit) = behind.next() {
+        push_session_unit(alloc, text, &unit)?;
     }
+    Ok(())
 }

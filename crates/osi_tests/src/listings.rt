@@ -426,7 +426,12 @@ fn user_data_of_a_connect_above_512_octets_has_another_code(rt: HostRuntime) -> 
 
 #[test]
 fn a_tsdu_that_is_no_group_of_units_has_a_fault_alone(rt: HostRuntime) -> Result<(), Fail> {
-    let tsdus: [(&[u8], u8, &str); 8] = [
+    let tsdus: [(&[u8], u8, &str); 9] = [
+        (
+            &[1, 0, 50, 3, 42, 1, 0x31, 0],
+            1,
+            "    tsdu 8\n    fault 7 UnknownSi\nrest 0\n",
+        ),
         (&[], 1, "    tsdu 0\n    fault 0 LengthPastEnd\nrest 0\n"),
         (&[3, 0], 1, "    tsdu 2\n    fault 0 UnknownSi\nrest 0\n"),
         (
@@ -482,5 +487,24 @@ rest 0
 ",
     )];
     assert_eq!(rt; other(&rt, &listings)?, None);
+    Ok(())
+}
+
+/// Units behind the first one are listed in their order.
+#[test]
+fn each_unit_of_a_tsdu_is_listed(rt: HostRuntime) -> Result<(), Fail> {
+    let tsdus: [(&[u8], u8, &str); 2] = [
+        (
+            &[1, 0, 50, 3, 42, 1, 0x31, 1, 0, 0x41, 0x42],
+            0,
+            "    tsdu 11\n    GT\n    MIA 42=31\n    DT octets 2\nrest 0\n",
+        ),
+        (
+            &[1, 0, 49, 3, 42, 1, 0x31, 49, 3, 42, 1, 0x32],
+            0,
+            "    tsdu 12\n    GT\n    MIP 42=31\n    MIP 42=32\nrest 0\n",
+        ),
+    ];
+    assert_eq!(rt; other_units(&rt, &tsdus)?, None);
     Ok(())
 }

@@ -40,7 +40,7 @@ fn fault_of(octets: &[u8]) -> Option<SpduFault> {
 #[test]
 fn connect_is_read(rt: HostRuntime) -> Result<(), Fail> {
     let group = read_tsdu(&CONNECT)?;
-    assert!(rt; group.second().is_none());
+    assert!(rt; group.behind().next().is_none());
     let unit = group.first();
     assert!(rt; matches!(unit.kind(), Kind::Connect));
     assert_eq!(rt; unit.kind().si(), 13);
@@ -61,8 +61,20 @@ fn connect_is_read(rt: HostRuntime) -> Result<(), Fail> {
 }
 
 /// TSDUs in the form in which they are written.
-const WORKED: [&[u8]; 21] = [
+const WORKED: [&[u8]; 24] = [
     &CONNECT,
+    &[
+        0x0D, 0x12, 0x05, 0x0C, 0x13, 0x01, 0x01, 0x16, 0x01, 0x02, 0x17, 0x01, 0x31, 0x1A, 0x01,
+        0x00, 0x14, 0x02, 0x00, 0xB9,
+    ],
+    &[
+        0x0E, 0x12, 0x05, 0x0C, 0x13, 0x01, 0x01, 0x16, 0x01, 0x02, 0x17, 0x01, 0x31, 0x1A, 0x01,
+        0x00, 0x14, 0x02, 0x00, 0xB9,
+    ],
+    &[
+        0x0E, 0x0F, 0x05, 0x09, 0x13, 0x01, 0x01, 0x16, 0x01, 0x02, 0x1A, 0x01, 0x00, 0x14, 0x02,
+        0x00, 0x02,
+    ],
     &[
         0x0E, 0x12, 0x05, 0x0C, 0x13, 0x01, 0x00, 0x16, 0x01, 0x02, 0x17, 0x01, 0x31, 0x1A, 0x01,
         0x00, 0x14, 0x02, 0x00, 0xB9,
@@ -172,7 +184,7 @@ fn long_user_data(rt: HostRuntime) -> Result<(), Fail> {
     let number = Serial::new(1).ok_or("1 is a serial number")?;
     let point = Spdu::minor_point(None, number, &user_data);
     let group = Group::behind_give_tokens(point);
-    let second = group.second().ok_or("there is a second unit")?;
+    let second = group.behind().next().ok_or("there is a second unit")?;
     assert_eq!(rt; second.kind().codes().len(), 4);
     let mut out = BytesMut::new(rt.alloc());
     out.extend_from_slice(&[
@@ -181,7 +193,8 @@ fn long_user_data(rt: HostRuntime) -> Result<(), Fail> {
     out.extend_from_slice(&user_data)?;
     is_its_own(rt.alloc(), out.as_slice())?;
     let read = read_tsdu(out.as_slice())?
-        .second()
+        .behind()
+        .next()
         .ok_or("there is a second unit")?;
     let data_octets = read.params().user_data.ok_or("there is user data")?;
     assert_eq!(rt; data_octets.len(), 300);
@@ -247,5 +260,141 @@ fn sets_of_tokens_and_units(rt: HostRuntime) -> Result<(), Fail> {
     assert!(rt; Selector::new(&[0; 16]).is_some());
     assert!(rt; Selector::new(&[0; 17]).is_none());
     assert_eq!(rt; Wish::from(Side::Answerer), Wish::Answerer);
+    Ok(())
+}
+
+/// The SIs of the units of a TSDU, in their order.
+fn sis_of(alloc: Global, octets: &[u8]) -> Result<Vec<u8>, Fail> {
+    let group = read_tsdu(octets)?;
+    let mut sis = Vec::new(alloc);
+    sis.push(group.first().kind().si())?;
+    for unit in group.behind() {
+        sis.push(unit.kind().si())?;
+    }
+    Ok(sis)
+}
+
+/// Several units behind one of category 0: they are given in their order, and written as they were.
+#[test]
+fn extended_concatenation(rt: HostRuntime) -> Result<(), Fail> {
+    let confirmed = [
+        0x01, 0x00, 0x32, 0x03, 0x2A, 0x01, 0x31, 0x01, 0x00, 0x41, 0x42,
+    ];
+    assert_eq!(rt; sis_of(rt.alloc(), &confirmed)?.as_slice(), [1, 50, 1].as_slice());
+    is_its_own(rt.alloc(), &confirmed)?;
+    let points = [
+        0x01, 0x00, 0x31, 0x03, 0x2A, 0x01, 0x31, 0x31, 0x03, 0x2A, 0x01, 0x31,
+    ];
+    assert_eq!(rt; sis_of(rt.alloc(), &points)?.as_slice(), [1, 49, 49].as_slice());
+    is_its_own(rt.alloc(), &points)?;
+    // A DT is the last unit: what stands behind it is its user information.
+    let last = [0x01, 0x00, 0x01, 0x00, 0x32, 0x03, 0x2A, 0x01, 0x31];
+    assert_eq!(rt; sis_of(rt.alloc(), &last)?.as_slice(), [1, 1].as_slice());
+    is_its_own(rt.alloc(), &last)
+}
+
+/// A GT, these many MIAs behind it, and then these octets.
+fn behind_confirmations(alloc: Global, count: u8, last: &[u8]) -> Result<BytesMut, Fail> {
+    let mut octets = BytesMut::new(alloc);
+    octets.extend_from_slice(&[0x01, 0x00])?;
+    for _ in 0..count {
+        octets.extend_from_slice(&[0x32, 0x03, 0x2A, 0x01, 0x31])?;
+    }
+    octets.extend_from_slice(last)?;
+    Ok(octets)
+}
+
+#[test]
+fn at_most_16_units_stand_behind_another(rt: HostRuntime) -> Result<(), Fail> {
+    let whole = behind_confirmations(rt.alloc(), 16, &[])?;
+    is_its_own(rt.alloc(), whole.as_slice())?;
+    let more = behind_confirmations(rt.alloc(), 16, &[0x01, 0x00])?;
+    assert_eq!(rt; fault_of(more.as_slice()), Some(SpduFault::BadConcatenation(82)));
+    let unknown = behind_confirmations(rt.alloc(), 16, &[0x00])?;
+    assert_eq!(rt; fault_of(unknown.as_slice()), Some(SpduFault::UnknownSi(82)));
+    let unknown = behind_confirmations(rt.alloc(), 1, &[0x00])?;
+    assert_eq!(rt; fault_of(unknown.as_slice()), Some(SpduFault::UnknownSi(7)));
+    let other = behind_confirmations(rt.alloc(), 1, &[0x09, 0x00])?;
+    assert_eq!(rt; fault_of(other.as_slice()), Some(SpduFault::BadConcatenation(7)));
+    let short = behind_confirmations(rt.alloc(), 2, &[0x32, 0x04])?;
+    assert_eq!(rt; fault_of(short.as_slice()), Some(SpduFault::LengthPastEnd(12)));
+    Ok(())
+}
+
+/// What is found first is answered: within a group, by the order of octets, and at one octet the
+/// duplicate before the value.
+#[test]
+fn the_first_fault_from_the_left(rt: HostRuntime) {
+    let in_group = [0x0D, 0x08, 0x05, 0x06, 0x16, 0x01, 0x02, 0x16, 0x01, 0x02];
+    assert_eq!(rt; fault_of(&in_group), Some(SpduFault::DuplicateParameter(22, 7)));
+    let twice = [0x0D, 0x06, 0x16, 0x01, 0x02, 0x33, 0x01, 0x41];
+    assert!(rt; read_tsdu(&twice).is_ok());
+    let bad_then_long = [0x09, 0x06, 0x11, 0x00, 0x11, 0x01, 0x01, 0x19];
+    assert_eq!(rt; fault_of(&bad_then_long), Some(SpduFault::BadValue(17, 2)));
+    let bad_twice = [0x09, 0x05, 0x11, 0x01, 0x01, 0x11, 0x00];
+    assert_eq!(rt; fault_of(&bad_twice), Some(SpduFault::DuplicateParameter(17, 5)));
+    let bad_then_missing = [0x01, 0x00, 0x31, 0x02, 0x0F, 0x00];
+    assert_eq!(rt; fault_of(&bad_then_missing), Some(SpduFault::BadValue(15, 4)));
+    let both_missing = [0x01, 0x00, 0x35, 0x00];
+    assert_eq!(rt; fault_of(&both_missing), Some(SpduFault::MissingParameter(27, 2)));
+    let unknown_then_short = [0x21, 0x09];
+    assert_eq!(rt; fault_of(&unknown_then_short), Some(SpduFault::UnknownSi(0)));
+}
+
+/// The long form of a length is written above 254 octets, and no earlier.
+#[test]
+fn lengths_of_254_and_255_octets(rt: HostRuntime) -> Result<(), Fail> {
+    let mut octets = BytesMut::new(rt.alloc());
+    octets.extend_from_slice(&[0x09, 0xFE, 0xC1, 0xFC])?;
+    octets.extend_from_slice(&[0x5A; 252])?;
+    is_its_own(rt.alloc(), octets.as_slice())?;
+    let mut octets = BytesMut::new(rt.alloc());
+    octets.extend_from_slice(&[0x09, 0xFF, 0x00, 0xFF, 0xC1, 0xFD])?;
+    octets.extend_from_slice(&[0x5A; 253])?;
+    is_its_own(rt.alloc(), octets.as_slice())?;
+    let mut octets = BytesMut::new(rt.alloc());
+    octets.extend_from_slice(&[0x09, 0xFF, 0x01, 0x03, 0xC1, 0xFF, 0x00, 0xFF])?;
+    octets.extend_from_slice(&[0x5A; 255])?;
+    is_its_own(rt.alloc(), octets.as_slice())
+}
+
+/// User data of a CN has code 193 up to 512 octets.
+#[test]
+fn user_data_of_512_octets(rt: HostRuntime) -> Result<(), Fail> {
+    let mut octets = BytesMut::new(rt.alloc());
+    octets.extend_from_slice(&[0x0D, 0xFF, 0x02, 0x04, 0xC2, 0xFF, 0x02, 0x00])?;
+    octets.extend_from_slice(&[0x5A; 512])?;
+    let mut want = BytesMut::new(rt.alloc());
+    want.extend_from_slice(&[0x0D, 0xFF, 0x02, 0x04, 0xC1, 0xFF, 0x02, 0x00])?;
+    want.extend_from_slice(&[0x5A; 512])?;
+    is_written(rt.alloc(), octets.as_slice(), want.as_slice())
+}
+
+#[test]
+fn texts_of_faults(rt: HostRuntime) -> Result<(), Fail> {
+    let texts = [
+        (SpduFault::UnknownSi(3), "no session unit at 3: its SI is unknown"),
+        (SpduFault::LengthPastEnd(3), "a length goes past its end at 3"),
+        (
+            SpduFault::MissingParameter(42, 3),
+            "the session unit at 3 has no parameter 42",
+        ),
+        (
+            SpduFault::DuplicateParameter(42, 3),
+            "parameter 42 at 3 is there twice",
+        ),
+        (
+            SpduFault::BadValue(42, 3),
+            "parameter 42 at 3 has no value of its kind",
+        ),
+        (
+            SpduFault::BadConcatenation(3),
+            "the session unit at 3 may not stand there",
+        ),
+        (SpduFault::TrailingOctets(3), "octets are left at 3"),
+    ];
+    for (fault, text) in texts {
+        assert_eq!(rt; format!(in rt.alloc(); "{fault}")?.as_str(), text);
+    }
     Ok(())
 }
