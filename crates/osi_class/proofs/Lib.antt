@@ -1,6 +1,7 @@
 pub mod Arrival
 pub mod Classes
 pub mod Ending
+pub mod FitLaws
 pub mod Flows
 pub mod Giving
 pub mod Moves

@@ -30,7 +30,7 @@ one_part limit octets room short =
 parts_some : (limit octets : ℕ) → 1 ≤ parts_needed limit octets
 parts_some limit octets = omega arith
 
-take_drop : (limit : ℕ) (t : List ℕ) → length (take limit t) + length (drop limit t) ≡ length t
+pub take_drop : (limit : ℕ) (t : List ℕ) → length (take limit t) + length (drop limit t) ≡ length t
 take_drop limit t = sym (length-append (take limit t) (drop limit t)) ∙ ap length (take-append-drop limit t)
 
 -- class 0, with one TSDU to be sent

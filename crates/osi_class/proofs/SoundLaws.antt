@@ -141,7 +141,7 @@ second false b e = cc
 awaited_open : (f : Flow) (number : ℕ) → is_awaited f.receiver number ≡ true → f.receiver.waiting < f.receiver.window
 awaited_open f number e = ltb-true f.receiver.waiting f.receiver.window (second (number == f.receiver.expected) (nat_lt f.receiver.waiting f.receiver.window) e)
 
-taken_safe : (e : Ends) (flow : Option Flow) (unit : Value) → length e.joining.begun ≤ LONGEST_TSDU → IfSome flow IsSoundFlow → values.IsInRange unit →
+taken_safe : (e : Ends) (flow : Option Flow) (unit : Value) → length e.joining.begun ≤ LONGEST_TSDU → IfSome flow IsSoundFlow → values.HasFieldsInRange unit →
     IfOk (taken_by e flow unit) (Safe e flow)
 taken_safe e None (data0 end octets) begun sound range =
     joined_safe e None None tt refl (joined e.joining end octets) (joined_short e.joining end octets)

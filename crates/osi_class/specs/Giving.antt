@@ -42,6 +42,12 @@ octets_of (part0 end octets) = length octets
 octets_of (part2 number end octets) = length octets
 octets_of (ack number credit) = 0
 
+-- the octets of a unit before its data (X.224 section 13.7 and 13.9)
+abbrev pub header_octets : Given → ℕ
+header_octets (part0 end octets) = 3
+header_octets (part2 number end octets) = 5
+header_octets (ack number credit) = 5
+
 -- the octets of TSDUs in units
 abbrev pub octets_in : List Given → ℕ
 octets_in [] = 0

@@ -1,9 +1,10 @@
 -- The bounds that every link keeps.
 use Rattle.std.specs.Prelude.{◌+◌, ◌<◌, ◌≤◌, length, IfSome}
+use Rattle.osi_tpkt.specs.Octets.{IsOctets}
 use Rattle.osi_tpdu.specs.Value as values
 use Rattle.osi_class.specs.declared.limits.TheConstants.{LONGEST_TSDU}
 use Rattle.osi_class.specs.Flow.{Flow}
-use Rattle.osi_class.specs.Link.{Standing}
+use Rattle.osi_class.specs.Link.{Standing, Given, part0, part2, ack}
 use Rattle.osi_class.specs.Runs.{Move, take_in}
 
 -- units that were sent and not acknowledged, and credit that is open, are 15 at most; a window has 1
@@ -23,7 +24,13 @@ pub record IsSound (s : Standing) : Type 0 where
   pub begun : length s.ends.joining.begun ≤ LONGEST_TSDU
   pub flow : IfSome s.flow IsSoundFlow
 
+-- the numbers of a unit are in the range of their fields, and its octets go into a unit of 8,192
+abbrev pub HasGivenInRange : Given → Type 0
+HasGivenInRange (part0 end octets) = IsOctets octets × (length octets ≤ 8189)
+HasGivenInRange (part2 number end octets) = (number < 128) × IsOctets octets × (length octets ≤ 8189)
+HasGivenInRange (ack number credit) = (number < 128) × (credit < 16)
+
 -- a unit that is taken has each number in the range of its field
 abbrev pub TakesInRange : Move → Type 0
-TakesInRange (take_in unit) = values.IsInRange unit
+TakesInRange (take_in unit) = values.HasFieldsInRange unit
 TakesInRange move = Unit {0}

@@ -1,19 +1,21 @@
 //! Laws of the definitions that the contracts cite. Each function does nothing: its clauses are the
 //! laws.
 
-ghost use Rattle.std.specs.Prelude.{Bool, ◌≡◌, ◌+◌, ◌-◌, ◌%◌, ◌<◌, ◌≤◌, ◌++◌, ◌∷◌, ℕ, ◌↔◌, ◌⊎◌, List, [], map, Some, None, Ok, Option, is_some, true};
+ghost use Rattle.std.specs.Prelude.{Bool, ◌≡◌, ◌+◌, ◌-◌, ◌%◌, ◌<◌, ◌≤◌, ◌++◌, ◌∷◌, ℕ, ◌↔◌, ◌⊎◌, List, [], map, Some, None, Ok, Option, is_some, length, true};
 ghost use Rattle.std.specs.List.{flat_map, AllByRecursion};
 ghost use Rattle.osi_class.specs.Between.{LinkPair, Turn, at_right, Turns, TurnsAlong, swapped, opposite, opened_pair, awaiting_pair, IsFresh, OnlySends, IsQuiet, TakesOldest, given_by, left_in, right_out, parts_under_way, IsShortTsdu, under_way, under_way_before, HasWholeTsdus};
 ghost use Rattle.osi_class.specs.Owed.{Direction, InStep, CreditStep, CreditSteps, StepsAlong, known_after, opened, owed, restored};
 ghost use Rattle.osi_class.specs.Directions.{direction, HaveFlows, TurnSteps, Agree, AgreeZero, AgreeInClass};
+ghost use Rattle.osi_tpkt.specs.Octets.{IsOctets};
+ghost use Rattle.osi_tpdu.specs.Writing.{written, Fits};
 ghost use Rattle.osi_tpdu.specs.declared.limits.SizeCode.{SizeCode};
 ghost use Rattle.osi_class.specs.Ends.{Ends, unit_size, fresh_ends};
 ghost use Rattle.osi_class.specs.Flow.{Flow, fresh_sender, fresh_receiver, acknowledged, is_awaited, steps_before};
 ghost use Rattle.osi_class.specs.Joining.{joined, with_part};
 ghost use Rattle.osi_class.specs.Link.{Standing, Given, next, is_of_two, unit_of, given_in, zero_standing, two_standing, fresh_two};
-ghost use Rattle.osi_class.specs.Giving.{left_to_give, drained};
+ghost use Rattle.osi_class.specs.Giving.{left_to_give, drained, octets_of, header_octets};
 ghost use Rattle.osi_class.specs.Runs.{Move, Moves, MovesAlong, give_out, tsdus_in, parts_out, parts_in, tsdus_out};
-ghost use Rattle.osi_class.specs.Sound.{IsSound, TakesInRange};
+ghost use Rattle.osi_class.specs.Sound.{IsSound, HasGivenInRange, TakesInRange};
 ghost use Rattle.osi_class.specs.Tsdus.{Part, MakeTheSame, tsdus, tsdus_after, uncut};
 
 /// What a link gave in a list of calls, followed by what is still to be given, has the TSDUs that
@@ -151,6 +153,18 @@ pub fn no_tsdu_is_too_long()
 /// A unit that a link gives, written for any reference, brings its peer's link what was given.
 pub fn a_unit_says_what_was_given()
     ensures { (destination : ℕ) (unit : Given) → given_in (unit_of destination unit) ≡ unit ∷ [] }
+{}
+
+/// What a sound link gives of TSDUs that are octets is in the range of its fields, and what is left
+/// are octets. So it can be written for each reference; its octets are those of its header and data.
+pub fn what_is_given_can_be_written()
+    ensures range { (old new : Standing) (unit : Given) → IsSound old → AllByRecursion IsOctets old.ends.unsent →
+        next old ≡ Some (unit, new) → HasGivenInRange unit }
+    ensures octets { (old new : Standing) (unit : Given) → IsSound old → AllByRecursion IsOctets old.ends.unsent →
+        next old ≡ Some (unit, new) → AllByRecursion IsOctets new.ends.unsent }
+    ensures fits { (destination : ℕ) (unit : Given) → destination < 65536 → HasGivenInRange unit → Fits (unit_of destination unit) }
+    ensures length { (destination : ℕ) (unit : Given) →
+        length (written (unit_of destination unit)) ≡ header_octets unit + octets_of unit }
 {}
 
 /// Two links of class 0 with none but units of class 0 between them stay so, whatever is called. With

@@ -24,7 +24,7 @@ const NEGOTIATION_FAILED: u8 = 130;
 pub fn answer(request: &ConnectRequest<'_>, local: &Local) -> Answer
     ensures { selection result ≡ selected_by (request_content request.now) local.now }
 {
-    let size = selected_size(request.parameters.size, local.size);
+    let size = selected_size(request.fields.parameters.size, local.size);
     if local.class2 && is_proposed(request, 2) && !refuses_flow_control(request) {
         return Answer::Accept {
             class: Class::Two,
@@ -47,10 +47,10 @@ pub fn answer(request: &ConnectRequest<'_>, local: &Local) -> Answer
 fn is_proposed(request: &ConnectRequest<'_>, class: u8) -> bool
     ensures { result ≡ proposes (request_content request.now) class }
 {
-    if request.class == class {
+    if request.fields.class == class {
         return true;
     }
-    match request.parameters.alternative_classes {
+    match request.fields.parameters.alternative_classes {
         None => false,
         Some(octets) => names_class(octets, class),
     }
@@ -60,10 +60,10 @@ fn is_proposed(request: &ConnectRequest<'_>, class: u8) -> bool
 fn is_zero_alone(request: &ConnectRequest<'_>) -> bool
     ensures { result ≡ proposes_zero_alone (request_content request.now) }
 {
-    if request.class != 0 {
+    if request.fields.class != 0 {
         return false;
     }
-    match request.parameters.alternative_classes {
+    match request.fields.parameters.alternative_classes {
         None => true,
         Some(octets) => names_zero_alone(octets),
     }
@@ -86,9 +86,9 @@ fn names_zero_alone(octets: &[u8]) -> bool
 /// Whether the CR asks for class 2 without explicit flow control: option bit 1 (X.224 section
 /// 13.3.3).
 fn refuses_flow_control(request: &ConnectRequest<'_>) -> bool
-    ensures { result ≡ (request.now.options % 2 == 1) }
+    ensures { result ≡ (request.now.fields.options % 2 == 1) }
 {
-    request.options % 2 == 1
+    request.fields.options % 2 == 1
 }
 
 /// The smaller of the proposed size and this end's, or none where none was proposed.
