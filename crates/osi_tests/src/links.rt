@@ -253,7 +253,9 @@ fn a_first_credit_is_at_most_15(rt: HostRuntime) {
 }
 
 /// A unit goes out, no other does, and it is acknowledged.
-fn a_unit_passes(link: &mut impl Link, number: u8) -> Result<(), Fail> {
+fn a_unit_passes(link: &mut impl Link, number: u8) -> Result<(), Fail>
+    requires { number < 128 }
+{
     gives_data(link, false, number, 123)?;
     gives_nothing(link)?;
     is_taken(link, &acknowledgement((number + 1) % 128, 1))
