@@ -1,8 +1,8 @@
 ghost use Rattle.std.specs.Prelude.{◌≡◌, ◌++◌, option_copied, option_map, OnOk};
 ghost use Rattle.osi_tpdu.specs.Limits.{size_code, selector_octets};
 ghost use Rattle.osi_tpdu.specs.Value.{request as a_request, confirm as a_confirm};
-ghost use Rattle.osi_tpdu.specs.View.{value, connect_content, request_content, confirm_content, parameter_values};
-ghost use Rattle.osi_listing.specs.Lines.{connect_fields, parameter_fields, unit_fields, unit_line};
+ghost use Rattle.osi_tpdu.specs.View.{value, request_content, confirm_content, parameter_values};
+ghost use Rattle.osi_listing.specs.Lines.{fixed_fields, parameter_fields, unit_fields, unit_line};
 
 use crate::lines::{
     push_number_field, push_octet_field, push_octets_field, push_reference_field, push_words,
@@ -72,7 +72,8 @@ fn push_request(
         ≡ text.old.items ++ unit_fields (a_request (request_content request.now))) }
 {
     push_words(text, "CR")?;
-    push_connect_fields(alloc, text, 0, &request.fields)
+    push_connect_fields(text, 0, &request.fields)?;
+    push_parameter_fields(alloc, text, &request.fields.parameters)
 }
 
 /// A CC.
@@ -86,26 +87,24 @@ fn push_confirm(
         ≡ text.old.items ++ unit_fields (a_confirm confirm.now.destination (confirm_content confirm.now))) }
 {
     push_words(text, "CC")?;
-    push_connect_fields(alloc, text, confirm.destination, &confirm.fields)
+    push_connect_fields(text, confirm.destination, &confirm.fields)?;
+    push_parameter_fields(alloc, text, &confirm.fields.parameters)
 }
 
-/// What a CR and a CC share, with a DST-REF.
+/// The fixed part of a CR or CC, with this DST-REF.
 fn push_connect_fields(
-    alloc: Global,
     text: &mut Vec<u8>,
     destination: u16,
     fields: &ConnectFields,
 ) -> Result<(), AllocError>
-    ensures { OnOk result (text.new.items
-        ≡ text.old.items ++ connect_fields destination (connect_content fields.now)
-        ++ parameter_fields (parameter_values fields.now.parameters)) }
+    ensures { OnOk result (text.new.items ≡ text.old.items
+        ++ fixed_fields fields.now.credit destination fields.now.source fields.now.class fields.now.options) }
 {
     push_number_field(text, " credit ", u64::from(fields.credit))?;
     push_reference_field(text, " dst ", destination)?;
     push_reference_field(text, " src ", fields.source)?;
     push_number_field(text, " class ", u64::from(fields.class))?;
-    push_number_field(text, " options ", u64::from(fields.options))?;
-    push_parameter_fields(alloc, text, &fields.parameters)
+    push_number_field(text, " options ", u64::from(fields.options))
 }
 
 #[tactic(auto, unfolding(crate::specs::Lines::parameter_fields))]
