@@ -1,8 +1,8 @@
 -- The units of a TSDU that act.
-use Rattle.std.proofs.Common.{Bool, true, false, List, [], ◌∷◌, if◌then◌else◌}
-use Rattle.std.specs.List.{AllByRecursion}
+use Rattle.std.proofs.Common.{Bool, true, false, List, [], ◌∷◌, ◌++◌, if◌then◌else◌}
+use Rattle.std.specs.List.{AllByRecursion, list_any}
 use Rattle.osi_message.specs.Meanings.{Meaning}
-use Rattle.osi_message.specs.Reading.{Said, alone, behind}
+use Rattle.osi_message.specs.Reading.{Said}
 use Rattle.osi_message.specs.Numbered.{IsNumbered, AreNumbered}
 use Rattle.osi_session.specs.Respond.{is_resynchronize, acting}
 
@@ -10,8 +10,12 @@ either : (Q : Meaning → Type 0) (b : Bool) (x y : List Meaning) → AllByRecur
 either Q true x y h k = h
 either Q false x y h k = k
 
+at_end : (Q : Meaning → Type 0) (us : List Meaning) (u : Meaning) → AllByRecursion Q us → Q u → AllByRecursion Q (us ++ u ∷ [])
+at_end Q [] u h k = (k, tt)
+at_end Q (v ∷ us) u h k = (h.0, at_end Q us u h.1 k)
+
 -- the numbers in the units that act are those that a point may have
 pub acting_numbered : (said : Said) → AreNumbered said → AllByRecursion IsNumbered (acting said)
 unfolding acting
-acting_numbered (alone u) h = (h, tt)
-acting_numbered (behind item u) h = either IsNumbered (is_resynchronize u) _ _ (h.1, tt) (h.1, (h.0, tt))
+acting_numbered [] h = tt
+acting_numbered (first ∷ units) h = either IsNumbered (list_any is_resynchronize units) _ _ h.1 (at_end IsNumbered units first h.1 h.0)

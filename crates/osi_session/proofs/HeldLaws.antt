@@ -14,8 +14,9 @@ use Rattle.osi_session.specs.State.{without_tokens}
 use Rattle.osi_session.specs.Calls.{Call, Accept, Refuse, Data, Give, Please, Minor, MinorConfirm, Major, MajorConfirm, Restart, RestartConfirm, Release, ReleaseAccept, ReleaseRefuse, Abort}
 use Rattle.osi_message.specs.Meanings.{Meaning, CN, AC, RF, DT, GT, PT, MIP, MIA, MAP, MAA, RS, RA, FN, DN, NF, AB, AA}
 use Rattle.osi_session.specs.Allowed.{Step, after, allowed}
-use Rattle.osi_session.specs.Respond.{is_acceptable, stands, becomes, respond_unit}
-use Rattle.osi_session.specs.Causes.{to_asker, to_answerer, call_gives, unit_gives}
+use Rattle.osi_session.specs.Respond.{is_acceptable, stands, becomes, bad, respond_unit}
+use Rattle.osi_session.specs.declared.faults.UnitFault.{UnitFault}
+use Rattle.osi_session.specs.Causes.{to_asker, to_answerer, call_gives, unit_gives, call_holds, unit_holds}
 use Rattle.osi_session.proofs.Passed.{passed}
 use Rattle.osi_session.proofs.RunCases.{unit_cases}
 
@@ -166,3 +167,58 @@ unit_held s u t = unit_cases (λ next. HeldBy (unit_gives s u t) s t next.held) 
   bad = λ a e. bare (unit_gives s u t) s t;
   good = λ a e p m. becomes_held s u t;
 })
+
+-- ---- exactly what is held
+
+-- after an accepted call
+after_holds : (s : State) (c : Call) (t : Token) → has (after s c).held t ≡ call_holds s c t
+after_holds s (Accept requirements serial sides octets) t = answerer_has (functional_units requirements) (settle (functional_units requirements) s.wishes sides) t
+after_holds s (Refuse octets) t = no_token_has t
+after_holds s (Data octets) t = refl
+after_holds s (Give tokens) t = without_has s.held tokens t
+after_holds s (Please tokens octets) t = refl
+after_holds s (Minor confirm octets) t = refl
+after_holds s (MinorConfirm n octets) t = refl
+after_holds s (Major octets) t = refl
+after_holds s (MajorConfirm octets) t = refl
+after_holds s (Restart n wishes octets) t = no_token_has t
+after_holds s (RestartConfirm sides octets) t = answerer_has s.units (settle s.units s.wishes sides) t
+after_holds s (Release octets) t = refl
+after_holds s (ReleaseAccept octets) t = no_token_has t
+after_holds s (ReleaseRefuse octets) t = refl
+after_holds s (Abort octets) t = no_token_has t
+
+pub call_holds_it : (s : State) (c : Call) (x : Step) (t : Token) → allowed s c ≡ Ok x → has x.next.held t ≡ call_holds s c t
+call_holds_it s c x t e =
+    let q = passed s c x e in subst (λ (y : Step). has y.next.held t ≡ call_holds s c t) (sym q.gives) (after_holds s c t)
+
+either_holds : (b : Bool) (x y : State) (t : Token) (p q : Bool) → has x.held t ≡ p → has y.held t ≡ q → has (if b then x else y).held t ≡ (if b then p else q)
+either_holds true x y t p q h k = h
+either_holds false x y t p q h k = k
+
+-- after a good unit
+pub unit_holds_it : (s : State) (u : Meaning) (t : Token) → has (becomes s u).held t ≡ unit_holds s u t
+unit_holds_it s (CN version_2 requirements serial wishes from to octets) t = either_holds (is_acceptable version_2 requirements)
+    (record s { phase = Answering; units = functional_units requirements; wishes = wishes; proposed = unwrap_or serial 0 }) (without_tokens Ended s) t _ _ refl (no_token_has t)
+unit_holds_it s (AC version_2 requirements serial sides octets) t =
+    let units = both_units s.units (functional_units requirements) in asker_has units (stated units sides) t
+unit_holds_it s (RF reason octets) t = no_token_has t
+unit_holds_it s (DT octets) t = refl
+unit_holds_it s (GT tokens) t = united_has s.held tokens t
+unit_holds_it s (PT tokens octets) t = refl
+unit_holds_it s (MIP confirm n octets) t = refl
+unit_holds_it s (MIA n octets) t = refl
+unit_holds_it s (MAP n octets) t = refl
+unit_holds_it s (MAA n octets) t = refl
+unit_holds_it s (RS kind n wishes octets) t = either_holds (stands s n)
+    (record (without_tokens RestartDue s) { wishes = wishes; numbers = restarted_at n s.numbers }) s t _ _ (no_token_has t) refl
+unit_holds_it s (RA n sides octets) t = asker_has s.units (stated s.units sides) t
+unit_holds_it s (FN octets) t = refl
+unit_holds_it s (DN octets) t = no_token_has t
+unit_holds_it s (NF octets) t = refl
+unit_holds_it s (AB bits octets) t = no_token_has t
+unit_holds_it s AA t = refl
+
+-- and after a bad one
+pub bad_holds_none : (s : State) (fault : UnitFault) (t : Token) → has (bad s fault).next.held t ≡ false
+bad_holds_none s fault t = no_token_has t

@@ -1,9 +1,11 @@
 pub mod ActingLaws
 pub mod Begun
 pub mod CallLaws
+pub mod FollowLaws
 pub mod GroupLaws
 pub mod ConfirmedLaws
 pub mod HeldLaws
+pub mod MoveLaws
 pub mod OpeningMoves
 pub mod Passed
 pub mod PhaseLaws
@@ -15,5 +17,6 @@ pub mod SessionLaws
 pub mod SoundCalls
 pub mod SoundNumbers
 pub mod SoundUnits
+pub mod TokenSets
 pub mod TsduLaws
 pub mod VerdictLaws

@@ -17,6 +17,9 @@ use Rattle.osi_session.specs.Allowed.{Step, last_number, needs, may_call, sends,
 use Rattle.osi_session.specs.Respond.{Outcome, si, conditions, first_fault, is_expected, drops, reply_for, first_reply, judged, take_expected, in_aborting, in_ended, respond_unit, is_faulty, verdict, respond_all, acting, respond}
 use Rattle.osi_message.specs.Written.{user_data_of}
 use Rattle.osi_message.specs.Sendable.{IsAddress, IsAddressed, IsSendable, is_of_version_2}
+use Rattle.osi_session.specs.Moves.{called, Standing, react}
+use Rattle.osi_session.specs.Sessions.{CanBeSent}
+use Rattle.osi_session.proofs.MoveLaws.{call_reply}
 use Rattle.osi_session.proofs.CallLaws.{sent_short}
 use Rattle.osi_session.proofs.Passed.{passed}
 
@@ -89,6 +92,9 @@ sent_sendable s c x sound small h =
       short = sent_short s c x h;
     }
 
+pub call_sendable : (s : Standing) (c : Call) (x : Step) → IsSound s.state → HasSerial c → allowed s.state c ≡ Ok x → CanBeSent (react s (called c)).reply
+call_sendable s c x sound small h = subst CanBeSent (sym (call_reply s c x h)) (sent_sendable s.state c x sound small h)
+
 -- ---- what a caller asks for
 
 address : (selector : Option Selector) → IsAddress (selector_octets selector)
@@ -105,11 +111,6 @@ asked_sendable o few = record {
 }
 
 -- ---- answers to a TSDU
-
--- an answer that can be sent, where there is one
-abbrev pub CanBeSent : Option Meaning → Type 0
-CanBeSent None = Unit {0}
-CanBeSent (Some m) = IsSendable m
 
 refuse_sendable : (reason : ℕ) → IsSendable (RF reason [])
 unfolding user_data_of

@@ -1,5 +1,5 @@
 -- What is true of a session in memory.
-use Rattle.std.proofs.Common.{◌≡◌, refl, sym, subst, ℕ, if◌then◌else◌, ◌<◌, ◌≤◌, Bool, true, false, Option, Some, None, Ok, arith}
+use Rattle.std.proofs.Common.{◌≡◌, ◌∙◌, refl, sym, ap, subst, ℕ, if◌then◌else◌, ◌<◌, ◌≤◌, Bool, true, false, Option, Some, None, Ok, arith}
 use Rattle.osi_session.specs.declared.requests.Request.{Request}
 use Rattle.osi_session.specs.declared.requests.Request.TheVariants as request
 use Rattle.osi_session.specs.declared.state.State.{State}
@@ -12,12 +12,17 @@ use Rattle.osi_session.specs.declared.numbers.Numbers.{Numbers}
 use Rattle.osi_session.specs.Numbers.{from_base}
 use Rattle.osi_message.specs.Tokens.{no_token}
 use Rattle.osi_session.specs.Units.{functional_units, has_points}
-use Rattle.osi_message.specs.declared.tsdus.Messages.{Messages}
+use Rattle.osi_spdu.specs.Known.{Units}
 use Rattle.osi_message.specs.Reading.{Said}
-use Rattle.osi_message.specs.Tsdus.{said_in}
-use Rattle.osi_message.specs.Laws.Numbers.{messages_numbered}
+use Rattle.osi_message.specs.Laws.Numbers.{units_numbered}
+use Rattle.osi_message.specs.Meanings.{Meaning}
 use Rattle.osi_session.specs.Respond.{Outcome, respond}
-use Rattle.osi_session.specs.Sessions.{awaiting, asking}
+use Rattle.osi_spdu.specs.Reading.{tsdu_at}
+use Rattle.osi_message.specs.Reading.{said_by_units}
+use Rattle.osi_message.specs.Sendable.{said_of}
+use Rattle.osi_message.specs.Written.{is_second, spelled, written}
+use Rattle.osi_session.specs.Openings.{asked_for}
+use Rattle.osi_session.specs.Sessions.{awaiting, asking, lone, lone_of, unit_in}
 use Rattle.osi_session.proofs.SoundCalls.{call_sound, call_begun}
 use Rattle.osi_session.proofs.SoundNumbers.{from_ordered}
 use Rattle.osi_session.proofs.TsduLaws.{respond_sound, respond_begun}
@@ -33,8 +38,8 @@ request_sound s r x h sound = call_sound s (called_by r) x (request_small r) h s
 pub request_begun : (s : State) (r : Request) (x : Step) → allowed s (called_by r) ≡ Ok x → is_wait_transport x.next.phase ≡ false
 request_begun s r x h = call_begun s (called_by r) x h
 
-pub group_sound : (s : State) (m : Messages) (o : Outcome) → respond s (said_in m) ≡ o → IsSound s → IsSound o.next
-group_sound s m o e h = subst (λ (x : Outcome). IsSound x.next) e (respond_sound s (said_in m) (messages_numbered m) h)
+pub group_sound : (s : State) (units : Units) (o : Outcome) → respond s (said_by_units units) ≡ o → IsSound s → IsSound o.next
+group_sound s units o e h = subst (λ (x : Outcome). IsSound x.next) e (respond_sound s (said_by_units units) (units_numbered units) h)
 
 pub group_begun : (s : State) (said : Said) (o : Outcome) → respond s said ≡ o
     → is_wait_transport o.next.phase ≡ true → is_wait_transport s.phase ≡ true
@@ -60,3 +65,12 @@ first_small false n h = omega arith
 
 pub asking_sound : (o : Opening) → IsSound (asking o)
 asking_sound o = at_first (asking o) refl refl (first_small (has_points (functional_units o.requirements.0)) o.serial.number o.serial.small) refl refl refl
+
+-- a unit that is sent alone is read as it
+pub read_again : (m : Meaning) → is_second m ≡ false → tsdu_at (written m) ≡ Ok (spelled m) → said_by_units (spelled m) ≡ said_of m → unit_in (written m) ≡ Some m
+unfolding unit_in
+read_again m f r s = ap lone_of r ∙ ap lone s ∙ (rw f refl)
+
+pub asked_alone : (o : Opening) → is_second (asked_for o) ≡ false
+unfolding is_second
+asked_alone o = refl

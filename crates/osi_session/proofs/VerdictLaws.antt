@@ -10,12 +10,12 @@ use Rattle.osi_message.specs.Tokens.{no_token, is_empty}
 use Rattle.osi_session.specs.Phases.{is_aborting, is_ended, is_over}
 use Rattle.osi_session.specs.State.{without_tokens}
 use Rattle.osi_message.specs.Meanings.{Meaning, CN, AC, RF, DT, GT, PT, MIP, MIA, MAP, MAA, RS, RA, FN, DN, NF, AB, AA}
-use Rattle.osi_message.specs.Reading.{Said, alone, behind}
+use Rattle.std.specs.List.{list_any}
+use Rattle.osi_message.specs.Reading.{alone, behind}
 use Rattle.osi_session.specs.Units.{functional_units, has_data}
 use Rattle.osi_message.specs.Written.{is_second}
 use Rattle.osi_message.specs.Sendable.{said_of}
 use Rattle.osi_session.specs.Respond.{Outcome, Condition, si, conditions, first_fault, is_expected, drops, nothing, good, bad, judged, take_expected, in_aborting, in_ended, has_no_effect, is_token_item, is_resynchronize, reply_for, first_reply, replies_abort, respond_unit, and_then, Verdict, over, dropped, faulty, fine, by_fault, verdict, enacted, is_faulty, AllMet, IsGood, respond_all, acting, respond}
-use Rattle.osi_session.specs.Steps.{behind_unit}
 use Rattle.osi_session.proofs.PhaseLaws.{implied, every_is}
 
 live : (s : State) (u : Meaning) (d x : Bool) (f : Option UnitFault) →
@@ -105,10 +105,13 @@ either : (b : Bool) (s : State) (x y : List Meaning) (o : Outcome) → respond_a
 either true s x y o h k = h
 either false s x y o h k = k
 
--- in front of a unit it changes nothing
-pub in_front : (s : State) (item u : Meaning) → has_no_effect item ≡ true → respond s (behind item u) ≡ respond_unit s u
+-- in front of units it changes nothing
+pub in_front_of_all : (s : State) (item : Meaning) (units : List Meaning) → has_no_effect item ≡ true → respond s (item ∷ units) ≡ respond_all s units
 unfolding acting
-in_front s item u h = either (is_resynchronize u) s (u ∷ []) (u ∷ item ∷ []) (respond_unit s u) (one s u) (behind_all s (u ∷ []) item h ∙ one s u)
+in_front_of_all s item units h = either (list_any is_resynchronize units) s units (units ++ item ∷ []) (respond_all s units) refl (behind_all s units item h)
+
+pub in_front : (s : State) (item u : Meaning) → has_no_effect item ≡ true → respond s (behind item u) ≡ respond_unit s u
+in_front s item u h = in_front_of_all s item (u ∷ []) h ∙ one s u
 
 pub empty_item : has_no_effect (GT no_token) ≡ true
 unfolding is_empty
@@ -160,7 +163,7 @@ two s u item t = by (is_faulty (verdict s u)) refl
     by false h = ap (and_then (respond_unit s u)) (one (respond_unit s u).next item)
 
 choice : (b : Bool) (s : State) (x y : List Meaning) (o p : Outcome) → respond_all s x ≡ o → respond_all s y ≡ p
-    → respond_all s (if b then x else y) ≡ (if b then o else p)
+    → respond_all s (if b || false then x else y) ≡ (if b then o else p)
 choice true s x y o p h k = h
 choice false s x y o p h k = k
 
@@ -204,17 +207,6 @@ enacted_reply s u fine = good_reply u
 pub bad_is_aborted : (s : State) (u : Meaning) → replies_abort (respond_unit s u).reply ≡ is_faulty (verdict s u)
 bad_is_aborted s u = ap (λ (o : Outcome). replies_abort o.reply) (enacts s u) ∙ enacted_reply s u (verdict s u)
 
--- ---- two units, step by step
-
--- the second acts unless the first is bad
-pub second_acts : (s : State) (u item : Meaning) → respond_all s (u ∷ item ∷ []) ≡
-    (if replies_abort (respond_unit s u).reply then respond_unit s u
-    else and_then (respond_unit s u) (respond_unit (respond_unit s u).next item))
-unfolding respond_all
-second_acts s u item =
-    same_rest (is_faulty (verdict s u)) (respond_unit s u) _ _ (one (respond_unit s u).next item)
-    ∙ ap (λ (b : Bool). if b then respond_unit s u else and_then (respond_unit s u) (respond_unit (respond_unit s u).next item)) (sym (bad_is_aborted s u))
-
-pub step_by_step : (s : State) (item u : Meaning) → respond s (behind item u) ≡ behind_unit s item u
-unfolding acting behind_unit
-step_by_step s item u = choice (is_resynchronize u) s (u ∷ []) (u ∷ item ∷ []) _ _ (one s u) (second_acts s u item)
+-- what is told of an outcome of a unit
+pub told_bad : (s : State) (u : Meaning) (o : Outcome) (b : Bool) → respond_unit s u ≡ o → b ≡ replies_abort o.reply → b ≡ is_faulty (verdict s u)
+told_bad s u o b e h = h ∙ ap (λ (p : Outcome). replies_abort p.reply) (sym e) ∙ bad_is_aborted s u

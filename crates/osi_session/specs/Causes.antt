@@ -1,5 +1,5 @@
 -- What opens a connection, what gives a token to this side, and what sets the numbers anew.
-use Rattle.std.specs.Prelude.{Bool, true, false, not, ◌&&◌, ◌||◌}
+use Rattle.std.specs.Prelude.{Bool, true, false, not, ◌&&◌, ◌||◌, if◌then◌else◌}
 use Rattle.std.specs.List.{list_any}
 use Rattle.osi_session.specs.declared.state.State.{State}
 use Rattle.osi_session.specs.declared.sides.Sides.{Sides}
@@ -7,10 +7,10 @@ use Rattle.osi_session.specs.declared.selected.FunctionalUnits.{FunctionalUnits}
 use Rattle.osi_message.specs.Tokens.{Token, has}
 use Rattle.osi_session.specs.Units.{functional_units, both_units, available}
 use Rattle.osi_session.specs.Sides.{settle, stated, side_for, is_asker}
-use Rattle.osi_session.specs.Calls.{Call, Accept, Restart, RestartConfirm}
-use Rattle.osi_message.specs.Meanings.{Meaning, AC, GT, RS, RA}
+use Rattle.osi_session.specs.Calls.{Call, Accept, Refuse, Give, Restart, RestartConfirm, ReleaseAccept, Abort}
+use Rattle.osi_message.specs.Meanings.{Meaning, CN, AC, RF, GT, RS, RA, DN, AB}
 use Rattle.osi_message.specs.Reading.{Said}
-use Rattle.osi_session.specs.Respond.{acting}
+use Rattle.osi_session.specs.Respond.{is_acceptable, stands, acting}
 use Rattle.osi_session.specs.Moves.{Input, called, taken}
 
 -- one of the units of a TSDU that act
@@ -55,6 +55,34 @@ unit_gives s (AC version_2 requirements serial sides octets) t =
 unit_gives s (RA n sides octets) t = to_asker s.units (stated s.units sides) t
 unit_gives s (GT tokens) t = has tokens t
 unit_gives s _ t = false
+
+-- ---- a token is held
+
+-- whether it is after an accepted call
+abbrev pub call_holds : State → Call → Token → Bool
+call_holds s (Accept requirements serial sides octets) t =
+    to_answerer (functional_units requirements) (settle (functional_units requirements) s.wishes sides) t
+call_holds s (RestartConfirm sides octets) t = to_answerer s.units (settle s.units s.wishes sides) t
+call_holds s (Give tokens) t = has s.held t && not (has tokens t)
+call_holds s (Refuse octets) t = false
+call_holds s (Restart n wishes octets) t = false
+call_holds s (ReleaseAccept octets) t = false
+call_holds s (Abort octets) t = false
+call_holds s _ t = has s.held t
+
+-- whether it is after a good unit
+abbrev pub unit_holds : State → Meaning → Token → Bool
+unit_holds s (CN version_2 requirements serial wishes from to octets) t =
+    if is_acceptable version_2 requirements then has s.held t else false
+unit_holds s (AC version_2 requirements serial sides octets) t =
+    to_asker (both_units s.units (functional_units requirements)) (stated (both_units s.units (functional_units requirements)) sides) t
+unit_holds s (RA n sides octets) t = to_asker s.units (stated s.units sides) t
+unit_holds s (GT tokens) t = has s.held t || has tokens t
+unit_holds s (RS kind n wishes octets) t = if stands s n then false else has s.held t
+unit_holds s (RF reason octets) t = false
+unit_holds s (DN octets) t = false
+unit_holds s (AB bits octets) t = false
+unit_holds s _ t = has s.held t
 
 -- ---- the numbers begin anew, or at the number of a restart
 

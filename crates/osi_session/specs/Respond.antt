@@ -1,6 +1,7 @@
 -- The table of units: what the user is shown, what is sent, whether the transport connection is
 -- closed, and the new state; then the units of a TSDU, one after the other.
 use Rattle.std.specs.Prelude.{◌≡◌, ℕ, ◌+◌, Bool, true, false, not, ◌&&◌, ◌||◌, if◌then◌else◌, ◌==◌, nat_le, nat_lt, List, [], ◌∷◌, ◌++◌, Option, Some, None, unwrap_or, is_none}
+use Rattle.std.specs.List.{list_any}
 use Rattle.osi_spdu.specs.declared.kinds.Kind.{Kind}
 use Rattle.osi_spdu.specs.declared.kinds.Kind.TheVariants as kind
 use Rattle.osi_spdu.specs.Kinds.{si_of}
@@ -22,7 +23,7 @@ use Rattle.osi_session.specs.Phases.{is_wait_cn, is_connecting, is_ready, is_maj
 use Rattle.osi_session.specs.State.{without_tokens}
 use Rattle.osi_session.specs.Allowed.{base_for, opened_with}
 use Rattle.osi_message.specs.Meanings.{Meaning, CN, AC, RF, DT, GT, PT, MIP, MIA, MAP, MAA, RS, RA, FN, DN, NF, AB, AA}
-use Rattle.osi_message.specs.Reading.{Said, alone, behind, names}
+use Rattle.osi_message.specs.Reading.{Said, names}
 use Rattle.osi_session.specs.Shown.{Shown, Connect, Connected, RefusedBySession, Data, Given, Asked, Minor, MinorConfirmed, Major, MajorConfirmed, Restart, Restarted, Release, Released, ReleaseRefused, Aborted, Lost, PeerAbort, BadUnit}
 
 abbrev pub is_nil : List Shown → Bool
@@ -350,11 +351,11 @@ respond_all s (u ∷ us) =
     if is_faulty (verdict s u) then respond_unit s u
     else and_then (respond_unit s u) (respond_all (respond_unit s u).next us)
 
--- the units of a TSDU in the order in which they act: a token item acts after those behind it, and
--- where one of these is an RS it does not act
+-- the units of a TSDU in the order in which they act: the first, a token item or a unit by itself, acts
+-- after those behind it, and where one of these is an RS it does not act
 unfoldable pub acting : Said → List Meaning
-acting (alone u) = u ∷ []
-acting (behind item u) = if is_resynchronize u then u ∷ [] else u ∷ item ∷ []
+acting [] = []
+acting (first ∷ units) = if list_any is_resynchronize units then units else units ++ first ∷ []
 
 -- the units of a TSDU
 abbrev pub respond : State → Said → Outcome

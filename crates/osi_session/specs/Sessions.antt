@@ -1,60 +1,67 @@
--- What a session holds, and what its calls answer and leave.
-use Rattle.std.specs.Prelude.{◌≡◌, ℕ, Bool, true, false, not, List, ◌++◌, length, Option, Some, None, option_map, Result, Ok, Err, IsOk, if◌then◌else◌, nat_le}
+-- What a session begins with, and what its calls answer.
+use Rattle.std.specs.Prelude.{◌≡◌, ℕ, Bool, true, false, not, List, [], ◌∷◌, ◌++◌, length, map, Option, Some, None, option_map, Result, Ok, Err, IfOk, OnOk, OnErr, if◌then◌else◌, nat_le, is_none, ◌&&◌}
 use Rattle.osi_spdu.specs.declared.settings.Wish.TheVariants.{Asker}
-use Rattle.osi_session.specs.declared.phases.Phase.TheVariants.{WaitTransport, WaitCn, Connecting, Ended}
+use Rattle.osi_spdu.specs.declared.faults.SpduFault.{SpduFault}
+use Rattle.osi_spdu.specs.Known.{Units}
+use Rattle.osi_spdu.specs.Reading.{tsdu_at}
+use Rattle.osi_message.specs.Meanings.{Meaning}
+use Rattle.osi_message.specs.Reading.{Said, said_by_units}
+use Rattle.osi_message.specs.Sendable.{IsSendable}
+use Rattle.osi_message.specs.Tokens.{no_token}
+use Rattle.osi_message.specs.Written.{written}
+use Rattle.osi_session.specs.declared.phases.Phase.TheVariants.{WaitTransport, WaitCn}
 use Rattle.osi_session.specs.declared.faults.CallError.{CallError}
 use Rattle.osi_session.specs.declared.faults.CallError.TheVariants as error
 use Rattle.osi_session.specs.declared.state.State.{State}
 use Rattle.osi_session.specs.declared.taken.Taken.{Taken}
-use Rattle.osi_message.specs.Tokens.{no_token}
 use Rattle.osi_session.specs.declared.opening.Opening.{Opening}
 use Rattle.osi_session.specs.Units.{no_units, functional_units, is_profile}
 use Rattle.osi_session.specs.Sides.{offered}
 use Rattle.osi_session.specs.Numbers.{from_base}
-use Rattle.osi_session.specs.Phases.{is_wait_transport}
-use Rattle.osi_session.specs.State.{without_tokens}
-use Rattle.osi_session.specs.Shown.{Shown, RefusedByTransport}
-use Rattle.osi_message.specs.Written.{written}
+use Rattle.osi_session.specs.Shown.{Shown, shown_by}
 use Rattle.osi_session.specs.Openings.{asked_for}
-use Rattle.osi_session.specs.Allowed.{Answer, base_for, most_user_data}
-use Rattle.osi_session.specs.Respond.{Outcome, is_silent}
+use Rattle.osi_session.specs.Allowed.{base_for, most_user_data}
+use Rattle.osi_session.specs.Respond.{is_nil}
+use Rattle.osi_session.specs.Calls.{Call}
+use Rattle.osi_session.specs.Moves.{Input, called, Standing, Move, in_state, react}
 use Rattle.osi_session.specs.Steps.{shown_list}
 
--- the state, and the CN that waits for the transport connection
-pub record Standing : Type 0 where
-  pub state : State
-  pub waiting : Option (List ℕ)
-
--- the state after a call, and the octets that are sent
-pub record Planned : Type 0 where
-  pub next : State
-  pub sent : List ℕ
-
-abbrev pub planned : Answer → Result Planned CallError
-planned (Ok step) = Ok (record { next = step.next; sent = written step.sent })
-planned (Err e) = Err e
+-- ---- what a call answers
 
 abbrev pub is_memory : CallError → Bool
 is_memory error.OutOfMemory = true
 is_memory _ = false
 
-abbrev pub RefusedBy : {A : Type 0} → Bool → CallError → Result A CallError → Type 0
-RefusedBy true e answer = IsOk answer
-RefusedBy false e answer = answer ≡ Err e
+abbrev pub RefusedBy : Bool → CallError → Option CallError → Type 0
+RefusedBy true e error = error ≡ None
+RefusedBy false e error = error ≡ Some e
 
 -- an error of the table, or want of memory where the table has none
-abbrev pub Refused : {A : Type 0} → CallError → Result A CallError → Type 0
-Refused e answer = RefusedBy (is_memory e) e answer
+abbrev pub Refused : CallError → Option CallError → Type 0
+Refused e error = RefusedBy (is_memory e) e error
 
--- The answer of the table; want of memory comes only where each check was passed.
-abbrev pub Plans : Result Planned CallError → Answer → Type 0
-Plans (Ok plan) answer = planned answer ≡ Ok plan
-Plans (Err e) answer = Refused e answer
+-- where a unit is sent, it can be
+abbrev pub CanBeSent : Option Meaning → Type 0
+CanBeSent None = Unit {0}
+CanBeSent (Some m) = IsSendable m
 
--- A call: the answer of the table and its state; a call that is refused changes nothing.
-abbrev pub Calls : Result (List ℕ) CallError → Answer → Standing → Standing → Type 0
-Calls (Ok sent) answer old new = (planned answer ≡ Ok (record { next = new.state; sent = sent })) × (new.waiting ≡ old.waiting)
-Calls (Err e) answer old new = Refused e answer × (new ≡ old)
+-- ---- a plan
+
+-- the state after a call, and the octets that it sends
+pub record Planned : Type 0 where
+  pub next : State
+  pub sent : List ℕ
+
+-- the plan of a call that a session would accept now
+pub record IsPlanOf (s : Standing) (c : Call) (plan : Planned) : Type 0 where
+  pub next : (react s (called c)).next ≡ in_state s plan.next
+  pub sent : option_map written (react s (called c)).reply ≡ Some plan.sent
+
+-- the plan of some call that the session would accept now
+abbrev pub IsPlanned : Standing → Planned → Type 0
+IsPlanned s plan = (call : Call) × IsPlanOf s call plan
+
+-- ---- what a session begins with
 
 -- the calling end, before the transport connection is there
 abbrev pub asking : Opening → State
@@ -69,16 +76,16 @@ asking o = record {
   numbers = from_base 0;
 }
 
--- a CN may ask for functional units that can be selected together, with short user data
-abbrev pub opens : Opening → Result Standing CallError
-opens o =
-    if not (is_profile o.requirements.0) then Err error.NotSelected
-    else if not (nat_le (length o.user_data.now) most_user_data) then Err error.TooLong
-    else Ok (record { state = asking o; waiting = Some (written (asked_for o)) })
+-- the error of an opening: functional units that cannot be selected together, or long user data
+abbrev pub refusal_of : Opening → Option CallError
+refusal_of o =
+    if not (is_profile o.requirements.0) then Some error.NotSelected
+    else if not (nat_le (length o.user_data.now) most_user_data) then Some error.TooLong
+    else None
 
-abbrev pub Opens : Result Standing CallError → Result Standing CallError → Type 0
-Opens (Ok s) answer = answer ≡ Ok s
-Opens (Err e) answer = Refused e answer
+-- a caller: the CN waits for the transport connection
+abbrev pub opens : Opening → Standing
+opens o = record { state = asking o; waiting = Some (asked_for o) }
 
 -- the called end awaits a CN
 abbrev pub awaiting : State
@@ -93,28 +100,40 @@ awaiting = record {
   numbers = from_base 0;
 }
 
--- the transport connection is there: the CN is sent
-abbrev pub after_opened : Standing → Standing
-after_opened s = if is_wait_transport s.state.phase then record { state = without_tokens Connecting s.state; waiting = None } else s
+abbrev pub awaits : Standing
+awaits = record { state = awaiting; waiting = None }
 
-abbrev pub sent_at_opened : Standing → Option (List ℕ)
-sent_at_opened s = if is_wait_transport s.state.phase then s.waiting else None
+-- ---- the CN that waits, in octets
 
--- there is no transport connection
-abbrev pub after_refused : Standing → Standing
-after_refused s = if is_wait_transport s.state.phase then record s { state = without_tokens Ended s.state } else s
+abbrev pub lone : Said → Option Meaning
+lone (u ∷ []) = Some u
+lone _ = None
 
-abbrev pub shown_at_refused : ℕ → Standing → Option Shown
-shown_at_refused reason s = if is_wait_transport s.state.phase then Some (RefusedByTransport reason) else None
+abbrev pub lone_of : Result Units SpduFault → Option Meaning
+lone_of (Ok units) = lone (said_by_units units)
+lone_of (Err fault) = None
 
--- what the user is shown and what is sent by a taken TSDU
+-- the unit that octets are, where they are one unit alone
+unfoldable pub unit_in : List ℕ → Option Meaning
+unit_in octets = lone_of (tsdu_at octets)
+
+-- ---- a TSDU that is taken
+
+-- what the user is shown, in order
 abbrev pub shown_in : Taken → List Shown
-shown_in t = shown_list t.first ++ shown_list t.second
+shown_in t = shown_list t.first ++ map shown_by t.more.items
 
--- A TSDU that is taken: the outcome of the table and its state. Want of memory comes only where
--- something is shown or sent, and changes nothing.
-abbrev pub Takes : {E : Type 0} → Result Taken E → Outcome → Standing → Standing → Type 0
-Takes (Ok t) outcome old new =
-    (outcome ≡ record { next = new.state; shown = shown_in t; reply = outcome.reply; closes = t.closes })
-    × (t.reply ≡ option_map written outcome.reply) × (new.waiting ≡ old.waiting)
-Takes (Err e) outcome old new = (is_silent outcome ≡ false) × (new ≡ old)
+-- nothing is shown and nothing sent
+abbrev pub is_quiet : Move → Bool
+is_quiet m = is_nil m.shown && is_none m.reply
+
+-- A TSDU that is taken makes this move; want of memory changes nothing, and comes only where something
+-- is shown or sent.
+pub record Takes {E : Type 0} (result : Result Taken E) (move : Move) (old new : Standing) : Type 0 where
+  pub state : OnOk result (new ≡ move.next)
+  pub shown : IfOk result (λ t. shown_in t ≡ move.shown)
+  pub first : IfOk result (λ t. t.first ≡ None → t.more.items ≡ [])
+  pub reply : IfOk result (λ t. t.reply ≡ option_map written move.reply)
+  pub closes : IfOk result (λ t. t.closes ≡ move.closes)
+  pub err : OnErr result (new ≡ old)
+  pub memory : OnErr result (is_quiet move ≡ false)

@@ -1,7 +1,6 @@
 -- What calls and units in memory answer.
-use Rattle.std.specs.Prelude.{◌≡◌, if◌then◌else◌, false, List, [], ◌∷◌, ◌++◌, Option, Some, None, option_map, Result, Ok, Err}
+use Rattle.std.specs.Prelude.{◌≡◌, false, List, [], ◌∷◌, ◌++◌, Option, Some, None, map, option_map, Result, Ok, Err}
 use Rattle.osi_session.specs.declared.faults.CallError.{CallError}
-use Rattle.osi_session.specs.declared.state.State.{State}
 use Rattle.osi_session.specs.declared.calling.Step as memory
 use Rattle.osi_message.specs.Meanings.{Meaning, meant_by}
 use Rattle.osi_session.specs.declared.indications.Indication.{Indication}
@@ -12,7 +11,7 @@ use Rattle.osi_session.specs.declared.grouping.Reactions.{Reactions}
 use Rattle.osi_message.specs.Meanings.{RF, AB, AA}
 use Rattle.osi_session.specs.Shown.{Shown, shown_by}
 use Rattle.osi_session.specs.Allowed.{Step, Answer}
-use Rattle.osi_session.specs.Respond.{Outcome, is_silent, is_resynchronize, replies_abort, respond_unit, and_then}
+use Rattle.osi_session.specs.Respond.{Outcome, is_silent}
 
 abbrev pub step_of : memory.Step → Step
 step_of s = record { next = s.next; sent = meant_by s.sent }
@@ -41,22 +40,14 @@ abbrev pub Reacts : {E : Type 0} → Result Reaction E → Outcome → Type 0
 Reacts (Ok r) outcome = outcome ≡ outcome_of r
 Reacts (Err e) outcome = is_silent outcome ≡ false
 
+-- the first indication, and those after it
+abbrev pub all_shown : Option Indication → List Indication → List Shown
+all_shown first more = shown_list first ++ map shown_by more
+
 abbrev pub outcome_of_all : Reactions → Outcome
 outcome_of_all r = record {
   next = r.next;
-  shown = shown_list r.first ++ shown_list r.second;
+  shown = all_shown r.first r.more.items;
   reply = option_map reply_of r.reply;
   closes = r.closes;
 }
-
--- the same for all units of a TSDU
-abbrev pub ReactsAll : {E : Type 0} → Result Reactions E → Outcome → Type 0
-ReactsAll (Ok r) outcome = outcome ≡ outcome_of_all r
-ReactsAll (Err e) outcome = is_silent outcome ≡ false
-
--- a unit, and the token item in front of it, which acts after it unless the unit is an RS or bad
-unfoldable pub behind_unit : State → Meaning → Meaning → Outcome
-behind_unit s item u =
-    if is_resynchronize u then respond_unit s u
-    else if replies_abort (respond_unit s u).reply then respond_unit s u
-    else and_then (respond_unit s u) (respond_unit (respond_unit s u).next item)

@@ -1,93 +1,129 @@
 //! What the units of a TSDU do, one after the other.
 
-ghost use Rattle.std.specs.Prelude.{◌≡◌};
+ghost use Rattle.std.specs.Prelude.{◌≡◌, ◌||◌, ◌++◌, [], false, None, IfOk, OnOk, OnErr};
 ghost use Rattle.osi_message.specs.Meanings.{meant_by};
-ghost use Rattle.osi_message.specs.Tsdus.{said_in};
-ghost use Rattle.osi_session.specs.Respond.{respond_unit, respond};
-ghost use Rattle.osi_session.specs.Steps.{ReactsAll, behind_unit, outcome_of, outcome_of_all};
+ghost use Rattle.osi_message.specs.Reading.{said_by_units};
+ghost use Rattle.osi_spdu.specs.Groups.{units_of};
+ghost use Rattle.osi_session.specs.Respond.{is_nil, is_silent, nothing, respond_unit, respond, respond_fault, and_then, is_faulty, verdict};
+ghost use Rattle.osi_session.specs.Steps.{all_shown, outcome_of, outcome_of_all, shown_list};
 
+use crate::faults::UnitFault;
 use crate::indications::Indication;
 use crate::reactions::{Reaction, Reply};
 use crate::state::State;
 use crate::taking::{is_restart, take_unit};
-use osi_message::{Message, Messages};
+use osi_message::Message;
+use osi_spdu::{Group, SpduFault};
 use std::alloc::{AllocError, Global};
 
-/// What the units of a TSDU do: at most two indications, and at most one unit that is sent.
+/// What the units of a TSDU do: the state after them, the indications in their order, at most one
+/// unit that is sent, and whether the transport connection is closed.
 #[derive(Drop)]
 pub(crate) struct Reactions {
     pub(crate) next: State,
+    /// The first indication.
     pub(crate) first: Option<Indication>,
-    pub(crate) second: Option<Indication>,
+    /// Those after it.
+    pub(crate) more: Vec<Indication>,
     pub(crate) reply: Option<Reply>,
     pub(crate) closes: bool,
 }
 
 impl Reactions {
     /// Those of a unit that acts alone.
-    pub(crate) fn of(reaction: Reaction) -> Reactions
-        ensures { outcome_of_all result ≡ outcome_of reaction }
+    pub(crate) fn of(alloc: Global, reaction: Reaction) -> Reactions
+        ensures outcome { outcome_of_all result ≡ outcome_of reaction }
+        ensures ordered { result.more.items ≡ [] }
     {
         Reactions {
             next: reaction.next,
             first: reaction.shown,
-            second: None,
+            more: Vec::new(alloc),
             reply: reaction.reply,
             closes: reaction.closes,
         }
     }
-}
 
-/// A unit, and the token item that stands before it and acts after it. Before an RS it does not act,
-/// nor behind a bad unit.
-#[tactic(auto, unfolding(crate::specs::Steps::behind_unit), using(crate::proofs::GroupLaws::first_loud, crate::proofs::GroupLaws::second_loud))]
-fn take_behind(
-    alloc: Global,
-    state: &State,
-    item: Message<'_>,
-    unit: Message<'_>,
-) -> Result<Reactions, AllocError>
-    ensures { ReactsAll result (behind_unit state.now (meant_by item.entry) (meant_by unit.entry)) }
-{
-    let restarts = is_restart(&unit);
-    let first = take_unit(alloc, state, unit)?;
-    if restarts || first.is_bad() {
-        return Ok(Reactions::of(first));
+    /// One indication more, if there is one.
+    fn show(&mut self, shown: Option<Indication>) -> Result<(), AllocError>
+        requires { self.old.first ≡ None → self.old.more.items ≡ [] }
+        ensures shown { OnOk result (all_shown self.new.first self.new.more.items ≡ all_shown self.old.first self.old.more.items ++ shown_list shown) }
+        ensures ordered { OnOk result (self.new.first ≡ None → self.new.more.items ≡ []) }
+        ensures others { OnOk result ((self.new.next ≡ self.old.next) × (self.new.reply ≡ self.old.reply) × (self.new.closes ≡ self.old.closes)) }
+        ensures err { OnErr result (is_nil (shown_list shown) ≡ false) }
+    {
+        let Some(indication) = shown else {
+            return Ok(());
+        };
+        if self.first.is_none() {
+            self.first = Some(indication);
+            return Ok(());
+        }
+        self.more.push(indication)?;
+        Ok(())
     }
-    let second = match take_unit(alloc, &first.next, item) {
-        Ok(second) => second,
-        Err(error) => return Err(error),
-    };
-    Ok(Reactions {
-        next: second.next,
-        first: first.shown,
-        second: second.shown,
-        reply: match first.reply {
-            Some(reply) => Some(reply),
-            None => second.reply,
-        },
-        closes: first.closes || second.closes,
-    })
 }
 
-/// A unit that acts alone.
-fn take_alone(alloc: Global, state: &State, unit: Message<'_>) -> Result<Reactions, AllocError>
-    ensures { ReactsAll result (respond_unit state.now (meant_by unit.entry)) }
-{
-    let reaction = take_unit(alloc, state, unit)?;
-    Ok(Reactions::of(reaction))
-}
-
-/// What the units of a TSDU do.
-pub(crate) fn take_all(
-    alloc: Global,
-    state: &State,
-    messages: Messages<'_>,
-) -> Result<Reactions, AllocError>
-    ensures { ReactsAll result (respond state.now (said_in messages.entry)) }
-{
-    match messages.second {
-        None => take_alone(alloc, state, messages.first),
-        Some(second) => take_behind(alloc, state, messages.first, second),
+impl Reactions {
+    /// What one unit does, behind what was done so far; and whether the unit is bad.
+    fn then(&mut self, alloc: Global, unit: Message<'_>) -> Result<bool, AllocError>
+        requires { self.old.first ≡ None → self.old.more.items ≡ [] }
+        ensures bad { IfOk result (λ b. b ≡ is_faulty (verdict self.old.next (meant_by unit.entry))) }
+        ensures outcome { OnOk result (outcome_of_all self.new ≡ and_then (outcome_of_all self.old) (respond_unit self.old.next (meant_by unit.entry))) }
+        ensures ordered { OnOk result (self.new.first ≡ None → self.new.more.items ≡ []) }
+        ensures err { OnErr result (is_silent (respond_unit self.old.next (meant_by unit.entry)) ≡ false) }
+    {
+        let reaction = take_unit(alloc, &self.next, unit)?;
+        let is_bad = reaction.is_bad();
+        self.show(reaction.shown)?;
+        self.next = reaction.next;
+        self.closes = self.closes || reaction.closes;
+        if self.reply.is_none() {
+            self.reply = reaction.reply;
+        }
+        Ok(is_bad)
     }
+}
+
+/// What the units of a TSDU do, one after the other: the first unit acts after those behind it, and
+/// does not act where one of these is an RS. A bad unit is the last that acts.
+pub(crate) fn take_all(alloc: Global, state: &State, group: &Group) -> Result<Reactions, AllocError>
+    ensures outcome { IfOk result (λ r. outcome_of_all r ≡ respond state.now (said_by_units (units_of group.now))) }
+    ensures ordered { IfOk result (λ r. r.first ≡ None → r.more.items ≡ []) }
+    ensures err { OnErr result (is_silent (respond state.now (said_by_units (units_of group.now))) ≡ false) }
+{
+    let first = Message::of(group.first());
+    let mut behind = group.behind();
+    let mut reactions = Reactions::of(alloc, Reaction::silent(*state));
+    let mut restarts = false;
+    'units: while let Some(unit) = behind.next() {
+        let message = Message::of(&unit);
+        restarts = either(restarts, is_restart(&message));
+        let is_bad = reactions.then(alloc, message)?;
+        if is_bad {
+            return Ok(reactions);
+        }
+    }
+    if restarts {
+        return Ok(reactions);
+    }
+    let _is_bad = reactions.then(alloc, first)?;
+    Ok(reactions)
+}
+
+fn either(one: bool, other: bool) -> bool
+    ensures { result ≡ (one || other) }
+{
+    one || other
+}
+
+/// A TSDU that is no session units: in Aborting and Ended it is discarded unread.
+#[tactic(auto, unfolding(crate::specs::Respond::respond_fault))]
+pub(crate) fn unread(state: &State, fault: SpduFault) -> Reaction
+    ensures { outcome_of result ≡ respond_fault state.now fault }
+{
+    if state.phase.is_over() {
+        return Reaction::silent(*state);
+    }
+    Reaction::bad(state, UnitFault::Spelling(fault))
 }

@@ -3,6 +3,8 @@
 
 ghost use Rattle.std.specs.Prelude.{◌≡◌, ◌+◌, ◌<◌, ◌≤◌, ◌⊎◌, ℕ, true, false, ◌||◌, if◌then◌else◌, length, List, [], ◌∷◌, Some, Ok};
 ghost use Rattle.std.specs.List.{AllByRecursion, list_any};
+ghost use Rattle.std.specs.Int.RustNames.{bit_and};
+ghost use Rattle.osi_session.specs.declared.faults.UnitFault.{UnitFault};
 ghost use Rattle.osi_spdu.specs.declared.fields.ResyncType.{ResyncType};
 ghost use Rattle.osi_spdu.specs.declared.settings.TokenSetting.{TokenSetting};
 ghost use Rattle.osi_spdu.specs.Known.{Units};
@@ -12,19 +14,19 @@ ghost use Rattle.osi_session.specs.declared.state.State.{State};
 ghost use Rattle.osi_message.specs.declared.tokens.Tokens.{Tokens};
 ghost use Rattle.osi_session.specs.Allowed.{Step, allowed, Passed};
 ghost use Rattle.osi_session.specs.Calls.{Call, Give, MinorConfirm, HasSerial, called_by};
-ghost use Rattle.osi_session.specs.Causes.{opens_connection, call_gives, unit_gives, renews};
+ghost use Rattle.osi_session.specs.Causes.{opens_connection, call_gives, unit_gives, call_holds, unit_holds, renews};
 ghost use Rattle.osi_message.specs.Meanings.{Meaning, MIA, RS};
 ghost use Rattle.osi_session.specs.Numbers.{lower};
 ghost use Rattle.osi_session.specs.Phases.{is_over, is_ended, is_restarting, is_restart_due, may_hold};
 ghost use Rattle.osi_message.specs.Reading.{Said, alone, behind, said_by_units};
-ghost use Rattle.osi_session.specs.Moves.{Input, called, taken, Standing, after_input, after_inputs};
-ghost use Rattle.osi_session.specs.Respond.{nothing, respond_unit, respond, stands, drops, verdict, enacted, fine, IsGood, has_no_effect, is_token_item, is_resynchronize, and_then};
+ghost use Rattle.osi_session.specs.Moves.{Input, called, taken, Standing, in_state, after_input, after_inputs};
+ghost use Rattle.osi_session.specs.Respond.{nothing, bad, becomes, respond_unit, respond_all, respond, stands, drops, verdict, enacted, fine, IsGood, has_no_effect, is_token_item, is_resynchronize, and_then};
 ghost use Rattle.osi_session.specs.Restarts.{HasAsked, AreCrossed, after_restart};
 ghost use Rattle.osi_session.specs.Runs.{HasNumbers, IsFresh};
-ghost use Rattle.osi_session.specs.Sessions.{awaiting, asking};
+ghost use Rattle.osi_session.specs.Sessions.{awaiting, asking, Planned, IsPlanOf};
 ghost use Rattle.osi_session.specs.Shown.{MinorConfirmed};
 ghost use Rattle.osi_session.specs.Sound.{IsSound};
-ghost use Rattle.osi_message.specs.Tokens.{Token, has};
+ghost use Rattle.osi_message.specs.Tokens.{Token, has, is_disjoint, token_octet};
 ghost use Rattle.osi_session.specs.Openings.{asked_for};
 ghost use Rattle.osi_message.specs.Sendable.{IsSendable, said_of};
 
@@ -44,10 +46,12 @@ pub fn what_becomes_of_a_unit()
     ensures good { (s : State) (u : Meaning) → is_over s.phase ≡ false → drops s u ≡ false → IsGood s u → verdict s u ≡ fine }
 {}
 
-/// A token item that names no token changes nothing, in a TSDU of its own or in front of a unit; so
+/// A token item that names no token changes nothing, in a TSDU of its own or in front of units; so
 /// what is said of a unit does what the unit does.
 pub fn an_empty_token_item_changes_nothing()
     ensures item { (s : State) (item : Meaning) → has_no_effect item ≡ true → respond_unit s item ≡ nothing s }
+    ensures units { (s : State) (item : Meaning) (units : List Meaning) → has_no_effect item ≡ true →
+        respond s (item ∷ units) ≡ respond_all s units }
     ensures in_front { (s : State) (item u : Meaning) → has_no_effect item ≡ true → respond s (behind item u) ≡ respond_unit s u }
     ensures said { (s : State) (u : Meaning) → respond s (said_of u) ≡ respond_unit s u }
 {}
@@ -109,6 +113,23 @@ pub fn a_token_is_not_given_and_kept()
         (has s.held t || call_gives s c t) ≡ true }
     ensures unit { (s : State) (u : Meaning) (t : Token) → has (respond_unit s u).next.held t ≡ true →
         (has s.held t || unit_gives s u t) ≡ true }
+{}
+
+/// Exactly which tokens are held after an accepted call, after a good unit, and after a bad one; and sets
+/// without a common token have octets without a common bit.
+pub fn what_is_held()
+    ensures call { (s : State) (c : Call) (x : Step) (t : Token) → allowed s c ≡ Ok x → has x.next.held t ≡ call_holds s c t }
+    ensures good { (s : State) (u : Meaning) (t : Token) → has (becomes s u).held t ≡ unit_holds s u t }
+    ensures bad { (s : State) (fault : UnitFault) (t : Token) → has (bad s fault).next.held t ≡ false }
+    ensures octets { (a b : Tokens) → is_disjoint a b ≡ true → bit_and (token_octet a) (token_octet b) ≡ 0 }
+{}
+
+/// What a plan leaves once it is done is the move of the call that was planned, so that the laws over
+/// lists of inputs hold of runs with plans; and a session that is aborted or ended has no plan.
+pub fn a_plan_is_its_call()
+    ensures step { (s : Standing) (call : Call) (plan : Planned) → IsPlanOf s call plan →
+        in_state s plan.next ≡ after_input s (called call) }
+    ensures live { (s : Standing) (call : Call) (plan : Planned) → IsPlanOf s call plan → is_over s.state.phase ≡ false }
 {}
 
 /// Two restarts that cross: the lower number stands at both sides, and of equal numbers the caller's.

@@ -5,7 +5,7 @@ use osi_message::Sent;
 use std::marker::Model;
 
 /// What a call would do: the state after it, and the TSDU that it sends. It is made by
-/// `Session::plan` and done by `Session::commit`.
+/// `Session::plan` and done by `Session::commit`, before anything else happens to the session.
 #[derive(Drop)]
 pub struct Plan {
     pub(crate) next: State,

@@ -3,7 +3,7 @@ use osi_spdu::{Requirements, Serial, TokenSet, TokenSetting};
 
 /// A call of the user of a session (X.215 section 10, requests and responses). User data is at most
 /// 10,240 octets, and may be empty.
-#[derive(Clone, Copy, Debug)]
+#[derive(Clone, Copy)]
 pub enum Request<'a> {
     /// Accepts the connection (AC).
     Accept {

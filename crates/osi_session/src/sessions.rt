@@ -1,10 +1,13 @@
-ghost use Rattle.std.specs.Prelude.{◌≡◌, false, option_map, is_none, IfOk, OnErr};
+ghost use Rattle.std.specs.Prelude.{◌≡◌, ◌<◌, false, length, option_map, is_none, Some, IfOk, OnErr};
+ghost use Rattle.osi_session.specs.Openings.{asked_for};
+ghost use Rattle.osi_session.specs.Sessions.{unit_in};
 ghost use Rattle.osi_session.specs.Steps.{reply_of};
-ghost use Rattle.osi_message.specs.Written.{written};
+ghost use Rattle.osi_message.specs.Meanings.{meant_by};
+ghost use Rattle.osi_message.specs.Written.{written, user_data_of};
 
 use crate::calling::{MOST_USER_DATA, decide};
-use crate::faults::{CallError, UnitFault};
-use crate::grouping::{Reactions, take_all};
+use crate::faults::CallError;
+use crate::grouping::{Reactions, take_all, unread};
 use crate::indications::Indication;
 use crate::opening::Opening;
 use crate::phases::Phase;
@@ -14,7 +17,7 @@ use crate::requests::Request;
 use crate::selected::is_profile;
 use crate::state::State;
 use crate::taken::Taken;
-use osi_message::{Messages, Sent};
+use osi_message::{Message, Sent, laws};
 use osi_spdu::{Group, SpduFault, TokenSet};
 use std::alloc::{AllocError, Global};
 use std::marker::Model;
@@ -31,19 +34,24 @@ pub struct Session {
 }
 
 impl Model for Session {
-    ghost use Rattle.std.specs.Prelude.{◌≡◌, true, IsSome};
+    ghost use Rattle.std.specs.Prelude.{◌≡◌, true, IsSome, option_map};
+    ghost use Rattle.std.specs.Option.{option_and_then};
+    ghost use Rattle.osi_message.specs.Written.{written};
     ghost use Rattle.osi_session.specs.Phases.{is_wait_transport};
-    ghost use Rattle.osi_session.specs.Sessions.{Standing};
+    ghost use Rattle.osi_session.specs.Moves.{Standing};
+    ghost use Rattle.osi_session.specs.Sessions.{unit_in};
     ghost use Rattle.osi_session.specs.Sound.{IsSound};
 
     ghost Value = { Standing };
 
-    ghost view = { λ s. record { state = s.state; waiting = s.waiting } };
+    ghost view = { λ s. record { state = s.state; waiting = option_and_then unit_in s.waiting } };
 
-    ghost invariant = { λ s. IsSound s.state × (is_wait_transport s.state.phase ≡ true → IsSome s.waiting) };
+    ghost invariant = { λ s. IsSound s.state × (is_wait_transport s.state.phase ≡ true → IsSome s.waiting)
+        × (option_map written (option_and_then unit_in s.waiting) ≡ s.waiting) };
 }
 
 /// The octets of an answer, if there is one. Want of memory comes only where there is.
+#[inline(never)]
 fn written_reply(alloc: Global, reply: Option<Reply>) -> Result<Option<Sent>, AllocError>
     ensures ok { IfOk result (λ s. s ≡ option_map written (option_map reply_of reply)) }
     ensures err { OnErr result (is_none (option_map reply_of reply) ≡ false) }
@@ -51,28 +59,42 @@ fn written_reply(alloc: Global, reply: Option<Reply>) -> Result<Option<Sent>, Al
     let Some(reply) = reply else {
         return Ok(None);
     };
-    let sent = Sent::written(alloc, &reply.message().group())?;
+    let sent = written_message(alloc, reply.message())?;
     Ok(Some(sent))
 }
 
+/// The octets in which a message is sent.
+fn written_message(alloc: Global, message: Message<'_>) -> Result<Sent, AllocError>
+    requires { length (user_data_of (meant_by message)) < 65000 }
+    ensures { IfOk result (λ s. s ≡ written (meant_by message.entry)) }
+{
+    Sent::written(alloc, &message.group())
+}
+
+/// The CN of a caller, which is read as it.
+fn written_connect(alloc: Global, opening: &Opening) -> Result<Sent, AllocError>
+    requires { length opening.now.user_data.now < 65000 }
+    ensures octets { IfOk result (λ s. s ≡ written (asked_for opening.now)) }
+    ensures read { IfOk result (λ s. unit_in s ≡ Some (asked_for opening.now)) }
+{
+    laws::what_is_sent_is_read();
+    let sent = written_message(alloc, opening.message())?;
+    Ok(sent)
+}
+
 impl Session {
-    ghost use Rattle.std.specs.Prelude.{true};
+    ghost use Rattle.std.specs.Prelude.{◌≡◌, ◌++◌, [], true, false, map, option_map, None, Some, IsSome, IfOk, OnOk, IfErr, OnErr, is_none, ◌&&◌};
     ghost use Rattle.osi_spdu.specs.Groups.{units_of};
-    ghost use Rattle.osi_session.specs.Phases.{is_wait_transport};
     ghost use Rattle.osi_message.specs.Reading.{said_by_units};
-    ghost use Rattle.osi_session.specs.Respond.{respond, respond_fault};
-    ghost use Rattle.osi_session.specs.Sessions.{Opens, opens, Takes};
-    ghost use Rattle.osi_session.specs.Sound.{IsSound};
-    ghost use Rattle.osi_session.specs.Steps.{outcome_of_all};
-    ghost use Rattle.std.specs.Prelude.{◌≡◌, option_map, None};
-    ghost use Rattle.osi_session.specs.Allowed.{allowed};
+    ghost use Rattle.osi_message.specs.Tokens.{named, token_octet};
     ghost use Rattle.osi_session.specs.Calls.{called_by};
-    ghost use Rattle.osi_session.specs.Sessions.{Plans, Calls, awaiting, after_opened, sent_at_opened, after_refused, shown_at_refused};
-    ghost use Rattle.osi_session.specs.Respond.{lost};
+    ghost use Rattle.osi_session.specs.Moves.{called, taken, unread, opened, refused, broken, in_state, react};
+    ghost use Rattle.osi_session.specs.Phases.{is_wait_transport};
+    ghost use Rattle.osi_session.specs.Respond.{is_nil};
+    ghost use Rattle.osi_session.specs.Sessions.{Refused, CanBeSent, IsPlanned, opens, refusal_of, awaits, shown_in, is_quiet};
     ghost use Rattle.osi_session.specs.Shown.{shown_by};
-    ghost use Rattle.osi_session.specs.Steps.{shown_list};
-    ghost use Rattle.osi_message.specs.Tokens.{token_octet};
-    ghost use Rattle.osi_session.specs.State.{without_tokens};
+    ghost use Rattle.osi_session.specs.Sound.{IsSound};
+    ghost use Rattle.osi_session.specs.Steps.{shown_list, outcome_of_all};
 
     /// The calling side: the CN is made, and is sent once the transport connection is there.
     ///
@@ -81,7 +103,9 @@ impl Session {
     /// 10,240 octets of user data, then `OutOfMemory`.
     #[tactic(auto, using(crate::proofs::SessionLaws::asking_sound))]
     pub fn caller(alloc: Global, opening: &Opening) -> Result<Session, CallError>
-        ensures { Opens result (opens opening.now) }
+        ensures begins { IfOk result (λ s. s ≡ opens opening.now) }
+        ensures accepted { OnOk result (refusal_of opening.now ≡ None) }
+        ensures refused { IfErr result (λ e. Refused e (refusal_of opening.now)) }
     {
         if !is_profile(opening.requirements) {
             return Err(CallError::NotSelected);
@@ -89,8 +113,7 @@ impl Session {
         if opening.user_data.len() > MOST_USER_DATA {
             return Err(CallError::TooLong);
         }
-        let group = opening.message().group();
-        match Sent::written(alloc, &group) {
+        match written_connect(alloc, opening) {
             Ok(sent) => Ok(Session {
                 alloc,
                 state: State::asking(opening),
@@ -103,7 +126,7 @@ impl Session {
     /// The called side, which awaits a CN.
     #[tactic(auto, using(crate::proofs::SessionLaws::awaiting_sound))]
     pub fn called(alloc: Global) -> Session
-        ensures { result ≡ record { state = awaiting; waiting = None } }
+        ensures { result ≡ awaits }
     {
         Session {
             alloc,
@@ -114,9 +137,10 @@ impl Session {
 
     /// The transport connection is there: the CN that is to be sent now. `None` in any phase but
     /// WaitTransport, in which nothing changes.
+    #[tactic(auto, unfolding(crate::specs::Moves::react))]
     pub fn opened(&mut self) -> Option<Sent>
-        ensures sent { result ≡ sent_at_opened self.old }
-        ensures next { self.new ≡ after_opened self.old }
+        ensures state { self.new ≡ (react self.old opened).next }
+        ensures sent { result ≡ option_map written (react self.old opened).reply }
     {
         if !self.state.phase.is_wait_transport() {
             return None;
@@ -127,9 +151,10 @@ impl Session {
 
     /// There is no transport connection, for this reason (X.224 section 13.5.3). `None` in any
     /// phase but WaitTransport, in which nothing changes.
+    #[tactic(auto, unfolding(crate::specs::Moves::react))]
     pub fn refused(&mut self, reason: u8) -> Option<Indication>
-        ensures shown { option_map shown_by result ≡ shown_at_refused reason self.old }
-        ensures next { self.new ≡ after_refused self.old }
+        ensures state { self.new ≡ (react self.old (refused reason)).next }
+        ensures shown { shown_list result ≡ (react self.old (refused reason)).shown }
     {
         if !self.state.phase.is_wait_transport() {
             return None;
@@ -139,13 +164,16 @@ impl Session {
     }
 
     /// What a call of the user would do; nothing changes.
-    #[tactic(auto, using(crate::proofs::CallLaws::refused))]
+    #[tactic(auto, using(crate::proofs::CallLaws::refused, crate::proofs::CallLaws::wanting, crate::proofs::MoveLaws::call_next, crate::proofs::MoveLaws::call_sends))]
     pub fn plan(&self, request: Request) -> Result<Plan, CallError>
-        ensures { Plans result (allowed self.now.state (called_by request.entry)) }
+        ensures state { IfOk result (λ p. (react self.now (called (called_by request.entry))).next ≡ in_state self.now p.next) }
+        ensures sent { IfOk result (λ p. option_map written (react self.now (called (called_by request.entry))).reply ≡ Some p.sent) }
+        ensures planned { IfOk result (λ p. IsPlanned self.now p) }
+        ensures sendable { OnOk result (CanBeSent (react self.now (called (called_by request.entry))).reply) }
+        ensures refused { IfErr result (λ e. Refused e (react self.now (called (called_by request.entry))).error) }
     {
         let step = decide(&self.state, request)?;
-        let group = step.sent.group();
-        match Sent::written(self.alloc, &group) {
+        match written_message(self.alloc, step.sent) {
             Ok(sent) => Ok(Plan {
                 next: step.next,
                 sent,
@@ -155,11 +183,12 @@ impl Session {
     }
 
     /// Does what was planned, and takes no memory: the state is the plan's, and the TSDU is to be
-    /// sent. A plan is good until the session changes.
+    /// sent. The plan is that of a call which the session would accept now: nothing has happened to it
+    /// since the plan was made, so no plan brings an ended session back.
     pub fn commit(&mut self, plan: Plan) -> Sent
+        requires { IsPlanned self.old plan }
+        ensures state { self.new ≡ in_state self.old plan.next }
         ensures sent { result ≡ plan.sent }
-        ensures state { self.new.state ≡ plan.next }
-        ensures waiting { self.new.waiting ≡ self.old.waiting }
     {
         self.state = plan.next;
         plan.sent
@@ -168,37 +197,54 @@ impl Session {
     /// A call of the user (X.225 section 7): the TSDU that is to be sent, or the first error that
     /// applies. A call that is refused changes nothing, and `OutOfMemory` comes only where no other
     /// error does.
+    #[tactic(auto, using(crate::proofs::CallLaws::refused, crate::proofs::CallLaws::wanting, crate::proofs::MoveLaws::call_leaves, crate::proofs::MoveLaws::call_sends))]
     pub fn call(&mut self, request: Request) -> Result<Sent, CallError>
-        ensures { Calls result (allowed self.old.state (called_by request.entry)) self.old self.new }
+        ensures state { OnOk result (self.new ≡ (react self.old (called (called_by request.entry))).next) }
+        ensures sent { IfOk result (λ s. option_map written (react self.old (called (called_by request.entry))).reply ≡ Some s) }
+        ensures sendable { OnOk result (CanBeSent (react self.old (called (called_by request.entry))).reply) }
+        ensures refused { IfErr result (λ e. Refused e (react self.old (called (called_by request.entry))).error) }
+        ensures err { OnErr result (self.new ≡ self.old) }
     {
-        let plan = self.plan(request)?;
-        Ok(self.commit(plan))
+        let step = decide(&self.state, request)?;
+        match written_message(self.alloc, step.sent) {
+            Ok(sent) => {
+                self.state = step.next;
+                Ok(sent)
+            }
+            Err(_) => Err(CallError::OutOfMemory),
+        }
     }
 
     /// The units of a TSDU that came: the indications, the TSDU to send, and whether the transport
     /// connection is closed (X.225 section 7). `Err` changes nothing, and comes only where
     /// something is shown or sent.
-    #[tactic(auto, using(crate::proofs::SessionLaws::group_sound, crate::proofs::SessionLaws::group_begun))]
     pub fn take(&mut self, group: &Group) -> Result<Taken, AllocError>
-        ensures { Takes result (respond self.old.state (said_by_units (units_of group.now))) self.old self.new }
+        ensures state { OnOk result (self.new ≡ (react self.old (taken (said_by_units (units_of group.now)))).next) }
+        ensures shown { IfOk result (λ t. shown_in t ≡ (react self.old (taken (said_by_units (units_of group.now)))).shown) }
+        // the first indication stands in the first place
+        ensures first { IfOk result (λ t. t.first ≡ None → t.more.items ≡ []) }
+        ensures reply { IfOk result (λ t. t.reply ≡ option_map written (react self.old (taken (said_by_units (units_of group.now)))).reply) }
+        ensures closes { IfOk result (λ t. t.closes ≡ (react self.old (taken (said_by_units (units_of group.now)))).closes) }
+        ensures err { OnErr result (self.new ≡ self.old) }
+        ensures memory { OnErr result (is_quiet (react self.old (taken (said_by_units (units_of group.now)))) ≡ false) }
     {
-        let messages = Messages::of(group);
-        let reactions = take_all(self.alloc, &self.state, messages)?;
+        let reactions = take_all(self.alloc, &self.state, group)?;
         self.settle(reactions)
     }
 
     /// A TSDU came that is no session units. In Aborting and Ended it is discarded unread; else it
     /// is answered by AB, and the user is shown why. `Err` changes nothing.
-    #[tactic(auto, unfolding(crate::specs::Respond::respond_fault))]
     pub fn take_bad(&mut self, fault: SpduFault) -> Result<Taken, AllocError>
-        ensures { Takes result (respond_fault self.old.state fault) self.old self.new }
+        ensures state { OnOk result (self.new ≡ (react self.old (unread fault)).next) }
+        ensures shown { IfOk result (λ t. shown_in t ≡ (react self.old (unread fault)).shown) }
+        ensures first { IfOk result (λ t. t.first ≡ None → t.more.items ≡ []) }
+        ensures reply { IfOk result (λ t. t.reply ≡ option_map written (react self.old (unread fault)).reply) }
+        ensures closes { IfOk result (λ t. t.closes ≡ (react self.old (unread fault)).closes) }
+        ensures err { OnErr result (self.new ≡ self.old) }
+        ensures memory { OnErr result (is_quiet (react self.old (unread fault)) ≡ false) }
     {
-        if self.state.phase.is_over() {
-            let reaction = Reaction::silent(self.state);
-            return self.settle(Reactions::of(reaction));
-        }
-        let reaction = Reaction::bad(&self.state, UnitFault::Spelling(fault));
-        self.settle(Reactions::of(reaction))
+        let reactions = Reactions::of(self.alloc, unread(&self.state, fault));
+        self.settle(reactions)
     }
 
     /// Sends the answer, if there is one, and takes the new state.
@@ -206,7 +252,14 @@ impl Session {
     fn settle(&mut self, reactions: Reactions) -> Result<Taken, AllocError>
         requires sound { IsSound reactions.next }
         requires begun { is_wait_transport reactions.next.phase ≡ true → is_wait_transport self.old.state.phase ≡ true }
-        ensures { Takes result (outcome_of_all reactions) self.old self.new }
+        requires ordered { reactions.first ≡ None → reactions.more.items ≡ [] }
+        ensures state { OnOk result (self.new ≡ in_state self.old reactions.next) }
+        ensures shown { IfOk result (λ t. shown_in t ≡ (outcome_of_all reactions).shown) }
+        ensures first { IfOk result (λ t. t.first ≡ None → t.more.items ≡ []) }
+        ensures reply { IfOk result (λ t. t.reply ≡ option_map written (outcome_of_all reactions).reply) }
+        ensures closes { IfOk result (λ t. t.closes ≡ reactions.closes) }
+        ensures err { OnErr result (self.new ≡ self.old) }
+        ensures memory { OnErr result ((is_nil (outcome_of_all reactions).shown && is_none (outcome_of_all reactions).reply) ≡ false) }
     {
         let reply = match written_reply(self.alloc, reactions.reply) {
             Ok(reply) => reply,
@@ -215,7 +268,7 @@ impl Session {
         self.state = reactions.next;
         Ok(Taken {
             first: reactions.first,
-            second: reactions.second,
+            more: reactions.more,
             reply,
             closes: reactions.closes,
         })
@@ -223,10 +276,10 @@ impl Session {
 
     /// The transport connection was closed or broken, or had a fault. The user is shown it except
     /// before a CN was taken and after an abort; the connection is gone.
+    #[tactic(auto, unfolding(crate::specs::Moves::react))]
     pub fn broken(&mut self) -> Option<Indication>
-        ensures shown { shown_list result ≡ (lost self.old.state).shown }
-        ensures state { self.new.state ≡ (lost self.old.state).next }
-        ensures waiting { self.new.waiting ≡ self.old.waiting }
+        ensures state { self.new ≡ (react self.old broken).next }
+        ensures shown { shown_list result ≡ (react self.old broken).shown }
     {
         let reaction = Reaction::lost(&self.state);
         self.state = reaction.next;
@@ -235,14 +288,18 @@ impl Session {
 
     /// The tokens that this side holds.
     pub fn held(&self) -> TokenSet
-        ensures { result.0 ≡ token_octet self.now.state.held }
+        ensures octet { result.0 ≡ token_octet self.now.state.held }
+        ensures set { named result.0 ≡ self.now.state.held }
     {
         self.state.held.set()
     }
 
-    /// Where the connection stands.
+    /// Where the connection stands. Its numbers are in order and its tokens in their phases, and in
+    /// WaitTransport a CN waits.
     pub fn phase(&self) -> Phase
-        ensures { result ≡ self.now.state.phase }
+        ensures value { result ≡ self.now.state.phase }
+        ensures sound { IsSound self.now.state }
+        ensures waiting { is_wait_transport self.now.state.phase ≡ true → IsSome self.now.waiting }
     {
         self.state.phase
     }

@@ -10,7 +10,7 @@ use osi_message::Tokens;
 use osi_spdu::{TokenSetting, Wish};
 
 /// What a session knows, apart from octets.
-#[derive(Clone, Copy, Debug)]
+#[derive(Clone, Copy)]
 pub(crate) struct State {
     pub(crate) phase: Phase,
     /// This end asked for the connection.

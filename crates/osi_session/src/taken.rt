@@ -1,14 +1,15 @@
 use crate::indications::Indication;
 use osi_message::Sent;
 
-/// What a taken TSDU does, besides the new state: the indications in their order, at most one TSDU
-/// to send, and whether the transport connection is closed, with reason 128.
+/// What a taken TSDU does, besides the new state: the indications in their order, at most one for
+/// each unit, at most one TSDU to send, and whether the transport connection is closed, with reason
+/// 128.
 #[derive(Drop)]
 pub struct Taken {
     /// What the user is shown first.
     pub first: Option<Indication>,
-    /// What the user is shown then; only where a token item stands before the unit of `first`.
-    pub second: Option<Indication>,
+    /// What the user is shown after it, in order: at most 16 indications.
+    pub more: Vec<Indication>,
     /// The TSDU that is sent.
     pub reply: Option<Sent>,
     /// The transport connection is closed.

@@ -170,6 +170,22 @@ pub(crate) fn is_shown(
     }
 }
 
+/// The first of these indications is this one.
+pub(crate) fn is_first(indications: &Vec<Indication>, want: &str, number: u32) -> Result<(), Fail> {
+    match indications.as_slice().first() {
+        Some(indication) if summary(indication) == (want, number) => Ok(()),
+        _ => Err(Fail::from("another indication")),
+    }
+}
+
+/// The first of these indications is data, and owns these octets.
+pub(crate) fn owns_data(indications: &Vec<Indication>, want: &[u8]) -> Result<(), Fail> {
+    match indications.as_slice().first() {
+        Some(Indication::Data { user_data }) => same(user_data.as_slice(), want),
+        _ => Err(Fail::from("no data")),
+    }
+}
+
 /// The TSDU shows this and no more, without an answer; the transport connection stays.
 pub(crate) fn shows(
     session: &mut Session,
@@ -179,7 +195,7 @@ pub(crate) fn shows(
 ) -> Result<(), Fail> {
     let taken = takes(session, octets)?;
     is_shown(&taken.first, want, number)?;
-    if taken.second.is_some() || taken.reply.is_some() || taken.closes {
+    if !taken.more.is_empty() || taken.reply.is_some() || taken.closes {
         return Err(Fail::from("more than was expected"));
     }
     Ok(())

@@ -432,8 +432,48 @@ fn a_token_item_acts_after_the_unit_behind_it(rt: HostRuntime) -> Result<(), Fai
     let octets = [0x01, 0x03, 0x10, 0x01, 0x01, 0x01, 0x00, 0x41];
     let taken = takes(&mut ends.right, &octets)?;
     is_shown(&taken.first, "Data", 0)?;
-    is_shown(&taken.second, "Given", 0x01)?;
+    is_first(&taken.more, "Given", 0x01)?;
     holds(&ends.right, 0x01)
+}
+
+#[test]
+fn units_act_in_their_order(rt: HostRuntime) -> Result<(), Fail> {
+    let mut ends = connected(rt.alloc(), ALL_UNITS, 1)?;
+    ends.left.call(minor(true))?;
+    ends.left.call(give(0x01))?;
+    let octets = [
+        0x01, 0x00, 0x32, 0x03, 0x2A, 0x01, 0x31, 0x01, 0x00, 0x41, 0x42,
+    ];
+    let taken = takes(&mut ends.left, &octets)?;
+    is_shown(&taken.first, "MinorConfirmed", 1)?;
+    is_first(&taken.more, "Data", 0)?;
+    owns_data(&taken.more, &[0x41, 0x42])
+}
+
+#[test]
+fn a_bad_unit_is_the_last_that_acts(rt: HostRuntime) -> Result<(), Fail> {
+    let mut ends = connected(rt.alloc(), ALL_UNITS, 1)?;
+    let octets = [
+        0x01, 0x03, 0x10, 0x01, 0x01, 0x31, 0x03, 0x2A, 0x01, 0x31, 0x31, 0x03, 0x2A, 0x01, 0x31,
+    ];
+    let taken = takes(&mut ends.right, &octets)?;
+    is_shown(&taken.first, "Minor", 1)?;
+    is_first(&taken.more, "BadNumber", 0)?;
+    replies(&taken, &PROTOCOL_ERROR)?;
+    holds(&ends.right, 0x00)?;
+    is_in(&ends.right, Phase::Aborting)
+}
+
+#[test]
+fn a_token_item_before_a_restart_does_not_act(rt: HostRuntime) -> Result<(), Fail> {
+    let mut ends = connected(rt.alloc(), ALL_UNITS, 1)?;
+    let octets = [
+        0x01, 0x03, 0x10, 0x01, 0x55, 0x35, 0x06, 0x1B, 0x01, 0x00, 0x2A, 0x01, 0x31,
+    ];
+    let taken = takes(&mut ends.right, &octets)?;
+    is_shown(&taken.first, "Restart", 1)?;
+    assert!(rt; taken.more.is_empty() && taken.reply.is_none());
+    holds(&ends.right, 0x00)
 }
 
 fn plan_goes_on(left: &mut Session) -> Result<(), Fail> {

@@ -1,13 +1,54 @@
+use Rattle.std.proofs.Common.{◌≡◌, ◌∙◌, ap, subst, sym, Some, None, option_map}
+use Rattle.std.specs.Option.{option_and_then}
+use Rattle.osi_message.specs.Written.{written}
 use Rattle.osi_session.specs.Calls.{called_by}
+use Rattle.osi_session.specs.Moves.{called, Standing, in_state, react}
+use Rattle.osi_session.specs.Sessions.{CanBeSent, unit_in}
 use Rattle.osi_session.specs.Steps.{step_of}
 use Rattle.osi_session.proofs.CallLaws.{sent_short}
-use Rattle.osi_session.proofs.SessionLaws.{request_sound, request_begun}
+use Rattle.osi_session.proofs.MoveLaws.{call_next, call_sends, call_passes, plan_of}
+use Rattle.osi_session.proofs.SendableLaws.{call_sendable}
+use Rattle.osi_session.proofs.SessionLaws.{request_small, request_sound, request_begun}
 use Rattle.osi_session.proofs.sessions.Session.plan.Goals as goal
 
 -- what an accepted call sends is short
-pub written-requires : goal.written-requires
-written-requires c = c.group-group.ensures.fits
-    (sent_short c.self.inside.state (called_by c.args.request) (step_of c.in_ok-step.step) c.in_ok-step.ensures)
+pub written_message-requires : goal.written_message-requires
+written_message-requires c =
+    sent_short c.self.inside.state (called_by c.args.request) (step_of c.in_ok-step.step) c.in_ok-step.ensures
+
+pub returns-in-Ok-clause-sent : goal.returns-in-Ok-clause-sent
+returns-in-Ok-clause-sent c =
+    let v : Standing = record { state = c.self.inside.state; waiting = option_and_then unit_in c.self.inside.waiting } in
+    let k = called_by c.args.request in
+    let x = step_of c.in_ok-step.step in
+    ap (λ (s : Standing). option_map written (react s (called k)).reply) (sym c.self.view_is) ∙ call_sends v k x c.in_ok-step.ensures ∙ ap Some (sym c.in-Ok.ensures)
+
+pub returns-in-Ok-clause-sendable : goal.returns-in-Ok-clause-sendable
+returns-in-Ok-clause-sendable c =
+    let v : Standing = record { state = c.self.inside.state; waiting = option_and_then unit_in c.self.inside.waiting } in
+    let k = called_by c.args.request in
+    let x = step_of c.in_ok-step.step in
+    subst (λ (s : Standing). CanBeSent (react s (called k)).reply) c.self.view_is
+    (call_sendable v k x c.self.invariant.0 (request_small c.args.request) c.in_ok-step.ensures)
+
+pub returns-in-Err-clause-refused : goal.returns-in-Err-clause-refused
+returns-in-Err-clause-refused c =
+    let v : Standing = record { state = c.self.inside.state; waiting = option_and_then unit_in c.self.inside.waiting } in
+    let k = called_by c.args.request in
+    let x = step_of c.in_ok-step.step in
+    subst (λ (s : Standing). (react s (called k)).error ≡ None) c.self.view_is (call_passes v k x c.in_ok-step.ensures)
+
+pub returns-in-Ok-clause-state : goal.returns-in-Ok-clause-state
+returns-in-Ok-clause-state c =
+    let v : Standing = record { state = c.self.inside.state; waiting = option_and_then unit_in c.self.inside.waiting } in
+    let k = called_by c.args.request in
+    let x = step_of c.in_ok-step.step in
+    subst (λ (s : Standing). (react s (called k)).next ≡ in_state s c.in_ok-step.step.next) c.self.view_is (call_next v k x c.in_ok-step.ensures)
+
+pub returns-in-Ok-clause-planned : goal.returns-in-Ok-clause-planned
+returns-in-Ok-clause-planned c =
+    plan_of c.args.self.now (called_by c.args.request) (record { next = c.in_ok-step.step.next; sent = c.in-Ok.sent })
+    (returns-in-Ok-clause-state c) (returns-in-Ok-clause-sent c)
 
 pub invariant_of-result : goal.invariant_of-result
 invariant_of-result c = (

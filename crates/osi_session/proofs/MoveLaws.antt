@@ -1,0 +1,71 @@
+-- The move of each thing, from what the tables answer.
+use Rattle.std.proofs.Common.{inl, inr, ◌≡◌, refl, sym, ◌∙◌, ap, ℕ, true, false, List, Some, None, option_map, Ok, Err}
+use Rattle.osi_spdu.specs.declared.faults.SpduFault.{SpduFault}
+use Rattle.osi_session.specs.declared.state.State.{State}
+use Rattle.osi_session.specs.declared.faults.CallError.{CallError}
+use Rattle.osi_message.specs.Reading.{Said}
+use Rattle.osi_message.specs.Written.{written}
+use Rattle.osi_session.specs.Calls.{Call}
+use Rattle.osi_session.specs.Allowed.{Step, Answer, allowed}
+use Rattle.osi_session.specs.Respond.{Outcome, respond, respond_fault}
+use Rattle.osi_session.specs.Moves.{called, taken, unread, Standing, Move, in_state, answered, moved, react, after_input}
+use Rattle.osi_session.specs.Sessions.{Planned, IsPlanOf, IsPlanned}
+use Rattle.osi_session.specs.declared.faults.CallError.TheVariants as error
+use Rattle.std.proofs.lemmas.Bool.{cases_Bool}
+use Rattle.osi_session.specs.Phases.{is_over}
+
+pub call_is : (s : Standing) (c : Call) (a : Answer) → allowed s.state c ≡ a → react s (called c) ≡ answered s a
+unfolding react
+call_is s c a e = ap (answered s) e
+
+pub call_next : (s : Standing) (c : Call) (x : Step) → allowed s.state c ≡ Ok x → (react s (called c)).next ≡ in_state s x.next
+call_next s c x e = ap (λ (m : Move). m.next) (call_is s c (Ok x) e)
+
+pub call_leaves : (s : Standing) (c : Call) (x : Step) → allowed s.state c ≡ Ok x → in_state s x.next ≡ (react s (called c)).next
+call_leaves s c x e = sym (call_next s c x e)
+
+pub call_sends : (s : Standing) (c : Call) (x : Step) → allowed s.state c ≡ Ok x → option_map written (react s (called c)).reply ≡ Some (written x.sent)
+call_sends s c x e = ap (λ (m : Move). option_map written m.reply) (call_is s c (Ok x) e)
+
+pub call_reply : (s : Standing) (c : Call) (x : Step) → allowed s.state c ≡ Ok x → (react s (called c)).reply ≡ Some x.sent
+call_reply s c x e = ap (λ (m : Move). m.reply) (call_is s c (Ok x) e)
+
+pub call_errs : (s : Standing) (c : Call) (e : CallError) → allowed s.state c ≡ Err e → (react s (called c)).error ≡ Some e
+call_errs s c e h = ap (λ (m : Move). m.error) (call_is s c (Err e) h)
+
+pub call_passes : (s : Standing) (c : Call) (x : Step) → allowed s.state c ≡ Ok x → (react s (called c)).error ≡ None
+call_passes s c x e = ap (λ (m : Move). m.error) (call_is s c (Ok x) e)
+
+pub taken_is : (s : Standing) (said : Said) (o : Outcome) → respond s.state said ≡ o → react s (taken said) ≡ moved s o
+unfolding react
+taken_is s said o e = ap (moved s) e
+
+pub unread_is : (s : Standing) (fault : SpduFault) (o : Outcome) → respond_fault s.state fault ≡ o → react s (unread fault) ≡ moved s o
+unfolding react
+unread_is s fault o e = ap (moved s) e
+
+-- ---- plans
+
+-- what is committed of a plan is the move of its call
+pub committed : (s : Standing) (c : Call) (plan : Planned) → IsPlanOf s c plan → in_state s plan.next ≡ after_input s (called c)
+committed s c plan p = sym p.next
+
+over_refused : (s : State) (c : Call) → is_over s.phase ≡ true → allowed s c ≡ Err error.Ended
+unfolding allowed
+over_refused s c h = rw h refl
+
+-- there is none of a session that is over
+pub planned_live : (s : Standing) (c : Call) (plan : Planned) → IsPlanOf s c plan → is_over s.state.phase ≡ false
+planned_live s c plan p = elim (cases_Bool (is_over s.state.phase)) [
+  | inl t ↦
+      let none : option_map written (react s (called c)).reply ≡ None = ap (λ (m : Move). option_map written m.reply) (call_is s c (Err error.Ended) (over_refused s.state c t)) in
+      absurd (some_none plan.sent (sym p.sent ∙ none))
+  | inr f ↦ f
+]
+  where
+    some_none : (octets : List ℕ) → Some octets ≡ None → ⊥
+    some_none octets e = cc
+
+pub plan_of : (s : Standing) (c : Call) (plan : Planned) → (react s (called c)).next ≡ in_state s plan.next
+    → option_map written (react s (called c)).reply ≡ Some plan.sent → IsPlanned s plan
+plan_of s c plan n m = (c, record { next = n; sent = m })
