@@ -14,6 +14,7 @@ pub mod RunCases
 pub mod RunLaws
 pub mod SendableLaws
 pub mod SessionLaws
+pub mod ShownLaws
 pub mod SoundCalls
 pub mod SoundNumbers
 pub mod SoundUnits

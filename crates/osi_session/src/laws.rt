@@ -64,6 +64,11 @@ pub fn what_two_units_do()
         (if is_resynchronize u then respond_unit s u else and_then (respond_unit s u) (respond_unit (respond_unit s u).next item)) }
 {}
 
+/// A TSDU shows at most one thing for each of its units.
+pub fn what_a_tsdu_shows()
+    ensures { (s : State) (said : Said) → length (respond s said).shown ≤ length said }
+{}
+
 /// An accepted call passed each test of its row, in its phase, with user data that is short enough,
 /// and gives what the row says; and a call that passes each test is accepted.
 pub fn what_an_accepted_call_passed()
