@@ -1,5 +1,6 @@
 pub mod Meanings
 pub mod Numbered
+pub mod Plain
 pub mod Reading
 pub mod Sendable
 pub mod Tokens

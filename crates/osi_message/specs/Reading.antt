@@ -1,5 +1,5 @@
 -- What the parameters of a session unit mean, those that are absent included.
-use Rattle.std.specs.Prelude.{ℕ, ◌+◌, ◌*◌, ◌/◌, ◌%◌, ◌==◌, Bool, List, [], ◌∷◌, drop, Option, Some, None, unwrap_or, if◌then◌else◌, map}
+use Rattle.std.specs.Prelude.{ℕ, ◌+◌, ◌*◌, ◌/◌, ◌%◌, ◌==◌, Bool, List, [], ◌∷◌, drop, Option, Some, None, unwrap_or, Result, Ok, Err, if◌then◌else◌, map}
 use Rattle.osi_spdu.specs.declared.kinds.Kind.{Kind}
 use Rattle.osi_spdu.specs.declared.kinds.Kind.TheVariants.{GiveTokens, PleaseTokens, DataTransfer, NotFinished, Finish, Disconnect, Refuse, Connect, Accept, Abort, AbortAccept, ResynchronizeAck, MajorSyncPoint, MajorSyncAck, MinorSyncPoint, MinorSyncAck, Resynchronize}
 use Rattle.osi_spdu.specs.declared.codes.Code.TheVariants.{SyncType, TokenItem, TransportDisconnect, UserRequirements, Version, InitialNumber, Number, Reason, CallingSelector, CalledSelector, UserData}
@@ -9,8 +9,10 @@ use Rattle.osi_spdu.specs.declared.settings.Wish.TheVariants.{Asker, Answerer, C
 use Rattle.osi_spdu.specs.declared.settings.TokenSetting.{TokenSetting}
 use Rattle.osi_spdu.specs.declared.fields.ResyncType.{ResyncType}
 use Rattle.osi_spdu.specs.declared.fields.ResyncType.TheVariants.{Restart, Abandon, Set}
+use Rattle.osi_spdu.specs.declared.faults.SpduFault.{SpduFault}
 use Rattle.osi_spdu.specs.Values.{numeral}
 use Rattle.osi_spdu.specs.Known.{Known, Contents, Units}
+use Rattle.osi_spdu.specs.Reading.{tsdu_at}
 use Rattle.osi_message.specs.declared.tokens.Tokens.{Tokens}
 use Rattle.osi_message.specs.Tokens.{named}
 use Rattle.std.specs.Int.RustNames.{bit_and}
@@ -119,3 +121,11 @@ behind item u = item ∷ u ∷ []
 
 abbrev pub said_by_units : Units → Said
 said_by_units units = map meaning units
+
+abbrev pub said_if_read : Result Units SpduFault → Result Said SpduFault
+said_if_read (Ok units) = Ok (said_by_units units)
+said_if_read (Err fault) = Err fault
+
+-- what the octets of a TSDU say, or their first fault
+unfoldable pub said_at : List ℕ → Result Said SpduFault
+said_at octets = said_if_read (tsdu_at octets)

@@ -5,6 +5,7 @@
 pub mod laws;
 mod messages;
 mod octets;
+mod plain;
 mod reading;
 mod sent;
 mod tokens;
@@ -12,5 +13,6 @@ mod writing;
 
 pub use messages::Message;
 pub use octets::Octets;
+pub use plain::PlainUnit;
 pub use sent::Sent;
 pub use tokens::Tokens;

@@ -1,7 +1,11 @@
 ghost use Rattle.std.specs.Prelude.{◌≡◌, ◌<◌, length, IfOk, OnErr};
 ghost use Rattle.osi_spdu.specs.Groups.{units_of};
 ghost use Rattle.osi_spdu.specs.Writing.{tsdu_octets, TsduFits};
+ghost use Rattle.osi_message.specs.Meanings.{meant_by};
+ghost use Rattle.osi_message.specs.Written.{written, user_data_of};
 
+use crate::messages::Message;
+use crate::plain;
 use bytes::BytesMut;
 use osi_spdu::{Group, write_tsdu};
 use std::alloc::{AllocError, Global};
@@ -10,7 +14,7 @@ use std::marker::Model;
 /// The octets of a TSDU that is to be sent.
 #[derive(Drop)]
 pub struct Sent {
-    octets: BytesMut,
+    octets: Vec<u8>,
 }
 
 impl Model for Sent {
@@ -29,7 +33,40 @@ impl Sent {
     {
         let mut octets = BytesMut::new(alloc);
         write_tsdu(group, &mut octets)?;
-        Ok(Sent { octets })
+        match octets.into_vec() {
+            Ok(octets) => Ok(Sent { octets }),
+            Err(_) => Err(AllocError),
+        }
+    }
+
+    /// The written form of a message. Data, and minor points and their confirmations without user
+    /// data, are written straight into a buffer of their length.
+    pub fn of(alloc: Global, message: &Message) -> Result<Sent, AllocError>
+        requires { length (user_data_of (meant_by message.now)) < 65000 }
+        ensures { IfOk result (λ s. s ≡ written (meant_by message.now)) }
+    {
+        match *message {
+            Message::Data { user_data } => {
+                let octets = plain::data(alloc, user_data)?;
+                Ok(Sent { octets })
+            }
+            Message::MinorPoint {
+                confirm: true,
+                number,
+                user_data: [],
+            } => {
+                let octets = plain::minor_point(alloc, number)?;
+                Ok(Sent { octets })
+            }
+            Message::MinorAck {
+                number,
+                user_data: [],
+            } => {
+                let octets = plain::minor_ack(alloc, number)?;
+                Ok(Sent { octets })
+            }
+            message => Sent::written(alloc, &message.group()),
+        }
     }
 
     /// The octets.

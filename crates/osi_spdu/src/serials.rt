@@ -44,7 +44,7 @@ impl Serial {
     }
 
     /// The number that one to six digits stand for.
-    pub(crate) fn read(digits: &[u8]) -> Option<Serial>
+    pub fn read(digits: &[u8]) -> Option<Serial>
         ensures { option_map (λ s. s.number) result ≡ numeral digits.now }
     {
         if digits.is_empty() || digits.len() > 6 {

@@ -1,0 +1,253 @@
+//! The TSDUs that come most often, written and read straight: data, and a minor synchronization
+//! point or its confirmation with no parameter but its number, behind a GT that names no token.
+
+ghost use Rattle.std.specs.Prelude.{◌≡◌, ◌+◌, ◌%◌, ◌≤◌, true, [], Ok, IfOk, IfSome};
+ghost use Rattle.osi_spdu.specs.Values.{digits_of};
+ghost use Rattle.osi_message.specs.Meanings.{DT, MIP, MIA, meant_by};
+ghost use Rattle.osi_message.specs.Plain.{plain_meaning, data_octets, point_octets, has_zero_in_front};
+ghost use Rattle.osi_message.specs.Reading.{said_at};
+ghost use Rattle.osi_message.specs.Sendable.{said_of};
+ghost use Rattle.osi_message.specs.Written.{written};
+
+use crate::laws;
+use crate::messages::Message;
+use osi_spdu::Serial;
+use std::alloc::{AllocError, Global};
+
+/// The SI of a MIP.
+const MINOR_POINT: u8 = 0x31;
+
+/// The SI of a MIA.
+const MINOR_ACK: u8 = 0x32;
+
+/// The code of a serial number.
+const NUMBER: u8 = 0x2A;
+
+/// The most frequent messages.
+#[derive(Clone, Copy, Debug)]
+pub enum PlainUnit<'a> {
+    /// Data transfer (DT).
+    Data {
+        /// User data.
+        user_data: &'a [u8],
+    },
+    /// A minor synchronization point that asks for its confirmation, without user data (MIP).
+    MinorPoint {
+        /// The number of the point.
+        number: Serial,
+    },
+    /// The confirmation of a minor synchronization point, without user data (MIA).
+    MinorAck {
+        /// The number of the point.
+        number: Serial,
+    },
+}
+
+/// A digit of a number below ten.
+fn digit(number: u32) -> u8
+    ensures { result ≡ number % 10 + 48 }
+{
+    (number % 10) as u8 + 48
+}
+
+/// The octets of a TSDU with a DT.
+#[tactic(auto, using(crate::proofs::PlainLaws::data_written))]
+pub(crate) fn data(alloc: Global, user_data: &[u8]) -> Result<Vec<u8>, AllocError>
+    ensures { IfOk result (λ v. v.items ≡ written (DT user_data.now)) }
+{
+    let mut octets = Vec::with_capacity(alloc, 4 + user_data.len())?;
+    octets.extend_from_slice(&[0x01, 0x00, 0x01, 0x00])?;
+    octets.extend_from_slice(user_data)?;
+    Ok(octets)
+}
+
+/// The octets of a TSDU with a unit of this SI and this number.
+#[tactic(auto, using(crate::proofs::PlainLaws::digits_1, crate::proofs::PlainLaws::digits_2, crate::proofs::PlainLaws::digits_3, crate::proofs::PlainLaws::digits_4, crate::proofs::PlainLaws::digits_5, crate::proofs::PlainLaws::digits_6))]
+fn point(alloc: Global, si: u8, number: Serial) -> Result<Vec<u8>, AllocError>
+    ensures { IfOk result (λ v. v.items ≡ point_octets si (digits_of number.number)) }
+{
+    let n = number.number;
+    let units = digit(n);
+    if n < 10 {
+        return Vec::from_slice(alloc, &[1, 0, si, 3, NUMBER, 1, units]);
+    }
+    let tens = digit(n / 10);
+    if n < 100 {
+        return Vec::from_slice(alloc, &[1, 0, si, 4, NUMBER, 2, tens, units]);
+    }
+    let hundreds = digit(n / 100);
+    if n < 1_000 {
+        return Vec::from_slice(alloc, &[1, 0, si, 5, NUMBER, 3, hundreds, tens, units]);
+    }
+    long_point(alloc, si, number)
+}
+
+/// The same, of a number of four to six digits.
+#[tactic(auto, using(crate::proofs::PlainLaws::digits_4, crate::proofs::PlainLaws::digits_5, crate::proofs::PlainLaws::digits_6))]
+fn long_point(alloc: Global, si: u8, number: Serial) -> Result<Vec<u8>, AllocError>
+    requires { 1000 ≤ number.number }
+    ensures { IfOk result (λ v. v.items ≡ point_octets si (digits_of number.number)) }
+{
+    let n = number.number;
+    let (units, tens) = (digit(n), digit(n / 10));
+    let (hundreds, thousands) = (digit(n / 100), digit(n / 1_000));
+    if n < 10_000 {
+        return Vec::from_slice(
+            alloc,
+            &[1, 0, si, 6, NUMBER, 4, thousands, hundreds, tens, units],
+        );
+    }
+    let fifth = digit(n / 10_000);
+    if n < 100_000 {
+        return Vec::from_slice(
+            alloc,
+            &[
+                1, 0, si, 7, NUMBER, 5, fifth, thousands, hundreds, tens, units,
+            ],
+        );
+    }
+    let sixth = digit(n / 100_000);
+    Vec::from_slice(
+        alloc,
+        &[
+            1, 0, si, 8, NUMBER, 6, sixth, fifth, thousands, hundreds, tens, units,
+        ],
+    )
+}
+
+/// The octets of a TSDU with a MIP that asks for its confirmation.
+#[tactic(auto, using(crate::proofs::PlainLaws::point_written))]
+pub(crate) fn minor_point(alloc: Global, number: Serial) -> Result<Vec<u8>, AllocError>
+    ensures { IfOk result (λ v. v.items ≡ written (MIP true number.number [])) }
+{
+    let octets = point(alloc, MINOR_POINT, number)?;
+    Ok(octets)
+}
+
+/// The octets of a TSDU with a MIA.
+#[tactic(auto, using(crate::proofs::PlainLaws::ack_written))]
+pub(crate) fn minor_ack(alloc: Global, number: Serial) -> Result<Vec<u8>, AllocError>
+    ensures { IfOk result (λ v. v.items ≡ written (MIA number.number [])) }
+{
+    let octets = point(alloc, MINOR_ACK, number)?;
+    Ok(octets)
+}
+
+/// Whether a zero stands before another digit.
+fn has_zero_in_front(digits: &[u8]) -> bool
+    ensures { result ≡ has_zero_in_front digits.now }
+{
+    match digits {
+        [first, _, ..] => *first == 48,
+        _ => false,
+    }
+}
+
+/// The number of these digits, which are those that it is written in.
+#[tactic(auto, using(crate::proofs::PlainLaws::read_again))]
+fn canonical(digits: &[u8]) -> Option<Serial>
+    ensures { IfSome result (λ s. digits_of s.number ≡ digits.now) }
+{
+    let serial = Serial::read(digits)?;
+    if has_zero_in_front(digits) {
+        return None;
+    }
+    Some(serial)
+}
+
+/// The number of a unit of this SI, behind a GT that names no token, with no other parameter.
+#[tactic(auto, using(crate::proofs::PlainLaws::point_parts))]
+fn number_of(tsdu: &[u8], si: u8) -> Option<Serial>
+    ensures { IfSome result (λ s. tsdu.now ≡ point_octets si (digits_of s.number)) }
+{
+    if tsdu.len() < 7 || tsdu.len() > 12 {
+        return None;
+    }
+    let (head, digits) = tsdu.split_at(6);
+    let count = digits.len() as u8;
+    let [gt, empty, unit, len, code, value] = head else {
+        return None;
+    };
+    if *gt != 1 || *empty != 0 || *unit != si || *len != count + 2 {
+        return None;
+    }
+    if *code != NUMBER || *value != count {
+        return None;
+    }
+    let serial = canonical(digits)?;
+    Some(serial)
+}
+
+/// The user data of a DT, behind a GT that names no token.
+#[tactic(auto, using(crate::proofs::PlainLaws::data_parts))]
+fn data_of(tsdu: &[u8]) -> Option<&[u8]>
+    ensures { IfSome result (λ d. tsdu.now ≡ data_octets d.now) }
+{
+    if tsdu.len() < 4 {
+        return None;
+    }
+    let (head, user_data) = tsdu.split_at(4);
+    let [gt, empty, unit, none] = head else {
+        return None;
+    };
+    if *gt != 1 || *empty != 0 || *unit != 1 || *none != 0 {
+        return None;
+    }
+    Some(user_data)
+}
+
+/// The message whose written form the octets are.
+#[tactic(auto, using(crate::proofs::PlainLaws::data_written, crate::proofs::PlainLaws::point_written, crate::proofs::PlainLaws::ack_written))]
+fn plain_unit(tsdu: &[u8]) -> Option<PlainUnit<'_>>
+    ensures { IfSome result (λ p. tsdu.now ≡ written (plain_meaning p)) }
+{
+    if tsdu.len() < 4 {
+        return None;
+    }
+    match tsdu[2] {
+        1 => {
+            let user_data = data_of(tsdu)?;
+            Some(PlainUnit::Data { user_data })
+        }
+        MINOR_POINT => {
+            let number = number_of(tsdu, MINOR_POINT)?;
+            Some(PlainUnit::MinorPoint { number })
+        }
+        MINOR_ACK => {
+            let number = number_of(tsdu, MINOR_ACK)?;
+            Some(PlainUnit::MinorAck { number })
+        }
+        _ => None,
+    }
+}
+
+impl<'a> PlainUnit<'a> {
+    /// The message that the octets of a TSDU say, where they are the written form of one of these;
+    /// whatever else they are, `read_tsdu` reads them.
+    pub fn read(tsdu: &'a [u8]) -> Option<PlainUnit<'a>>
+        ensures written { IfSome result (λ p. tsdu.now ≡ written (plain_meaning p)) }
+        ensures said { IfSome result (λ p. said_at tsdu.now ≡ Ok (said_of (plain_meaning p))) }
+    {
+        laws::what_is_sent_is_read();
+        let unit = plain_unit(tsdu)?;
+        Some(unit)
+    }
+
+    /// The message.
+    pub fn message(self) -> Message<'a>
+        ensures { meant_by result ≡ plain_meaning self.entry }
+    {
+        match self {
+            PlainUnit::Data { user_data } => Message::Data { user_data },
+            PlainUnit::MinorPoint { number } => Message::MinorPoint {
+                confirm: true,
+                number,
+                user_data: &[],
+            },
+            PlainUnit::MinorAck { number } => Message::MinorAck {
+                number,
+                user_data: &[],
+            },
+        }
+    }
+}
