@@ -156,7 +156,7 @@ terms_good : HaveDigits → (serial : Option ℕ) (setting : TokenSetting) (requ
 unfolding canonical number_of
 terms_good digits serial setting requirements small =
     with_one ConnectAcceptItem [] _ refl refl refl
-    (with_one ProtocolOptions (0 ∷ []) _ refl refl refl
+    (with_one ProtocolOptions (1 ∷ []) _ refl refl refl
     (with_one Version (2 ∷ []) _ refl refl refl
     (with_some InitialNumber (option_map digits_of serial) _ (serial_good digits serial small) refl refl
     (with_one code.TokenSetting (setting_octets setting) _ (setting_good setting) refl refl

@@ -33,20 +33,20 @@ abbrev selector_octets : Option Selector → Option (List ℕ)
 selector_octets selector = option_map (λ s. s.octets.now) selector
 
 pub connect_known : (serial : Option Serial) (setting : TokenSetting) (requirements : Requirements) (calling called : Option Selector) (octets : Bor (List ℕ)) →
-    known_of (record no_params { connect_accept_item = true; protocol_options = Some 0; version = Some 2; initial_number = serial; token_setting = Some setting; user_requirements = Some requirements; calling_selector = calling; called_selector = called; user_data = Some octets }) ≡ with_data octets.now (put_some CallingSelector (selector_octets calling) (put_some CalledSelector (selector_octets called) (terms (serial_number serial) setting requirements.0)))
+    known_of (record no_params { connect_accept_item = true; protocol_options = Some 1; version = Some 2; initial_number = serial; token_setting = Some setting; user_requirements = Some requirements; calling_selector = calling; called_selector = called; user_data = Some octets }) ≡ with_data octets.now (put_some CallingSelector (selector_octets calling) (put_some CalledSelector (selector_octets called) (terms (serial_number serial) setting requirements.0)))
 unfolding known_of slots_of cells_of place_of number_of
 connect_known serial setting requirements calling called octets = λ i c. same c i
   where
-    same : (c : Code) → known_of (record no_params { connect_accept_item = true; protocol_options = Some 0; version = Some 2; initial_number = serial; token_setting = Some setting; user_requirements = Some requirements; calling_selector = calling; called_selector = called; user_data = Some octets }) c ≡ (with_data octets.now (put_some CallingSelector (selector_octets calling) (put_some CalledSelector (selector_octets called) (terms (serial_number serial) setting requirements.0)))) c
+    same : (c : Code) → known_of (record no_params { connect_accept_item = true; protocol_options = Some 1; version = Some 2; initial_number = serial; token_setting = Some setting; user_requirements = Some requirements; calling_selector = calling; called_selector = called; user_data = Some octets }) c ≡ (with_data octets.now (put_some CallingSelector (selector_octets calling) (put_some CalledSelector (selector_octets called) (terms (serial_number serial) setting requirements.0)))) c
     same InitialNumber = same_serial serial
     same _ = refl
 
 pub accept_known : (serial : Option Serial) (setting : TokenSetting) (requirements : Requirements) (octets : Bor (List ℕ)) →
-    known_of (record no_params { connect_accept_item = true; protocol_options = Some 0; version = Some 2; initial_number = serial; token_setting = Some setting; user_requirements = Some requirements; user_data = Some octets }) ≡ with_data octets.now (terms (serial_number serial) setting requirements.0)
+    known_of (record no_params { connect_accept_item = true; protocol_options = Some 1; version = Some 2; initial_number = serial; token_setting = Some setting; user_requirements = Some requirements; user_data = Some octets }) ≡ with_data octets.now (terms (serial_number serial) setting requirements.0)
 unfolding known_of slots_of cells_of place_of number_of
 accept_known serial setting requirements octets = λ i c. same c i
   where
-    same : (c : Code) → known_of (record no_params { connect_accept_item = true; protocol_options = Some 0; version = Some 2; initial_number = serial; token_setting = Some setting; user_requirements = Some requirements; user_data = Some octets }) c ≡ (with_data octets.now (terms (serial_number serial) setting requirements.0)) c
+    same : (c : Code) → known_of (record no_params { connect_accept_item = true; protocol_options = Some 1; version = Some 2; initial_number = serial; token_setting = Some setting; user_requirements = Some requirements; user_data = Some octets }) c ≡ (with_data octets.now (terms (serial_number serial) setting requirements.0)) c
     same InitialNumber = same_serial serial
     same _ = refl
 

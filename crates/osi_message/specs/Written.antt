@@ -29,7 +29,7 @@ unit_with kind known = record { kind = kind; known = known; information = [] }
 -- protocol options 00 and version 02; the number and the wishes or sides; the requirements
 abbrev pub terms : Option ℕ → TokenSetting → ℕ → Known
 terms serial setting requirements =
-    put ConnectAcceptItem [] (put ProtocolOptions (0 ∷ []) (put Version (2 ∷ [])
+    put ConnectAcceptItem [] (put ProtocolOptions (1 ∷ []) (put Version (2 ∷ [])
     (put_some InitialNumber (option_map digits_of serial) (put code.TokenSetting (setting_octets setting)
     (put UserRequirements (two_octets requirements) nothing)))))
 

@@ -1,6 +1,7 @@
 -- The values in memory are in their written form.
 use Rattle.std.proofs.Common.{inl, inr, ◌≡◌, ◌==◌, ◌≤◌, ◌||◌, ℕ, ◌+◌, ◌*◌, ◌/◌, ◌%◌, ◌<◌, Bool, true, false, cond, not, ◌&&◌, List, [], ◌∷◌, length, Option, Some, None, Ok, option_map, refl, sym, ap, subst, ◌∙◌, arith}
 use Rattle.std.proofs.lemmas.Bool.{cases_Bool, and_parts, or_cases, not-true, eqb-true, ne_eqb, le-leb, lt-ltb}
+use Rattle.osi_tpkt.specs.Octets.{IsOctets}
 use Rattle.osi_spdu.specs.declared.codes.Code.{Code}
 use Rattle.osi_spdu.specs.declared.codes.Code.TheVariants.{ConnectionIdentifier, ConnectAcceptItem, CalledReference, CallingReference, CommonReference, AdditionalReference, SyncType, TokenItem, TransportDisconnect, ProtocolOptions, UserRequirements, TsduMaximumSize, Version, InitialNumber, Enclosure, TokenSetting, ResyncType, Number, Reflect, Reason, CallingSelector, CalledSelector, UserData, ExtendedUserData}
 use Rattle.osi_spdu.specs.declared.kinds.Kind.{Kind}
@@ -30,8 +31,8 @@ use Rattle.osi_spdu.specs.Units.{said_by}
 use Rattle.osi_spdu.specs.Behind.{left_at, AreLeft, is_behind}
 use Rattle.osi_spdu.specs.Groups.{units_from, units_behind, units_of}
 use Rattle.osi_spdu.specs.Writing.{is_informed, is_joined, is_zero, IsCanonical, IsFormedUnit, IsFormedTsdu, TsduFits, tsdu_octets}
-use Rattle.osi_spdu.specs.Laws.Tsdus.{left_stands, tsdu_only}
-use Rattle.osi_spdu.specs.Laws.Written.{tsdu_written}
+use Rattle.osi_spdu.specs.Laws.Tsdus.{left_stands, tsdu_read}
+use Rattle.osi_spdu.specs.Laws.Written.{units_written, tsdu_written}
 use Rattle.std.proofs.lemmas.List.{nil_from_length}
 use Rattle.osi_spdu.proofs.Digits.{numeral_digits}
 use Rattle.osi_spdu.proofs.OneOctet.{token_bits_again}
@@ -244,8 +245,8 @@ pub group_plain : (g : Group) → g.first.information.now ≡ []
 group_plain g = first_alone g.first.kind g.first.information.now (first_stands g.first.kind (option_map (λ s. s.kind) g.behind.next) g.joined) (unit_formed g.first).informed
 
 -- what a group is written as spells it, and is read as it
-pub group_spelled : (g : Group) → TsduFits (units_of g) → SpellsTsdu (units_of g) (tsdu_octets (units_of g))
-group_spelled g fits = tsdu_written (units_of g) (group_formed g) fits
+pub group_spelled : (g : Group) → TsduFits (units_of g) → IsOctets (tsdu_octets (units_of g)) → SpellsTsdu (units_of g) (tsdu_octets (units_of g))
+group_spelled g fits octets = tsdu_written (units_of g) (group_formed g) fits octets
 
 pub group_read : (g : Group) → TsduFits (units_of g) → tsdu_at (tsdu_octets (units_of g)) ≡ Ok (units_of g)
-group_read g fits = tsdu_only (units_of g) (tsdu_octets (units_of g)) (group_spelled g fits)
+group_read g fits = (let is = group_formed g in tsdu_read (units_of g) (tsdu_octets (units_of g)) is.together (units_written (units_of g) is.formed fits))

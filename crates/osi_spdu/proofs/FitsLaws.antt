@@ -449,4 +449,4 @@ units_fit (unit ∷ units) octets s = (unit_fits unit s.0 s.3, units_fit units s
 
 pub tsdu_fits : (units : Units) (octets : List ℕ) → SpellsTsdu units octets → TsduFits units
 unfolding SpellsTsdu
-tsdu_fits units octets s = units_fit units octets s.1
+tsdu_fits units octets s = units_fit units octets s.2

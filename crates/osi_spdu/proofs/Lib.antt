@@ -11,3 +11,6 @@ pub mod BehindLaws
 pub mod Shorter
 pub mod FitsLaws
 pub mod MadeLaws
+pub mod FaultLaws
+pub mod FirstFault
+pub mod FirstFaultOfTsdu

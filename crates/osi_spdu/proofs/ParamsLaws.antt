@@ -1,13 +1,18 @@
 -- A slot that is filled, and the values that slots have.
-use Rattle.std.proofs.Common.{inl, inr, ◌≡◌, ◌==◌, ◌&&◌, ℕ, ◌<◌, Bool, true, false, List, [], ◌∷◌, length, get_or, set, Option, Some, None, refl, sym, ap, ◌∙◌, get_or-set_other, get_or-set_same, eqb, ltb, arith}
+use Rattle.std.proofs.Common.{inl, inr, ◌≡◌, ◌==◌, ◌&&◌, ℕ, ◌<◌, Bool, true, false, List, [], ◌∷◌, length, get_or, set, Option, Some, None, option_map, refl, sym, ap, ◌∙◌, get_or-set_other, get_or-set_same, eqb, ltb, arith}
 use Rattle.std.specs.List.{slice_get}
-use Rattle.std.proofs.lemmas.Bool.{cases_Bool, ltb-true}
+use Rattle.std.proofs.lemmas.Bool.{cases_Bool, ltb-true, lt-ltb, eq-eqb}
 use Rattle.osi_spdu.specs.declared.codes.Code.{Code}
 use Rattle.osi_spdu.specs.declared.codes.Code.TheVariants.{ConnectionIdentifier, ConnectAcceptItem, CalledReference, CallingReference, CommonReference, AdditionalReference, SyncType, TokenItem, TransportDisconnect, ProtocolOptions, UserRequirements, TsduMaximumSize, Version, InitialNumber, Enclosure, TokenSetting, ResyncType, Number, Reflect, Reason, CallingSelector, CalledSelector, UserData, ExtendedUserData}
 use Rattle.osi_spdu.specs.declared.params.Params.{Params}
-use Rattle.osi_spdu.specs.Codes.{is_same, slot_of, every_code}
+use Rattle.osi_spdu.specs.Codes.{number_of, is_same, slot_of, every_code}
 use Rattle.osi_spdu.specs.Known.{nothing, put, some_octets}
-use Rattle.osi_spdu.specs.Params.{place_of, cells_of, filled, slots_of, known_of, no_params}
+use Rattle.osi_spdu.specs.Params.{place_of, cells_of, filled, slots_of, known_of, no_params, present, count_of, has_octets}
+use Rattle.osi_spdu.specs.declared.tokens.TokenSet.{TokenSet}
+use Rattle.osi_spdu.specs.Fields.{token_octets, tokens_alone}
+use Rattle.osi_spdu.specs.Values.{token_bits}
+use Rattle.osi_spdu.proofs.OneOctet.{token_bits_again}
+use Rattle.std.specs.Prelude.{is_some}
 use Rattle.osi_spdu.specs.Laws.Steps.{same_true, same_refl}
 
 at_place : ℕ → Option Code
@@ -152,3 +157,68 @@ known_empty p c v e t h = rw (t, e) (none v h)
     none : (v : List ℕ) → length v ≡ 0 → some_octets (Some v) ≡ None
     none [] h = refl
     none (b ∷ v) h = absurd (omega arith)
+
+-- ---- whether a value is there
+
+pub has_mapped : {A B : Type 0} (f : A → B) (o : Option A) → is_some (option_map f o) ≡ is_some o
+has_mapped f None = refl
+has_mapped f (Some x) = refl
+
+pub has_present : (b : Bool) → is_some (present b) ≡ b
+has_present true = refl
+has_present false = refl
+
+-- ---- what a unit keeps
+
+some_again : (o : Option (List ℕ)) → some_octets (some_octets o) ≡ some_octets o
+some_again None = refl
+some_again (Some []) = refl
+some_again (Some (b ∷ v)) = refl
+
+-- a token item with the same octets, and the user data that has octets, say the same
+pub settled_known : (p q : Params) → q ≡ (let r : Params = record p { token_item = q.token_item; user_data = q.user_data } in r) → option_map token_octets q.token_item ≡ option_map token_octets p.token_item
+    → option_map (λ s. s.now) q.user_data ≡ some_octets (option_map (λ s. s.now) p.user_data) → known_of q ≡ known_of p
+unfolding known_of slots_of cells_of place_of number_of
+settled_known p q same tokens octets = λ i c. (one c) i
+  where
+    one : (c : Code) → known_of q c ≡ known_of p c
+    one TokenItem = tokens
+    one UserData = ap some_octets octets ∙ some_again (option_map (λ s. s.now) p.user_data)
+    one ConnectionIdentifier = ap (λ (r : Params). known_of r ConnectionIdentifier) same
+    one ConnectAcceptItem = ap (λ (r : Params). known_of r ConnectAcceptItem) same
+    one CalledReference = ap (λ (r : Params). known_of r CalledReference) same
+    one CallingReference = ap (λ (r : Params). known_of r CallingReference) same
+    one CommonReference = ap (λ (r : Params). known_of r CommonReference) same
+    one AdditionalReference = ap (λ (r : Params). known_of r AdditionalReference) same
+    one SyncType = ap (λ (r : Params). known_of r SyncType) same
+    one TransportDisconnect = ap (λ (r : Params). known_of r TransportDisconnect) same
+    one ProtocolOptions = ap (λ (r : Params). known_of r ProtocolOptions) same
+    one UserRequirements = ap (λ (r : Params). known_of r UserRequirements) same
+    one TsduMaximumSize = ap (λ (r : Params). known_of r TsduMaximumSize) same
+    one Version = ap (λ (r : Params). known_of r Version) same
+    one InitialNumber = ap (λ (r : Params). known_of r InitialNumber) same
+    one Enclosure = ap (λ (r : Params). known_of r Enclosure) same
+    one TokenSetting = ap (λ (r : Params). known_of r TokenSetting) same
+    one ResyncType = ap (λ (r : Params). known_of r ResyncType) same
+    one Number = ap (λ (r : Params). known_of r Number) same
+    one Reflect = ap (λ (r : Params). known_of r Reflect) same
+    one Reason = ap (λ (r : Params). known_of r Reason) same
+    one CallingSelector = ap (λ (r : Params). known_of r CallingSelector) same
+    one CalledSelector = ap (λ (r : Params). known_of r CalledSelector) same
+    one ExtendedUserData = ap (λ (r : Params). known_of r ExtendedUserData) same
+
+pub some_len : (o : Option (List ℕ)) → count_of (some_octets o) ≡ count_of o
+some_len None = refl
+some_len (Some []) = refl
+some_len (Some (b ∷ v)) = refl
+
+pub some_there : (o : Option (List ℕ)) → has_octets (some_octets o) ≡ true
+some_there None = refl
+some_there (Some []) = refl
+some_there (Some (b ∷ v)) = lt-ltb 0 (length (b ∷ v)) (omega arith)
+
+-- a token item without other bits
+pub tokens_same : (t u : TokenSet) → u.0 ≡ token_bits t.0 → (token_octets u ≡ token_octets t) × (tokens_alone (Some u) ≡ true)
+tokens_same t u e =
+    let again : token_bits u.0 ≡ token_bits t.0 = ap token_bits e ∙ token_bits_again t.0 in
+    (ap (λ (b : ℕ). b ∷ []) again, eq-eqb (token_bits u.0) u.0 (again ∙ sym e))

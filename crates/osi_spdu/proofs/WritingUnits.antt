@@ -1,7 +1,9 @@
 -- Writing units one after the other, as a loop does.
 use Rattle.std.proofs.Common.{◌≡◌, ℕ, ◌+◌, ◌-◌, ◌*◌, ◌^◌, ◌<◌, ◌≤◌, Bool, true, false, List, [], ◌∷◌, ◌++◌, length, refl, sym, ap, subst, ◌∙◌, append_assoc, arith}
 use Rattle.std.specs.List.{AllByRecursion}
-use Rattle.std.proofs.lemmas.List.{length-append, append-nil}
+use Rattle.std.proofs.lemmas.List.{length-append, append-nil, drop_at}
+use Rattle.osi_tpkt.specs.Octets.{IsOctets}
+use Rattle.osi_spdu.specs.Laws.Lengths.{octets-drop}
 use Rattle.osi_spdu.specs.declared.kinds.Kind.{Kind}
 use Rattle.osi_spdu.specs.declared.kinds.Kind.TheVariants.{DataTransfer}
 use Rattle.osi_spdu.specs.Known.{Contents, Units}
@@ -138,3 +140,6 @@ first_octets unit others e = octets_next (unit ∷ others) others unit refl ∙ 
 
 pub first_len : (unit : Contents) (others : Units) → unit.information ≡ [] → length (tsdu_octets (unit ∷ others)) ≡ length (unit_octets unit) + length (tsdu_octets others)
 first_len unit others e = ap length (first_octets unit others e) ∙ length-append (unit_octets unit) (tsdu_octets others)
+
+pub octets_behind : (front rest : List ℕ) → IsOctets (front ++ rest) → IsOctets rest
+octets_behind front rest fits = subst IsOctets (drop_at front rest (length front) refl) (octets-drop (length front) (front ++ rest) fits)

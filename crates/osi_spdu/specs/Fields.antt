@@ -1,5 +1,5 @@
 -- The octets of each field of a unit.
-use Rattle.std.specs.Prelude.{ℕ, ◌+◌, ◌*◌, ◌/◌, ◌%◌, List, [], ◌∷◌}
+use Rattle.std.specs.Prelude.{ℕ, ◌+◌, ◌*◌, ◌/◌, ◌%◌, ◌==◌, Bool, true, List, [], ◌∷◌, Option, Some, None}
 use Rattle.osi_spdu.specs.declared.tokens.TokenSet.{TokenSet}
 use Rattle.osi_spdu.specs.declared.requirements.Requirements.{Requirements}
 use Rattle.osi_spdu.specs.declared.settings.TokenSetting.{TokenSetting}
@@ -25,6 +25,11 @@ sync_octet Open = 1
 
 abbrev pub token_octets : TokenSet → List ℕ
 token_octets t = token_bits t.0 ∷ []
+
+-- no bit of the set names no token
+abbrev pub tokens_alone : Option TokenSet → Bool
+tokens_alone None = true
+tokens_alone (Some t) = token_bits t.0 == t.0
 
 -- a number of two octets, the high one first
 abbrev pub two_octets : ℕ → List ℕ

@@ -13,4 +13,5 @@ pub mod Behind
 pub mod Groups
 pub mod Units
 pub mod Found
+pub mod Faults
 pub mod Laws

@@ -1,10 +1,10 @@
 -- What the parameters in memory say.
-use Rattle.std.specs.Prelude.{ℕ, ◌+◌, length, Bool, false, List, [], ◌∷◌, Option, Some, None, option_map, get_or, set, if◌then◌else◌}
+use Rattle.std.specs.Prelude.{ℕ, ◌+◌, length, nat_lt, ◌&&◌, Bool, true, false, List, [], ◌∷◌, Option, Some, None, option_map, get_or, set, if◌then◌else◌}
 use Rattle.osi_spdu.specs.declared.codes.Code.{Code}
 use Rattle.osi_spdu.specs.declared.codes.Code.TheVariants.{ConnectionIdentifier, ConnectAcceptItem, CalledReference, CallingReference, CommonReference, AdditionalReference, SyncType, TokenItem, TransportDisconnect, ProtocolOptions, UserRequirements, TsduMaximumSize, Version, InitialNumber, Enclosure, TokenSetting, ResyncType, Number, Reflect, Reason, CallingSelector, CalledSelector, UserData, ExtendedUserData}
 use Rattle.osi_spdu.specs.declared.params.Params.{Params}
 use Rattle.osi_spdu.specs.Values.{digits_of}
-use Rattle.osi_spdu.specs.Fields.{octet_list, sync_octet, token_octets, requirement_octets, size_octets, enclosure_octet, setting_octets, resync_octet, reason_octets}
+use Rattle.osi_spdu.specs.Fields.{octet_list, sync_octet, token_octets, tokens_alone, requirement_octets, size_octets, enclosure_octet, setting_octets, resync_octet, reason_octets}
 use Rattle.osi_spdu.specs.Known.{Known, settled}
 
 -- the place of a code among all
@@ -77,6 +77,14 @@ slots_of p = λ c. get_or (cells_of p) (place_of c) None
 -- the value of each parameter
 unfoldable pub known_of : Params → Known
 known_of p = settled (slots_of p)
+
+abbrev pub has_octets : Option (List ℕ) → Bool
+has_octets None = true
+has_octets (Some value) = nat_lt 0 (length value)
+
+-- no bit that is ignored is kept, and empty user data is none
+unfoldable pub is_settled : Params → Bool
+is_settled p = tokens_alone p.token_item && has_octets (option_map (λ s. s.now) p.user_data)
 
 -- no parameter
 abbrev pub no_params : Params

@@ -1,6 +1,7 @@
 -- Which octets spell a TSDU, X.225 section 8: by items, without order.
 use Rattle.std.specs.Prelude.{◌≡◌, ◌<◌, ◌≤◌, ℕ, ◌/◌, ◌%◌, ◌++◌, Bool, true, false, List, [], ◌∷◌, length, map, Option, Some, None, IsSome}
 use Rattle.std.specs.List.{flat_map, AllByRecursion}
+use Rattle.osi_tpkt.specs.Octets.{IsOctets}
 use Rattle.osi_spdu.specs.declared.codes.Code.{Code}
 use Rattle.osi_spdu.specs.declared.kinds.Kind.{Kind}
 use Rattle.osi_spdu.specs.declared.kinds.Kind.TheVariants.{DataTransfer}
@@ -127,4 +128,4 @@ AreUnits (unit ∷ units) octets =
 
 -- The octets are a TSDU of these units.
 unfoldable pub SpellsTsdu : Units → List ℕ → Type 0
-SpellsTsdu units octets = StandTogether units × AreUnits units octets
+SpellsTsdu units octets = IsOctets octets × StandTogether units × AreUnits units octets

@@ -15,7 +15,7 @@ use std::iter::FusedIterator;
 
 /// The units behind the first one of a TSDU, in their order: at most 16 of category 2, of which a
 /// DT is the last. Each but the first of them is read again as it is given, and no memory is taken.
-#[derive(Clone, Copy, Debug)]
+#[derive(Clone, Copy)]
 pub struct Behind<'a> {
     next: Option<Spdu<'a>>,
     room: usize,

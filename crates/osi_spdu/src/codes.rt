@@ -3,7 +3,7 @@ ghost use Rattle.osi_spdu.specs.Codes.{number_of, is_same, is_group, slot_of};
 ghost use Rattle.osi_spdu.specs.Reading.{code_among};
 
 /// A parameter or a parameter group of session units, by the code that names it (X.225 section 8).
-#[derive(Clone, Copy, Debug)]
+#[derive(Clone, Copy, PartialEq, Eq, Debug)]
 pub enum Code {
     /// The group of the references (1).
     ConnectionIdentifier,

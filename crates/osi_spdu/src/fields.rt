@@ -44,7 +44,7 @@ pub struct TsduMaximumSize {
 }
 
 /// Why a connection is refused (X.225 section 8, reason code).
-#[derive(Clone, Copy, Debug)]
+#[derive(Clone, Copy, PartialEq, Eq, Debug)]
 pub struct Reason<'a> {
     /// The first octet.
     pub code: u8,

@@ -1,6 +1,8 @@
 //! Session units as a grammar of units: a TSDU is read whole.
 
-ghost use Rattle.std.specs.Prelude.{◌≡◌, [], Err, refl};
+ghost use Rattle.std.specs.Prelude.{◌≡◌, ◌<◌, ◌++◌, [], length, Err, OnOk, OnErr, refl};
+ghost use Rattle.bytes.specs.Filled.{UsesSpare};
+ghost use Rattle.osi_tpkt.specs.Octets.{IsOctets};
 ghost use Rattle.osi_spdu.specs.Known.{Units};
 ghost use Rattle.osi_spdu.specs.Groups.{units_of};
 ghost use Rattle.osi_spdu.specs.Reading.{tsdu_at};
@@ -33,7 +35,7 @@ impl<'a> Unit<'a> for Group<'a> {
 
     ghost written = { λ units. tsdu_octets units };
 
-    ghost fits = { λ units. IsFormedTsdu units × TsduFits units };
+    ghost fits = { λ units. IsFormedTsdu units × TsduFits units × IsOctets (tsdu_octets units) };
 
     fn read(octets: &'a [u8]) -> Result<Option<(Group<'a>, usize)>, SpduFault> {
         match read_tsdu(octets) {
@@ -42,11 +44,21 @@ impl<'a> Unit<'a> for Group<'a> {
         }
     }
 
-    fn write(&self, out: &mut BytesMut) -> Result<(), AllocError> {
+    // Only the lengths are asked for: the rest of what fits is in the types.
+    fn write(&self, out: &mut BytesMut) -> Result<(), AllocError>
+        requires { TsduFits (units_of self.now) }
+        ensures ok { OnOk result (out.new.items ≡ out.old.items ++ tsdu_octets (units_of self.now)) }
+        ensures err { OnErr result (out.new.items ≡ out.old.items) }
+        ensures full { OnErr result (out.old.spare < length (tsdu_octets (units_of self.now))) }
+        ensures spare { UsesSpare result out.old.spare out.new.spare (length (tsdu_octets (units_of self.now))) }
+    {
         write_tsdu(self, out)
     }
 
-    fn written_len(&self) -> usize {
+    fn written_len(&self) -> usize
+        requires { TsduFits (units_of self.now) }
+        ensures { result ≡ length (tsdu_octets (units_of self.now)) }
+    {
         written_len(self)
     }
 

@@ -11,7 +11,7 @@ use crate::units::Spdu;
 
 /// The units of a TSDU: one of category 1, or one of category 0 and behind it at most 16 of
 /// category 2 (X.225 section 6.3.7, extended concatenation).
-#[derive(Clone, Copy, Debug)]
+#[derive(Clone, Copy)]
 pub struct Group<'a> {
     first: Spdu<'a>,
     behind: Behind<'a>,

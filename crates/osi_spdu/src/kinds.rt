@@ -6,7 +6,7 @@ ghost use Rattle.osi_spdu.specs.Writing.{among};
 use crate::codes::Code;
 
 /// A session unit, by the name that X.225 section 8 gives it.
-#[derive(Clone, Copy, Debug)]
+#[derive(Clone, Copy, PartialEq, Eq, Debug)]
 pub enum Kind {
     /// GT (SI 1 in the first place).
     GiveTokens,
@@ -45,7 +45,7 @@ pub enum Kind {
 }
 
 /// Where a unit may stand in a TSDU (X.225 section 6.3.7, basic concatenation).
-#[derive(Clone, Copy, Debug)]
+#[derive(Clone, Copy, PartialEq, Eq, Debug)]
 pub enum Category {
     /// Before a unit of category 2, or alone.
     Zero,

@@ -1,11 +1,13 @@
 //! What reading, spelling and the written form have to do with each other.
 
-ghost use Rattle.std.specs.Prelude.{◌≡◌, ◌≤◌, ℕ, List, Ok, Some};
+ghost use Rattle.std.specs.Prelude.{◌≡◌, ◌≤◌, ℕ, Bool, List, Ok, Err, Some};
 ghost use Rattle.osi_tpkt.specs.Octets.{IsOctets};
 ghost use Rattle.osi_spdu.specs.Values.{digits_of, numeral};
 ghost use Rattle.osi_spdu.specs.Known.{Contents, Units};
 ghost use Rattle.osi_spdu.specs.Groups.{units_of};
-ghost use Rattle.osi_spdu.specs.Reading.{tsdu_at};
+ghost use Rattle.osi_spdu.specs.Reading.{unit_at, tsdu_at};
+ghost use Rattle.osi_spdu.specs.Faults.{IsUnitFault, IsFirstFault};
+ghost use Rattle.osi_spdu.specs.declared.faults.SpduFault.{SpduFault};
 ghost use Rattle.osi_spdu.specs.Spelling.{SpellsTsdu};
 ghost use Rattle.osi_spdu.specs.Writing.{tsdu_octets, free_len, IsCanonical, IsFormedTsdu, UnitFits, TsduFits};
 
@@ -32,7 +34,7 @@ pub fn one_value()
 /// The written form spells the value, and is read as it.
 pub fn again()
     ensures spelled { (units : Units) → IsFormedTsdu units → TsduFits units →
-        SpellsTsdu units (tsdu_octets units) }
+        IsOctets (tsdu_octets units) → SpellsTsdu units (tsdu_octets units) }
     ensures read { (units : Units) → IsFormedTsdu units → TsduFits units →
         tsdu_at (tsdu_octets units) ≡ Ok units }
 {}
@@ -57,4 +59,22 @@ pub fn has_written_form(group: &Group)
 /// A serial number is read from the digits that it is written in.
 pub fn serial_digits()
     ensures { (n : ℕ) → n ≤ 999999 → numeral (digits_of n) ≡ Some n }
+{}
+
+/// The fault that reading answers at a unit is the first, and the first is answered. What stands in
+/// front of it is spelled well: the SI, and parameters of distinct codes.
+pub fn first_fault_of_a_unit()
+    ensures found { (second : Bool) (at : ℕ) (octets : List ℕ) (fault : SpduFault) → IsOctets octets →
+        unit_at second at octets ≡ Err fault → IsUnitFault second at octets fault }
+    ensures only { (second : Bool) (at : ℕ) (octets : List ℕ) (fault : SpduFault) → IsOctets octets →
+        IsUnitFault second at octets fault → unit_at second at octets ≡ Err fault }
+{}
+
+/// The fault that reading answers at a TSDU is the first, and the first is answered. What stands in
+/// front of it is spelled well: units that may stand there, and what a unit has in front of it.
+pub fn first_fault()
+    ensures found { (octets : List ℕ) (fault : SpduFault) → IsOctets octets →
+        tsdu_at octets ≡ Err fault → IsFirstFault octets fault }
+    ensures only { (octets : List ℕ) (fault : SpduFault) → IsOctets octets →
+        IsFirstFault octets fault → tsdu_at octets ≡ Err fault }
 {}

@@ -17,8 +17,8 @@ use crate::tokens::TokenSet;
 use crate::units::Spdu;
 
 /// What a CN proposes, or an AC answers, apart from its addresses and its user data. The protocol
-/// options have no bit set, and the version is 2.
-#[derive(Clone, Copy, Debug)]
+/// options say that extended concatenation is read, and the version is 2.
+#[derive(Clone, Copy, PartialEq, Eq, Debug)]
 pub struct Terms {
     /// The first synchronization point serial number.
     pub initial_number: Option<Serial>,
@@ -42,7 +42,7 @@ impl<'a> Spdu<'a> {
           kind = Kind.Connect;
           known = known_of (record no_params {
             connect_accept_item = true;
-            protocol_options = Some 0;
+            protocol_options = Some 1;
             version = Some 2;
             initial_number = terms.initial_number;
             token_setting = Some terms.token_setting;
@@ -58,7 +58,7 @@ impl<'a> Spdu<'a> {
     {
         let params = Params {
             connect_accept_item: true,
-            protocol_options: Some(0),
+            protocol_options: Some(1),
             version: Some(2),
             initial_number: terms.initial_number,
             token_setting: Some(terms.token_setting),
@@ -77,7 +77,7 @@ impl<'a> Spdu<'a> {
           kind = Kind.Accept;
           known = known_of (record no_params {
             connect_accept_item = true;
-            protocol_options = Some 0;
+            protocol_options = Some 1;
             version = Some 2;
             initial_number = terms.initial_number;
             token_setting = Some terms.token_setting;
@@ -91,7 +91,7 @@ impl<'a> Spdu<'a> {
     {
         let params = Params {
             connect_accept_item: true,
-            protocol_options: Some(0),
+            protocol_options: Some(1),
             version: Some(2),
             initial_number: terms.initial_number,
             token_setting: Some(terms.token_setting),

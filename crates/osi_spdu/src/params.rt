@@ -1,9 +1,10 @@
-ghost use Rattle.std.specs.Prelude.{◌≡◌, ◌==◌, None, Some, is_some, option_map, length, if◌then◌else◌};
+ghost use Rattle.std.specs.Prelude.{◌≡◌, ◌==◌, true, None, Some, is_some, option_map, length, if◌then◌else◌};
 ghost use Rattle.osi_spdu.specs.Codes.{slot_of};
 ghost use Rattle.osi_spdu.specs.Values.{canonical, digits_of};
-ghost use Rattle.osi_spdu.specs.Known.{nothing};
+ghost use Rattle.osi_spdu.specs.Known.{nothing, some_octets};
 ghost use Rattle.osi_spdu.specs.Octets.{octets_of};
-ghost use Rattle.osi_spdu.specs.Params.{cells_of, place_of, filled, slots_of, known_of, present};
+ghost use Rattle.osi_spdu.specs.Params.{cells_of, place_of, filled, slots_of, known_of, is_settled, present};
+ghost use Rattle.osi_spdu.specs.Fields.{token_octets, tokens_alone};
 
 use crate::codes::Code;
 use crate::fields::{Enclosure, Reason, ResyncType, SyncType, TsduMaximumSize, octet_of};
@@ -17,7 +18,7 @@ use crate::tokens::TokenSet;
 /// The parameters of a session unit (X.225 section 8), each by its meaning, its code in brackets.
 ///
 /// What stands in a group counts only where the group is there.
-#[derive(Clone, Copy, Debug)]
+#[derive(Clone, Copy)]
 pub struct Params<'a> {
     /// Whether the group of the references is there (1).
     pub connection_identifier: bool,
@@ -105,6 +106,19 @@ impl<'a> Params<'a> {
         Params::NONE
     }
 
+    /// The parameters as a unit keeps them: a token item has no bit that names no token, and empty
+    /// user data is none.
+    pub(crate) fn settled(self) -> Params<'a>
+        ensures value { known_of result ≡ known_of self.entry }
+        ensures settled { is_settled result ≡ true }
+    {
+        Params {
+            token_item: tokens_alone(self.token_item),
+            user_data: some_octets(self.user_data),
+            ..self
+        }
+    }
+
     /// The value of a parameter as it is written, empty user data included. A group that is there
     /// has no octet of its own.
     #[tactic(auto, unfolding(crate::specs::Params::slots_of, crate::specs::Params::cells_of, crate::specs::Params::place_of))]
@@ -152,10 +166,36 @@ impl<'a> Params<'a> {
     }
 
     /// Whether a parameter is there, empty user data included.
+    #[tactic(auto, using(crate::proofs::ParamsLaws::has_mapped, crate::proofs::ParamsLaws::has_present), unfolding(crate::specs::Params::slots_of, crate::specs::Params::cells_of, crate::specs::Params::place_of))]
     pub(crate) fn has(&self, code: Code) -> bool
         ensures { result ≡ is_some (slots_of self.now code) }
     {
-        self.slot(code).is_some()
+        match code {
+            Code::ConnectionIdentifier => self.connection_identifier,
+            Code::ConnectAcceptItem => self.connect_accept_item,
+            Code::CalledReference => self.called_reference.is_some(),
+            Code::CallingReference => self.calling_reference.is_some(),
+            Code::CommonReference => self.common_reference.is_some(),
+            Code::AdditionalReference => self.additional_reference.is_some(),
+            Code::SyncType => self.sync_type.is_some(),
+            Code::TokenItem => self.token_item.is_some(),
+            Code::TransportDisconnect => self.transport_disconnect.is_some(),
+            Code::ProtocolOptions => self.protocol_options.is_some(),
+            Code::UserRequirements => self.user_requirements.is_some(),
+            Code::TsduMaximumSize => self.tsdu_maximum_size.is_some(),
+            Code::Version => self.version.is_some(),
+            Code::InitialNumber => self.initial_number.is_some(),
+            Code::Enclosure => self.enclosure.is_some(),
+            Code::TokenSetting => self.token_setting.is_some(),
+            Code::ResyncType => self.resync_type.is_some(),
+            Code::Number => self.number.is_some(),
+            Code::Reflect => self.reflect.is_some(),
+            Code::Reason => self.reason.is_some(),
+            Code::CallingSelector => self.calling_selector.is_some(),
+            Code::CalledSelector => self.called_selector.is_some(),
+            Code::UserData => self.user_data.is_some(),
+            Code::ExtendedUserData => false,
+        }
     }
 
     /// Puts the value of a parameter into its slot, or `None` where it is no value of this code.
@@ -192,6 +232,27 @@ impl<'a> Params<'a> {
             Code::ExtendedUserData => self.user_data = Some(value),
         }
         Some(())
+    }
+}
+
+/// The tokens without bits that name none.
+fn tokens_alone(tokens: Option<TokenSet>) -> Option<TokenSet>
+    ensures same { option_map token_octets result ≡ option_map token_octets tokens }
+    ensures alone { tokens_alone result ≡ true }
+{
+    let tokens = tokens?;
+    Some(tokens.alone())
+}
+
+/// The octets, if there are some.
+fn some_octets(octets: Option<&[u8]>) -> Option<&[u8]>
+    ensures same { option_map (λ s. s.now) result ≡ some_octets (option_map (λ s. s.now) octets.entry) }
+{
+    let octets = octets?;
+    if octets.is_empty() {
+        None
+    } else {
+        Some(octets)
     }
 }
 

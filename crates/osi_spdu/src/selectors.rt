@@ -6,7 +6,7 @@ use crate::codes::Code;
 use crate::octets::Value;
 
 /// The address of a session user: 0 to 16 octets (X.225 section 8, session selector).
-#[derive(Clone, Copy, Debug)]
+#[derive(Clone, Copy, PartialEq, Eq, Debug)]
 pub struct Selector<'a> {
     /// The octets.
     pub octets: &'a [u8],

@@ -1,8 +1,8 @@
-ghost use Rattle.std.specs.Prelude.{⊤, ◌≡◌, ◌/◌, ◌%◌, ◌==◌, ◌-◌, ◌^◌, [], ◌∷◌, codes, option_map};
+ghost use Rattle.std.specs.Prelude.{⊤, ◌≡◌, ◌/◌, ◌%◌, ◌==◌, ◌-◌, ◌^◌, [], ◌∷◌, codes, true, option_map};
 ghost use Rattle.std.specs.Int.RustNames.{bit_and, bit_or};
 ghost use Rattle.bitflags.specs.Sets.{without};
 ghost use Rattle.osi_spdu.specs.Values.{token_bits, canonical};
-ghost use Rattle.osi_spdu.specs.Fields.{token_octets};
+ghost use Rattle.osi_spdu.specs.Fields.{token_octets, tokens_alone};
 ghost use Rattle.osi_spdu.specs.Octets.{octets_of};
 
 use crate::codes::Code;
@@ -47,7 +47,9 @@ impl TokenSet {
 
     #[tactic(auto, unfolding(crate::specs::Values::canonical))]
     pub(crate) fn read(value: &[u8]) -> Option<TokenSet>
-        ensures { canonical Code.TokenItem value.now ≡ option_map token_octets result }
+        ensures value { canonical Code.TokenItem value.now ≡ option_map token_octets result }
+        // The other bits are left out where the octet is read.
+        ensures alone { tokens_alone result ≡ true }
     {
         match value {
             [octet] => Some(TokenSet(*octet & 0x55)),
@@ -60,6 +62,13 @@ impl TokenSet {
         ensures { result ∷ [] ≡ token_octets self }
     {
         self.0 & 0x55
+    }
+
+    /// The set without bits that name no token.
+    pub(crate) fn alone(self) -> TokenSet
+        ensures { result.0 ≡ token_bits self.0 }
+    {
+        TokenSet(self.0 & 0x55)
     }
 
     pub(crate) fn value<'a>(self) -> Value<'a>

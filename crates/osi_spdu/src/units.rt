@@ -1,7 +1,7 @@
 ghost use Rattle.std.specs.Prelude.{◌≡◌, ◌≤◌, true, length, MatchOption, option_map, []};
 ghost use Rattle.osi_spdu.specs.Kinds.{codes_of, members_of};
 ghost use Rattle.osi_spdu.specs.Octets.{octets_of};
-ghost use Rattle.osi_spdu.specs.Params.{known_of, lent_len};
+ghost use Rattle.osi_spdu.specs.Params.{known_of, lent_len, is_settled};
 ghost use Rattle.osi_spdu.specs.Writing.{is_formed, is_informed, written_code, UnitFits};
 
 use crate::codes::Code;
@@ -13,11 +13,12 @@ use crate::writing::written_code;
 /// A session protocol data unit (X.225 section 8).
 ///
 /// It has no parameter that its kind does not know, and each that its kind must have.
-#[derive(Clone, Copy, Debug)]
+#[derive(Clone, Copy)]
 pub struct Spdu<'a> {
     kind: Kind,
     params: Params<'a>,
     information: &'a [u8],
+    ghost settled: { is_settled params ≡ true },
     ghost formed: { is_formed kind (known_of params) ≡ true },
     ghost informed: { is_informed kind information.now ≡ true },
 }
@@ -36,7 +37,7 @@ impl<'a> Spdu<'a> {
     {
         Spdu {
             kind,
-            params,
+            params: params.settled(),
             information: &[],
         }
     }
@@ -53,7 +54,7 @@ impl<'a> Spdu<'a> {
     {
         Spdu {
             kind,
-            params,
+            params: params.settled(),
             information,
         }
     }
@@ -65,9 +66,11 @@ impl<'a> Spdu<'a> {
         self.kind
     }
 
-    /// The parameters, those of its groups included.
+    /// The parameters, those of its groups included. A token item has no bit that names no token, and
+    /// empty user data is none.
     pub fn params(&self) -> &Params<'a>
-        ensures { known_of result.now ≡ (said_by self.now).known }
+        ensures known { known_of result.now ≡ (said_by self.now).known }
+        ensures settled { is_settled result.now ≡ true }
     {
         &self.params
     }

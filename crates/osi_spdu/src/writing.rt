@@ -3,6 +3,7 @@
 ghost use Rattle.std.specs.Prelude.{◌≡◌, ◌≤◌, ◌<◌, ◌^◌, ◌+◌, ◌*◌, ◌++◌, [], ◌∷◌, length, nat_lt, Ok, OnOk, OnErr, if◌then◌else◌};
 ghost use Rattle.std.specs.List.{flat_map};
 ghost use Rattle.bytes.specs.Filled.{UsesSpare};
+ghost use Rattle.osi_tpkt.specs.Octets.{IsOctets};
 ghost use Rattle.osi_spdu.specs.Codes.{number_of};
 ghost use Rattle.osi_spdu.specs.Octets.{octets_of};
 ghost use Rattle.osi_spdu.specs.Params.{known_of};
@@ -251,6 +252,13 @@ fn put_group(out: &mut BytesMut, group: &Group)
     put_behind(out, group.behind());
 }
 
+/// What a slice of octets holds are octets.
+fn are_octets(octets: &[u8])
+    ensures { IsOctets octets.now }
+{
+    let _octets = octets;
+}
+
 /// Appends the written form of the units of a TSDU (X.225 section 8).
 ///
 /// An `Err` leaves the octets of `out` as they were, and comes only where `out` had no room for
@@ -263,10 +271,11 @@ pub fn write_tsdu(group: &Group, out: &mut BytesMut) -> Result<(), AllocError>
     // The room that was there is used for what is written, and for nothing else.
     ensures spare { UsesSpare result out.old.spare out.new.spare (length (tsdu_octets (units_of group.now))) }
     // What is appended spells the units, and is read as them.
-    ensures spelled { SpellsTsdu (units_of group.now) (tsdu_octets (units_of group.now)) }
+    ensures spelled { OnOk result (SpellsTsdu (units_of group.now) (tsdu_octets (units_of group.now))) }
     ensures read { tsdu_at (tsdu_octets (units_of group.now)) ≡ Ok (units_of group.now) }
 {
     out.reserve(written_len(group))?;
     put_group(out, group);
+    are_octets(out.as_slice());
     Ok(())
 }

@@ -10,8 +10,8 @@ use Rattle.osi_spdu.specs.Laws.Steps.{ok_is}
 use Rattle.osi_spdu.specs.Laws.Tsdus.{tsdu_only}
 use Rattle.osi_spdu.specs.Laws.Written.{tsdu_written}
 
-pub grammar_spelled : (units : Units) → IsFormedTsdu units × TsduFits units → SpellsTsdu units (tsdu_octets units)
-grammar_spelled units h = tsdu_written units h.0 h.1
+pub grammar_spelled : (units : Units) → IsFormedTsdu units × TsduFits units × IsOctets (tsdu_octets units) → SpellsTsdu units (tsdu_octets units)
+grammar_spelled units h = tsdu_written units h.0 h.1 h.2
 
 abbrev AtFront : Units → ℕ → List ℕ → Type 0
 AtFront units n octets = IsAtFront {V = Units} (λ u o. SpellsTsdu u o) (λ u o. o ≡ []) units n octets

@@ -145,13 +145,13 @@ unit_only second at unit front rest s stands =
 
 -- ---- a unit behind another
 
-second_stands : (category : Category) → may_stand true category ≡ true → category ≡ Two
+pub second_stands : (category : Category) → may_stand true category ≡ true → category ≡ Two
 unfolding may_stand
 second_stands Zero e = absurd cc
 second_stands One e = absurd cc
 second_stands Two e = refl
 
-two_second : (category : Category) → category ≡ Two → may_stand true category ≡ true
+pub two_second : (category : Category) → category ≡ Two → may_stand true category ≡ true
 unfolding may_stand
 two_second category e = rw e refl
 
@@ -159,15 +159,15 @@ informed_all : (kind : Kind) (information : List ℕ) → takes_rest kind ≡ tr
 informed_all DataTransfer information e = tt
 informed_all _ information e = absurd cc
 
-informed_none : (kind : Kind) → HasInformation kind []
+pub informed_none : (kind : Kind) → HasInformation kind []
 informed_none DataTransfer = tt
 informed_none _ = refl
 
-informed_plain : (kind : Kind) (information : List ℕ) → takes_rest kind ≡ false → HasInformation kind information → information ≡ []
+pub informed_plain : (kind : Kind) (information : List ℕ) → takes_rest kind ≡ false → HasInformation kind information → information ≡ []
 informed_plain DataTransfer information e h = absurd cc
 informed_plain _ information e h = h
 
-ends_none : (kind : Kind) (units : Units) → takes_rest kind ≡ false → EndsTsdu kind units
+pub ends_none : (kind : Kind) (units : Units) → takes_rest kind ≡ false → EndsTsdu kind units
 ends_none DataTransfer units e = absurd cc
 ends_none _ units e = tt
 
@@ -290,7 +290,7 @@ behind_stands (suc room) at (si ∷ octets) units e =
     subst (λ (us : Units). Standing us (suc room)) (ok_is (n.unit ∷ b.0) units b.2) ((is.two, is.ends b.0 none, r.0), omega (arith, r.1))
 
 -- a unit is never empty, so octets with a unit begin with an octet
-behind_cons : (room at : ℕ) (front tail : List ℕ) (unit : Contents) → SpellsUnit unit front
+pub behind_cons : (room at : ℕ) (front tail : List ℕ) (unit : Contents) → SpellsUnit unit front
     → behind_at (suc room) at (front ++ tail) ≡ (next_at at (front ++ tail) >>= λ n. behind_at room n.end n.rest >>= λ others. Ok (n.unit ∷ others))
 unfolding behind_at
 behind_cons room at front tail unit s =
@@ -322,36 +322,36 @@ ended_ok : (at : ℕ) (octets : List ℕ) (unit : Contents) (units : Units) → 
 ended_ok at [] unit units e = (refl, ok_is (unit ∷ []) units e)
 ended_ok at (b ∷ octets) unit units e = absurd cc
 
-not_second : (category : Category) → may_stand false category ≡ true → category ≡ Two → ⊥
+pub not_second : (category : Category) → may_stand false category ≡ true → category ≡ Two → ⊥
 unfolding may_stand
 not_second Zero e h = absurd cc
 not_second One e h = absurd cc
 not_second Two e h = absurd cc
 
 -- a first unit with those behind it
-first_found : (octets : List ℕ) (p : Placed) (behind : Units) → IsUnitAt false octets p → MayFollow (category_of p.kind) behind → AreBehind behind → AreUnits behind p.rest
+first_found : (octets : List ℕ) (p : Placed) (behind : Units) → IsOctets octets → IsUnitAt false octets p → MayFollow (category_of p.kind) behind → AreBehind behind → AreUnits behind p.rest
     → SpellsTsdu (contents_of p [] ∷ behind) octets
 unfolding SpellsTsdu StandTogether
-first_found octets p behind is follow are spelled = ((follow, are), (is.front, p.rest, is.parts, is.spelled [], informed_none p.kind, spelled))
+first_found octets p behind fits is follow are spelled = (fits, (follow, are), (is.front, p.rest, is.parts, is.spelled [], informed_none p.kind, spelled))
 
-ended_found : (octets : List ℕ) (p : Placed) (units : Units) → category_of p.kind ≡ One → IsUnitAt false octets p → ended p.end p.rest (contents_of p []) ≡ Ok units → SpellsTsdu units octets
-ended_found octets p units one is e =
+ended_found : (octets : List ℕ) (p : Placed) (units : Units) → IsOctets octets → category_of p.kind ≡ One → IsUnitAt false octets p → ended p.end p.rest (contents_of p []) ≡ Ok units → SpellsTsdu units octets
+ended_found octets p units fits one is e =
     let r = ended_ok p.end p.rest (contents_of p []) units e in
-    subst (λ (us : Units). SpellsTsdu us octets) r.1 (first_found octets p [] is (rw one refl) tt r.0)
+    subst (λ (us : Units). SpellsTsdu us octets) r.1 (first_found octets p [] fits is (rw one refl) tt r.0)
 
-continued_found : (octets : List ℕ) (p : Placed) (units : Units) (category : Category) → category_of p.kind ≡ category → IsUnitAt false octets p → continued category p ≡ Ok units → SpellsTsdu units octets
-continued_found octets p units Zero same is e =
+continued_found : (octets : List ℕ) (p : Placed) (units : Units) (category : Category) → IsOctets octets → category_of p.kind ≡ category → IsUnitAt false octets p → continued category p ≡ Ok units → SpellsTsdu units octets
+continued_found octets p units Zero fits same is e =
     let a = bind_ok (behind_at 16 p.end p.rest) (λ behind. Ok (contents_of p [] ∷ behind)) units e in
     let r = behind_stands 16 p.end p.rest a.0 a.1 in
-    subst (λ (us : Units). SpellsTsdu us octets) (ok_is (contents_of p [] ∷ a.0) units a.2) (first_found octets p a.0 is (rw same r.1) r.0 (behind_found 16 p.end p.rest a.0 is.rest_octets a.1))
-continued_found octets p units One same is e = ended_found octets p units same is e
-continued_found octets p units Two same is e = absurd (not_second (category_of p.kind) is.stands same)
+    subst (λ (us : Units). SpellsTsdu us octets) (ok_is (contents_of p [] ∷ a.0) units a.2) (first_found octets p a.0 fits is (rw same r.1) r.0 (behind_found 16 p.end p.rest a.0 is.rest_octets a.1))
+continued_found octets p units One fits same is e = ended_found octets p units fits same is e
+continued_found octets p units Two fits same is e = absurd (not_second (category_of p.kind) is.stands same)
 
 pub tsdu_found : (octets : List ℕ) (units : Units) → IsOctets octets → tsdu_at octets ≡ Ok units → SpellsTsdu units octets
 unfolding tsdu_at
 tsdu_found octets units fits e =
     let a = bind_ok (unit_at false 0 octets) (λ unit. continued (category_of unit.kind) unit) units e in
-    continued_found octets a.0 units (category_of a.0.kind) refl (unit_found false 0 octets a.0 fits a.1) a.2
+    continued_found octets a.0 units (category_of a.0.kind) fits refl (unit_found false 0 octets a.0 fits a.1) a.2
 
 -- ---- and back
 
@@ -375,20 +375,24 @@ continued_only One p behind none are spelled =
     ap (λ (r : List ℕ). ended p.end r (contents_of p [])) empty ∙ ap (λ (us : Units). Ok (contents_of p [] ∷ us)) (sym none)
 continued_only Two p behind h are spelled = absurd h
 
-pub tsdu_only : (units : Units) (octets : List ℕ) → SpellsTsdu units octets → tsdu_at octets ≡ Ok units
-unfolding tsdu_at SpellsTsdu StandTogether
-tsdu_only [] octets s = absurd s.0
-tsdu_only (first ∷ behind) octets s =
-    let u = s.1 in
-    let stands = first_stands (category_of first.kind) behind s.0.0 in
+-- units that stand together are read, whatever numbers stand for their octets
+pub tsdu_read : (units : Units) (octets : List ℕ) → StandTogether units → AreUnits units octets → tsdu_at octets ≡ Ok units
+unfolding tsdu_at StandTogether
+tsdu_read [] octets together u = absurd together
+tsdu_read (first ∷ behind) octets together u =
+    let stands = first_stands (category_of first.kind) behind together.0 in
     let empty : first.information ≡ [] = informed_plain first.kind first.information (first_plain first.kind stands) u.4 in
     let whole : octets ≡ u.0 ++ u.1 = u.2 ∙ ap (λ (t : List ℕ). u.0 ++ (t ++ u.1)) empty in
     let one = unit_only false 0 first u.0 u.1 u.3 stands in
     let p : Placed = record { kind = first.kind; known = first.known; end = one.0; rest = u.1 } in
     let same : contents_of p [] ≡ first = λ i. (let c : Contents = record { kind = first.kind; known = first.known; information = sym empty i } in c) in
     let read : tsdu_at (u.0 ++ u.1) ≡ Ok (contents_of p [] ∷ behind) =
-    bind_of (unit_at false 0 (u.0 ++ u.1)) (λ unit. continued (category_of unit.kind) unit) p (Ok (contents_of p [] ∷ behind)) one.1 (continued_only (category_of first.kind) p behind s.0.0 s.0.1 u.5) in
+    bind_of (unit_at false 0 (u.0 ++ u.1)) (λ unit. continued (category_of unit.kind) unit) p (Ok (contents_of p [] ∷ behind)) one.1 (continued_only (category_of first.kind) p behind together.0 together.1 u.5) in
     ap tsdu_at whole ∙ read ∙ ap (λ (c : Contents). Ok (c ∷ behind)) same
+
+pub tsdu_only : (units : Units) (octets : List ℕ) → SpellsTsdu units octets → tsdu_at octets ≡ Ok units
+unfolding SpellsTsdu
+tsdu_only units octets s = tsdu_read units octets s.1 s.2
 
 -- ---- the units that are left
 

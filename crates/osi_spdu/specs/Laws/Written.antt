@@ -4,6 +4,7 @@ use Rattle.std.specs.Prelude.{is_some, is_none, IsSome}
 use Rattle.std.specs.List.{flat_map, list_any, list_all, AllByRecursion}
 use Rattle.std.proofs.lemmas.Bool.{cases_Bool, and_parts, and_from, or_cases, or_parts, or_left, or_right, ltb-false, not-true}
 use Rattle.std.proofs.lemmas.List.{length-append}
+use Rattle.osi_tpkt.specs.Octets.{IsOctets}
 use Rattle.osi_spdu.specs.declared.codes.Code.{Code}
 use Rattle.osi_spdu.specs.declared.codes.Code.TheVariants.{UserData, ExtendedUserData}
 use Rattle.osi_spdu.specs.declared.kinds.Kind.{Kind}
@@ -341,12 +342,12 @@ unit_written unit is fits =
     body_counted true e = fits
     body_counted false e = (let l = ltb-false 254 (length (body_octets unit.kind unit.known)) e in omega arith)
 
-units_written : (units : Units) → AllByRecursion IsFormedUnit units → TsduFits units → AreUnits units (tsdu_octets units)
+pub units_written : (units : Units) → AllByRecursion IsFormedUnit units → TsduFits units → AreUnits units (tsdu_octets units)
 unfolding tsdu_octets
 units_written [] is fits = refl
 units_written (unit ∷ units) is fits = (unit_octets unit, tsdu_octets units, refl, unit_written unit is.0 fits.0, is.0.informed, units_written units is.1 fits.1)
 
 -- the written form spells its value
-pub tsdu_written : (units : Units) → IsFormedTsdu units → TsduFits units → SpellsTsdu units (tsdu_octets units)
+pub tsdu_written : (units : Units) → IsFormedTsdu units → TsduFits units → IsOctets (tsdu_octets units) → SpellsTsdu units (tsdu_octets units)
 unfolding SpellsTsdu
-tsdu_written units is fits = (is.together, units_written units is.formed fits)
+tsdu_written units is fits octets = (octets, is.together, units_written units is.formed fits)

@@ -1,14 +1,20 @@
+use Rattle.std.proofs.Common.{◌++◌, ◌∙◌, ap, subst}
+use Rattle.std.proofs.lemmas.List.{drop_at}
+use Rattle.osi_tpkt.specs.Octets.{IsOctets}
 use Rattle.osi_spdu.proofs.CanonicalLaws.{group_spelled, group_read}
+use Rattle.osi_spdu.proofs.WritingUnits.{octets_behind}
+use Rattle.osi_spdu.specs.Groups.{units_of}
+use Rattle.osi_spdu.specs.Writing.{tsdu_octets}
 use Rattle.osi_spdu.proofs.writing.write_tsdu.Goals as goal
-
-pub returns-in_err-reserve-clause-spelled : goal.returns-in_err-reserve-clause-spelled
-returns-in_err-reserve-clause-spelled c = group_spelled c.args.group.now c.requires
 
 pub returns-in_err-reserve-clause-read : goal.returns-in_err-reserve-clause-read
 returns-in_err-reserve-clause-read c = group_read c.args.group.now c.requires
 
 pub returns-clause-spelled : goal.returns-clause-spelled
-returns-clause-spelled c = group_spelled c.args.group.now c.requires
+returns-clause-spelled c =
+    let octets = tsdu_octets (units_of c.args.group.now) in
+    group_spelled c.args.group.now c.requires
+    (octets_behind c.reserve.new.self.items octets (subst IsOctets (c.as_slice.ensures ∙ c.put_group.ensures.items) c.are_octets.ensures))
 
 pub returns-clause-read : goal.returns-clause-read
 returns-clause-read c = group_read c.args.group.now c.requires

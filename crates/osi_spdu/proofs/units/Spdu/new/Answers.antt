@@ -1,10 +1,17 @@
-use Rattle.std.proofs.Common.{refl, []}
-use Rattle.osi_spdu.specs.Known.{Contents}
+use Rattle.std.proofs.Common.{◌≡◌, true, sym, subst, []}
+use Rattle.osi_spdu.specs.Known.{Known, Contents}
 use Rattle.osi_spdu.specs.Params.{known_of}
+use Rattle.osi_spdu.specs.Writing.{is_formed}
 use Rattle.osi_spdu.proofs.MadeLaws.{made_fits}
 use Rattle.osi_spdu.proofs.units.Spdu.new.Goals as goal
 
+pub invariant_of-result-clause-formed : goal.invariant_of-result-clause-formed
+invariant_of-result-clause-formed c = subst (λ (k : Known). is_formed c.args.kind k ≡ true) (sym c.settled.ensures.value) c.requires
+
+pub returns-clause-value : goal.returns-clause-value
+returns-clause-value c = λ i. (let unit : Contents = record { kind = c.args.kind; known = c.settled.ensures.value i; information = [] } in unit)
+
 pub returns-clause-fits : goal.returns-clause-fits
 returns-clause-fits c =
-    let unit : Contents = record { kind = c.args.kind; known = known_of c.args.params; information = [] } in
-    λ few. made_fits unit c.args.params refl few
+    let unit : Contents = record { kind = c.args.kind; known = known_of c.settled.result; information = [] } in
+    λ few. made_fits unit c.args.params c.settled.ensures.value few
