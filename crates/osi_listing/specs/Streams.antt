@@ -1,5 +1,7 @@
 -- The TSDUs of a capture: the user data of the data units of each stream, joined up to each EOT.
-use Rattle.std.specs.Prelude.{ℕ, ◌+◌, ◌==◌, nat_lt, Bool, true, false, if◌then◌else◌, List, [], ◌∷◌, ◌++◌, length, filter, Option, Some, None, option_to_list}
+use Rattle.std.specs.Prelude.{ℕ, ◌==◌, Bool, true, false, if◌then◌else◌, List, [], ◌∷◌, ◌++◌, filter, Option, Some, None, Result, Ok, Err, option_to_list}
+use Rattle.osi_class.specs.declared.faults.LinkFault.{LinkFault}
+use Rattle.osi_class.specs.Joining.{Joining, joined_to}
 use Rattle.osi_tpdu.specs.Value.{Value, request, confirm, disconnect, disconnected, data0, data2, acknowledge, error}
 
 -- a data unit: its stream, which is one for class 0 and one for each DST-REF in class 2, its EOT and its user data
@@ -34,20 +36,26 @@ pub data Outcome : Type 0 where
   Whole : List ℕ → Outcome
   TooLong : Outcome
 
--- a TSDU has at most 1,048,576 octets
-abbrev pub is_too_long : List ℕ → List ℕ → Bool
-is_too_long begun octets = nat_lt 1048576 (length begun + length octets)
+-- parts are joined as a link joins them; those behind one that is too long are dropped
+abbrev pub join_after : Bool → Result Joining LinkFault → Join
+join_after end (Ok joining) = Begun joining.begun
+join_after end (Err fault) = if end then Begun [] else Dropping
 
 abbrev pub joined : Join → Bool → List ℕ → Join
 joined Dropping end octets = if end then Begun [] else Dropping
-joined (Begun begun) end octets =
-    if is_too_long begun octets then (if end then Begun [] else Dropping)
-    else (if end then Begun [] else Begun (begun ++ octets))
+joined (Begun begun) end octets = join_after end (joined_to begun end octets)
+
+abbrev pub first_whole : List (List ℕ) → Outcome
+first_whole [] = Nothing
+first_whole (tsdu ∷ more) = Whole tsdu
+
+abbrev pub outcome_after : Result Joining LinkFault → Outcome
+outcome_after (Ok joining) = first_whole joining.whole
+outcome_after (Err fault) = TooLong
 
 abbrev pub brought : Join → Bool → List ℕ → Outcome
 brought Dropping end octets = Nothing
-brought (Begun begun) end octets =
-    if is_too_long begun octets then TooLong else (if end then Whole (begun ++ octets) else Nothing)
+brought (Begun begun) end octets = outcome_after (joined_to begun end octets)
 
 abbrev pub is_same_stream : Option ℕ → Option ℕ → Bool
 is_same_stream None None = true

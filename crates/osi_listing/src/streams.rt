@@ -3,13 +3,11 @@ ghost use Rattle.osi_listing.specs.Streams.{joined, brought};
 ghost use Rattle.osi_listing.specs.Streams.Join.{Begun};
 ghost use Rattle.osi_listing.specs.Joins.{join_value, outcome_value, join_at};
 
+use osi_class::LONGEST_TSDU;
 use osi_tpdu::Tpdu;
 use std::alloc::{AllocError, Global};
 use std::collections::BTreeMap;
 use std::mem;
-
-/// The greatest number of octets of a TSDU.
-pub(crate) const LONGEST_TSDU: usize = 1_048_576;
 
 /// What is joined of the TSDU under way in one stream.
 #[derive(Drop)]
