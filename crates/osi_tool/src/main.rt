@@ -11,6 +11,7 @@ mod jobs;
 mod showing;
 #[cfg(test)]
 mod tests;
+mod texts;
 mod words;
 
 use clap::Error;

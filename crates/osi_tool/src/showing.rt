@@ -1,24 +1,20 @@
-ghost use Rattle.std.specs.Prelude.{◌≡◌, ◌<◌, ◌≤◌, ◌++◌, ℕ, List, length, Err, Ok, IfOk, IfSome, OnOk};
-ghost use Rattle.std.specs.Io.KnownBytes.{Appends, Consumes, IsAtEnd, Keeps};
+ghost use Rattle.std.specs.Prelude.{◌≡◌, ◌<◌, ◌≤◌, ◌⊎◌, ◌++◌, ℕ, List, length, Err, Ok, IfOk, IfErr, IfSome, OnOk, MatchBool};
+ghost use Rattle.std.specs.Io.KnownBytes.{Appends, Consumes, Keeps};
 ghost use Rattle.osi_tool.specs.Capture.{Captures, IsNoCapture};
-ghost use Rattle.osi_tool.specs.Show.{Shows, TakesAtMost};
+ghost use Rattle.osi_tool.specs.Show.{IsRead, Shows, TakesAtMost};
 
-use crate::capture::octets_of;
 use crate::faults::ToolFault;
-use osi_listing::list;
+use crate::texts::{LONGEST_INPUT, list_text};
 use std::alloc::Global;
 use std::io::{ErrorKind, Read, Write};
-
-/// The greatest number of octets that are read.
-pub const LONGEST_INPUT: usize = 16_777_216;
 
 /// How many octets are asked for in one read.
 const PIECE: usize = 65536;
 
-/// Reads to the end, at most one octet more than the longest input.
+/// Reads to the end, or one octet more than the longest input.
 fn read_input<R: Read>(alloc: Global, reader: &mut R) -> Result<Vec<u8>, ToolFault>
     ensures ok { IfOk result (λ input. Consumes (R.remaining reader.old) (R.remaining reader.new) input.items
-        × IsAtEnd (R.remaining reader.new)) }
+        × IsRead (R.remaining reader.new) input.items) }
     ensures most { TakesAtMost 16777217 (R.remaining reader.old) (R.remaining reader.new) }
     ensures bad_hex { result ≡ Err ToolFault.BadHex → ⊥ }
     ensures write { result ≡ Err ToolFault.Write → ⊥ }
@@ -29,7 +25,11 @@ fn read_input<R: Read>(alloc: Global, reader: &mut R) -> Result<Vec<u8>, ToolFau
         let room = (LONGEST_INPUT + 1 - input.len()).min(PIECE);
         match reader.read(&mut piece[..room]) {
             Ok(0) => return Ok(input),
-            Ok(count) => keep(&mut input, &piece[..count])?,
+            Ok(count) => {
+                if keep(&mut input, &piece[..count])? {
+                    return Ok(input);
+                }
+            }
             Err(error) => {
                 if error.kind() != ErrorKind::Interrupted {
                     return Err(ToolFault::Input);
@@ -40,20 +40,17 @@ fn read_input<R: Read>(alloc: Global, reader: &mut R) -> Result<Vec<u8>, ToolFau
     Err(ToolFault::Input)
 }
 
-/// Adds a piece to the input, which is then not too long.
-fn keep(input: &mut Vec<u8>, piece: &[u8]) -> Result<(), ToolFault>
+/// Adds a piece to the input, and answers whether it is then too long.
+fn keep(input: &mut Vec<u8>, piece: &[u8]) -> Result<bool, ToolFault>
     ensures ok { OnOk result (input.new.items ≡ input.old.items ++ piece.now) }
-    ensures most { OnOk result (length input.new.items ≤ 16777216) }
-    ensures bad_hex { result ≡ Err ToolFault.BadHex → ⊥ }
-    ensures write { result ≡ Err ToolFault.Write → ⊥ }
+    ensures long { IfOk result (λ long. MatchBool long
+        (16777216 < length input.new.items) (length input.new.items ≤ 16777216)) }
+    ensures memory { IfErr result (λ fault. fault ≡ ToolFault.OutOfMemory) }
 {
     if input.extend_from_slice(piece).is_err() {
         return Err(ToolFault::OutOfMemory);
     }
-    if input.len() > LONGEST_INPUT {
-        return Err(ToolFault::Input);
-    }
-    Ok(())
+    Ok(input.len() > LONGEST_INPUT)
 }
 
 /// Lists the capture that a reader gives. The whole text is made before the first write.
@@ -66,6 +63,8 @@ pub fn show<R: Read, W: Write>(
         Shows text (W.contents writer.old) (W.contents writer.new) status)) }
     ensures status { IfOk result (λ status. status < 2) }
     ensures most { TakesAtMost 16777217 (R.remaining reader.old) (R.remaining reader.new) }
+    ensures long { IfSome (R.remaining reader.old) (λ text. 16777216 < length text →
+        (result ≡ Err ToolFault.Input) ⊎ (result ≡ Err ToolFault.OutOfMemory)) }
     ensures input { result ≡ Err ToolFault.Input → writer.new ≡ writer.old }
     ensures bad_hex { result ≡ Err ToolFault.BadHex →
         IfSome (R.remaining reader.old) IsNoCapture × (writer.new ≡ writer.old) }
@@ -74,16 +73,12 @@ pub fn show<R: Read, W: Write>(
     ensures memory { result ≡ Err ToolFault.OutOfMemory → writer.new ≡ writer.old }
 {
     let input = read_input(alloc, reader)?;
-    let octets = octets_of(alloc, input.as_slice())?;
-    let mut text = Vec::new(alloc);
-    let Ok(status) = list(alloc, &mut text, octets.as_slice()) else {
-        return Err(ToolFault::OutOfMemory);
-    };
-    if writer.write_all(text.as_slice()).is_err() {
+    let listed = list_text(alloc, input.as_slice())?;
+    if writer.write_all(listed.lines.as_slice()).is_err() {
         return Err(ToolFault::Write);
     }
     if writer.flush().is_err() {
         return Err(ToolFault::Write);
     }
-    Ok(status)
+    Ok(listed.status)
 }

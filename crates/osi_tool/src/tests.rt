@@ -1,6 +1,7 @@
 use crate::faults::ToolFault;
 use crate::jobs::Job;
-use crate::showing::{LONGEST_INPUT, show};
+use crate::showing::show;
+use crate::texts::LONGEST_INPUT;
 use crate::words::job;
 use clap::error::ErrorKind;
 use std::io;
@@ -107,6 +108,29 @@ fn a_write_fails(rt: HostRuntime) {
     let mut reader = DATA.as_bytes();
     assert_eq!(rt;
         show(rt.alloc(), &mut reader, &mut Broken),
+        Err(ToolFault::Write)
+    );
+}
+
+/// A writer that takes everything, and fails to flush.
+#[derive(Drop)]
+struct Unflushed;
+
+impl Write for Unflushed {
+    fn write(&mut self, buf: &[u8]) -> io::Result<usize> {
+        Ok(buf.len())
+    }
+
+    fn flush(&mut self) -> io::Result<()> {
+        Err(io::Error::from(io::ErrorKind::Other))
+    }
+}
+
+#[test]
+fn a_flush_fails(rt: HostRuntime) {
+    let mut reader = DATA.as_bytes();
+    assert_eq!(rt;
+        show(rt.alloc(), &mut reader, &mut Unflushed),
         Err(ToolFault::Write)
     );
 }

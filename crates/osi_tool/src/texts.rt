@@ -1,0 +1,45 @@
+ghost use Rattle.std.specs.Prelude.{◌≡◌, ◌<◌, ◌≤◌, ◌⊎◌, ◌↔◌, length, Err, IfOk};
+ghost use Rattle.osi_tool.specs.Capture.{IsNoCapture};
+ghost use Rattle.osi_tool.specs.Show.{Lists};
+
+use crate::capture::octets_of;
+use crate::faults::ToolFault;
+use osi_listing::list;
+use std::alloc::Global;
+
+/// The greatest number of octets of a text that is listed.
+pub const LONGEST_INPUT: usize = 16_777_216;
+
+/// The listing of a text.
+#[derive(Drop)]
+pub struct Listed {
+    /// Its lines.
+    pub lines: Vec<u8>,
+    /// 0 where all was read, 1 where something was refused.
+    pub status: u8,
+}
+
+/// Lists the capture that a text is. Nothing is read or written.
+///
+/// [`ToolFault::Input`] is answered exactly for a text of more than 16,777,216 octets, and
+/// [`ToolFault::BadHex`] for a shorter one that is no capture, unless memory runs out first.
+pub fn list_text(alloc: Global, text: &[u8]) -> Result<Listed, ToolFault>
+    ensures listed { IfOk result (λ listed. Lists text.now listed.lines.items listed.status) }
+    ensures status { IfOk result (λ listed. listed.status < 2) }
+    ensures input { (result ≡ Err ToolFault.Input) ↔ (16777216 < length text.now) }
+    ensures bad_hex { result ≡ Err ToolFault.BadHex →
+        IsNoCapture text.now × (length text.now ≤ 16777216) }
+    ensures no_capture { IsNoCapture text.now → length text.now ≤ 16777216 →
+        (result ≡ Err ToolFault.BadHex) ⊎ (result ≡ Err ToolFault.OutOfMemory) }
+    ensures write { result ≡ Err ToolFault.Write → ⊥ }
+{
+    if text.len() > LONGEST_INPUT {
+        return Err(ToolFault::Input);
+    }
+    let octets = octets_of(alloc, text)?;
+    let mut lines = Vec::new(alloc);
+    let Ok(status) = list(alloc, &mut lines, octets.as_slice()) else {
+        return Err(ToolFault::OutOfMemory);
+    };
+    Ok(Listed { lines, status })
+}
