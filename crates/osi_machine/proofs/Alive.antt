@@ -1,0 +1,87 @@
+-- A side of a connection where nothing is lost is never over, so that a unit that it takes is discarded, or
+-- answered as the table says: no unit is a fault.
+use Rattle.std.proofs.Common.{◌≡◌, refl, subst, Bool, true, false, not, if◌then◌else◌, List, ◌∷◌, ◌++◌}
+use Rattle.osi_machine.specs.Floor.{State, Phase, Meaning, CN, AC, RF, DT, GT, PT, MIP, MIA, MAP, MAA, RS, RA, FN, DN, NF, AB, AA, nothing, good, is_over, is_wait_cn, is_connecting, is_restarting, takes_data, takes_please, takes_minor_ack, takes_restart, may_ask, is_ready, is_major_asked, is_releasing, is_expected, respond_unit, drops, next}
+use Rattle.osi_machine.specs.Owners.{Owners}
+use Rattle.osi_machine.specs.Taking.{is_acted_on, seen, got_in}
+use Rattle.osi_machine.specs.Channels.{is_plain, Fits, AllFit, flush, view_next}
+use Rattle.osi_machine.specs.Core.{Party, party_taking}
+use Rattle.osi_machine.proofs.PhaseLaws.{excluded, implied_two}
+use Rattle.osi_machine.proofs.Units.{fit_cases}
+use Rattle.osi_machine.proofs.ChannelLaws.{kept_all}
+use Rattle.osi_machine.proofs.Acting.{fit_acts, no_fault, fit_next}
+use Rattle.osi_machine.proofs.Records.{flushed, matched, Half}
+
+-- nothing is expected by a side that is over
+none_expected : (p : Phase) (u : Meaning) → is_over p ≡ true → is_plain u ≡ true → is_expected p u ≡ false
+none_expected p (CN v u n w from to o) h k = excluded is_over is_wait_cn refl p h
+none_expected p (AC v u n w o) h k = excluded is_over is_connecting refl p h
+none_expected p (RF r o) h k = absurd (cc)
+none_expected p (DT o) h k = excluded is_over takes_data refl p h
+none_expected p (GT t) h k = excluded is_over may_ask refl p h
+none_expected p (PT t o) h k = excluded is_over takes_please refl p h
+none_expected p (MIP c n o) h k = excluded is_over is_ready refl p h
+none_expected p (MIA n o) h k = excluded is_over takes_minor_ack refl p h
+none_expected p (MAP n o) h k = excluded is_over is_ready refl p h
+none_expected p (MAA n o) h k = excluded is_over is_major_asked refl p h
+none_expected p (RS j n w o) h k = excluded is_over takes_restart refl p h
+none_expected p (RA n w o) h k = excluded is_over is_restarting refl p h
+none_expected p (FN o) h k = excluded is_over is_ready refl p h
+none_expected p (DN o) h k = absurd (cc)
+none_expected p (NF o) h k = excluded is_over is_releasing refl p h
+none_expected p (AB b o) h k = absurd (cc)
+none_expected p AA h k = absurd (cc)
+
+over_kept : (s : State) (us : List Meaning) → is_over s.phase ≡ true → AllFit s us → is_over (flush s us).phase ≡ true
+over_kept = kept_all (λ s. is_over s.phase ≡ true)
+    (λ s u h f. fit_cases (λ r. is_over r.phase ≡ true) s u f h (λ d g. absurd (let n = none_expected s.phase u h f.plain in let e = g.expected in cc)))
+
+pub alive : (o : Owners) (x y : Party) → Half o x y → is_over x.session.phase ≡ false
+alive o x y h = by (is_over x.session.phase) refl
+  where
+    turn : (b : Bool) → not b ≡ true → b ≡ true → ⊥
+    turn true p q = cc
+    turn false p q = cc
+
+    by : (b : Bool) → is_over x.session.phase ≡ b → b ≡ false
+    by false e = refl
+    by true e = absurd (turn _ (implied_two matched (λ p q. not (is_over p)) refl (flushed x y).phase (flushed y x).phase h.meeting.meets)
+        (over_kept x.session y.sent e h.fits))
+
+-- ---- the first unit under way
+
+-- it is no fault
+pub first_is_no_fault : (o : Owners) (x y : Party) (u : Meaning) (us : List Meaning) → y.sent ≡ u ∷ us → Half o x y
+    → respond_unit x.session u ≡ (if drops x.session u then nothing x.session else good x.session u)
+first_is_no_fault o x y u us e h =
+    no_fault x.session u (alive o x y h) (subst (AllFit x.session) e h.fits).0
+
+-- what its taker then is
+abbrev pub taken_party : (x : Party) (u : Meaning) → Party
+taken_party x u = record {
+  session = next x.session u;
+  view = view_next x.session u x.view;
+  said = x.said;
+  got = if drops x.session u then x.got else x.got ++ got_in x.session u;
+  sent = x.sent;
+}
+
+pub takes_as : (x : Party) (u : Meaning) → is_over x.session.phase ≡ false → Fits x.session u → party_taking x u ≡ taken_party x u
+takes_as x u o f =
+    let e = fit_next x.session u o f in
+    let a = fit_acts x.session u o f in
+    λ i. record {
+      session = e i;
+      view = view_same (drops x.session u) (is_acted_on x.session u) a i;
+      said = x.said;
+      got = got_same (drops x.session u) (is_acted_on x.session u) a i;
+      sent = x.sent;
+    }
+  where
+    view_same : (d a : Bool) → a ≡ not d → (if a then seen x.session u x.view else x.view) ≡ (if d then x.view else seen x.session u x.view)
+    view_same true a e = rw e refl
+    view_same false a e = rw e refl
+
+    got_same : (d a : Bool) → a ≡ not d → (if a then x.got ++ got_in x.session u else x.got) ≡ (if d then x.got else x.got ++ got_in x.session u)
+    got_same true a e = rw e refl
+    got_same false a e = rw e refl

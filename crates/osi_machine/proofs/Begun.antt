@@ -1,0 +1,197 @@
+-- What no unit changes once a connection is open, and what a side that is being asked for nothing goes
+-- through.
+use Rattle.std.proofs.Common.{◌≡◌, refl, sym, ◌∙◌, subst, ℕ, Bool, true, false, not, ◌&&◌, ◌||◌, if◌then◌else◌, List, [], ◌∷◌, ◌⊎◌, inl, inr}
+use Rattle.std.proofs.lemmas.Bool.{or_left}
+use Rattle.std.specs.List.{list_any}
+use Rattle.osi_machine.specs.Floor.{State, Phase, FunctionalUnits, Tokens, Meaning, CN, AC, RF, DT, GT, PT, MIP, MIA, MAP, MAA, RS, RA, FN, DN, NF, AB, AA, Token, data_token, has, may_hold, is_wait_cn, is_connecting, is_restarting, is_restart_due, may_ask, is_ready, is_release_due, has_no_effect, passes_restarting, becomes, stands, drops, Good, next}
+use Rattle.osi_machine.specs.Channels.{is_plain, Fits, AllFit, flush, stops, heard, needs_token}
+use Rattle.osi_machine.specs.Parties.{is_opening}
+use Rattle.osi_machine.proofs.PhaseLaws.{implied, excluded}
+use Rattle.osi_machine.proofs.Units.{fit_cases, none_due, restart_due, due_next}
+use Rattle.osi_machine.proofs.ChannelLaws.{kept_all, kept_heard, due_end}
+use Rattle.osi_machine.proofs.Tokens.{Holds, held_needs, next_holds, united_has}
+
+chosen : (P : State → Type 0) (b : Bool) (x y : State) → P x → P y → P (if b then x else y)
+chosen P true x y h k = h
+chosen P false x y h k = k
+
+-- ---- units and base
+
+-- an open connection, with these units and this base
+pub record Open (v : FunctionalUnits) (b : ℕ) (s : State) : Type 0 where
+  pub phase : is_opening s.phase ≡ false
+  pub units : s.units ≡ v
+  pub base : s.base ≡ b
+
+pub becomes_open : (v : FunctionalUnits) (b : ℕ) (s : State) (u : Meaning) → is_plain u ≡ true → Good s u → Open v b s → Open v b (becomes s u)
+becomes_open v b s (CN w r n x from to o) p g h = absurd (let e = implied is_wait_cn is_opening refl s.phase g.expected in let f = h.phase in cc)
+becomes_open v b s (AC w r n x o) p g h = absurd (let e = implied is_connecting is_opening refl s.phase g.expected in let f = h.phase in cc)
+becomes_open v b s (RF r o) p g h = absurd (cc)
+becomes_open v b s (DT o) p g h = h
+becomes_open v b s (GT k) p g h = record { phase = h.phase; units = h.units; base = h.base }
+becomes_open v b s (PT k o) p g h = h
+becomes_open v b s (MIP c n o) p g h = record { phase = h.phase; units = h.units; base = h.base }
+becomes_open v b s (MIA n o) p g h = record { phase = h.phase; units = h.units; base = h.base }
+becomes_open v b s (MAP n o) p g h = record { phase = refl; units = h.units; base = h.base }
+becomes_open v b s (MAA n o) p g h = record { phase = refl; units = h.units; base = h.base }
+becomes_open v b s (RS k n w o) p g h = chosen (Open v b) (stands s n) _ s (record { phase = refl; units = h.units; base = h.base }) h
+becomes_open v b s (RA n w o) p g h = record { phase = refl; units = h.units; base = h.base }
+becomes_open v b s (FN o) p g h = record { phase = refl; units = h.units; base = h.base }
+becomes_open v b s (DN o) p g h = absurd (cc)
+becomes_open v b s (NF o) p g h = record { phase = refl; units = h.units; base = h.base }
+becomes_open v b s (AB x o) p g h = absurd (cc)
+becomes_open v b s AA p g h = absurd (cc)
+
+next_open : (v : FunctionalUnits) (b : ℕ) (s : State) (u : Meaning) → Open v b s → Fits s u → Open v b (next s u)
+next_open v b s u h f = fit_cases (Open v b) s u f h (λ d g. becomes_open v b s u f.plain g h)
+
+pub flush_open : (s : State) (us : List Meaning) → is_opening s.phase ≡ false → AllFit s us → Open s.units s.base (flush s us)
+flush_open s us h f = kept_all (Open s.units s.base) (next_open s.units s.base) s us (record { phase = h; units = refl; base = refl }) f
+
+pub heard_open : (s : State) (us : List Meaning) → is_opening s.phase ≡ false → AllFit s us → Open s.units s.base (heard s us)
+heard_open s us h f = kept_heard (Open s.units s.base) (next_open s.units s.base) s us (record { phase = h; units = refl; base = refl }) f
+
+-- ---- a side that asks for nothing and owes nothing but an answer to a major point or a release
+
+abbrev pub is_lively : Phase → Bool
+is_lively p = may_ask p || is_release_due p
+
+abbrev pub Lively : State → Type 0
+Lively s = is_lively s.phase ≡ true
+
+-- it stays so, until a restart stands
+becomes_lively : (s : State) (u : Meaning) → is_plain u ≡ true → Good s u → stops s u ≡ false → Lively s → Lively (becomes s u)
+becomes_lively s (CN w r n x from to o) p g st h = absurd (let e = excluded is_wait_cn is_lively refl s.phase g.expected in cc)
+becomes_lively s (AC w r n x o) p g st h = refl
+becomes_lively s (RF r o) p g st h = absurd (cc)
+becomes_lively s (DT o) p g st h = h
+becomes_lively s (GT k) p g st h = h
+becomes_lively s (PT k o) p g st h = h
+becomes_lively s (MIP c n o) p g st h = h
+becomes_lively s (MIA n o) p g st h = h
+becomes_lively s (MAP n o) p g st h = refl
+becomes_lively s (MAA n o) p g st h = refl
+becomes_lively s (RS k n w o) p g st h = rw st h
+becomes_lively s (RA n w o) p g st h = refl
+becomes_lively s (FN o) p g st h = refl
+becomes_lively s (DN o) p g st h = absurd (cc)
+becomes_lively s (NF o) p g st h = refl
+becomes_lively s (AB x o) p g st h = absurd (cc)
+becomes_lively s AA p g st h = h
+
+-- what holds of each state up to a restart that stands, or of all: P, or an answer is due
+pub until_due : (P : State → Type 0) → ((s : State) (u : Meaning) → Fits s u → stops s u ≡ false → P s → P (next s u)) →
+    (s : State) (us : List Meaning) → P s → AllFit s us → P (flush s us) ⊎ (is_restart_due (flush s us).phase ≡ true)
+until_due P step s [] h f = inl h
+until_due P step s (u ∷ us) h f =
+    by (stops s u) refl (λ e. until_due P step (next s u) us (step s u f.0 e h) f.1)
+  where
+    by : (b : Bool) → stops s u ≡ b → (stops s u ≡ false → P (flush (next s u) us) ⊎ (is_restart_due (flush (next s u) us).phase ≡ true))
+        → P (flush (next s u) us) ⊎ (is_restart_due (flush (next s u) us).phase ≡ true)
+    by false e more = more e
+    by true e more =
+        let d = restart_due s u e in
+        inr (subst (λ (r : State). is_restart_due r.phase ≡ true) (sym (due_end (next s u) us d f.1)) d)
+
+pub ends_lively : (s : State) (us : List Meaning) → Lively s → AllFit s us → Lively (flush s us) ⊎ (is_restart_due (flush s us).phase ≡ true)
+ends_lively = until_due Lively (λ s u f st h. fit_cases Lively s u f h (λ d g. becomes_lively s u f.plain g st h))
+
+-- ---- a side that may send data: to it no major point comes
+
+abbrev pub is_talking : Phase → Bool
+is_talking p = is_ready p || is_release_due p
+
+pub record Talks (s : State) : Type 0 where
+  pub phase : is_talking s.phase ≡ true
+  pub right : (has s.held data_token ≡ true) ⊎ (s.units.major ≡ false)
+
+no_major : (s : State) (n : ℕ) (o : List ℕ) → Good s (MAP n o) → (has s.held data_token ≡ true) ⊎ (s.units.major ≡ false) → ⊥
+no_major s n o g (inl h) = let e = held_needs s data_token (MAP n o) h g in cc
+no_major s n o g (inr h) = let e = g.met.0 in cc
+
+more_right : (s : State) (k : Tokens) (held : Tokens) → ((t : Token) → has held t ≡ (has s.held t || has k t)) → (has s.held data_token ≡ true) ⊎ (s.units.major ≡ false)
+    → (has held data_token ≡ true) ⊎ (s.units.major ≡ false)
+more_right s k held e (inl h) = inl (e data_token ∙ or_left (has s.held data_token) (has k data_token) h)
+more_right s k held e (inr h) = inr h
+
+becomes_talks : (s : State) (u : Meaning) → is_plain u ≡ true → Good s u → stops s u ≡ false → Talks s → Talks (becomes s u)
+becomes_talks s (CN w r n x from to o) p g st h = absurd (let e = excluded is_wait_cn is_talking refl s.phase g.expected in let f = h.phase in cc)
+becomes_talks s (AC w r n x o) p g st h = absurd (let e = excluded is_connecting is_talking refl s.phase g.expected in let f = h.phase in cc)
+becomes_talks s (RF r o) p g st h = absurd (cc)
+becomes_talks s (DT o) p g st h = h
+becomes_talks s (GT k) p g st h = record { phase = h.phase; right = more_right s k _ (united_has s.held k) h.right }
+becomes_talks s (PT k o) p g st h = h
+becomes_talks s (MIP c n o) p g st h = record { phase = h.phase; right = h.right }
+becomes_talks s (MIA n o) p g st h = record { phase = h.phase; right = h.right }
+becomes_talks s (MAP n o) p g st h = absurd (no_major s n o g h.right)
+becomes_talks s (MAA n o) p g st h = record { phase = refl; right = h.right }
+becomes_talks s (RS k n w o) p g st h = rw st h
+becomes_talks s (RA n w o) p g st h = absurd (let e = excluded is_restarting is_talking refl s.phase g.expected in let f = h.phase in cc)
+becomes_talks s (FN o) p g st h = record { phase = refl; right = h.right }
+becomes_talks s (DN o) p g st h = absurd (cc)
+becomes_talks s (NF o) p g st h = record { phase = refl; right = h.right }
+becomes_talks s (AB x o) p g st h = absurd (cc)
+becomes_talks s AA p g st h = h
+
+pub ends_talking : (s : State) (us : List Meaning) → Talks s → AllFit s us → Talks (flush s us) ⊎ (is_restart_due (flush s us).phase ≡ true)
+ends_talking = until_due Talks (λ s u f st h. fit_cases Talks s u f h (λ d g. becomes_talks s u f.plain g st h))
+
+-- ---- nothing that needs a token comes to a side that holds it
+
+-- at a side that owes the answer to a restart, nothing but an empty token item fits
+empty_needs : (t : Token) (u : Meaning) → has_no_effect u ≡ true → needs_token t u ≡ false
+empty_needs t (CN w r n x from to o) h = refl
+empty_needs t (AC w r n x o) h = refl
+empty_needs t (RF r o) h = refl
+empty_needs t (DT o) h = absurd (cc)
+empty_needs t (GT k) h = refl
+empty_needs t (PT k o) h = refl
+empty_needs t (MIP c n o) h = absurd (cc)
+empty_needs t (MIA n o) h = refl
+empty_needs t (MAP n o) h = absurd (cc)
+empty_needs t (MAA n o) h = refl
+empty_needs t (RS k n w o) h = refl
+empty_needs t (RA n w o) h = refl
+empty_needs t (FN o) h = absurd (cc)
+empty_needs t (DN o) h = refl
+empty_needs t (NF o) h = refl
+empty_needs t (AB x o) h = refl
+empty_needs t AA h = refl
+
+dropped_empty : (e r p : Bool) → (e || (r && not p)) ≡ true → r ≡ false → e ≡ true
+dropped_empty true r p h k = refl
+dropped_empty false true p h k = absurd (cc)
+dropped_empty false false p h k = absurd (cc)
+
+due_needs : (t : Token) (s : State) (u : Meaning) → is_restart_due s.phase ≡ true → Fits s u → needs_token t u ≡ false
+due_needs t s u h f = by (drops s u) refl
+  where
+    by : (b : Bool) → drops s u ≡ b → needs_token t u ≡ false
+    by true d = empty_needs t u (dropped_empty (has_no_effect u) (is_restarting s.phase) (passes_restarting u) d (excluded is_restart_due is_restarting refl s.phase h))
+    by false d = absurd (let n = none_due s.phase u h f.plain in let e = (f.good d).expected in cc)
+
+none_due_needs : (t : Token) (s : State) (us : List Meaning) → is_restart_due s.phase ≡ true → AllFit s us → list_any (needs_token t) us ≡ false
+none_due_needs t s [] h f = refl
+none_due_needs t s (u ∷ us) h f =
+    let one = due_needs t s u h f.0 in
+    let more = none_due_needs t (next s u) us (subst (λ (r : State). is_restart_due r.phase ≡ true) (sym (due_next s u h f.0)) h) f.1 in
+    rw (one, more) refl
+
+-- a holder listens
+holder_needs : (t : Token) (s : State) (u : Meaning) → Holds t s → Fits s u → needs_token t u ≡ false
+holder_needs t s u h f = by (drops s u) refl
+  where
+    by : (b : Bool) → drops s u ≡ b → needs_token t u ≡ false
+    by true d = empty_needs t u (dropped_empty (has_no_effect u) (is_restarting s.phase) (passes_restarting u) d (excluded may_hold is_restarting refl s.phase h.phase))
+    by false d = held_needs s t u h.held (f.good d)
+
+pub none_needs : (t : Token) (s : State) (us : List Meaning) → Holds t s → AllFit s us → list_any (needs_token t) us ≡ false
+none_needs t s [] h f = refl
+none_needs t s (u ∷ us) h f = by (stops s u) refl (λ e. none_needs t (next s u) us (next_holds t s u f.0 e h) f.1)
+  where
+    by : (b : Bool) → stops s u ≡ b → (stops s u ≡ false → list_any (needs_token t) us ≡ false) → (needs_token t u || list_any (needs_token t) us) ≡ false
+    by false e more = let one = holder_needs t s u h f.0 in let all = more e in rw (one, all) refl
+    by true e more =
+        let one = holder_needs t s u h f.0 in
+        let all = none_due_needs t (next s u) us (restart_due s u e) f.1 in
+        rw (one, all) refl

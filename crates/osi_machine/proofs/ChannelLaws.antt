@@ -1,0 +1,134 @@
+-- Channels: one more unit at the end, and what every unit on the way keeps.
+use Rattle.std.proofs.Common.{◌≡◌, refl, sym, ◌∙◌, ap, subst, ℕ, Bool, true, false, if◌then◌else◌, List, [], ◌∷◌, ◌++◌, append_assoc}
+use Rattle.osi_machine.specs.Floor.{State, Meaning, is_restart_due, next}
+use Rattle.osi_machine.specs.Channels.{Fits, AllFit, flush, stops, heard, hears, view_next, heard_view, data_in, data_of}
+use Rattle.osi_machine.specs.Histories.{Item}
+use Rattle.osi_machine.proofs.Units.{next_hears, due_next, due_stops, due_view, restart_due}
+
+pub fit_append : (s : State) (us : List Meaning) (m : Meaning) → AllFit s us → Fits (flush s us) m → AllFit s (us ++ m ∷ [])
+fit_append s [] m h f = (f, tt)
+fit_append s (u ∷ us) m h f = (h.0, fit_append (next s u) us m h.1 f)
+
+pub flush_append : (s : State) (us : List Meaning) (m : Meaning) → flush s (us ++ m ∷ []) ≡ next (flush s us) m
+flush_append s [] m = refl
+flush_append s (u ∷ us) m = flush_append (next s u) us m
+
+-- ---- what every unit on the way keeps
+
+pub kept_all : (P : State → Type 0) → ((s : State) (u : Meaning) → P s → Fits s u → P (next s u)) →
+    (s : State) (us : List Meaning) → P s → AllFit s us → P (flush s us)
+kept_all P step s [] h f = h
+kept_all P step s (u ∷ us) h f = kept_all P step (next s u) us (step s u h f.0) f.1
+
+heard_if : (P : State → Type 0) (b : Bool) (x y : State) → P x → P y → P (if b then x else y)
+heard_if P true x y h k = h
+heard_if P false x y h k = k
+
+pub kept_heard : (P : State → Type 0) → ((s : State) (u : Meaning) → P s → Fits s u → P (next s u)) →
+    (s : State) (us : List Meaning) → P s → AllFit s us → P (heard s us)
+kept_heard P step s [] h f = h
+kept_heard P step s (u ∷ us) h f = heard_if P (stops s u) _ _ h (kept_heard P step (next s u) us (step s u h f.0) f.1)
+
+pub hears_kept : (s : State) (us : List Meaning) → hears s.phase ≡ true → AllFit s us → hears (flush s us).phase ≡ true
+hears_kept = kept_all (λ s. hears s.phase ≡ true) (λ s u h f. next_hears s u h)
+
+-- ---- nothing acts that is under way to a side that owes the answer to a restart
+
+pub due_end : (s : State) (us : List Meaning) → is_restart_due s.phase ≡ true → AllFit s us → flush s us ≡ s
+due_end s [] h f = refl
+due_end s (u ∷ us) h f =
+    let e = due_next s u h f.0 in
+    due_end (next s u) us (subst (λ (r : State). is_restart_due r.phase ≡ true) (sym e) h) f.1 ∙ e
+
+pub due_heard : (s : State) (us : List Meaning) → is_restart_due s.phase ≡ true → AllFit s us → heard s us ≡ s
+due_heard s [] h f = refl
+due_heard s (u ∷ us) h f =
+    let e = due_next s u h f.0 in
+    let more = due_heard (next s u) us (subst (λ (r : State). is_restart_due r.phase ≡ true) (sym e) h) f.1 ∙ e in
+    rw (due_stops s u h f.0) more
+
+-- ---- where no restart stands, what is heard is all
+
+no_stop : (s : State) (u : Meaning) (us : List Meaning) → AllFit s (u ∷ us) → is_restart_due (flush s (u ∷ us)).phase ≡ false → stops s u ≡ false
+no_stop s u us f n = by (stops s u) refl
+  where
+    by : (b : Bool) → stops s u ≡ b → b ≡ false
+    by false e = refl
+    by true e = absurd (
+        let d = restart_due s u e in
+        let g = due_end (next s u) us d f.1 in
+        let w : is_restart_due (flush (next s u) us).phase ≡ true = subst (λ (r : State). is_restart_due r.phase ≡ true) (sym g) d in
+        cc)
+
+pub heard_flush : (s : State) (us : List Meaning) → AllFit s us → is_restart_due (flush s us).phase ≡ false → heard s us ≡ flush s us
+heard_flush s [] f n = refl
+heard_flush s (u ∷ us) f n = rw (no_stop s u us f n) (heard_flush (next s u) us f.1 n)
+
+pub heard_append : (s : State) (us : List Meaning) (m : Meaning) → AllFit s us → is_restart_due (flush s us).phase ≡ false →
+    heard s (us ++ m ∷ []) ≡ (if stops (flush s us) m then flush s us else next (flush s us) m)
+heard_append s [] m f n = refl
+heard_append s (u ∷ us) m f n = rw (no_stop s u us f n) (heard_append (next s u) us m f.1 n)
+
+-- where one stands already, a unit more changes nothing
+pub heard_append_due : (s : State) (us : List Meaning) (m : Meaning) → AllFit s (us ++ m ∷ []) → is_restart_due (flush s us).phase ≡ true →
+    heard s (us ++ m ∷ []) ≡ heard s us
+heard_append_due s [] m f n = due_heard s (m ∷ []) n f
+heard_append_due s (u ∷ us) m f n = ap (λ (r : State). if stops s u then s else r) (heard_append_due (next s u) us m f.1 n)
+
+-- ---- what was seen
+
+pub view_append : (s : State) (us : List Meaning) (m : Meaning) (v : List Item) → AllFit s us → is_restart_due (flush s us).phase ≡ false →
+    heard_view s (us ++ m ∷ []) v ≡ (if stops (flush s us) m then heard_view s us v else view_next (flush s us) m (heard_view s us v))
+view_append s [] m v f n = refl
+view_append s (u ∷ us) m v f n = rw (no_stop s u us f n) (view_append (next s u) us m (view_next s u v) f.1 n)
+
+-- where one stands already, a unit more shows nothing
+pub view_append_due : (s : State) (us : List Meaning) (m : Meaning) (v : List Item) → AllFit s (us ++ m ∷ []) → is_restart_due (flush s us).phase ≡ true →
+    heard_view s (us ++ m ∷ []) v ≡ heard_view s us v
+view_append_due s [] m v f n = rw (due_stops s m n f.0) (due_view s m v n f.0)
+view_append_due s (u ∷ us) m v f n = ap (λ (r : List Item). if stops s u then v else r) (view_append_due (next s u) us m (view_next s u v) f.1 n)
+
+-- ---- data
+
+pub data_append : (us vs : List Meaning) → data_of (us ++ vs) ≡ data_of us ++ data_of vs
+data_append [] vs = refl
+data_append (u ∷ us) vs = ap (λ (d : List (List ℕ)). data_in u ++ d) (data_append us vs) ∙ sym (append_assoc (data_in u) (data_of us) (data_of vs))
+
+-- ---- two states that a channel runs through alike
+
+pub record Steps (R : State → State → Type 0) (s r : State) (u : Meaning) : Type 0 where
+  pub fits : Fits r u
+  pub stops : stops r u ≡ stops s u
+  pub next : R (next s u) (next r u)
+
+pub record Runs (R : State → State → Type 0) (s r : State) (us : List Meaning) : Type 0 where
+  pub fits : AllFit r us
+  pub flush : R (flush s us) (flush r us)
+  pub heard : R (heard s us) (heard r us)
+
+pub alike : (R : State → State → Type 0) → ((s r : State) (u : Meaning) → R s r → Fits s u → Steps R s r u) →
+    (s r : State) (us : List Meaning) → R s r → AllFit s us → Runs R s r us
+alike R step s r [] h f = record { fits = tt; flush = h; heard = h }
+alike R step s r (u ∷ us) h f =
+    let one = step s r u h f.0 in
+    let more = alike R step (next s u) (next r u) us one.next f.1 in
+    record {
+      fits = (one.fits, more.fits);
+      flush = more.flush;
+      heard = rw one.stops (by (stops s u) more.heard);
+    }
+  where
+    by : (b : Bool) → R (heard (next s u) us) (heard (next r u) us) → R (if b then s else heard (next s u) us) (if b then r else heard (next r u) us)
+    by true k = h
+    by false k = k
+
+-- and what is seen is the same, where each unit shows the same
+pub alike_view : (R : State → State → Type 0) → ((s r : State) (u : Meaning) → R s r → Fits s u → Steps R s r u) →
+    ((s r : State) (u : Meaning) (v : List Item) → R s r → view_next r u v ≡ view_next s u v) →
+    (s r : State) (us : List Meaning) (v : List Item) → R s r → AllFit s us → heard_view r us v ≡ heard_view s us v
+alike_view R step shows s r [] v h f = refl
+alike_view R step shows s r (u ∷ us) v h f =
+    let one = step s r u h f.0 in
+    let more = alike_view R step shows (next s u) (next r u) us (view_next s u v) one.next f.1 in
+    ap (λ (b : Bool). if b then v else heard_view (next r u) us (view_next r u v)) one.stops
+    ∙ ap (λ (w : List Item). if stops s u then v else w) (ap (heard_view (next r u) us) (shows s r u v h) ∙ more)

@@ -1,0 +1,234 @@
+-- Each call and each unit keeps what is true of a side by itself.
+use Rattle.std.proofs.Common.{◌≡◌, refl, sym, ◌∙◌, ap, ℕ, ◌+◌, ◌==◌, ◌≤◌, ◌<◌, Bool, true, false, not, ◌&&◌, ◌||◌, nat_le, nat_lt, if◌then◌else◌, List, [], ◌∷◌, ◌++◌, arith}
+use Rattle.std.proofs.lemmas.Bool.{leb-true, ltb-true, eqb-true, and_parts}
+use Rattle.osi_machine.specs.Floor.{State, Phase, FunctionalUnits, Call, Accept, Refuse, Data, Give, Please, Minor, MinorConfirm, Major, MajorConfirm, Restart, RestartConfirm, Release, ReleaseAccept, ReleaseRefuse, Abort, Meaning, CN, AC, RF, DT, GT, PT, MIP, MIA, MAP, MAA, RS, RA, FN, DN, NF, AB, AA, is_ready, is_answering, is_connecting, is_wait_cn, is_major_due, is_releasing, is_restarting, in_major, may_give, may_ask, may_confirm_minor, takes_data, takes_please, takes_minor_ack, may_call, needs, after, has_right, each, is_restartable, is_acceptable, becomes, stands, from_base, point_sent, point_taken, minor_confirmed, major_confirmed, restarted_at, IsSound, Good}
+use Rattle.osi_machine.specs.Histories.{Item, Octets, Point, minor_kind, major_point, points, cutat}
+use Rattle.osi_machine.specs.Taking.{seen, got_in}
+use Rattle.osi_machine.specs.Core.{Party, speaks, view_called, party_taking}
+use Rattle.osi_machine.specs.Parties.{is_opening, IsConsistent}
+use Rattle.osi_machine.proofs.PhaseLaws.{implied, excluded}
+use Rattle.osi_machine.proofs.Passed.{AllHold}
+use Rattle.osi_machine.proofs.Acting.{unit_cases}
+use Rattle.osi_machine.proofs.HistoryLaws.{points_append, points_cut}
+
+-- the lines, but for the order of the numbers
+pub record Lines (s : State) (v : List Item) (said got : List (List ℕ)) : Type 0 where
+  pub count : s.numbers.next ≡ s.base + points v
+  pub major : is_major_due s.phase ≡ true → s.numbers.answers ≡ true
+  pub asked : is_restarting s.phase ≡ true → s.units.resynchronize ≡ true
+  pub asker : is_releasing s.phase ≡ true → s.units.duplex ≡ true → s.is_caller ≡ true
+  pub fresh : is_opening s.phase ≡ true → (s.base ≡ 0) × (s.numbers ≡ from_base 0) × (v ≡ []) × (said ≡ []) × (got ≡ [])
+
+pub lines_of : (x : Party) → IsConsistent x → Lines x.session x.view x.said x.got
+lines_of x h = record {
+  count = h.count;
+  major = h.major;
+  asked = h.asked;
+  asker = h.asker;
+  fresh = λ k. let f = h.fresh k in (f.base, f.numbers, f.view, f.said, f.got);
+}
+
+pub consistent : (x : Party) → IsSound x.session → Lines x.session x.view x.said x.got → IsConsistent x
+consistent x sound h = record {
+  sound = sound;
+  count = h.count;
+  major = h.major;
+  asked = h.asked;
+  asker = h.asker;
+  fresh = λ k. let f = h.fresh k in record { base = f.0; numbers = f.1; view = f.2; said = f.3; got = f.4 };
+}
+
+append_nil {ℓ} : {A : Type ℓ} → (xs : List A) → xs ++ [] ≡ xs
+append_nil [] = refl
+append_nil (x ∷ xs) = ap (λ r. x ∷ r) (append_nil xs)
+
+-- ---- moves of the count
+
+nothing_said : (n base : ℕ) (v : List Item) → n ≡ base + points v → n ≡ base + points (v ++ [])
+nothing_said n base v h = let e = points_append v [] in omega arith
+
+one_point : (n base k : ℕ) (v : List Item) (i : Item) → points (i ∷ []) ≡ 1 → n ≡ base + points v → n + 1 ≡ base + points (v ++ i ∷ [])
+one_point n base k v i one h = let e = points_append v (i ∷ []) in omega arith
+
+one_more : (n base : ℕ) (b : Bool) (octets : List ℕ) (v : List Item) → n ≡ base + points v → n ≡ base + points (v ++ (if b then [] else Octets octets ∷ []))
+one_more n base true octets v h = nothing_said n base v h
+one_more n base false octets v h = let e = points_append v (Octets octets ∷ []) in omega arith
+
+one_taken : (n base : ℕ) (b : Bool) (octets : List ℕ) (v : List Item) → n ≡ base + points v → n ≡ base + points (if b then v else v ++ Octets octets ∷ [])
+one_taken n base true octets v h = h
+one_taken n base false octets v h = let e = points_append v (Octets octets ∷ []) in omega arith
+
+opened_count : (base : ℕ) (v : List Item) → v ≡ [] → base ≡ base + points v
+opened_count base v e = rw e (omega arith)
+
+-- ---- the lines where little changes
+
+-- a phase in which nothing is asked, due or awaited
+quiet : Phase → Bool
+quiet p = not (is_major_due p || (is_restarting p || (is_releasing p || is_opening p)))
+
+or_four : (a b c d : Bool) → not (a || (b || (c || d))) ≡ true → (a ≡ false) × (b ≡ false) × (c ≡ false) × (d ≡ false)
+or_four false false false false h = (refl, refl, refl, refl)
+or_four true b c d h = absurd (cc)
+or_four false true c d h = absurd (cc)
+or_four false false true d h = absurd (cc)
+or_four false false false true h = absurd (cc)
+
+calm : (s : State) (v : List Item) (said got : List (List ℕ)) → quiet s.phase ≡ true → s.numbers.next ≡ s.base + points v → Lines s v said got
+unfolding quiet
+calm s v said got q h =
+    let f = or_four (is_major_due s.phase) (is_restarting s.phase) (is_releasing s.phase) (is_opening s.phase) q in
+    let a = f.0 in let b = f.1 in let c = f.2 in let d = f.3 in
+    record { count = h; major = λ k. absurd (cc); asked = λ k. absurd (cc); asker = λ k. absurd (cc); fresh = λ k. absurd (cc) }
+
+-- the phase, the units and the flag stay, and the side has begun
+same_lines : (s r : State) (v w : List Item) (said said' got got' : List (List ℕ)) → r.phase ≡ s.phase → r.units ≡ s.units → r.is_caller ≡ s.is_caller
+    → r.numbers.answers ≡ s.numbers.answers → is_opening s.phase ≡ false → r.numbers.next ≡ r.base + points w → Lines s v said got → Lines r w said' got'
+same_lines s r v w said said' got got' p u i a o c h = record {
+  count = c;
+  major = λ k. a ∙ h.major (ap is_major_due (sym p) ∙ k);
+  asked = λ k. ap (λ (u : FunctionalUnits). u.resynchronize) u ∙ h.asked (ap is_restarting (sym p) ∙ k);
+  asker = λ k d. i ∙ h.asker (ap is_releasing (sym p) ∙ k) (ap (λ (u : FunctionalUnits). u.duplex) (sym u) ∙ d);
+  fresh = λ k. absurd (let w = ap is_opening (sym p) ∙ k in cc);
+}
+
+below_if : (b : Bool) (n next : ℕ) → (if b then nat_lt n next else nat_le n next) ≡ true → n ≤ next
+below_if true n next h = let k = ltb-true n next h in omega arith
+below_if false n next h = leb-true n next h
+
+-- ---- the calls
+
+restart_count : (s : State) (n : ℕ) (v : List Item) → IsSound s → is_restartable s n ≡ true → s.numbers.next ≡ s.base + points v
+    → n ≡ s.base + points (cutat s.base v n)
+restart_count s n v sound r h =
+    let a = and_parts _ _ r in
+    let b = and_parts _ _ a.1 in
+    let low = leb-true s.numbers.lowest n a.0 in
+    let top = below_if (in_major s.phase) n s.numbers.next b.1 in
+    let from = sound.ordered.lowest_from in
+    points_cut s.base n v (omega arith) (omega arith)
+
+duplex_caller : (a d c : Bool) → (a && (not d || c)) ≡ true → d ≡ true → c ≡ true
+duplex_caller true true c h k = h
+duplex_caller true false c h k = absurd (cc)
+duplex_caller false d c h k = absurd (cc)
+
+pub call_lines : (s : State) (c : Call) (v : List Item) (said got : List (List ℕ)) → may_call s.phase c ≡ true → AllHold (needs s c) → IsSound s
+    → Lines s v said got → Lines (after s c) (view_called s c v) (said ++ speaks s c) got
+unfolding quiet point_sent minor_confirmed major_confirmed restarted_at
+call_lines s (Accept requirements serial sides octets) v said got p t sound h =
+    let f = h.fresh (implied is_answering is_opening refl s.phase p) in
+    calm _ _ _ _ refl (rw f.2 (omega arith))
+call_lines s (Refuse octets) v said got p t sound h = calm _ _ _ _ refl (nothing_said _ _ v h.count)
+call_lines s (Data octets) v said got p t sound h =
+    same_lines s s v _ said _ got got refl refl refl refl (excluded is_ready is_opening refl s.phase p) (one_more _ _ s.units.duplex octets v h.count) h
+call_lines s (Give tokens) v said got p t sound h =
+    same_lines s _ v _ said _ got got refl refl refl refl (excluded may_give is_opening refl s.phase p) (nothing_said _ _ v h.count) h
+call_lines s (Please tokens octets) v said got p t sound h =
+    same_lines s s v _ said _ got got refl refl refl refl (excluded may_ask is_opening refl s.phase p) (nothing_said _ _ v h.count) h
+call_lines s (Minor confirm octets) v said got p t sound h =
+    calm _ _ _ _ (implied is_ready quiet refl s.phase p) (one_point _ _ 0 v (Point s.numbers.next (minor_kind confirm) octets) refl h.count)
+call_lines s (MinorConfirm n octets) v said got p t sound h =
+    same_lines s _ v _ said _ got got refl refl refl refl (excluded may_confirm_minor is_opening refl s.phase p) (nothing_said _ _ v h.count) h
+call_lines s (Major octets) v said got p t sound h =
+    calm _ _ _ _ refl (one_point _ _ 0 v (Point s.numbers.next major_point octets) refl h.count)
+call_lines s (MajorConfirm octets) v said got p t sound h = calm _ _ _ _ refl (nothing_said _ _ v h.count)
+call_lines s (Restart n wishes octets) v said got p t sound h = record {
+  count = restart_count s n v sound t.1.0 h.count;
+  major = λ k. absurd (cc);
+  asked = λ k. t.0;
+  asker = λ k. absurd (cc);
+  fresh = λ k. absurd (cc);
+}
+call_lines s (RestartConfirm sides octets) v said got p t sound h = calm _ _ _ _ refl (nothing_said _ _ v h.count)
+call_lines s (Release octets) v said got p t sound h = record {
+  count = nothing_said _ _ v h.count;
+  major = λ k. absurd (cc);
+  asked = λ k. absurd (cc);
+  asker = λ k d. duplex_caller (each (has_right s)) s.units.duplex s.is_caller t.0 d;
+  fresh = λ k. absurd (cc);
+}
+call_lines s (ReleaseAccept octets) v said got p t sound h = calm _ _ _ _ refl (nothing_said _ _ v h.count)
+call_lines s (ReleaseRefuse octets) v said got p t sound h = calm _ _ _ _ refl (nothing_said _ _ v h.count)
+call_lines s (Abort octets) v said got p t sound h = calm _ _ _ _ refl (nothing_said _ _ v h.count)
+
+-- ---- the units
+
+stood_below : (s : State) (n : ℕ) → (is_restarting s.phase || nat_le n s.numbers.next) ≡ true → stands s n ≡ true → n ≤ s.numbers.next
+unfolding stands
+stood_below s n e st = by (is_restarting s.phase) (nat_lt n s.numbers.next) (nat_le n s.numbers.next) e st (ltb-true n s.numbers.next) (leb-true n s.numbers.next)
+  where
+    by : (r l m : Bool) → (r || m) ≡ true → (not r || (l || ((n == s.numbers.next) && not s.is_caller))) ≡ true
+        → (l ≡ true → n < s.numbers.next) → (m ≡ true → n ≤ s.numbers.next) → n ≤ s.numbers.next
+    by false l m e st f g = g e
+    by true true m e st f g = let k = f refl in omega arith
+    by true false m e st f g = let k = eqb-true n s.numbers.next (and_parts (n == s.numbers.next) (not s.is_caller) st).0 in omega arith
+
+chosen : (P : State → List Item → Type 0) (b : Bool) (x y : State) (v w : List Item) → (b ≡ true → P x v) → (b ≡ false → P y w) → P (if b then x else y) (if b then v else w)
+chosen P true x y v w h k = h refl
+chosen P false x y v w h k = k refl
+
+chosen_state : (P : State → Type 0) (b : Bool) (x y : State) → P x → P y → P (if b then x else y)
+chosen_state P true x y h k = h
+chosen_state P false x y h k = k
+
+pub unit_lines : (s : State) (u : Meaning) (v : List Item) (said got : List (List ℕ)) → Good s u → IsSound s → Lines s v said got
+    → Lines (becomes s u) (seen s u v) said (got ++ got_in s u)
+unfolding quiet point_taken minor_confirmed major_confirmed restarted_at
+unit_lines s (CN version_2 requirements serial wishes from to octets) v said got g sound h =
+    let f = h.fresh (implied is_wait_cn is_opening refl s.phase g.expected) in
+    chosen_state (λ r. Lines r v said (got ++ [])) (is_acceptable version_2 requirements) _ _
+    (record {
+      count = h.count;
+      major = λ k. absurd (cc);
+      asked = λ k. absurd (cc);
+      asker = λ k. absurd (cc);
+      fresh = λ k. (f.0, f.1, f.2, f.3, append_nil got ∙ f.4);
+    })
+    (calm _ _ _ _ refl h.count)
+unit_lines s (AC version_2 requirements serial sides octets) v said got g sound h =
+    let f = h.fresh (implied is_connecting is_opening refl s.phase g.expected) in
+    calm _ _ _ _ refl (opened_count _ v f.2)
+unit_lines s (RF reason octets) v said got g sound h = calm _ _ _ _ refl h.count
+unit_lines s (DT octets) v said got g sound h =
+    same_lines s s v _ said said got _ refl refl refl refl (excluded takes_data is_opening refl s.phase g.expected) (one_taken _ _ s.units.duplex octets v h.count) h
+unit_lines s (GT tokens) v said got g sound h =
+    same_lines s _ v v said said got _ refl refl refl refl (excluded may_ask is_opening refl s.phase g.expected) h.count h
+unit_lines s (PT tokens octets) v said got g sound h =
+    same_lines s s v v said said got _ refl refl refl refl (excluded takes_please is_opening refl s.phase g.expected) h.count h
+unit_lines s (MIP confirm n octets) v said got g sound h =
+    calm _ _ _ _ (implied is_ready quiet refl s.phase g.expected) (one_point _ _ 0 v (Point n (minor_kind confirm) octets) refl h.count)
+unit_lines s (MIA n octets) v said got g sound h =
+    same_lines s _ v v said said got _ refl refl refl refl (excluded takes_minor_ack is_opening refl s.phase g.expected) h.count h
+unit_lines s (MAP n octets) v said got g sound h = record {
+  count = one_point _ _ 0 v (Point n major_point octets) refl h.count;
+  major = λ k. refl;
+  asked = λ k. absurd (cc);
+  asker = λ k. absurd (cc);
+  fresh = λ k. absurd (cc);
+}
+unit_lines s (MAA n octets) v said got g sound h = calm _ _ _ _ refl h.count
+unit_lines s (RS kind n wishes octets) v said got g sound h =
+    let b = and_parts _ _ g.met.1.0 in
+    let from = leb-true s.base n b.0 in
+    chosen (λ r w. Lines r w said (got ++ [])) (stands s n) _ s (cutat s.base v n) v
+    (λ e. let to = stood_below s n b.1 e in calm _ _ _ _ refl (points_cut s.base n v from (omega arith)))
+    (λ e. record { count = h.count; major = h.major; asked = h.asked; asker = h.asker; fresh = λ k. let f = h.fresh k in (f.0, f.1, f.2, f.3, append_nil got ∙ f.4) })
+unit_lines s (RA n sides octets) v said got g sound h = calm _ _ _ _ refl h.count
+unit_lines s (FN octets) v said got g sound h = calm _ _ _ _ refl h.count
+unit_lines s (DN octets) v said got g sound h = calm _ _ _ _ refl h.count
+unit_lines s (NF octets) v said got g sound h = calm _ _ _ _ refl h.count
+unit_lines s (AB bits octets) v said got g sound h = calm _ _ _ _ refl h.count
+unit_lines s AA v said got g sound h = absurd (let e = g.expected in cc)
+
+-- a unit, whether it is acted on or not
+pub taken_lines : (x : Party) (u : Meaning) → IsSound x.session → Lines x.session x.view x.said x.got
+    → Lines (party_taking x u).session (party_taking x u).view (party_taking x u).said (party_taking x u).got
+unfolding quiet
+taken_lines x u sound h =
+    unit_cases (λ b r. Lines r (if b then seen x.session u x.view else x.view) x.said (if b then x.got ++ got_in x.session u else x.got)) x.session u (record {
+      same = h;
+      ended = calm _ _ _ _ refl h.count;
+      bad = calm _ _ _ _ refl h.count;
+      good = λ a. unit_lines x.session u x.view x.said x.got a.good sound h;
+    })

@@ -1,0 +1,140 @@
+-- Every step of the core keeps what is true of each side by itself.
+use Rattle.std.proofs.Common.{◌≡◌, refl, sym, subst, ℕ, ◌<◌, Bool, true, false, if◌then◌else◌, List, [], ◌∷◌, ◌++◌, Some, None, Ok, Err, arith}
+use Rattle.std.specs.List.{AllByRecursion}
+use Rattle.osi_machine.specs.Floor.{State, Granted, Answer, Call, HasSerial, Meaning, Outcome, IsNumbered, IsSmall, IsSound, AreOrdered, allowed, respond_unit, alone, respond, after, Input, call_input, taken_input, Standing, call_move, after_inputs, react, HasNumbers, IsSendable, functional_units, has_points, from_base}
+use Rattle.osi_machine.specs.Core.{Party, Core, CoreStep, call_at, take_at, Side, Left, Right, Offer, turned, stays_in_core, party_called, answered, called, party_taking, taking, takes, at_side, core_step, core_run, offer_sent, core_start}
+use Rattle.osi_machine.specs.Parties.{IsConsistent, AreConsistent, IsNumberedStep}
+use Rattle.osi_machine.proofs.Passed.{passed}
+use Rattle.osi_machine.proofs.Consistent.{Lines, lines_of, consistent, call_lines, taken_lines}
+
+-- what is proved of one session
+pub record SessionLaws : Type 0 where
+  pub sound : (s : Standing) (inputs : List Input) → AllByRecursion HasNumbers inputs → IsSound s.state → IsSound (after_inputs s inputs).state
+  pub sendable : (s : State) (c : Call) (g : Granted) → IsSound s → HasSerial c → allowed s c ≡ Ok g → IsSendable g.sent
+  pub one_unit : (s : State) (u : Meaning) → respond s (alone u) ≡ respond_unit s u
+
+abbrev standing : State → Standing
+standing s = record { state = s; waiting = None }
+
+pub sound_call : SessionLaws → (s : State) (c : Call) (g : Granted) → HasSerial c → allowed s c ≡ Ok g → IsSound s → IsSound g.next
+unfolding react
+sound_call laws s c g small e h =
+    subst (λ (a : Answer). IsSound (call_move (standing s) a).next.state) e (laws.sound (standing s) (call_input c ∷ []) (small, tt) h)
+
+pub sound_unit : SessionLaws → (s : State) (u : Meaning) → IsNumbered u → IsSound s → IsSound (respond_unit s u).next
+unfolding react
+sound_unit laws s u small h =
+    subst (λ (o : Outcome). IsSound o.next) (laws.one_unit s u) (laws.sound (standing s) (taken_input (alone u) ∷ []) ((small, tt), tt) h)
+
+pub small_append : (us : List Meaning) (u : Meaning) → AllByRecursion IsNumbered us → IsNumbered u → AllByRecursion IsNumbered (us ++ u ∷ [])
+small_append [] u h k = (k, tt)
+small_append (v ∷ us) u h k = (h.0, small_append us u h.1 k)
+
+-- ---- one side
+
+pub call_kept : SessionLaws → (x : Party) (c : Call) (g : Granted) → HasSerial c → allowed x.session c ≡ Ok g → IsConsistent x → IsConsistent (party_called x c g)
+call_kept laws x c g small e h =
+    let q = passed x.session c g e in
+    let sound = sound_call laws x.session c g small e h.sound in
+    let lines = call_lines x.session c x.view x.said x.got q.phase q.needed h.sound (lines_of x h) in
+    consistent (party_called x c g) sound
+    (subst (λ (s : State). Lines s (party_called x c g).view (party_called x c g).said x.got) (subst (λ (y : Granted). after x.session c ≡ y.next) (sym q.gives) refl) lines)
+
+pub take_kept : SessionLaws → (x : Party) (u : Meaning) → IsNumbered u → IsConsistent x → IsConsistent (party_taking x u)
+take_kept laws x u small h =
+    consistent (party_taking x u) (sound_unit laws x.session u small h.sound) (taken_lines x u h.sound (lines_of x h))
+
+-- ---- both sides
+
+pub answered_kept : SessionLaws → (w : Core) (c : Call) (a : Answer) → HasSerial c → allowed w.own.session c ≡ a → AreConsistent w → AreConsistent (answered w c a)
+answered_kept laws w c (Ok g) small e h = record {
+  own = call_kept laws w.own c g small e h.own;
+  peer = h.peer;
+  own_small = small_append w.own.sent g.sent h.own_small (laws.sendable w.own.session c g h.own.sound small e).numbered;
+  peer_small = h.peer_small;
+}
+answered_kept laws w c (Err d) small e h = h
+
+called_kept : SessionLaws → (w : Core) (c : Call) → HasSerial c → AreConsistent w → AreConsistent (called w c)
+called_kept laws w c small h = by (stays_in_core c)
+  where
+    by : (b : Bool) → AreConsistent (if b then answered w c (allowed w.own.session c) else w)
+    by true = answered_kept laws w c (allowed w.own.session c) small refl h
+    by false = h
+
+pub taking_kept : SessionLaws → (w : Core) (us : List Meaning) → w.peer.sent ≡ us → AreConsistent w → AreConsistent (taking w us)
+taking_kept laws w [] e h = h
+taking_kept laws w (u ∷ us) e h =
+    let small = subst (AllByRecursion IsNumbered) e h.peer_small in
+    record {
+      own = take_kept laws w.own u small.0 h.own;
+      peer = record {
+        sound = h.peer.sound;
+        count = h.peer.count;
+        major = h.peer.major;
+        asked = h.peer.asked;
+        asker = h.peer.asker;
+        fresh = λ k. let f = h.peer.fresh k in record { base = f.base; numbers = f.numbers; view = f.view; said = f.said; got = f.got };
+      };
+      own_small = h.own_small;
+      peer_small = small.1;
+    }
+
+turned_kept : (w : Core) → AreConsistent w → AreConsistent (turned w)
+turned_kept w h = record { own = h.peer; peer = h.own; own_small = h.peer_small; peer_small = h.own_small }
+
+side_kept : (f : Core → Core) → ((w : Core) → AreConsistent w → AreConsistent (f w)) → (side : Side) (w : Core) → AreConsistent w → AreConsistent (at_side side f w)
+side_kept f step Left w h = step w h
+side_kept f step Right w h = turned_kept (f (turned w)) (step (turned w) (turned_kept w h))
+
+pub step_kept : SessionLaws → (w : Core) (step : CoreStep) → IsNumberedStep step → AreConsistent w → AreConsistent (core_step w step)
+step_kept laws w (call_at side c) small h = side_kept (λ v. called v c) (λ v k. called_kept laws v c small k) side w h
+step_kept laws w (take_at side) small h = side_kept takes (λ v k. taking_kept laws v v.peer.sent refl k) side w h
+
+pub run_kept : SessionLaws → (w : Core) (steps : List CoreStep) → AllByRecursion IsNumberedStep steps → AreConsistent w → AreConsistent (core_run w steps)
+run_kept laws w [] small h = h
+run_kept laws w (step ∷ steps) small h = run_kept laws (core_step w step) steps small.1 (step_kept laws w step small.0 h)
+
+-- ---- how it begins
+
+from_zero : AreOrdered 0 (from_base 0)
+from_zero = record { confirmed_from = omega arith; confirmed_to = omega arith; lowest_from = omega arith; lowest_to = omega arith; last = omega arith }
+
+small_base : (b : Bool) (serial : ℕ) → serial < 1000000 → (if b then serial else 0) < 1000000
+small_base true serial h = h
+small_base false serial h = omega arith
+
+small_serial : (o : Offer) → o.serial < 1000000 → IsNumbered (offer_sent o)
+small_serial o h = by (has_points (functional_units o.requirements))
+  where
+    by : (b : Bool) → IsSmall (if b then Some o.serial else None)
+    by true = omega arith
+    by false = tt
+
+pub starts : (o : Offer) → o.serial < 1000000 → AreConsistent (core_start o)
+starts o h = record {
+  own = record {
+    sound = record {
+      ordered = from_zero;
+      first = small_base (has_points (functional_units o.requirements)) o.serial h;
+      major = λ k. absurd (cc);
+      restart = λ k. absurd (cc);
+      tokens = λ k. refl;
+    };
+    count = omega arith;
+    major = λ k. absurd (cc);
+    asked = λ k. absurd (cc);
+    asker = λ k. absurd (cc);
+    fresh = λ k. record { base = refl; numbers = refl; view = refl; said = refl; got = refl };
+  };
+  peer = record {
+    sound = record { ordered = from_zero; first = omega arith; major = λ k. absurd (cc); restart = λ k. absurd (cc); tokens = λ k. refl };
+    count = omega arith;
+    major = λ k. absurd (cc);
+    asked = λ k. absurd (cc);
+    asker = λ k. absurd (cc);
+    fresh = λ k. record { base = refl; numbers = refl; view = refl; said = refl; got = refl };
+  };
+  own_small = (small_serial o h, tt);
+  peer_small = tt;
+}

@@ -1,0 +1,219 @@
+-- A side that gives tokens away: what is under way to it goes on fitting, and leaves it the same but for
+-- those tokens.
+use Rattle.std.proofs.Common.{◌≡◌, refl, sym, ◌∙◌, ap, subst, Bool, true, false, not, ◌&&◌, ◌||◌, if◌then◌else◌, List, ◌⊎◌, inl, inr}
+use Rattle.std.proofs.lemmas.Bool.{and_parts, or_left}
+use Rattle.osi_machine.specs.Floor.{State, Tokens, Meaning, CN, AC, RF, DT, GT, PT, MIP, MIA, MAP, MAA, RS, RA, FN, DN, NF, AB, AA, Token, data_token, minor, major, release, has, each, some, is_empty, is_within, is_disjoint, without, united, available, lacks, may_ask, is_wait_cn, is_connecting, is_releasing, is_restarting, is_restart_due, becomes, stands, without_tokens, RestartDue, restarted_at, drops, Good}
+use Rattle.osi_machine.specs.Histories.{Item}
+use Rattle.osi_machine.specs.Channels.{Fits, stops, view_next}
+use Rattle.osi_machine.proofs.PhaseLaws.{excluded}
+use Rattle.osi_machine.proofs.Units.{next_acted, restart_due, due_next}
+use Rattle.osi_machine.proofs.ChannelLaws.{Steps}
+use Rattle.osi_machine.proofs.Tokens.{each_has, empty_has, united_has, without_has}
+
+-- ---- sets of tokens
+
+pub tokens_same : (a b : Tokens) → ((t : Token) → has a t ≡ has b t) → a ≡ b
+tokens_same a b h = λ i. record { data_token = h data_token i; minor = h minor i; major = h major i; release = h release i }
+
+pub each_of : (p : Token → Bool) → ((t : Token) → p t ≡ true) → each p ≡ true
+each_of p h = let a = h data_token in let b = h minor in let c = h major in let d = h release in rw (a, b, c, d) refl
+
+none_of : (p : Token → Bool) → ((t : Token) → p t ≡ false) → some p ≡ false
+none_of p h = let a = h data_token in let b = h minor in let c = h major in let d = h release in rw (a, b, c, d) refl
+
+pub is_empty_of : (a : Tokens) → ((t : Token) → has a t ≡ false) → is_empty a ≡ true
+unfolding is_empty
+is_empty_of a h = ap not (none_of (has a) h)
+
+pub disjoint_of : (a b : Tokens) → ((t : Token) → (has a t && has b t) ≡ false) → is_disjoint a b ≡ true
+unfolding is_disjoint
+disjoint_of a b h = each_of (λ t. not (has a t && has b t)) (λ t. ap not (h t))
+
+pub disjoint_has : (a b : Tokens) (t : Token) → is_disjoint a b ≡ true → (has a t && has b t) ≡ false
+unfolding is_disjoint
+disjoint_has a b t h = turn _ (each_has (λ t. not (has a t && has b t)) t h)
+  where
+    turn : (b : Bool) → not b ≡ true → b ≡ false
+    turn true p = absurd (cc)
+    turn false p = refl
+
+pub within_has : (a b : Tokens) (t : Token) → is_within a b ≡ true → has a t ≡ true → has b t ≡ true
+unfolding is_within
+within_has a b t h k = cut (has a t) (has b t) (each_has (λ t. not (has a t) || has b t) t h) k
+  where
+    cut : (x y : Bool) → (not x || y) ≡ true → x ≡ true → y ≡ true
+    cut true y h k = h
+    cut false y h k = absurd (cc)
+
+-- ---- fewer tokens
+
+abbrev pub less : Tokens → State → State
+less k s = record s { held = without s.held k }
+
+still_lacks : (k : Tokens) (s : State) (t : Token) → lacks s t ≡ true → lacks (less k s) t ≡ true
+still_lacks k s t h = ap not (without_has s.held k t ∙ gone (has s.held t) (not (has k t)) h)
+  where
+    gone : (a b : Bool) → not a ≡ true → (a && b) ≡ false
+    gone true b h = absurd (cc)
+    gone false b h = refl
+
+two_lack : (a b c d : Bool) → (a ≡ true → c ≡ true) → (b ≡ true → d ≡ true) → (a && b) ≡ true → (c && d) ≡ true
+two_lack a b c d f g h = let p = and_parts a b h in let q = f p.0 in let r = g p.1 in rw (q, r) refl
+
+still_disjoint : (k j : Tokens) (s : State) → is_disjoint j s.held ≡ true → is_disjoint j (without s.held k) ≡ true
+still_disjoint k j s h = disjoint_of j (without s.held k) (λ t. none (has j t) (has s.held t) (has (without s.held k) t) (not (has k t)) (disjoint_has j s.held t h) (without_has s.held k t))
+  where
+    none : (a b c d : Bool) → (a && b) ≡ false → c ≡ (b && d) → (a && c) ≡ false
+    none true true c d h e = absurd (cc)
+    none true false c d h e = e
+    none false b c d h e = refl
+
+still_empty : (k : Tokens) (s : State) → is_empty s.held ≡ true → is_empty (without s.held k) ≡ true
+still_empty k s h = is_empty_of (without s.held k) (λ t. without_has s.held k t ∙ ap (λ (b : Bool). b && not (has k t)) (empty_has s.held t h))
+
+both : (a b : Bool) → a ≡ true → b ≡ true → (a && b) ≡ true
+both a b p q = rw (p, q) refl
+
+-- a good unit stays good
+fewer_good : (k : Tokens) (s : State) (u : Meaning) → Good s u → Good (less k s) u
+fewer_good k s (CN v u n w from to o) g = record { expected = g.expected; met = g.met }
+fewer_good k s (AC v u n w o) g = record { expected = g.expected; met = g.met }
+fewer_good k s (RF r o) g = record { expected = g.expected; met = g.met }
+fewer_good k s (DT o) g = record { expected = g.expected; met = (still_lacks k s data_token g.met.0, tt) }
+fewer_good k s (GT j) g =
+    let a = and_parts (is_within j (available s.units)) (is_disjoint j s.held) g.met.0 in
+    record { expected = g.expected; met = (both (is_within j (available s.units)) (is_disjoint j (without s.held k)) a.0 (still_disjoint k j s a.1), tt) }
+fewer_good k s (PT j o) g = record { expected = g.expected; met = g.met }
+fewer_good k s (MIP c n o) g = record {
+  expected = g.expected;
+  met = (g.met.0, (two_lack (lacks s data_token) (lacks s minor) _ _ (still_lacks k s data_token) (still_lacks k s minor) g.met.1.0, g.met.1.1));
+}
+fewer_good k s (MIA n o) g = record { expected = g.expected; met = g.met }
+fewer_good k s (MAP n o) g = record {
+  expected = g.expected;
+  met = (
+    g.met.0,
+    (
+      two_lack (lacks s data_token) (lacks s minor && lacks s major) _ _ (still_lacks k s data_token)
+          (two_lack (lacks s minor) (lacks s major) _ _ (still_lacks k s minor) (still_lacks k s major)) g.met.1.0,
+      g.met.1.1,
+    ),
+  );
+}
+fewer_good k s (MAA n o) g = record { expected = g.expected; met = g.met }
+fewer_good k s (RS j n w o) g = record { expected = g.expected; met = g.met }
+fewer_good k s (RA n w o) g = record { expected = g.expected; met = g.met }
+fewer_good k s (FN o) g = record { expected = g.expected; met = (still_empty k s g.met.0, tt) }
+fewer_good k s (DN o) g = record { expected = g.expected; met = g.met }
+fewer_good k s (NF o) g = record { expected = g.expected; met = g.met }
+fewer_good k s (AB b o) g = record { expected = g.expected; met = g.met }
+fewer_good k s AA g = record { expected = g.expected; met = g.met }
+
+-- ---- what is under way to it
+
+-- a side that holds all of these tokens, one at least, and asks for nothing but the answer to a major point
+pub record Gives (k : Tokens) (s : State) : Type 0 where
+  pub phase : may_ask s.phase ≡ true
+  pub all : (t : Token) → has k t ≡ true → has s.held t ≡ true
+  pub one : is_empty k ≡ false
+
+-- the same but for these tokens, until a restart stands
+abbrev pub Fewer : Tokens → State → State → Type 0
+Fewer k s r = ((r ≡ less k s) × Gives k s) ⊎ ((r ≡ s) × (is_restart_due s.phase ≡ true))
+
+gives_something : (k : Tokens) (s : State) → Gives k s → is_empty s.held ≡ true → ⊥
+gives_something k s h e =
+    let none : is_empty k ≡ true = is_empty_of k (λ t. by t (has k t) refl) in
+    let one = h.one in
+    cc
+  where
+    by : (t : Token) (b : Bool) → has k t ≡ b → has k t ≡ false
+    by t false p = p
+    by t true p = absurd (let q = h.all t p in let n = empty_has s.held t e in cc)
+
+-- giving and getting other tokens, in either order
+given_and_got : (k j : Tokens) (s : State) → Gives k s → is_disjoint j s.held ≡ true → united (without s.held k) j ≡ without (united s.held j) k
+given_and_got k j s h d = tokens_same _ _ (λ t.
+    united_has (without s.held k) j t ∙ ap (λ (b : Bool). b || has j t) (without_has s.held k t)
+    ∙ swap (has s.held t) (has k t) (has j t) (h.all t) (disjoint_has j s.held t d)
+    ∙ sym (without_has (united s.held j) k t ∙ ap (λ (b : Bool). b && not (has k t)) (united_has s.held j t)))
+  where
+    swap : (a b c : Bool) → (b ≡ true → a ≡ true) → (c && a) ≡ false → (a && not b || c) ≡ ((a || c) && not b)
+    swap true true true f g = absurd (cc)
+    swap true true false f g = refl
+    swap true false c f g = refl
+    swap false true c f g = absurd (let p = f refl in cc)
+    swap false false true f g = refl
+    swap false false false f g = refl
+
+-- what such a unit leaves
+fewer_becomes : (k : Tokens) (s : State) (u : Meaning) → Fits s u → Good s u → stops s u ≡ false → Gives k s → (becomes (less k s) u ≡ less k (becomes s u)) × Gives k (becomes s u)
+unfolding stands
+fewer_becomes k s (CN v u n w from to o) f g st h = absurd (let e = excluded is_wait_cn may_ask refl s.phase g.expected in let p = h.phase in cc)
+fewer_becomes k s (AC v u n w o) f g st h = absurd (let e = excluded is_connecting may_ask refl s.phase g.expected in let p = h.phase in cc)
+fewer_becomes k s (RF r o) f g st h = absurd (let p = f.plain in cc)
+fewer_becomes k s (DT o) f g st h = (refl, h)
+fewer_becomes k s (GT j) f g st h =
+    let d = (and_parts (is_within j (available s.units)) (is_disjoint j s.held) g.met.0).1 in (
+      ap (λ (held : Tokens). record s { held = held }) (given_and_got k j s h d),
+      record { phase = h.phase; all = λ t p. united_has s.held j t ∙ or_left (has s.held t) (has j t) (h.all t p); one = h.one },
+    )
+fewer_becomes k s (PT j o) f g st h = (refl, h)
+fewer_becomes k s (MIP c n o) f g st h = (refl, record { phase = h.phase; all = h.all; one = h.one })
+fewer_becomes k s (MIA n o) f g st h = (refl, record { phase = h.phase; all = h.all; one = h.one })
+fewer_becomes k s (MAP n o) f g st h = (refl, record { phase = refl; all = h.all; one = h.one })
+fewer_becomes k s (MAA n o) f g st h = (refl, record { phase = refl; all = h.all; one = h.one })
+fewer_becomes k s (RS j n w o) f g st h = absurd (
+    let e = excluded may_ask is_restarting refl s.phase h.phase in
+    let t : stands s n ≡ true = rw e refl in
+    cc)
+fewer_becomes k s (RA n w o) f g st h = absurd (let e = excluded is_restarting may_ask refl s.phase g.expected in let p = h.phase in cc)
+fewer_becomes k s (FN o) f g st h = absurd (gives_something k s h g.met.0)
+fewer_becomes k s (DN o) f g st h = absurd (let p = f.plain in cc)
+fewer_becomes k s (NF o) f g st h = absurd (let e = excluded is_releasing may_ask refl s.phase g.expected in let p = h.phase in cc)
+fewer_becomes k s (AB b o) f g st h = absurd (let p = f.plain in cc)
+fewer_becomes k s AA f g st h = absurd (let p = f.plain in cc)
+
+-- a restart that stands leaves the same
+stands_same : (k : Tokens) (s : State) (u : Meaning) → stops s u ≡ true → becomes (less k s) u ≡ becomes s u
+unfolding stands
+stands_same k s (RS j n w o) st =
+    let after : State = record (without_tokens RestartDue s) { wishes = w; numbers = restarted_at n s.numbers } in
+    ap (λ (b : Bool). if b then after else less k s) st ∙ sym (ap (λ (b : Bool). if b then after else s) st)
+stands_same k s _ st = absurd (cc)
+
+fewer_stops : (k : Tokens) (s : State) (u : Meaning) → stops (less k s) u ≡ stops s u
+unfolding stands
+fewer_stops k s (RS j n w o) = refl
+fewer_stops k s _ = refl
+
+gives_step : (k : Tokens) (s : State) (u : Meaning) → Gives k s → Fits s u → Steps (Fewer k) s (less k s) u
+gives_step k s u h f = record {
+  fits = record { plain = f.plain; good = λ d. fewer_good k s u (f.good d) };
+  stops = fewer_stops k s u;
+  next = by (drops s u) refl (stops s u) refl;
+}
+  where
+    by : (d : Bool) → drops s u ≡ d → (b : Bool) → stops s u ≡ b → Fewer k (if d then s else becomes s u) (if d then less k s else becomes (less k s) u)
+    by true e b q = inl (refl, h)
+    by false e false q = inl (fewer_becomes k s u f (f.good e) q h)
+    by false e true q = inr (stands_same k s u q, subst (λ (r : State). is_restart_due r.phase ≡ true) (next_acted s u e) (restart_due s u q))
+
+pub fewer_step : (k : Tokens) (s r : State) (u : Meaning) → Fewer k s r → Fits s u → Steps (Fewer k) s r u
+fewer_step k s r u (inl (e, h)) f = subst (λ (q : State). Steps (Fewer k) s q u) (sym e) (gives_step k s u h f)
+fewer_step k s r u (inr (e, d)) f = subst (λ (q : State). Steps (Fewer k) s q u) (sym e)
+    (record { fits = f; stops = refl; next = inr (refl, subst (λ (q : State). is_restart_due q.phase ≡ true) (sym (due_next s u d f)) d) })
+
+less_shows : (k : Tokens) (s : State) (u : Meaning) (v : List Item) → view_next (less k s) u v ≡ view_next s u v
+unfolding stands
+less_shows k s (RS j n w o) v = refl
+less_shows k s _ v = refl
+
+pub fewer_shows : (k : Tokens) (s r : State) (u : Meaning) (v : List Item) → Fewer k s r → view_next r u v ≡ view_next s u v
+fewer_shows k s r u v (inl (e, h)) = ap (λ (q : State). view_next q u v) e ∙ less_shows k s u v
+fewer_shows k s r u v (inr (e, d)) = ap (λ (q : State). view_next q u v) e
+
+-- all but the tokens is the same
+pub but_held : (k : Tokens) (s r : State) → Fewer k s r → r ≡ record s { held = r.held }
+but_held k s r (inl (e, h)) = e ∙ ap (λ (held : Tokens). record s { held = held }) (sym (ap (λ (q : State). q.held) e))
+but_held k s r (inr (e, d)) = e ∙ ap (λ (held : Tokens). record s { held = held }) (sym (ap (λ (q : State). q.held) e))

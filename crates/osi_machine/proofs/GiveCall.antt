@@ -1,0 +1,362 @@
+-- The call of Give keeps what is true of both sides.
+use Rattle.std.proofs.Common.{◌≡◌, refl, sym, ◌∙◌, ap, subst, ℕ, Bool, true, false, not, ◌&&◌, ◌||◌, if◌then◌else◌, List, [], ◌∷◌, ◌++◌, inl, inr, Ok}
+use Rattle.std.specs.List.{list_any}
+use Rattle.osi_machine.specs.Floor.{State, FunctionalUnits, GT, Tokens, Token, data_token, has, available, is_empty, is_within, may_give, may_ask, may_hold, is_restarting, is_restart_due, Give, Granted, allowed, drops, next}
+use Rattle.osi_machine.specs.Histories.{Item, cutat, AreNumberedFrom}
+use Rattle.osi_machine.specs.Owners.{Owner, Own, Theirs, ToOwn, ToThem, Pool, Absent, turned_owner, turned_owners, is_own, is_to_own, is_absent, passed_to}
+use Rattle.osi_machine.specs.Channels.{Fits, flush, heard, hears, heard_view, data_of, needs_token}
+use Rattle.osi_machine.specs.Core.{Party, Core, answered}
+use Rattle.osi_machine.specs.Parties.{is_opening, AreConsistent}
+use Rattle.osi_machine.proofs.PhaseLaws.{implied, excluded, implied_two}
+use Rattle.osi_machine.proofs.Passed.{passed}
+use Rattle.osi_machine.proofs.Units.{next_cases, next_acted, next_dropped}
+use Rattle.osi_machine.proofs.ChannelLaws.{fit_append, flush_append, heard_flush, heard_append, data_append, Runs, alike, alike_view}
+use Rattle.osi_machine.proofs.Tokens.{united_has, without_has}
+use Rattle.osi_machine.proofs.CoreLaws.{SessionLaws, answered_kept}
+use Rattle.osi_machine.proofs.Records.{flushed, hearing, matched, Meeting, Half, Views, IsOfProfile, Pair, Stands}
+use Rattle.osi_machine.proofs.Idle.{end_units, other_lacks, append_nil, view_idle, list_any_append}
+use Rattle.osi_machine.proofs.DataCall.{none_owed}
+use Rattle.osi_machine.proofs.Fewer.{less, Gives, Fewer, fewer_step, fewer_shows, but_held, within_has, disjoint_of}
+use Rattle.osi_machine.proofs.Retoken.{Like, like, itself, Tokens_of, retoken, recount}
+
+-- ---- a token that is given: held no longer, owned by neither, on its way
+
+still_held : (b h : Bool) (p : Owner) → h ≡ is_own p → (h && not b) ≡ is_own (if b then ToThem else p)
+still_held true true p e = refl
+still_held true false p e = refl
+still_held false true p e = e
+still_held false false p e = e
+
+still_wanted : (b h : Bool) (p : Owner) → h ≡ (is_own p || is_to_own p) → (h && not b) ≡ (is_own (if b then ToThem else p) || is_to_own (if b then ToThem else p))
+still_wanted true true p e = refl
+still_wanted true false p e = refl
+still_wanted false true p e = e
+still_wanted false false p e = e
+
+not_yet_held : (b q : Bool) (p : Owner) → (b ≡ true → is_own p ≡ true) → q ≡ is_own (turned_owner p) → q ≡ is_own (turned_owner (if b then ToThem else p))
+not_yet_held false q p f e = e
+not_yet_held true q Own f e = e
+not_yet_held true q Theirs f e = absurd (let w = f refl in cc)
+not_yet_held true q ToOwn f e = absurd (let w = f refl in cc)
+not_yet_held true q ToThem f e = absurd (let w = f refl in cc)
+not_yet_held true q Pool f e = absurd (let w = f refl in cc)
+not_yet_held true q Absent f e = absurd (let w = f refl in cc)
+
+will_be_held : (b q : Bool) (p : Owner) → q ≡ (is_own (turned_owner p) || is_to_own (turned_owner p))
+    → (q || b) ≡ (is_own (turned_owner (if b then ToThem else p)) || is_to_own (turned_owner (if b then ToThem else p)))
+will_be_held true true p e = refl
+will_be_held true false p e = refl
+will_be_held false true p e = e
+will_be_held false false p e = e
+
+still_absent : (b : Bool) (p : Owner) → b ≡ false → is_absent p ≡ true → is_absent (if b then ToThem else p) ≡ true
+still_absent b p e h = rw e h
+
+turned_absent : (p : Owner) → is_absent (turned_owner p) ≡ is_absent p
+turned_absent Own = refl
+turned_absent Theirs = refl
+turned_absent ToOwn = refl
+turned_absent ToThem = refl
+turned_absent Pool = refl
+turned_absent Absent = refl
+
+-- ---- what is given
+
+pub record Giving (w : Core) (k : Tokens) : Type 0 where
+  pub phase : may_give w.own.session.phase ≡ true
+  pub selected : is_within k (available w.own.session.units) ≡ true
+  pub held : is_within k w.own.session.held ≡ true
+  pub one : is_empty k ≡ false
+
+gives : (w : Core) (k : Tokens) → Giving w k → Gives k w.own.session
+gives w k g = record {
+  phase = implied may_give may_ask refl w.own.session.phase g.phase;
+  all = λ t p. within_has k w.own.session.held t g.held p;
+  one = g.one;
+}
+
+-- the channel to the giver, before and after
+runs : (w : Core) (k : Tokens) → Giving w k → Half w.owner w.own w.peer → Runs (Fewer k) w.own.session (less k w.own.session) w.peer.sent
+runs w k g h = alike (Fewer k) (fewer_step k) w.own.session (less k w.own.session) w.peer.sent (inl (refl, gives w k g)) h.fits
+
+both : (a b : Bool) → a ≡ true → b ≡ true → (a && b) ≡ true
+both a b p q = rw (p, q) refl
+
+listens : (w : Core) (k : Tokens) → Giving w k → is_restarting w.own.session.phase ≡ false
+listens w k g = excluded may_give is_restarting refl w.own.session.phase g.phase
+
+-- ---- the unit fits
+
+dropped_not : (e r : Bool) → (e || (r && true)) ≡ false → r ≡ true → ⊥
+dropped_not true r h k = cc
+dropped_not false true h k = cc
+dropped_not false false h k = cc
+
+other_asks : (w : Core) (k : Tokens) → Giving w k → Half w.owner w.own w.peer → drops (flushed w.peer w.own) (GT k) ≡ false → may_ask (flushed w.peer w.own).phase ≡ true
+other_asks w k g h d = by (runs w k g h).flush
+  where
+    fx : State
+    fx = flushed w.own w.peer
+
+    fy : State
+    fy = flushed w.peer w.own
+
+    by : Fewer k fx (flush (less k w.own.session) w.peer.sent) → may_ask fy.phase ≡ true
+    by (inl (e, v)) = implied_two (λ p q. matched p q && may_ask p) (λ p q. may_ask q) refl fx.phase fy.phase
+        (both (matched fx.phase fy.phase) (may_ask fx.phase) h.meeting.meets v.phase)
+    by (inr (e, due)) = absurd (dropped_not _ _ d
+        (implied_two (λ p q. matched p q && is_restart_due p) (λ p q. is_restarting q) refl fx.phase fy.phase
+        (both (matched fx.phase fy.phase) (is_restart_due fx.phase) h.meeting.meets due)))
+
+give_fits : (w : Core) (k : Tokens) → Giving w k → Half w.owner w.own w.peer → Half (turned_owners w.owner) w.peer w.own → Fits (flushed w.peer w.own) (GT k)
+give_fits w k g h j = record {
+  plain = refl;
+  good = λ d.
+      let asks = other_asks w k g h d in
+      record { expected = asks; met = (both _ _ there (disjoint_of k (flushed w.peer w.own).held (λ t. apart asks t (has k t) refl)), tt) };
+}
+  where
+    fy : State
+    fy = flushed w.peer w.own
+
+    begun : is_opening w.own.session.phase ≡ false
+    begun = excluded may_give is_opening refl w.own.session.phase g.phase
+
+    units : fy.units ≡ w.own.session.units
+    units = sym h.meeting.units ∙ end_units w.owner w.own w.peer h begun
+
+    there : is_within k (available fy.units) ≡ true
+    there = ap (λ (u : FunctionalUnits). is_within k (available u)) units ∙ g.selected
+
+    apart : may_ask fy.phase ≡ true → (t : Token) (b : Bool) → has k t ≡ b → (b && has fy.held t) ≡ false
+    apart asks t false p = refl
+    apart asks t true p = other_lacks w.owner w.own w.peer t h j begun (inl (within_has k w.own.session.held t g.held p))
+        (excluded may_ask is_restart_due refl fy.phase asks) (implied may_ask may_hold refl fy.phase asks)
+
+-- ---- both halves
+
+-- what the other side is, once the unit is taken
+given_like : (k : Tokens) (s : State) → Like s (next s (GT k))
+given_like k s = next_cases (Like s) s (GT k) (λ d. itself s) (λ d. record { phase = refl; units = refl; wishes = refl; proposed = refl; base = refl; numbers = refl })
+
+abbrev giver : Party → Tokens → Party
+giver x k = record { session = less k x.session; view = x.view ++ []; said = x.said ++ []; got = x.got; sent = x.sent ++ GT k ∷ [] }
+
+other_end : (w : Core) (k : Tokens) → flush w.peer.session (w.own.sent ++ GT k ∷ []) ≡ next (flushed w.peer w.own) (GT k)
+other_end w k = flush_append w.peer.session w.own.sent (GT k)
+
+-- the other listens to the giver, so that it hears all
+other_heard : (w : Core) (k : Tokens) → Giving w k → Half w.owner w.own w.peer → Half (turned_owners w.owner) w.peer w.own
+    → heard w.peer.session (w.own.sent ++ GT k ∷ []) ≡ next (flushed w.peer w.own) (GT k)
+other_heard w k g h j = heard_append w.peer.session w.own.sent (GT k) j.fits (none_owed w.owner w.own w.peer h (listens w k g))
+
+heard_end : (w : Core) (k : Tokens) → Giving w k → Half w.owner w.own w.peer → Half (turned_owners w.owner) w.peer w.own → hearing w.peer w.own ≡ flushed w.peer w.own
+heard_end w k g h j = heard_flush w.peer.session w.own.sent j.fits (none_owed w.owner w.own w.peer h (listens w k g))
+
+own_tokens : (w : Core) (k : Tokens) → Giving w k → Half w.owner w.own w.peer
+    → Tokens_of (passed_to ToThem k w.owner) (less k w.own.session) (flush (less k w.own.session) w.peer.sent) (heard (less k w.own.session) w.peer.sent)
+own_tokens w k g h = record {
+  holds = λ t. without_has w.own.session.held k t ∙ still_held (has k t) (has w.own.session.held t) (w.owner t) (h.meeting.holds t);
+  wants = by (runs w k g h).heard;
+  absent = λ t n. gone t (has k t) refl n;
+}
+  where
+    hx : State
+    hx = hearing w.own w.peer
+
+    by : Fewer k hx (heard (less k w.own.session) w.peer.sent) → may_hold (heard (less k w.own.session) w.peer.sent).phase ≡ true → (t : Token)
+        → has (heard (less k w.own.session) w.peer.sent).held t ≡ (is_own (passed_to ToThem k w.owner t) || is_to_own (passed_to ToThem k w.owner t))
+    by (inl (e, v)) m t =
+        ap (λ (q : State). has q.held t) e ∙ without_has hx.held k t
+        ∙ still_wanted (has k t) (has hx.held t) (w.owner t) (h.meeting.wants (ap (λ (q : State). may_hold q.phase) (sym e) ∙ m) t)
+    by (inr (e, due)) m t = absurd (
+        let d = excluded is_restart_due may_hold refl hx.phase due in
+        let n = ap (λ (q : State). may_hold q.phase) (sym e) ∙ m in
+        cc)
+
+    units : (flush (less k w.own.session) w.peer.sent).units ≡ (flushed w.own w.peer).units
+    units = (like (flushed w.own w.peer) (flush (less k w.own.session) w.peer.sent) (but_held k (flushed w.own w.peer) _ (runs w k g h).flush)).units
+
+    now : (flushed w.own w.peer).units ≡ w.own.session.units
+    now = end_units w.owner w.own w.peer h (excluded may_give is_opening refl w.own.session.phase g.phase)
+
+    gone : (t : Token) (b : Bool) → has k t ≡ b → has (available (flush (less k w.own.session) w.peer.sent).units) t ≡ false → is_absent (if b then ToThem else w.owner t) ≡ true
+    gone t true p n = absurd (
+        let there = within_has k (available w.own.session.units) t g.selected p in
+        let none = ap (λ (u : FunctionalUnits). has (available u) t) (sym now ∙ sym units) ∙ n in
+        cc)
+    gone t false p n = h.meeting.absent t (ap (λ (u : FunctionalUnits). has (available u) t) (sym units) ∙ n)
+
+own_half : (w : Core) (k : Tokens) → Giving w k → Half w.owner w.own w.peer → Half (passed_to ToThem k w.owner) (giver w.own k) w.peer
+own_half w k g h = record {
+  fits = (runs w k g h).fits;
+  meeting = retoken w.owner (passed_to ToThem k w.owner) w.own.session (flushed w.own w.peer) (flushed w.peer w.own) (hearing w.own w.peer) w.peer.session
+      (less k w.own.session) (flush (less k w.own.session) w.peer.sent) (flush w.peer.session (w.own.sent ++ GT k ∷ [])) (heard (less k w.own.session) w.peer.sent) w.peer.session
+      h.meeting
+      (like _ _ (but_held k (flushed w.own w.peer) _ (runs w k g h).flush))
+      (subst (Like (flushed w.peer w.own)) (sym (other_end w k)) (given_like k (flushed w.peer w.own)))
+      (like _ _ (but_held k (hearing w.own w.peer) _ (runs w k g h).heard))
+      (itself w.peer.session)
+      (own_tokens w k g h);
+}
+
+owned_by : (w : Core) (k : Tokens) → Giving w k → Half w.owner w.own w.peer → (t : Token) → has k t ≡ true → is_own (w.owner t) ≡ true
+owned_by w k g h t p = sym (h.meeting.holds t) ∙ within_has k w.own.session.held t g.held p
+
+peer_tokens : (w : Core) (k : Tokens) → Giving w k → Half w.owner w.own w.peer → Half (turned_owners w.owner) w.peer w.own
+    → Tokens_of (turned_owners (passed_to ToThem k w.owner)) w.peer.session (next (flushed w.peer w.own) (GT k)) (next (flushed w.peer w.own) (GT k))
+peer_tokens w k g h j = record {
+  holds = λ t. not_yet_held (has k t) (has w.peer.session.held t) (w.owner t) (owned_by w k g h t) (j.meeting.holds t);
+  wants = λ m t. by (drops fy (GT k)) refl m t;
+  absent = λ t n. gone t (has k t) refl n;
+}
+  where
+    fy : State
+    fy = flushed w.peer w.own
+
+    was : may_hold fy.phase ≡ true → (t : Token) → has fy.held t ≡ (is_own (turned_owner (w.owner t)) || is_to_own (turned_owner (w.owner t)))
+    was m t =
+        let e = heard_end w k g h j in
+        subst (λ (q : State). has q.held t ≡ (is_own (turned_owner (w.owner t)) || is_to_own (turned_owner (w.owner t)))) e
+        (j.meeting.wants (ap (λ (q : State). may_hold q.phase) e ∙ m) t)
+
+    idle_not : (e r : Bool) → e ≡ false → (e || (r && true)) ≡ true → r ≡ true
+    idle_not e true p q = refl
+    idle_not true false p q = absurd (cc)
+    idle_not false false p q = absurd (cc)
+
+    by : (b : Bool) → drops fy (GT k) ≡ b → may_hold (next fy (GT k)).phase ≡ true → (t : Token)
+        → has (next fy (GT k)).held t ≡ (is_own (turned_owner (passed_to ToThem k w.owner t)) || is_to_own (turned_owner (passed_to ToThem k w.owner t)))
+    by true d m t = absurd (
+        let r = idle_not (is_empty k) (is_restarting fy.phase) g.one d in
+        let n = excluded is_restarting may_hold refl fy.phase r in
+        let l = ap (λ (q : State). may_hold q.phase) (sym (next_dropped fy (GT k) d)) ∙ m in
+        cc)
+    by false d m t =
+        let e = next_acted fy (GT k) d in
+        ap (λ (q : State). has q.held t) e ∙ united_has fy.held k t
+        ∙ will_be_held (has k t) (has fy.held t) (w.owner t) (was (ap (λ (q : State). may_hold q.phase) (sym e) ∙ m) t)
+
+    gone : (t : Token) (b : Bool) → has k t ≡ b → has (available (next fy (GT k)).units) t ≡ false → is_absent (turned_owner (if b then ToThem else w.owner t)) ≡ true
+    gone t true p n = absurd (
+        let there = within_has k (available w.own.session.units) t g.selected p in
+        let units = (given_like k fy).units ∙ sym h.meeting.units ∙ end_units w.owner w.own w.peer h (excluded may_give is_opening refl w.own.session.phase g.phase) in
+        let none = ap (λ (u : FunctionalUnits). has (available u) t) (sym units) ∙ n in
+        cc)
+    gone t false p n = j.meeting.absent t (ap (λ (u : FunctionalUnits). has (available u) t) (sym (given_like k fy).units) ∙ n)
+
+peer_half : (w : Core) (k : Tokens) → Giving w k → Half w.owner w.own w.peer → Half (turned_owners w.owner) w.peer w.own
+    → Half (turned_owners (passed_to ToThem k w.owner)) w.peer (giver w.own k)
+peer_half w k g h j = record {
+  fits = fit_append w.peer.session w.own.sent (GT k) j.fits (give_fits w k g h j);
+  meeting =
+      subst (λ (q : State). Meeting (turned_owners (passed_to ToThem k w.owner)) w.peer.session q (flush (less k w.own.session) w.peer.sent) (heard w.peer.session (w.own.sent ++ GT k ∷ [])) (less k w.own.session)) (sym (other_end w k))
+      (subst (λ (q : State). Meeting (turned_owners (passed_to ToThem k w.owner)) w.peer.session fy' (flush (less k w.own.session) w.peer.sent) q (less k w.own.session)) (sym (other_heard w k g h j))
+      (retoken (turned_owners w.owner) (turned_owners (passed_to ToThem k w.owner)) w.peer.session (flushed w.peer w.own) (flushed w.own w.peer) (hearing w.peer w.own) w.own.session
+      w.peer.session fy' (flush (less k w.own.session) w.peer.sent) fy' (less k w.own.session) j.meeting
+      (given_like k (flushed w.peer w.own))
+      (like _ _ (but_held k (flushed w.own w.peer) _ (runs w k g h).flush))
+      (subst (λ (q : State). Like q fy') (sym (heard_end w k g h j)) (given_like k (flushed w.peer w.own)))
+      (like w.own.session (less k w.own.session) refl)
+      (peer_tokens w k g h j)));
+}
+  where
+    fy' : State
+    fy' = next (flushed w.peer w.own) (GT k)
+
+-- ---- what was seen, and the numbers
+
+own_like_end : (w : Core) (k : Tokens) → Giving w k → Half w.owner w.own w.peer → Like (flushed w.own w.peer) (flush (less k w.own.session) w.peer.sent)
+own_like_end w k g h = like _ _ (but_held k (flushed w.own w.peer) _ (runs w k g h).flush)
+
+own_like_heard : (w : Core) (k : Tokens) → Giving w k → Half w.owner w.own w.peer → Like (hearing w.own w.peer) (heard (less k w.own.session) w.peer.sent)
+own_like_heard w k g h = like _ _ (but_held k (hearing w.own w.peer) _ (runs w k g h).heard)
+
+peer_like_end : (w : Core) (k : Tokens) → Like (flushed w.peer w.own) (flush w.peer.session (w.own.sent ++ GT k ∷ []))
+peer_like_end w k = subst (Like (flushed w.peer w.own)) (sym (other_end w k)) (given_like k (flushed w.peer w.own))
+
+peer_like_heard : (w : Core) (k : Tokens) → Giving w k → Half w.owner w.own w.peer → Half (turned_owners w.owner) w.peer w.own
+    → Like (hearing w.peer w.own) (heard w.peer.session (w.own.sent ++ GT k ∷ []))
+peer_like_heard w k g h j =
+    subst (Like (hearing w.peer w.own)) (sym (other_heard w k g h j))
+    (subst (λ (q : State). Like q (next (flushed w.peer w.own) (GT k))) (sym (heard_end w k g h j)) (given_like k (flushed w.peer w.own)))
+
+same_seen : (w : Core) (k : Tokens) → Giving w k → Half w.owner w.own w.peer → (v : List Item)
+    → heard_view (less k w.own.session) w.peer.sent v ≡ heard_view w.own.session w.peer.sent v
+same_seen w k g h v = alike_view (Fewer k) (fewer_step k) (fewer_shows k) w.own.session (less k w.own.session) w.peer.sent v (inl (refl, gives w k g)) h.fits
+
+own_views : (w : Core) (k : Tokens) → Giving w k → Half w.owner w.own w.peer → Views w.history w.own w.peer → Views (w.history ++ []) (giver w.own k) w.peer
+own_views w k g h v = record {
+  ends = λ l. same_seen w k g h (w.own.view ++ []) ∙ ap (heard_view w.own.session w.peer.sent) (append_nil w.own.view)
+      ∙ v.ends (ap hears (sym (own_like_heard w k g h).phase) ∙ l) ∙ sym (append_nil w.history);
+  cut = λ r. append_nil w.own.view ∙ v.cut (ap is_restarting (sym (own_like_heard w k g h).phase) ∙ r)
+      ∙ ap (λ (a : List Item). cutat w.own.session.base a w.own.session.numbers.next) (sym (append_nil w.history));
+  due = λ d. v.due d ∙ sym (append_nil w.history);
+  stream = λ d.
+      let s = v.stream (ap (λ (u : FunctionalUnits). u.duplex) (sym (own_like_end w k g h).units) ∙ d) in
+      (data_same s.0, append_nil w.history ∙ s.1);
+}
+  where
+    data_same : w.own.got ++ data_of w.peer.sent ≡ w.peer.said → w.own.got ++ data_of w.peer.sent ≡ w.peer.said
+    data_same e = e
+
+peer_views : (w : Core) (k : Tokens) → Giving w k → Half w.owner w.own w.peer → Half (turned_owners w.owner) w.peer w.own → Views w.history w.peer w.own
+    → Views (w.history ++ []) w.peer (giver w.own k)
+peer_views w k g h j v = record {
+  ends = λ l. view_idle (GT k) (λ s a. refl) w.peer.session w.own.sent w.peer.view j.fits (fit_append w.peer.session w.own.sent (GT k) j.fits (give_fits w k g h j))
+      ∙ v.ends (ap hears (sym (peer_like_heard w k g h j).phase) ∙ l) ∙ sym (append_nil w.history);
+  cut = λ r. v.cut (ap is_restarting (sym (peer_like_heard w k g h j).phase) ∙ r)
+      ∙ ap (λ (a : List Item). cutat w.peer.session.base a w.peer.session.numbers.next) (sym (append_nil w.history));
+  due = λ d. ap (λ (a : List Item). a ++ []) (v.due d);
+  stream = λ d. streams (v.stream (ap (λ (u : FunctionalUnits). u.duplex) (sym (peer_like_end w k).units) ∙ d));
+}
+  where
+    streams : (w.peer.got ++ data_of w.own.sent ≡ w.own.said) × (w.history ≡ []) → (w.peer.got ++ data_of (w.own.sent ++ GT k ∷ []) ≡ w.own.said ++ []) × (w.history ++ [] ≡ [])
+    streams old = (
+      ap (λ (r : List (List ℕ)). w.peer.got ++ r) (data_append w.own.sent (GT k ∷ []) ∙ append_nil (data_of w.own.sent)) ∙ old.0 ∙ sym (append_nil w.own.said),
+      append_nil w.history ∙ old.1,
+    )
+
+pair_kept : (w : Core) (k : Tokens) → Giving w k → Half w.owner w.own w.peer → Pair w.history w.own w.peer → Pair (w.history ++ []) (giver w.own k) w.peer
+pair_kept w k g h p =
+    let e = own_like_end w k g h in
+    record {
+      numbered = subst (λ (b : ℕ). AreNumberedFrom b (w.history ++ [])) (sym e.base)
+          (subst (AreNumberedFrom (flushed w.own w.peer).base) (sym (append_nil w.history)) p.numbered);
+      one_way = λ d. ap (λ (b : Bool). b && list_any (needs_token data_token) w.peer.sent) (list_any_append (needs_token data_token) w.own.sent (GT k) refl)
+          ∙ p.one_way (ap (λ (u : FunctionalUnits). u.half_duplex) (sym e.units) ∙ d);
+      callers = p.callers;
+      profile = subst IsOfProfile (sym e.units) p.profile;
+    }
+
+-- ---- the call
+
+all_kept : (w : Core) (k : Tokens) → Giving w k → Stands w
+    → AreConsistent (answered w (Give k) (Ok (record { next = less k w.own.session; sent = GT k })))
+    → Stands (answered w (Give k) (Ok (record { next = less k w.own.session; sent = GT k })))
+all_kept w k g s c = record {
+  consistent = c;
+  own = own_half w k g s.own;
+  peer = peer_half w k g s.own s.peer;
+  own_views = own_views w k g s.own s.own_views;
+  peer_views = peer_views w k g s.own s.peer s.peer_views;
+  own_counts = recount w.own.session (hearing w.own w.peer) (hearing w.peer w.own) w.peer.session
+      (less k w.own.session) (heard (less k w.own.session) w.peer.sent) (heard w.peer.session (w.own.sent ++ GT k ∷ [])) w.peer.session
+      s.own_counts (like w.own.session (less k w.own.session) refl) (own_like_heard w k g s.own) (peer_like_heard w k g s.own s.peer) (itself w.peer.session);
+  peer_counts = recount w.peer.session (hearing w.peer w.own) (hearing w.own w.peer) w.own.session
+      w.peer.session (heard w.peer.session (w.own.sent ++ GT k ∷ [])) (heard (less k w.own.session) w.peer.sent) (less k w.own.session)
+      s.peer_counts (itself w.peer.session) (peer_like_heard w k g s.own s.peer) (own_like_heard w k g s.own) (like w.own.session (less k w.own.session) refl);
+  pair = pair_kept w k g s.own s.pair;
+}
+
+not_true : (b : Bool) → not b ≡ true → b ≡ false
+not_true true h = absurd (cc)
+not_true false h = refl
+
+pub give_stands : SessionLaws → (w : Core) (k : Tokens) (g : Granted) → allowed w.own.session (Give k) ≡ Ok g → Stands w → Stands (answered w (Give k) (Ok g))
+give_stands laws w k g e h =
+    let q = passed w.own.session (Give k) g e in
+    let c = answered_kept laws w (Give k) (Ok g) tt e h.consistent in
+    let giving : Giving w k = record { phase = q.phase; selected = q.needed.0; held = q.needed.1.0; one = not_true (is_empty k) q.needed.1.1.0 } in
+    subst (λ (r : Granted). Stands (answered w (Give k) (Ok r))) (sym q.gives)
+    (all_kept w k giving h (subst (λ (r : Granted). AreConsistent (answered w (Give k) (Ok r))) q.gives c))

@@ -1,0 +1,55 @@
+-- What is true of each phase, by one computation over all of them.
+use Rattle.std.proofs.Common.{◌≡◌, refl, Bool, true, false, not, ◌&&◌, ◌||◌}
+use Rattle.osi_machine.specs.Floor.{Phase, WaitTransport, WaitCn, Connecting, Answering, Ready, MajorAsked, MajorDue, Releasing, ReleaseDue, Restarting, RestartDue, Aborting, Ended}
+
+-- a test that each phase passes
+abbrev pub every : (Phase → Bool) → Bool
+every f = f WaitTransport && (f WaitCn && (f Connecting && (f Answering && (f Ready && (f MajorAsked && (f MajorDue
+    && (f Releasing && (f ReleaseDue && (f Restarting && (f RestartDue && (f Aborting && f Ended)))))))))))
+
+each_part : (a b c d e i j k l m n o p : Bool) → (a && (b && (c && (d && (e && (i && (j && (k && (l && (m && (n && (o && p)))))))))))) ≡ true → (a ≡ true) × (b ≡ true) × (c ≡ true) × (d ≡ true) × (e ≡ true) × (i ≡ true) × (j ≡ true) × (k ≡ true) × (l ≡ true) × (m ≡ true) × (n ≡ true) × (o ≡ true) × (p ≡ true)
+each_part true true true true true true true true true true true true true h = (refl, refl, refl, refl, refl, refl, refl, refl, refl, refl, refl, refl, refl)
+each_part _ _ _ _ _ _ _ _ _ _ _ _ _ h = absurd (cc)
+
+pub every_is : (f : Phase → Bool) → every f ≡ true → (p : Phase) → f p ≡ true
+every_is f h WaitTransport = (each_part (f WaitTransport) (f WaitCn) (f Connecting) (f Answering) (f Ready) (f MajorAsked) (f MajorDue) (f Releasing) (f ReleaseDue) (f Restarting) (f RestartDue) (f Aborting) (f Ended) h).0
+every_is f h WaitCn = (each_part (f WaitTransport) (f WaitCn) (f Connecting) (f Answering) (f Ready) (f MajorAsked) (f MajorDue) (f Releasing) (f ReleaseDue) (f Restarting) (f RestartDue) (f Aborting) (f Ended) h).1
+every_is f h Connecting = (each_part (f WaitTransport) (f WaitCn) (f Connecting) (f Answering) (f Ready) (f MajorAsked) (f MajorDue) (f Releasing) (f ReleaseDue) (f Restarting) (f RestartDue) (f Aborting) (f Ended) h).2
+every_is f h Answering = (each_part (f WaitTransport) (f WaitCn) (f Connecting) (f Answering) (f Ready) (f MajorAsked) (f MajorDue) (f Releasing) (f ReleaseDue) (f Restarting) (f RestartDue) (f Aborting) (f Ended) h).3
+every_is f h Ready = (each_part (f WaitTransport) (f WaitCn) (f Connecting) (f Answering) (f Ready) (f MajorAsked) (f MajorDue) (f Releasing) (f ReleaseDue) (f Restarting) (f RestartDue) (f Aborting) (f Ended) h).4
+every_is f h MajorAsked = (each_part (f WaitTransport) (f WaitCn) (f Connecting) (f Answering) (f Ready) (f MajorAsked) (f MajorDue) (f Releasing) (f ReleaseDue) (f Restarting) (f RestartDue) (f Aborting) (f Ended) h).5
+every_is f h MajorDue = (each_part (f WaitTransport) (f WaitCn) (f Connecting) (f Answering) (f Ready) (f MajorAsked) (f MajorDue) (f Releasing) (f ReleaseDue) (f Restarting) (f RestartDue) (f Aborting) (f Ended) h).6
+every_is f h Releasing = (each_part (f WaitTransport) (f WaitCn) (f Connecting) (f Answering) (f Ready) (f MajorAsked) (f MajorDue) (f Releasing) (f ReleaseDue) (f Restarting) (f RestartDue) (f Aborting) (f Ended) h).7
+every_is f h ReleaseDue = (each_part (f WaitTransport) (f WaitCn) (f Connecting) (f Answering) (f Ready) (f MajorAsked) (f MajorDue) (f Releasing) (f ReleaseDue) (f Restarting) (f RestartDue) (f Aborting) (f Ended) h).8
+every_is f h Restarting = (each_part (f WaitTransport) (f WaitCn) (f Connecting) (f Answering) (f Ready) (f MajorAsked) (f MajorDue) (f Releasing) (f ReleaseDue) (f Restarting) (f RestartDue) (f Aborting) (f Ended) h).9
+every_is f h RestartDue = (each_part (f WaitTransport) (f WaitCn) (f Connecting) (f Answering) (f Ready) (f MajorAsked) (f MajorDue) (f Releasing) (f ReleaseDue) (f Restarting) (f RestartDue) (f Aborting) (f Ended) h).10
+every_is f h Aborting = (each_part (f WaitTransport) (f WaitCn) (f Connecting) (f Answering) (f Ready) (f MajorAsked) (f MajorDue) (f Releasing) (f ReleaseDue) (f Restarting) (f RestartDue) (f Aborting) (f Ended) h).11
+every_is f h Ended = (each_part (f WaitTransport) (f WaitCn) (f Connecting) (f Answering) (f Ready) (f MajorAsked) (f MajorDue) (f Releasing) (f ReleaseDue) (f Restarting) (f RestartDue) (f Aborting) (f Ended) h).12
+
+cut_or : (a b : Bool) → (not a || b) ≡ true → a ≡ true → b ≡ true
+cut_or true b h k = h
+cut_or false b h k = absurd (cc)
+
+-- a test that another implies in each phase
+pub implied : (f g : Phase → Bool) → every (λ p. not (f p) || g p) ≡ true → (p : Phase) → f p ≡ true → g p ≡ true
+implied f g h p k = cut_or (f p) (g p) (every_is (λ p. not (f p) || g p) h p) k
+
+cut_not : (a b : Bool) → (not a || not b) ≡ true → a ≡ true → b ≡ false
+cut_not true false h k = refl
+cut_not true true h k = absurd (cc)
+cut_not false b h k = absurd (cc)
+
+-- two tests of which no phase passes both
+pub excluded : (f g : Phase → Bool) → every (λ p. not (f p) || not (g p)) ≡ true → (p : Phase) → f p ≡ true → g p ≡ false
+excluded f g h p k = cut_not (f p) (g p) (every_is (λ p. not (f p) || not (g p)) h p) k
+
+-- a test of two phases that each pair passes
+abbrev pub every_two : (Phase → Phase → Bool) → Bool
+every_two f = every (λ p. every (f p))
+
+pub every_two_is : (f : Phase → Phase → Bool) → every_two f ≡ true → (p q : Phase) → f p q ≡ true
+every_two_is f h p q = every_is (f p) (every_is (λ r. every (f r)) h p) q
+
+-- a test of two phases that another implies
+pub implied_two : (f g : Phase → Phase → Bool) → every_two (λ p q. not (f p q) || g p q) ≡ true → (p q : Phase) → f p q ≡ true → g p q ≡ true
+implied_two f g h p q k = cut_or (f p q) (g p q) (every_two_is (λ p q. not (f p q) || g p q) h p q) k

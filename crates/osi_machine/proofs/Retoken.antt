@@ -1,0 +1,64 @@
+-- The lines of a half, and of the numbers, where only tokens move.
+use Rattle.std.proofs.Common.{◌≡◌, refl, sym, ◌∙◌, ap, subst, ℕ, ◌≤◌, ◌<◌, true, false, ◌||◌}
+use Rattle.osi_machine.specs.Floor.{State, Phase, Numbers, Token, has, available, lower, is_restarting, is_connecting, is_release_due, is_releasing, may_hold}
+use Rattle.osi_machine.specs.Owners.{Owners, is_own, is_to_own, is_absent}
+use Rattle.osi_machine.specs.Channels.{hears}
+use Rattle.osi_machine.proofs.Records.{matched, Meeting, Counting}
+
+-- all but the tokens is the same
+pub record Like (s r : State) : Type 0 where
+  pub phase : r.phase ≡ s.phase
+  pub units : r.units ≡ s.units
+  pub wishes : r.wishes ≡ s.wishes
+  pub proposed : r.proposed ≡ s.proposed
+  pub base : r.base ≡ s.base
+  pub numbers : r.numbers ≡ s.numbers
+
+pub like : (s r : State) → r ≡ record s { held = r.held } → Like s r
+like s r e = record {
+  phase = ap (λ (q : State). q.phase) e;
+  units = ap (λ (q : State). q.units) e;
+  wishes = ap (λ (q : State). q.wishes) e;
+  proposed = ap (λ (q : State). q.proposed) e;
+  base = ap (λ (q : State). q.base) e;
+  numbers = ap (λ (q : State). q.numbers) e;
+}
+
+pub itself : (s : State) → Like s s
+itself s = record { phase = refl; units = refl; wishes = refl; proposed = refl; base = refl; numbers = refl }
+
+-- the lines on tokens, stated anew
+pub record Tokens_of (o : Owners) (now end heard : State) : Type 0 where
+  pub holds : (t : Token) → has now.held t ≡ is_own (o t)
+  pub wants : may_hold heard.phase ≡ true → (t : Token) → has heard.held t ≡ (is_own (o t) || is_to_own (o t))
+  pub absent : (t : Token) → has (available end.units) t ≡ false → is_absent (o t) ≡ true
+
+pub retoken : (p o : Owners) (now end other heard peer now' end' other' heard' peer' : State) → Meeting p now end other heard peer
+    → Like end end' → Like other other' → Like heard heard' → Like peer peer' → Tokens_of o now' end' heard' → Meeting o now' end' other' heard' peer'
+retoken p o now end other heard peer now' end' other' heard' peer' m a b c d t = record {
+  meets = ap (λ (q : Phase). matched q other'.phase) a.phase ∙ ap (matched end.phase) b.phase ∙ m.meets;
+  units = a.units ∙ m.units ∙ sym b.units;
+  base = a.base ∙ m.base ∙ sym b.base;
+  restart = λ r.
+      let k = m.restart (ap is_restarting (sym a.phase) ∙ r) in
+      (ap (λ (v : Numbers). v.next) a.numbers ∙ k.0 ∙ sym (ap (λ (v : Numbers). v.next) b.numbers), a.wishes ∙ k.1 ∙ sym b.wishes);
+  connect = λ r.
+      let k = m.connect (ap is_connecting (sym a.phase) ∙ r) in (a.wishes ∙ k.0 ∙ sym b.wishes, a.proposed ∙ k.1 ∙ sym b.proposed);
+  holds = t.holds;
+  wants = t.wants;
+  absent = t.absent;
+  released = λ r. ap is_releasing d.phase ∙ m.released (ap is_release_due (sym c.phase) ∙ r);
+}
+
+pub recount : (now heard other_heard other now' heard' other_heard' other' : State) → Counting now heard other_heard other
+    → Like now now' → Like heard heard' → Like other_heard other_heard' → Like other other' → Counting now' heard' other_heard' other'
+recount now heard other_heard other now' heard' other_heard' other' m a b c d = record {
+  flag = λ f. ap (λ (v : Numbers). v.answers) c.numbers ∙ m.flag (sym (ap (λ (v : Numbers). v.answers) a.numbers) ∙ f);
+  below = λ l n from to.
+      subst (λ (v : Numbers). n < v.next) (sym d.numbers)
+      (m.below (ap hears (sym c.phase) ∙ l) n (subst (λ (k : ℕ). k ≤ n) b.base from) (subst (λ (v : Numbers). n < v.confirmed) b.numbers to));
+  reach = λ f.
+      subst (λ (v : Numbers). lower v.next heard'.numbers.confirmed ≤ v.confirmed) (sym d.numbers)
+      (subst (λ (v : Numbers). lower other.numbers.next v.confirmed ≤ other.numbers.confirmed) (sym b.numbers)
+      (m.reach (sym (ap (λ (v : Numbers). v.answers) d.numbers) ∙ f)));
+}

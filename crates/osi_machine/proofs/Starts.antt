@@ -1,0 +1,93 @@
+-- What is true of both sides is true where the CN of a caller is under way.
+use Rattle.std.proofs.Common.{◌≡◌, refl, sym, ap, subst, ◌<◌, Bool, true, false, if◌then◌else◌, Some, None, unwrap_or, arith}
+use Rattle.osi_machine.specs.Floor.{State, Answering, Ended, has_data, has_points, functional_units, base_for, serial_for, offered, is_restarting, without_tokens, awaiting, next}
+use Rattle.osi_machine.specs.Owners.{no_owner, turned_owners}
+use Rattle.osi_machine.specs.Channels.{Fits}
+use Rattle.osi_machine.specs.Core.{Offer, offering, offer_sent, core_start}
+use Rattle.osi_machine.proofs.Tokens.{has_set}
+use Rattle.osi_machine.proofs.CoreLaws.{starts}
+use Rattle.osi_machine.proofs.Records.{Meeting, Counting, IsOfProfile, Stands}
+
+-- the called side, once it has taken the CN
+answering : Offer → State
+answering o = record awaiting {
+  phase = Answering;
+  units = functional_units o.requirements;
+  wishes = offered (functional_units o.requirements) o.wishes;
+  proposed = unwrap_or (serial_for (functional_units o.requirements) o.serial) 0;
+}
+
+is_answered : (o : Offer) → has_data (functional_units o.requirements) ≡ true → answering o ≡ next awaiting (offer_sent o)
+unfolding answering
+is_answered o h = sym (ap (λ (b : Bool). if b then answering o else without_tokens Ended awaiting) h)
+
+same_number : (o : Offer) → base_for (functional_units o.requirements) o.serial ≡ unwrap_or (serial_for (functional_units o.requirements) o.serial) 0
+same_number o = by (has_points (functional_units o.requirements))
+  where
+    by : (b : Bool) → (if b then o.serial else 0) ≡ unwrap_or (if b then Some o.serial else None) 0
+    by true = refl
+    by false = refl
+
+own_meets : (o : Offer) → Meeting no_owner (offering o) (offering o) (answering o) (offering o) awaiting
+unfolding answering
+own_meets o = record {
+  meets = refl;
+  units = refl;
+  base = refl;
+  restart = λ r. absurd (cc);
+  connect = λ r. (refl, same_number o);
+  holds = λ t. has_set (λ t. false) t;
+  wants = λ r. absurd (cc);
+  absent = λ t n. refl;
+  released = λ r. absurd (cc);
+}
+
+peer_meets : (o : Offer) → Meeting (turned_owners no_owner) awaiting (answering o) (offering o) (answering o) (offering o)
+unfolding answering
+peer_meets o = record {
+  meets = refl;
+  units = refl;
+  base = refl;
+  restart = λ r. absurd (cc);
+  connect = λ r. absurd (cc);
+  holds = λ t. has_set (λ t. false) t;
+  wants = λ r. absurd (cc);
+  absent = λ t n. refl;
+  released = λ r. absurd (cc);
+}
+
+own_counts : (o : Offer) → Counting (offering o) (offering o) (answering o) awaiting
+unfolding answering
+own_counts o = record { flag = λ f. absurd (cc); below = λ l n from to. absurd (omega arith); reach = λ f. absurd (cc) }
+
+peer_counts : (o : Offer) → Counting awaiting (answering o) (offering o) (offering o)
+unfolding answering
+peer_counts o = record { flag = λ f. absurd (cc); below = λ l n from to. absurd (omega arith); reach = λ f. absurd (cc) }
+
+not_asked : (o : Offer) → is_restarting (answering o).phase ≡ true → ⊥
+unfolding answering
+not_asked o r = cc
+
+pub starts_stand : (o : Offer) → o.serial < 1000000 → IsOfProfile (functional_units o.requirements) → has_data (functional_units o.requirements) ≡ true
+    → Stands (core_start o)
+starts_stand o small p h =
+    let e = is_answered o h in
+    let fits : Fits awaiting (offer_sent o) = record { plain = refl; good = λ d. record { expected = refl; met = tt } } in
+    record {
+      consistent = starts o small;
+      own = record { fits = tt; meeting = subst (λ (s : State). Meeting no_owner (offering o) (offering o) s (offering o) awaiting) e (own_meets o) };
+      peer = record {
+        fits = (fits, tt);
+        meeting = subst (λ (s : State). Meeting (turned_owners no_owner) awaiting s (offering o) s (offering o)) e (peer_meets o);
+      };
+      own_views = record { ends = λ l. refl; cut = λ r. absurd (cc); due = λ r. absurd (cc); stream = λ d. (refl, refl) };
+      peer_views = record {
+        ends = λ l. refl;
+        cut = λ r. absurd (not_asked o (subst (λ (s : State). is_restarting s.phase ≡ true) (sym e) r));
+        due = λ r. absurd (cc);
+        stream = λ d. (refl, refl);
+      };
+      own_counts = subst (λ (s : State). Counting (offering o) (offering o) s awaiting) e (own_counts o);
+      peer_counts = subst (λ (s : State). Counting awaiting s (offering o) (offering o)) e (peer_counts o);
+      pair = record { numbered = tt; one_way = λ d. refl; callers = refl; profile = p };
+    }

@@ -1,0 +1,195 @@
+-- Tokens: a side that holds one, and what that keeps out of its channel.
+use Rattle.std.proofs.Common.{◌≡◌, refl, ◌∙◌, Bool, true, false, not, ◌&&◌, ◌||◌, if◌then◌else◌, List, [], ◌∷◌}
+use Rattle.std.proofs.lemmas.Bool.{and_parts, or_left}
+use Rattle.osi_machine.specs.Floor.{State, Tokens, Meaning, CN, AC, RF, DT, GT, PT, MIP, MIA, MAP, MAA, RS, RA, FN, DN, NF, AB, AA, Token, data_token, minor, major, release, has, set_of, each, some, is_empty, without, united, lacks, may_hold, is_wait_cn, is_connecting, is_restarting, becomes, drops, Good, next}
+use Rattle.osi_machine.specs.Histories.{Item}
+use Rattle.osi_machine.specs.Taking.{seen}
+use Rattle.osi_machine.specs.Channels.{is_plain, Fits, AllFit, stops, heard, is_data, is_data_or_minor, is_no_release, needs_token, view_next, heard_view}
+use Rattle.osi_machine.proofs.PhaseLaws.{excluded}
+use Rattle.osi_machine.proofs.Units.{fit_cases}
+
+-- ---- words about sets, for each token
+
+pub has_set : (p : Token → Bool) (t : Token) → has (set_of p) t ≡ p t
+has_set p data_token = refl
+has_set p minor = refl
+has_set p major = refl
+has_set p release = refl
+
+pub each_has : (p : Token → Bool) (t : Token) → each p ≡ true → p t ≡ true
+each_has p t h =
+    let a = and_parts (p data_token) (p minor && (p major && p release)) h in
+    let b = and_parts (p minor) (p major && p release) a.1 in
+    let c = and_parts (p major) (p release) b.1 in
+    by t a.0 b.0 c.0 c.1
+  where
+    by : (u : Token) → p data_token ≡ true → p minor ≡ true → p major ≡ true → p release ≡ true → p u ≡ true
+    by data_token d m g r = d
+    by minor d m g r = m
+    by major d m g r = g
+    by release d m g r = r
+
+-- a token makes a set that has it no empty set
+pub some_has : (p : Token → Bool) (t : Token) → p t ≡ true → some p ≡ true
+some_has p data_token h = rw h refl
+some_has p minor h = by (p data_token) (p minor) (p major) (p release) h
+  where
+    by : (a b c d : Bool) → b ≡ true → (a || (b || (c || d))) ≡ true
+    by true b c d h = refl
+    by false b c d h = rw h refl
+some_has p major h = by (p data_token) (p minor) (p major) (p release) h
+  where
+    by : (a b c d : Bool) → c ≡ true → (a || (b || (c || d))) ≡ true
+    by true b c d h = refl
+    by false true c d h = refl
+    by false false c d h = rw h refl
+some_has p release h = by (p data_token) (p minor) (p major) (p release) h
+  where
+    by : (a b c d : Bool) → d ≡ true → (a || (b || (c || d))) ≡ true
+    by true b c d h = refl
+    by false true c d h = refl
+    by false false true d h = refl
+    by false false false d h = h
+
+pub empty_has : (a : Tokens) (t : Token) → is_empty a ≡ true → has a t ≡ false
+unfolding is_empty
+empty_has a t h = by (has a t) refl
+  where
+    by : (b : Bool) → has a t ≡ b → b ≡ false
+    by false e = refl
+    by true e = absurd (let s = some_has (has a) t e in cc)
+
+pub united_has : (a b : Tokens) (t : Token) → has (united a b) t ≡ (has a t || has b t)
+unfolding united
+united_has a b t = has_set (λ t. has a t || has b t) t
+
+pub without_has : (a b : Tokens) (t : Token) → has (without a b) t ≡ (has a t && not (has b t))
+unfolding without
+without_has a b t = has_set (λ t. has a t && not (has b t)) t
+
+-- ---- a side that holds a token
+
+lacks_not : (b : Bool) → not b ≡ true → b ≡ true → ⊥
+lacks_not true h k = cc
+lacks_not false h k = cc
+
+is_data_is : (s : State) (t : Token) → has s.held t ≡ true → lacks s data_token ≡ true → is_data t ≡ false
+is_data_is s data_token h l = absurd (lacks_not _ l h)
+is_data_is s minor h l = refl
+is_data_is s major h l = refl
+is_data_is s release h l = refl
+
+is_data_or_minor_is : (s : State) (t : Token) → has s.held t ≡ true → lacks s data_token ≡ true → lacks s minor ≡ true → is_data_or_minor t ≡ false
+is_data_or_minor_is s data_token h l m = absurd (lacks_not _ l h)
+is_data_or_minor_is s minor h l m = absurd (lacks_not _ m h)
+is_data_or_minor_is s major h l m = refl
+is_data_or_minor_is s release h l m = refl
+
+is_no_release_is : (s : State) (t : Token) → has s.held t ≡ true → lacks s data_token ≡ true → lacks s minor ≡ true → lacks s major ≡ true → is_no_release t ≡ false
+is_no_release_is s data_token h l m j = absurd (lacks_not _ l h)
+is_no_release_is s minor h l m j = absurd (lacks_not _ m h)
+is_no_release_is s major h l m j = absurd (lacks_not _ j h)
+is_no_release_is s release h l m j = refl
+
+-- a good unit does not need a token that its taker holds
+pub held_needs : (s : State) (t : Token) (u : Meaning) → has s.held t ≡ true → Good s u → needs_token t u ≡ false
+held_needs s t (CN v u n w from to o) h g = refl
+held_needs s t (AC v u n w o) h g = refl
+held_needs s t (RF r o) h g = refl
+held_needs s t (DT o) h g = is_data_is s t h g.met.0
+held_needs s t (GT k) h g = refl
+held_needs s t (PT k o) h g = refl
+held_needs s t (MIP c n o) h g =
+    let a = and_parts (lacks s data_token) (lacks s minor) g.met.1.0 in is_data_or_minor_is s t h a.0 a.1
+held_needs s t (MIA n o) h g = refl
+held_needs s t (MAP n o) h g =
+    let a = and_parts (lacks s data_token) (lacks s minor && lacks s major) g.met.1.0 in
+    let b = and_parts (lacks s minor) (lacks s major) a.1 in
+    is_no_release_is s t h a.0 b.0 b.1
+held_needs s t (MAA n o) h g = refl
+held_needs s t (RS k n w o) h g = refl
+held_needs s t (RA n w o) h g = refl
+held_needs s t (FN o) h g = absurd (let e = empty_has s.held t g.met.0 in cc)
+held_needs s t (DN o) h g = refl
+held_needs s t (NF o) h g = refl
+held_needs s t (AB b o) h g = refl
+held_needs s t AA h g = refl
+
+-- a side that holds a token, in a phase in which one may be held
+pub record Holds (t : Token) (s : State) : Type 0 where
+  pub held : has s.held t ≡ true
+  pub phase : may_hold s.phase ≡ true
+
+chosen : (P : State → Type 0) (b : Bool) (x y : State) → (b ≡ true → P x) → (b ≡ false → P y) → P (if b then x else y)
+chosen P true x y h k = h refl
+chosen P false x y h k = k refl
+
+-- it goes on holding it, until a restart stands
+pub becomes_holds : (t : Token) (s : State) (u : Meaning) → is_plain u ≡ true → Good s u → stops s u ≡ false → Holds t s → Holds t (becomes s u)
+becomes_holds t s (CN v u n w from to o) p g st h = absurd (let e = excluded is_wait_cn may_hold refl s.phase g.expected in let m = h.phase in cc)
+becomes_holds t s (AC v u n w o) p g st h = absurd (let e = excluded is_connecting may_hold refl s.phase g.expected in let m = h.phase in cc)
+becomes_holds t s (RF r o) p g st h = absurd (cc)
+becomes_holds t s (DT o) p g st h = h
+becomes_holds t s (GT k) p g st h = record { held = united_has s.held k t ∙ or_left (has s.held t) (has k t) h.held; phase = h.phase }
+becomes_holds t s (PT k o) p g st h = h
+becomes_holds t s (MIP c n o) p g st h = record { held = h.held; phase = h.phase }
+becomes_holds t s (MIA n o) p g st h = record { held = h.held; phase = h.phase }
+becomes_holds t s (MAP n o) p g st h = record { held = h.held; phase = refl }
+becomes_holds t s (MAA n o) p g st h = record { held = h.held; phase = refl }
+becomes_holds t s (RS k n w o) p g st h = rw st h
+becomes_holds t s (RA n w o) p g st h = absurd (let e = excluded is_restarting may_hold refl s.phase g.expected in let m = h.phase in cc)
+becomes_holds t s (FN o) p g st h = record { held = h.held; phase = refl }
+becomes_holds t s (DN o) p g st h = absurd (cc)
+becomes_holds t s (NF o) p g st h = record { held = h.held; phase = refl }
+becomes_holds t s (AB b o) p g st h = absurd (cc)
+becomes_holds t s AA p g st h = absurd (cc)
+
+pub next_holds : (t : Token) (s : State) (u : Meaning) → Fits s u → stops s u ≡ false → Holds t s → Holds t (next s u)
+next_holds t s u f st h = fit_cases (Holds t) s u f h (λ d g. becomes_holds t s u f.plain g st h)
+
+-- what is acted on there shows nothing, where the data token is held
+seen_nothing : (s : State) (u : Meaning) (v : List Item) → needs_token data_token u ≡ false → stops s u ≡ false → seen s u v ≡ v
+seen_nothing s (CN w u n x from to o) v h st = refl
+seen_nothing s (AC w u n x o) v h st = refl
+seen_nothing s (RF r o) v h st = refl
+seen_nothing s (DT o) v h st = absurd (cc)
+seen_nothing s (GT k) v h st = refl
+seen_nothing s (PT k o) v h st = refl
+seen_nothing s (MIP c n o) v h st = absurd (cc)
+seen_nothing s (MIA n o) v h st = refl
+seen_nothing s (MAP n o) v h st = absurd (cc)
+seen_nothing s (MAA n o) v h st = refl
+seen_nothing s (RS k n w o) v h st = rw st refl
+seen_nothing s (RA n w o) v h st = refl
+seen_nothing s (FN o) v h st = refl
+seen_nothing s (DN o) v h st = refl
+seen_nothing s (NF o) v h st = refl
+seen_nothing s (AB b o) v h st = refl
+seen_nothing s AA v h st = refl
+
+same_view : (s : State) (u : Meaning) (v : List Item) → Fits s u → stops s u ≡ false → has s.held data_token ≡ true → view_next s u v ≡ v
+same_view s u v f st h = by (drops s u) refl
+  where
+    by : (b : Bool) → drops s u ≡ b → (if b then v else seen s u v) ≡ v
+    by true d = refl
+    by false d = seen_nothing s u v (held_needs s data_token u h (f.good d)) st
+
+-- where this side holds the data token, nothing that is under way to it before a restart shows anything
+pub nothing_to_see : (s : State) (us : List Meaning) (v : List Item) → Holds data_token s → AllFit s us → heard_view s us v ≡ v
+nothing_to_see s [] v h f = refl
+nothing_to_see s (u ∷ us) v h f =
+    by (stops s u) refl (λ e. nothing_to_see (next s u) us (view_next s u v) (next_holds data_token s u f.0 e h) f.1)
+  where
+    by : (b : Bool) → stops s u ≡ b → (stops s u ≡ false → heard_view (next s u) us (view_next s u v) ≡ view_next s u v)
+        → (if b then v else heard_view (next s u) us (view_next s u v)) ≡ v
+    by true e more = refl
+    by false e more = more e ∙ same_view s u v f.0 e h.held
+
+-- it still holds it when it has heard all before a restart
+pub heard_holds : (t : Token) (s : State) (us : List Meaning) → Holds t s → AllFit s us → Holds t (heard s us)
+heard_holds t s [] h f = h
+heard_holds t s (u ∷ us) h f = by (stops s u) refl (λ e. heard_holds t (next s u) us (next_holds t s u f.0 e h) f.1)
+  where
+    by : (b : Bool) → stops s u ≡ b → (stops s u ≡ false → Holds t (heard (next s u) us)) → Holds t (if b then s else heard (next s u) us)
+    by true e more = h
+    by false e more = more e

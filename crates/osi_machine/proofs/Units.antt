@@ -1,0 +1,146 @@
+-- What a unit does to the state of its taker, case by case.
+use Rattle.std.proofs.Common.{◌≡◌, refl, sym, ap, subst, Bool, true, false, ◌&&◌, if◌then◌else◌, List}
+use Rattle.osi_machine.specs.Floor.{State, Phase, Meaning, CN, AC, RF, DT, GT, PT, MIP, MIA, MAP, MAA, RS, RA, FN, DN, NF, AB, AA, is_wait_cn, is_connecting, is_restarting, is_restart_due, takes_data, takes_please, takes_minor_ack, takes_restart, is_ready, is_major_asked, is_releasing, may_ask, is_expected, is_acceptable, becomes, stands, drops, next, Good}
+use Rattle.osi_machine.specs.Histories.{Item}
+use Rattle.osi_machine.specs.Taking.{seen}
+use Rattle.osi_machine.specs.Channels.{is_plain, Fits, stops, hears, view_next}
+use Rattle.osi_machine.proofs.PhaseLaws.{excluded}
+
+-- ---- a unit is dropped, or acted on
+
+-- what is left by a unit: what was, where it is discarded, else what the table says
+pub next_cases : (P : State → Type 0) (s : State) (u : Meaning) → (drops s u ≡ true → P s) → (drops s u ≡ false → P (becomes s u)) → P (next s u)
+next_cases P s u h k = by (drops s u) h k
+  where
+    by : (b : Bool) → (b ≡ true → P s) → (b ≡ false → P (becomes s u)) → P (if b then s else becomes s u)
+    by true h k = h refl
+    by false h k = k refl
+
+-- the same, of a unit that fits
+pub fit_cases : (P : State → Type 0) (s : State) (u : Meaning) → Fits s u → P s → (drops s u ≡ false → Good s u → P (becomes s u)) → P (next s u)
+fit_cases P s u f h k = next_cases P s u (λ d. h) (λ d. k d (f.good d))
+
+pub next_dropped : (s : State) (u : Meaning) → drops s u ≡ true → next s u ≡ s
+next_dropped s u d = ap (λ (b : Bool). if b then s else becomes s u) d
+
+pub next_acted : (s : State) (u : Meaning) → drops s u ≡ false → next s u ≡ becomes s u
+next_acted s u d = ap (λ (b : Bool). if b then s else becomes s u) d
+
+and_false : (b : Bool) → (b && false) ≡ false
+and_false true = refl
+and_false false = refl
+
+-- a restart is never discarded unread
+pub restart_acted : (s : State) (u : Meaning) → stops s u ≡ true → drops s u ≡ false
+restart_acted s (CN v u n w from to o) h = absurd (cc)
+restart_acted s (AC v u n w o) h = absurd (cc)
+restart_acted s (RF r o) h = absurd (cc)
+restart_acted s (DT o) h = absurd (cc)
+restart_acted s (GT t) h = absurd (cc)
+restart_acted s (PT t o) h = absurd (cc)
+restart_acted s (MIP c n o) h = absurd (cc)
+restart_acted s (MIA n o) h = absurd (cc)
+restart_acted s (MAP n o) h = absurd (cc)
+restart_acted s (MAA n o) h = absurd (cc)
+restart_acted s (RS k n w o) h = and_false (is_restarting s.phase)
+restart_acted s (RA n w o) h = absurd (cc)
+restart_acted s (FN o) h = absurd (cc)
+restart_acted s (DN o) h = absurd (cc)
+restart_acted s (NF o) h = absurd (cc)
+restart_acted s (AB b o) h = absurd (cc)
+restart_acted s AA h = absurd (cc)
+
+-- after a restart that stands an answer is due
+pub restart_due : (s : State) (u : Meaning) → stops s u ≡ true → is_restart_due (next s u).phase ≡ true
+restart_due s u h = subst (λ (r : State). is_restart_due r.phase ≡ true) (sym (next_acted s u (restart_acted s u h))) (by u h)
+  where
+    by : (u : Meaning) → stops s u ≡ true → is_restart_due (becomes s u).phase ≡ true
+    by (CN v u n w from to o) h = absurd (cc)
+    by (AC v u n w o) h = absurd (cc)
+    by (RF r o) h = absurd (cc)
+    by (DT o) h = absurd (cc)
+    by (GT t) h = absurd (cc)
+    by (PT t o) h = absurd (cc)
+    by (MIP c n o) h = absurd (cc)
+    by (MIA n o) h = absurd (cc)
+    by (MAP n o) h = absurd (cc)
+    by (MAA n o) h = absurd (cc)
+    by (RS k n w o) h = rw h refl
+    by (RA n w o) h = absurd (cc)
+    by (FN o) h = absurd (cc)
+    by (DN o) h = absurd (cc)
+    by (NF o) h = absurd (cc)
+    by (AB b o) h = absurd (cc)
+    by AA h = absurd (cc)
+
+-- ---- nothing acts at a side that owes the answer to a restart
+
+pub none_due : (p : Phase) (u : Meaning) → is_restart_due p ≡ true → is_plain u ≡ true → is_expected p u ≡ false
+none_due p (CN v u n w from to o) h k = excluded is_restart_due is_wait_cn refl p h
+none_due p (AC v u n w o) h k = excluded is_restart_due is_connecting refl p h
+none_due p (RF r o) h k = absurd (cc)
+none_due p (DT o) h k = excluded is_restart_due takes_data refl p h
+none_due p (GT t) h k = excluded is_restart_due may_ask refl p h
+none_due p (PT t o) h k = excluded is_restart_due takes_please refl p h
+none_due p (MIP c n o) h k = excluded is_restart_due is_ready refl p h
+none_due p (MIA n o) h k = excluded is_restart_due takes_minor_ack refl p h
+none_due p (MAP n o) h k = excluded is_restart_due is_ready refl p h
+none_due p (MAA n o) h k = excluded is_restart_due is_major_asked refl p h
+none_due p (RS k n w o) h l = excluded is_restart_due takes_restart refl p h
+none_due p (RA n w o) h k = excluded is_restart_due is_restarting refl p h
+none_due p (FN o) h k = excluded is_restart_due is_ready refl p h
+none_due p (DN o) h k = absurd (cc)
+none_due p (NF o) h k = excluded is_restart_due is_releasing refl p h
+none_due p (AB b o) h k = absurd (cc)
+none_due p AA h k = absurd (cc)
+
+pub due_next : (s : State) (u : Meaning) → is_restart_due s.phase ≡ true → Fits s u → next s u ≡ s
+due_next s u h f = fit_cases (λ r. r ≡ s) s u f refl (λ d g. absurd (let n = none_due s.phase u h f.plain in let e = g.expected in cc))
+
+pub due_stops : (s : State) (u : Meaning) → is_restart_due s.phase ≡ true → Fits s u → stops s u ≡ false
+due_stops s u h f = by (stops s u) refl
+  where
+    by : (b : Bool) → stops s u ≡ b → b ≡ false
+    by false e = refl
+    by true e = absurd (
+        let g = f.good (restart_acted s u e) in
+        let n = none_due s.phase u h f.plain in
+        let x = g.expected in cc)
+
+pub due_view : (s : State) (u : Meaning) (v : List Item) → is_restart_due s.phase ≡ true → Fits s u → view_next s u v ≡ v
+due_view s u v h f = by (drops s u) refl
+  where
+    by : (b : Bool) → drops s u ≡ b → (if b then v else seen s u v) ≡ v
+    by true d = refl
+    by false d = absurd (let n = none_due s.phase u h f.plain in let e = (f.good d).expected in cc)
+
+-- ---- no unit leads to Restarting
+
+chosen : (P : State → Type 0) (b : Bool) (x y : State) → P x → P y → P (if b then x else y)
+chosen P true x y h k = h
+chosen P false x y h k = k
+
+abbrev Hears : State → Type 0
+Hears s = hears s.phase ≡ true
+
+pub becomes_hears : (s : State) (u : Meaning) → hears s.phase ≡ true → hears (becomes s u).phase ≡ true
+becomes_hears s (CN v u n w from to o) h = chosen Hears (is_acceptable v u) _ _ refl refl
+becomes_hears s (AC v u n w o) h = refl
+becomes_hears s (RF r o) h = refl
+becomes_hears s (DT o) h = h
+becomes_hears s (GT t) h = h
+becomes_hears s (PT t o) h = h
+becomes_hears s (MIP c n o) h = h
+becomes_hears s (MIA n o) h = h
+becomes_hears s (MAP n o) h = refl
+becomes_hears s (MAA n o) h = refl
+becomes_hears s (RS k n w o) h = chosen Hears (stands s n) _ _ refl h
+becomes_hears s (RA n w o) h = refl
+becomes_hears s (FN o) h = refl
+becomes_hears s (DN o) h = refl
+becomes_hears s (NF o) h = refl
+becomes_hears s (AB b o) h = refl
+becomes_hears s AA h = h
+
+pub next_hears : (s : State) (u : Meaning) → hears s.phase ≡ true → hears (next s u).phase ≡ true
+next_hears s u h = next_cases Hears s u (λ d. h) (λ d. becomes_hears s u h)

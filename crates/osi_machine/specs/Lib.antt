@@ -1,0 +1,10 @@
+pub mod Channels
+pub mod Core
+pub mod Examples
+pub mod Floor
+pub mod Histories
+pub mod Machine
+pub mod Owners
+pub mod Parties
+pub mod Taking
+pub mod Worlds

@@ -1,0 +1,47 @@
+//! Laws of the definitions. Each function does nothing: its clauses are the laws.
+
+ghost use Rattle.std.specs.Prelude.{◌≡◌, ◌<◌, List, []};
+ghost use Rattle.std.specs.List.{AllByRecursion};
+ghost use Rattle.osi_machine.specs.Core.{Core, CoreStep, Offer, Left, Right, core_run, core_start};
+ghost use Rattle.osi_machine.specs.Examples.{all_tokens, lost_give_seen, after_lost_give, crossing_seen, after_crossing, two_points_seen, restart_below_seen, after_restart_below, last_point, last_point_seen, lost_release_seen, after_lost_release, both_send, both_send_seen, to_right, held_in, stands_at, next_at, lowest_at, history_of, up_to_first_point};
+ghost use Rattle.osi_machine.specs.Floor.{no_token};
+ghost use Rattle.osi_machine.specs.Machine.{run, start, step};
+ghost use Rattle.osi_machine.specs.Parties.{AreConsistent, IsNumberedStep};
+ghost use Rattle.osi_machine.specs.Worlds.{accepts, class_2};
+
+use osi_session::laws as session;
+
+/// Over every list of calls and units taken, in any order, from a CN that is under way, and whatever
+/// the other side does: V(A) and V(R) are between the base and V(M), which is at most 1,000,000 and
+/// counts the points that this side has seen; points that are to be confirmed were taken last; a
+/// restart is asked for only where it is selected, and with duplex a release by the caller alone.
+pub fn what_is_true_of_each_side()
+    ensures begins { (o : Offer) → o.serial < 1000000 → AreConsistent (core_start o) }
+    ensures kept { (w : Core) (steps : List CoreStep) → AllByRecursion IsNumberedStep steps → AreConsistent w →
+        AreConsistent (core_run w steps) }
+{
+    session::numbers_stay_in_order();
+    session::what_is_sent_can_be_sent();
+    session::what_two_units_do();
+}
+
+/// Examples, computed. A token that is given and not yet taken when the other side asks for a restart
+/// is nobody's until the restart is answered. Of two restarts that cross, the lower stands, and of
+/// equal ones the caller's. A restart may stand below a major point that was confirmed. There is no
+/// number above 999,999. A release whose answer is lost ends with no holder. With duplex both send.
+pub fn examples()
+    ensures lost_give { after_lost_give.journal ≡ lost_give_seen }
+    ensures lost_give_before { (held_in (stands_at Left after_lost_give) ≡ no_token) × (held_in (stands_at Right after_lost_give) ≡ no_token) }
+    ensures lost_give_after { held_in (stands_at Right (step after_lost_give to_right)) ≡ all_tokens }
+    ensures crossing { (after_crossing 3).journal ≡ crossing_seen 3 }
+    ensures crossing_numbers { (next_at Left (after_crossing 3) ≡ 2) × (next_at Right (after_crossing 3) ≡ 2) }
+    ensures crossing_history { history_of (after_crossing 3) ≡ up_to_first_point }
+    ensures crossing_equal { (after_crossing 2).journal ≡ crossing_seen 2 }
+    ensures restart_below { after_restart_below.journal ≡ restart_below_seen }
+    ensures restart_below_numbers { (next_at Left after_restart_below ≡ 1) × (lowest_at Right after_restart_below ≡ 1) }
+    ensures restart_below_history { history_of after_restart_below ≡ [] }
+    ensures last_point { (run (start (accepts class_2)) last_point).journal ≡ last_point_seen }
+    ensures lost_release { after_lost_release.journal ≡ lost_release_seen }
+    ensures lost_release_tokens { (held_in (stands_at Left after_lost_release) ≡ no_token) × (held_in (stands_at Right after_lost_release) ≡ no_token) }
+    ensures both_send { (run (start (accepts class_2)) both_send).journal ≡ both_send_seen }
+{}
