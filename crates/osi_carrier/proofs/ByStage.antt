@@ -1,0 +1,87 @@
+-- What a unit does to the connection of a reference, by how far it is.
+use Rattle.std.proofs.Common.{◌≡◌, ℕ, suc, ◌+◌, ◌≤◌, List, [], ◌∷◌, length, Option, Some, None, refl, ap, sym, subst, true, false, Bool, ◌==◌, not, is_some, if◌then◌else◌, arith}
+use Rattle.std.proofs.Common.{eq-eqb}
+use Rattle.std.proofs.lemmas.Grind.{common_steps}
+use Rattle.std.specs.List.{position_or_len}
+use Rattle.osi_tpdu.specs.Value.{Value}
+use Rattle.osi_carrier.specs.Rows.{Rows, value_at, place_of, first_of}
+use Rattle.osi_carrier.specs.Calls.{open_link, link_of}
+use Rattle.osi_carrier.specs.React.{to_connection, to_unknown, to_asked, to_linked, to_closing, to_only}
+use Rattle.osi_carrier.specs.Stages.{stage_of, link_in}
+use Rattle.osi_carrier.specs.State.{State, Connection, asked, linked, closing}
+use Rattle.osi_carrier.proofs.Places.{placed}
+use Rattle.osi_carrier.specs.declared.stages.Stage.TheVariants.{Unknown, Asking, Open, Leaving}
+
+pub open_is : (o : Option Connection) (peer : ℕ) → stage_of o ≡ Open peer → o ≡ Some (linked peer (link_in o))
+open_is None peer e = cc
+open_is (Some asked) peer e = cc
+open_is (Some (linked q link)) peer e = cc
+open_is (Some (closing q)) peer e = cc
+
+pub by_unknown : (r : ℕ) (o : Option Connection) (unit : Value) (s : State) → stage_of o ≡ Unknown → to_connection r o unit s ≡ to_unknown unit s
+by_unknown r None unit s e = refl
+by_unknown r (Some asked) unit s e = cc
+by_unknown r (Some (linked q link)) unit s e = cc
+by_unknown r (Some (closing q)) unit s e = cc
+
+pub by_asking : (r : ℕ) (o : Option Connection) (unit : Value) (s : State) → stage_of o ≡ Asking → to_connection r o unit s ≡ to_asked r unit s
+by_asking r None unit s e = cc
+by_asking r (Some asked) unit s e = refl
+by_asking r (Some (linked q link)) unit s e = cc
+by_asking r (Some (closing q)) unit s e = cc
+
+pub by_open : (r peer : ℕ) (o : Option Connection) (unit : Value) (s : State) → stage_of o ≡ Open peer → to_connection r o unit s ≡ to_linked r peer (link_in o) unit s
+by_open r peer None unit s e = cc
+by_open r peer (Some asked) unit s e = cc
+by_open r peer (Some (linked q link)) unit s e = let same : q ≡ peer = cc in ap (λ p. to_linked r p link unit s) same
+by_open r peer (Some (closing q)) unit s e = cc
+
+pub by_leaving : (r : ℕ) (o : Option Connection) (unit : Value) (s : State) → stage_of o ≡ Leaving → to_connection r o unit s ≡ to_closing r unit s
+by_leaving r None unit s e = cc
+by_leaving r (Some asked) unit s e = cc
+by_leaving r (Some (linked q link)) unit s e = cc
+by_leaving r (Some (closing q)) unit s e = refl
+
+-- no place, no connection
+nowhere_by : (r q : ℕ) (y : Connection) (rows : Rows Connection) (b : Bool) → (q == r) ≡ b →
+    (length rows ≤ position_or_len (λ row. row.0 == r) rows → value_at r rows ≡ None) →
+    length ((q, y) ∷ rows) ≤ position_or_len (λ row. row.0 == r) ((q, y) ∷ rows) → value_at r ((q, y) ∷ rows) ≡ None
+nowhere_by r q y rows true t more h = let none : suc (length rows) ≤ 0 = rw t at h in absurd (omega arith)
+nowhere_by r q y rows false t more h =
+    let behind : suc (length rows) ≤ 1 + position_or_len (λ row. row.0 == r) rows = rw t at h in
+    rw t (more (omega arith))
+
+nowhere_at : (r : ℕ) (rows : Rows Connection) → length rows ≤ position_or_len (λ row. row.0 == r) rows → value_at r rows ≡ None
+nowhere_at r [] h = refl
+nowhere_at r ((q, y) ∷ rows) h = nowhere_by r q y rows (q == r) refl (nowhere_at r rows) h
+
+pub nowhere : (r : ℕ) (rows : Rows Connection) → place_of r rows ≡ None → value_at r rows ≡ None
+nowhere r rows e = nowhere_at r rows (grind (arith, common_steps))
+
+-- the first row is at its reference
+pub only_is : (r : ℕ) (live : Rows Connection) (unit : Value) (s : State) → first_of live ≡ Some r → to_only live unit s ≡ to_connection r (value_at r live) unit s
+only_is r [] unit s e = cc
+only_is r ((q, y) ∷ rows) unit s e =
+    let same : q ≡ r = cc in
+    let test : (q == r) ≡ true = eq-eqb q r same in
+    rw test (ap (λ n. to_connection n (Some y) unit s) same)
+
+pub only_none : (live : Rows Connection) (unit : Value) (s : State) → first_of live ≡ None → to_only live unit s ≡ s
+only_none [] unit s e = refl
+only_none ((q, y) ∷ rows) unit s e = cc
+
+link_by : (b : Bool) (o : Option Connection) → o ≡ None → (if b then None else link_of o) ≡ None
+link_by true o e = refl
+link_by false o e = ap link_of e
+
+-- what has no connection has no open link
+pub no_link : (r : ℕ) (s : State) → value_at r s.live ≡ None → open_link r s ≡ None
+no_link r s e = link_by (is_some s.ended) (value_at r s.live) e
+
+live_by : (r : ℕ) (rows : Rows Connection) (o : Option ℕ) → place_of r rows ≡ o → is_some o ≡ is_some (value_at r rows)
+live_by r rows None e = sym (ap is_some (nowhere r rows e))
+live_by r rows (Some i) e = sym (ap is_some (placed r rows i (0, asked) e).there)
+
+-- a reference that has a place has a connection
+pub live_is : (r : ℕ) (rows : Rows Connection) → is_some (place_of r rows) ≡ is_some (value_at r rows)
+live_is r rows = live_by r rows (place_of r rows) refl

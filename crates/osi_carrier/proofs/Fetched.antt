@@ -1,0 +1,67 @@
+-- What the cutter answered, as the carrier's look at the stream.
+use Rattle.std.proofs.Common.{◌≡◌, ℕ, ◌+◌, ◌<◌, ◌≤◌, Bool, true, false, List, [], ◌++◌, length, take, Option, None, Result, Ok, Err, MatchBool, refl, sym, ap, subst, ◌∙◌, inl, inr, arith}
+use Rattle.std.proofs.lemmas.List.{take_all}
+use Rattle.osi_tpkt.specs.Cutter.{TakesPiece}
+use Rattle.osi_tpkt.specs.Held.{Held, IsHolding}
+use Rattle.osi_tpkt.specs.Packet.{IsPacket, IsOnePacket, IsPartial}
+use Rattle.osi_tpkt.specs.Stream.{offset_of}
+use Rattle.osi_tpkt.specs.declared.cutting.Fed.{Fed}
+use Rattle.osi_tpkt.specs.declared.faults.TpktFault.{TpktFault}
+use Rattle.osi_tpkt.specs.declared.faults.TpktFault.TheVariants.{BadVersion, BadLength, OutOfMemory}
+use Rattle.osi_carrier.specs.Fetching.{PacketActs, PartHeld, EndsOver}
+use Rattle.osi_carrier.specs.Packets.{Carrying, Acts, after_refusal}
+
+-- a proper prefix of a packet is no packet
+abbrev pub Proper : Type 0
+Proper = (r : List ℕ) → IsPartial r → IsOnePacket r → ⊥
+
+first_out : (b : Bool) (A B : Type 0) → MatchBool b A B → (A → ⊥) → B
+first_out true A B h never = absurd (never h)
+first_out false A B h never = h
+
+second_out : (b : Bool) (A B : Type 0) → MatchBool b A B → (B → ⊥) → b ≡ true
+second_out true A B h never = refl
+second_out false A B h never = absurd (never h)
+
+pub ended_over : (old new : Carrying) (octets : List ℕ) (fault : TpktFault) (held : Held) → TakesPiece old.held octets (Err fault) held →
+    new.state ≡ after_refusal fault old.state → EndsOver old octets new
+ended_over old new octets (BadVersion at) held taken h = inl (record { fault = BadVersion at; is = taken.0; ended = h })
+ended_over old new octets (BadLength at) held taken h = inl (record { fault = BadLength at; is = taken.0; ended = h })
+ended_over old new octets OutOfMemory held taken h = inr h
+
+pub fetched_part : Proper → (old new : Carrying) (octets : List ℕ) (fed : Fed) → TakesPiece old.held octets (Ok fed) new.held → IsPartial new.held.octets →
+    new.state ≡ old.state → PartHeld old octets new
+fetched_part proper old new octets fed taken partial same =
+    let belongs = taken.0 in
+    let gains = taken.1 in
+    let held : new.held.octets ≡ old.held.octets ++ take fed.used octets = ap (λ (h : Held). h.octets) gains.octets in
+    let part = first_out fed.whole (IsOnePacket (old.held.octets ++ take fed.used octets)) (IsPartial (old.held.octets ++ take fed.used octets) × (fed.used ≡ length octets))
+    belongs.whole (λ whole. proper (old.held.octets ++ take fed.used octets) (subst IsPartial held partial) whole) in
+    record {
+      state = same;
+      held = held ∙ ap (λ n. old.held.octets ++ take n octets) part.1 ∙ ap (λ l. old.held.octets ++ l) (take_all (length octets) octets (omega arith));
+      partial = partial;
+      offset = ap (λ (h : Held). h.offset) gains.octets;
+    }
+
+pub fetched_packet : Proper → IsPartial [] → (old new : Carrying) (octets : List ℕ) (fed : Fed) (held : Held) (packet : List ℕ) → TakesPiece old.held octets (Ok fed) held →
+    IsPacket packet held.octets → (fed.whole ≡ true → 0 < fed.used) → Acts old.state packet new.state →
+    new.held ≡ record { offset = offset_of (held.offset + length held.octets); octets = []; fault = None; room = held.room } → IsHolding new.held →
+    PacketActs old octets fed.used new
+fetched_packet proper nothing old new octets fed held packet taken stands progress acted advanced holding =
+    let belongs = taken.0 in
+    let gains = taken.1 in
+    let joined : held.octets ≡ old.held.octets ++ take fed.used octets = ap (λ (h : Held). h.octets) gains.octets in
+    let whole = second_out fed.whole (IsOnePacket (old.held.octets ++ take fed.used octets)) (IsPartial (old.held.octets ++ take fed.used octets) × (fed.used ≡ length octets))
+    belongs.whole (λ part. proper (old.held.octets ++ take fed.used octets) part.0 (packet, subst (IsPacket packet) joined stands)) in
+    record {
+      packet = packet;
+      some = progress whole;
+      within = belongs.within;
+      whole = subst (IsPacket packet) joined stands;
+      acted = acted;
+      held = ap (λ (h : Held). h.octets) advanced;
+      reading = record { holding = holding; partial = subst IsPartial (sym (ap (λ (h : Held). h.octets) advanced)) nothing; fault = ap (λ (h : Held). h.fault) advanced };
+      offset = ap (λ (h : Held). h.offset) advanced ∙ ap (λ n. offset_of (n + length held.octets)) (ap (λ (h : Held). h.offset) gains.octets)
+          ∙ ap (λ l. offset_of (old.held.offset + length l)) joined;
+    }

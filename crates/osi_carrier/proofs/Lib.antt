@@ -1,0 +1,10 @@
+pub mod Places
+pub mod Units
+pub mod ByStage
+pub mod Reacts
+pub mod Selecting
+pub mod Pumping
+pub mod Reading
+pub mod Breaking
+pub mod Fetched
+pub mod Kept

@@ -1,0 +1,65 @@
+-- What stands at the place of a reference, and what a write there leaves.
+use Rattle.std.proofs.Common.{◌≡◌, ℕ, Bool, zero, suc, ◌<◌, ◌==◌, true, false, List, [], ◌∷◌, ◌++◌, length, get_or, set, Option, Some, None, Result, Ok, Err, OnOk, refl, sym, ap, ◌∙◌, arith}
+use Rattle.std.specs.List.{position, remove}
+use Rattle.std.proofs.lemmas.Bool.{eqb-true}
+use Rattle.std.proofs.lemmas.List.Quantifiers.{position-Some}
+use Rattle.osi_carrier.specs.Rows.{Rows, value_at, place_of, put, without}
+
+-- where the place `i` of a reference is, `d` being any row
+pub record IsPlace {X : Type 0} (r : ℕ) (rows : Rows X) (i : ℕ) (d : ℕ × X) : Type 0 where
+  pub within : i < length rows
+  pub named : (get_or rows i d).0 ≡ r
+  pub there : value_at r rows ≡ Some (get_or rows i d).1
+  pub put_is : (x : X) → put r x rows ≡ set rows i (r, x)
+  pub without_is : without r rows ≡ remove rows i
+
+placed_at : {X : Type 0} (r : ℕ) (rows : Rows X) (i : ℕ) (d : ℕ × X) → i < length rows → ((get_or rows i d).0 == r) ≡ true →
+    ((k : ℕ) → k < i → ((get_or rows k d).0 == r) ≡ false) → IsPlace r rows i d
+placed_at r [] i d within here before = absurd (omega arith)
+placed_at r ((q, y) ∷ rows) zero d within here before =
+    let same : q ≡ r = eqb-true q r here in
+    record {
+      within = within;
+      named = same;
+      there = rw here refl;
+      put_is = λ x. rw here (ap (λ n. (n, x) ∷ rows) same);
+      without_is = rw here refl;
+    }
+placed_at r ((q, y) ∷ rows) (suc i) d within here before =
+    let other : (q == r) ≡ false = before 0 (omega arith) in
+    let rest = placed_at r rows i d (omega arith) here (λ k h. before (suc k) (omega arith)) in
+    record {
+      within = within;
+      named = rest.named;
+      there = rw other rest.there;
+      put_is = λ x. rw other (ap (λ l. (q, y) ∷ l) (rest.put_is x));
+      without_is = rw other (ap (λ l. (q, y) ∷ l) rest.without_is);
+    }
+
+pub placed : {X : Type 0} (r : ℕ) (rows : Rows X) (i : ℕ) (d : ℕ × X) → place_of r rows ≡ Some i → IsPlace r rows i d
+placed r rows i d e =
+    let p = position-Some (λ row. row.0 == r) rows i d e in
+    placed_at r rows i d p.0 p.1 p.2
+
+-- the row at the place of a reference has its value
+pub here_is : {X : Type 0} (r : ℕ) (rows : Rows X) (i : ℕ) (row : ℕ × X) → place_of r rows ≡ Some i → row ≡ get_or rows i row → value_at r rows ≡ Some row.1
+here_is r rows i row e here = (placed r rows i row e).there ∙ ap (λ (x : ℕ × _). Some x.1) (sym here)
+
+-- a write at that place, where the rows are held under another name
+pub stepped_rows : {X A E : Type 0} (result : Result A E) (r : ℕ) (rows items : Rows X) (i : ℕ) (row new : ℕ × X) (x : X) → place_of r rows ≡ Some i →
+    row ≡ get_or rows i row → items ≡ rows → OnOk result (new ≡ (row.0, x)) → OnOk result (set items i new ≡ put r x rows)
+stepped_rows (Ok a) r rows items i row new x e here same h =
+    let p = placed r rows i row e in
+    let named = ap (λ (y : ℕ × _). y.0) here ∙ p.named in
+    ap (λ l. set l i new) same ∙ ap (λ y. set rows i y) (h ∙ ap (λ n. (n, x)) named) ∙ sym (p.put_is x)
+stepped_rows (Err f) r rows items i row new x e here same h = tt
+
+-- a value that a reference has is put there with no change
+put_same_by : {X : Type 0} (r q : ℕ) (y x : X) (rows : Rows X) (b : Bool) → (q == r) ≡ b → (value_at r rows ≡ Some x → put r x rows ≡ rows) →
+    value_at r ((q, y) ∷ rows) ≡ Some x → put r x ((q, y) ∷ rows) ≡ (q, y) ∷ rows
+put_same_by r q y x rows true t more h = let same : Some y ≡ Some x = rw t at h in rw t (ap (λ z. (q, z) ∷ rows) (let e : x ≡ y = cc in e))
+put_same_by r q y x rows false t more h = let behind : value_at r rows ≡ Some x = rw t at h in rw t (ap (λ l. (q, y) ∷ l) (more behind))
+
+pub put_same : {X : Type 0} (r : ℕ) (x : X) (rows : Rows X) → value_at r rows ≡ Some x → put r x rows ≡ rows
+put_same r x [] h = refl
+put_same r x ((q, y) ∷ rows) h = put_same_by r q y x rows (q == r) refl (put_same r x rows) h

@@ -1,0 +1,75 @@
+-- Writing all that a link gives, one unit after the other.
+use Rattle.std.proofs.Common.{◌≡◌, ℕ, ◌+◌, ◌*◌, ◌<◌, ◌≤◌, List, [], ◌∷◌, ◌++◌, length, take, map, Option, Some, None, refl, sym, ap, ◌∙◌, append_assoc, length-append, arith}
+use Rattle.std.proofs.lemmas.List.{append-nil, take_at}
+use Rattle.std.specs.List.{flat_map}
+use Rattle.osi_tpkt.specs.Packet.{packet_of}
+use Rattle.osi_tpdu.specs.Value.{Value}
+use Rattle.osi_tpdu.specs.Writing.{written}
+use Rattle.osi_class.specs.Giving.{Drained, drained, all_given, octets_of, octets_in}
+use Rattle.osi_class.specs.Link.{Standing, Given, part0, part2, ack, unit_of, next}
+use Rattle.osi_carrier.specs.Pump.{pumped, written_by}
+use Rattle.osi_carrier.specs.State.{packets}
+
+pub packets_join : (us vs : List Value) → packets (us ++ vs) ≡ packets us ++ packets vs
+packets_join [] vs = refl
+packets_join (u ∷ us) vs = ap (λ l. packet_of (written u) ++ l) (packets_join us vs) ∙ sym (append_assoc (packet_of (written u)) (packets us) (packets vs))
+
+-- some units of a link were written, and the link stands behind them
+pub record IsPumping (peer : ℕ) (first : Standing) (before : List ℕ) (now : Standing) (octets : List ℕ) : Type 0 where
+  pub more : List ℕ
+  pub is : octets ≡ before ++ more
+  pub all : more ++ packets (written_by peer now) ≡ packets (written_by peer first)
+  pub link : pumped now ≡ pumped first
+
+pub pumping_first : (peer : ℕ) (first : Standing) (before : List ℕ) → IsPumping peer first before first before
+pumping_first peer first before = record { more = []; is = sym (append-nil before); all = refl; link = refl }
+
+pub pumping_next : (peer : ℕ) (first now next : Standing) (before octets after : List ℕ) (unit : Given) → IsPumping peer first before now octets →
+    drained now ≡ record { units = unit ∷ (drained next).units; link = (drained next).link } → after ≡ octets ++ packets (unit_of peer unit ∷ []) →
+    IsPumping peer first before next after
+pumping_next peer first now next before octets after unit h e put =
+    let one = packets (unit_of peer unit ∷ []) in
+    let given : written_by peer now ≡ unit_of peer unit ∷ written_by peer next = ap (λ (d : Drained). map (unit_of peer) d.units) e in
+    record {
+      more = h.more ++ one;
+      is = put ∙ ap (λ l. l ++ one) h.is ∙ append_assoc before h.more one;
+      all = append_assoc h.more one (packets (written_by peer next)) ∙ ap (λ l. h.more ++ l) (sym (packets_join (unit_of peer unit ∷ []) (written_by peer next)))
+          ∙ ap (λ us. h.more ++ packets us) (sym given) ∙ h.all;
+      link = sym (ap (λ (d : Drained). d.link) e) ∙ h.link;
+    }
+
+pub pumping_octets : (peer : ℕ) (first now : Standing) (before octets : List ℕ) → IsPumping peer first before now octets →
+    drained now ≡ record { units = []; link = now } → octets ≡ before ++ packets (written_by peer first)
+pumping_octets peer first now before octets h e =
+    let none : written_by peer now ≡ [] = ap (λ (d : Drained). map (unit_of peer) d.units) e in
+    h.is ∙ ap (λ l. before ++ l) (sym (append-nil h.more) ∙ ap (λ us. h.more ++ packets us) (sym none) ∙ h.all)
+
+pub pumping_link : (peer : ℕ) (first now : Standing) (before octets : List ℕ) → IsPumping peer first before now octets →
+    drained now ≡ record { units = []; link = now } → now ≡ pumped first
+pumping_link peer first now before octets h e = sym (ap (λ (d : Drained). d.link) e) ∙ h.link
+
+pub pumping_full : (peer : ℕ) (first now : Standing) (before octets after : List ℕ) → IsPumping peer first before now octets →
+    after ≡ octets → take (length before) after ≡ before
+pumping_full peer first now before octets after h same = ap (take (length before)) (same ∙ h.is) ∙ take_at before h.more (length before) refl
+
+-- the room that is left serves for the units behind
+pub pumping_room : (peer : ℕ) (now next : Standing) (unit : Given) → drained now ≡ record { units = unit ∷ (drained next).units; link = (drained next).link } →
+    length (packets (written_by peer now)) ≡ length (packets (unit_of peer unit ∷ [])) + length (packets (written_by peer next))
+pumping_room peer now next unit e =
+    let given : written_by peer now ≡ unit_of peer unit ∷ written_by peer next = ap (λ (d : Drained). map (unit_of peer) d.units) e in
+    ap (λ us. length (packets us)) given ∙ ap length (packets_join (unit_of peer unit ∷ []) (written_by peer next))
+    ∙ length-append (packets (unit_of peer unit ∷ [])) (packets (written_by peer next))
+
+unit_most : (peer : ℕ) (unit : Given) → length (packet_of (written (unit_of peer unit))) ≤ octets_of unit + 9
+unit_most peer (part0 end octets) = omega arith
+unit_most peer (part2 number end octets) = omega arith
+unit_most peer (ack number credit) = omega arith
+
+-- a unit takes at most 9 octets beside those of its part
+pub packets_most : (peer : ℕ) (units : List Given) → length (packets (map (unit_of peer) units)) ≤ octets_in units + 9 * length units
+packets_most peer [] = omega arith
+packets_most peer (u ∷ units) =
+    let first = unit_most peer u in
+    let more = packets_most peer units in
+    let joined = length-append (packet_of (written (unit_of peer u))) (packets (map (unit_of peer) units)) in
+    omega arith

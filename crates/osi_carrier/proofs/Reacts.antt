@@ -1,0 +1,73 @@
+-- Units one after the other, and units after the end.
+use Rattle.std.proofs.Common.{◌≡◌, ℕ, List, [], ◌∷◌, ◌++◌, Option, Some, None, refl, sym, ap, subst, ◌∙◌, true, false, Bool, is_some, IsSome, inl, inr, append_assoc}
+use Rattle.std.proofs.lemmas.List.{append-nil}
+use Rattle.osi_tpdu.specs.Value.{Value}
+use Rattle.osi_carrier.specs.Packets.{Act, RunsOut}
+use Rattle.osi_carrier.specs.React.{react, react_by, reacts, in_class}
+use Rattle.osi_carrier.specs.State.{State, ends}
+use Rattle.osi_carrier.specs.declared.ends.EndReason.TheVariants.{NoMemory}
+
+pub reacts_join : (us vs : List Value) (s : State) → reacts (us ++ vs) s ≡ reacts vs (reacts us s)
+reacts_join [] vs s = refl
+reacts_join (u ∷ us) vs s = reacts_join us vs (react u s)
+
+-- before the end a unit acts by the class
+pub react_quiet : (unit : Value) (s : State) → s.ended ≡ None → react unit s ≡ in_class s.class unit s
+unfolding react
+react_quiet unit s quiet = ap (λ o. react_by (is_some o) unit s) quiet
+
+pub react_over : (unit : Value) (s : State) → is_some s.ended ≡ true → react unit s ≡ s
+unfolding react
+react_over unit s over = ap (λ b. react_by b unit s) over
+
+-- after the end no unit acts
+pub reacts_over : (us : List Value) (s : State) → is_some s.ended ≡ true → reacts us s ≡ s
+reacts_over [] s over = refl
+reacts_over (u ∷ us) s over = ap (reacts us) (react_over u s over) ∙ reacts_over us s over
+
+-- some units have acted, and the carrier has not ended
+pub record IsAlong (start : State) (all : List Value) (now : State) (left : List Value) : Type 0 where
+  pub done : List Value
+  pub parts : all ≡ done ++ left
+  pub acted : now ≡ reacts done start
+  pub lasts : now.ended ≡ None
+
+pub along_first : (s : State) (all : List Value) → s.ended ≡ None → IsAlong s all s all
+along_first s all quiet = record { done = []; parts = refl; acted = refl; lasts = quiet }
+
+pub along_next : (start now after : State) (all left more : List Value) (unit : Value) → IsAlong start all now left → left ≡ unit ∷ more →
+    after ≡ in_class now.class unit now → after.ended ≡ None → IsAlong start all after more
+along_next start now after all left more unit h e acts lasts = record {
+  done = h.done ++ unit ∷ [];
+  parts = h.parts ∙ ap (λ l. h.done ++ l) e ∙ sym (append_assoc h.done (unit ∷ []) more);
+  acted = acts ∙ sym (react_quiet unit now h.lasts) ∙ ap (react unit) h.acted ∙ sym (reacts_join h.done (unit ∷ []) start);
+  lasts = lasts;
+}
+
+pub along_end : (start now : State) (all left : List Value) → IsAlong start all now left → left ≡ [] → Act start all now
+along_end start now all left h e = inl (h.acted ∙ ap (λ l. reacts l start) (sym (h.parts ∙ ap (λ l. h.done ++ l) e ∙ append-nil h.done)))
+
+-- a unit that ended the carrier was the last that acted
+pub along_over : (start now after : State) (all left more : List Value) (unit : Value) → IsAlong start all now left → left ≡ unit ∷ more →
+    after ≡ in_class now.class unit now → is_some after.ended ≡ true → Act start all after
+along_over start now after all left more unit h e acts over =
+    let one : after ≡ react unit now = acts ∙ sym (react_quiet unit now h.lasts) in
+    let rest : reacts more after ≡ after = reacts_over more after over in
+    inl (sym (ap (λ l. reacts l start) (h.parts ∙ ap (λ l. h.done ++ l) e) ∙ reacts_join h.done (unit ∷ more) start
+    ∙ ap (λ s. reacts (unit ∷ more) s) (sym h.acted) ∙ ap (reacts more) (sym one) ∙ rest))
+
+-- a unit for which there was no memory did nothing
+pub along_starved : (start now tried after : State) (all left more : List Value) (unit : Value) → IsAlong start all now left → left ≡ unit ∷ more →
+    ends NoMemory tried ≡ ends NoMemory now → after ≡ ends NoMemory tried → Act start all after
+along_starved start now tried after all left more unit h e nothing ended = inr (record {
+  done = h.done;
+  next = unit;
+  more = more;
+  all = h.parts ∙ ap (λ l. h.done ++ l) e;
+  lasts = subst (λ (s : State). s.ended ≡ None) h.acted h.lasts;
+  ended = ended ∙ nothing ∙ ap (ends NoMemory) h.acted;
+})
+
+pub none_of : {A : Type 0} (o : Option A) → is_some o ≡ false → o ≡ None
+none_of None e = refl
+none_of (Some x) e = cc

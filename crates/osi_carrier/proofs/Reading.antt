@@ -1,0 +1,258 @@
+-- A piece of the stream, read packet by packet.
+use Rattle.std.proofs.Common.{◌≡◌, ℕ, ◌+◌, ◌-◌, ◌^◌, ◌<◌, ◌≤◌, ◌||◌, true, false, Bool, List, [], ◌∷◌, ◌++◌, length, take, drop, min, Option, Some, None, Result, Ok, Err, is_some, refl, sym, ap, subst, ◌∙◌, inl, inr, ◌⊎◌, arith, length-append, length-drop, length-take, append_assoc, if◌then◌else◌}
+use Rattle.std.proofs.lemmas.List.{append-nil, take-append-drop, take_at}
+use Rattle.osi_tpkt.specs.Held.{Held}
+use Rattle.osi_tpkt.specs.Packet.{IsPacket, IsPartial, IsFaultOf}
+use Rattle.osi_tpkt.specs.Stream.{ArePackets, offset_of}
+use Rattle.osi_tpdu.specs.Packet.{units_of}
+use Rattle.osi_tpdu.specs.Value.{Value}
+use Rattle.osi_tpdu.specs.declared.faults.TpduFault.{TpduFault}
+use Rattle.osi_carrier.specs.Feeding.{TakesAll}
+use Rattle.osi_carrier.specs.Fetching.{PacketActs, PartHeld, Faults, EndsOver}
+use Rattle.osi_carrier.specs.Packets.{Carrying, IsReading, Acts, ActsBy, acts_by, after_packet, stops, waits, is_spoilt, TakesPackets, RunsDry, StopsBehind, Refuses, Starves, FindsNoMemory, Goes, RunsOut}
+use Rattle.osi_carrier.specs.State.{State, ends, fails}
+use Rattle.osi_carrier.specs.declared.ends.EndReason.{EndReason}
+use Rattle.osi_carrier.specs.declared.ends.EndReason.TheVariants.{NoMemory}
+
+-- ---- packets
+
+pub takes_snoc : (s mid : State) (units : List (List ℕ)) (packet : List ℕ) → TakesPackets s units mid → stops mid ≡ false →
+    TakesPackets s (units ++ packet ∷ []) (after_packet mid packet)
+takes_snoc s mid [] packet h quiet = (subst (λ (t : State). stops t ≡ false) h quiet, ap (λ t. after_packet t packet) h)
+takes_snoc s mid (u ∷ units) packet h quiet = (h.0, takes_snoc (after_packet s u) mid units packet h.1 quiet)
+
+pub packets_more : (units : List (List ℕ)) (s r t : List ℕ) → ArePackets units s r → ArePackets units (s ++ t) (r ++ t)
+packets_more [] s r t h = ap (λ l. l ++ t) h
+packets_more (u ∷ units) s r t h =
+    (h.0, h.1 ++ t, h.2, ap (λ l. l ++ t) h.3 ∙ append_assoc h.0 h.1 t, packets_more units h.1 r t h.4)
+
+pub packets_snoc : (units : List (List ℕ)) (s r : List ℕ) (packet : List ℕ) → ArePackets units s r → IsPacket packet r → ArePackets (units ++ packet ∷ []) s []
+packets_snoc [] s r packet h p = (s, [], subst (IsPacket packet) (sym h) p, sym (append-nil s), refl)
+packets_snoc (u ∷ units) s r packet h p = (h.0, h.1, h.2, h.3, packets_snoc units h.1 r packet h.4 p)
+
+pub packets_leave : (units : List (List ℕ)) (s r : List ℕ) → ArePackets units s r → length r ≤ length s
+packets_leave [] s r h = let same = ap length h in omega arith
+packets_leave (u ∷ units) s r h =
+    let less = packets_leave units h.1 r h.4 in
+    let parts = ap length h.3 ∙ length-append h.0 h.1 in
+    omega arith
+
+-- what a packet did is what its units do, or one of them found no memory
+acts_by_cases : (units : Result (List Value) TpduFault) (old new : State) → ActsBy units old new →
+    (new ≡ acts_by units old) ⊎ ((us : List Value) × (units ≡ Ok us) × RunsOut old us new)
+acts_by_cases (Ok us) old new (inl h) = inl h
+acts_by_cases (Ok us) old new (inr h) = inr (us, refl, h)
+acts_by_cases (Err f) old new h = inl h
+
+pub acts_cases : (old new : State) (packet : List ℕ) → Acts old packet new → (new ≡ after_packet old packet) ⊎ Starves old packet new
+unfolding after_packet
+acts_cases old new packet h = acts_by_cases (units_of packet) old new h
+
+-- ---- where reading a piece is
+
+-- the packets in front of `rest` have acted, and none of them stopped
+pub record IsRead (old : Carrying) (piece : List ℕ) (now : Carrying) (rest : List ℕ) : Type 0 where
+  pub front : List ℕ
+  pub units : List (List ℕ)
+  pub cut : piece ≡ front ++ rest
+  pub packets : ArePackets units (old.held.octets ++ front) now.held.octets
+  pub taken : TakesPackets old.state units now.state
+  pub quiet : stops now.state ≡ false
+  pub reading : IsReading now.held
+  pub offset : now.held.offset ≡ offset_of (old.held.offset + (length (old.held.octets ++ front) - length now.held.octets))
+
+pub read_first : (old : Carrying) (piece : List ℕ) → stops old.state ≡ false → IsReading old.held → IsRead old piece old piece
+read_first old piece quiet reading =
+    let bound = reading.holding.offset in
+    let none = length-append old.held.octets [] in
+    record {
+      front = [];
+      units = [];
+      cut = refl;
+      packets = append-nil old.held.octets;
+      taken = refl;
+      quiet = quiet;
+      reading = reading;
+      offset = omega arith;
+    }
+
+-- ---- the next packet
+
+record Behind (old : Carrying) (piece : List ℕ) (now : Carrying) (rest : List ℕ) (used : ℕ) (new : Carrying) (packet : List ℕ) (read : IsRead old piece now rest) : Type 0 where
+  cut : piece ≡ (read.front ++ take used rest) ++ drop used rest
+  packets : ArePackets (read.units ++ packet ∷ []) (old.held.octets ++ (read.front ++ take used rest)) []
+  offset : new.held.offset ≡ offset_of (old.held.offset + length (old.held.octets ++ (read.front ++ take used rest)))
+
+behind : (old : Carrying) (piece : List ℕ) (now : Carrying) (rest : List ℕ) (used : ℕ) (new : Carrying) (read : IsRead old piece now rest) (acts : PacketActs now rest used new) →
+    Behind old piece now rest used new acts.packet read
+behind old piece now rest used new read acts =
+    let assoc : (old.held.octets ++ read.front) ++ take used rest ≡ old.held.octets ++ (read.front ++ take used rest) = append_assoc old.held.octets read.front (take used rest) in
+    let left = packets_leave read.units (old.held.octets ++ read.front) now.held.octets read.packets in
+    let joined = length-append (old.held.octets ++ read.front) (take used rest) in
+    let same = ap length assoc in
+    let here = length-append now.held.octets (take used rest) in
+    let before = read.offset in
+    let after = acts.offset in
+    record {
+      cut = read.cut ∙ ap (λ l. read.front ++ l) (sym (take-append-drop used rest)) ∙ sym (append_assoc read.front (take used rest) (drop used rest));
+      packets = subst (λ l. ArePackets (read.units ++ acts.packet ∷ []) l []) assoc
+          (packets_snoc read.units ((old.held.octets ++ read.front) ++ take used rest) (now.held.octets ++ take used rest) acts.packet
+          (packets_more read.units (old.held.octets ++ read.front) now.held.octets (take used rest) read.packets) acts.whole);
+      offset = omega arith;
+    }
+
+pub read_next : (old : Carrying) (piece : List ℕ) (now : Carrying) (rest : List ℕ) (used : ℕ) (new : Carrying) → IsRead old piece now rest →
+    PacketActs now rest used new → stops new.state ≡ false → IsRead old piece new (drop used rest)
+read_next old piece now rest used new read acts quiet =
+    let b = behind old piece now rest used new read acts in
+    let same : new.state ≡ after_packet now.state acts.packet =
+    elim (acts_cases now.state new.state acts.packet acts.acted) [ inl h ↦ h | inr h ↦ (let over : stops new.state ≡ true = ap stops h.2.ended in cc) ] in
+    let none = ap length acts.held in
+    let far = b.offset in
+    record {
+      front = read.front ++ take used rest;
+      units = read.units ++ acts.packet ∷ [];
+      cut = b.cut;
+      packets = subst (ArePackets (read.units ++ acts.packet ∷ []) (old.held.octets ++ (read.front ++ take used rest))) (sym acts.held) b.packets;
+      taken = subst (TakesPackets old.state (read.units ++ acts.packet ∷ [])) (sym same) (takes_snoc old.state now.state read.units acts.packet read.taken read.quiet);
+      quiet = quiet;
+      reading = acts.reading;
+      offset = omega arith;
+    }
+
+-- so much of the piece was looked at
+looked : (piece front rest : List ℕ) (used : ℕ) → piece ≡ (front ++ take used rest) ++ drop used rest →
+    (take (length (front ++ take used rest)) piece ≡ front ++ take used rest) × (length (front ++ take used rest) ≤ length piece)
+looked piece front rest used cut =
+    let sizes = ap length cut ∙ length-append (front ++ take used rest) (drop used rest) in
+    (ap (take (length (front ++ take used rest))) cut ∙ take_at (front ++ take used rest) (drop used rest) (length (front ++ take used rest)) refl, omega arith)
+
+stopped_by : (old : Carrying) (piece : List ℕ) (now : Carrying) (rest : List ℕ) (used uses : ℕ) (new : Carrying) (read : IsRead old piece now rest) (acts : PacketActs now rest used new) →
+    new.state ≡ after_packet now.state acts.packet → stops new.state ≡ true →
+    uses ≡ (if is_spoilt new.state.ended then length piece else length (read.front ++ take used rest)) → StopsBehind old piece uses new
+stopped_by old piece now rest used uses new read acts same stopped e =
+    let b = behind old piece now rest used new read acts in
+    let seen = looked piece read.front rest used b.cut in
+    record {
+      within = length (read.front ++ take used rest);
+      units = read.units ++ acts.packet ∷ [];
+      bound = seen.1;
+      packets = subst (λ l. ArePackets (read.units ++ acts.packet ∷ []) (old.held.octets ++ l) []) (sym seen.0) b.packets;
+      taken = subst (TakesPackets old.state (read.units ++ acts.packet ∷ [])) (sym same) (takes_snoc old.state now.state read.units acts.packet read.taken read.quiet);
+      stopped = stopped;
+      uses = e;
+      held = acts.held;
+      offset = subst (λ l. new.held.offset ≡ offset_of (old.held.offset + length (old.held.octets ++ l))) (sym seen.0) b.offset;
+    }
+
+pub read_stops : (old : Carrying) (piece : List ℕ) (now : Carrying) (rest : List ℕ) (used : ℕ) (new : Carrying) → IsRead old piece now rest →
+    PacketActs now rest used new → stops new.state ≡ true → is_spoilt new.state.ended ≡ false → Goes old piece (length piece - length (drop used rest)) new
+read_stops old piece now rest used new read acts stopped sound =
+    let b = behind old piece now rest used new read acts in
+    let same : new.state ≡ after_packet now.state acts.packet =
+    elim (acts_cases now.state new.state acts.packet acts.acted) [ inl h ↦ h | inr h ↦ (let over : is_spoilt new.state.ended ≡ true = ap (λ (s : State). is_spoilt s.ended) h.2.ended in cc) ] in
+    let sizes = ap length b.cut ∙ length-append (read.front ++ take used rest) (drop used rest) in
+    let uses : length piece - length (drop used rest) ≡ length (read.front ++ take used rest) = omega arith in
+    inl (inr (stopped_by old piece now rest used (length piece - length (drop used rest)) new read acts same stopped (rw sound uses)))
+
+spoilt_over : (o : Option EndReason) → is_spoilt o ≡ true → is_some o ≡ true
+spoilt_over None e = cc
+spoilt_over (Some reason) e = refl
+
+spoilt_stops : (s : State) → is_spoilt s.ended ≡ true → stops s ≡ true
+spoilt_stops s e = ap (λ b. b || waits s) (spoilt_over s.ended e)
+
+starved_by : (old : Carrying) (piece : List ℕ) (now : Carrying) (rest : List ℕ) (used : ℕ) (new : Carrying) (read : IsRead old piece now rest) (acts : PacketActs now rest used new) →
+    Starves now.state acts.packet new.state → FindsNoMemory old piece (length piece) new
+starved_by old piece now rest used new read acts starves =
+    let b = behind old piece now rest used new read acts in
+    let seen = looked piece read.front rest used b.cut in
+    let assoc : (old.held.octets ++ read.front) ++ take used rest ≡ old.held.octets ++ (read.front ++ take used rest) = append_assoc old.held.octets read.front (take used rest) in
+    record {
+      within = length (read.front ++ take used rest);
+      units = read.units;
+      rest = now.held.octets ++ take used rest;
+      before = now.state;
+      all = refl;
+      bound = seen.1;
+      packets = subst (λ l. ArePackets read.units l (now.held.octets ++ take used rest)) (assoc ∙ ap (λ l. old.held.octets ++ l) (sym seen.0))
+          (packets_more read.units (old.held.octets ++ read.front) now.held.octets (take used rest) read.packets);
+      taken = read.taken;
+      quiet = read.quiet;
+      how = inr (acts.packet, (now.held.octets ++ take used rest, [], acts.whole, sym (append-nil (now.held.octets ++ take used rest)), refl), starves);
+    }
+
+pub read_spoilt : (old : Carrying) (piece : List ℕ) (now : Carrying) (rest : List ℕ) (used : ℕ) (new : Carrying) → IsRead old piece now rest →
+    PacketActs now rest used new → is_spoilt new.state.ended ≡ true → Goes old piece (length piece) new
+read_spoilt old piece now rest used new read acts spoilt =
+    let b = behind old piece now rest used new read acts in
+    elim (acts_cases now.state new.state acts.packet acts.acted) [
+      | inl h ↦ inl (inr (stopped_by old piece now rest used (length piece) new read acts h (spoilt_stops new.state spoilt) (rw spoilt refl)))
+      | inr h ↦ inr (inr (starved_by old piece now rest used new read acts h))
+    ]
+
+-- ---- the rest of the piece
+
+whole_packets : (old : Carrying) (piece : List ℕ) (now : Carrying) (rest : List ℕ) (read : IsRead old piece now rest) →
+    ArePackets read.units (old.held.octets ++ piece) (now.held.octets ++ rest)
+whole_packets old piece now rest read =
+    subst (λ l. ArePackets read.units l (now.held.octets ++ rest))
+    (append_assoc old.held.octets read.front rest ∙ ap (λ l. old.held.octets ++ l) (sym read.cut))
+    (packets_more read.units (old.held.octets ++ read.front) now.held.octets rest read.packets)
+
+whole_offset : (old : Carrying) (piece : List ℕ) (now : Carrying) (rest : List ℕ) → IsRead old piece now rest →
+    now.held.offset ≡ offset_of (old.held.offset + (length (old.held.octets ++ piece) - length (now.held.octets ++ rest)))
+whole_offset old piece now rest read =
+    let before = read.offset in
+    let sizes = ap length read.cut ∙ length-append read.front rest in
+    let a = length-append old.held.octets read.front in
+    let b = length-append old.held.octets piece in
+    let c = length-append now.held.octets rest in
+    let same : length (old.held.octets ++ piece) - length (now.held.octets ++ rest) ≡ length (old.held.octets ++ read.front) - length now.held.octets = omega arith in
+    before ∙ ap (λ n. offset_of (old.held.offset + n)) (sym same)
+
+pub read_part : (old : Carrying) (piece : List ℕ) (now : Carrying) (rest : List ℕ) (new : Carrying) → IsRead old piece now rest →
+    PartHeld now rest new → Goes old piece (length piece) new
+read_part old piece now rest new read part =
+    inl (inl (record {
+      units = read.units;
+      all = refl;
+      packets = subst (ArePackets read.units (old.held.octets ++ piece)) (sym part.held) (whole_packets old piece now rest read);
+      partial = part.partial;
+      taken = subst (TakesPackets old.state read.units) (sym part.state) read.taken;
+      quiet = ap stops part.state ∙ read.quiet;
+      offset = part.offset ∙ whole_offset old piece now rest read ∙ ap (λ l. offset_of (old.held.offset + (length (old.held.octets ++ piece) - length l))) (sym part.held);
+    }))
+
+pub read_over : (old : Carrying) (piece : List ℕ) (now : Carrying) (rest : List ℕ) (new : Carrying) → IsRead old piece now rest →
+    EndsOver now rest new → Goes old piece (length piece) new
+read_over old piece now rest new read (inl fault) =
+    inr (inl (record {
+      units = read.units;
+      fault = fault.fault;
+      before = now.state;
+      all = refl;
+      cut = (
+        now.held.octets ++ rest,
+        whole_packets old piece now rest read,
+        subst (λ n. IsFaultOf n (now.held.octets ++ rest) fault.fault) (whole_offset old piece now rest read) fault.is,
+      );
+      taken = read.taken;
+      quiet = read.quiet;
+      ended = fault.ended;
+    }))
+read_over old piece now rest new read (inr none) =
+    let sizes = ap length read.cut ∙ length-append read.front rest in
+    let seen : take (length read.front) piece ≡ read.front = ap (take (length read.front)) read.cut ∙ take_at read.front rest (length read.front) refl in
+    inr (inr (record {
+      within = length read.front;
+      units = read.units;
+      rest = now.held.octets;
+      before = now.state;
+      all = refl;
+      bound = omega arith;
+      packets = subst (λ l. ArePackets read.units (old.held.octets ++ l) now.held.octets) (sym seen) read.packets;
+      taken = read.taken;
+      quiet = read.quiet;
+      how = inl none;
+    }))

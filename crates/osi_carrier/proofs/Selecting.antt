@@ -1,0 +1,15 @@
+-- Which rule a CR falls under.
+use Rattle.std.proofs.Common.{◌≡◌, ℕ, ◌<◌, ◌≤◌, ◌||◌, Bool, true, false, length, Option, Some, None, option_map, Result, Ok, Err, OnOk, refl, sym, ap, ◌∙◌, arith, nat_le, if◌then◌else◌}
+use Rattle.std.proofs.lemmas.Bool.Decides.{nat_tests}
+use Rattle.osi_tpdu.specs.Value.{Connect}
+use Rattle.osi_class.specs.Negotiation.{Selection, selected_by}
+use Rattle.osi_carrier.specs.React.{answers_request, answers, has_peer, is_full}
+use Rattle.osi_carrier.specs.State.{State}
+
+pub has_room : (s : State) → length s.live < 64 → s.given < 65535 → is_full s ≡ false
+has_room s few more = grind (arith, nat_tests)
+
+pub is_answered : {A E : Type 0} (result : Result A E) (c : Connect) (s new : State) (sel : Selection) → has_peer c.source s.live ≡ false → is_full s ≡ false →
+    sel ≡ selected_by c s.local → OnOk result (new ≡ answers c sel s.class s) → OnOk result (new ≡ answers_request c s)
+is_answered (Ok a) c s new sel free room same h = rw (free, room) (h ∙ ap (λ x. answers c x s.class s) same)
+is_answered (Err f) c s new sel free room same h = tt

@@ -1,0 +1,32 @@
+-- How long the written form of a unit is, and that one unit makes one packet.
+use Rattle.std.proofs.Common.{◌≡◌, ℕ, ◌+◌, ◌≤◌, List, [], ◌∷◌, ◌++◌, length, refl, arith, length-append}
+use Rattle.std.proofs.lemmas.List.{append-nil}
+use Rattle.osi_tpkt.specs.Packet.{packet_of}
+use Rattle.osi_tpdu.specs.Value.{Value, request, confirm, disconnect, disconnected, data0, data2, acknowledge, error, user_data}
+use Rattle.osi_tpdu.specs.Writing.{written, written_header, Fits}
+use Rattle.osi_carrier.specs.State.{packets}
+
+pub one_packet_of : (unit : Value) → packets (unit ∷ []) ≡ packet_of (written unit)
+one_packet_of unit = append-nil (packet_of (written unit))
+
+pub written_most : (unit : Value) → Fits unit → length (written unit) ≤ 255 + length (user_data unit)
+written_most unit fits =
+    let counted = fits.counted in
+    let joined = length-append (written_header unit) (user_data unit) in
+    omega arith
+
+header_least : (unit : Value) → 2 ≤ length (written_header unit)
+header_least (request c) = omega (arith, length-append {A = ℕ})
+header_least (confirm destination c) = omega (arith, length-append {A = ℕ})
+header_least (disconnect destination source reason user) = omega arith
+header_least (disconnected destination source) = omega arith
+header_least (data0 end user) = omega arith
+header_least (data2 destination number end user) = omega arith
+header_least (acknowledge credit destination number) = omega arith
+header_least (error destination cause) = omega arith
+
+pub written_least : (unit : Value) → 3 ≤ length (written unit)
+written_least unit =
+    let least = header_least unit in
+    let joined = length-append (written_header unit) (user_data unit) in
+    omega arith

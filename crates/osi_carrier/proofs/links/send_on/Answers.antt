@@ -1,0 +1,20 @@
+use Rattle.std.proofs.Common.{◌≡◌, ◌+◌, ◌*◌, ◌≤◌, length, sym, subst, arith}
+use Rattle.osi_class.specs.AnyLink.{any_standing}
+use Rattle.osi_class.specs.Giving.{all_given, octets_in}
+use Rattle.osi_class.specs.Link.{Standing, with_tsdu}
+use Rattle.osi_carrier.specs.Pump.{written_by}
+use Rattle.osi_carrier.specs.State.{packets}
+use Rattle.osi_carrier.proofs.Pumping.{packets_most}
+use Rattle.osi_carrier.proofs.links.send_on.Goals as goal
+
+pub unreachable-requires : goal.unreachable-requires
+unreachable-requires c =
+    let then = with_tsdu (any_standing c.args.link.now) c.args.tsdu.now in
+    let units = c.room_for-room.ensures.units c.requires in
+    let octets = c.room_for-room.ensures.octets c.requires in
+    let room = c.in_ok-reserve.ensures.spare.1 in
+    let most = packets_most c.args.peer (all_given then) in
+    let fits : length (packets (written_by c.args.peer then)) ≤ c.reserve.new.self.spare = omega arith in
+    let never = c.in_default.ensures.enough
+    (subst (λ (s : Standing). length (packets (written_by c.args.peer s)) ≤ c.reserve.new.self.spare) (sym c.in_ok-send_tsdu.ensures.ok) fits) in
+    cc

@@ -1,0 +1,21 @@
+use Rattle.std.proofs.Common.{◌≡◌, ◌<◌, Some, subst, arith}
+use Rattle.osi_class.specs.AnyLink.{any_standing}
+use Rattle.osi_class.specs.Link.{next, given, Gives}
+use Rattle.osi_carrier.proofs.Pumping.{pumping_next, pumping_room}
+use Rattle.osi_carrier.proofs.links.write_all.Goals as goal
+
+pub units-preserved : goal.units-preserved
+units-preserved c =
+    let first = any_standing c.args.link.now in
+    let now = any_standing c.units.link in
+    let then = any_standing c.next_out.follows.lender-at-none in
+    let least = c.next_out.ensures.at_least in
+    let room : 0 < now.ends.limit = omega arith in
+    let gives = subst (λ r. Gives r (next now) now then) c.in-Some.is c.next_out.follows.holds-at-none in
+    let e = c.all_is_given.ensures.some now then (given c.in-Some.unit) room gives in
+    let took = c.in_ok-put_given.ensures.spare in
+    let less = pumping_room c.args.peer now then (given c.in-Some.unit) e in (
+      pumping_next c.args.peer first now then c.args.out.now.items c.units.out.items c.put_given.new.out.items (given c.in-Some.unit) c.units.invariant.0
+          e c.in_ok-put_given.ensures.ok,
+      λ enough. (let before = c.units.invariant.1 enough in omega arith),
+    )

@@ -1,0 +1,14 @@
+use Rattle.std.proofs.Common.{◌≤◌, length}
+use Rattle.osi_class.specs.AnyLink.{any_standing}
+use Rattle.osi_class.specs.Giving.{left_to_give}
+use Rattle.osi_carrier.specs.Pump.{written_by}
+use Rattle.osi_carrier.specs.State.{packets}
+use Rattle.osi_carrier.proofs.Pumping.{IsPumping}
+use Rattle.osi_carrier.proofs.links.write_all.Given as goal
+
+abbrev pub invariant-units : goal.invariant-units
+invariant-units l = IsPumping l.fn.peer (any_standing l.fn.link) l.fn.out.items (any_standing l.link) l.out.items
+    × (length (packets (written_by l.fn.peer (any_standing l.fn.link))) ≤ l.fn.out.spare → length (packets (written_by l.fn.peer (any_standing l.link))) ≤ l.out.spare)
+
+abbrev pub decreases-units : goal.decreases-units
+decreases-units l = left_to_give (any_standing l.link)

@@ -1,0 +1,31 @@
+use Rattle.std.proofs.Common.{◌≡◌, ℕ, ◌++◌, Some, Option, OnOk, get_or, ap, sym, subst, ◌∙◌}
+use Rattle.osi_class.specs.Link.{with_tsdu}
+use Rattle.osi_carrier.specs.Pump.{pumped, written_by}
+use Rattle.osi_carrier.specs.Rows.{value_at}
+use Rattle.osi_carrier.specs.Stages.{stage_of, link_in}
+use Rattle.osi_carrier.specs.State.{Connection, linked, packets}
+use Rattle.osi_carrier.proofs.Places.{here_is, stepped_rows}
+use Rattle.osi_carrier.proofs.rows.Connections.send.Goals as goal
+
+pub send-requires : goal.send-requires
+send-requires c =
+    let row = c.index_mut.result.now in
+    let here = c.index_mut.ensures.value ∙ ap (λ l. get_or l c.args.place row) c.self.view_is in
+    ap stage_of (sym (here_is c.args.reference c.args.self.now c.args.place row c.requires.place here)) ∙ c.requires.open
+
+pub returns-clause-rows : goal.returns-clause-rows
+returns-clause-rows c =
+    let row = c.index_mut.result.now in
+    let here = c.index_mut.ensures.value ∙ ap (λ l. get_or l c.args.place row) c.self.view_is in
+    let was = here_is c.args.reference c.args.self.now c.args.place row c.requires.place here in
+    stepped_rows c.send.result c.args.reference c.args.self.now c.self.inside.rows.items c.args.place row c.send.new.self
+    (linked c.args.peer (pumped (with_tsdu (link_in (value_at c.args.reference c.args.self.now)) c.args.tsdu.now)))
+    c.requires.place here c.self.view_is
+    (subst (λ (o : Option Connection). OnOk c.send.result (c.send.new.self ≡ (row.0, linked c.args.peer (pumped (with_tsdu (link_in o) c.args.tsdu.now))))) (sym was) c.send.ensures.row)
+
+pub returns-clause-ok : goal.returns-clause-ok
+returns-clause-ok c =
+    let row = c.index_mut.result.now in
+    let here = c.index_mut.ensures.value ∙ ap (λ l. get_or l c.args.place row) c.self.view_is in
+    subst (λ (o : Option Connection). OnOk c.send.result (c.send.new.out.items ≡ c.args.out.now.items ++ packets (written_by c.args.peer (with_tsdu (link_in o) c.args.tsdu.now))))
+    (sym (here_is c.args.reference c.args.self.now c.args.place row c.requires.place here)) c.send.ensures.ok

@@ -1,0 +1,40 @@
+use Rattle.std.proofs.Common.{◌≡◌, ℕ, ◌++◌, Some, Option, IfOk, OnOk, get_or, set, ap, sym, subst, ◌∙◌}
+use Rattle.osi_tpdu.specs.View.{value}
+use Rattle.osi_class.specs.Link.{taken}
+use Rattle.osi_carrier.specs.Stages.{stage_of, link_in}
+use Rattle.osi_carrier.specs.State.{Connection, linked, packets}
+use Rattle.osi_carrier.specs.Steps.{StepsTo, link_after, units_after}
+use Rattle.osi_carrier.specs.Rows.{value_at, put}
+use Rattle.osi_carrier.specs.declared.stages.Stage.TheVariants.{Open}
+use Rattle.osi_carrier.proofs.Places.{placed, here_is, stepped_rows}
+use Rattle.osi_carrier.proofs.rows.Connections.step.Goals as goal
+
+pub step-requires : goal.step-requires
+step-requires c =
+    let row = c.index_mut.result.now in
+    let here = c.index_mut.ensures.value ∙ ap (λ l. get_or l c.args.place row) c.self.view_is in
+    ap stage_of (sym (here_is c.args.reference c.args.self.now c.args.place row c.requires.place here)) ∙ c.requires.open
+
+pub returns-clause-step : goal.returns-clause-step
+returns-clause-step c =
+    let row = c.index_mut.result.now in
+    let here = c.index_mut.ensures.value ∙ ap (λ l. get_or l c.args.place row) c.self.view_is in
+    subst (λ (o : Option Connection). IfOk c.step.result (λ s. StepsTo s (taken (link_in o) (value c.args.unit.now))))
+    (sym (here_is c.args.reference c.args.self.now c.args.place row c.requires.place here)) c.step.ensures.step
+
+pub returns-clause-rows : goal.returns-clause-rows
+returns-clause-rows c =
+    let row = c.index_mut.result.now in
+    let here = c.index_mut.ensures.value ∙ ap (λ l. get_or l c.args.place row) c.self.view_is in
+    let was = here_is c.args.reference c.args.self.now c.args.place row c.requires.place here in
+    stepped_rows c.step.result c.args.reference c.args.self.now c.self.inside.rows.items c.args.place row c.step.new.self
+    (linked c.args.peer (link_after (link_in (value_at c.args.reference c.args.self.now)) (taken (link_in (value_at c.args.reference c.args.self.now)) (value c.args.unit.now))))
+    c.requires.place here c.self.view_is
+    (subst (λ (o : Option Connection). OnOk c.step.result (c.step.new.self ≡ (row.0, linked c.args.peer (link_after (link_in o) (taken (link_in o) (value c.args.unit.now)))))) (sym was) c.step.ensures.row)
+
+pub returns-clause-ok : goal.returns-clause-ok
+returns-clause-ok c =
+    let row = c.index_mut.result.now in
+    let here = c.index_mut.ensures.value ∙ ap (λ l. get_or l c.args.place row) c.self.view_is in
+    subst (λ (o : Option Connection). OnOk c.step.result (c.step.new.out.items ≡ c.args.out.now.items ++ packets (units_after c.args.peer (taken (link_in o) (value c.args.unit.now)))))
+    (sym (here_is c.args.reference c.args.self.now c.args.place row c.requires.place here)) c.step.ensures.ok

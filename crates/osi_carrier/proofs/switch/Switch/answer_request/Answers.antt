@@ -1,0 +1,19 @@
+use Rattle.std.proofs.Common.{◌≡◌, ◌<◌, false, length, sym, ap, ◌∙◌, arith}
+use Rattle.osi_tpdu.specs.View.{request_content}
+use Rattle.osi_class.specs.Negotiation.{selection, selected_by}
+use Rattle.osi_carrier.specs.React.{has_peer, is_full}
+use Rattle.osi_carrier.specs.State.{State}
+use Rattle.osi_carrier.specs.contracts.switch.Switch.{the_view}
+use Rattle.osi_carrier.proofs.Selecting.{has_room, is_answered}
+use Rattle.osi_carrier.proofs.switch.Switch.answer_request.Goals as goal
+
+pub returns-clause-ok : goal.returns-clause-ok
+returns-clause-ok c =
+    let v = c.self.view_is in
+    let request = request_content c.args.request.now in
+    let free = ap (λ (s : State). has_peer request.source s.live) (sym v) ∙ (sym c.has_peer.ensures ∙ c.if-has_peer.false) in
+    let count = c.len.ensures.value in
+    let few : length c.self.inside.live < 64 = omega arith in
+    let room = ap is_full (sym v) ∙ has_room (the_view c.self.inside) few c.if-self-ge-LAST_REFERENCE.false in
+    let same = c.answer-selected.ensures ∙ ap (λ (s : State). selected_by request s.local) v in
+    is_answered c.answer_by.result request c.args.self.now c.answer_by.new.self (selection c.answer-selected.result) free room same c.answer_by.ensures.ok

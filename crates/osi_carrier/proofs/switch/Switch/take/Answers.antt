@@ -1,0 +1,38 @@
+use Rattle.std.proofs.Common.{◌≡◌, OnOk, Err, Some, [], map, ap, sym, subst, ◌∙◌}
+use Rattle.osi_tpdu.specs.View.{value}
+use Rattle.osi_class.specs.Link.{taken}
+use Rattle.osi_carrier.specs.Happenings.{happening}
+use Rattle.osi_carrier.specs.React.{taking}
+use Rattle.osi_carrier.specs.Rows.{value_at, place_of}
+use Rattle.osi_carrier.specs.Stages.{link_in, stage_of}
+use Rattle.osi_carrier.specs.State.{State}
+use Rattle.osi_carrier.specs.Steps.{StepsTo}
+use Rattle.osi_carrier.specs.contracts.switch.Switch.{the_view}
+use Rattle.osi_carrier.specs.declared.links.Step.{Step}
+use Rattle.osi_carrier.specs.declared.links.Step.TheVariants.{Broke}
+use Rattle.osi_carrier.proofs.Breaking.{broke_rows, broke_octets, broke_taking, changed}
+use Rattle.osi_carrier.proofs.switch.Switch.take.Goals as goal
+
+pub break_off-requires : goal.break_off-requires
+break_off-requires c =
+    let live = c.self.inside.live in
+    let t = taken (link_in (value_at c.args.reference live)) (value c.args.unit.now) in
+    let fault = subst (λ (s : Step). StepsTo s t) (c.in-Broke.is) c.in_ok-step.ensures.step in
+    let stage = ap (λ (s : State). stage_of (value_at c.args.reference s.live)) c.self.view_is ∙ c.requires.open in
+    let same = broke_rows c.args.reference c.args.peer live c.step.new.self t c.in-Broke.fault fault stage c.in_ok-step.ensures.rows in
+    ap (place_of c.args.reference) same ∙ ap (λ (s : State). place_of c.args.reference s.live) c.self.view_is ∙ c.requires.place
+
+pub returns-in-Broke-clause-ok : goal.returns-in-Broke-clause-ok
+returns-in-Broke-clause-ok c =
+    let s = the_view c.self.inside in
+    let live = c.self.inside.live in
+    let t = taken (link_in (value_at c.args.reference live)) (value c.args.unit.now) in
+    let fault = subst (λ (x : Step). StepsTo x t) (c.in-Broke.is) c.in_ok-step.ensures.step in
+    let stage = ap (λ (x : State). stage_of (value_at c.args.reference x.live)) c.self.view_is ∙ c.requires.open in
+    let rows = broke_rows c.args.reference c.args.peer live c.step.new.self t c.in-Broke.fault fault stage c.in_ok-step.ensures.rows in
+    let octets = broke_octets c.args.peer c.self.inside.outgoing.items c.step.new.out.items t c.in-Broke.fault fault c.in_ok-step.ensures.ok in
+    let same = changed s c.step.new.self live c.step.new.out.items s.outgoing (map happening c.reserve.new.self.items) s.events rows octets (ap (map happening) c.reserve.ensures.items) in
+    subst (λ (x : State). OnOk c.break_off.result (c.break_off.new.self ≡ taking c.args.reference c.args.peer (taken (link_in (value_at c.args.reference x.live)) (value c.args.unit.now)) x))
+    c.self.view_is
+    (broke_taking c.break_off.result c.args.reference c.args.peer s (the_view (record c.self.inside { live = c.step.new.self; outgoing = c.step.new.out; events = c.reserve.new.self }))
+    c.break_off.new.self t c.in-Broke.fault fault same c.break_off.ensures.ok)

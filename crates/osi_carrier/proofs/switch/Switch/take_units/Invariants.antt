@@ -1,0 +1,10 @@
+use Rattle.std.proofs.Common.{length}
+use Rattle.osi_tpdu.specs.Units.{units_left}
+use Rattle.osi_carrier.proofs.Reacts.{IsAlong}
+use Rattle.osi_carrier.proofs.switch.Switch.take_units.Given as goal
+
+abbrev pub invariant-units : goal.invariant-units
+invariant-units l = IsAlong l.fn.self (units_left l.fn.units) l.self (units_left l.units)
+
+abbrev pub decreases-units : goal.decreases-units
+decreases-units l = length (units_left l.units)

@@ -1,0 +1,13 @@
+use Rattle.std.proofs.Common.{◌≡◌, Option, None, OnOk, ap, sym, subst, ◌∙◌}
+use Rattle.osi_tpdu.specs.View.{value}
+use Rattle.osi_carrier.specs.React.{to_connection}
+use Rattle.osi_carrier.specs.Rows.{value_at}
+use Rattle.osi_carrier.specs.State.{Connection, State}
+use Rattle.osi_carrier.proofs.ByStage.{nowhere}
+use Rattle.osi_carrier.proofs.switch.Switch.to_reference.Goals as goal
+
+pub returns-in_default-clause-ok : goal.returns-in_default-clause-ok
+returns-in_default-clause-ok c =
+    let none = ap (λ (s : State). value_at c.args.reference s.live) (sym c.self.view_is) ∙ nowhere c.args.reference c.self.inside.live (sym c.find.ensures ∙ c.in_default.is) in
+    subst (λ (o : Option Connection). OnOk c.to_unknown.result (c.to_unknown.new.self ≡ to_connection c.args.reference o (value c.args.unit.now) c.args.self.now))
+    (sym none) c.to_unknown.ensures.ok

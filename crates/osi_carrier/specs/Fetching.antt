@@ -1,0 +1,43 @@
+-- What one look at the stream does: up to the end of the first packet that stands whole.
+use Rattle.std.specs.Prelude.{◌≡◌, ℕ, ◌+◌, ◌<◌, ◌≤◌, List, [], ◌++◌, length, take, None, ◌⊎◌}
+use Rattle.osi_tpkt.specs.Packet.{IsPacket, IsPartial, IsFaultOf}
+use Rattle.osi_tpkt.specs.Stream.{offset_of}
+use Rattle.osi_tpkt.specs.declared.faults.TpktFault.{TpktFault}
+use Rattle.osi_carrier.specs.Packets.{Carrying, IsReading, Acts}
+use Rattle.osi_carrier.specs.State.{ends, fails}
+use Rattle.osi_carrier.specs.declared.carrier.feeding.Fetched.{Fetched}
+use Rattle.osi_carrier.specs.declared.carrier.feeding.Fetched.TheVariants.{Packet, Part, Over}
+use Rattle.osi_carrier.specs.declared.ends.CarrierFault.TheVariants.{Tpkt}
+use Rattle.osi_carrier.specs.declared.ends.EndReason.TheVariants.{NoMemory}
+
+-- so many octets made a packet whole, which acted and was dropped
+pub record PacketActs (old : Carrying) (octets : List ℕ) (used : ℕ) (new : Carrying) : Type 0 where
+  pub packet : List ℕ
+  pub some : 0 < used
+  pub within : used ≤ length octets
+  pub whole : IsPacket packet (old.held.octets ++ take used octets)
+  pub acted : Acts old.state packet new.state
+  pub held : new.held.octets ≡ []
+  pub reading : IsReading new.held
+  pub offset : new.held.offset ≡ offset_of (old.held.offset + length (old.held.octets ++ take used octets))
+
+-- the octets are held, and the packet's end has not come
+pub record PartHeld (old : Carrying) (octets : List ℕ) (new : Carrying) : Type 0 where
+  pub state : new.state ≡ old.state
+  pub held : new.held.octets ≡ old.held.octets ++ octets
+  pub partial : IsPartial new.held.octets
+  pub offset : new.held.offset ≡ old.held.offset
+
+pub record Faults (old : Carrying) (octets : List ℕ) (new : Carrying) : Type 0 where
+  pub fault : TpktFault
+  pub is : IsFaultOf old.held.offset (old.held.octets ++ octets) fault
+  pub ended : new.state ≡ fails (Tpkt fault) old.state
+
+-- what was held and the octets are no packet, or there was no memory
+abbrev pub EndsOver : Carrying → List ℕ → Carrying → Type 0
+EndsOver old octets new = Faults old octets new ⊎ (new.state ≡ ends NoMemory old.state)
+
+abbrev pub Fetches : Carrying → List ℕ → Fetched → Carrying → Type 0
+Fetches old octets (Packet used) new = PacketActs old octets used new
+Fetches old octets Part new = PartHeld old octets new
+Fetches old octets Over new = EndsOver old octets new

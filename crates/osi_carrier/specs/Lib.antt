@@ -1,0 +1,13 @@
+pub mod Rows
+pub mod Happenings
+pub mod State
+pub mod Live
+pub mod Stages
+pub mod Pump
+pub mod Negotiation
+pub mod React
+pub mod Steps
+pub mod Feeding
+pub mod Packets
+pub mod Calls
+pub mod Fetching

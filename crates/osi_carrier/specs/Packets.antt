@@ -1,0 +1,157 @@
+-- What packets do to a carrier, and what feeding a piece of the stream does.
+use Rattle.std.specs.Prelude.{◌≡◌, ℕ, ◌+◌, ◌-◌, ◌≤◌, ◌||◌, ◌==◌, not, Bool, true, false, List, [], ◌∷◌, ◌++◌, length, take, Option, Some, None, is_some, IsSome, Result, Ok, Err, ◌⊎◌, if◌then◌else◌}
+use Rattle.osi_tpkt.specs.Held.{Held, IsHolding}
+use Rattle.osi_tpkt.specs.Packet.{IsPartial}
+use Rattle.osi_tpkt.specs.Stream.{ArePackets, CutsFrom, offset_of}
+use Rattle.osi_tpkt.specs.Stream.Ending.{Faulty, Rest}
+use Rattle.osi_tpkt.specs.declared.faults.TpktFault.{TpktFault}
+use Rattle.osi_tpkt.specs.declared.cutting.Fed.{Fed}
+use Rattle.osi_tpkt.specs.declared.faults.TpktFault.TheVariants.{BadVersion, BadLength, OutOfMemory}
+use Rattle.osi_tpdu.specs.Packet.{units_of}
+use Rattle.osi_tpdu.specs.Value.{Value}
+use Rattle.osi_tpdu.specs.declared.faults.TpduFault.{TpduFault}
+use Rattle.osi_carrier.specs.Feeding.{TakesAll}
+use Rattle.osi_carrier.specs.React.{reacts}
+use Rattle.osi_carrier.specs.State.{State, ends, fails}
+use Rattle.osi_carrier.specs.declared.ends.CarrierFault.TheVariants.{Tpkt, Tpdu}
+use Rattle.osi_carrier.specs.declared.ends.EndReason.{EndReason}
+use Rattle.osi_carrier.specs.declared.ends.EndReason.TheVariants.{Broken, Closed, PeerClosed, Fault, NoMemory}
+
+-- ---- one packet
+
+-- each of its units acts, or with a bad one none
+abbrev pub acts_by : Result (List Value) TpduFault → State → State
+acts_by (Ok units) s = reacts units s
+acts_by (Err fault) s = fails (Tpdu fault) s
+
+-- what a packet with this transport unit does
+unfoldable pub after_packet : State → List ℕ → State
+after_packet s packet = acts_by (units_of packet) s
+
+-- For one of the units there was no memory: it did nothing, and those before it had not ended the
+-- carrier.
+pub record RunsOut (old : State) (units : List Value) (new : State) : Type 0 where
+  pub done : List Value
+  pub next : Value
+  pub more : List Value
+  pub all : units ≡ done ++ (next ∷ more)
+  pub lasts : (reacts done old).ended ≡ None
+  pub ended : new ≡ ends NoMemory (reacts done old)
+
+-- what units did: all that they do, or for one there was no memory
+abbrev pub Act : State → List Value → State → Type 0
+Act old units new = (new ≡ reacts units old) ⊎ RunsOut old units new
+
+abbrev pub ActsBy : Result (List Value) TpduFault → State → State → Type 0
+ActsBy (Ok units) old new = Act old units new
+ActsBy (Err fault) old new = new ≡ fails (Tpdu fault) old
+
+-- what a packet with this transport unit did
+abbrev pub Acts : State → List ℕ → State → Type 0
+Acts old packet new = ActsBy (units_of packet) old new
+
+-- what a fault of the stream does, or want of memory to hold its octets
+abbrev pub after_refusal : TpktFault → State → State
+after_refusal OutOfMemory s = ends NoMemory s
+after_refusal (BadVersion offset) s = fails (Tpkt (BadVersion offset)) s
+after_refusal (BadLength offset) s = fails (Tpkt (BadLength offset)) s
+
+-- ---- a piece of the stream
+
+-- what contracts see of a carrier
+pub record Carrying : Type 0 where
+  pub state : State
+  -- the packet under way
+  pub held : Held
+
+-- what a carrier holds of the packet under way
+pub record IsReading (held : Held) : Type 0 where
+  pub holding : IsHolding held
+  pub partial : IsPartial held.octets
+  pub fault : held.fault ≡ None
+
+-- an event waits
+abbrev pub waits : State → Bool
+waits s = not (length s.events == 0)
+
+-- feeding stops behind a packet that told the user something, or ended the carrier
+abbrev pub stops : State → Bool
+stops s = is_some s.ended || waits s
+
+-- packets one after the other, of which none stopped but perhaps the last
+abbrev pub TakesPackets : State → List (List ℕ) → State → Type 0
+TakesPackets old units new = TakesAll after_packet stops old units new
+
+-- the carrier ended by a fault of its peer, or for want of memory
+abbrev pub is_spoilt : Option EndReason → Bool
+is_spoilt None = false
+is_spoilt (Some Broken) = false
+is_spoilt (Some Closed) = false
+is_spoilt (Some (PeerClosed reason)) = false
+is_spoilt (Some (Fault fault)) = true
+is_spoilt (Some NoMemory) = true
+
+-- The whole piece was cut into packets, none of which stopped, and a rest that is held.
+pub record RunsDry (old : Carrying) (piece : List ℕ) (used : ℕ) (new : Carrying) : Type 0 where
+  pub units : List (List ℕ)
+  pub all : used ≡ length piece
+  pub packets : ArePackets units (old.held.octets ++ piece) new.held.octets
+  pub partial : IsPartial new.held.octets
+  pub taken : TakesPackets old.state units new.state
+  pub quiet : stops new.state ≡ false
+  pub offset : new.held.offset ≡ offset_of (old.held.offset + (length (old.held.octets ++ piece) - length new.held.octets))
+
+-- The piece up to `within` was cut into packets, of which the last stopped. All of the piece is
+-- used where the carrier ended by a fault.
+pub record StopsBehind (old : Carrying) (piece : List ℕ) (used : ℕ) (new : Carrying) : Type 0 where
+  pub within : ℕ
+  pub units : List (List ℕ)
+  pub bound : within ≤ length piece
+  pub packets : ArePackets units (old.held.octets ++ take within piece) []
+  pub taken : TakesPackets old.state units new.state
+  pub stopped : stops new.state ≡ true
+  pub uses : used ≡ (if is_spoilt new.state.ended then length piece else within)
+  pub held : new.held.octets ≡ []
+  pub offset : new.held.offset ≡ offset_of (old.held.offset + length (old.held.octets ++ take within piece))
+
+-- What was held and the piece have a fault behind packets of which none stopped.
+pub record Refuses (old : Carrying) (piece : List ℕ) (used : ℕ) (new : Carrying) : Type 0 where
+  pub units : List (List ℕ)
+  pub fault : TpktFault
+  pub before : State
+  pub all : used ≡ length piece
+  pub cut : CutsFrom old.held.offset (old.held.octets ++ piece) units (Faulty fault)
+  pub taken : TakesPackets old.state units before
+  pub quiet : stops before ≡ false
+  pub ended : new.state ≡ fails (Tpkt fault) before
+
+-- There was no memory to hold what belongs to a packet, or for a unit of the next packet.
+abbrev pub Starves : State → List ℕ → State → Type 0
+Starves old packet new = (units : List Value) × (units_of packet ≡ Ok units) × RunsOut old units new
+
+pub record FindsNoMemory (old : Carrying) (piece : List ℕ) (used : ℕ) (new : Carrying) : Type 0 where
+  pub within : ℕ
+  pub units : List (List ℕ)
+  pub rest : List ℕ
+  pub before : State
+  pub all : used ≡ length piece
+  pub bound : within ≤ length piece
+  pub packets : ArePackets units (old.held.octets ++ take within piece) rest
+  pub taken : TakesPackets old.state units before
+  pub quiet : stops before ≡ false
+  pub how : (new.state ≡ ends NoMemory before) ⊎ ((packet : List ℕ) × ArePackets (packet ∷ []) rest [] × Starves before packet new.state)
+
+-- feeding a piece where nothing waits and nothing has ended
+abbrev pub Goes : Carrying → List ℕ → ℕ → Carrying → Type 0
+Goes old piece used new =
+    (RunsDry old piece used new ⊎ StopsBehind old piece used new) ⊎ (Refuses old piece used new ⊎ FindsNoMemory old piece used new)
+
+-- feeding a piece
+pub record Feeds (old : Carrying) (piece : List ℕ) (fed : Fed) (new : Carrying) : Type 0 where
+  -- after the end all is used, and nothing changes
+  pub over : IsSome old.state.ended → (fed.used ≡ length piece) × (new ≡ old)
+  -- while an event waits nothing is used, and nothing changes
+  pub waiting : old.state.ended ≡ None → waits old.state ≡ true → (fed.used ≡ 0) × (new ≡ old)
+  pub goes : stops old.state ≡ false → Goes old piece fed.used new
+  pub whole : fed.whole ≡ waits new.state
+  pub bound : fed.used ≤ length piece

@@ -1,0 +1,63 @@
+-- What a carrier holds beside the packet under way, and the words in which the rules say what
+-- changes.
+use Rattle.std.specs.Prelude.{ℕ, Bool, List, [], ◌∷◌, ◌++◌, Option, Some}
+use Rattle.std.specs.List.{flat_map}
+use Rattle.osi_tpkt.specs.Packet.{packet_of}
+use Rattle.osi_tpdu.specs.Value.{Value}
+use Rattle.osi_tpdu.specs.Writing.{written}
+use Rattle.osi_class.specs.Link.{Standing}
+use Rattle.osi_class.specs.declared.terms.Class.{Class}
+use Rattle.osi_class.specs.declared.terms.Local.{Local}
+use Rattle.osi_carrier.specs.Happenings.{Happening}
+use Rattle.osi_carrier.specs.Rows.{Rows, put, without}
+use Rattle.osi_carrier.specs.declared.ends.CarrierFault.{CarrierFault}
+use Rattle.osi_carrier.specs.declared.ends.EndReason.{EndReason}
+use Rattle.osi_carrier.specs.declared.ends.EndReason.TheVariants.{Fault}
+
+-- A live connection: asked for and not answered; linked, with the peer's reference and the link; or
+-- closing, with the peer's reference, from the DR that this end sent until a DC or a DR comes.
+pub data Connection : Type 0 where
+  asked : Connection
+  linked : ℕ → Standing → Connection
+  closing : ℕ → Connection
+
+-- `class`: the one that was selected on this byte connection; `given`: how many references were
+-- given, which are the numbers from 1 up to it; `live`: the live connections by the references that
+-- this end gave; `outgoing`: octets to be carried to the peer; `events`: what the user is still to
+-- be told, the oldest first; `ended`: why the carrier ended
+pub record State : Type 0 where
+  pub is_caller : Bool
+  pub local : Local
+  pub class : Option Class
+  pub given : ℕ
+  pub live : Rows Connection
+  pub outgoing : List ℕ
+  pub events : List Happening
+  pub ended : Option EndReason
+
+-- units as they are written: each in a packet of its own
+abbrev pub packets : List Value → List ℕ
+packets units = flat_map (λ unit. packet_of (written unit)) units
+
+abbrev pub writes : List Value → State → State
+writes units s = record s { outgoing = s.outgoing ++ packets units }
+
+abbrev pub tells : Happening → State → State
+tells event s = record s { events = s.events ++ event ∷ [] }
+
+-- a new connection
+abbrev pub joins : ℕ → Connection → State → State
+joins r connection s = record s { live = s.live ++ (r, connection) ∷ [] }
+
+abbrev pub moves : ℕ → Connection → State → State
+moves r connection s = record s { live = put r connection s.live }
+
+abbrev pub drops : ℕ → State → State
+drops r s = record s { live = without r s.live }
+
+-- a carrier that has ended has no live connection
+abbrev pub ends : EndReason → State → State
+ends reason s = record s { live = []; ended = Some reason }
+
+abbrev pub fails : CarrierFault → State → State
+fails fault s = ends (Fault fault) s

@@ -1,0 +1,27 @@
+-- What a unit does to the link that takes it.
+use Rattle.std.specs.Prelude.{◌≡◌, ℕ, List, [], take, Result, Ok, Err, IsOk, Option, option_map, option_to_list}
+use Rattle.osi_tpdu.specs.Value.{Value}
+use Rattle.osi_class.specs.Link.{Standing}
+use Rattle.osi_class.specs.declared.faults.LinkFault.{LinkFault}
+use Rattle.osi_carrier.specs.Pump.{pumped, written_by}
+use Rattle.osi_carrier.specs.React.{handed_out}
+use Rattle.osi_carrier.specs.declared.links.Step.{Step}
+use Rattle.osi_carrier.specs.declared.links.Step.TheVariants.{Took, Broke}
+
+-- the link, as it was where the unit was refused
+abbrev pub link_after : Standing → Result Standing LinkFault → Standing
+link_after old (Ok link) = pumped (handed_out link)
+link_after old (Err fault) = old
+
+abbrev pub units_after : ℕ → Result Standing LinkFault → List Value
+units_after peer (Ok link) = written_by peer (handed_out link)
+units_after peer (Err fault) = []
+
+abbrev pub whole_after : Result Standing LinkFault → List (List ℕ)
+whole_after (Ok link) = take 1 link.ends.joining.whole
+whole_after (Err fault) = []
+
+-- what is answered of it
+abbrev pub StepsTo : Step → Result Standing LinkFault → Type 0
+StepsTo (Took whole) taken = IsOk taken × (option_to_list (option_map (λ v. v.items) whole) ≡ whole_after taken)
+StepsTo (Broke fault) taken = taken ≡ Err fault

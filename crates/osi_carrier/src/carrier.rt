@@ -1,0 +1,191 @@
+use crate::ends::EndReason;
+use crate::events::{Event, Ref};
+use crate::faults::{OpenError, SendError};
+use crate::switch::Switch;
+use osi_class::Local;
+use osi_tpdu::Tsap;
+use osi_tpkt::{Cutter, Fed};
+use std::alloc::Global;
+use std::marker::Model;
+
+mod feeding;
+
+/// The transport protocol of one end of a byte connection (X.224 classes 0 and 2 over RFC 1006):
+/// connections by reference, each with TSDUs each way.
+#[derive(Drop)]
+pub struct Carrier {
+    alloc: Global,
+    switch: Switch,
+    cutter: Cutter,
+}
+
+impl Model for Carrier {
+    ghost use Rattle.osi_carrier.specs.Packets.{Carrying};
+
+    ghost Value = { Carrying };
+
+    ghost use Rattle.osi_carrier.specs.Packets.{IsReading};
+
+    ghost view = { λ c. record { state = c.switch; held = c.cutter } };
+
+    ghost invariant = { λ c. IsReading c.cutter };
+}
+
+impl Carrier {
+    ghost use Rattle.std.specs.Prelude.{◌≡◌, ◌+◌, ◌*◌, ◌≤◌, true, false, None, length, drop, IfOk, IfErr, OnOk, OnErr, MatchResult, option_map, is_some};
+    ghost use Rattle.osi_tpkt.specs.Held.{fresh};
+    ghost use Rattle.osi_tpdu.specs.Limits.{tsap_octets};
+    ghost use Rattle.osi_carrier.specs.Calls.{fresh_state, may_connect, open_error, asks, open_link, close_error, send_error, call_error, closed_with, sent, ended_by, kept_in, Tells};
+    ghost use Rattle.osi_carrier.specs.Rows.{value_at};
+    ghost use Rattle.osi_carrier.specs.Happenings.{happening};
+    ghost use Rattle.osi_carrier.specs.Packets.{Feeds};
+    ghost use Rattle.osi_carrier.specs.declared.ends.EndReason.TheVariants.{Broken};
+
+    /// The calling end of a byte connection. Nothing is written yet.
+    pub fn caller(alloc: Global, local: Local) -> Self
+        ensures { result ≡ record { state = fresh_state true local; held = fresh } }
+    {
+        Carrier {
+            alloc,
+            switch: Switch::new(alloc, local, true),
+            cutter: Cutter::new(alloc),
+        }
+    }
+
+    /// The called end of a byte connection, which awaits a CR.
+    pub fn called(alloc: Global, local: Local) -> Self
+        ensures { result ≡ record { state = fresh_state false local; held = fresh } }
+    {
+        Carrier {
+            alloc,
+            switch: Switch::new(alloc, local, false),
+            cutter: Cutter::new(alloc),
+        }
+    }
+
+    /// Whether [`Carrier::connect`] would ask for a connection now, or the first reason why not. Takes
+    /// no memory.
+    pub fn may_connect(&self) -> Result<(), OpenError>
+        ensures { MatchResult result (λ _. may_connect self.now.state ≡ None) (λ e. may_connect self.now.state ≡ Some e) }
+    {
+        self.switch.may_connect()
+    }
+
+    /// Asks for a connection, with these transport selectors: the next reference is given, and a CR is
+    /// written. The errors are those of [`Carrier::may_connect`], and then want of memory; each changes
+    /// nothing.
+    pub fn connect(&mut self, calling: Option<Tsap>, called: Option<Tsap>) -> Result<Ref, OpenError>
+        ensures ok { OnOk result (self.new ≡ record self.old { state = asks (option_map tsap_octets calling) (option_map tsap_octets called) self.old.state }) }
+        ensures reference { IfOk result (λ r. r.0 ≡ self.old.state.given + 1) }
+        ensures allowed { OnOk result (may_connect self.old.state ≡ None) }
+        ensures refused { IfErr result (λ e. open_error e ≡ may_connect self.old.state) }
+        ensures err { OnErr result (self.new ≡ self.old) }
+    {
+        self.switch.connect(calling, called)
+    }
+
+    /// Sends a TSDU of at most 1,048,576 octets on an open connection: it is kept, and all units that
+    /// may be sent now are written. Each error changes nothing.
+    pub fn send(&mut self, reference: Ref, tsdu: &[u8]) -> Result<(), SendError>
+        ensures ok { OnOk result (self.new ≡ record self.old { state = sent reference.0 tsdu.now self.old.state }) }
+        ensures allowed { OnOk result (send_error tsdu.now (open_link reference.0 self.old.state) ≡ None) }
+        ensures refused { IfErr result (λ e. call_error e ≡ send_error tsdu.now (open_link reference.0 self.old.state)) }
+        ensures err { OnErr result (self.new ≡ self.old) }
+    {
+        self.switch.send(reference.0, tsdu)
+    }
+
+    /// Closes an open connection, with this reason: in class 2 a DR is written, and the connection is
+    /// closing until the peer answers; in class 0 the carrier ends with [`EndReason::Closed`], and
+    /// what is still to be carried stays.
+    pub fn close(&mut self, reference: Ref, reason: u8) -> Result<(), SendError>
+        ensures ok { OnOk result (self.new ≡ record self.old { state = closed_with reference.0 reason self.old.state }) }
+        ensures allowed { OnOk result (close_error (open_link reference.0 self.old.state) ≡ None) }
+        ensures refused { IfErr result (λ e. call_error e ≡ close_error (open_link reference.0 self.old.state)) }
+        ensures err { OnErr result (self.new ≡ self.old) }
+    {
+        self.switch.close(reference.0, reason)
+    }
+
+    /// Feeds a piece of the stream that comes from the peer. Its packets act one after the other, up
+    /// to one that tells the user something or ends the carrier. The rest of the piece is to be fed
+    /// again once the events were taken.
+    ///
+    /// While an event waits nothing is used. All of the piece is used after the end, and where the
+    /// carrier ends now by a fault or for want of memory.
+    pub fn feed(&mut self, piece: &[u8]) -> Fed
+        ensures { Feeds self.old piece.now result self.new }
+    {
+        if self.switch.has_ended() {
+            return Fed {
+                used: piece.len(),
+                whole: self.switch.has_event(),
+            };
+        }
+        if self.switch.has_event() {
+            return Fed {
+                used: 0,
+                whole: true,
+            };
+        }
+        let used = self.read(piece);
+        Fed {
+            used,
+            whole: self.switch.has_event(),
+        }
+    }
+
+    /// The oldest event that waits; none exactly where none waits. Takes no memory.
+    pub fn next_event(&mut self) -> Option<Event>
+        ensures told { Tells (option_map happening result) self.old.state self.new.state }
+        ensures held { self.new.held ≡ self.old.held }
+    {
+        self.switch.next_event()
+    }
+
+    /// The octets to be carried to the peer, the first of them first.
+    pub fn outgoing(&self) -> &[u8]
+        ensures { result.now ≡ self.now.state.outgoing }
+    {
+        self.switch.outgoing()
+    }
+
+    /// The first octets of [`Carrier::outgoing`] were carried: at most as many as there are.
+    pub fn taken(&mut self, octets: usize)
+        requires { octets ≤ length self.old.state.outgoing }
+        ensures { self.new ≡ record self.old { state = record self.old.state { outgoing = drop octets self.old.state.outgoing } } }
+    {
+        self.switch.taken(octets);
+    }
+
+    /// The byte connection broke. Nothing changes where the carrier has ended.
+    pub fn broken(&mut self)
+        ensures { self.new ≡ record self.old { state = ended_by Broken self.old.state } }
+    {
+        self.switch.end_by(EndReason::Broken);
+    }
+
+    /// Why the carrier ended; none before it has.
+    pub fn ended(&self) -> Option<EndReason>
+        ensures { result ≡ self.now.state.ended }
+    {
+        self.switch.ended()
+    }
+
+    /// How many octets are held of what came: those of the packet under way and of the unfinished
+    /// TSDUs of open connections. At most 65,535, and 1,048,576 for each live connection.
+    pub fn kept(&self) -> usize
+        ensures value { result ≡ length self.now.held.octets + kept_in self.now.state.live }
+        ensures at_most { result ≤ 65535 + 1048576 * length self.now.state.live }
+    {
+        self.cutter.rest_len() + self.switch.kept()
+    }
+
+    /// Whether a live connection has this reference: one that is asked for, open or closing. Takes no
+    /// memory.
+    pub fn is_live(&self, reference: Ref) -> bool
+        ensures { result ≡ is_some (value_at reference.0 self.now.state.live) }
+    {
+        self.switch.is_live(reference.0)
+    }
+}

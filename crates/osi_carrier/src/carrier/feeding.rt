@@ -1,0 +1,70 @@
+//! The octets of the stream, cut into packets that act one after the other (RFC 1006 section 6).
+
+ghost use Rattle.std.specs.Prelude.{◌≡◌, ◌≤◌, false, length};
+ghost use Rattle.osi_carrier.specs.Fetching.{Fetches};
+ghost use Rattle.osi_carrier.specs.Packets.{Goes, stops};
+
+use super::Carrier;
+use osi_tpkt::Cutter;
+use osi_tpkt::laws::a_prefix_of_a_packet;
+
+/// What became of the octets that were looked at.
+#[derive(Clone, Copy, PartialEq, Eq, Debug)]
+pub enum Fetched {
+    /// So many octets made a packet whole, which acted.
+    Packet(usize),
+    /// All of them belong to a packet whose end has not come.
+    Part,
+    /// They are no packet, or there was no memory to hold them, and the carrier ended.
+    Over,
+}
+
+impl Carrier {
+    /// Takes octets up to the end of the first packet that they make whole, and that packet acts.
+    /// Where the carrier ends by them, what was held of the stream is dropped.
+    fn fetch(&mut self, octets: &[u8]) -> Fetched
+        requires { stops self.old.state ≡ false }
+        ensures { Fetches self.old octets.now result self.new }
+    {
+        a_prefix_of_a_packet();
+        let fed = match self.cutter.feed(octets) {
+            Ok(fed) => fed,
+            Err(fault) => {
+                self.cutter = Cutter::new(self.alloc);
+                self.switch.end_for(fault);
+                return Fetched::Over;
+            }
+        };
+        let Some(packet) = self.cutter.packet() else {
+            return Fetched::Part;
+        };
+        self.switch.take_packet(packet);
+        self.cutter.advance();
+        Fetched::Packet(fed.used)
+    }
+
+    /// Cuts the piece into packets, up to one that told the user something or ended the carrier, and
+    /// says how many octets were used.
+    pub fn read(&mut self, piece: &[u8]) -> usize
+        requires { stops self.old.state ≡ false }
+        ensures goes { Goes self.old piece.now result self.new }
+        ensures used { result ≤ length piece.now }
+    {
+        let _cutter = &self.cutter;
+        let mut rest = piece;
+        'packets: loop {
+            let used = match self.fetch(rest) {
+                Fetched::Over | Fetched::Part => return piece.len(),
+                Fetched::Packet(used) => used,
+            };
+            let (_, behind) = rest.split_at(used);
+            rest = behind;
+            if self.switch.is_spoilt() {
+                return piece.len();
+            }
+            if self.switch.stops() {
+                return piece.len() - rest.len();
+            }
+        }
+    }
+}

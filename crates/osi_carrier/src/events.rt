@@ -1,0 +1,20 @@
+use osi_class::LinkFault;
+
+/// The reference that this end gave a connection: 1 to 65,535, and none twice.
+#[derive(Clone, Copy, PartialEq, Eq, Debug)]
+pub struct Ref(pub u16);
+
+/// What a carrier tells its user.
+#[derive(Drop)]
+pub enum Event {
+    /// The connection is open: a CC came for it, or it was accepted.
+    Opened(Ref),
+    /// The peer refused the connection, with this reason (X.224 section 13.5.3).
+    Refused(Ref, u8),
+    /// A TSDU of this connection came whole.
+    Tsdu(Ref, Vec<u8>),
+    /// The peer closed the connection, with this reason.
+    Closed(Ref, u8),
+    /// The peer broke a rule of this connection alone, and a DR was sent.
+    Faulted(Ref, LinkFault),
+}

@@ -1,0 +1,20 @@
+//! The transport protocol (X.224, classes 0 and 2) of one end of a byte connection, as a value: many
+//! connections by reference, each with TSDUs each way. It is told of each call of its user and of
+//! the octets that come, and tells what happened and which octets are to be carried to the peer.
+#![tactic(auto)]
+
+mod carrier;
+mod ends;
+mod events;
+mod faults;
+mod links;
+mod negotiation;
+mod rows;
+mod stages;
+mod switch;
+mod writing;
+
+pub use carrier::Carrier;
+pub use ends::{CarrierFault, EndReason};
+pub use events::{Event, Ref};
+pub use faults::{OpenError, SendError};

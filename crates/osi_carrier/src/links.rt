@@ -1,0 +1,108 @@
+//! The links of open connections: units that come for them, and units that they give.
+
+ghost use Rattle.std.specs.Prelude.{◌≡◌, ◌≤◌, ◌++◌, None, take, length, IsOk, IfOk, OnOk, OnErr};
+ghost use Rattle.osi_tpdu.specs.View.{value};
+ghost use Rattle.osi_class.specs.AnyLink.{any_standing};
+ghost use Rattle.osi_class.specs.Link.{taken, next, with_tsdu};
+ghost use Rattle.osi_carrier.specs.Pump.{pumped, written_by};
+ghost use Rattle.osi_carrier.specs.React.{handed_out};
+ghost use Rattle.osi_carrier.specs.State.{packets};
+ghost use Rattle.osi_carrier.specs.Steps.{StepsTo, link_after, units_after};
+
+use crate::writing::put_given;
+use bytes::BytesMut;
+use osi_class::laws::{all_is_given, giving_ends};
+use osi_class::{AnyLink, Link, LinkFault};
+use osi_tpdu::Tpdu;
+use std::alloc::AllocError;
+
+/// The most octets of a packet's header and the header of a DT or AK in it: 4 and 5.
+const MOST_HEADERS: usize = 9;
+
+/// What became of a unit that came for an open connection.
+#[derive(Drop)]
+pub enum Step {
+    /// The link took it, and perhaps a TSDU became whole.
+    Took(Option<Vec<u8>>),
+    /// The link refused it.
+    Broke(LinkFault),
+}
+
+/// Writes all units that a link gives now, to this reference of the peer. Want of memory leaves the
+/// octets of `out` as they were.
+pub fn pump(link: &mut AnyLink, peer: u16, out: &mut BytesMut) -> Result<(), AllocError>
+    ensures link { OnOk result (any_standing link.new ≡ pumped (any_standing link.old)) }
+    ensures ok { OnOk result (out.new.items ≡ out.old.items ++ packets (written_by peer (any_standing link.old))) }
+    ensures pumped { OnOk result (next (any_standing link.new) ≡ None) }
+    ensures err { OnErr result (out.new.items ≡ out.old.items) }
+{
+    let before = out.len();
+    let Ok(()) = write_all(link, peer, out) else {
+        out.truncate(before);
+        return Err(AllocError);
+    };
+    Ok(())
+}
+
+/// The same, where want of memory may leave units behind what `out` held.
+fn write_all(link: &mut AnyLink, peer: u16, out: &mut BytesMut) -> Result<(), AllocError>
+    ensures link { OnOk result (any_standing link.new ≡ pumped (any_standing link.old)) }
+    ensures ok { OnOk result (out.new.items ≡ out.old.items ++ packets (written_by peer (any_standing link.old))) }
+    ensures pumped { OnOk result (next (any_standing link.new) ≡ None) }
+    ensures front { OnErr result (take (length out.old.items) out.new.items ≡ out.old.items) }
+    ensures enough { length (packets (written_by peer (any_standing link.old))) ≤ out.old.spare → IsOk result }
+{
+    giving_ends();
+    all_is_given();
+    'units: while let Some(unit) = link.next_out() {
+        put_given(out, peer, &unit)?;
+    }
+    Ok(())
+}
+
+/// Hands a unit to the link, and what the link gives then to `out`. Want of memory leaves the octets
+/// of `out` as they were.
+pub fn take_unit(
+    link: &mut AnyLink,
+    peer: u16,
+    unit: &Tpdu<'_>,
+    out: &mut BytesMut,
+) -> Result<Step, AllocError>
+    ensures step { IfOk result (λ s. StepsTo s (taken (any_standing link.old) (value unit.now))) }
+    ensures link { OnOk result (any_standing link.new ≡ link_after (any_standing link.old) (taken (any_standing link.old) (value unit.now))) }
+    ensures ok { OnOk result (out.new.items ≡ out.old.items ++ packets (units_after peer (taken (any_standing link.old) (value unit.now)))) }
+    ensures pumped { next (any_standing link.old) ≡ None → OnOk result (next (any_standing link.new) ≡ None) }
+    ensures err { OnErr result (out.new.items ≡ out.old.items) }
+{
+    match link.take(unit) {
+        Ok(()) => {}
+        Err(LinkFault::OutOfMemory) => return Err(AllocError),
+        Err(fault) => return Ok(Step::Broke(fault)),
+    }
+    let whole = link.next_tsdu();
+    pump(link, peer, out)?;
+    Ok(Step::Took(whole))
+}
+
+/// Hands in a TSDU at a link that gives nothing now, and writes all units that it gives then. Want of
+/// memory changes nothing: the room for the units is made first.
+pub fn send_on(
+    link: &mut AnyLink,
+    peer: u16,
+    tsdu: &[u8],
+    out: &mut BytesMut,
+) -> Result<(), AllocError>
+    requires { next (any_standing link.old) ≡ None }
+    ensures link { OnOk result (any_standing link.new ≡ pumped (with_tsdu (any_standing link.old) tsdu.now)) }
+    ensures ok { OnOk result (out.new.items ≡ out.old.items ++ packets (written_by peer (with_tsdu (any_standing link.old) tsdu.now))) }
+    ensures pumped { OnOk result (next (any_standing link.new) ≡ None) }
+    ensures err { OnErr result ((any_standing link.new ≡ any_standing link.old) × (out.new.items ≡ out.old.items)) }
+{
+    let room = link.room_for(tsdu);
+    out.reserve(room.octets + MOST_HEADERS * room.units)?;
+    link.send_tsdu(tsdu)?;
+    let Ok(()) = write_all(link, peer, out) else {
+        unreachable!()
+    };
+    Ok(())
+}

@@ -1,0 +1,330 @@
+ghost use Rattle.std.specs.Prelude.{◌≡◌, ◌*◌, ◌<◌, ◌≤◌, ◌∷◌, ◌++◌, ◌==◌, [], Some, length, is_some, IfOk, OnOk, OnErr};
+ghost use Rattle.osi_carrier.specs.Calls.{begun_by, kept_in};
+ghost use Rattle.osi_carrier.specs.Live.{connection, IsPumped};
+ghost use Rattle.osi_carrier.specs.Pump.{pumped, written_by};
+ghost use Rattle.osi_carrier.specs.React.{has_peer, is_of_peer};
+ghost use Rattle.osi_carrier.specs.Rows.{value_at, first_of, place_of, put, without};
+ghost use Rattle.osi_carrier.specs.Stages.{stage_of, link_in};
+ghost use Rattle.osi_carrier.specs.State.{linked, packets};
+ghost use Rattle.osi_carrier.specs.Steps.{StepsTo, link_after, units_after};
+ghost use Rattle.osi_class.specs.Link.{taken, with_tsdu};
+ghost use Rattle.osi_tpdu.specs.View.{value};
+
+use crate::links::{Step, send_on, take_unit};
+use crate::stages::Stage;
+use bytes::BytesMut;
+use osi_class::{AnyLink, Link};
+use osi_tpdu::Tpdu;
+use std::alloc::{AllocError, Global};
+use std::marker::Model;
+
+/// How many connections may be live at once.
+pub const MOST_LIVE: usize = 64;
+
+/// How far a live connection is, with its link where it is open.
+#[derive(Drop)]
+pub enum Phase {
+    /// A CR was sent, and no answer came.
+    Asked,
+    /// Open, with the peer's reference.
+    Linked(u16, AnyLink),
+    /// A DR was sent to the peer's reference, and is to be answered.
+    Closing(u16),
+}
+
+/// A live connection and the reference that this end gave it.
+#[derive(Drop)]
+pub struct Row {
+    reference: u16,
+    phase: Phase,
+}
+
+impl Model for Row {
+    ghost use Rattle.std.specs.Prelude.{ℕ};
+    ghost use Rattle.osi_carrier.specs.State.{Connection};
+
+    ghost Value = { ℕ × Connection };
+
+    ghost use Rattle.osi_carrier.specs.Live.{connection, IsPumped};
+
+    ghost view = { λ r. (r.reference, connection r.phase) };
+
+    ghost invariant = { λ r. IsPumped (connection r.phase) };
+}
+
+impl Row {
+    /// The reference that this end gave.
+    fn reference(&self) -> u16
+        ensures { result ≡ self.now.0 }
+    {
+        self.reference
+    }
+
+    /// Whether the row is of this reference.
+    fn has(&self, reference: u16) -> bool
+        ensures { result ≡ (self.now.0 == reference) }
+    {
+        self.reference == reference
+    }
+
+    /// How far its connection is.
+    fn stage(&self) -> Stage
+        ensures { result ≡ stage_of (Some self.now.1) }
+    {
+        match self.phase {
+            Phase::Asked => Stage::Asking,
+            Phase::Linked(peer, _) => Stage::Open(peer),
+            Phase::Closing(_) => Stage::Leaving,
+        }
+    }
+
+    /// The octets of its unfinished TSDU, at most 1,048,576.
+    fn kept(&self) -> usize
+        ensures value { result ≡ begun_by self.now.1 }
+        ensures at_most { result ≤ 1048576 }
+    {
+        match &self.phase {
+            Phase::Asked | Phase::Closing(_) => 0,
+            Phase::Linked(_, link) => link.begun_octets(),
+        }
+    }
+
+    /// Whether the connection is known by this reference of the peer.
+    fn is_of_peer(&self, peer: u16) -> bool
+        ensures { result ≡ is_of_peer peer self.now.1 }
+    {
+        match self.phase {
+            Phase::Asked => false,
+            Phase::Linked(reference, _) | Phase::Closing(reference) => reference == peer,
+        }
+    }
+
+    /// Hands a unit to the link of the connection, which is open with this reference of the peer.
+    fn step(&mut self, peer: u16, unit: &Tpdu<'_>, out: &mut BytesMut) -> Result<Step, AllocError>
+        requires { stage_of (Some self.old.1) ≡ Stage.Open peer }
+        ensures step { IfOk result (λ s. StepsTo s (taken (link_in (Some self.old.1)) (value unit.now))) }
+        ensures row { OnOk result (self.new ≡ (self.old.0, linked peer (link_after (link_in (Some self.old.1)) (taken (link_in (Some self.old.1)) (value unit.now))))) }
+        ensures ok { OnOk result (out.new.items ≡ out.old.items ++ packets (units_after peer (taken (link_in (Some self.old.1)) (value unit.now)))) }
+        ensures err { OnErr result (out.new.items ≡ out.old.items) }
+    {
+        let result = match &mut self.phase {
+            Phase::Asked | Phase::Closing(_) => unreachable!(),
+            Phase::Linked(_, link) => take_unit(link, peer, unit, out),
+        };
+        let Ok(step) = result else {
+            self.phase = Phase::Closing(peer);
+            return Err(AllocError);
+        };
+        Ok(step)
+    }
+
+    /// Hands in a TSDU at the link of the connection, which is open with this reference of the peer,
+    /// and writes what the link gives then. Want of memory changes nothing.
+    fn send(&mut self, peer: u16, tsdu: &[u8], out: &mut BytesMut) -> Result<(), AllocError>
+        requires { stage_of (Some self.old.1) ≡ Stage.Open peer }
+        ensures row { OnOk result (self.new ≡ (self.old.0, linked peer (pumped (with_tsdu (link_in (Some self.old.1)) tsdu.now)))) }
+        ensures ok { OnOk result (out.new.items ≡ out.old.items ++ packets (written_by peer (with_tsdu (link_in (Some self.old.1)) tsdu.now))) }
+        ensures err { OnErr result ((self.new ≡ self.old) × (out.new.items ≡ out.old.items)) }
+    {
+        match &mut self.phase {
+            Phase::Asked | Phase::Closing(_) => unreachable!(),
+            Phase::Linked(_, link) => send_on(link, peer, tsdu, out),
+        }
+    }
+
+    /// Brings the connection into another phase.
+    fn set(&mut self, phase: Phase)
+        requires { IsPumped (connection phase) }
+        ensures { self.new ≡ (self.old.0, connection phase) }
+    {
+        self.phase = phase;
+    }
+}
+
+/// The live connections, at most 64, in the order in which their references were given.
+#[derive(Drop)]
+pub struct Connections {
+    rows: Vec<Row>,
+}
+
+impl Model for Connections {
+    ghost use Rattle.std.specs.Prelude.{◌≤◌, length};
+    ghost use Rattle.osi_carrier.specs.Rows.{Rows};
+    ghost use Rattle.osi_carrier.specs.State.{Connection};
+
+    ghost Value = { Rows Connection };
+
+    ghost view = { λ c. c.rows.items };
+
+    ghost invariant = { λ c. length c.rows.items ≤ 64 };
+}
+
+/// The place of a reference among rows.
+fn place_in(rows: &[Row], reference: u16) -> Option<usize>
+    ensures { result ≡ place_of reference rows.now }
+{
+    rows.iter().position(|row| row.has(reference))
+}
+
+/// Whether one of the rows has this reference of the peer.
+fn any_of_peer(rows: &[Row], peer: u16) -> bool
+    ensures { result ≡ has_peer peer rows.now }
+{
+    rows.iter().any(|row| row.is_of_peer(peer))
+}
+
+/// The octets of the unfinished TSDUs of these connections.
+fn kept_of(rows: &[Row]) -> usize
+    requires { length rows.now ≤ 64 }
+    ensures value { result ≡ kept_in rows.now }
+    ensures at_most { result ≤ 1048576 * length rows.now }
+{
+    let mut octets = 0;
+    for row in rows {
+        octets += row.kept();
+    }
+    octets
+}
+
+impl Connections {
+    /// None is live.
+    pub fn new(alloc: Global) -> Self
+        ensures { result ≡ [] }
+    {
+        Connections {
+            rows: Vec::new(alloc),
+        }
+    }
+
+    /// How many are live, at most 64.
+    pub fn len(&self) -> usize
+        ensures value { result ≡ length self.now }
+        ensures at_most { result ≤ 64 }
+    {
+        self.rows.len()
+    }
+
+    /// The place of a reference.
+    pub fn find(&self, reference: u16) -> Option<usize>
+        ensures { result ≡ place_of reference self.now }
+    {
+        place_in(self.rows.as_slice(), reference)
+    }
+
+    /// The reference that was given first of those that are live.
+    pub fn first(&self) -> Option<u16>
+        ensures { result ≡ first_of self.now }
+    {
+        match self.rows.as_slice() {
+            [] => None,
+            [row, ..] => Some(row.reference()),
+        }
+    }
+
+    /// Whether a live connection has this reference of the peer.
+    pub fn has_peer(&self, peer: u16) -> bool
+        ensures { result ≡ has_peer peer self.now }
+    {
+        any_of_peer(self.rows.as_slice(), peer)
+    }
+
+    /// Whether a live connection has this reference.
+    pub fn is_live(&self, reference: u16) -> bool
+        ensures { result ≡ is_some (value_at reference self.now) }
+    {
+        self.find(reference).is_some()
+    }
+
+    /// The octets of the unfinished TSDUs of open connections.
+    pub fn kept(&self) -> usize
+        ensures value { result ≡ kept_in self.now }
+        ensures at_most { result ≤ 1048576 * length self.now }
+        ensures bound { result ≤ 67108864 }
+    {
+        kept_of(self.rows.as_slice())
+    }
+
+    /// How far the connection at this place is.
+    pub fn stage(&self, place: usize, reference: u16) -> Stage
+        requires { place_of reference self.now ≡ Some place }
+        ensures { result ≡ stage_of (value_at reference self.now) }
+    {
+        self.rows[place].stage()
+    }
+
+    /// Puts a new connection behind the others. Want of memory changes nothing.
+    pub fn push(&mut self, reference: u16, phase: Phase) -> Result<(), AllocError>
+        requires room { length self.old < 64 }
+        requires pumped { IsPumped (connection phase) }
+        ensures ok { OnOk result (self.new ≡ self.old ++ (reference, connection phase) ∷ []) }
+        ensures err { OnErr result (self.new ≡ self.old) }
+    {
+        match self.rows.push(Row { reference, phase }) {
+            Ok(()) => Ok(()),
+            Err(_) => Err(AllocError),
+        }
+    }
+
+    /// Hands a unit to the link of the connection at this place, which is open with this reference
+    /// of the peer. Want of memory leaves the octets of `out` as they were.
+    pub fn step(
+        &mut self,
+        place: usize,
+        reference: u16,
+        peer: u16,
+        unit: &Tpdu<'_>,
+        out: &mut BytesMut,
+    ) -> Result<Step, AllocError>
+        requires place { place_of reference self.old ≡ Some place }
+        requires open { stage_of (value_at reference self.old) ≡ Stage.Open peer }
+        ensures step { IfOk result (λ s. StepsTo s (taken (link_in (value_at reference self.old)) (value unit.now))) }
+        ensures rows { OnOk result (self.new ≡ put reference (linked peer (link_after (link_in (value_at reference self.old)) (taken (link_in (value_at reference self.old)) (value unit.now)))) self.old) }
+        ensures ok { OnOk result (out.new.items ≡ out.old.items ++ packets (units_after peer (taken (link_in (value_at reference self.old)) (value unit.now)))) }
+        ensures err { OnErr result (out.new.items ≡ out.old.items) }
+    {
+        self.rows[place].step(peer, unit, out)
+    }
+
+    /// Hands in a TSDU at the link of the connection at this place, which is open with this reference
+    /// of the peer. Want of memory changes nothing.
+    pub fn send(
+        &mut self,
+        place: usize,
+        reference: u16,
+        peer: u16,
+        tsdu: &[u8],
+        out: &mut BytesMut,
+    ) -> Result<(), AllocError>
+        requires place { place_of reference self.old ≡ Some place }
+        requires open { stage_of (value_at reference self.old) ≡ Stage.Open peer }
+        ensures rows { OnOk result (self.new ≡ put reference (linked peer (pumped (with_tsdu (link_in (value_at reference self.old)) tsdu.now))) self.old) }
+        ensures ok { OnOk result (out.new.items ≡ out.old.items ++ packets (written_by peer (with_tsdu (link_in (value_at reference self.old)) tsdu.now))) }
+        ensures err { OnErr result ((self.new ≡ self.old) × (out.new.items ≡ out.old.items)) }
+    {
+        self.rows[place].send(peer, tsdu, out)
+    }
+
+    /// Brings the connection at this place into another phase.
+    pub fn set(&mut self, place: usize, reference: u16, phase: Phase)
+        requires place { place_of reference self.old ≡ Some place }
+        requires pumped { IsPumped (connection phase) }
+        ensures { self.new ≡ put reference (connection phase) self.old }
+    {
+        self.rows[place].set(phase);
+    }
+
+    /// Drops the connection at this place. The order of the others stays.
+    pub fn remove(&mut self, place: usize, reference: u16)
+        requires { place_of reference self.old ≡ Some place }
+        ensures { self.new ≡ without reference self.old }
+    {
+        let _dropped = self.rows.remove(place);
+    }
+
+    /// Drops all connections.
+    pub fn clear(&mut self)
+        ensures { self.new ≡ [] }
+    {
+        self.rows.clear();
+    }
+}

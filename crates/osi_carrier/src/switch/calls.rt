@@ -1,0 +1,198 @@
+//! Closing connections, the end, and what waits to be taken.
+
+ghost use Rattle.std.specs.Prelude.{◌≡◌, ◌≤◌, ◌*◌, drop, length, IfErr, None, Some, OnOk, OnErr, option_map, is_some};
+ghost use Rattle.osi_carrier.specs.Calls.{open_link, close_error, send_error, length_error, call_error, closed_with, closes, sent, ended_by, kept_in, Tells};
+ghost use Rattle.osi_carrier.specs.Happenings.{happening};
+ghost use Rattle.osi_carrier.specs.Packets.{stops, waits, is_spoilt};
+ghost use Rattle.osi_carrier.specs.React.{pumps};
+ghost use Rattle.osi_carrier.specs.Stages.{stage_of, link_in};
+ghost use Rattle.osi_class.specs.Link.{with_tsdu};
+ghost use Rattle.osi_carrier.specs.Rows.{place_of, value_at};
+
+use super::Switch;
+use crate::ends::EndReason;
+use crate::events::Event;
+use crate::faults::SendError;
+use crate::rows::Phase;
+use crate::stages::Stage;
+use crate::writing::put_disconnect;
+use osi_class::{Class, LONGEST_TSDU};
+
+impl Switch {
+    /// Whether an event waits.
+    pub fn has_event(&self) -> bool
+        ensures { result ≡ waits self.now }
+    {
+        !self.events.is_empty()
+    }
+
+    /// Whether the carrier has ended.
+    pub fn has_ended(&self) -> bool
+        ensures { result ≡ is_some self.now.ended }
+    {
+        self.ended.is_some()
+    }
+
+    /// Whether nothing more of a piece is read.
+    pub fn stops(&self) -> bool
+        ensures { result ≡ stops self.now }
+    {
+        self.has_ended() || self.has_event()
+    }
+
+    /// Whether the carrier ended by a fault of its peer or for want of memory.
+    pub fn is_spoilt(&self) -> bool
+        ensures { result ≡ is_spoilt self.now.ended }
+    {
+        match self.ended {
+            None
+            | Some(EndReason::Broken)
+            | Some(EndReason::Closed)
+            | Some(EndReason::PeerClosed(_)) => false,
+            Some(EndReason::Fault(_)) | Some(EndReason::NoMemory) => true,
+        }
+    }
+
+    /// Why the carrier ended.
+    pub fn ended(&self) -> Option<EndReason>
+        ensures { result ≡ self.now.ended }
+    {
+        self.ended
+    }
+
+    /// What the user is to be told next.
+    pub fn next_event(&mut self) -> Option<Event>
+        ensures { Tells (option_map happening result) self.old self.new }
+    {
+        self.events.pop_front()
+    }
+
+    /// The octets to be carried to the peer.
+    pub fn outgoing(&self) -> &[u8]
+        ensures { result.now ≡ self.now.outgoing }
+    {
+        self.outgoing.as_slice()
+    }
+
+    /// The first octets of [`Switch::outgoing`] were carried.
+    pub fn taken(&mut self, octets: usize)
+        requires { octets ≤ length self.old.outgoing }
+        ensures { self.new ≡ record self.old { outgoing = drop octets self.old.outgoing } }
+    {
+        self.outgoing.advance(octets);
+    }
+
+    /// The octets of the unfinished TSDUs of open connections.
+    pub fn kept(&self) -> usize
+        ensures value { result ≡ kept_in self.now.live }
+        ensures at_most { result ≤ 1048576 * length self.now.live }
+        ensures bound { result ≤ 67108864 }
+    {
+        self.live.kept()
+    }
+
+    /// Whether a live connection has this reference.
+    pub fn is_live(&self, reference: u16) -> bool
+        ensures { result ≡ is_some (value_at reference self.now.live) }
+    {
+        self.live.is_live(reference)
+    }
+
+    /// The carrier ends, unless it has ended.
+    pub fn end_by(&mut self, reason: EndReason)
+        ensures { self.new ≡ ended_by reason self.old }
+    {
+        if self.ended.is_some() {
+            return;
+        }
+        self.end(reason);
+    }
+
+    /// Closes an open connection: in class 2 a DR asks for it, in class 0 the carrier ends.
+    pub fn close(&mut self, reference: u16, reason: u8) -> Result<(), SendError>
+        ensures ok { OnOk result (self.new ≡ closed_with reference reason self.old) }
+        ensures allowed { OnOk result (close_error (open_link reference self.old) ≡ None) }
+        ensures refused { IfErr result (λ e. call_error e ≡ close_error (open_link reference self.old)) }
+        ensures err { OnErr result (self.new ≡ self.old) }
+    {
+        if self.ended.is_some() {
+            return Err(SendError::NotOpen);
+        }
+        let Some(place) = self.live.find(reference) else {
+            return Err(SendError::NotOpen);
+        };
+        match self.live.stage(place, reference) {
+            Stage::Unknown | Stage::Asking | Stage::Leaving => Err(SendError::NotOpen),
+            Stage::Open(peer) => self.close_open(place, reference, peer, reason),
+        }
+    }
+
+    fn close_open(
+        &mut self,
+        place: usize,
+        reference: u16,
+        peer: u16,
+        reason: u8,
+    ) -> Result<(), SendError>
+        requires place { place_of reference self.old.live ≡ Some place }
+        ensures ok { OnOk result (self.new ≡ closes reference peer reason self.old.class self.old) }
+        ensures refused { IfErr result (λ e. call_error e ≡ None) }
+        ensures err { OnErr result (self.new ≡ self.old) }
+    {
+        match self.class {
+            Some(Class::Zero) => self.end(EndReason::Closed),
+            None | Some(Class::Two) => {
+                if put_disconnect(&mut self.outgoing, peer, reference, reason).is_err() {
+                    return Err(SendError::OutOfMemory);
+                }
+                self.live.set(place, reference, Phase::Closing(peer));
+            }
+        }
+        Ok(())
+    }
+
+    /// Sends a TSDU on an open connection: all units that may be sent now are written.
+    pub fn send(&mut self, reference: u16, tsdu: &[u8]) -> Result<(), SendError>
+        ensures ok { OnOk result (self.new ≡ sent reference tsdu.now self.old) }
+        ensures allowed { OnOk result (send_error tsdu.now (open_link reference self.old) ≡ None) }
+        ensures refused { IfErr result (λ e. call_error e ≡ send_error tsdu.now (open_link reference self.old)) }
+        ensures err { OnErr result (self.new ≡ self.old) }
+    {
+        if self.ended.is_some() {
+            return Err(SendError::NotOpen);
+        }
+        let Some(place) = self.live.find(reference) else {
+            return Err(SendError::NotOpen);
+        };
+        match self.live.stage(place, reference) {
+            Stage::Unknown | Stage::Asking | Stage::Leaving => Err(SendError::NotOpen),
+            Stage::Open(peer) => self.send_open(place, reference, peer, tsdu),
+        }
+    }
+
+    fn send_open(
+        &mut self,
+        place: usize,
+        reference: u16,
+        peer: u16,
+        tsdu: &[u8],
+    ) -> Result<(), SendError>
+        requires place { place_of reference self.old.live ≡ Some place }
+        requires open { stage_of (value_at reference self.old.live) ≡ Stage.Open peer }
+        ensures ok { OnOk result (self.new ≡ pumps reference peer (with_tsdu (link_in (value_at reference self.old.live)) tsdu.now) self.old) }
+        ensures allowed { OnOk result (length_error tsdu.now ≡ None) }
+        ensures refused { IfErr result (λ e. call_error e ≡ length_error tsdu.now) }
+        ensures err { OnErr result (self.new ≡ self.old) }
+    {
+        if tsdu.len() > LONGEST_TSDU {
+            return Err(SendError::TooLong);
+        }
+        let Ok(()) = self
+            .live
+            .send(place, reference, peer, tsdu, &mut self.outgoing)
+        else {
+            return Err(SendError::OutOfMemory);
+        };
+        Ok(())
+    }
+}

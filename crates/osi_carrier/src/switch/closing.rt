@@ -1,0 +1,74 @@
+//! Units for a reference that is not live, and for connections that await an answer or are closing
+//! (X.224 sections 6.6 to 6.8).
+
+ghost use Rattle.std.specs.Prelude.{◌≡◌, Some, OnOk, OnErr};
+ghost use Rattle.osi_tpdu.specs.View.{value};
+ghost use Rattle.osi_carrier.specs.Happenings.{happening, refused};
+ghost use Rattle.osi_carrier.specs.React.{to_unknown, to_closing};
+ghost use Rattle.osi_carrier.specs.Rows.{place_of};
+ghost use Rattle.osi_carrier.specs.State.{ends, drops, tells};
+ghost use Rattle.osi_carrier.specs.declared.ends.EndReason.TheVariants.{NoMemory};
+
+use super::Switch;
+use crate::ends::CarrierFault;
+use crate::events::{Event, Ref};
+use crate::writing::put_disconnected;
+use osi_tpdu::Tpdu;
+use std::alloc::AllocError;
+
+impl Switch {
+    /// A unit for a reference that is not live: a DR is answered, a DC is ignored, and all else ends
+    /// the carrier.
+    pub fn to_unknown(&mut self, unit: &Tpdu<'_>) -> Result<(), AllocError>
+        ensures ok { OnOk result (self.new ≡ to_unknown (value unit.now) self.old) }
+        ensures err { OnErr result (ends NoMemory self.new ≡ ends NoMemory self.old) }
+    {
+        match unit {
+            Tpdu::Dr(request) => {
+                put_disconnected(&mut self.outgoing, request.source, request.destination)?;
+            }
+            Tpdu::Dc(_) => {}
+            Tpdu::Cr(_) | Tpdu::Cc(_) | Tpdu::Dt0(_) | Tpdu::Dt2(_) | Tpdu::Ak(_) | Tpdu::Er(_) =>
+                self.fail(CarrierFault::UnknownReference),
+        }
+        Ok(())
+    }
+
+    /// A unit for a connection that is closing: a DC or a DR ends it, and all else is ignored.
+    pub fn to_closing(&mut self, place: usize, reference: u16, unit: &Tpdu<'_>)
+        requires { place_of reference self.old.live ≡ Some place }
+        ensures { self.new ≡ to_closing reference (value unit.now) self.old }
+    {
+        match unit {
+            Tpdu::Dc(_) | Tpdu::Dr(_) => self.live.remove(place, reference),
+            Tpdu::Cr(_) | Tpdu::Cc(_) | Tpdu::Dt0(_) | Tpdu::Dt2(_) | Tpdu::Ak(_) | Tpdu::Er(_) =>
+                {}
+        }
+    }
+
+    /// A connection that ends, of which the user is told.
+    pub fn drop_telling(
+        &mut self,
+        place: usize,
+        reference: u16,
+        event: Event,
+    ) -> Result<(), AllocError>
+        requires { place_of reference self.old.live ≡ Some place }
+        ensures ok { OnOk result (self.new ≡ tells (happening event) (drops reference self.old)) }
+        ensures err { OnErr result (ends NoMemory self.new ≡ ends NoMemory self.old) }
+    {
+        self.events.reserve(1)?;
+        self.events.push_back_reserved(event);
+        self.live.remove(place, reference);
+        Ok(())
+    }
+
+    /// The peer refused a connection that was asked for.
+    pub fn refuse(&mut self, place: usize, reference: u16, reason: u8) -> Result<(), AllocError>
+        requires { place_of reference self.old.live ≡ Some place }
+        ensures ok { OnOk result (self.new ≡ tells (refused reference reason) (drops reference self.old)) }
+        ensures err { OnErr result (ends NoMemory self.new ≡ ends NoMemory self.old) }
+    {
+        self.drop_telling(place, reference, Event::Refused(Ref(reference), reason))
+    }
+}

@@ -1,0 +1,133 @@
+//! Units for open connections (X.224 sections 6.7 and 6.22).
+
+ghost use Rattle.std.specs.Prelude.{◌≡◌, Some, OnOk, OnErr};
+ghost use Rattle.osi_tpdu.specs.View.{value};
+ghost use Rattle.osi_class.specs.Link.{taken};
+ghost use Rattle.osi_carrier.specs.React.{breaks, leaves, taking, to_linked};
+ghost use Rattle.osi_carrier.specs.Rows.{place_of, value_at};
+ghost use Rattle.osi_carrier.specs.Stages.{stage_of, link_in};
+ghost use Rattle.osi_carrier.specs.State.{ends};
+ghost use Rattle.osi_carrier.specs.declared.ends.EndReason.TheVariants.{NoMemory};
+
+use super::Switch;
+use crate::ends::{CarrierFault, EndReason};
+use crate::events::{Event, Ref};
+use crate::links::Step;
+use crate::rows::Phase;
+use crate::stages::Stage;
+use crate::writing::{put_disconnect, put_disconnected};
+use osi_class::{Class, LinkFault};
+use osi_tpdu::Tpdu;
+use std::alloc::AllocError;
+
+/// The reason of a DR after a protocol error, 128 + 5 (X.224 section 13.5.3).
+const PROTOCOL_ERROR: u8 = 133;
+
+impl Switch {
+    /// A unit for an open connection: a DR closes it, and all else is for its link.
+    pub fn to_linked(
+        &mut self,
+        place: usize,
+        reference: u16,
+        peer: u16,
+        unit: &Tpdu<'_>,
+    ) -> Result<(), AllocError>
+        requires place { place_of reference self.old.live ≡ Some place }
+        requires open { stage_of (value_at reference self.old.live) ≡ Stage.Open peer }
+        ensures ok { OnOk result (self.new ≡ to_linked reference peer (link_in (value_at reference self.old.live)) (value unit.now) self.old) }
+        ensures err { OnErr result (ends NoMemory self.new ≡ ends NoMemory self.old) }
+    {
+        match unit {
+            Tpdu::Dr(request) => self.leave(place, reference, peer, request.reason),
+            Tpdu::Cr(_)
+            | Tpdu::Cc(_)
+            | Tpdu::Dc(_)
+            | Tpdu::Dt0(_)
+            | Tpdu::Dt2(_)
+            | Tpdu::Ak(_)
+            | Tpdu::Er(_) => self.take(place, reference, peer, unit),
+        }
+    }
+
+    /// The link takes the unit or refuses it.
+    fn take(
+        &mut self,
+        place: usize,
+        reference: u16,
+        peer: u16,
+        unit: &Tpdu<'_>,
+    ) -> Result<(), AllocError>
+        requires place { place_of reference self.old.live ≡ Some place }
+        requires open { stage_of (value_at reference self.old.live) ≡ Stage.Open peer }
+        ensures ok { OnOk result (self.new ≡ taking reference peer (taken (link_in (value_at reference self.old.live)) (value unit.now)) self.old) }
+        ensures err { OnErr result (ends NoMemory self.new ≡ ends NoMemory self.old) }
+    {
+        self.events.reserve(1)?;
+        match self
+            .live
+            .step(place, reference, peer, unit, &mut self.outgoing)?
+        {
+            Step::Took(None) => Ok(()),
+            Step::Took(Some(whole)) => {
+                self.events
+                    .push_back_reserved(Event::Tsdu(Ref(reference), whole));
+                Ok(())
+            }
+            Step::Broke(fault) => self.break_off(place, reference, peer, fault),
+        }
+    }
+
+    /// The peer broke a rule of the link: in class 2 that ends the connection, in class 0 the carrier.
+    fn break_off(
+        &mut self,
+        place: usize,
+        reference: u16,
+        peer: u16,
+        fault: LinkFault,
+    ) -> Result<(), AllocError>
+        requires { place_of reference self.old.live ≡ Some place }
+        ensures ok { OnOk result (self.new ≡ breaks reference peer fault self.old.class self.old) }
+        ensures err { OnErr result (ends NoMemory self.new ≡ ends NoMemory self.old) }
+    {
+        self.events.reserve(1)?;
+        match self.class {
+            Some(Class::Two) => {
+                put_disconnect(&mut self.outgoing, peer, reference, PROTOCOL_ERROR)?;
+                self.events
+                    .push_back_reserved(Event::Faulted(Ref(reference), fault));
+                self.live.set(place, reference, Phase::Closing(peer));
+            }
+            None | Some(Class::Zero) => self.fail(CarrierFault::Link(fault)),
+        }
+        Ok(())
+    }
+
+    /// The peer closes the connection: in class 2 a DC answers, in class 0 the carrier ends.
+    fn leave(
+        &mut self,
+        place: usize,
+        reference: u16,
+        peer: u16,
+        reason: u8,
+    ) -> Result<(), AllocError>
+        requires { place_of reference self.old.live ≡ Some place }
+        ensures ok { OnOk result (self.new ≡ leaves reference peer reason self.old.class self.old) }
+        ensures err { OnErr result (ends NoMemory self.new ≡ ends NoMemory self.old) }
+    {
+        self.events.reserve(1)?;
+        match self.class {
+            Some(Class::Two) => {
+                put_disconnected(&mut self.outgoing, peer, reference)?;
+                self.events
+                    .push_back_reserved(Event::Closed(Ref(reference), reason));
+                self.live.remove(place, reference);
+            }
+            None | Some(Class::Zero) => {
+                self.events
+                    .push_back_reserved(Event::Closed(Ref(reference), reason));
+                self.end(EndReason::PeerClosed(reason));
+            }
+        }
+        Ok(())
+    }
+}

@@ -1,0 +1,51 @@
+//! The units of a packet, one after the other (X.224 section 6.4).
+
+ghost use Rattle.std.specs.Prelude.{◌≡◌, None};
+ghost use Rattle.osi_tpdu.specs.Units.{units_left};
+ghost use Rattle.osi_carrier.specs.Packets.{Act, Acts, after_refusal};
+
+use super::Switch;
+use crate::ends::{CarrierFault, EndReason};
+use osi_tpdu::{Units, read_units};
+use osi_tpkt::TpktFault;
+
+impl Switch {
+    /// A packet with this transport unit: its units act in their order, or with a bad one none does.
+    pub fn take_packet(&mut self, packet: &[u8])
+        requires { self.old.ended ≡ None }
+        ensures { Acts self.old packet.now self.new }
+    {
+        match read_units(packet) {
+            Ok(units) => self.take_units(units),
+            Err(fault) => self.fail(CarrierFault::Tpdu(fault)),
+        }
+    }
+
+    /// Units, up to one that ends the carrier or for which there is no memory.
+    fn take_units(&mut self, mut units: Units<'_>)
+        requires { self.old.ended ≡ None }
+        ensures { Act self.old (units_left units.entry) self.new }
+    {
+        'units: while let Some(unit) = units.next() {
+            let Ok(()) = self.react(&unit) else {
+                self.end(EndReason::NoMemory);
+                return;
+            };
+            if self.ended.is_some() {
+                return;
+            }
+        }
+    }
+
+    /// The octets of the stream are no packet, or there was no memory to hold them.
+    pub fn end_for(&mut self, fault: TpktFault)
+        ensures { self.new ≡ after_refusal fault self.old }
+    {
+        match fault {
+            TpktFault::OutOfMemory => self.end(EndReason::NoMemory),
+            TpktFault::BadVersion(_) | TpktFault::BadLength(_) => {
+                self.fail(CarrierFault::Tpkt(fault));
+            }
+        }
+    }
+}

@@ -1,0 +1,240 @@
+//! Units written behind what is to be carried to the peer, each in a packet of its own.
+
+ghost use Rattle.std.specs.Prelude.{◌≡◌, ◌+◌, ◌≤◌, ◌<◌, ◌∷◌, ◌++◌, [], length, option_map, option_copied, IfSome, OnOk, OnErr};
+ghost use Rattle.osi_tpkt.specs.Octets.{IsOctets};
+ghost use Rattle.osi_tpdu.specs.Limits.{size_code, selector_octets};
+ghost use Rattle.osi_tpdu.specs.Value.{user_data, data0, data2, acknowledge, request, confirm, disconnect, disconnected, AreParameters, IsConnect, IsReference};
+ghost use Rattle.osi_tpdu.specs.View.{value, parameter_values, request_content, confirm_content};
+ghost use Rattle.osi_tpdu.specs.Writing.{Fits, HasFewClasses};
+ghost use Rattle.osi_class.specs.Link.{FitsAUnit, given, unit_of};
+ghost use Rattle.osi_carrier.specs.State.{packets};
+
+use bytes::BytesMut;
+use osi_class::Out;
+use osi_tpdu::laws::written_form;
+use osi_tpdu::{
+    ConnectConfirm, ConnectParameters, ConnectRequest, DataAcknowledgement, DataClass0, DataClass2,
+    DisconnectConfirm, DisconnectRequest, Selector, SizeCode, Tpdu,
+};
+use osi_tpkt::{WriteError, write_in_packet};
+use std::alloc::AllocError;
+
+/// Appends a unit in its packet. Want of memory leaves the octets of `out` as they were.
+#[tactic(auto, using(crate::proofs::Units::one_packet_of, crate::proofs::Units::written_least, crate::proofs::Units::written_most))]
+pub fn put(out: &mut BytesMut, unit: &Tpdu<'_>) -> Result<(), AllocError>
+    requires fits { Fits (value unit.now) }
+    requires short { length (user_data (value unit.now)) ≤ 8192 }
+    ensures ok { OnOk result (out.new.items ≡ out.old.items ++ packets (value unit.now ∷ [])) }
+    ensures err { OnErr result (out.new.items ≡ out.old.items) }
+    ensures spare { OnOk result (out.old.spare ≤ out.new.spare + length (packets (value unit.now ∷ []))) }
+    ensures full { OnErr result (out.old.spare < length (packets (value unit.now ∷ []))) }
+{
+    match write_in_packet(out, unit) {
+        Ok(()) => Ok(()),
+        Err(WriteError::OutOfMemory) => Err(AllocError),
+        Err(WriteError::BadSize) => unreachable!(),
+    }
+}
+
+/// Appends a DR without user data (X.224 section 13.5).
+pub fn put_disconnect(
+    out: &mut BytesMut,
+    destination: u16,
+    source: u16,
+    reason: u8,
+) -> Result<(), AllocError>
+    ensures ok { OnOk result (out.new.items ≡ out.old.items ++ packets (disconnect destination source reason [] ∷ [])) }
+    ensures err { OnErr result (out.new.items ≡ out.old.items) }
+{
+    let unit = Tpdu::Dr(DisconnectRequest {
+        destination,
+        source,
+        reason,
+        user: &[],
+    });
+    put(out, &unit)
+}
+
+/// Appends a DC (X.224 section 13.6).
+pub fn put_disconnected(out: &mut BytesMut, destination: u16, source: u16) -> Result<(), AllocError>
+    ensures ok { OnOk result (out.new.items ≡ out.old.items ++ packets (disconnected destination source ∷ [])) }
+    ensures err { OnErr result (out.new.items ≡ out.old.items) }
+{
+    let unit = Tpdu::Dc(DisconnectConfirm {
+        destination,
+        source,
+    });
+    put(out, &unit)
+}
+
+// ---- what a CR or CC holds is in the range of its fields
+
+// What a slice holds are octets.
+fn are_octets(octets: &[u8])
+    ensures { IsOctets octets.now }
+{
+    let _octets = octets;
+}
+
+fn check_size(size: Option<SizeCode>)
+    ensures { IfSome (option_map size_code size) (λ code. (7 ≤ code) × (code ≤ 13)) }
+{
+    if let Some(size) = size {
+        let _code = size.code();
+    }
+}
+
+fn check_selector(selector: Option<Selector<'_>>)
+    ensures { IfSome (option_map selector_octets selector.entry) (λ s. (length s ≤ 32) × IsOctets s) }
+{
+    if let Some(selector) = selector {
+        are_octets(selector.octets());
+    }
+}
+
+fn check_options(options: Option<u8>)
+    ensures { IfSome options (λ n. n < 256) }
+{
+    if let Some(options) = options {
+        let _options = options;
+    }
+}
+
+fn check_classes(classes: Option<&[u8]>)
+    ensures { IfSome (option_copied classes.entry) IsOctets }
+{
+    if let Some(classes) = classes {
+        are_octets(classes);
+    }
+}
+
+fn check_parameters(p: &ConnectParameters<'_>)
+    ensures { AreParameters (parameter_values p.now) }
+{
+    check_size(p.size);
+    check_selector(p.calling);
+    check_selector(p.called);
+    check_options(p.additional_options);
+    check_classes(p.alternative_classes);
+}
+
+fn check_request(unit: &ConnectRequest<'_>)
+    ensures { IsConnect (request_content unit.now) }
+{
+    let _source = unit.fields.source;
+    check_parameters(&unit.fields.parameters);
+    are_octets(unit.fields.user);
+}
+
+fn check_confirm(unit: &ConnectConfirm<'_>)
+    ensures content { IsConnect (confirm_content unit.now) }
+    ensures destination { IsReference unit.now.destination }
+{
+    let _source = unit.fields.source;
+    let _destination = unit.destination;
+    check_parameters(&unit.fields.parameters);
+    are_octets(unit.fields.user);
+}
+
+/// Appends a CR without user data (X.224 section 13.3), of which the alternative classes are few.
+pub fn put_request(out: &mut BytesMut, unit: &ConnectRequest<'_>) -> Result<(), AllocError>
+    requires few { HasFewClasses (request (request_content unit.now)) }
+    requires user { unit.now.fields.user.now ≡ [] }
+    ensures ok { OnOk result (out.new.items ≡ out.old.items ++ packets (request (request_content unit.now) ∷ [])) }
+    ensures err { OnErr result (out.new.items ≡ out.old.items) }
+{
+    written_form();
+    check_request(unit);
+    let unit = Tpdu::Cr(*unit);
+    put(out, &unit)
+}
+
+/// Appends a CC without user data (X.224 section 13.4), of which the alternative classes are few.
+pub fn put_confirm(out: &mut BytesMut, unit: &ConnectConfirm<'_>) -> Result<(), AllocError>
+    requires few { HasFewClasses (confirm unit.now.destination (confirm_content unit.now)) }
+    requires user { unit.now.fields.user.now ≡ [] }
+    ensures ok { OnOk result (out.new.items ≡ out.old.items ++ packets (confirm unit.now.destination (confirm_content unit.now) ∷ [])) }
+    ensures err { OnErr result (out.new.items ≡ out.old.items) }
+{
+    written_form();
+    check_confirm(unit);
+    let unit = Tpdu::Cc(*unit);
+    put(out, &unit)
+}
+
+/// Appends a DT of class 0 (X.224 section 13.7) of at most 8,189 octets.
+fn put_data0(out: &mut BytesMut, end: bool, octets: &[u8]) -> Result<(), AllocError>
+    requires { length octets.now ≤ 8189 }
+    ensures ok { OnOk result (out.new.items ≡ out.old.items ++ packets (data0 end octets.now ∷ [])) }
+    ensures err { OnErr result (out.new.items ≡ out.old.items) }
+    ensures spare { OnOk result (out.old.spare ≤ out.new.spare + length (packets (data0 end octets.now ∷ []))) }
+    ensures full { OnErr result (out.old.spare < length (packets (data0 end octets.now ∷ []))) }
+{
+    let unit = Tpdu::Dt0(DataClass0 { end, user: octets });
+    put(out, &unit)
+}
+
+/// Appends a DT of class 2 (X.224 section 13.7) of at most 8,189 octets.
+fn put_data2(
+    out: &mut BytesMut,
+    destination: u16,
+    number: u8,
+    end: bool,
+    octets: &[u8],
+) -> Result<(), AllocError>
+    requires number { number < 128 }
+    requires short { length octets.now ≤ 8189 }
+    ensures ok { OnOk result (out.new.items ≡ out.old.items ++ packets (data2 destination number end octets.now ∷ [])) }
+    ensures err { OnErr result (out.new.items ≡ out.old.items) }
+    ensures spare { OnOk result (out.old.spare ≤ out.new.spare + length (packets (data2 destination number end octets.now ∷ []))) }
+    ensures full { OnErr result (out.old.spare < length (packets (data2 destination number end octets.now ∷ []))) }
+{
+    let unit = Tpdu::Dt2(DataClass2 {
+        destination,
+        number,
+        end,
+        user: octets,
+    });
+    put(out, &unit)
+}
+
+/// Appends an AK (X.224 section 13.9).
+fn put_acknowledge(
+    out: &mut BytesMut,
+    destination: u16,
+    number: u8,
+    credit: u8,
+) -> Result<(), AllocError>
+    requires number { number < 128 }
+    requires credit { credit < 16 }
+    ensures ok { OnOk result (out.new.items ≡ out.old.items ++ packets (acknowledge credit destination number ∷ [])) }
+    ensures err { OnErr result (out.new.items ≡ out.old.items) }
+    ensures spare { OnOk result (out.old.spare ≤ out.new.spare + length (packets (acknowledge credit destination number ∷ []))) }
+    ensures full { OnErr result (out.old.spare < length (packets (acknowledge credit destination number ∷ []))) }
+{
+    let unit = Tpdu::Ak(DataAcknowledgement {
+        credit,
+        destination,
+        number,
+    });
+    put(out, &unit)
+}
+
+/// Appends a unit that a link gave, to this reference of the peer.
+pub fn put_given(out: &mut BytesMut, peer: u16, unit: &Out<'_>) -> Result<(), AllocError>
+    requires { FitsAUnit unit.now }
+    ensures ok { OnOk result (out.new.items ≡ out.old.items ++ packets (unit_of peer (given unit.now) ∷ [])) }
+    ensures err { OnErr result (out.new.items ≡ out.old.items) }
+    ensures spare { OnOk result (out.old.spare ≤ out.new.spare + length (packets (unit_of peer (given unit.now) ∷ []))) }
+    ensures full { OnErr result (out.old.spare < length (packets (unit_of peer (given unit.now) ∷ []))) }
+{
+    match *unit {
+        Out::Data0 { end, octets } => put_data0(out, end, octets),
+        Out::Data2 {
+            number,
+            end,
+            octets,
+        } => put_data2(out, peer, number, end, octets),
+        Out::Ack { number, credit } => put_acknowledge(out, peer, number, credit),
+    }
+}
