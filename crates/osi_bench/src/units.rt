@@ -1,8 +1,9 @@
 //! What is seen of the units of packets, as one number.
 
 use osi_tpdu::{
-    ConnectConfirm, ConnectFields, ConnectParameters, ConnectRequest, DataAcknowledgement, DataClass0, DataClass2,
-    DisconnectConfirm, DisconnectRequest, ErrorReport, Selector, Tpdu, TpduFault, read_units,
+    ConnectConfirm, ConnectFields, ConnectParameters, ConnectRequest, DataAcknowledgement,
+    DataClass0, DataClass2, DisconnectConfirm, DisconnectRequest, ErrorReport, Selector, Tpdu,
+    TpduFault, read_units,
 };
 
 /// A number of what was seen, modulo 2^64: fields, each times a weight that tells it from others.
