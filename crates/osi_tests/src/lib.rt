@@ -16,3 +16,5 @@ mod session_words;
 mod sessions;
 #[cfg(test)]
 mod transport_units;
+#[cfg(test)]
+mod whole_links;
