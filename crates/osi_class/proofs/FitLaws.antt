@@ -23,9 +23,9 @@ give_octets limit [] all = tt
 give_octets limit (t ∷ more) all =
     choose_some (Parts limit) (nat_lt limit (length t)) (Some ((false, take limit t), drop limit t ∷ more)) (Some ((true, t), more))
     (λ b. let longer : limit < length t = ltb-true limit (length t) b in
-        let rest = length-drop limit t in
-        let both = take_drop limit t in
-        (octets_take limit t all.0, omega (arith, rest, both), (octets_drop limit t all.0, all.1)))
+    let rest = length-drop limit t in
+    let both = take_drop limit t in
+    (octets_take limit t all.0, omega (arith, rest, both), (octets_drop limit t all.0, all.1)))
     (λ b. (all.0, ltb-false limit (length t) b, all.1))
 
 abbrev Ranges : Given × Standing → Type 0
