@@ -68,7 +68,7 @@ fn written_message(alloc: Global, message: Message<'_>) -> Result<Sent, AllocErr
     requires { length (user_data_of (meant_by message)) < 65000 }
     ensures { IfOk result (λ s. s ≡ written (meant_by message.entry)) }
 {
-    Sent::written(alloc, &message.group())
+    Sent::of(alloc, &message)
 }
 
 /// The CN of a caller, which is read as it.
