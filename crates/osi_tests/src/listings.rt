@@ -441,7 +441,7 @@ fn lists_user_data(rt: &HostRuntime, tsdu: &[u8], listed: &[u8; 15]) -> Result<(
     let (status, text) = listed_tsdu(rt, tsdu)?;
     let is_there = text
         .as_slice()
-        .windows(listed.len())
+        .windows(15)
         .any(|part| part == listed.as_slice());
     if status != 0 || !is_there || !text.as_slice().ends_with(b"4141\nrest 0\n") {
         return Err(Fail::from("another listing"));
