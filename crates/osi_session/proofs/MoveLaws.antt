@@ -1,5 +1,5 @@
 -- The move of each thing, from what the tables answer.
-use Rattle.std.proofs.Common.{inl, inr, ◌≡◌, refl, sym, ◌∙◌, ap, ℕ, true, false, List, Some, None, option_map, Ok, Err}
+use Rattle.std.proofs.Common.{inl, inr, ◌≡◌, refl, sym, ◌∙◌, ap, ℕ, true, false, List, Some, None, option_map, Result, Ok, Err}
 use Rattle.osi_spdu.specs.declared.faults.SpduFault.{SpduFault}
 use Rattle.osi_session.specs.declared.state.State.{State}
 use Rattle.osi_session.specs.declared.faults.CallError.{CallError}
@@ -7,8 +7,8 @@ use Rattle.osi_message.specs.Reading.{Said}
 use Rattle.osi_message.specs.Written.{written}
 use Rattle.osi_session.specs.Calls.{Call}
 use Rattle.osi_session.specs.Allowed.{Step, Answer, allowed}
-use Rattle.osi_session.specs.Respond.{Outcome, respond, respond_fault}
-use Rattle.osi_session.specs.Moves.{called, taken, unread, Standing, Move, in_state, answered, moved, react, after_input}
+use Rattle.osi_session.specs.Respond.{Outcome, respond, respond_fault, respond_read}
+use Rattle.osi_session.specs.Moves.{called, taken, unread, came_as, Standing, Move, in_state, answered, moved, react, after_input}
 use Rattle.osi_session.specs.Sessions.{Planned, IsPlanOf, IsPlanned}
 use Rattle.osi_session.specs.declared.faults.CallError.TheVariants as error
 use Rattle.std.proofs.lemmas.Bool.{cases_Bool}
@@ -43,6 +43,11 @@ taken_is s said o e = ap (moved s) e
 pub unread_is : (s : Standing) (fault : SpduFault) (o : Outcome) → respond_fault s.state fault ≡ o → react s (unread fault) ≡ moved s o
 unfolding react
 unread_is s fault o e = ap (moved s) e
+
+-- the octets of a TSDU: units, or octets that are none
+pub came_is : (s : Standing) (read : Result Said SpduFault) (o : Outcome) → respond_read s.state read ≡ o → react s (came_as read) ≡ moved s o
+came_is s (Ok said) o e = taken_is s said o e
+came_is s (Err fault) o e = unread_is s fault o e
 
 -- ---- plans
 

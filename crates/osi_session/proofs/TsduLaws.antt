@@ -1,13 +1,16 @@
 -- What the units of a TSDU keep.
-use Rattle.std.proofs.Common.{◌≡◌, refl, Bool, true, false, if◌then◌else◌}
+use Rattle.std.proofs.Common.{◌≡◌, refl, subst, ℕ, List, Bool, true, false, Result, Ok, Err, if◌then◌else◌}
 use Rattle.osi_spdu.specs.declared.faults.SpduFault.{SpduFault}
 use Rattle.osi_session.specs.declared.phases.Phase.TheVariants.{Aborting}
 use Rattle.osi_session.specs.declared.state.State.{State}
 use Rattle.osi_session.specs.Phases.{is_over, is_wait_transport}
 use Rattle.osi_session.specs.Sound.{IsSound}
 use Rattle.osi_message.specs.Numbered.{IsNumbered, AreNumbered}
-use Rattle.osi_message.specs.Reading.{Said}
-use Rattle.osi_session.specs.Respond.{Outcome, acting, respond, respond_fault}
+use Rattle.osi_message.specs.Reading.{Said, said_by_units, said_if_read, said_at}
+use Rattle.osi_message.specs.Laws.Numbers.{units_numbered}
+use Rattle.osi_spdu.specs.Known.{Units}
+use Rattle.osi_spdu.specs.Reading.{tsdu_at}
+use Rattle.osi_session.specs.Respond.{Outcome, acting, respond, respond_fault, respond_read}
 use Rattle.osi_session.proofs.ActingLaws.{acting_numbered}
 use Rattle.osi_session.proofs.Begun.{Begins, unit_begun}
 use Rattle.osi_session.proofs.RunCases.{all_kept, said_kept}
@@ -39,3 +42,21 @@ fault_sound s fault h = either_sound (is_over s.phase) _ _ h (bare Aborting s re
 pub fault_begun : (s : State) (fault : SpduFault) → is_wait_transport (respond_fault s fault).next.phase ≡ true → is_wait_transport s.phase ≡ true
 unfolding respond_fault
 fault_begun s fault = either_begun (is_over s.phase) s _ _ (λ k. k) (λ k. absurd (cc))
+
+-- ---- a TSDU as octets
+
+read_sound : (s : State) (read : Result Units SpduFault) → IsSound s → IsSound (respond_read s (said_if_read read)).next
+read_sound s (Ok units) h = respond_sound s (said_by_units units) (units_numbered units) h
+read_sound s (Err fault) h = fault_sound s fault h
+
+pub octets_sound : (s : State) (tsdu : List ℕ) (o : Outcome) → respond_read s (said_at tsdu) ≡ o → IsSound s → IsSound o.next
+unfolding said_at
+octets_sound s tsdu o e h = subst (λ (x : Outcome). IsSound x.next) e (read_sound s (tsdu_at tsdu) h)
+
+read_begun : (s : State) (read : Result Said SpduFault) → is_wait_transport (respond_read s read).next.phase ≡ true → is_wait_transport s.phase ≡ true
+read_begun s (Ok said) = respond_begun s said
+read_begun s (Err fault) = fault_begun s fault
+
+pub octets_begun : (s : State) (tsdu : List ℕ) (o : Outcome) → respond_read s (said_at tsdu) ≡ o
+    → is_wait_transport o.next.phase ≡ true → is_wait_transport s.phase ≡ true
+octets_begun s tsdu o e = subst (λ (x : Outcome). is_wait_transport x.next.phase ≡ true → is_wait_transport s.phase ≡ true) e (read_begun s (said_at tsdu))

@@ -2,9 +2,11 @@
 
 ghost use Rattle.std.specs.Prelude.{◌≡◌, ◌||◌, ◌++◌, [], false, None, IfOk, OnOk, OnErr};
 ghost use Rattle.osi_message.specs.Meanings.{meant_by};
-ghost use Rattle.osi_message.specs.Reading.{said_by_units};
+ghost use Rattle.osi_message.specs.Plain.{plain_meaning};
+ghost use Rattle.osi_message.specs.Reading.{said_by_units, said_at};
+ghost use Rattle.osi_message.specs.Sendable.{said_of};
 ghost use Rattle.osi_spdu.specs.Groups.{units_of};
-ghost use Rattle.osi_session.specs.Respond.{is_nil, is_silent, nothing, respond_unit, respond, respond_fault, and_then, is_faulty, verdict};
+ghost use Rattle.osi_session.specs.Respond.{is_nil, is_silent, nothing, respond_unit, respond, respond_fault, respond_read, and_then, is_faulty, verdict};
 ghost use Rattle.osi_session.specs.Steps.{all_shown, outcome_of, outcome_of_all, shown_list};
 
 use crate::faults::UnitFault;
@@ -12,8 +14,8 @@ use crate::indications::Indication;
 use crate::reactions::{Reaction, Reply};
 use crate::state::State;
 use crate::taking::{is_restart, take_unit};
-use osi_message::Message;
-use osi_spdu::{Group, SpduFault};
+use osi_message::{Message, PlainUnit};
+use osi_spdu::{Group, SpduFault, read_tsdu};
 use std::alloc::{AllocError, Global};
 
 /// What the units of a TSDU do: the state after them, the indications in their order, at most one
@@ -126,4 +128,35 @@ pub(crate) fn unread(state: &State, fault: SpduFault) -> Reaction
         return Reaction::silent(*state);
     }
     Reaction::bad(state, UnitFault::Spelling(fault))
+}
+
+/// What a unit does behind a token item that names no token, or alone.
+#[tactic(auto, using(crate::proofs::VerdictLaws::of_said))]
+fn take_plain(alloc: Global, state: &State, unit: PlainUnit<'_>) -> Result<Reactions, AllocError>
+    ensures outcome { IfOk result (λ r. outcome_of_all r ≡ respond state.now (said_of (plain_meaning unit.entry))) }
+    ensures ordered { IfOk result (λ r. r.first ≡ None → r.more.items ≡ []) }
+    ensures err { OnErr result (is_silent (respond state.now (said_of (plain_meaning unit.entry))) ≡ false) }
+{
+    let reaction = take_unit(alloc, state, unit.message())?;
+    Ok(Reactions::of(alloc, reaction))
+}
+
+/// What the octets of a TSDU do: its units, or that it is none.
+#[tactic(auto, unfolding(osi_message::specs::Reading::said_at))]
+pub(crate) fn take_octets(
+    alloc: Global,
+    state: &State,
+    tsdu: &[u8],
+) -> Result<Reactions, AllocError>
+    ensures outcome { IfOk result (λ r. outcome_of_all r ≡ respond_read state.now (said_at tsdu.now)) }
+    ensures ordered { IfOk result (λ r. r.first ≡ None → r.more.items ≡ []) }
+    ensures err { OnErr result (is_silent (respond_read state.now (said_at tsdu.now)) ≡ false) }
+{
+    if let Some(unit) = PlainUnit::read(tsdu) {
+        return take_plain(alloc, state, unit);
+    }
+    match read_tsdu(tsdu) {
+        Ok(group) => take_all(alloc, state, &group),
+        Err(fault) => Ok(Reactions::of(alloc, unread(state, fault))),
+    }
 }

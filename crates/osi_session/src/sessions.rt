@@ -7,7 +7,7 @@ ghost use Rattle.osi_message.specs.Written.{written, user_data_of};
 
 use crate::calling::{MOST_USER_DATA, decide};
 use crate::faults::CallError;
-use crate::grouping::{Reactions, take_all, unread};
+use crate::grouping::{Reactions, take_all, take_octets, unread};
 use crate::indications::Indication;
 use crate::opening::Opening;
 use crate::phases::Phase;
@@ -88,7 +88,7 @@ impl Session {
     ghost use Rattle.osi_message.specs.Reading.{said_by_units};
     ghost use Rattle.osi_message.specs.Tokens.{named, token_octet};
     ghost use Rattle.osi_session.specs.Calls.{called_by};
-    ghost use Rattle.osi_session.specs.Moves.{called, taken, unread, opened, refused, broken, in_state, react};
+    ghost use Rattle.osi_session.specs.Moves.{called, taken, unread, came, opened, refused, broken, in_state, react};
     ghost use Rattle.osi_session.specs.Phases.{is_wait_transport};
     ghost use Rattle.osi_session.specs.Respond.{is_nil};
     ghost use Rattle.osi_session.specs.Sessions.{Refused, CanBeSent, IsPlanned, opens, refusal_of, awaits, shown_in, is_quiet};
@@ -229,6 +229,22 @@ impl Session {
         ensures memory { OnErr result (is_quiet (react self.old (taken (said_by_units (units_of group.now)))) ≡ false) }
     {
         let reactions = take_all(self.alloc, &self.state, group)?;
+        self.settle(reactions)
+    }
+
+    /// A TSDU that came, as octets: what [`Session::take`] does with its units, and
+    /// [`Session::take_bad`] with octets that are none. Data, minor points and confirmations without
+    /// other parameters are read straight.
+    pub fn take_tsdu(&mut self, tsdu: &[u8]) -> Result<Taken, AllocError>
+        ensures state { OnOk result (self.new ≡ (react self.old (came tsdu.now)).next) }
+        ensures shown { IfOk result (λ t. shown_in t ≡ (react self.old (came tsdu.now)).shown) }
+        ensures first { IfOk result (λ t. t.first ≡ None → t.more.items ≡ []) }
+        ensures reply { IfOk result (λ t. t.reply ≡ option_map written (react self.old (came tsdu.now)).reply) }
+        ensures closes { IfOk result (λ t. t.closes ≡ (react self.old (came tsdu.now)).closes) }
+        ensures err { OnErr result (self.new ≡ self.old) }
+        ensures memory { OnErr result (is_quiet (react self.old (came tsdu.now)) ≡ false) }
+    {
+        let reactions = take_octets(self.alloc, &self.state, tsdu)?;
         self.settle(reactions)
     }
 
