@@ -1,15 +1,16 @@
-/* Exchanges data, a minor point and its confirmation over a pair of sessions: ns for a round. */
+/* Exchanges data, a minor point and its confirmation over a pair of sessions: the proved ones beside C, in ns. */
 #include <stdint.h>
 #include <stdio.h>
+#include <string.h>
 #include <time.h>
+#include "session.h"
 
 /* A slice is passed as a pointer and a length; the allocator passes nothing. */
-uint64_t osi_bench_sessions(const uint8_t *data, size_t length, size_t rounds);
+uint64_t osi_bench_sessions(const uint8_t *data, size_t length, size_t rounds, size_t part);
 
-#define RUNS 201
-#define MOST 10000
-/* Each round makes three calls, and hands the TSDU of each to the other side. */
-#define CALLS 3
+#define RUNS 101
+#define ROUNDS 1000
+#define PARTS 7
 
 static double now(void)
 {
@@ -18,51 +19,159 @@ static double now(void)
     return (double)t.tv_sec + (double)t.tv_nsec * 1e-9;
 }
 
-static unsigned digits(size_t number)
+struct ends {
+    struct session caller, called;
+};
+
+/* Half-duplex and minor synchronize, base 0; the caller holds both tokens. */
+static void open_ends(struct ends *e)
 {
-    unsigned count = 1;
-    for (; number >= 10; number /= 10)
-        count += 1;
-    return count;
+    memset(e, 0, sizeof *e);
+    e->caller.is_caller = 1;
+    e->caller.phase = e->called.phase = READY;
+    e->caller.units = e->called.units = 0x0009;
+    e->caller.available = e->called.available = DATA_TOKEN | MINOR_TOKEN;
+    e->caller.held = DATA_TOKEN | MINOR_TOKEN;
 }
 
-/* The octets of the TSDUs of so many rounds: GT and DT with the data, GT and MIP, GT and MIA, each of these with
-   the digits of the number. */
-static uint64_t expected(size_t length, size_t rounds)
+/* Hands a TSDU to a side, where there is one, and frees it: its octets, or 0. */
+static size_t hand(struct owned tsdu, struct session *to)
 {
-    uint64_t octets = 0;
-    for (size_t i = 0; i < rounds; i++)
-        octets += 4 + length + 2 * (6 + (uint64_t)digits(i));
+    struct taken t;
+    size_t octets = tsdu.length;
+    if (to) {
+        if (take(to, tsdu.at, tsdu.length, &t) != OK || t.first.kind == SHOWN_NONE || t.reply.at)
+            octets = 0;
+        free(t.first.data.at);
+        free(t.reply.at);
+    }
+    free(tsdu.at);
     return octets;
 }
 
-/* Prints the best of many runs, and tells whether each sent what it is to send. */
-static int report(const uint8_t *data, size_t length, size_t rounds)
+static size_t data_to(struct ends *e, struct slice data, struct session *to)
 {
-    double best = 1e9;
-    for (int i = 0; i < RUNS; i++) {
-        double start = now(), taken;
-        uint64_t octets = osi_bench_sessions(data, length, rounds);
-        taken = (now() - start) * 1e9 / (double)rounds;
-        if (octets != expected(length, rounds))
-            return 0;
-        if (taken < best)
-            best = taken;
+    struct owned tsdu;
+    return call_data(&e->caller, data, &tsdu) == OK ? hand(tsdu, to) : 0;
+}
+
+static size_t minor_to(struct ends *e, struct session *to)
+{
+    static const struct slice none = {NULL, 0};
+    struct owned tsdu;
+    return call_minor(&e->caller, 1, none, &tsdu) == OK ? hand(tsdu, to) : 0;
+}
+
+static size_t confirmed_to(struct ends *e, struct session *to)
+{
+    static const struct slice none = {NULL, 0};
+    uint32_t number = e->caller.next;
+    struct owned tsdu;
+    size_t point = minor_to(e, &e->called), more;
+    if (!point || call_confirm(&e->called, number, none, &tsdu) != OK)
+        return 0;
+    more = hand(tsdu, to);
+    return more ? point + more : 0;
+}
+
+static __attribute__((noinline)) size_t part_of(struct ends *e, struct slice data, size_t part)
+{
+    switch (part) {
+    case 0: return data_to(e, data, NULL);
+    case 1: return data_to(e, data, &e->called);
+    case 2: return minor_to(e, NULL);
+    case 3: return minor_to(e, &e->called);
+    case 4: return confirmed_to(e, NULL);
+    case 5: return confirmed_to(e, &e->caller);
+    default: return data_to(e, data, &e->called) + confirmed_to(e, &e->caller);
     }
-    printf("%8zu %8zu %10.1f %10.2f\n", length, rounds, best, CALLS / best * 1e3);
+}
+
+static __attribute__((noinline)) uint64_t by_hand(const uint8_t *octets, size_t length, size_t rounds, size_t part)
+{
+    struct slice data = {octets, length};
+    struct ends e;
+    uint64_t sum = 0;
+    open_ends(&e);
+    for (size_t i = 0; i < rounds; i++) {
+        size_t more = part_of(&e, data, part);
+        if (!more)
+            break;
+        sum += more;
+    }
+    return sum;
+}
+
+/* The octets of the TSDUs of so many rounds of a part: GT and DT with the data, GT and MIP, GT and MIA, each of these
+   with the digits of the number. */
+static uint64_t expected(size_t length, size_t rounds, size_t part)
+{
+    static const unsigned data[PARTS] = {1, 1, 0, 0, 0, 0, 1}, points[PARTS] = {0, 0, 1, 1, 2, 2, 2};
+    uint8_t digits[6];
+    uint64_t octets = 0;
+    for (size_t i = 0; i < rounds; i++)
+        octets += data[part] * (4 + length) + points[part] * (6 + (uint64_t)digits_of((uint32_t)i, digits));
+    return octets;
+}
+
+typedef uint64_t side(const uint8_t *data, size_t length, size_t rounds, size_t part);
+
+/* The ns of one round of a part, or less than 0 where it did not send what it is to send. */
+static double timed(side *run, const uint8_t *data, size_t length, size_t part)
+{
+    double start = now();
+    uint64_t octets = run(data, length, ROUNDS, part);
+    double taken = (now() - start) * 1e9 / ROUNDS;
+    return octets == expected(length, ROUNDS, part) ? taken : -1;
+}
+
+static void line(size_t length, const char *name, double ours, double c)
+{
+    printf("%8zu %-28s %10.1f %10.1f %8.2f\n", length, name, ours, c, ours / c);
+}
+
+/* Prints the best of many runs in turn, and tells whether each sent what it is to send. */
+static int report(const uint8_t *data, size_t length)
+{
+    static side *const sides[2] = {osi_bench_sessions, by_hand};
+    double best[2][PARTS];
+    for (size_t part = 0; part < PARTS; part++) {
+        best[0][part] = best[1][part] = 1e9;
+        for (int i = 0; i < RUNS; i++)
+            for (int k = 0; k < 2; k++) {
+                double taken = timed(sides[k], data, length, part);
+                if (taken < 0)
+                    return 0;
+                if (taken < best[k][part])
+                    best[k][part] = taken;
+            }
+    }
+    line(length, "call data", best[0][0], best[1][0]);
+    line(length, "read and take data", best[0][1] - best[0][0], best[1][1] - best[1][0]);
+    line(length, "call a point", best[0][2], best[1][2]);
+    line(length, "read and take a point", best[0][3] - best[0][2], best[1][3] - best[1][2]);
+    line(length, "call a confirmation", best[0][4] - best[0][3], best[1][4] - best[1][3]);
+    line(length, "read and take a confirmation", best[0][5] - best[0][4], best[1][5] - best[1][4]);
+    line(length, "a round", best[0][6], best[1][6]);
     return 1;
 }
 
-int main(void)
+int main(int argc, char **argv)
 {
-    static const size_t lengths[] = {1, 100, 1000}, rounds[] = {100, MOST};
+    static const size_t lengths[] = {1, 100, 1000};
     static uint8_t data[1000];
     int good = 1;
     for (size_t i = 0; i < sizeof data; i++)
         data[i] = (uint8_t)(i * 31);
-    printf("%8s %8s %10s %10s\n", "octets", "rounds", "ns/round", "Mcalls/s");
-    for (int i = 0; good && i < 6; i++)
-        good = report(data, lengths[i / 2], rounds[i % 2]);
+    /* One side and one part alone, for counting instructions. */
+    if (argc == 4) {
+        side *run = strcmp(argv[1], "c") ? osi_bench_sessions : by_hand;
+        printf("%llu\n", (unsigned long long)run(data, 100, (size_t)atoi(argv[3]), (size_t)atoi(argv[2])));
+        return 0;
+    }
+    printf("%8s %-28s %10s %10s %8s\n", "octets", "ns for", "proved", "C", "proved/C");
+    for (int i = 0; good && i < 3; i++)
+        good = report(data, lengths[i]);
     if (!good)
         fprintf(stderr, "what is sent is not what is to be sent\n");
     return good ? 0 : 1;

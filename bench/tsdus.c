@@ -1,7 +1,10 @@
-/* Reads a TSDU many times: the proved reader, in ns each. */
+/* Reads a TSDU many times and picks its fields: the proved reader beside C, in ns each. */
 #include <stdint.h>
 #include <stdio.h>
+#include <stdlib.h>
+#include <string.h>
 #include <time.h>
+#include "tsdu.h"
 
 /* A slice is passed as a pointer and a length. */
 uint64_t osi_bench_tsdus(const uint8_t *tsdu, size_t length, size_t rounds);
@@ -18,7 +21,7 @@ static double now(void)
 }
 
 /* What a unit is to be: its SI, the length of its user information, and two serial numbers plus 1, 0 for none. */
-struct unit {
+struct wanted {
     unsigned si, information, number, initial;
 };
 
@@ -27,7 +30,7 @@ struct work {
     const uint8_t *octets;
     size_t length;
     size_t count;
-    struct unit units[2];
+    struct wanted units[2];
 };
 
 /* The number of what is to be seen in so many rounds, in 64 bits. */
@@ -36,32 +39,60 @@ static uint64_t expected(const struct work *w, size_t rounds)
     uint64_t sum = 1;
     for (size_t i = 0; i < rounds; i++)
         for (size_t k = 0; k < w->count; k++) {
-            const struct unit *u = &w->units[k];
+            const struct wanted *u = &w->units[k];
             sum = sum * 31 + u->si + 3 * (uint64_t)u->information + 5 * (uint64_t)u->number
                 + 7 * (uint64_t)u->initial;
         }
     return sum;
 }
 
-/* Prints the best of many runs, and tells whether each saw what it is to see. */
+/* The same work by hand. */
+static __attribute__((noinline)) uint64_t by_hand(const uint8_t *tsdu, size_t length, size_t rounds)
+{
+    uint64_t sum = 1;
+    for (size_t i = 0; i < rounds; i++) {
+        struct unit units[MOST_UNITS];
+        size_t count;
+        struct failed f = read_units(units, &count, tsdu, sum == 0 ? 0 : length);
+        if (f.fault) {
+            sum = sum * 31 + 100 + (unsigned)f.fault + 53 * (uint64_t)f.at;
+            continue;
+        }
+        for (size_t k = 0; k < count; k++) {
+            const struct unit *u = &units[k];
+            sum = sum * 31 + u->si + 3 * (uint64_t)u->information.length;
+            if (u->there & BIT(NUMBER))
+                sum += 5 * ((uint64_t)u->number + 1);
+            if (u->there & BIT(INITIAL))
+                sum += 7 * ((uint64_t)u->initial + 1);
+        }
+    }
+    return sum;
+}
+
+typedef uint64_t reader(const uint8_t *tsdu, size_t length, size_t rounds);
+
+/* Prints the best of many runs in turn, and tells whether each saw what it is to see. */
 static int report(const struct work *w)
 {
+    static reader *const readers[2] = {osi_bench_tsdus, by_hand};
     const uint64_t wanted = expected(w, ROUNDS);
-    double best = 1e9;
-    for (int i = 0; i < RUNS; i++) {
-        double start = now(), taken;
-        uint64_t seen = osi_bench_tsdus(w->octets, w->length, ROUNDS);
-        taken = (now() - start) * 1e9 / ROUNDS;
-        if (seen != wanted)
-            return 0;
-        if (taken < best)
-            best = taken;
-    }
-    printf("%16s %8zu %8zu %8.2f\n", w->name, w->length, w->count, best);
+    double best[2] = {1e9, 1e9};
+    for (int i = 0; i < RUNS; i++)
+        for (int k = 0; k < 2; k++) {
+            double start = now(), taken;
+            uint64_t seen = readers[k](w->octets, w->length, ROUNDS);
+            taken = (now() - start) * 1e9 / ROUNDS;
+            if (seen != wanted)
+                return 0;
+            if (taken < best[k])
+                best[k] = taken;
+        }
+    printf("%16s %8zu %8zu %8.2f %8.2f %8.2f\n", w->name, w->length, w->count, best[0], best[1], best[0] / best[1]);
     return 1;
 }
 
-int main(void)
+int main(int argc, char **argv)
 {
     /* A GT with no token and a DT, then octets of any value. */
     static uint8_t data[DATA] = {1, 0, 1, 0};
@@ -78,7 +109,14 @@ int main(void)
     int good = 1;
     for (size_t i = 4; i < DATA; i++)
         data[i] = (uint8_t)(i * 31);
-    printf("%16s %8s %8s %8s\n", "TSDU", "octets", "units", "ns");
+    /* One reader and one TSDU alone, for counting instructions. */
+    if (argc == 3) {
+        const struct work *w = &works[atoi(argv[2]) % 3];
+        reader *run = strcmp(argv[1], "c") ? osi_bench_tsdus : by_hand;
+        printf("%llu\n", (unsigned long long)run(w->octets, w->length, ROUNDS));
+        return 0;
+    }
+    printf("%16s %8s %8s %8s %8s %8s\n", "TSDU", "octets", "units", "proved", "C", "proved/C");
     for (size_t i = 0; i < sizeof works / sizeof works[0]; i++)
         good = good && report(&works[i]);
     if (!good)

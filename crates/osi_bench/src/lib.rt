@@ -99,9 +99,13 @@ pub extern "C" fn osi_bench_links(
     }
 }
 
-/// Sends data and a minor point, and confirms it, so many times over a pair of sessions, and answers
-/// the octets of the TSDUs.
+/// Does a part of a round so many times over a pair of sessions, and answers the octets of the TSDUs.
 #[unsafe(no_mangle)]
-pub extern "C" fn osi_bench_sessions(alloc: Global, data: &[u8], rounds: usize) -> u64 {
-    sessions::over_a_connection(alloc, data, rounds)
+pub extern "C" fn osi_bench_sessions(
+    alloc: Global,
+    data: &[u8],
+    rounds: usize,
+    part: usize,
+) -> u64 {
+    sessions::over_a_connection(alloc, data, rounds, part)
 }

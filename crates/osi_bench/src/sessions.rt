@@ -2,7 +2,7 @@
 
 use bitflags::Flags;
 use osi_session::{Opening, Request, Session, Sides};
-use osi_spdu::{Requirements, Serial, Side, TokenSetting, Wish, read_tsdu};
+use osi_spdu::{Requirements, Serial, Side, TokenSetting, Wish};
 use std::alloc::Global;
 
 /// Half-duplex and minor synchronize.
@@ -33,10 +33,7 @@ struct Ends {
 
 /// Hands a TSDU to a side; false where it is answered, or has no indication.
 fn pass(tsdu: &[u8], to: &mut Session) -> bool {
-    let Ok(group) = read_tsdu(tsdu) else {
-        return false;
-    };
-    match to.take(&group) {
+    match to.take_tsdu(tsdu) {
         Ok(taken) => taken.first.is_some() && taken.reply.is_none(),
         Err(_) => false,
     }
@@ -50,6 +47,12 @@ fn tell(from: &mut Session, request: Request, to: &mut Session) -> Option<usize>
         return None;
     }
     Some(tsdu.len())
+}
+
+/// Makes a call, and hands what it sends to nobody: the octets of the TSDU.
+fn send(from: &mut Session, request: Request) -> Option<usize> {
+    let sent = from.call(request).ok()?;
+    Some(sent.as_slice().len())
 }
 
 /// Sends the CN, and accepts it.
@@ -86,32 +89,60 @@ fn connected(alloc: Global) -> Option<Ends> {
     }
 }
 
-/// Data, a point, and its confirmation: the octets of the three TSDUs.
-fn round(caller: &mut Session, called: &mut Session, user_data: &[u8]) -> Option<usize> {
-    let number = caller.next_serial();
-    let data = tell(caller, Request::Data { user_data }, called)?;
-    let minor = Request::Minor {
-        confirm: true,
-        user_data: &[],
-    };
-    let point = tell(caller, minor, called)?;
-    let confirm = Request::MinorConfirm {
+/// A point that asks for its confirmation.
+const MINOR: Request = Request::Minor {
+    confirm: true,
+    user_data: &[],
+};
+
+/// The confirmation of this point.
+fn confirm<'a>(number: u32) -> Request<'a> {
+    Request::MinorConfirm {
         number,
         user_data: &[],
-    };
-    let confirmation = tell(called, confirm, caller)?;
-    data.checked_add(point)?.checked_add(confirmation)
+    }
 }
 
-/// So many rounds over a new connection: the octets of their TSDUs modulo 2^64, up to the first
-/// round that fails.
-pub(crate) fn over_a_connection(alloc: Global, data: &[u8], rounds: usize) -> u64 {
+/// A point, and its confirmation, which is handed over or not: the octets of both TSDUs.
+fn confirmed(ends: &mut Ends, handed: bool) -> Option<usize> {
+    let number = ends.caller.next_serial();
+    let point = tell(&mut ends.caller, MINOR, &mut ends.called)?;
+    let confirmation = if handed {
+        tell(&mut ends.called, confirm(number), &mut ends.caller)?
+    } else {
+        send(&mut ends.called, confirm(number))?
+    };
+    point.checked_add(confirmation)
+}
+
+/// A part of a round: the octets of its TSDUs. 0 sends data, 1 hands it over too; 2 and 3 do the
+/// same with a point; 4 hands a point over and sends its confirmation, 5 hands both over; any other
+/// number does 1 and 5.
+fn part(ends: &mut Ends, user_data: &[u8], number: usize) -> Option<usize> {
+    let data = Request::Data { user_data };
+    match number {
+        0 => send(&mut ends.caller, data),
+        1 => tell(&mut ends.caller, data, &mut ends.called),
+        2 => send(&mut ends.caller, MINOR),
+        3 => tell(&mut ends.caller, MINOR, &mut ends.called),
+        4 => confirmed(ends, false),
+        5 => confirmed(ends, true),
+        _ => {
+            let octets = tell(&mut ends.caller, data, &mut ends.called)?;
+            octets.checked_add(confirmed(ends, true)?)
+        }
+    }
+}
+
+/// So many rounds of this part over a new connection: the octets of their TSDUs modulo 2^64, up to
+/// the first round that fails.
+pub(crate) fn over_a_connection(alloc: Global, data: &[u8], rounds: usize, number: usize) -> u64 {
     let Some(mut ends) = connected(alloc) else {
         return 0;
     };
     let mut octets: u64 = 0;
     for _ in 0..rounds {
-        let Some(more) = round(&mut ends.caller, &mut ends.called, data) else {
+        let Some(more) = part(&mut ends, data, number) else {
             break;
         };
         octets = octets.wrapping_add(more as u64);
