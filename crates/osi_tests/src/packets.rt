@@ -117,11 +117,10 @@ fn octets_read<'a, U: Unit<'a>>(octets: &'a [u8]) -> Option<usize> {
     }
 }
 
-/// Octets are a unit of any grammar, which is written so.
-fn is_written_so<'a, U: Unit<'a>>(octets: &'a [u8], out: &mut BytesMut) -> Result<(), Fail> {
-    let Ok(Some((unit, _))) = U::read(octets) else {
-        return Err(Fail::from("no unit"));
-    };
+/// A unit of any grammar is written so.
+fn is_written_so<'a, U: Unit<'a>>(unit: &U, octets: &[u8], out: &mut BytesMut) -> Result<(), Fail>
+    requires { U.fits (U.value unit.now) }
+{
     unit.write(out)?;
     if unit.written_len() != octets.len() || out.as_slice() != octets {
         return Err(Fail::from("another written form"));
@@ -132,7 +131,8 @@ fn is_written_so<'a, U: Unit<'a>>(octets: &'a [u8], out: &mut BytesMut) -> Resul
 #[test]
 fn a_packet_is_read_and_written(rt: HostRuntime) -> Result<(), Fail> {
     assert_eq!(rt; octets_read::<Packet>(&CONNECT_REQUEST), Some(22));
-    is_written_so::<Packet>(&CONNECT_REQUEST, &mut BytesMut::new(rt.alloc()))
+    let (packet, _) = Packet::read(&CONNECT_REQUEST)?.ok_or("no packet")?;
+    is_written_so(&packet, &CONNECT_REQUEST, &mut BytesMut::new(rt.alloc()))
 }
 
 /// Octets are a proper part of a packet.

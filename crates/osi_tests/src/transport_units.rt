@@ -1,3 +1,7 @@
+ghost use Rattle.std.specs.Prelude.{IfOk};
+ghost use Rattle.osi_tpdu.specs.View.{value};
+ghost use Rattle.osi_tpdu.specs.Writing.{HasRoom, Fits};
+
 use bytes::BytesMut;
 use osi_tpdu::*;
 use osi_tpkt::Unit;
@@ -45,7 +49,10 @@ fn is_its_own(alloc: Global, octets: &[u8]) -> Result<(), Fail> {
 }
 
 /// The unit of a packet that has no other.
-fn only_unit(packet: &[u8]) -> Result<Tpdu<'_>, Fail> {
+fn only_unit(packet: &[u8]) -> Result<Tpdu<'_>, Fail>
+    ensures fits { IfOk result (λ unit. Fits (value unit)) }
+    ensures room { IfOk result (λ unit. HasRoom (value unit)) }
+{
     let mut units = read_units(packet)?;
     let unit = units.next().ok_or("one unit")?;
     if units.next().is_some() {
@@ -195,12 +202,14 @@ fn parameters_of_a_request(rt: HostRuntime) -> Result<(), Fail> {
 
 #[test]
 fn a_request_is_written_in_order(rt: HostRuntime) -> Result<(), Fail> {
-    is_written_so(rt.alloc(), &Tpdu::Cr(request(&REQUEST)?), &REQUEST_WRITTEN)
+    is_written_so(rt.alloc(), &REQUEST, &REQUEST_WRITTEN)
 }
 
-fn is_written_so(alloc: Global, unit: &Tpdu, octets: &[u8]) -> Result<(), Fail> {
+/// The one unit of a packet is written so.
+fn is_written_so(alloc: Global, packet: &[u8], octets: &[u8]) -> Result<(), Fail> {
+    let unit = only_unit(packet)?;
     let mut out = BytesMut::new(alloc);
-    write(unit, &mut out)?;
+    write(&unit, &mut out)?;
     if out.as_slice() != octets {
         return Err(Fail::from("another written form"));
     }
@@ -254,8 +263,8 @@ fn fields_of_the_others(rt: HostRuntime) -> Result<(), Fail> {
     assert!(rt; is_report(report, 3, 2));
     let data = units.next().ok_or("a DT of class 0")?;
     assert!(rt; is_data_of_class_0(data, false, &[5]));
-    is_written_so(rt.alloc(), &report, &[0x04, 0x70, 0, 3, 2])?;
-    is_written_so(rt.alloc(), &data, &[0x02, 0xF0, 0, 5])
+    is_written_so(rt.alloc(), &[0x04, 0x70, 0, 3, 2], &[0x04, 0x70, 0, 3, 2])?;
+    is_written_so(rt.alloc(), &[0x02, 0xF0, 0x7F, 5], &[0x02, 0xF0, 0, 5])
 }
 
 /// A unit of any grammar stands at the front, and has so many octets.
@@ -267,7 +276,9 @@ fn front<'a, U: Unit<'a>>(octets: &'a [u8], count: usize) -> Result<U, Fail> {
 }
 
 /// A unit of any grammar is written so.
-fn is_appended<'a, U: Unit<'a>>(alloc: Global, unit: &U, octets: &[u8]) -> Result<(), Fail> {
+fn is_appended<'a, U: Unit<'a>>(alloc: Global, unit: &U, octets: &[u8]) -> Result<(), Fail>
+    requires { U.fits (U.value unit.now) }
+{
     let mut out = BytesMut::new(alloc);
     unit.write(&mut out)?;
     if unit.written_len() != octets.len() || out.as_slice() != octets {
@@ -281,7 +292,11 @@ fn a_unit_at_the_front(rt: HostRuntime) -> Result<(), Fail> {
     // Anything may follow an AK, whose number's high bit is ignored; a DT goes to the end.
     let ak: Tpdu = front(&[0x04, 0x61, 0, 1, 0x85, 0xFF], 5)?;
     assert!(rt; ak.may_be_followed());
-    is_appended(rt.alloc(), &ak, &[0x04, 0x61, 0, 1, 5])?;
+    is_appended(
+        rt.alloc(),
+        &only_unit(&[0x04, 0x61, 0, 1, 0x85])?,
+        &[0x04, 0x61, 0, 1, 5],
+    )?;
     let dt: Tpdu = front(&[0x02, 0xF0, 0x80, 0xFF], 4)?;
     assert!(rt; !dt.may_be_followed());
     Ok(())
