@@ -151,6 +151,37 @@ fn the_longest_input(rt: HostRuntime) -> Result<(), Fail> {
     Ok(())
 }
 
+/// What `show` answers to so many blanks that come one at a time, and what it writes.
+fn shown_blank_by_blank(
+    rt: &HostRuntime,
+    count: usize,
+) -> Result<(Result<u8, ToolFault>, Vec<u8>), Fail> {
+    let blanks = vec![in rt.alloc(); b' '; count]?;
+    let mut reader = Slow {
+        octets: blanks.as_slice(),
+        fails: false,
+    };
+    let mut out = Vec::new(rt.alloc());
+    let answer = show(rt.alloc(), &mut reader, &mut out);
+    Ok((answer, out))
+}
+
+#[test]
+fn the_longest_input_octet_by_octet(rt: HostRuntime) -> Result<(), Fail> {
+    let (answer, out) = shown_blank_by_blank(&rt, LONGEST_INPUT)?;
+    assert_eq!(rt; answer, Ok(0));
+    assert!(rt; out.as_slice() == b"rest 0\n".as_slice());
+    Ok(())
+}
+
+#[test]
+fn an_octet_too_many_octet_by_octet(rt: HostRuntime) -> Result<(), Fail> {
+    let (answer, out) = shown_blank_by_blank(&rt, LONGEST_INPUT + 1)?;
+    assert_eq!(rt; answer, Err(ToolFault::Input));
+    assert!(rt; out.is_empty());
+    Ok(())
+}
+
 /// The kind of error that the words give.
 fn refused(rt: &HostRuntime, words: &[&str]) -> Option<ErrorKind> {
     match job(rt.alloc(), words) {
