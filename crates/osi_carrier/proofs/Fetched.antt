@@ -24,10 +24,10 @@ second_out true A B h never = refl
 second_out false A B h never = absurd (never h)
 
 pub ended_over : (old new : Carrying) (octets : List ℕ) (fault : TpktFault) (held : Held) → TakesPiece old.held octets (Err fault) held →
-    new.state ≡ after_refusal fault old.state → EndsOver old octets new
-ended_over old new octets (BadVersion at) held taken h = inl (record { fault = BadVersion at; is = taken.0; ended = h })
-ended_over old new octets (BadLength at) held taken h = inl (record { fault = BadLength at; is = taken.0; ended = h })
-ended_over old new octets OutOfMemory held taken h = inr h
+    new.state ≡ after_refusal fault old.state → new.held.octets ≡ [] → EndsOver old octets new
+ended_over old new octets (BadVersion at) held taken h none = record { how = inl (record { fault = BadVersion at; is = taken.0; ended = h }); held = none }
+ended_over old new octets (BadLength at) held taken h none = record { how = inl (record { fault = BadLength at; is = taken.0; ended = h }); held = none }
+ended_over old new octets OutOfMemory held taken h none = record { how = inr h; held = none }
 
 pub fetched_part : Proper → (old new : Carrying) (octets : List ℕ) (fed : Fed) → TakesPiece old.held octets (Ok fed) new.held → IsPartial new.held.octets →
     new.state ≡ old.state → PartHeld old octets new

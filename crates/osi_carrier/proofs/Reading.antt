@@ -133,9 +133,16 @@ stopped_by : (old : Carrying) (piece : List ℕ) (now : Carrying) (rest : List �
 stopped_by old piece now rest used uses new read acts same stopped e =
     let b = behind old piece now rest used new read acts in
     let seen = looked piece read.front rest used b.cut in
+    let some = acts.some in
+    let within = acts.within in
+    let looked_at = length-append read.front (take used rest) in
+    let here = length-take used rest in
+    let counted = length-append read.units (acts.packet ∷ []) in
     record {
       within = length (read.front ++ take used rest);
       units = read.units ++ acts.packet ∷ [];
+      some = omega arith;
+      one = omega arith;
       bound = seen.1;
       packets = subst (λ l. ArePackets (read.units ++ acts.packet ∷ []) (old.held.octets ++ l) []) (sym seen.0) b.packets;
       taken = subst (TakesPackets old.state (read.units ++ acts.packet ∷ [])) (sym same) (takes_snoc old.state now.state read.units acts.packet read.taken read.quiet);
@@ -180,6 +187,7 @@ starved_by old piece now rest used new read acts starves =
       taken = read.taken;
       quiet = read.quiet;
       how = inr (acts.packet, (now.held.octets ++ take used rest, [], acts.whole, sym (append-nil (now.held.octets ++ take used rest)), refl), starves);
+      held = acts.held;
     }
 
 pub read_spoilt : (old : Carrying) (piece : List ℕ) (now : Carrying) (rest : List ℕ) (used : ℕ) (new : Carrying) → IsRead old piece now rest →
@@ -224,9 +232,9 @@ read_part old piece now rest new read part =
       offset = part.offset ∙ whole_offset old piece now rest read ∙ ap (λ l. offset_of (old.held.offset + (length (old.held.octets ++ piece) - length l))) (sym part.held);
     }))
 
-pub read_over : (old : Carrying) (piece : List ℕ) (now : Carrying) (rest : List ℕ) (new : Carrying) → IsRead old piece now rest →
-    EndsOver now rest new → Goes old piece (length piece) new
-read_over old piece now rest new read (inl fault) =
+over_by : (old : Carrying) (piece : List ℕ) (now : Carrying) (rest : List ℕ) (new : Carrying) → IsRead old piece now rest →
+    new.held.octets ≡ [] → Faults now rest new ⊎ (new.state ≡ ends NoMemory now.state) → Goes old piece (length piece) new
+over_by old piece now rest new read held (inl fault) =
     inr (inl (record {
       units = read.units;
       fault = fault.fault;
@@ -240,8 +248,9 @@ read_over old piece now rest new read (inl fault) =
       taken = read.taken;
       quiet = read.quiet;
       ended = fault.ended;
+      held = held;
     }))
-read_over old piece now rest new read (inr none) =
+over_by old piece now rest new read held (inr none) =
     let sizes = ap length read.cut ∙ length-append read.front rest in
     let seen : take (length read.front) piece ≡ read.front = ap (take (length read.front)) read.cut ∙ take_at read.front rest (length read.front) refl in
     inr (inr (record {
@@ -255,4 +264,22 @@ read_over old piece now rest new read (inr none) =
       taken = read.taken;
       quiet = read.quiet;
       how = inl none;
+      held = held;
     }))
+
+pub read_over : (old : Carrying) (piece : List ℕ) (now : Carrying) (rest : List ℕ) (new : Carrying) → IsRead old piece now rest →
+    EndsOver now rest new → Goes old piece (length piece) new
+read_over old piece now rest new read over = over_by old piece now rest new read over.held over.how
+
+-- ---- progress
+
+used_some : (b : Bool) (used n m : ℕ) → used ≡ (if b then n else m) → 0 < n → 0 < m → 0 < used
+used_some true used n m e a b = omega arith
+used_some false used n m e a b = omega arith
+
+-- some of a piece that is not empty is used
+pub goes_on : (old : Carrying) (piece : List ℕ) (used : ℕ) (new : Carrying) → Goes old piece used new → 0 < length piece → 0 < used
+goes_on old piece used new (inl (inl dry)) some = let all = dry.all in omega arith
+goes_on old piece used new (inl (inr stop)) some = used_some (is_spoilt new.state.ended) used (length piece) stop.within stop.uses some stop.some
+goes_on old piece used new (inr (inl refused)) some = let all = refused.all in omega arith
+goes_on old piece used new (inr (inr starved)) some = let all = starved.all in omega arith

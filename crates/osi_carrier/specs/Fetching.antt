@@ -33,9 +33,10 @@ pub record Faults (old : Carrying) (octets : List ℕ) (new : Carrying) : Type 0
   pub is : IsFaultOf old.held.offset (old.held.octets ++ octets) fault
   pub ended : new.state ≡ fails (Tpkt fault) old.state
 
--- what was held and the octets are no packet, or there was no memory
-abbrev pub EndsOver : Carrying → List ℕ → Carrying → Type 0
-EndsOver old octets new = Faults old octets new ⊎ (new.state ≡ ends NoMemory old.state)
+-- what was held and the octets are no packet, or there was no memory; nothing is held any more
+pub record EndsOver (old : Carrying) (octets : List ℕ) (new : Carrying) : Type 0 where
+  pub how : Faults old octets new ⊎ (new.state ≡ ends NoMemory old.state)
+  pub held : new.held.octets ≡ []
 
 abbrev pub Fetches : Carrying → List ℕ → Fetched → Carrying → Type 0
 Fetches old octets (Packet used) new = PacketActs old octets used new

@@ -1,5 +1,5 @@
 -- What packets do to a carrier, and what feeding a piece of the stream does.
-use Rattle.std.specs.Prelude.{◌≡◌, ℕ, ◌+◌, ◌-◌, ◌≤◌, ◌||◌, ◌==◌, not, Bool, true, false, List, [], ◌∷◌, ◌++◌, length, take, Option, Some, None, is_some, IsSome, Result, Ok, Err, ◌⊎◌, if◌then◌else◌}
+use Rattle.std.specs.Prelude.{◌≡◌, ℕ, ◌+◌, ◌-◌, ◌<◌, ◌≤◌, ◌||◌, ◌==◌, not, Bool, true, false, List, [], ◌∷◌, ◌++◌, length, take, Option, Some, None, is_some, IsSome, Result, Ok, Err, ◌⊎◌, if◌then◌else◌}
 use Rattle.osi_tpkt.specs.Held.{Held, IsHolding}
 use Rattle.osi_tpkt.specs.Packet.{IsPartial}
 use Rattle.osi_tpkt.specs.Stream.{ArePackets, CutsFrom, offset_of}
@@ -106,6 +106,9 @@ pub record RunsDry (old : Carrying) (piece : List ℕ) (used : ℕ) (new : Carry
 pub record StopsBehind (old : Carrying) (piece : List ℕ) (used : ℕ) (new : Carrying) : Type 0 where
   pub within : ℕ
   pub units : List (List ℕ)
+  -- some of it, and at least one packet
+  pub some : 0 < within
+  pub one : 0 < length units
   pub bound : within ≤ length piece
   pub packets : ArePackets units (old.held.octets ++ take within piece) []
   pub taken : TakesPackets old.state units new.state
@@ -124,6 +127,7 @@ pub record Refuses (old : Carrying) (piece : List ℕ) (used : ℕ) (new : Carry
   pub taken : TakesPackets old.state units before
   pub quiet : stops before ≡ false
   pub ended : new.state ≡ fails (Tpkt fault) before
+  pub held : new.held.octets ≡ []
 
 -- There was no memory to hold what belongs to a packet, or for a unit of the next packet.
 abbrev pub Starves : State → List ℕ → State → Type 0
@@ -140,6 +144,7 @@ pub record FindsNoMemory (old : Carrying) (piece : List ℕ) (used : ℕ) (new :
   pub taken : TakesPackets old.state units before
   pub quiet : stops before ≡ false
   pub how : (new.state ≡ ends NoMemory before) ⊎ ((packet : List ℕ) × ArePackets (packet ∷ []) rest [] × Starves before packet new.state)
+  pub held : new.held.octets ≡ []
 
 -- feeding a piece where nothing waits and nothing has ended
 abbrev pub Goes : Carrying → List ℕ → ℕ → Carrying → Type 0
@@ -155,3 +160,5 @@ pub record Feeds (old : Carrying) (piece : List ℕ) (fed : Fed) (new : Carrying
   pub goes : stops old.state ≡ false → Goes old piece fed.used new
   pub whole : fed.whole ≡ waits new.state
   pub bound : fed.used ≤ length piece
+  -- where no event waits, some of a piece that is not empty is used
+  pub progress : waits old.state ≡ false → 0 < length piece → 0 < fed.used

@@ -1,4 +1,5 @@
-use Rattle.std.proofs.Common.{subst}
+use Rattle.std.proofs.Common.{subst, ap}
+use Rattle.osi_tpkt.specs.Held.{Held}
 use Rattle.osi_carrier.specs.Fetching.{EndsOver, PacketActs}
 use Rattle.osi_carrier.specs.Packets.{Carrying}
 use Rattle.osi_carrier.specs.contracts.carrier.Carrier.{the_view}
@@ -10,7 +11,7 @@ returns-in-Err c =
     let new = the_view (record c.self.inside { switch = c.end_for.new.self; cutter = c.new.result }) in
     subst (λ (x : Carrying). EndsOver x c.args.octets.now new) c.self.view_is
     (ended_over (the_view c.self.inside) new c.args.octets.now c.in-Err.fault c.feed.new.self
-    (c.in-Err.ensures.taken c.self.invariant.fault c.self.invariant.partial) c.end_for.ensures)
+    (c.in-Err.ensures.taken c.self.invariant.fault c.self.invariant.partial) c.end_for.ensures (ap (λ (h : Held). h.octets) c.new.ensures.value))
 
 pub returns : goal.returns
 returns c =
