@@ -8,3 +8,5 @@ pub mod Reading
 pub mod Breaking
 pub mod Fetched
 pub mod Kept
+pub mod AtReferences
+pub mod Effects

@@ -11,3 +11,4 @@ pub mod Feeding
 pub mod Packets
 pub mod Calls
 pub mod Fetching
+pub mod Orderly

@@ -7,6 +7,7 @@ mod carrier;
 mod ends;
 mod events;
 mod faults;
+pub mod laws;
 mod links;
 mod negotiation;
 mod rows;

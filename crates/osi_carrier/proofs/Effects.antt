@@ -1,0 +1,480 @@
+-- What a unit does, apart from what it writes: it is for one connection, and touches no other.
+use Rattle.std.proofs.Common.{◌≡◌, ◌≢◌, ℕ, suc, ◌+◌, ◌<◌, ◌≤◌, Bool, true, false, List, [], ◌∷◌, ◌++◌, length, take, Option, Some, None, Result, Ok, Err, IsSome, is_some, nat_le, ◌||◌, refl, sym, ap, subst, ◌∙◌, ◌⊎◌, inl, inr, arith, length-append, not, if◌then◌else◌}
+use Rattle.std.proofs.lemmas.Bool.Decides.{nat_tests}
+use Rattle.std.proofs.lemmas.List.{append-nil}
+use Rattle.std.specs.List.{AllByRecursion}
+use Rattle.osi_tpdu.specs.Packet.{units_of}
+use Rattle.osi_tpdu.specs.declared.faults.TpduFault.{TpduFault}
+use Rattle.osi_tpdu.specs.Value.{Value, Connect, request, confirm, disconnect, disconnected, data0, data2, acknowledge, error}
+use Rattle.osi_class.specs.Link.{Standing, taken}
+use Rattle.osi_class.specs.Negotiation.{Selection, accept, refuse, selected_by}
+use Rattle.osi_class.specs.declared.faults.LinkFault.{LinkFault}
+use Rattle.osi_class.specs.declared.terms.Class.{Class}
+use Rattle.osi_class.specs.declared.terms.Class.TheVariants.{Zero, Two}
+use Rattle.osi_class.specs.declared.terms.Local.{Local}
+use Rattle.osi_carrier.specs.Happenings.{Happening, opened, refused, tsdu, closed, faulted}
+use Rattle.osi_carrier.specs.Negotiation.{confirmed}
+use Rattle.osi_carrier.specs.Calls.{fresh_state, class_error, or_else, room_error, may_connect, asks, sent_on, open_link, sent, closes, closed_on, closed_with, ended_by}
+use Rattle.osi_carrier.specs.Orderly.{RiseFrom, AreUpTo, only_of, connection_by, connection_of, told_of, IsOrderly, ChangesOne}
+use Rattle.osi_carrier.specs.Packets.{acts_by, after_packet}
+use Rattle.osi_carrier.specs.React.{denies, answers, is_full, has_peer, answers_request, to_unknown, opens, to_asked, tells_of, taking, breaks, leaves, to_linked, to_closing, to_connection, to_reference, before_class, to_only, in_zero, in_two, in_class, react, react_by, reacts}
+use Rattle.osi_carrier.specs.Rows.{Rows, value_at, put, without}
+use Rattle.osi_carrier.specs.State.{Connection, asked, linked, closing, State, ends}
+use Rattle.osi_carrier.specs.declared.ends.EndReason.{EndReason}
+use Rattle.osi_carrier.specs.declared.faults.OpenError.{OpenError}
+use Rattle.osi_carrier.specs.declared.faults.OpenError.TheVariants.{NotCaller, Ended, TooMany, ReferencesUsedUp}
+use Rattle.osi_carrier.proofs.AtReferences.{put_other, without_other, push_other, put_none, without_none, put_rise, without_rise, push_rise, put_up, without_up, push_up, put_length, without_length}
+use Rattle.osi_carrier.proofs.Reacts.{react_over}
+
+-- ---- how the live connections change
+
+-- the rows are as they were, or another value stands at one reference, or that is dropped
+abbrev pub Touched : ℕ → Rows Connection → Rows Connection → Type 0
+Touched r old new = (new ≡ old) ⊎ (((c : Connection) × (new ≡ put r c old)) ⊎ (new ≡ without r old))
+
+pub record Kept (r : ℕ) (old new : State) : Type 0 where
+  pub given : new.given ≡ old.given
+  pub ended : new.ended ≡ old.ended
+  pub live : Touched r old.live new.live
+
+-- the next reference is given
+pub record Joined (r : ℕ) (old new : State) : Type 0 where
+  pub next : r ≡ old.given + 1
+  pub given : new.given ≡ old.given + 1
+  pub ended : new.ended ≡ old.ended
+  pub connection : Connection
+  pub live : new.live ≡ old.live ++ (old.given + 1, connection) ∷ []
+  pub room : length old.live < 64
+  pub left : old.given < 65535
+
+pub record Over (old new : State) : Type 0 where
+  pub given : new.given ≡ old.given
+  pub live : new.live ≡ []
+  pub ended : IsSome new.ended
+
+abbrev pub How : ℕ → State → State → Type 0
+How r old new = Kept r old new ⊎ (Joined r old new ⊎ Over old new)
+
+pub record Effect (r : ℕ) (old new : State) : Type 0 where
+  pub told : List Happening
+  pub events : new.events ≡ old.events ++ told
+  pub about : AllByRecursion (λ event. told_of event ≡ r) told
+  pub one : length told ≤ 1
+  pub how : How r old new
+
+-- nothing is told
+silent : (r : ℕ) (old new : State) → new.events ≡ old.events → How r old new → Effect r old new
+silent r old new same how = record { told = []; events = same ∙ sym (append-nil old.events); about = tt; one = omega arith; how = how }
+
+telling : (r : ℕ) (old new : State) (event : Happening) → told_of event ≡ r → new.events ≡ old.events ++ event ∷ [] → How r old new → Effect r old new
+telling r old new event about same how = record { told = event ∷ []; events = same; about = (about, tt); one = omega arith; how = how }
+
+-- the live connections, the references and the end are as they were
+still : (r : ℕ) (old new : State) → new.given ≡ old.given → new.ended ≡ old.ended → new.live ≡ old.live → How r old new
+still r old new given ended live = inl (record { given = given; ended = ended; live = inl live })
+
+effect_none : (r : ℕ) (s : State) → Effect r s s
+effect_none r s = silent r s s refl (still r s s refl refl refl)
+
+effect_end : (r : ℕ) (reason : EndReason) (s : State) → Effect r s (ends reason s)
+effect_end r reason s = silent r s (ends reason s) refl (inr (inr (record { given = refl; live = refl; ended = refl })))
+
+-- ---- a CR
+
+effect_denies : (r reason peer : ℕ) (s : State) → Effect r s (denies reason peer s)
+effect_denies r reason peer s = silent r s (denies reason peer s) refl (still r s (denies reason peer s) refl refl refl)
+
+effect_accepts : (class : Class) (size : Option ℕ) (c : Connect) (s : State) → length s.live < 64 → s.given < 65535 →
+    Effect (s.given + 1) s (answers c (accept class size) None s)
+effect_accepts Zero size c s room left = record {
+  told = opened (s.given + 1) ∷ [];
+  events = refl;
+  about = (refl, tt);
+  one = omega arith;
+  how = inr (inl (record { next = refl; given = refl; ended = refl; connection = _; live = refl; room = room; left = left }));
+}
+effect_accepts Two size c s room left = record {
+  told = opened (s.given + 1) ∷ [];
+  events = refl;
+  about = (refl, tt);
+  one = omega arith;
+  how = inr (inl (record { next = refl; given = refl; ended = refl; connection = _; live = refl; room = room; left = left }));
+}
+
+effect_answers : (c : Connect) (selection : Selection) (held : Option Class) (s : State) → length s.live < 64 → s.given < 65535 →
+    Effect (s.given + 1) s (answers c selection held s)
+effect_answers c (refuse reason) held s room left = effect_denies (s.given + 1) reason c.source s
+effect_answers c (accept Two size) held s room left = effect_accepts Two size c s room left
+effect_answers c (accept Zero size) None s room left = effect_accepts Zero size c s room left
+effect_answers c (accept Zero size) (Some class) s room left = effect_denies (s.given + 1) 136 c.source s
+
+has_room : (n given : ℕ) (b d : Bool) → nat_le 64 n ≡ b → nat_le 65535 given ≡ d → (b || d) ≡ false → (n < 64) × (given < 65535)
+has_room n given true d e f h = cc
+has_room n given false true e f h = cc
+has_room n given false false e f h = (grind (arith, nat_tests), grind (arith, nat_tests))
+
+answers_by : (c : Connect) (s : State) (in_use full : Bool) → (full ≡ false → (length s.live < 64) × (s.given < 65535)) →
+    Effect (s.given + 1) s (if in_use then denies 131 c.source s else (if full then denies 1 c.source s else answers c (selected_by c s.local) s.class s))
+answers_by c s true full room = effect_denies (s.given + 1) 131 c.source s
+answers_by c s false true room = effect_denies (s.given + 1) 1 c.source s
+answers_by c s false false room = effect_answers c (selected_by c s.local) s.class s (room refl).0 (room refl).1
+
+effect_request : (c : Connect) (s : State) → Effect (s.given + 1) s (answers_request c s)
+effect_request c s = answers_by c s (has_peer c.source s.live) (is_full s) (λ h. has_room (length s.live) s.given (nat_le 64 (length s.live)) (nat_le 65535 s.given) refl refl h)
+
+-- ---- a unit for a connection
+
+effect_unknown : (r : ℕ) (unit : Value) (s : State) → Effect r s (to_unknown unit s)
+effect_unknown r (disconnect destination source reason user) s =
+    let t = to_unknown (disconnect destination source reason user) s in silent r s t refl (still r s t refl refl refl)
+effect_unknown r (disconnected destination source) s = effect_none r s
+effect_unknown r (request c) s = effect_end r _ s
+effect_unknown r (confirm destination c) s = effect_end r _ s
+effect_unknown r (data0 end user) s = effect_end r _ s
+effect_unknown r (data2 destination number end user) s = effect_end r _ s
+effect_unknown r (acknowledge credit destination number) s = effect_end r _ s
+effect_unknown r (error destination cause) s = effect_end r _ s
+
+effect_opens : (r : ℕ) (c : Connect) (class : Option Class) (s : State) → Effect r s (opens r c class s)
+effect_opens r c None s = effect_end r _ s
+effect_opens r c (Some class) s =
+    telling r s (opens r c (Some class) s) (opened r) refl refl (inl (record { given = refl; ended = refl; live = inr (inl (_, refl)) }))
+
+effect_refused : (r reason : ℕ) (s t : State) → t.given ≡ s.given → t.ended ≡ s.ended → t.live ≡ without r s.live → t.events ≡ s.events ++ refused r reason ∷ [] →
+    Effect r s t
+effect_refused r reason s t given ended live events = telling r s t (refused r reason) refl events (inl (record { given = given; ended = ended; live = inr (inr live) }))
+
+effect_asked : (r : ℕ) (unit : Value) (s : State) → Effect r s (to_asked r unit s)
+effect_asked r (confirm destination c) s = effect_opens r c (confirmed c s.local s.class) s
+effect_asked r (disconnect destination source reason user) s =
+    effect_refused r reason s (to_asked r (disconnect destination source reason user) s) refl refl refl refl
+effect_asked r (error destination cause) s = effect_refused r 0 s (to_asked r (error destination cause) s) refl refl refl refl
+effect_asked r (request c) s = effect_unknown r (request c) s
+effect_asked r (disconnected destination source) s = effect_unknown r (disconnected destination source) s
+effect_asked r (data0 end user) s = effect_unknown r (data0 end user) s
+effect_asked r (data2 destination number end user) s = effect_unknown r (data2 destination number end user) s
+effect_asked r (acknowledge credit destination number) s = effect_unknown r (acknowledge credit destination number) s
+
+-- at most one TSDU is handed out
+effect_settles : (r : ℕ) (whole : List (List ℕ)) (c : Connection) (s t : State) → t.given ≡ s.given → t.ended ≡ s.ended → t.live ≡ put r c s.live →
+    t.events ≡ s.events → Effect r s (tells_of r (take 1 whole) t)
+effect_settles r [] c s t given ended live events =
+    silent r s (tells_of r [] t) (append-nil t.events ∙ events) (inl (record { given = given; ended = ended; live = inr (inl (c, live)) }))
+effect_settles r (tsdu' ∷ more) c s t given ended live events =
+    telling r s (tells_of r (tsdu' ∷ []) t) (tsdu r tsdu') refl (ap (λ l. l ++ tsdu r tsdu' ∷ []) events) (inl (record { given = given; ended = ended; live = inr (inl (c, live)) }))
+
+effect_breaks : (r peer : ℕ) (fault : LinkFault) (held : Option Class) (s : State) → Effect r s (breaks r peer fault held s)
+effect_breaks r peer fault None s = effect_end r _ s
+effect_breaks r peer fault (Some Zero) s = effect_end r _ s
+effect_breaks r peer fault (Some Two) s =
+    telling r s (breaks r peer fault (Some Two) s) (faulted r fault) refl refl (inl (record { given = refl; ended = refl; live = inr (inl (closing peer, refl)) }))
+
+effect_taking : (r peer : ℕ) (result : Result Standing LinkFault) (s : State) → Effect r s (taking r peer result s)
+effect_taking r peer (Ok link) s = effect_settles r link.ends.joining.whole _ s _ refl refl refl refl
+effect_taking r peer (Err fault) s = effect_breaks r peer fault s.class s
+
+effect_leaves : (r peer reason : ℕ) (held : Option Class) (s : State) → Effect r s (leaves r peer reason held s)
+effect_leaves r peer reason None s = telling r s (leaves r peer reason None s) (closed r reason) refl refl (inr (inr (record { given = refl; live = refl; ended = refl })))
+effect_leaves r peer reason (Some Zero) s = telling r s (leaves r peer reason (Some Zero) s) (closed r reason) refl refl (inr (inr (record { given = refl; live = refl; ended = refl })))
+effect_leaves r peer reason (Some Two) s =
+    telling r s (leaves r peer reason (Some Two) s) (closed r reason) refl refl (inl (record { given = refl; ended = refl; live = inr (inr refl) }))
+
+effect_linked : (r peer : ℕ) (link : Standing) (unit : Value) (s : State) → Effect r s (to_linked r peer link unit s)
+effect_linked r peer link (disconnect destination source reason user) s = effect_leaves r peer reason s.class s
+effect_linked r peer link (request c) s = effect_taking r peer (taken link (request c)) s
+effect_linked r peer link (confirm destination c) s = effect_taking r peer (taken link (confirm destination c)) s
+effect_linked r peer link (disconnected destination source) s = effect_taking r peer (taken link (disconnected destination source)) s
+effect_linked r peer link (data0 end user) s = effect_taking r peer (taken link (data0 end user)) s
+effect_linked r peer link (data2 destination number end user) s = effect_taking r peer (taken link (data2 destination number end user)) s
+effect_linked r peer link (acknowledge credit destination number) s = effect_taking r peer (taken link (acknowledge credit destination number)) s
+effect_linked r peer link (error destination cause) s = effect_taking r peer (taken link (error destination cause)) s
+
+effect_dropped : (r : ℕ) (s : State) → Effect r s (record s { live = without r s.live })
+effect_dropped r s = silent r s (record s { live = without r s.live }) refl (inl (record { given = refl; ended = refl; live = inr (inr refl) }))
+
+effect_closing : (r : ℕ) (unit : Value) (s : State) → Effect r s (to_closing r unit s)
+effect_closing r (disconnected destination source) s = effect_dropped r s
+effect_closing r (disconnect destination source reason user) s = effect_dropped r s
+effect_closing r (request c) s = effect_none r s
+effect_closing r (confirm destination c) s = effect_none r s
+effect_closing r (data0 end user) s = effect_none r s
+effect_closing r (data2 destination number end user) s = effect_none r s
+effect_closing r (acknowledge credit destination number) s = effect_none r s
+effect_closing r (error destination cause) s = effect_none r s
+
+effect_connection : (r : ℕ) (o : Option Connection) (unit : Value) (s : State) → Effect r s (to_connection r o unit s)
+effect_connection r None unit s = effect_unknown r unit s
+effect_connection r (Some asked) unit s = effect_asked r unit s
+effect_connection r (Some (linked peer link)) unit s = effect_linked r peer link unit s
+effect_connection r (Some (closing peer)) unit s = effect_closing r unit s
+
+effect_reference : (r : ℕ) (unit : Value) (s : State) → Effect r s (to_reference r unit s)
+effect_reference r unit s = effect_connection r (value_at r s.live) unit s
+
+-- ---- by class
+
+effect_before : (is_caller : Bool) (unit : Value) (s : State) → Effect (connection_by None unit s) s (before_class is_caller unit s)
+effect_before true (confirm destination c) s = effect_reference destination (confirm destination c) s
+effect_before true (disconnect destination source reason user) s = effect_reference destination (disconnect destination source reason user) s
+effect_before true (error destination cause) s = effect_reference destination (error destination cause) s
+effect_before true (request c) s = effect_end _ _ s
+effect_before true (disconnected destination source) s = effect_end _ _ s
+effect_before true (data0 end user) s = effect_end _ _ s
+effect_before true (data2 destination number end user) s = effect_end _ _ s
+effect_before true (acknowledge credit destination number) s = effect_end _ _ s
+effect_before false (request c) s = effect_request c s
+effect_before false (confirm destination c) s = effect_end _ _ s
+effect_before false (disconnect destination source reason user) s = effect_end _ _ s
+effect_before false (disconnected destination source) s = effect_end _ _ s
+effect_before false (data0 end user) s = effect_end _ _ s
+effect_before false (data2 destination number end user) s = effect_end _ _ s
+effect_before false (acknowledge credit destination number) s = effect_end _ _ s
+effect_before false (error destination cause) s = effect_end _ _ s
+
+only_by : (live : Rows Connection) (unit : Value) (s : State) → Effect (only_of live) s (to_only live unit s)
+only_by [] unit s = effect_none 0 s
+only_by ((r, connection) ∷ rows) unit s = effect_connection r (Some connection) unit s
+
+effect_zero : (is_caller : Bool) (unit : Value) (s : State) → Effect (only_of s.live) s (in_zero is_caller unit s)
+effect_zero true (request c) s = effect_end _ _ s
+effect_zero true (confirm destination c) s = only_by s.live (confirm destination c) s
+effect_zero true (disconnect destination source reason user) s = only_by s.live (disconnect destination source reason user) s
+effect_zero true (disconnected destination source) s = only_by s.live (disconnected destination source) s
+effect_zero true (data0 end user) s = only_by s.live (data0 end user) s
+effect_zero true (data2 destination number end user) s = only_by s.live (data2 destination number end user) s
+effect_zero true (acknowledge credit destination number) s = only_by s.live (acknowledge credit destination number) s
+effect_zero true (error destination cause) s = only_by s.live (error destination cause) s
+effect_zero false unit s = only_by s.live unit s
+
+effect_two : (is_caller : Bool) (unit : Value) (s : State) → Effect (connection_by (Some Two) unit s) s (in_two is_caller unit s)
+effect_two true (request c) s = effect_end _ _ s
+effect_two false (request c) s = effect_request c s
+effect_two is_caller (confirm destination c) s = effect_reference destination (confirm destination c) s
+effect_two is_caller (disconnect destination source reason user) s = effect_reference destination (disconnect destination source reason user) s
+effect_two is_caller (disconnected destination source) s = effect_reference destination (disconnected destination source) s
+effect_two is_caller (data0 end user) s = effect_end _ _ s
+effect_two is_caller (data2 destination number end user) s = effect_reference destination (data2 destination number end user) s
+effect_two is_caller (acknowledge credit destination number) s = effect_reference destination (acknowledge credit destination number) s
+effect_two is_caller (error destination cause) s = effect_reference destination (error destination cause) s
+
+effect_class : (held : Option Class) (unit : Value) (s : State) → Effect (connection_by held unit s) s (in_class held unit s)
+effect_class None unit s = effect_before s.is_caller unit s
+effect_class (Some Zero) unit s = effect_zero s.is_caller unit s
+effect_class (Some Two) unit s = effect_two s.is_caller unit s
+
+effect_by : (over : Bool) (unit : Value) (s : State) → Effect (connection_of unit s) s (react_by over unit s)
+effect_by true unit s = effect_none (connection_of unit s) s
+effect_by false unit s = effect_class s.class unit s
+
+pub effect : (unit : Value) (s : State) → Effect (connection_of unit s) s (react unit s)
+unfolding react
+effect unit s = effect_by (is_some s.ended) unit s
+
+-- ---- what it gives
+
+-- where a value was none, or the reference is another
+touched_other : (q r : ℕ) (old new : Rows Connection) → q ≢ r → Touched r old new → value_at q new ≡ value_at q old
+touched_other q r old new other (inl same) = ap (value_at q) same
+touched_other q r old new other (inr (inl (c, same))) = ap (value_at q) same ∙ put_other q r c old other
+touched_other q r old new other (inr (inr same)) = ap (value_at q) same ∙ without_other q r old other
+
+how_other : (q r : ℕ) (old new : State) → q ≢ r → new.ended ≡ None → How r old new → value_at q new.live ≡ value_at q old.live
+how_other q r old new other lasts (inl kept) = touched_other q r old.live new.live other kept.live
+how_other q r old new other lasts (inr (inl joined)) =
+    ap (value_at q) joined.live ∙ push_other q (old.given + 1) joined.connection old.live (λ e. other (e ∙ sym joined.next))
+how_other q r old new other lasts (inr (inr over)) = let ended = over.ended in let e : is_some new.ended ≡ false = ap is_some lasts in absurd cc
+
+pub changes_one : (unit : Value) (s : State) → (react unit s).ended ≡ None → ChangesOne (connection_of unit s) s (react unit s)
+changes_one unit s lasts =
+    let e = effect unit s in
+    record {
+      others = λ q other. how_other q (connection_of unit s) s (react unit s) other lasts e.how;
+      told = e.told;
+      events = e.events;
+      about = e.about;
+      one = e.one;
+    }
+
+touched_none : (q r : ℕ) (old new : Rows Connection) → value_at q old ≡ None → Touched r old new → value_at q new ≡ None
+touched_none q r old new none (inl same) = ap (value_at q) same ∙ none
+touched_none q r old new none (inr (inl (c, same))) = ap (value_at q) same ∙ put_none q r c old none
+touched_none q r old new none (inr (inr same)) = ap (value_at q) same ∙ without_none q r old none
+
+how_gone : (q r : ℕ) (old new : State) → q ≤ old.given → value_at q old.live ≡ None → How r old new → value_at q new.live ≡ None
+how_gone q r old new up none (inl kept) = touched_none q r old.live new.live none kept.live
+how_gone q r old new up none (inr (inl joined)) =
+    ap (value_at q) joined.live ∙ push_other q (old.given + 1) joined.connection old.live (λ e. omega arith) ∙ none
+how_gone q r old new up none (inr (inr over)) = ap (value_at q) over.live
+
+-- a connection that is gone stays gone
+pub stays_gone : (unit : Value) (s : State) (q : ℕ) → q ≤ s.given → value_at q s.live ≡ None → value_at q (react unit s).live ≡ None
+stays_gone unit s q up none = how_gone q (connection_of unit s) s (react unit s) up none (effect unit s).how
+
+-- ---- order
+
+record AreOrderly (given : ℕ) (rows : Rows Connection) : Type 0 where
+  rise : RiseFrom 0 rows
+  up_to : AreUpTo given rows
+  live : length rows ≤ 64
+
+rows_of : (s : State) → IsOrderly s → AreOrderly s.given s.live
+rows_of s h = record { rise = h.rise; up_to = h.up_to; live = h.live }
+
+touched_orderly : (given r : ℕ) (old new : Rows Connection) → AreOrderly given old → Touched r old new → AreOrderly given new
+touched_orderly given r old new h (inl same) = subst (AreOrderly given) (sym same) h
+touched_orderly given r old new h (inr (inl (c, same))) =
+    let count = put_length r c old in
+    let bound = h.live in
+    subst (AreOrderly given) (sym same) (record { rise = put_rise 0 r c old h.rise; up_to = put_up given r c old h.up_to; live = omega arith })
+touched_orderly given r old new h (inr (inr same)) =
+    let count = without_length r old in
+    let bound = h.live in
+    subst (AreOrderly given) (sym same) (record { rise = without_rise 0 r old h.rise; up_to = without_up given r old h.up_to; live = omega arith })
+
+joined_orderly : (given : ℕ) (c : Connection) (old : Rows Connection) → AreOrderly given old → length old < 64 → AreOrderly (given + 1) (old ++ (given + 1, c) ∷ [])
+joined_orderly given c old h room =
+    let count = length-append old ((given + 1, c) ∷ []) in
+    record { rise = push_rise 0 given c old (omega arith) h.rise h.up_to; up_to = push_up given c old h.up_to; live = omega arith }
+
+orderly_of : (s : State) → AreOrderly s.given s.live → s.given ≤ 65535 → (IsSome s.ended → s.live ≡ []) → IsOrderly s
+orderly_of s h given over = record { rise = h.rise; up_to = h.up_to; given = given; live = h.live; over = over }
+
+none_over : {A B : Type 0} (o : Option A) → is_some o ≡ false → IsSome o → B
+none_over None e h = absurd cc
+none_over (Some a) e h = absurd cc
+
+-- of a carrier that has not ended
+how_orderly : (r : ℕ) (old new : State) → IsOrderly old → is_some old.ended ≡ false → How r old new → IsOrderly new
+how_orderly r old new h lasts (inl kept) =
+    orderly_of new (subst (λ n. AreOrderly n new.live) (sym kept.given) (touched_orderly old.given r old.live new.live (rows_of old h) kept.live))
+    (let g = h.given in let e = kept.given in omega arith)
+    (λ some. none_over old.ended lasts (subst IsSome kept.ended some))
+how_orderly r old new h lasts (inr (inl joined)) =
+    orderly_of new (subst (λ n. AreOrderly n new.live) (sym joined.given) (subst (AreOrderly (old.given + 1)) (sym joined.live)
+    (joined_orderly old.given joined.connection old.live (rows_of old h) joined.room)))
+    (let left = joined.left in let e = joined.given in omega arith)
+    (λ some. none_over old.ended lasts (subst IsSome joined.ended some))
+how_orderly r old new h lasts (inr (inr over)) =
+    orderly_of new (subst (AreOrderly new.given) (sym over.live) (record { rise = tt; up_to = tt; live = omega arith }))
+    (let g = h.given in let e = over.given in omega arith)
+    (λ some. over.live)
+
+orderly_by : (unit : Value) (s : State) (b : Bool) → is_some s.ended ≡ b → IsOrderly s → IsOrderly (react unit s)
+orderly_by unit s true over h = subst IsOrderly (sym (react_over unit s over)) h
+orderly_by unit s false lasts h = how_orderly (connection_of unit s) s (react unit s) h lasts (effect unit s).how
+
+pub orderly_unit : (unit : Value) (s : State) → IsOrderly s → IsOrderly (react unit s)
+orderly_unit unit s h = orderly_by unit s (is_some s.ended) refl h
+
+pub orderly_units : (units : List Value) (s : State) → IsOrderly s → IsOrderly (reacts units s)
+orderly_units [] s h = h
+orderly_units (unit ∷ units) s h = orderly_units units (react unit s) (orderly_unit unit s h)
+
+pub orderly_end : (reason : EndReason) (s : State) → IsOrderly s → IsOrderly (ends reason s)
+orderly_end reason s h = record { rise = tt; up_to = tt; given = h.given; live = omega arith; over = λ some. refl }
+
+orderly_acts : (units : Result (List Value) TpduFault) (s : State) → IsOrderly s → IsOrderly (acts_by units s)
+orderly_acts (Ok units) s h = orderly_units units s h
+orderly_acts (Err fault) s h = orderly_end _ s h
+
+pub orderly_packet : (packet : List ℕ) (s : State) → IsOrderly s → IsOrderly (after_packet s packet)
+unfolding after_packet
+orderly_packet packet s h = orderly_acts (units_of packet) s h
+
+-- ---- calls
+
+pub orderly_fresh : (is_caller : Bool) (local : Local) → IsOrderly (fresh_state is_caller local)
+orderly_fresh is_caller local = record { rise = tt; up_to = tt; given = omega arith; live = omega arith; over = λ some. refl }
+
+-- where a connection may be asked for, there is room for it
+pub record MayJoin (s : State) : Type 0 where
+  pub lasts : is_some s.ended ≡ false
+  pub room : length s.live < 64
+  pub left : s.given < 65535
+
+room_free : (n given : ℕ) (b d : Bool) → nat_le 64 n ≡ b → nat_le 65535 given ≡ d → (if b then Some TooMany else (if d then Some ReferencesUsedUp else None)) ≡ None →
+    (n < 64) × (given < 65535)
+room_free n given true d e f h = cc
+room_free n given false true e f h = cc
+room_free n given false false e f h = (grind (arith, nat_tests), grind (arith, nat_tests))
+
+or_none : (first other : Option OpenError) → or_else first other ≡ None → other ≡ None
+or_none None other h = h
+or_none (Some e) other h = cc
+
+free_by : (s : State) (caller over : Bool) → is_some s.ended ≡ over →
+    (if not caller then Some NotCaller else (if over then Some Ended else or_else (class_error s.class s.live) (room_error s))) ≡ None → MayJoin s
+free_by s false over e h = cc
+free_by s true true e h = cc
+free_by s true false e h =
+    let free = room_free (length s.live) s.given (nat_le 64 (length s.live)) (nat_le 65535 s.given) refl refl (or_none (class_error s.class s.live) (room_error s) h) in
+    record { lasts = e; room = free.0; left = free.1 }
+
+pub free_of : (s : State) → may_connect s ≡ None → MayJoin s
+free_of s h = free_by s s.is_caller (is_some s.ended) refl h
+
+pub orderly_asks : (calling called : Option (List ℕ)) (s : State) → may_connect s ≡ None → IsOrderly s → IsOrderly (asks calling called s)
+orderly_asks calling called s may h =
+    let free = free_of s may in
+    how_orderly (s.given + 1) s (asks calling called s) h free.lasts
+    (inr (inl (record { next = refl; given = refl; ended = refl; connection = asked; live = refl; room = free.room; left = free.left })))
+
+put_over : (r : ℕ) (c : Connection) (s t : State) → t.given ≡ s.given → t.ended ≡ s.ended → t.live ≡ put r c s.live → IsOrderly s → IsOrderly t
+put_over r c s t given ended live h =
+    orderly_of t (subst (λ n. AreOrderly n t.live) (sym given) (touched_orderly s.given r s.live t.live (rows_of s h) (inr (inl (c, live)))))
+    (let g = h.given in omega arith)
+    (λ some. live ∙ ap (put r c) (h.over (subst IsSome ended some)))
+
+sent_by : (r : ℕ) (octets : List ℕ) (link : Option (ℕ × Standing)) (s : State) → IsOrderly s → IsOrderly (sent_on r octets link s)
+sent_by r octets None s h = h
+sent_by r octets (Some (peer, link)) s h = put_over r _ s (sent_on r octets (Some (peer, link)) s) refl refl refl h
+
+pub orderly_sent : (r : ℕ) (octets : List ℕ) (s : State) → IsOrderly s → IsOrderly (sent r octets s)
+orderly_sent r octets s h = sent_by r octets (open_link r s) s h
+
+closes_by : (r peer reason : ℕ) (held : Option Class) (s : State) → IsOrderly s → IsOrderly (closes r peer reason held s)
+closes_by r peer reason None s h = put_over r (closing peer) s (closes r peer reason None s) refl refl refl h
+closes_by r peer reason (Some Zero) s h = orderly_end _ s h
+closes_by r peer reason (Some Two) s h = put_over r (closing peer) s (closes r peer reason (Some Two) s) refl refl refl h
+
+closed_by : (r reason : ℕ) (link : Option (ℕ × Standing)) (s : State) → IsOrderly s → IsOrderly (closed_on r reason link s)
+closed_by r reason None s h = h
+closed_by r reason (Some (peer, link)) s h = closes_by r peer reason s.class s h
+
+pub orderly_closed : (r reason : ℕ) (s : State) → IsOrderly s → IsOrderly (closed_with r reason s)
+orderly_closed r reason s h = closed_by r reason (open_link r s) s h
+
+ended_at : (reason : EndReason) (s : State) (over : Bool) → IsOrderly s → IsOrderly (if over then s else ends reason s)
+ended_at reason s true h = h
+ended_at reason s false h = orderly_end reason s h
+
+pub orderly_ended : (reason : EndReason) (s : State) → IsOrderly s → IsOrderly (ended_by reason s)
+orderly_ended reason s h = ended_at reason s (is_some s.ended) h
+
+-- what is taken out of the queues changes nothing of it
+pub orderly_same : (s : State) (outgoing : List ℕ) (events : List Happening) → IsOrderly s → IsOrderly (record s { outgoing = outgoing; events = events })
+orderly_same s outgoing events h = record { rise = h.rise; up_to = h.up_to; given = h.given; live = h.live; over = h.over }
+
+-- ---- what is gone, after calls
+
+pub asks_gone : (calling called : Option (List ℕ)) (s : State) (r : ℕ) → r ≤ s.given → value_at r s.live ≡ None → value_at r (asks calling called s).live ≡ None
+asks_gone calling called s r up none = push_other r (s.given + 1) asked s.live (λ e. omega arith) ∙ none
+
+sent_gone_by : (r : ℕ) (q : ℕ) (octets : List ℕ) (link : Option (ℕ × Standing)) (s : State) → value_at r s.live ≡ None → value_at r (sent_on q octets link s).live ≡ None
+sent_gone_by r q octets None s none = none
+sent_gone_by r q octets (Some (peer, link)) s none = put_none r q _ s.live none
+
+pub sent_gone : (q r : ℕ) (octets : List ℕ) (s : State) → value_at r s.live ≡ None → value_at r (sent q octets s).live ≡ None
+sent_gone q r octets s none = sent_gone_by r q octets (open_link q s) s none
+
+closes_gone : (r q peer reason : ℕ) (held : Option Class) (s : State) → value_at r s.live ≡ None → value_at r (closes q peer reason held s).live ≡ None
+closes_gone r q peer reason None s none = put_none r q (closing peer) s.live none
+closes_gone r q peer reason (Some Zero) s none = refl
+closes_gone r q peer reason (Some Two) s none = put_none r q (closing peer) s.live none
+
+closed_gone_by : (r q reason : ℕ) (link : Option (ℕ × Standing)) (s : State) → value_at r s.live ≡ None → value_at r (closed_on q reason link s).live ≡ None
+closed_gone_by r q reason None s none = none
+closed_gone_by r q reason (Some (peer, link)) s none = closes_gone r q peer reason s.class s none
+
+pub closed_gone : (q r reason : ℕ) (s : State) → value_at r s.live ≡ None → value_at r (closed_with q reason s).live ≡ None
+closed_gone q r reason s none = closed_gone_by r q reason (open_link q s) s none

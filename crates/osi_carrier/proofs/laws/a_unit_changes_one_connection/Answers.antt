@@ -1,0 +1,5 @@
+use Rattle.osi_carrier.proofs.Effects.{changes_one}
+use Rattle.osi_carrier.proofs.laws.a_unit_changes_one_connection.Goals as goal
+
+pub returns : goal.returns
+returns c = changes_one

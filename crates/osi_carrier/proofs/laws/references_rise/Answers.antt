@@ -1,0 +1,15 @@
+use Rattle.osi_carrier.proofs.Effects.{orderly_fresh, orderly_unit, orderly_packet, orderly_asks, orderly_sent, orderly_closed, orderly_end, orderly_ended, orderly_same}
+use Rattle.osi_carrier.proofs.laws.references_rise.Goals as goal
+
+pub returns : goal.returns
+returns c = record {
+  begins = orderly_fresh;
+  unit = orderly_unit;
+  packet = orderly_packet;
+  asks = orderly_asks;
+  sent = orderly_sent;
+  closed = orderly_closed;
+  ends = orderly_end;
+  ended = orderly_ended;
+  queues = orderly_same;
+}

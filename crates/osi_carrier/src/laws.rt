@@ -1,0 +1,43 @@
+//! Laws of carriers. Each function does nothing: its clauses are the laws.
+
+ghost use Rattle.std.specs.Prelude.{◌≡◌, ◌≤◌, ℕ, Bool, List, Option, None};
+ghost use Rattle.osi_tpdu.specs.Value.{Value};
+ghost use Rattle.osi_class.specs.declared.terms.Local.{Local};
+ghost use Rattle.osi_carrier.specs.Calls.{fresh_state, may_connect, asks, sent, closed_with, ended_by};
+ghost use Rattle.osi_carrier.specs.Happenings.{Happening};
+ghost use Rattle.osi_carrier.specs.Orderly.{IsOrderly, ChangesOne, connection_of};
+ghost use Rattle.osi_carrier.specs.Packets.{after_packet};
+ghost use Rattle.osi_carrier.specs.React.{react};
+ghost use Rattle.osi_carrier.specs.Rows.{value_at};
+ghost use Rattle.osi_carrier.specs.State.{State, ends};
+ghost use Rattle.osi_carrier.specs.declared.ends.EndReason.{EndReason};
+
+/// A unit is for one connection: that of the reference that it names, and in class 0 the only one. All
+/// others stand as they did, unless it ends the carrier; and at most one event is told, of this one.
+pub fn a_unit_changes_one_connection()
+    ensures { (unit : Value) (s : State) → (react unit s).ended ≡ None → ChangesOne (connection_of unit s) s (react unit s) }
+{}
+
+/// Of a new carrier the live connections have references that were given and rise, at most 64 are live
+/// and at most 65,535 were given; whatever comes and is called keeps this.
+pub fn references_rise()
+    ensures begins { (is_caller : Bool) (local : Local) → IsOrderly (fresh_state is_caller local) }
+    ensures unit { (unit : Value) (s : State) → IsOrderly s → IsOrderly (react unit s) }
+    ensures packet { (packet : List ℕ) (s : State) → IsOrderly s → IsOrderly (after_packet s packet) }
+    ensures asks { (calling called : Option (List ℕ)) (s : State) → may_connect s ≡ None → IsOrderly s → IsOrderly (asks calling called s) }
+    ensures sent { (r : ℕ) (tsdu : List ℕ) (s : State) → IsOrderly s → IsOrderly (sent r tsdu s) }
+    ensures closed { (r reason : ℕ) (s : State) → IsOrderly s → IsOrderly (closed_with r reason s) }
+    ensures ends { (reason : EndReason) (s : State) → IsOrderly s → IsOrderly (ends reason s) }
+    ensures ended { (reason : EndReason) (s : State) → IsOrderly s → IsOrderly (ended_by reason s) }
+    ensures queues { (s : State) (outgoing : List ℕ) (events : List Happening) → IsOrderly s →
+        IsOrderly (record s { outgoing = outgoing; events = events }) }
+{}
+
+/// A reference that was given and whose connection is gone is never given again.
+pub fn no_reference_is_given_twice()
+    ensures unit { (unit : Value) (s : State) (r : ℕ) → r ≤ s.given → value_at r s.live ≡ None → value_at r (react unit s).live ≡ None }
+    ensures asks { (calling called : Option (List ℕ)) (s : State) (r : ℕ) → r ≤ s.given → value_at r s.live ≡ None →
+        value_at r (asks calling called s).live ≡ None }
+    ensures sent { (q r : ℕ) (tsdu : List ℕ) (s : State) → value_at r s.live ≡ None → value_at r (sent q tsdu s).live ≡ None }
+    ensures closed { (q r reason : ℕ) (s : State) → value_at r s.live ≡ None → value_at r (closed_with q reason s).live ≡ None }
+{}
