@@ -10,3 +10,8 @@ pub mod Fetched
 pub mod Kept
 pub mod AtReferences
 pub mod Effects
+pub mod Turned
+pub mod Apart
+pub mod MessageLaws
+pub mod Changes
+pub mod Meetings

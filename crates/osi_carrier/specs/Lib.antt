@@ -12,3 +12,6 @@ pub mod Packets
 pub mod Calls
 pub mod Fetching
 pub mod Orderly
+pub mod OpenLinks
+pub mod Messages
+pub mod Meeting

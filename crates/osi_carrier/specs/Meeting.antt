@@ -1,0 +1,152 @@
+-- How one connection of class 2 stands at two carriers since both have had it open, and which units
+-- are under way for it. Both gave it the same reference. `here` is one of the two, `there` the other.
+use Rattle.std.specs.Prelude.{◌≡◌, ℕ, ◌==◌, true, false, List, [], ◌∷◌, ◌++◌, map, Option, Some, None}
+use Rattle.std.specs.List.{flat_map}
+use Rattle.osi_tpdu.specs.Value.{Value, disconnect, disconnected}
+use Rattle.osi_class.specs.Between.{LinkPair, swapped, AreOfClass}
+use Rattle.osi_class.specs.Link.{Given, unit_of}
+use Rattle.osi_carrier.specs.Happenings.{Happening, tsdu, closed}
+use Rattle.osi_carrier.specs.Messages.{Message, ask, agree, deny, message, bye, over, messages_to, AreLike}
+use Rattle.osi_carrier.specs.OpenLinks.{AreOpen}
+use Rattle.osi_carrier.specs.Rows.{Rows, value_at}
+use Rattle.osi_carrier.specs.State.{Connection, asked, linked, closing, State, packets}
+
+-- A side that has closed keeps nothing of its link: `LinkPair` then has it as it was at that time, as
+-- if it took nothing any more, and the units that are still under way to it stand beside.
+pub data Meeting : Type 0 where
+  -- open at both
+  talking : LinkPair → Meeting
+  -- a DR with this reason is under way from here, which ignores these units
+  left_here : LinkPair → List Given → ℕ → Meeting
+  -- a DR with this reason is under way to here, and these units before it are ignored there
+  left_there : LinkPair → List Given → ℕ → Meeting
+  -- DRs under way from here and to here: units before it and reason
+  left_both : List Given → ℕ → List Given → ℕ → Meeting
+  -- gone there; behind units that are ignored a DC comes, or the DR that crossed the one from here
+  waiting_here : List Given → Option ℕ → Meeting
+  -- gone here
+  waiting_there : List Given → Option ℕ → Meeting
+  -- gone at both
+  parted : Meeting
+
+-- seen from the other side
+abbrev pub mirror : Meeting → Meeting
+mirror (talking p) = talking (swapped p)
+mirror (left_here p units reason) = left_there (swapped p) units reason
+mirror (left_there p units reason) = left_here (swapped p) units reason
+mirror (left_both out reason back other) = left_both back other out reason
+mirror (waiting_here units last) = waiting_there units last
+mirror (waiting_there units last) = waiting_here units last
+mirror parted = parted
+
+-- the connection here
+abbrev pub here : ℕ → Meeting → Option Connection
+here n (talking p) = Some (linked n p.left)
+here n (left_here p units reason) = Some (closing n)
+here n (left_there p units reason) = Some (linked n p.left)
+here n (left_both out reason back other) = Some (closing n)
+here n (waiting_here units last) = Some (closing n)
+here n (waiting_there units last) = None
+here n parted = None
+
+-- the connection there
+abbrev pub there : ℕ → Meeting → Option Connection
+there n m = here n (mirror m)
+
+abbrev pub addressed : ℕ → List Given → List Value
+addressed n units = map (unit_of n) units
+
+-- a DR that closes
+abbrev pub leaving : ℕ → ℕ → Value
+leaving n reason = disconnect n n reason []
+
+-- a DC, or the DR that crossed the other
+abbrev pub farewell : ℕ → Option ℕ → Value
+farewell n None = disconnected n n
+farewell n (Some reason) = leaving n reason
+
+-- the units under way from here, the oldest first
+abbrev pub out : ℕ → Meeting → List Value
+out n (talking p) = addressed n p.rightward
+out n (left_here p units reason) = addressed n p.rightward ++ leaving n reason ∷ []
+out n (left_there p units reason) = addressed n units
+out n (left_both units reason back other) = addressed n units ++ leaving n reason ∷ []
+out n (waiting_here units last) = []
+out n (waiting_there units last) = addressed n units ++ farewell n last ∷ []
+out n parted = []
+
+-- the units under way to here
+abbrev pub back : ℕ → Meeting → List Value
+back n m = out n (mirror m)
+
+-- open links agree, and all units are of class 2
+abbrev pub Stands : Meeting → Type 0
+Stands (talking p) = AreOpen true p
+Stands (left_here p units reason) = AreOpen true p × AreOfClass true units
+Stands (left_there p units reason) = AreOpen true p × AreOfClass true units
+Stands (left_both out reason back other) = AreOfClass true out × AreOfClass true back
+Stands (waiting_here units last) = AreOfClass true units
+Stands (waiting_there units last) = AreOfClass true units
+Stands parted = Unit {0}
+
+-- each reference has one row
+abbrev pub AreApart : {X : Type 0} → Rows X → Type 0
+AreApart [] = Unit {0}
+AreApart ((r, x) ∷ rows) = (value_at r rows ≡ None) × AreApart rows
+
+-- What changed is this connection: `after` is what is left of it, these units were written and these
+-- events told.
+pub record Changes (n : ℕ) (old new : State) (after : Option Connection) (units : List Value) (told : List Happening) : Type 0 where
+  pub here : value_at n new.live ≡ after
+  pub others : (m : ℕ) → (m == n) ≡ false → value_at m new.live ≡ value_at m old.live
+  pub apart : AreApart new.live
+  pub outgoing : new.outgoing ≡ old.outgoing ++ packets units
+  pub events : new.events ≡ old.events ++ told
+  pub ended : new.ended ≡ old.ended
+  pub class : new.class ≡ old.class
+  pub given : new.given ≡ old.given
+
+-- what the user of an open connection is told of a message that arrives, and of a closing one: nothing
+abbrev pub told_open : ℕ → Message → List Happening
+told_open n ask = []
+told_open n agree = []
+told_open n (deny reason) = []
+told_open n (message octets) = tsdu n octets ∷ []
+told_open n (bye reason) = closed n reason ∷ []
+told_open n over = []
+
+abbrev pub told_of : ℕ → Option Connection → Message → List Happening
+told_of n None m = []
+told_of n (Some asked) m = []
+told_of n (Some (linked peer link)) m = told_open n m
+told_of n (Some (closing peer)) m = []
+
+-- the messages under way to here, and from here
+abbrev pub messages_back : ℕ → Meeting → List Message
+messages_back n m = messages_to (there n m) (back n m) (here n m)
+
+abbrev pub messages_out : ℕ → Meeting → List Message
+messages_out n m = messages_to (here n m) (out n m) (there n m)
+
+-- What is under way each way, where one side acted: some of what was under way to it arrived, of
+-- which its user was told; and what was under way from it stays, but for what was `lost`, and `put`
+-- comes behind it.
+pub record Carries (n : ℕ) (old new : Meeting) (events : List Happening) (put : List Message) : Type 0 where
+  pub arrived : List Message
+  pub stays : List Message
+  pub lost : List Message
+  pub told : events ≡ flat_map (told_of n (here n old)) arrived
+  pub leftward : AreLike (here n new) (messages_back n old) (arrived ++ messages_back n new)
+  pub before : AreLike (there n old) (messages_out n old) (stays ++ lost)
+  pub after : AreLike (there n old) (messages_out n new) (stays ++ put)
+
+-- One side acted: these units to it were taken (one, or none), and the connection stands so.
+pub record Moves (n : ℕ) (old : Meeting) (s t : State) (taken : List Value) : Type 0 where
+  pub new : Meeting
+  pub units : List Value
+  pub events : List Happening
+  pub changes : Changes n s t (here n new) units events
+  pub there : there n new ≡ there n old
+  pub out : out n new ≡ out n old ++ units
+  pub back : back n old ≡ taken ++ back n new
+  pub stands : Stands new

@@ -1,0 +1,73 @@
+-- What is under way from one carrier to the other for a connection, read as whole messages.
+use Rattle.std.specs.Prelude.{◌≡◌, ℕ, zero, suc, true, false, List, [], ◌∷◌, ◌++◌, map, Option, Some, None}
+use Rattle.osi_tpdu.specs.Value.{Value, request, confirm, disconnect, disconnected, data0, data2, acknowledge, error}
+use Rattle.osi_carrier.specs.State.{Connection, asked, linked, closing}
+
+-- a CR; a CC; a DR that refuses, with its reason; a TSDU; a DR that closes, with its reason; a DC
+pub data Message : Type 0 where
+  ask : Message
+  agree : Message
+  deny : ℕ → Message
+  message : List ℕ → Message
+  bye : ℕ → Message
+  over : Message
+
+-- a DR: one that refuses has no reference of the end that writes it
+abbrev pub parting : ℕ → ℕ → Message
+parting zero reason = deny reason
+parting (suc source) reason = bye reason
+
+-- the messages that units make, where the first part of a TSDU continues what was begun: a TSDU
+-- whose end is not there makes none
+abbrev pub messages_after : List ℕ → List Value → List Message
+messages_after begun [] = []
+messages_after begun (request c ∷ units) = ask ∷ messages_after [] units
+messages_after begun (confirm destination c ∷ units) = agree ∷ messages_after [] units
+messages_after begun (disconnect destination source reason user ∷ units) = parting source reason ∷ messages_after [] units
+messages_after begun (disconnected destination source ∷ units) = over ∷ messages_after [] units
+messages_after begun (data0 false octets ∷ units) = messages_after (begun ++ octets) units
+messages_after begun (data0 true octets ∷ units) = message (begun ++ octets) ∷ messages_after [] units
+messages_after begun (data2 destination number false octets ∷ units) = messages_after (begun ++ octets) units
+messages_after begun (data2 destination number true octets ∷ units) = message (begun ++ octets) ∷ messages_after [] units
+messages_after begun (acknowledge credit destination number ∷ units) = messages_after begun units
+messages_after begun (error destination cause ∷ units) = messages_after begun units
+
+-- TSDUs that are still to be cut into units
+abbrev pub uncut_units : List (List ℕ) → List Value
+uncut_units unsent = map (λ tsdu. data0 true tsdu) unsent
+
+-- the TSDUs that a connection has still to send
+abbrev pub unsent_at : Option Connection → List (List ℕ)
+unsent_at None = []
+unsent_at (Some asked) = []
+unsent_at (Some (linked peer link)) = link.ends.unsent
+unsent_at (Some (closing peer)) = []
+
+-- the octets of the TSDU that a connection has taken in part
+abbrev pub begun_at : Option Connection → List ℕ
+begun_at None = []
+begun_at (Some asked) = []
+begun_at (Some (linked peer link)) = link.ends.joining.begun
+begun_at (Some (closing peer)) = []
+
+-- what is under way, by the connection at the end that sends, its units on the way, and the
+-- connection at the end that takes
+abbrev pub messages_to : Option Connection → List Value → Option Connection → List Message
+messages_to sender units taker = messages_after (begun_at taker) (units ++ uncut_units (unsent_at sender))
+
+-- a message without the octets of its TSDU
+abbrev pub kind_of : Message → Message
+kind_of ask = ask
+kind_of agree = agree
+kind_of (deny reason) = deny reason
+kind_of (message octets) = message []
+kind_of (bye reason) = bye reason
+kind_of over = over
+
+-- The same messages; of one kind where the taker is closing: it has dropped what it had taken of a
+-- TSDU, and takes no more of it.
+abbrev pub AreLike : Option Connection → List Message → List Message → Type 0
+AreLike None some others = some ≡ others
+AreLike (Some asked) some others = some ≡ others
+AreLike (Some (linked peer link)) some others = some ≡ others
+AreLike (Some (closing peer)) some others = map kind_of some ≡ map kind_of others
