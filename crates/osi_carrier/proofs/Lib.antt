@@ -13,5 +13,6 @@ pub mod Effects
 pub mod Turned
 pub mod Apart
 pub mod MessageLaws
+pub mod MeetingMessages
 pub mod Changes
 pub mod Meetings

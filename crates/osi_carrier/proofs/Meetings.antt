@@ -1,5 +1,5 @@
 -- How a connection stands after each unit that one of its two carriers takes, and after each call.
-use Rattle.std.proofs.Common.{◌≡◌, ℕ, Bool, true, false, List, [], ◌∷◌, ◌++◌, map, take, Some, None, refl, sym, ap, subst, ◌∙◌}
+use Rattle.std.proofs.Common.{◌≡◌, ℕ, ◌<◌, Bool, true, false, List, [], ◌∷◌, ◌++◌, map, take, Some, None, refl, sym, ap, subst, ◌∙◌}
 use Rattle.std.proofs.lemmas.List.{append-nil, map-append}
 use Rattle.osi_tpdu.specs.Value.{Value, disconnected}
 use Rattle.osi_class.specs.Between.{LinkPair, swapped, AreOfClass, IsShortTsdu}
@@ -13,6 +13,8 @@ use Rattle.osi_carrier.specs.OpenLinks.{AgreeIn, AreOpen, after_take, after_send
 use Rattle.osi_carrier.specs.React.{react, handed_out}
 use Rattle.osi_carrier.specs.Rows.{value_at}
 use Rattle.osi_carrier.specs.State.{linked, State}
+use Rattle.osi_carrier.specs.Messages.{message, bye, over}
+use Rattle.osi_carrier.proofs.MeetingMessages.{talking_takes, talking_sends, talking_closes, behind_takes, behind_sends, leaving_takes, behind_closes, left_ignores, both_ignores, waiting_ignores, both_takes, waiting_over, waiting_crossed}
 use Rattle.osi_carrier.proofs.Changes.{given_changes, given_ignored, leaving_changes, crossed_changes, over_changes, send_changes, close_changes}
 use Rattle.osi_carrier.proofs.Turned.{left_takes, sends_passes}
 
@@ -69,9 +71,9 @@ first_two p g gs a e = (subst (λ (us : List Given). AreOfClass true us) e a.agr
 
 -- ---- a unit is taken here
 
-take_talking : (n : ℕ) (s : State) (p : LinkPair) (g : Given) (gs : List Given) → s.ended ≡ None → s.class ≡ Some Two → AreApart s.live →
+take_talking : (n : ℕ) (s : State) (p : LinkPair) (g : Given) (gs : List Given) → 0 < n → s.ended ≡ None → s.class ≡ Some Two → AreApart s.live →
     value_at n s.live ≡ Some (linked n p.left) → AreOpen true p → p.leftward ≡ g ∷ gs → Moves n (talking p) s (react (unit_of n g) s) (unit_of n g ∷ [])
-take_talking n s p g gs quiet class apart at a e =
+take_talking n s p g gs some quiet class apart at a e =
     let t = left_takes true p g gs n a e in
     record {
       new = talking (after_take p t.link gs);
@@ -82,12 +84,14 @@ take_talking n s p g gs quiet class apart at a e =
       out = addressed_join n p.rightward (all_given (handed_out t.link));
       back = ap (addressed n) e;
       stands = t.passes.stay_open;
+      put = [];
+      carries = talking_takes n p (unit_of n g) gs a t;
     }
 
-take_behind : (n : ℕ) (s : State) (p : LinkPair) (hs : List Given) (reason : ℕ) (g : Given) (gs : List Given) → s.ended ≡ None → s.class ≡ Some Two → AreApart s.live →
+take_behind : (n : ℕ) (s : State) (p : LinkPair) (hs : List Given) (reason : ℕ) (g : Given) (gs : List Given) → 0 < n → s.ended ≡ None → s.class ≡ Some Two → AreApart s.live →
     value_at n s.live ≡ Some (linked n p.left) → AreOpen true p → AreOfClass true hs → p.leftward ≡ g ∷ gs →
     Moves n (left_there p hs reason) s (react (unit_of n g) s) (unit_of n g ∷ [])
-take_behind n s p hs reason g gs quiet class apart at a two e =
+take_behind n s p hs reason g gs some quiet class apart at a two e =
     let t = left_takes true p g gs n a e in
     let given = all_given (handed_out t.link) in
     record {
@@ -99,12 +103,14 @@ take_behind n s p hs reason g gs quiet class apart at a two e =
       out = addressed_join n hs given;
       back = ap (λ (us : List Given). addressed n us ++ leaving n reason ∷ []) e;
       stands = (t.passes.stay_open, class_join hs given two (class_end p.rightward given t.passes.stay_open.agree.agree.class));
+      put = [];
+      carries = behind_takes n p hs reason g gs some a e t;
     }
 
-take_leaving : (n : ℕ) (s : State) (p : LinkPair) (hs : List Given) (reason : ℕ) → s.ended ≡ None → s.class ≡ Some Two → AreApart s.live →
+take_leaving : (n : ℕ) (s : State) (p : LinkPair) (hs : List Given) (reason : ℕ) → 0 < n → s.ended ≡ None → s.class ≡ Some Two → AreApart s.live →
     value_at n s.live ≡ Some (linked n p.left) → AreOfClass true hs → p.leftward ≡ [] →
     Moves n (left_there p hs reason) s (react (leaving n reason) s) (leaving n reason ∷ [])
-take_leaving n s p hs reason quiet class apart at two e = record {
+take_leaving n s p hs reason some quiet class apart at two e = record {
   new = waiting_there hs None;
   units = disconnected n n ∷ [];
   events = closed n reason ∷ [];
@@ -113,6 +119,8 @@ take_leaving n s p hs reason quiet class apart at two e = record {
   out = refl;
   back = ap (λ (us : List Given). addressed n us ++ leaving n reason ∷ []) e;
   stands = two;
+  put = over ∷ [];
+  carries = leaving_takes n p hs reason some e;
 }
 
 -- the unit that was taken is the oldest
@@ -122,28 +130,28 @@ at_head n m s u unit more rest a b h =
     let same : u ≡ unit = (let e = sym a ∙ b in cc) in
     subst (λ (x : Value). Moves n m s (react x s) (x ∷ [])) same h
 
-take_talking_by : (n : ℕ) (s : State) (p : LinkPair) (gs : List Given) (unit : Value) (rest : List Value) → s.ended ≡ None → s.class ≡ Some Two → AreApart s.live →
+take_talking_by : (n : ℕ) (s : State) (p : LinkPair) (gs : List Given) (unit : Value) (rest : List Value) → 0 < n → s.ended ≡ None → s.class ≡ Some Two → AreApart s.live →
     value_at n s.live ≡ Some (linked n p.left) → AreOpen true p → p.leftward ≡ gs → back n (talking p) ≡ unit ∷ rest → Moves n (talking p) s (react unit s) (unit ∷ [])
-take_talking_by n s p [] unit rest quiet class apart at a e b = let none = sym (ap (addressed n) e) ∙ b in cc
-take_talking_by n s p (g ∷ gs) unit rest quiet class apart at a e b =
-    at_head n (talking p) s (unit_of n g) unit (addressed n gs) rest (ap (addressed n) e) b (take_talking n s p g gs quiet class apart at a e)
+take_talking_by n s p [] unit rest some quiet class apart at a e b = let none = sym (ap (addressed n) e) ∙ b in cc
+take_talking_by n s p (g ∷ gs) unit rest some quiet class apart at a e b =
+    at_head n (talking p) s (unit_of n g) unit (addressed n gs) rest (ap (addressed n) e) b (take_talking n s p g gs some quiet class apart at a e)
 
-take_behind_by : (n : ℕ) (s : State) (p : LinkPair) (hs : List Given) (reason : ℕ) (gs : List Given) (unit : Value) (rest : List Value) → s.ended ≡ None → s.class ≡ Some Two → AreApart s.live →
+take_behind_by : (n : ℕ) (s : State) (p : LinkPair) (hs : List Given) (reason : ℕ) (gs : List Given) (unit : Value) (rest : List Value) → 0 < n → s.ended ≡ None → s.class ≡ Some Two → AreApart s.live →
     value_at n s.live ≡ Some (linked n p.left) → AreOpen true p → AreOfClass true hs → p.leftward ≡ gs → back n (left_there p hs reason) ≡ unit ∷ rest →
     Moves n (left_there p hs reason) s (react unit s) (unit ∷ [])
-take_behind_by n s p hs reason [] unit rest quiet class apart at a two e b =
+take_behind_by n s p hs reason [] unit rest some quiet class apart at a two e b =
     at_head n (left_there p hs reason) s (leaving n reason) unit [] rest (ap (λ (us : List Given). addressed n us ++ leaving n reason ∷ []) e) b
-    (take_leaving n s p hs reason quiet class apart at two e)
-take_behind_by n s p hs reason (g ∷ gs) unit rest quiet class apart at a two e b =
+    (take_leaving n s p hs reason some quiet class apart at two e)
+take_behind_by n s p hs reason (g ∷ gs) unit rest some quiet class apart at a two e b =
     at_head n (left_there p hs reason) s (unit_of n g) unit (addressed n gs ++ leaving n reason ∷ []) rest
-    (ap (λ (us : List Given). addressed n us ++ leaving n reason ∷ []) e) b (take_behind n s p hs reason g gs quiet class apart at a two e)
+    (ap (λ (us : List Given). addressed n us ++ leaving n reason ∷ []) e) b (take_behind n s p hs reason g gs some quiet class apart at a two e)
 
-pub take_here : (n : ℕ) (s : State) (m : Meeting) (unit : Value) (rest : List Value) → s.ended ≡ None → s.class ≡ Some Two → AreApart s.live →
+pub take_here : (n : ℕ) (s : State) (m : Meeting) (unit : Value) (rest : List Value) → 0 < n → s.ended ≡ None → s.class ≡ Some Two → AreApart s.live →
     value_at n s.live ≡ here n m → Stands m → back n m ≡ unit ∷ rest → Moves n m s (react unit s) (unit ∷ [])
-take_here n s (talking p) unit rest quiet class apart at h b = take_talking_by n s p p.leftward unit rest quiet class apart at h refl b
-take_here n s (left_there p hs reason) unit rest quiet class apart at h b = take_behind_by n s p hs reason p.leftward unit rest quiet class apart at h.0 h.1 refl b
-take_here n s (left_here p [] reason) unit rest quiet class apart at h b = cc
-take_here n s (left_here p (g ∷ gs) reason) unit rest quiet class apart at h b =
+take_here n s (talking p) unit rest some quiet class apart at h b = take_talking_by n s p p.leftward unit rest some quiet class apart at h refl b
+take_here n s (left_there p hs reason) unit rest some quiet class apart at h b = take_behind_by n s p hs reason p.leftward unit rest some quiet class apart at h.0 h.1 refl b
+take_here n s (left_here p [] reason) unit rest some quiet class apart at h b = cc
+take_here n s (left_here p (g ∷ gs) reason) unit rest some quiet class apart at h b =
     at_head n (left_here p (g ∷ gs) reason) s (unit_of n g) unit (addressed n gs) rest refl b (record {
       new = left_here p gs reason;
       units = [];
@@ -153,8 +161,10 @@ take_here n s (left_here p (g ∷ gs) reason) unit rest quiet class apart at h b
       out = sym (append-nil (out n (left_here p gs reason)));
       back = refl;
       stands = (h.0, h.1.1);
+      put = [];
+      carries = left_ignores n p g gs reason;
     })
-take_here n s (left_both hs reason [] other) unit rest quiet class apart at h b =
+take_here n s (left_both hs reason [] other) unit rest some quiet class apart at h b =
     at_head n (left_both hs reason [] other) s (leaving n other) unit [] rest refl b (record {
       new = waiting_there hs (Some reason);
       units = [];
@@ -164,8 +174,10 @@ take_here n s (left_both hs reason [] other) unit rest quiet class apart at h b 
       out = sym (append-nil (addressed n hs ++ leaving n reason ∷ []));
       back = refl;
       stands = h.0;
+      put = [];
+      carries = both_takes n hs reason other some;
     })
-take_here n s (left_both hs reason (g ∷ gs) other) unit rest quiet class apart at h b =
+take_here n s (left_both hs reason (g ∷ gs) other) unit rest some quiet class apart at h b =
     at_head n (left_both hs reason (g ∷ gs) other) s (unit_of n g) unit (addressed n gs ++ leaving n other ∷ []) rest refl b (record {
       new = left_both hs reason gs other;
       units = [];
@@ -175,8 +187,10 @@ take_here n s (left_both hs reason (g ∷ gs) other) unit rest quiet class apart
       out = sym (append-nil (addressed n hs ++ leaving n reason ∷ []));
       back = refl;
       stands = (h.0, h.1.1);
+      put = [];
+      carries = both_ignores n hs reason g gs other;
     })
-take_here n s (waiting_here [] None) unit rest quiet class apart at h b =
+take_here n s (waiting_here [] None) unit rest some quiet class apart at h b =
     at_head n (waiting_here [] None) s (disconnected n n) unit [] rest refl b (record {
       new = parted;
       units = [];
@@ -186,8 +200,10 @@ take_here n s (waiting_here [] None) unit rest quiet class apart at h b =
       out = refl;
       back = refl;
       stands = tt;
+      put = [];
+      carries = waiting_over n;
     })
-take_here n s (waiting_here [] (Some reason)) unit rest quiet class apart at h b =
+take_here n s (waiting_here [] (Some reason)) unit rest some quiet class apart at h b =
     at_head n (waiting_here [] (Some reason)) s (leaving n reason) unit [] rest refl b (record {
       new = parted;
       units = [];
@@ -197,8 +213,10 @@ take_here n s (waiting_here [] (Some reason)) unit rest quiet class apart at h b
       out = refl;
       back = refl;
       stands = tt;
+      put = [];
+      carries = waiting_crossed n reason some;
     })
-take_here n s (waiting_here (g ∷ gs) last) unit rest quiet class apart at h b =
+take_here n s (waiting_here (g ∷ gs) last) unit rest some quiet class apart at h b =
     at_head n (waiting_here (g ∷ gs) last) s (unit_of n g) unit (addressed n gs ++ farewell n last ∷ []) rest refl b (record {
       new = waiting_here gs last;
       units = [];
@@ -208,9 +226,11 @@ take_here n s (waiting_here (g ∷ gs) last) unit rest quiet class apart at h b 
       out = refl;
       back = refl;
       stands = h.1;
+      put = [];
+      carries = waiting_ignores n g gs last;
     })
-take_here n s (waiting_there hs last) unit rest quiet class apart at h b = cc
-take_here n s parted unit rest quiet class apart at h b = cc
+take_here n s (waiting_there hs last) unit rest some quiet class apart at h b = cc
+take_here n s parted unit rest some quiet class apart at h b = cc
 
 -- ---- calls here
 
@@ -227,6 +247,8 @@ send_here n s (talking p) link octets quiet apart at is h short =
       out = addressed_join n p.rightward (all_given (with_tsdu p.left octets));
       back = refl;
       stands = passes.stay_open;
+      put = message octets ∷ [];
+      carries = talking_sends n p octets h passes.rightward passes.leftward passes.stay_open;
     }
 send_here n s (left_there p hs reason) link octets quiet apart at is h short =
     let passes = sends_passes true p octets h.0 short in
@@ -240,6 +262,8 @@ send_here n s (left_there p hs reason) link octets quiet apart at is h short =
       out = addressed_join n hs given;
       back = refl;
       stands = (passes.stay_open, class_join hs given h.1 (class_end p.rightward given passes.stay_open.agree.agree.class));
+      put = message octets ∷ [];
+      carries = behind_sends n p hs reason octets;
     }
 send_here n s (left_here p gs reason) link octets quiet apart at is h short = cc
 send_here n s (left_both hs reason gs other) link octets quiet apart at is h short = cc
@@ -247,9 +271,9 @@ send_here n s (waiting_here gs last) link octets quiet apart at is h short = cc
 send_here n s (waiting_there gs last) link octets quiet apart at is h short = cc
 send_here n s parted link octets quiet apart at is h short = cc
 
-pub close_here : (n : ℕ) (s : State) (m : Meeting) (link : Standing) (reason : ℕ) → s.ended ≡ None → s.class ≡ Some Two → AreApart s.live →
+pub close_here : (n : ℕ) (s : State) (m : Meeting) (link : Standing) (reason : ℕ) → 0 < n → s.ended ≡ None → s.class ≡ Some Two → AreApart s.live →
     value_at n s.live ≡ here n m → here n m ≡ Some (linked n link) → Stands m → Moves n m s (closed_with n reason s) []
-close_here n s (talking p) link reason quiet class apart at is h = record {
+close_here n s (talking p) link reason some quiet class apart at is h = record {
   new = left_here p p.leftward reason;
   units = leaving n reason ∷ [];
   events = [];
@@ -258,8 +282,10 @@ close_here n s (talking p) link reason quiet class apart at is h = record {
   out = refl;
   back = refl;
   stands = (h, h.agree.agree_back.class);
+  put = bye reason ∷ [];
+  carries = talking_closes n p reason some;
 }
-close_here n s (left_there p hs other) link reason quiet class apart at is h = record {
+close_here n s (left_there p hs other) link reason some quiet class apart at is h = record {
   new = left_both hs reason p.leftward other;
   units = leaving n reason ∷ [];
   events = [];
@@ -268,9 +294,11 @@ close_here n s (left_there p hs other) link reason quiet class apart at is h = r
   out = refl;
   back = refl;
   stands = (h.1, h.0.agree.agree_back.class);
+  put = bye reason ∷ [];
+  carries = behind_closes n p hs reason other some;
 }
-close_here n s (left_here p gs other) link reason quiet class apart at is h = cc
-close_here n s (left_both hs own gs other) link reason quiet class apart at is h = cc
-close_here n s (waiting_here gs last) link reason quiet class apart at is h = cc
-close_here n s (waiting_there gs last) link reason quiet class apart at is h = cc
-close_here n s parted link reason quiet class apart at is h = cc
+close_here n s (left_here p gs other) link reason some quiet class apart at is h = cc
+close_here n s (left_both hs own gs other) link reason some quiet class apart at is h = cc
+close_here n s (waiting_here gs last) link reason some quiet class apart at is h = cc
+close_here n s (waiting_there gs last) link reason some quiet class apart at is h = cc
+close_here n s parted link reason some quiet class apart at is h = cc

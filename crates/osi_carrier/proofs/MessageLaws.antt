@@ -67,3 +67,34 @@ kinds_join (data2 destination number false octets ∷ us) vs b = kinds_join us v
 kinds_join (data2 destination number true octets ∷ us) vs b = ap (λ (l : List Message). message [] ∷ l) (kinds_join us vs [])
 kinds_join (acknowledge credit destination number ∷ us) vs b = kinds_join us vs b
 kinds_join (error destination cause ∷ us) vs b = kinds_join us vs b
+
+-- what is begun behind units
+abbrev begun_after : List ℕ → List Value → List ℕ
+begun_after begun [] = begun
+begun_after begun (request c ∷ units) = begun_after [] units
+begun_after begun (confirm destination c ∷ units) = begun_after [] units
+begun_after begun (disconnect destination source reason user ∷ units) = begun_after [] units
+begun_after begun (disconnected destination source ∷ units) = begun_after [] units
+begun_after begun (data0 false octets ∷ units) = begun_after (begun ++ octets) units
+begun_after begun (data0 true octets ∷ units) = begun_after [] units
+begun_after begun (data2 destination number false octets ∷ units) = begun_after (begun ++ octets) units
+begun_after begun (data2 destination number true octets ∷ units) = begun_after [] units
+begun_after begun (acknowledge credit destination number ∷ units) = begun_after begun units
+begun_after begun (error destination cause ∷ units) = begun_after begun units
+
+messages_part : (us : List Value) (begun : List ℕ) (vs : List Value) → messages_after begun (us ++ vs) ≡ messages_after begun us ++ messages_after (begun_after begun us) vs
+messages_part [] begun vs = refl
+messages_part (request c ∷ us) begun vs = ap (λ (l : List Message). ask ∷ l) (messages_part us [] vs)
+messages_part (confirm destination c ∷ us) begun vs = ap (λ (l : List Message). agree ∷ l) (messages_part us [] vs)
+messages_part (disconnect destination source reason user ∷ us) begun vs = ap (λ (l : List Message). parting source reason ∷ l) (messages_part us [] vs)
+messages_part (disconnected destination source ∷ us) begun vs = ap (λ (l : List Message). over ∷ l) (messages_part us [] vs)
+messages_part (data0 false octets ∷ us) begun vs = messages_part us (begun ++ octets) vs
+messages_part (data0 true octets ∷ us) begun vs = ap (λ (l : List Message). message (begun ++ octets) ∷ l) (messages_part us [] vs)
+messages_part (data2 destination number false octets ∷ us) begun vs = messages_part us (begun ++ octets) vs
+messages_part (data2 destination number true octets ∷ us) begun vs = ap (λ (l : List Message). message (begun ++ octets) ∷ l) (messages_part us [] vs)
+messages_part (acknowledge credit destination number ∷ us) begun vs = messages_part us begun vs
+messages_part (error destination cause ∷ us) begun vs = messages_part us begun vs
+
+-- the messages of units are the first of those of more units
+pub messages_front : (us : List Value) (begun : List ℕ) (vs : List Value) → (lost : List Message) × (messages_after begun (us ++ vs) ≡ messages_after begun us ++ lost)
+messages_front us begun vs = (messages_after (begun_after begun us) vs, messages_part us begun vs)

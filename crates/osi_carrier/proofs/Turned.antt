@@ -4,7 +4,7 @@ use Rattle.std.specs.List.{flat_map, AllByRecursion}
 use Rattle.std.proofs.lemmas.List.{append-nil, map-append}
 use Rattle.std.proofs.lemmas.Grind.{flat_map-append}
 use Rattle.osi_tpdu.specs.Value.{Value, request, confirm, disconnect, disconnected, data0, data2, acknowledge, error}
-use Rattle.osi_class.specs.Between.{LinkPair, swapped, Turn, at_left, TurnsAlong, opposite, left_in, right_out, under_way, HasWholeTsdus, IsShortTsdu, TakesOldest}
+use Rattle.osi_class.specs.Between.{LeftMoves, LinkPair, swapped, Turn, at_left, TurnsAlong, opposite, left_in, right_out, under_way_before, under_way, HasWholeTsdus, IsShortTsdu, TakesOldest}
 use Rattle.osi_class.specs.Ends.{Ends}
 use Rattle.osi_class.specs.Flow.{Flow, Sender, is_awaited, acknowledged}
 use Rattle.osi_class.specs.Giving.{all_given}
@@ -17,11 +17,11 @@ use Rattle.osi_class.specs.declared.limits.TheConstants.{LONGEST_TSDU}
 use Rattle.osi_class.proofs.Classes.{zero_turns}
 use Rattle.osi_class.proofs.Flows.{agree_turns}
 use Rattle.osi_class.proofs.Giving.{drained_moves, drained_ends, drained_leaves}
-use Rattle.osi_class.proofs.Oldest.{oldest_in_class_0, oldest_in_class_2}
+use Rattle.osi_class.proofs.Oldest.{said, oldest_in_class_0, oldest_in_class_2}
 use Rattle.osi_class.proofs.Order.{choose_ok, at_ok}
 use Rattle.osi_class.proofs.Short.{stays_short}
 use Rattle.osi_class.proofs.SoundLaws.{move_same}
-use Rattle.osi_class.proofs.Ways.{whole_kept, stays_whole, other_way}
+use Rattle.osi_class.proofs.Ways.{turns_keep, whole_kept, stays_whole, other_way}
 use Rattle.osi_carrier.specs.OpenLinks.{IsSettled, AgreeIn, AreOpen, links, Passes, after_send, after_take, LeftTakes}
 use Rattle.osi_carrier.specs.Pump.{pumped}
 use Rattle.osi_carrier.specs.React.{handed_out}
@@ -153,6 +153,18 @@ agree_turned true old new i o t a = record {
   agree_back = agree_turns (map opposite t.turns) (swapped old) (swapped new) a.back a.agree_back (other_way old new t.turns t.along);
 }
 
+-- what is under way from links that may have parts without their ends
+pub turned_any : (old new : LinkPair) (i o : List (List ℕ)) → Turned old new i o → under_way_before old i ≡ under_way new
+turned_any old new i o t =
+    ap (λ (l : List (List ℕ)). under_way_before old l) (sym (append-nil (flat_map left_in t.turns) ∙ t.sent))
+    ∙ turns_keep old new t.turns [] t.along ∙ ap (λ (l : List (List ℕ)). l ++ under_way new) t.none
+
+pub turned_any_back : (old new : LinkPair) (i o : List (List ℕ)) → Turned old new i o → under_way (swapped old) ≡ o ++ under_way (swapped new)
+turned_any_back old new i o t =
+    ap (λ (l : List (List ℕ)). under_way_before (swapped old) l) (sym (append-nil (flat_map left_in (map opposite t.turns)) ∙ t.sent_back))
+    ∙ turns_keep (swapped old) (swapped new) (map opposite t.turns) [] (other_way old new t.turns t.along)
+    ∙ ap (λ (l : List (List ℕ)). l ++ under_way (swapped new)) t.got
+
 -- what is under way, to the right and to the left
 pub turned_right : (old new : LinkPair) (i o : List (List ℕ)) → Turned old new i o → HasWholeTsdus old → under_way old ++ i ≡ under_way new
 turned_right old new i o t whole =
@@ -242,15 +254,38 @@ taken_one_by e (Some f) (error destination cause) none = tt
 taken_one : (s t : Standing) (unit : Value) → s.ends.joining.whole ≡ [] → taken s unit ≡ Ok t → HasOne t
 taken_one s t unit none e = at_ok HasOne (taken s unit) t (taken_one_by s.ends s.flow unit none) e
 
--- ---- the two calls at the left
+-- ---- the two calls at the left, whatever the peer
+
+-- a unit that the left link takes, whatever its peer
+pub turned_take : (l t r : Standing) (out : List Given) (g : Given) (rest : List Given) (destination : ℕ) → taken l (unit_of destination g) ≡ Ok t →
+    Turned (links l out r (g ∷ rest)) (links (pumped (handed_out t)) (out ++ all_given (handed_out t)) r rest) [] (take 1 t.ends.joining.whole)
+turned_take l t r out g rest destination is =
+    let old = links l out r (g ∷ rest) in
+    let mid = links t out r rest in
+    let after = links (handed_out t) out r rest in
+    let new = links (pumped (handed_out t)) (out ++ all_given (handed_out t)) r rest in
+    let got = take 1 t.ends.joining.whole in
+    let turn : LeftMoves (take_in (unit_of destination g)) old mid =
+    record { moves = is; given = sym (append-nil out); comes = (g, said destination g, refl); right = refl } in
+    let first : Turned old mid [] [] = record { turns = at_left (take_in (unit_of destination g)) ∷ []; along = (mid, turn, refl); sent = refl; none = refl; sent_back = refl; got = refl } in
+    let all : Turned old new [] (got ++ []) =
+    turned_join old after new [] [] got [] (turned_join old mid after [] [] [] got first (turned_out t r out rest)) (turned_pumped (handed_out t) r out rest) in
+    subst (λ (l : List (List ℕ)). Turned old new [] l) (append-nil got) all
+
+-- a TSDU that is handed in at the left, whatever its peer
+pub turned_send : (l r : Standing) (out back : List Given) (tsdu : List ℕ) →
+    Turned (links l out r back) (links (pumped (with_tsdu l tsdu)) (out ++ all_given (with_tsdu l tsdu)) r back) (tsdu ∷ []) []
+turned_send l r out back tsdu =
+    turned_join (links l out r back) (links (with_tsdu l tsdu) out r back) (links (pumped (with_tsdu l tsdu)) (out ++ all_given (with_tsdu l tsdu)) r back) (tsdu ∷ []) [] [] []
+    (turned_in l r out back tsdu) (turned_pumped (with_tsdu l tsdu) r out back)
+
+-- ---- the two calls at the left of open links
 
 -- a TSDU is handed in, and all that may be sent now is given
 pub sends_passes : (two : Bool) (p : LinkPair) (tsdu : List ℕ) → AreOpen two p → IsShortTsdu tsdu →
     Passes two p (after_send p tsdu) (tsdu ∷ []) []
 sends_passes two p tsdu a short =
-    let mid = links (with_tsdu p.left tsdu) p.rightward p.right p.leftward in
-    turned_passes two p (after_send p tsdu) (tsdu ∷ []) []
-    (turned_join p mid (after_send p tsdu) (tsdu ∷ []) [] [] [] (turned_in p.left p.right p.rightward p.leftward tsdu) (turned_pumped (with_tsdu p.left tsdu) p.right p.rightward p.leftward))
+    turned_passes two p (after_send p tsdu) (tsdu ∷ []) [] (turned_send p.left p.right p.rightward p.leftward tsdu)
     (short, tt) a.agree a.whole a.whole_back a.short a.short_back
     (pumped_settled (with_tsdu p.left tsdu) a.left.limit a.left.handed) a.right
 
@@ -260,27 +295,22 @@ oldest_taken false p unit rest destination a z e = oldest_in_class_0 (swapped p)
 oldest_taken true p unit rest destination a t e =
     oldest_in_class_2 (swapped p) t.back t.window unit rest destination t.agree_back t.agree a.whole_back a.short_back e
 
-takes_by : (two : Bool) (p : LinkPair) (unit : Value) (rest : List Given) → AreOpen two p → TakesOldest (swapped p) unit rest → LeftTakes two p unit rest
-takes_by two p unit rest a t =
-    let mid = links t.new p.rightward p.right rest in
-    let out = links (handed_out t.new) p.rightward p.right rest in
-    let same = (move_same (take_in unit) p.left t.new t.taken).0 in
+left_takes_by : (two : Bool) (p : LinkPair) (g : Given) (rest : List Given) (destination : ℕ) → AreOpen two p → p.leftward ≡ g ∷ rest →
+    TakesOldest (swapped p) (unit_of destination g) rest → LeftTakes two p (unit_of destination g) rest
+left_takes_by two p g rest destination a e t =
+    let same = (move_same (take_in (unit_of destination g)) p.left t.new t.taken).0 in
     let limit : 0 < t.new.ends.limit = (let before = a.left.limit in omega arith) in
-    let first : Turned p mid [] [] = record { turns = at_left (take_in unit) ∷ []; along = (mid, t.turn, refl); sent = refl; none = refl; sent_back = refl; got = refl } in
-    let second = turned_out t.new p.right p.rightward rest in
-    let third = turned_pumped (handed_out t.new) p.right p.rightward rest in
     let got = take 1 t.new.ends.joining.whole in
-    let all : Turned p (after_take p t.new rest) [] (got ++ []) =
-    turned_join p out (after_take p t.new rest) [] [] got [] (turned_join p mid out [] [] [] got first second) third in
     record {
       link = t.new;
       taken = t.taken;
       passes = turned_passes two p (after_take p t.new rest) [] got
-          (subst (λ (l : List (List ℕ)). Turned p (after_take p t.new rest) [] l) (append-nil got) all)
+          (subst (λ (us : List Given). Turned (links p.left p.rightward p.right us) (after_take p t.new rest) [] got) (sym e)
+          (turned_take p.left t.new p.right p.rightward g rest destination t.taken))
           tt a.agree a.whole a.whole_back a.short a.short_back
-          (pumped_settled (handed_out t.new) limit (taken_one p.left t.new unit a.left.handed t.taken)) a.right;
+          (pumped_settled (handed_out t.new) limit (taken_one p.left t.new (unit_of destination g) a.left.handed t.taken)) a.right;
     }
 
 pub left_takes : (two : Bool) (p : LinkPair) (unit : Given) (rest : List Given) (destination : ℕ) → AreOpen two p → p.leftward ≡ unit ∷ rest →
     LeftTakes two p (unit_of destination unit) rest
-left_takes two p unit rest destination a e = takes_by two p (unit_of destination unit) rest a (oldest_taken two p unit rest destination a a.agree e)
+left_takes two p unit rest destination a e = left_takes_by two p unit rest destination a e (oldest_taken two p unit rest destination a a.agree e)

@@ -1,6 +1,6 @@
 -- How one connection of class 2 stands at two carriers since both have had it open, and which units
 -- are under way for it. Both gave it the same reference. `here` is one of the two, `there` the other.
-use Rattle.std.specs.Prelude.{◌≡◌, ℕ, ◌==◌, true, false, List, [], ◌∷◌, ◌++◌, map, Option, Some, None}
+use Rattle.std.specs.Prelude.{◌≡◌, ℕ, ◌==◌, Bool, true, false, List, [], ◌∷◌, ◌++◌, map, Option, Some, None}
 use Rattle.std.specs.List.{flat_map}
 use Rattle.osi_tpdu.specs.Value.{Value, disconnect, disconnected}
 use Rattle.osi_class.specs.Between.{LinkPair, swapped, AreOfClass}
@@ -150,3 +150,5 @@ pub record Moves (n : ℕ) (old : Meeting) (s t : State) (taken : List Value) : 
   pub out : out n new ≡ out n old ++ units
   pub back : back n old ≡ taken ++ back n new
   pub stands : Stands new
+  pub put : List Message
+  pub carries : Carries n old new events put
