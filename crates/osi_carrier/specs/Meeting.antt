@@ -1,10 +1,11 @@
 -- How one connection of class 2 stands at two carriers since both have had it open, and which units
 -- are under way for it. Both gave it the same reference. `here` is one of the two, `there` the other.
-use Rattle.std.specs.Prelude.{◌≡◌, ℕ, ◌==◌, Bool, true, false, List, [], ◌∷◌, ◌++◌, map, Option, Some, None}
+use Rattle.std.specs.Prelude.{◌≡◌, ℕ, ◌<◌, ◌==◌, Bool, true, false, List, [], ◌∷◌, ◌++◌, map, Option, Some, None}
 use Rattle.std.specs.List.{flat_map}
 use Rattle.osi_tpdu.specs.Value.{Value, disconnect, disconnected}
 use Rattle.osi_class.specs.Between.{LinkPair, swapped, AreOfClass}
 use Rattle.osi_class.specs.Link.{Given, unit_of}
+use Rattle.osi_class.specs.declared.terms.Class.TheVariants.{Two}
 use Rattle.osi_carrier.specs.Happenings.{Happening, tsdu, closed}
 use Rattle.osi_carrier.specs.Messages.{Message, ask, agree, deny, message, bye, over, messages_to, AreLike}
 use Rattle.osi_carrier.specs.OpenLinks.{AreOpen}
@@ -93,6 +94,15 @@ Stands parted = Unit {0}
 abbrev pub AreApart : {X : Type 0} → Rows X → Type 0
 AreApart [] = Unit {0}
 AreApart ((r, x) ∷ rows) = (value_at r rows ≡ None) × AreApart rows
+
+-- a carrier of class 2 at which the connection stands as it does here
+pub record IsAt (n : ℕ) (s : State) (m : Meeting) : Type 0 where
+  pub some : 0 < n
+  pub lasts : s.ended ≡ None
+  pub class : s.class ≡ Some Two
+  pub apart : AreApart s.live
+  pub is : value_at n s.live ≡ here n m
+  pub stands : Stands m
 
 -- What changed is this connection: `after` is what is left of it, these units were written and these
 -- events told.

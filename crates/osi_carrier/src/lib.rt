@@ -13,6 +13,7 @@ mod negotiation;
 mod rows;
 mod stages;
 mod switch;
+pub mod two_carriers;
 mod writing;
 
 pub use carrier::Carrier;

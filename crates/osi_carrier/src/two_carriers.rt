@@ -1,0 +1,28 @@
+//! Laws of two carriers and the units between them. Each function does nothing: its clauses are the
+//! laws.
+
+ghost use Rattle.std.specs.Prelude.{◌≡◌, ℕ, List, [], ◌∷◌, Some};
+ghost use Rattle.osi_tpdu.specs.Value.{Value};
+ghost use Rattle.osi_class.specs.Between.{IsShortTsdu};
+ghost use Rattle.osi_class.specs.Link.{Standing};
+ghost use Rattle.osi_carrier.specs.Calls.{sent, closed_with};
+ghost use Rattle.osi_carrier.specs.Meeting.{Meeting, mirror, here, there, out, back, Stands, IsAt, Moves};
+ghost use Rattle.osi_carrier.specs.React.{react};
+ghost use Rattle.osi_carrier.specs.State.{State, linked};
+
+/// A connection of class 2 that both carriers have had open, seen from one of them. The oldest unit
+/// that is under way to it is taken, and no fault comes of it, nor an end: it is a DT or an AK that
+/// the link awaits, one that a closing connection ignores, or the DR or DC that ends the connection
+/// here. In this and in each call what was under way arrives in order and is told, what is put comes
+/// behind what stays, and a connection that is closed loses only what it had not yet cut into units.
+/// All other connections stay as they are. Seen from the other carrier it is the same.
+pub fn what_a_connection_carries()
+    ensures taken { (n : ℕ) (s : State) (m : Meeting) (unit : Value) (rest : List Value) → IsAt n s m → back n m ≡ unit ∷ rest →
+        Moves n m s (react unit s) (unit ∷ []) }
+    ensures sent { (n : ℕ) (s : State) (m : Meeting) (link : Standing) (tsdu : List ℕ) → IsAt n s m → here n m ≡ Some (linked n link) → IsShortTsdu tsdu →
+        Moves n m s (sent n tsdu s) [] }
+    ensures closed { (n : ℕ) (s : State) (m : Meeting) (link : Standing) (reason : ℕ) → IsAt n s m → here n m ≡ Some (linked n link) →
+        Moves n m s (closed_with n reason s) [] }
+    ensures mirrored { (m : Meeting) → Stands m → Stands (mirror m) }
+    ensures twice { (m : Meeting) → mirror (mirror m) ≡ m }
+{}
