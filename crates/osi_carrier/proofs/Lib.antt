@@ -16,3 +16,4 @@ pub mod MessageLaws
 pub mod MeetingMessages
 pub mod Changes
 pub mod Meetings
+pub mod Coming

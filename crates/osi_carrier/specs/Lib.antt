@@ -15,3 +15,4 @@ pub mod Orderly
 pub mod OpenLinks
 pub mod Messages
 pub mod Meeting
+pub mod Coming

@@ -1,0 +1,281 @@
+-- Octets that a carrier wrote are read as the units that it wrote.
+use Rattle.std.proofs.Common.{◌≡◌, ℕ, ◌+◌, ◌-◌, ◌<◌, ◌≤◌, Bool, true, false, ◌||◌, is_some, List, [], ◌∷◌, ◌++◌, length, map, take, drop, Option, Some, None, Result, Ok, Err, refl, sym, ap, subst, ◌∙◌, inl, inr, ◌⊎◌, arith, append_assoc, length-append, if◌then◌else◌}
+use Rattle.std.specs.List.{AllByRecursion}
+use Rattle.std.proofs.lemmas.List.{append-nil, append_cancel_left, get_or_append_left, take-append-drop, length-take-le, take-take}
+use Rattle.osi_tpkt.specs.Packet.{IsPacket, IsUnit, IsFaultOf, IsBadVersion, IsBadLength, packet_of}
+use Rattle.osi_tpkt.specs.PacketLaws.{one_packet, packet_front, written_packet, stated_length-append}
+use Rattle.osi_tpkt.specs.Stream.{ArePackets, offset_of}
+use Rattle.osi_tpkt.specs.declared.faults.TpktFault.{TpktFault}
+use Rattle.osi_tpkt.specs.declared.faults.TpktFault.TheVariants.{BadVersion, BadLength, OutOfMemory}
+use Rattle.osi_tpkt.proofs.Fronts.{front_version, front_length}
+use Rattle.osi_tpdu.specs.Laws.Written.{written_spells}
+use Rattle.osi_tpdu.specs.Packet.{units_of}
+use Rattle.osi_tpdu.specs.Value.{Value}
+use Rattle.osi_tpdu.specs.Writing.{written}
+use Rattle.osi_tpdu.specs.declared.faults.TpduFault.{TpduFault}
+use Rattle.osi_tpdu.proofs.PacketLaws.{units_only}
+use Rattle.osi_carrier.specs.Coming.{IsSendable, AreComing, TakesUnits, TakesSome}
+use Rattle.osi_tpkt.specs.declared.cutting.Fed.{Fed}
+use Rattle.osi_carrier.specs.Packets.{Carrying, Feeds, waits, acts_by, after_packet, stops, is_spoilt, TakesPackets, RunsDry, StopsBehind, Refuses, Starves, FindsNoMemory, Goes, RunsOut}
+use Rattle.osi_carrier.specs.React.{react, reacts}
+use Rattle.osi_carrier.specs.State.{State, packets, ends}
+use Rattle.osi_carrier.specs.declared.ends.EndReason.{EndReason}
+use Rattle.osi_carrier.specs.declared.ends.EndReason.TheVariants.{NoMemory}
+use Rattle.osi_carrier.proofs.Pumping.{packets_join}
+use Rattle.osi_carrier.proofs.Units.{written_least}
+
+all_behind : (us vs : List Value) → AllByRecursion IsSendable us → AllByRecursion IsSendable vs → AllByRecursion IsSendable (us ++ vs)
+all_behind [] vs a b = b
+all_behind (u ∷ us) vs a b = (a.0, all_behind us vs a.1 b)
+
+-- ---- one unit
+
+unit_packet : (unit : Value) → IsSendable unit → IsPacket (written unit) (packet_of (written unit))
+unit_packet unit h = written_packet (written unit) (record { at_least = written_least unit; at_most = h.most; octets = (written_spells unit h.fits).are_octets })
+
+unit_read : (unit : Value) → IsSendable unit → units_of (written unit) ≡ Ok (unit ∷ [])
+unit_read unit h = units_only (written unit) (unit ∷ []) (written_spells unit h.fits)
+
+-- a packet of one unit does what the unit does
+pub packet_reacts : (s : State) (unit : Value) → IsSendable unit → after_packet s (written unit) ≡ react unit s
+unfolding after_packet
+packet_reacts s unit h = ap (λ (r : Result (List Value) TpduFault). acts_by r s) (unit_read unit h)
+
+-- ---- packets
+
+-- packets at the front of what was written
+record Fronts (units : List (List ℕ)) (coming : List Value) (r t : List ℕ) : Type 0 where
+  done : List Value
+  left : List Value
+  parts : coming ≡ done ++ left
+  are : units ≡ map written done
+  sendable : AllByRecursion IsSendable done
+  rest : AreComing r t left
+
+some_octets : (u b : List ℕ) → IsPacket u b → 0 < length b
+some_octets u b p = let e = ap length p.spelled in omega arith
+
+units_front : (units : List (List ℕ)) (coming : List Value) (s r t : List ℕ) → AllByRecursion IsSendable coming → ArePackets units s r → s ++ t ≡ packets coming →
+    Fronts units coming r t
+units_front [] coming s r t all h e = record {
+  done = [];
+  left = coming;
+  parts = refl;
+  are = refl;
+  sendable = tt;
+  rest = record { octets = ap (λ l. l ++ t) (sym h) ∙ e; sendable = all };
+}
+units_front (u ∷ us) [] s r t all h e =
+    let some = some_octets u h.0 h.2 in
+    let total = length-append s t in
+    let parts = ap length h.3 ∙ length-append h.0 h.1 in
+    let none = ap length e in
+    absurd (omega arith)
+units_front (u ∷ us) (v ∷ vs) s r t all h e =
+    let packet = unit_packet v all.0 in
+    let same : h.0 ++ (h.1 ++ t) ≡ packet_of (written v) ++ packets vs = sym (append_assoc h.0 h.1 t) ∙ ap (λ l. l ++ t) (sym h.3) ∙ e in
+    let one = one_packet u (written v) h.0 (packet_of (written v)) (h.1 ++ t) (packets vs) h.2 packet same in
+    let behind : h.1 ++ t ≡ packets vs = append_cancel_left (packet_of (written v)) (h.1 ++ t) (packets vs) (ap (λ l. l ++ (h.1 ++ t)) (sym one.0) ∙ same) in
+    let more = units_front us vs h.1 r t all.1 h.4 behind in
+    record {
+      done = v ∷ more.done;
+      left = more.left;
+      parts = ap (λ l. v ∷ l) more.parts;
+      are = ap (λ x. x ∷ us) one.1 ∙ ap (λ l. written v ∷ l) more.are;
+      sendable = (all.0, more.sendable);
+      rest = more.rest;
+    }
+
+-- packets that are taken are units that are taken
+units_taken : (done : List Value) (s t : State) → AllByRecursion IsSendable done → TakesPackets s (map written done) t → TakesUnits s done t
+units_taken [] s t all h = h
+units_taken (u ∷ us) s t all h =
+    (h.0, units_taken us (react u s) t all.1 (subst (λ (x : State). TakesPackets x (map written us) t) (packet_reacts s u all.0) h.1))
+
+-- what was written has no fault
+front_free : (at : ℕ) (b r t x : List ℕ) (u : List ℕ) (f : TpktFault) → IsPacket u b → r ++ t ≡ b ++ x → IsFaultOf at r f → ⊥
+front_free at b r t x u (BadVersion o) p e bad =
+    let some = some_octets u b p in
+    front_version b x some (packet_front u b p).0 (subst IsBadVersion e
+    ((let total = length-append r t in let here = bad.0.0 in omega arith), λ is. bad.0.1 (sym (get_or_append_left r t 0 0 bad.0.0) ∙ is)))
+front_free at b r t x u (BadLength o) p e bad =
+    let long : 4 ≤ length b = (let n = ap length p.spelled in omega arith) in
+    front_length b x long (packet_front u b p).0 (subst IsBadLength e (
+      (let total = length-append r t in let here = bad.0.0 in omega arith),
+      get_or_append_left r t 0 0 (let here = bad.0.0 in omega arith) ∙ bad.0.1,
+      (let stated = stated_length-append r t bad.0.0 in let low = bad.0.2 in omega arith),
+    ))
+front_free at b r t x u OutOfMemory p e bad = bad
+
+short_none : (r t : List ℕ) → r ++ t ≡ [] → length r ≡ 0
+short_none r t e = let total = length-append r t in let none = ap length e in omega arith
+
+pub fault_free : (at : ℕ) (r t : List ℕ) (f : TpktFault) (units : List Value) → AreComing r t units → IsFaultOf at r f → ⊥
+fault_free at r t (BadVersion o) [] c bad = let none = short_none r t c.octets in let some = bad.0.0 in omega arith
+fault_free at r t (BadLength o) [] c bad = let none = short_none r t c.octets in let some = bad.0.0 in omega arith
+fault_free at r t OutOfMemory [] c bad = bad
+fault_free at r t f (u ∷ us) c bad = front_free at (packet_of (written u)) r t (packets us) (written u) f (unit_packet u c.sendable.0) c.octets bad
+
+-- ---- feeding
+
+whole_piece : (held outgoing : List ℕ) (n : ℕ) → (held ++ take n outgoing) ++ drop n outgoing ≡ held ++ outgoing
+whole_piece held outgoing n = append_assoc held (take n outgoing) (drop n outgoing) ∙ ap (λ l. held ++ l) (take-append-drop n outgoing)
+
+-- one unit that found no memory had done nothing
+alone_starved : (old new : State) (unit : Value) (done more : List Value) (next : Value) → unit ∷ [] ≡ done ++ (next ∷ more) → new ≡ ends NoMemory (reacts done old) → new ≡ ends NoMemory old
+alone_starved old new unit [] more next e is = is
+alone_starved old new unit (d ∷ []) more next e is = cc
+alone_starved old new unit (d ∷ f ∷ ds) more next e is = cc
+
+starved_unit : (old new : State) (packet : List ℕ) (unit : Value) → IsSendable unit → packet ≡ written unit → Starves old packet new → new ≡ ends NoMemory old
+starved_unit old new packet unit sendable is h =
+    let same : Ok (unit ∷ []) ≡ Ok h.0 = sym (unit_read unit sendable) ∙ ap units_of (sym is) ∙ h.1 in
+    let us : unit ∷ [] ≡ h.0 = cc in
+    alone_starved old new unit h.2.done h.2.more h.2.next (us ∙ h.2.all) h.2.ended
+
+-- the packets of a part of what comes
+reads_part : (held outgoing : List ℕ) (coming : List Value) (n : ℕ) (units : List (List ℕ)) (r : List ℕ) → AreComing held outgoing coming →
+    ArePackets units (held ++ take n outgoing) r → Fronts units coming r (drop n outgoing)
+reads_part held outgoing coming n units r c h = units_front units coming (held ++ take n outgoing) r (drop n outgoing) c.sendable h (whole_piece held outgoing n ∙ c.octets)
+
+front_taken : (s t : State) (units : List (List ℕ)) (coming : List Value) (r behind : List ℕ) (f : Fronts units coming r behind) → TakesPackets s units t → TakesUnits s f.done t
+front_taken s t units coming r behind f h = units_taken f.done s t f.sendable (subst (λ (l : List (List ℕ)). TakesPackets s l t) f.are h)
+
+same_part : (outgoing : List ℕ) (n k : ℕ) → n ≤ k → take n (take k outgoing) ≡ take n outgoing
+same_part outgoing n k less = take-take n k outgoing less
+
+runs_dry : (old new : Carrying) (outgoing : List ℕ) (coming : List Value) (k used : ℕ) → k ≤ length outgoing → AreComing old.held.octets outgoing coming →
+    RunsDry old (take k outgoing) used new → TakesSome old outgoing coming used new
+runs_dry old new outgoing coming k used less c h =
+    let f = reads_part old.held.octets outgoing coming k h.units new.held.octets c h.packets in
+    let all : used ≡ k = h.all ∙ length-take-le k outgoing less in
+    record {
+      done = f.done;
+      left = f.left;
+      parts = f.parts;
+      reached = new.state;
+      taken = front_taken old.state new.state h.units coming new.held.octets (drop k outgoing) f h.taken;
+      how = inl refl;
+      coming_then = λ sound. subst (λ n. AreComing new.held.octets (drop n outgoing) f.left) (sym all) f.rest;
+    }
+
+stops_behind : (old new : Carrying) (outgoing : List ℕ) (coming : List Value) (k used : ℕ) → k ≤ length outgoing → AreComing old.held.octets outgoing coming →
+    StopsBehind old (take k outgoing) used new → TakesSome old outgoing coming used new
+stops_behind old new outgoing coming k used less c h =
+    let n = h.within in
+    let within : n ≤ k = (let bound = h.bound in let size = length-take-le k outgoing less in omega arith) in
+    let f = reads_part old.held.octets outgoing coming n h.units [] c
+    (subst (λ l. ArePackets h.units (old.held.octets ++ l) []) (same_part outgoing n k within) h.packets) in
+    record {
+      done = f.done;
+      left = f.left;
+      parts = f.parts;
+      reached = new.state;
+      taken = front_taken old.state new.state h.units coming [] (drop n outgoing) f h.taken;
+      how = inl refl;
+      coming_then = λ sound.
+          let all : used ≡ n = h.uses ∙ ap (λ (b : Bool). if◌then◌else◌ {A = ℕ} b (length (take k outgoing)) n) sound in
+          subst (λ m. AreComing new.held.octets (drop m outgoing) f.left) (sym all) (subst (λ l. AreComing l (drop n outgoing) f.left) (sym h.held) f.rest);
+    }
+
+refuses_none : (old new : Carrying) (outgoing : List ℕ) (coming : List Value) (k used : ℕ) → AreComing old.held.octets outgoing coming →
+    Refuses old (take k outgoing) used new → ⊥
+refuses_none old new outgoing coming k used c h =
+    let f = reads_part old.held.octets outgoing coming k h.units h.cut.0 c h.cut.1 in
+    fault_free (offset_of (old.held.offset + (length (old.held.octets ++ take k outgoing) - length h.cut.0))) h.cut.0 (drop k outgoing) h.fault f.left f.rest h.cut.2
+
+-- the packet that starved is a unit that comes
+starved_by : (old new : State) (packet : List ℕ) (coming : List Value) (r t : List ℕ) → Fronts (packet ∷ []) coming r t → Starves old packet new → new ≡ ends NoMemory old
+starved_by old new packet coming r t f h =
+    elim f.done as (λ (l : List Value). packet ∷ [] ≡ map written l → AllByRecursion IsSendable l → new ≡ ends NoMemory old) [
+      | [] ↦ λ e all. cc
+      | u ∷ us ↦ λ e all. starved_unit old new packet u all.0 (let is : packet ≡ written u = cc in is) h
+    ] f.are f.sendable
+
+finds_none : (old new : Carrying) (outgoing : List ℕ) (coming : List Value) (k used : ℕ) → k ≤ length outgoing → AreComing old.held.octets outgoing coming →
+    FindsNoMemory old (take k outgoing) used new → TakesSome old outgoing coming used new
+finds_none old new outgoing coming k used less c h =
+    let n = h.within in
+    let within : n ≤ k = (let bound = h.bound in let size = length-take-le k outgoing less in omega arith) in
+    let f = reads_part old.held.octets outgoing coming n h.units h.rest c
+    (subst (λ l. ArePackets h.units (old.held.octets ++ l) h.rest) (same_part outgoing n k within) h.packets) in
+    let ended : new.state ≡ ends NoMemory h.before =
+    elim h.how [
+      | inl e ↦ e
+      | inr p ↦ starved_by h.before new.state p.0 f.left [] (drop n outgoing)
+          (units_front (p.0 ∷ []) f.left h.rest [] (drop n outgoing) f.rest.sendable p.1 f.rest.octets) p.2
+    ] in
+    record {
+      done = f.done;
+      left = f.left;
+      parts = f.parts;
+      reached = h.before;
+      taken = front_taken old.state h.before h.units coming h.rest (drop n outgoing) f h.taken;
+      how = inr ended;
+      coming_then = λ sound. let spoilt : is_spoilt new.state.ended ≡ true = ap (λ (s : State). is_spoilt s.ended) ended in absurd (cc);
+    }
+
+goes_some : (old new : Carrying) (outgoing : List ℕ) (coming : List Value) (k used : ℕ) → k ≤ length outgoing → AreComing old.held.octets outgoing coming →
+    Goes old (take k outgoing) used new → TakesSome old outgoing coming used new
+goes_some old new outgoing coming k used less c (inl (inl h)) = runs_dry old new outgoing coming k used less c h
+goes_some old new outgoing coming k used less c (inl (inr h)) = stops_behind old new outgoing coming k used less c h
+goes_some old new outgoing coming k used less c (inr (inl h)) = absurd (refuses_none old new outgoing coming k used c h)
+goes_some old new outgoing coming k used less c (inr (inr h)) = finds_none old new outgoing coming k used less c h
+
+feeds_by : (old new : Carrying) (outgoing : List ℕ) (coming : List Value) (k : ℕ) (fed : Fed) (wait : Bool) → k ≤ length outgoing → AreComing old.held.octets outgoing coming →
+    old.state.ended ≡ None → waits old.state ≡ wait → Feeds old (take k outgoing) fed new → TakesSome old outgoing coming fed.used new
+feeds_by old new outgoing coming k fed true less c quiet wait h =
+    let none = h.waiting quiet wait in
+    record {
+      done = [];
+      left = coming;
+      parts = refl;
+      reached = old.state;
+      taken = refl;
+      how = inl (ap (λ (x : Carrying). x.state) none.1);
+      coming_then = λ sound.
+          subst (λ n. AreComing new.held.octets (drop n outgoing) coming) (sym none.0)
+          (subst (λ (x : Carrying). AreComing x.held.octets outgoing coming) (sym none.1) c);
+    }
+feeds_by old new outgoing coming k fed false less c quiet wait h =
+    goes_some old new outgoing coming k fed.used less c
+    (h.goes (ap (λ (o : Option EndReason). is_some o || waits old.state) quiet ∙ wait))
+
+pub feeds_some : (old new : Carrying) (outgoing : List ℕ) (coming : List Value) (k : ℕ) (fed : Fed) → k ≤ length outgoing → AreComing old.held.octets outgoing coming →
+    old.state.ended ≡ None → Feeds old (take k outgoing) fed new → TakesSome old outgoing coming fed.used new
+feeds_some old new outgoing coming k fed less c quiet h = feeds_by old new outgoing coming k fed (waits old.state) less c quiet refl h
+
+-- ---- what comes is read from the octets alone
+
+pub more_coming : (held outgoing : List ℕ) (coming units : List Value) → AreComing held outgoing coming → AllByRecursion IsSendable units →
+    AreComing held (outgoing ++ packets units) (coming ++ units)
+more_coming held outgoing coming units c all = record {
+  octets = sym (append_assoc held outgoing (packets units)) ∙ ap (λ l. l ++ packets units) c.octets ∙ sym (packets_join coming units);
+  sendable = all_behind coming units c.sendable all;
+}
+
+written_one : (u v : Value) → IsSendable u → IsSendable v → written u ≡ written v → u ≡ v
+written_one u v a b e = let same : Ok (u ∷ []) ≡ Ok (v ∷ []) = sym (unit_read u a) ∙ ap units_of e ∙ unit_read v b in cc
+
+written_all : (us vs : List Value) → AllByRecursion IsSendable us → AllByRecursion IsSendable vs → map written us ≡ map written vs → us ≡ vs
+written_all [] [] a b e = refl
+written_all [] (v ∷ vs) a b e = cc
+written_all (u ∷ us) [] a b e = cc
+written_all (u ∷ us) (v ∷ vs) a b e =
+    let first : written u ≡ written v = cc in
+    let others : map written us ≡ map written vs = cc in
+    ap (λ x. x ∷ us) (written_one u v a.0 b.0 first) ∙ ap (λ l. v ∷ l) (written_all us vs a.1 b.1 others)
+
+are_packets : (us : List Value) → AllByRecursion IsSendable us → ArePackets (map written us) (packets us) []
+are_packets [] all = refl
+are_packets (u ∷ us) all = (packet_of (written u), packets us, unit_packet u all.0, refl, are_packets us all.1)
+
+none_left : (left : List Value) → packets left ≡ [] → left ≡ []
+none_left [] e = refl
+none_left (u ∷ us) e = cc
+
+pub one_coming : (held outgoing : List ℕ) (us vs : List Value) → AreComing held outgoing us → AreComing held outgoing vs → us ≡ vs
+one_coming held outgoing us vs a b =
+    let f = units_front (map written us) vs (packets us) [] [] b.sendable (are_packets us a.sendable) (append-nil (packets us) ∙ sym a.octets ∙ b.octets) in
+    written_all us f.done a.sendable f.sendable f.are
+    ∙ sym (append-nil f.done) ∙ ap (λ l. f.done ++ l) (sym (none_left f.left (sym f.rest.octets))) ∙ sym f.parts
