@@ -11,7 +11,7 @@ use Rattle.osi_class.specs.Link.{Standing, Given, unit_of, taken, with_tsdu, zer
 use Rattle.osi_class.specs.Tsdus.{tsdus_after, uncut}
 use Rattle.osi_class.proofs.Giving.{drained_leaves}
 use Rattle.osi_carrier.specs.Happenings.{Happening, tsdu, closed}
-use Rattle.osi_carrier.specs.Meeting.{Meeting, talking, left_here, left_there, left_both, waiting_here, waiting_there, parted, here, there, addressed, leaving, farewell, out, back, told_open, told_of, messages_back, messages_out, Carries}
+use Rattle.osi_carrier.specs.Meeting.{Meeting, talking, left_here, left_there, left_both, waiting_here, waiting_there, parted, here, there, addressed, leaving, farewell, out, back, told_open, told_at, messages_back, messages_out, Carries}
 use Rattle.osi_carrier.specs.Messages.{Message, message, bye, over, parting, messages_after, uncut_units, unsent_at, kind_of, AreLike}
 use Rattle.osi_carrier.specs.OpenLinks.{AreOpen, links, LeftTakes, after_take, after_send}
 use Rattle.osi_carrier.specs.Pump.{pumped}
@@ -232,7 +232,7 @@ kinds_first u us = kinds_join (u ∷ []) us [] ∙ sym (map-append kind_of (mess
 abbrev Still : ℕ → Meeting → Meeting → Type 0
 Still n old new = messages_out n new ≡ messages_out n old
 
-still_carries : (n : ℕ) (old new : Meeting) (arrived : List Message) → [] ≡ flat_map (told_of n (here n old)) arrived →
+still_carries : (n : ℕ) (old new : Meeting) (arrived : List Message) → [] ≡ flat_map (told_at n (here n old)) arrived →
     AreLike (here n new) (messages_back n old) (arrived ++ messages_back n new) → Still n old new → Carries n old new [] []
 still_carries n old new arrived told leftward same = record {
   arrived = arrived;
@@ -247,20 +247,20 @@ still_carries n old new arrived told leftward same = record {
 pub left_ignores : (n : ℕ) (p : LinkPair) (g : Given) (gs : List Given) (reason : ℕ) → Carries n (left_here p (g ∷ gs) reason) (left_here p gs reason) [] []
 left_ignores n p g gs reason =
     still_carries n (left_here p (g ∷ gs) reason) (left_here p gs reason) (messages_after [] (unit_of n g ∷ []))
-    (told_nothing (messages_after [] (unit_of n g ∷ [])) (told_of n (Some (closing n))) (λ m. refl))
+    (told_nothing (messages_after [] (unit_of n g ∷ [])) (told_at n (Some (closing n))) (λ m. refl))
     (kinds_first (unit_of n g) (addressed n gs ++ uncut_units p.right.ends.unsent)) refl
 
 pub both_ignores : (n : ℕ) (hs : List Given) (reason : ℕ) (g : Given) (gs : List Given) (other : ℕ) →
     Carries n (left_both hs reason (g ∷ gs) other) (left_both hs reason gs other) [] []
 both_ignores n hs reason g gs other =
     still_carries n (left_both hs reason (g ∷ gs) other) (left_both hs reason gs other) (messages_after [] (unit_of n g ∷ []))
-    (told_nothing (messages_after [] (unit_of n g ∷ [])) (told_of n (Some (closing n))) (λ m. refl))
+    (told_nothing (messages_after [] (unit_of n g ∷ [])) (told_at n (Some (closing n))) (λ m. refl))
     (kinds_first (unit_of n g) ((addressed n gs ++ leaving n other ∷ []) ++ [])) refl
 
 pub waiting_ignores : (n : ℕ) (g : Given) (gs : List Given) (last : Option ℕ) → Carries n (waiting_here (g ∷ gs) last) (waiting_here gs last) [] []
 waiting_ignores n g gs last =
     still_carries n (waiting_here (g ∷ gs) last) (waiting_here gs last) (messages_after [] (unit_of n g ∷ []))
-    (told_nothing (messages_after [] (unit_of n g ∷ [])) (told_of n (Some (closing n))) (λ m. refl))
+    (told_nothing (messages_after [] (unit_of n g ∷ [])) (told_at n (Some (closing n))) (λ m. refl))
     (kinds_first (unit_of n g) ((addressed n gs ++ farewell n last ∷ []) ++ [])) refl
 
 pub both_takes : (n : ℕ) (hs : List Given) (reason other : ℕ) → 0 < n → Carries n (left_both hs reason [] other) (waiting_there hs (Some reason)) [] []

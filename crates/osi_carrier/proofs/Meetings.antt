@@ -8,9 +8,10 @@ use Rattle.osi_class.specs.Link.{Standing, Given, unit_of, is_of_two, with_tsdu}
 use Rattle.osi_class.specs.declared.terms.Class.TheVariants.{Two}
 use Rattle.osi_carrier.specs.Calls.{sent, closed_with}
 use Rattle.osi_carrier.specs.Happenings.{tsdu, closed}
-use Rattle.osi_carrier.specs.Meeting.{Meeting, talking, left_here, left_there, left_both, waiting_here, waiting_there, parted, mirror, here, addressed, leaving, farewell, out, back, Stands, AreApart, Moves}
+use Rattle.osi_carrier.specs.Meeting.{Meeting, talking, left_here, left_there, left_both, waiting_here, waiting_there, parted, mirror, here, addressed, leaving, farewell, out, back, Stands, Moves}
 use Rattle.osi_carrier.specs.OpenLinks.{AgreeIn, AreOpen, after_take, after_send}
 use Rattle.osi_carrier.specs.React.{react, handed_out}
+use Rattle.osi_carrier.specs.Orderly.{IsOrderly}
 use Rattle.osi_carrier.specs.Rows.{value_at}
 use Rattle.osi_carrier.specs.State.{linked, State}
 use Rattle.osi_carrier.specs.Messages.{message, bye, over}
@@ -71,15 +72,15 @@ first_two p g gs a e = (subst (λ (us : List Given). AreOfClass true us) e a.agr
 
 -- ---- a unit is taken here
 
-take_talking : (n : ℕ) (s : State) (p : LinkPair) (g : Given) (gs : List Given) → 0 < n → s.ended ≡ None → s.class ≡ Some Two → AreApart s.live →
+take_talking : (n : ℕ) (s : State) (p : LinkPair) (g : Given) (gs : List Given) → 0 < n → s.ended ≡ None → s.class ≡ Some Two → IsOrderly s →
     value_at n s.live ≡ Some (linked n p.left) → AreOpen true p → p.leftward ≡ g ∷ gs → Moves n (talking p) s (react (unit_of n g) s) (unit_of n g ∷ [])
-take_talking n s p g gs some quiet class apart at a e =
+take_talking n s p g gs some quiet class orderly at a e =
     let t = left_takes true p g gs n a e in
     record {
       new = talking (after_take p t.link gs);
       units = addressed n (all_given (handed_out t.link));
       events = map (tsdu n) (take 1 t.link.ends.joining.whole);
-      changes = given_changes n s p.left t.link g quiet class apart (first_two p g gs a e) at t.taken;
+      changes = given_changes n s p.left t.link g quiet class orderly (first_two p g gs a e) at t.taken;
       there = refl;
       out = addressed_join n p.rightward (all_given (handed_out t.link));
       back = ap (addressed n) e;
@@ -88,17 +89,17 @@ take_talking n s p g gs some quiet class apart at a e =
       carries = talking_takes n p (unit_of n g) gs a t;
     }
 
-take_behind : (n : ℕ) (s : State) (p : LinkPair) (hs : List Given) (reason : ℕ) (g : Given) (gs : List Given) → 0 < n → s.ended ≡ None → s.class ≡ Some Two → AreApart s.live →
+take_behind : (n : ℕ) (s : State) (p : LinkPair) (hs : List Given) (reason : ℕ) (g : Given) (gs : List Given) → 0 < n → s.ended ≡ None → s.class ≡ Some Two → IsOrderly s →
     value_at n s.live ≡ Some (linked n p.left) → AreOpen true p → AreOfClass true hs → p.leftward ≡ g ∷ gs →
     Moves n (left_there p hs reason) s (react (unit_of n g) s) (unit_of n g ∷ [])
-take_behind n s p hs reason g gs some quiet class apart at a two e =
+take_behind n s p hs reason g gs some quiet class orderly at a two e =
     let t = left_takes true p g gs n a e in
     let given = all_given (handed_out t.link) in
     record {
       new = left_there (after_take p t.link gs) (hs ++ given) reason;
       units = addressed n given;
       events = map (tsdu n) (take 1 t.link.ends.joining.whole);
-      changes = given_changes n s p.left t.link g quiet class apart (first_two p g gs a e) at t.taken;
+      changes = given_changes n s p.left t.link g quiet class orderly (first_two p g gs a e) at t.taken;
       there = refl;
       out = addressed_join n hs given;
       back = ap (λ (us : List Given). addressed n us ++ leaving n reason ∷ []) e;
@@ -107,14 +108,14 @@ take_behind n s p hs reason g gs some quiet class apart at a two e =
       carries = behind_takes n p hs reason g gs some a e t;
     }
 
-take_leaving : (n : ℕ) (s : State) (p : LinkPair) (hs : List Given) (reason : ℕ) → 0 < n → s.ended ≡ None → s.class ≡ Some Two → AreApart s.live →
+take_leaving : (n : ℕ) (s : State) (p : LinkPair) (hs : List Given) (reason : ℕ) → 0 < n → s.ended ≡ None → s.class ≡ Some Two → IsOrderly s →
     value_at n s.live ≡ Some (linked n p.left) → AreOfClass true hs → p.leftward ≡ [] →
     Moves n (left_there p hs reason) s (react (leaving n reason) s) (leaving n reason ∷ [])
-take_leaving n s p hs reason some quiet class apart at two e = record {
+take_leaving n s p hs reason some quiet class orderly at two e = record {
   new = waiting_there hs None;
   units = disconnected n n ∷ [];
   events = closed n reason ∷ [];
-  changes = leaving_changes n s p.left reason quiet class apart at;
+  changes = leaving_changes n s p.left reason quiet class orderly at;
   there = refl;
   out = refl;
   back = ap (λ (us : List Given). addressed n us ++ leaving n reason ∷ []) e;
@@ -130,33 +131,33 @@ at_head n m s u unit more rest a b h =
     let same : u ≡ unit = (let e = sym a ∙ b in cc) in
     subst (λ (x : Value). Moves n m s (react x s) (x ∷ [])) same h
 
-take_talking_by : (n : ℕ) (s : State) (p : LinkPair) (gs : List Given) (unit : Value) (rest : List Value) → 0 < n → s.ended ≡ None → s.class ≡ Some Two → AreApart s.live →
+take_talking_by : (n : ℕ) (s : State) (p : LinkPair) (gs : List Given) (unit : Value) (rest : List Value) → 0 < n → s.ended ≡ None → s.class ≡ Some Two → IsOrderly s →
     value_at n s.live ≡ Some (linked n p.left) → AreOpen true p → p.leftward ≡ gs → back n (talking p) ≡ unit ∷ rest → Moves n (talking p) s (react unit s) (unit ∷ [])
-take_talking_by n s p [] unit rest some quiet class apart at a e b = let none = sym (ap (addressed n) e) ∙ b in cc
-take_talking_by n s p (g ∷ gs) unit rest some quiet class apart at a e b =
-    at_head n (talking p) s (unit_of n g) unit (addressed n gs) rest (ap (addressed n) e) b (take_talking n s p g gs some quiet class apart at a e)
+take_talking_by n s p [] unit rest some quiet class orderly at a e b = let none = sym (ap (addressed n) e) ∙ b in cc
+take_talking_by n s p (g ∷ gs) unit rest some quiet class orderly at a e b =
+    at_head n (talking p) s (unit_of n g) unit (addressed n gs) rest (ap (addressed n) e) b (take_talking n s p g gs some quiet class orderly at a e)
 
-take_behind_by : (n : ℕ) (s : State) (p : LinkPair) (hs : List Given) (reason : ℕ) (gs : List Given) (unit : Value) (rest : List Value) → 0 < n → s.ended ≡ None → s.class ≡ Some Two → AreApart s.live →
+take_behind_by : (n : ℕ) (s : State) (p : LinkPair) (hs : List Given) (reason : ℕ) (gs : List Given) (unit : Value) (rest : List Value) → 0 < n → s.ended ≡ None → s.class ≡ Some Two → IsOrderly s →
     value_at n s.live ≡ Some (linked n p.left) → AreOpen true p → AreOfClass true hs → p.leftward ≡ gs → back n (left_there p hs reason) ≡ unit ∷ rest →
     Moves n (left_there p hs reason) s (react unit s) (unit ∷ [])
-take_behind_by n s p hs reason [] unit rest some quiet class apart at a two e b =
+take_behind_by n s p hs reason [] unit rest some quiet class orderly at a two e b =
     at_head n (left_there p hs reason) s (leaving n reason) unit [] rest (ap (λ (us : List Given). addressed n us ++ leaving n reason ∷ []) e) b
-    (take_leaving n s p hs reason some quiet class apart at two e)
-take_behind_by n s p hs reason (g ∷ gs) unit rest some quiet class apart at a two e b =
+    (take_leaving n s p hs reason some quiet class orderly at two e)
+take_behind_by n s p hs reason (g ∷ gs) unit rest some quiet class orderly at a two e b =
     at_head n (left_there p hs reason) s (unit_of n g) unit (addressed n gs ++ leaving n reason ∷ []) rest
-    (ap (λ (us : List Given). addressed n us ++ leaving n reason ∷ []) e) b (take_behind n s p hs reason g gs some quiet class apart at a two e)
+    (ap (λ (us : List Given). addressed n us ++ leaving n reason ∷ []) e) b (take_behind n s p hs reason g gs some quiet class orderly at a two e)
 
-pub take_here : (n : ℕ) (s : State) (m : Meeting) (unit : Value) (rest : List Value) → 0 < n → s.ended ≡ None → s.class ≡ Some Two → AreApart s.live →
+pub take_here : (n : ℕ) (s : State) (m : Meeting) (unit : Value) (rest : List Value) → 0 < n → s.ended ≡ None → s.class ≡ Some Two → IsOrderly s →
     value_at n s.live ≡ here n m → Stands m → back n m ≡ unit ∷ rest → Moves n m s (react unit s) (unit ∷ [])
-take_here n s (talking p) unit rest some quiet class apart at h b = take_talking_by n s p p.leftward unit rest some quiet class apart at h refl b
-take_here n s (left_there p hs reason) unit rest some quiet class apart at h b = take_behind_by n s p hs reason p.leftward unit rest some quiet class apart at h.0 h.1 refl b
-take_here n s (left_here p [] reason) unit rest some quiet class apart at h b = cc
-take_here n s (left_here p (g ∷ gs) reason) unit rest some quiet class apart at h b =
+take_here n s (talking p) unit rest some quiet class orderly at h b = take_talking_by n s p p.leftward unit rest some quiet class orderly at h refl b
+take_here n s (left_there p hs reason) unit rest some quiet class orderly at h b = take_behind_by n s p hs reason p.leftward unit rest some quiet class orderly at h.0 h.1 refl b
+take_here n s (left_here p [] reason) unit rest some quiet class orderly at h b = cc
+take_here n s (left_here p (g ∷ gs) reason) unit rest some quiet class orderly at h b =
     at_head n (left_here p (g ∷ gs) reason) s (unit_of n g) unit (addressed n gs) rest refl b (record {
       new = left_here p gs reason;
       units = [];
       events = [];
-      changes = given_ignored n s g quiet class apart h.1.0 at;
+      changes = given_ignored n s g quiet class orderly h.1.0 at;
       there = refl;
       out = sym (append-nil (out n (left_here p gs reason)));
       back = refl;
@@ -164,12 +165,12 @@ take_here n s (left_here p (g ∷ gs) reason) unit rest some quiet class apart a
       put = [];
       carries = left_ignores n p g gs reason;
     })
-take_here n s (left_both hs reason [] other) unit rest some quiet class apart at h b =
+take_here n s (left_both hs reason [] other) unit rest some quiet class orderly at h b =
     at_head n (left_both hs reason [] other) s (leaving n other) unit [] rest refl b (record {
       new = waiting_there hs (Some reason);
       units = [];
       events = [];
-      changes = crossed_changes n s other quiet class apart at;
+      changes = crossed_changes n s other quiet class orderly at;
       there = refl;
       out = sym (append-nil (addressed n hs ++ leaving n reason ∷ []));
       back = refl;
@@ -177,12 +178,12 @@ take_here n s (left_both hs reason [] other) unit rest some quiet class apart at
       put = [];
       carries = both_takes n hs reason other some;
     })
-take_here n s (left_both hs reason (g ∷ gs) other) unit rest some quiet class apart at h b =
+take_here n s (left_both hs reason (g ∷ gs) other) unit rest some quiet class orderly at h b =
     at_head n (left_both hs reason (g ∷ gs) other) s (unit_of n g) unit (addressed n gs ++ leaving n other ∷ []) rest refl b (record {
       new = left_both hs reason gs other;
       units = [];
       events = [];
-      changes = given_ignored n s g quiet class apart h.1.0 at;
+      changes = given_ignored n s g quiet class orderly h.1.0 at;
       there = refl;
       out = sym (append-nil (addressed n hs ++ leaving n reason ∷ []));
       back = refl;
@@ -190,12 +191,12 @@ take_here n s (left_both hs reason (g ∷ gs) other) unit rest some quiet class 
       put = [];
       carries = both_ignores n hs reason g gs other;
     })
-take_here n s (waiting_here [] None) unit rest some quiet class apart at h b =
+take_here n s (waiting_here [] None) unit rest some quiet class orderly at h b =
     at_head n (waiting_here [] None) s (disconnected n n) unit [] rest refl b (record {
       new = parted;
       units = [];
       events = [];
-      changes = over_changes n s quiet class apart at;
+      changes = over_changes n s quiet class orderly at;
       there = refl;
       out = refl;
       back = refl;
@@ -203,12 +204,12 @@ take_here n s (waiting_here [] None) unit rest some quiet class apart at h b =
       put = [];
       carries = waiting_over n;
     })
-take_here n s (waiting_here [] (Some reason)) unit rest some quiet class apart at h b =
+take_here n s (waiting_here [] (Some reason)) unit rest some quiet class orderly at h b =
     at_head n (waiting_here [] (Some reason)) s (leaving n reason) unit [] rest refl b (record {
       new = parted;
       units = [];
       events = [];
-      changes = crossed_changes n s reason quiet class apart at;
+      changes = crossed_changes n s reason quiet class orderly at;
       there = refl;
       out = refl;
       back = refl;
@@ -216,12 +217,12 @@ take_here n s (waiting_here [] (Some reason)) unit rest some quiet class apart a
       put = [];
       carries = waiting_crossed n reason some;
     })
-take_here n s (waiting_here (g ∷ gs) last) unit rest some quiet class apart at h b =
+take_here n s (waiting_here (g ∷ gs) last) unit rest some quiet class orderly at h b =
     at_head n (waiting_here (g ∷ gs) last) s (unit_of n g) unit (addressed n gs ++ farewell n last ∷ []) rest refl b (record {
       new = waiting_here gs last;
       units = [];
       events = [];
-      changes = given_ignored n s g quiet class apart h.0 at;
+      changes = given_ignored n s g quiet class orderly h.0 at;
       there = refl;
       out = refl;
       back = refl;
@@ -229,20 +230,20 @@ take_here n s (waiting_here (g ∷ gs) last) unit rest some quiet class apart at
       put = [];
       carries = waiting_ignores n g gs last;
     })
-take_here n s (waiting_there hs last) unit rest some quiet class apart at h b = cc
-take_here n s parted unit rest some quiet class apart at h b = cc
+take_here n s (waiting_there hs last) unit rest some quiet class orderly at h b = cc
+take_here n s parted unit rest some quiet class orderly at h b = cc
 
 -- ---- calls here
 
-pub send_here : (n : ℕ) (s : State) (m : Meeting) (link : Standing) (octets : List ℕ) → s.ended ≡ None → AreApart s.live →
+pub send_here : (n : ℕ) (s : State) (m : Meeting) (link : Standing) (octets : List ℕ) → s.ended ≡ None → IsOrderly s →
     value_at n s.live ≡ here n m → here n m ≡ Some (linked n link) → Stands m → IsShortTsdu octets → Moves n m s (sent n octets s) []
-send_here n s (talking p) link octets quiet apart at is h short =
+send_here n s (talking p) link octets quiet orderly at is h short =
     let passes = sends_passes true p octets h short in
     record {
       new = talking (after_send p octets);
       units = addressed n (all_given (with_tsdu p.left octets));
       events = [];
-      changes = send_changes n s p.left octets quiet apart at;
+      changes = send_changes n s p.left octets quiet orderly at;
       there = refl;
       out = addressed_join n p.rightward (all_given (with_tsdu p.left octets));
       back = refl;
@@ -250,14 +251,14 @@ send_here n s (talking p) link octets quiet apart at is h short =
       put = message octets ∷ [];
       carries = talking_sends n p octets h passes.rightward passes.leftward passes.stay_open;
     }
-send_here n s (left_there p hs reason) link octets quiet apart at is h short =
+send_here n s (left_there p hs reason) link octets quiet orderly at is h short =
     let passes = sends_passes true p octets h.0 short in
     let given = all_given (with_tsdu p.left octets) in
     record {
       new = left_there (after_send p octets) (hs ++ given) reason;
       units = addressed n given;
       events = [];
-      changes = send_changes n s p.left octets quiet apart at;
+      changes = send_changes n s p.left octets quiet orderly at;
       there = refl;
       out = addressed_join n hs given;
       back = refl;
@@ -265,19 +266,19 @@ send_here n s (left_there p hs reason) link octets quiet apart at is h short =
       put = message octets ∷ [];
       carries = behind_sends n p hs reason octets;
     }
-send_here n s (left_here p gs reason) link octets quiet apart at is h short = cc
-send_here n s (left_both hs reason gs other) link octets quiet apart at is h short = cc
-send_here n s (waiting_here gs last) link octets quiet apart at is h short = cc
-send_here n s (waiting_there gs last) link octets quiet apart at is h short = cc
-send_here n s parted link octets quiet apart at is h short = cc
+send_here n s (left_here p gs reason) link octets quiet orderly at is h short = cc
+send_here n s (left_both hs reason gs other) link octets quiet orderly at is h short = cc
+send_here n s (waiting_here gs last) link octets quiet orderly at is h short = cc
+send_here n s (waiting_there gs last) link octets quiet orderly at is h short = cc
+send_here n s parted link octets quiet orderly at is h short = cc
 
-pub close_here : (n : ℕ) (s : State) (m : Meeting) (link : Standing) (reason : ℕ) → 0 < n → s.ended ≡ None → s.class ≡ Some Two → AreApart s.live →
+pub close_here : (n : ℕ) (s : State) (m : Meeting) (link : Standing) (reason : ℕ) → 0 < n → s.ended ≡ None → s.class ≡ Some Two → IsOrderly s →
     value_at n s.live ≡ here n m → here n m ≡ Some (linked n link) → Stands m → Moves n m s (closed_with n reason s) []
-close_here n s (talking p) link reason some quiet class apart at is h = record {
+close_here n s (talking p) link reason some quiet class orderly at is h = record {
   new = left_here p p.leftward reason;
   units = leaving n reason ∷ [];
   events = [];
-  changes = close_changes n s p.left reason quiet class apart at;
+  changes = close_changes n s p.left reason quiet class orderly at;
   there = refl;
   out = refl;
   back = refl;
@@ -285,11 +286,11 @@ close_here n s (talking p) link reason some quiet class apart at is h = record {
   put = bye reason ∷ [];
   carries = talking_closes n p reason some;
 }
-close_here n s (left_there p hs other) link reason some quiet class apart at is h = record {
+close_here n s (left_there p hs other) link reason some quiet class orderly at is h = record {
   new = left_both hs reason p.leftward other;
   units = leaving n reason ∷ [];
   events = [];
-  changes = close_changes n s p.left reason quiet class apart at;
+  changes = close_changes n s p.left reason quiet class orderly at;
   there = refl;
   out = refl;
   back = refl;
@@ -297,8 +298,8 @@ close_here n s (left_there p hs other) link reason some quiet class apart at is 
   put = bye reason ∷ [];
   carries = behind_closes n p hs reason other some;
 }
-close_here n s (left_here p gs other) link reason some quiet class apart at is h = cc
-close_here n s (left_both hs own gs other) link reason some quiet class apart at is h = cc
-close_here n s (waiting_here gs last) link reason some quiet class apart at is h = cc
-close_here n s (waiting_there gs last) link reason some quiet class apart at is h = cc
-close_here n s parted link reason some quiet class apart at is h = cc
+close_here n s (left_here p gs other) link reason some quiet class orderly at is h = cc
+close_here n s (left_both hs own gs other) link reason some quiet class orderly at is h = cc
+close_here n s (waiting_here gs last) link reason some quiet class orderly at is h = cc
+close_here n s (waiting_there gs last) link reason some quiet class orderly at is h = cc
+close_here n s parted link reason some quiet class orderly at is h = cc

@@ -1,6 +1,6 @@
 -- How one connection of class 2 stands at two carriers since both have had it open, and which units
 -- are under way for it. Both gave it the same reference. `here` is one of the two, `there` the other.
-use Rattle.std.specs.Prelude.{◌≡◌, ℕ, ◌<◌, ◌==◌, Bool, true, false, List, [], ◌∷◌, ◌++◌, map, Option, Some, None}
+use Rattle.std.specs.Prelude.{◌≡◌, ◌≢◌, ℕ, ◌<◌, ◌==◌, Bool, true, false, List, [], ◌∷◌, ◌++◌, map, Option, Some, None}
 use Rattle.std.specs.List.{flat_map}
 use Rattle.osi_tpdu.specs.Value.{Value, disconnect, disconnected}
 use Rattle.osi_class.specs.Between.{LinkPair, swapped, AreOfClass}
@@ -9,7 +9,8 @@ use Rattle.osi_class.specs.declared.terms.Class.TheVariants.{Two}
 use Rattle.osi_carrier.specs.Happenings.{Happening, tsdu, closed}
 use Rattle.osi_carrier.specs.Messages.{Message, ask, agree, deny, message, bye, over, messages_to, AreLike}
 use Rattle.osi_carrier.specs.OpenLinks.{AreOpen}
-use Rattle.osi_carrier.specs.Rows.{Rows, value_at}
+use Rattle.osi_carrier.specs.Orderly.{IsOrderly}
+use Rattle.osi_carrier.specs.Rows.{value_at}
 use Rattle.osi_carrier.specs.State.{Connection, asked, linked, closing, State, packets}
 
 -- A side that has closed keeps nothing of its link: `LinkPair` then has it as it was at that time, as
@@ -90,17 +91,12 @@ Stands (waiting_here units last) = AreOfClass true units
 Stands (waiting_there units last) = AreOfClass true units
 Stands parted = Unit {0}
 
--- each reference has one row
-abbrev pub AreApart : {X : Type 0} → Rows X → Type 0
-AreApart [] = Unit {0}
-AreApart ((r, x) ∷ rows) = (value_at r rows ≡ None) × AreApart rows
-
 -- a carrier of class 2 at which the connection stands as it does here
 pub record IsAt (n : ℕ) (s : State) (m : Meeting) : Type 0 where
   pub some : 0 < n
   pub lasts : s.ended ≡ None
   pub class : s.class ≡ Some Two
-  pub apart : AreApart s.live
+  pub orderly : IsOrderly s
   pub is : value_at n s.live ≡ here n m
   pub stands : Stands m
 
@@ -108,8 +104,7 @@ pub record IsAt (n : ℕ) (s : State) (m : Meeting) : Type 0 where
 -- events told.
 pub record Changes (n : ℕ) (old new : State) (after : Option Connection) (units : List Value) (told : List Happening) : Type 0 where
   pub here : value_at n new.live ≡ after
-  pub others : (m : ℕ) → (m == n) ≡ false → value_at m new.live ≡ value_at m old.live
-  pub apart : AreApart new.live
+  pub others : (m : ℕ) → m ≢ n → value_at m new.live ≡ value_at m old.live
   pub outgoing : new.outgoing ≡ old.outgoing ++ packets units
   pub events : new.events ≡ old.events ++ told
   pub ended : new.ended ≡ old.ended
@@ -125,11 +120,11 @@ told_open n (message octets) = tsdu n octets ∷ []
 told_open n (bye reason) = closed n reason ∷ []
 told_open n over = []
 
-abbrev pub told_of : ℕ → Option Connection → Message → List Happening
-told_of n None m = []
-told_of n (Some asked) m = []
-told_of n (Some (linked peer link)) m = told_open n m
-told_of n (Some (closing peer)) m = []
+abbrev pub told_at : ℕ → Option Connection → Message → List Happening
+told_at n None m = []
+told_at n (Some asked) m = []
+told_at n (Some (linked peer link)) m = told_open n m
+told_at n (Some (closing peer)) m = []
 
 -- the messages under way to here, and from here
 abbrev pub messages_back : ℕ → Meeting → List Message
@@ -145,7 +140,7 @@ pub record Carries (n : ℕ) (old new : Meeting) (events : List Happening) (put 
   pub arrived : List Message
   pub stays : List Message
   pub lost : List Message
-  pub told : events ≡ flat_map (told_of n (here n old)) arrived
+  pub told : events ≡ flat_map (told_at n (here n old)) arrived
   pub leftward : AreLike (here n new) (messages_back n old) (arrived ++ messages_back n new)
   pub before : AreLike (there n old) (messages_out n old) (stays ++ lost)
   pub after : AreLike (there n old) (messages_out n new) (stays ++ put)
