@@ -9,6 +9,7 @@ pub mod Fewer
 pub mod GiveCall
 pub mod HistoryLaws
 pub mod Idle
+pub mod NumberLaws
 pub mod Passed
 pub mod PhaseLaws
 pub mod PleaseCall
@@ -16,5 +17,6 @@ pub mod Records
 pub mod Retoken
 pub mod Starts
 pub mod TakeIdle
+pub mod TakeMoves
 pub mod Tokens
 pub mod Units

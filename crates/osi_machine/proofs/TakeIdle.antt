@@ -61,7 +61,7 @@ giver_counts x y u us st same h =
 
 -- ---- both at once
 
-one_less : (p : Meaning → Bool) (b : Bool) (u : Meaning) (us : List Meaning) → (b && list_any p (u ∷ us)) ≡ false → (b && list_any p us) ≡ false
+pub one_less : (p : Meaning → Bool) (b : Bool) (u : Meaning) (us : List Meaning) → (b && list_any p (u ∷ us)) ≡ false → (b && list_any p us) ≡ false
 one_less p b u us h = by b (p u) (list_any p us) h
   where
     by : (a c d : Bool) → (a && (c || d)) ≡ false → (a && d) ≡ false

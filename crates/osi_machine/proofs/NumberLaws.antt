@@ -1,0 +1,103 @@
+-- The lower of two numbers, and what the units on the way do to the direction of points.
+use Rattle.std.proofs.Common.{◌≡◌, refl, sym, ◌∙◌, ap, subst, ℕ, ◌+◌, ◌≤◌, ◌<◌, Bool, true, false, not, ◌||◌, nat_lt, if◌then◌else◌, List, [], ◌∷◌, arith}
+use Rattle.std.proofs.lemmas.Bool.{ltb-true, ltb-false}
+use Rattle.std.specs.List.{list_any}
+use Rattle.osi_machine.specs.Floor.{State, Meaning, CN, AC, RF, DT, GT, PT, MIP, MIA, MAP, MAA, RS, RA, FN, DN, NF, AB, AA, data_token, lower, is_wait_cn, is_connecting, is_acceptable, stands, point_taken, minor_confirmed, major_confirmed, restarted_at, becomes, drops, next, Good}
+use Rattle.osi_machine.specs.Channels.{is_plain, Fits, AllFit, heard, stops, needs_token}
+use Rattle.osi_machine.specs.Parties.{is_opening}
+use Rattle.osi_machine.proofs.PhaseLaws.{implied}
+use Rattle.osi_machine.proofs.Units.{next_cases, fit_cases}
+use Rattle.osi_machine.proofs.ChannelLaws.{kept_all, kept_heard}
+
+-- ---- the lower of two numbers
+
+lower_by : (n m k : ℕ) → (n < m → n ≤ k) → (m ≤ n → m ≤ k) → lower n m ≤ k
+lower_by n m k f g = by (nat_lt n m) (λ e. f (ltb-true n m e)) (λ e. g (ltb-false n m e))
+  where
+    by : (b : Bool) → (b ≡ true → n ≤ k) → (b ≡ false → m ≤ k) → (if b then n else m) ≤ k
+    by true f g = f refl
+    by false f g = g refl
+
+pub lower_first : (n m : ℕ) → lower n m ≤ n
+lower_first n m = lower_by n m n (λ l. omega arith) (λ l. l)
+
+pub lower_second : (n m : ℕ) → lower n m ≤ m
+lower_second n m = lower_by n m m (λ l. omega arith) (λ l. omega arith)
+
+-- a lower bound of both is one of the lower
+pub lower_from : (n m k : ℕ) → k ≤ n → k ≤ m → k ≤ lower n m
+lower_from n m k p q = by (nat_lt n m)
+  where
+    by : (b : Bool) → k ≤ (if b then n else m)
+    by true = p
+    by false = q
+
+-- ---- the direction of points
+
+-- an open connection where points were taken last
+pub record Turned (s : State) : Type 0 where
+  pub phase : is_opening s.phase ≡ false
+  pub answers : s.numbers.answers ≡ true
+
+chosen : (P : State → Type 0) (b : Bool) (x y : State) → P x → P y → P (if b then x else y)
+chosen P true x y h k = h
+chosen P false x y h k = k
+
+becomes_turned : (s : State) (u : Meaning) → is_plain u ≡ true → Good s u → Turned s → Turned (becomes s u)
+unfolding point_taken minor_confirmed major_confirmed restarted_at
+becomes_turned s (CN v u n w from to o) p g h = absurd (let e = implied is_wait_cn is_opening refl s.phase g.expected in let f = h.phase in cc)
+becomes_turned s (AC v u n w o) p g h = absurd (let e = implied is_connecting is_opening refl s.phase g.expected in let f = h.phase in cc)
+becomes_turned s (RF r o) p g h = absurd (cc)
+becomes_turned s (DT o) p g h = h
+becomes_turned s (GT k) p g h = record { phase = h.phase; answers = h.answers }
+becomes_turned s (PT k o) p g h = h
+becomes_turned s (MIP c n o) p g h = record { phase = h.phase; answers = refl }
+becomes_turned s (MIA n o) p g h = record { phase = h.phase; answers = h.answers }
+becomes_turned s (MAP n o) p g h = record { phase = refl; answers = refl }
+becomes_turned s (MAA n o) p g h = record { phase = refl; answers = h.answers }
+becomes_turned s (RS k n w o) p g h = chosen Turned (stands s n) _ s (record { phase = refl; answers = h.answers }) h
+becomes_turned s (RA n w o) p g h = record { phase = refl; answers = h.answers }
+becomes_turned s (FN o) p g h = record { phase = refl; answers = h.answers }
+becomes_turned s (DN o) p g h = absurd (cc)
+becomes_turned s (NF o) p g h = record { phase = refl; answers = h.answers }
+becomes_turned s (AB x o) p g h = absurd (cc)
+becomes_turned s AA p g h = absurd (cc)
+
+-- no unit turns it back
+pub heard_turned : (s : State) (us : List Meaning) → Turned s → AllFit s us → Turned (heard s us)
+heard_turned = kept_heard Turned (λ s u h f. fit_cases Turned s u f h (λ d g. becomes_turned s u f.plain g h))
+
+abbrev Sends : State → Type 0
+Sends s = s.numbers.answers ≡ false
+
+-- none but a point turns it
+becomes_sends : (s : State) (u : Meaning) → needs_token data_token u ≡ false → Sends s → Sends (becomes s u)
+unfolding point_taken minor_confirmed major_confirmed restarted_at
+becomes_sends s (CN v u n w from to o) p h = chosen Sends (is_acceptable v u) _ _ h h
+becomes_sends s (AC v u n w o) p h = refl
+becomes_sends s (RF r o) p h = h
+becomes_sends s (DT o) p h = h
+becomes_sends s (GT k) p h = h
+becomes_sends s (PT k o) p h = h
+becomes_sends s (MIP c n o) p h = absurd (cc)
+becomes_sends s (MIA n o) p h = h
+becomes_sends s (MAP n o) p h = absurd (cc)
+becomes_sends s (MAA n o) p h = h
+becomes_sends s (RS k n w o) p h = chosen Sends (stands s n) _ s h h
+becomes_sends s (RA n w o) p h = h
+becomes_sends s (FN o) p h = h
+becomes_sends s (DN o) p h = h
+becomes_sends s (NF o) p h = h
+becomes_sends s (AB x o) p h = h
+becomes_sends s AA p h = h
+
+or_false : (a b : Bool) → (a || b) ≡ false → (a ≡ false) × (b ≡ false)
+or_false true b h = absurd (cc)
+or_false false b h = (refl, h)
+
+pub heard_sends : (s : State) (us : List Meaning) → list_any (needs_token data_token) us ≡ false → s.numbers.answers ≡ false → (heard s us).numbers.answers ≡ false
+heard_sends s [] n h = h
+heard_sends s (u ∷ us) n h =
+    let p = or_false (needs_token data_token u) (list_any (needs_token data_token) us) n in
+    chosen Sends (stops s u) s (heard (next s u) us) h
+    (heard_sends (next s u) us p.1 (next_cases Sends s u (λ d. h) (λ d. becomes_sends s u p.0 h)))

@@ -1,0 +1,265 @@
+-- A unit is taken that cuts nothing off: what has to be known of it, so that all that is true of both sides
+-- stays.
+use Rattle.std.proofs.Common.{◌≡◌, refl, sym, ◌∙◌, ap, subst, ℕ, ◌≤◌, ◌<◌, Bool, true, false, not, if◌then◌else◌, List, [], ◌∷◌, ◌++◌, append_assoc}
+use Rattle.std.specs.List.{list_any}
+use Rattle.osi_machine.specs.Floor.{State, Tokens, Token, has, available, data_token, Meaning, lower, may_hold, is_restarting, is_restart_due, is_release_due, is_releasing, drops, next}
+use Rattle.osi_machine.specs.Histories.{Item, cutat, AreNumberedFrom}
+use Rattle.osi_machine.specs.Owners.{Owners, turned_owners, is_own, is_to_own, is_absent}
+use Rattle.osi_machine.specs.Taking.{is_acted_on, seen, got_in, cut_by, owners_after}
+use Rattle.osi_machine.specs.Channels.{AllFit, flush, stops, heard, hears, view_next, heard_view, data_in, data_of, needs_token}
+use Rattle.osi_machine.specs.Core.{Party, Core, taking}
+use Rattle.osi_machine.specs.Parties.{AreConsistent}
+use Rattle.osi_machine.proofs.Records.{flushed, hearing, Meeting, Half, Views, Counting, Counts, IsOfProfile, Pair, Stands}
+use Rattle.osi_machine.proofs.Units.{next_acted, next_hears}
+use Rattle.osi_machine.proofs.ChannelLaws.{kept_heard, due_end}
+use Rattle.osi_machine.proofs.Idle.{append_nil}
+use Rattle.osi_machine.proofs.DataCall.{none_owed}
+use Rattle.osi_machine.proofs.Retoken.{Tokens_of}
+use Rattle.osi_machine.proofs.TakeIdle.{rest_of, one_less}
+use Rattle.osi_machine.proofs.Alive.{alive, taken_party, takes_as}
+use Rattle.osi_machine.proofs.CoreLaws.{SessionLaws, taking_kept}
+
+-- the connection, where these units are all that is under way to this side
+abbrev pub at : Core → List Meaning → Core
+at w us = record { history = w.history; owner = w.owner; own = w.own; peer = rest_of w.peer us }
+
+pub stands_at : (w : Core) (us : List Meaning) → w.peer.sent ≡ us → Stands w → Stands (at w us)
+stands_at w us e s =
+    let path : w ≡ at w us = λ i. record { history = w.history; owner = w.owner; own = w.own; peer = rest_of w.peer (e i) } in
+    subst Stands path s
+
+-- this side, and the connection, after it took the first
+abbrev pub party_after : Party → State → List Item → List (List ℕ) → Party
+party_after x r v got = record { session = r; view = v; said = x.said; got = got; sent = x.sent }
+
+abbrev pub after_take : Core → List Meaning → State → List Item → List (List ℕ) → Owners → Core
+after_take w us r v got o = record { history = w.history; owner = o; own = party_after w.own r v got; peer = rest_of w.peer us }
+
+-- The side that takes it is r after it, and has seen v; o are the owners after it.
+pub record Moves (w : Core) (u : Meaning) (us : List Meaning) (r : State) (v : List Item) (got : List (List ℕ)) (o : Owners) : Type 0 where
+  pub stays : stops w.own.session u ≡ false
+  pub next : next w.own.session u ≡ r
+  pub view : view_next w.own.session u w.own.view ≡ v
+  pub gets : (if drops w.own.session u then w.own.got else w.own.got ++ got_in w.own.session u) ≡ got
+  pub history : (if is_acted_on w.own.session u then cut_by w.own.session u w.history else w.history) ≡ w.history
+  pub owner : (if is_acted_on w.own.session u then owners_after w.own.session u w.owner else w.owner) ≡ o
+  pub tokens : Tokens_of o r (flush w.own.session (u ∷ us)) (heard w.own.session (u ∷ us))
+  pub others : Tokens_of (turned_owners o) w.peer.session (flush w.peer.session w.own.sent) (heard w.peer.session w.own.sent)
+  pub released : is_release_due (heard w.peer.session w.own.sent).phase ≡ true → is_releasing r.phase ≡ true
+  pub cut : is_restarting (heard w.own.session (u ∷ us)).phase ≡ true → v ≡ cutat r.base w.history r.numbers.next
+  pub due : is_restart_due r.phase ≡ true → w.peer.view ≡ w.history
+  pub other_due : is_restart_due w.peer.session.phase ≡ true → v ≡ w.history
+  pub stream : (flush w.own.session (u ∷ us)).units.duplex ≡ true → got ++ data_of us ≡ w.own.got ++ data_of (u ∷ us)
+  pub flag : r.numbers.answers ≡ true → (heard w.peer.session w.own.sent).numbers.answers ≡ false
+  pub below : hears (heard w.own.session (u ∷ us)).phase ≡ true → (n : ℕ) → (heard w.peer.session w.own.sent).base ≤ n
+      → n < (heard w.peer.session w.own.sent).numbers.confirmed → n < r.numbers.next
+  pub reach : r.numbers.answers ≡ true → lower r.numbers.next (heard w.peer.session w.own.sent).numbers.confirmed ≤ r.numbers.confirmed
+  pub caller : r.is_caller ≡ w.own.session.is_caller
+
+-- ---- what the taker will be is what it was to be
+
+heard_is : (s r : State) (u : Meaning) (us : List Meaning) → stops s u ≡ false → next s u ≡ r → heard s (u ∷ us) ≡ heard r us
+heard_is s r u us st e = ap (λ (b : Bool). if b then s else heard (next s u) us) st ∙ ap (λ (q : State). heard q us) e
+
+flush_is : (s r : State) (u : Meaning) (us : List Meaning) → next s u ≡ r → flush s (u ∷ us) ≡ flush r us
+flush_is s r u us e = ap (λ (q : State). flush q us) e
+
+view_is : (s r : State) (u : Meaning) (us : List Meaning) (v v' : List Item) → stops s u ≡ false → next s u ≡ r → view_next s u v ≡ v'
+    → heard_view s (u ∷ us) v ≡ heard_view r us v'
+view_is s r u us v v' st e k =
+    ap (λ (b : Bool). if b then v else heard_view (next s u) us (view_next s u v)) st
+    ∙ ap (λ (q : State). heard_view q us (view_next s u v)) e ∙ ap (heard_view r us) k
+
+taker_half : (w : Core) (u : Meaning) (us : List Meaning) (r : State) (v : List Item) (got : List (List ℕ)) (o : Owners) → Moves w u us r v got o
+    → Half w.owner w.own (rest_of w.peer (u ∷ us)) → Half o (party_after w.own r v got) (rest_of w.peer us)
+taker_half w u us r v got o k h = record {
+  fits = subst (λ (q : State). AllFit q us) k.next h.fits.1;
+  meeting = subst (λ (q : State). Meeting o r q (flush w.peer.session w.own.sent) (heard r us) w.peer.session) (flush_is w.own.session r u us k.next)
+      (subst (λ (q : State). Meeting o r (flush w.own.session (u ∷ us)) (flush w.peer.session w.own.sent) q w.peer.session) (heard_is w.own.session r u us k.stays k.next)
+      (record {
+        meets = h.meeting.meets;
+        units = h.meeting.units;
+        base = h.meeting.base;
+        restart = h.meeting.restart;
+        connect = h.meeting.connect;
+        holds = k.tokens.holds;
+        wants = k.tokens.wants;
+        absent = k.tokens.absent;
+        released = h.meeting.released;
+      }));
+}
+
+giver_half : (w : Core) (u : Meaning) (us : List Meaning) (r : State) (v : List Item) (got : List (List ℕ)) (o : Owners) → Moves w u us r v got o
+    → Half (turned_owners w.owner) (rest_of w.peer (u ∷ us)) w.own → Half (turned_owners o) (rest_of w.peer us) (party_after w.own r v got)
+giver_half w u us r v got o k h = record {
+  fits = h.fits;
+  meeting = subst (λ (q : State). Meeting (turned_owners o) w.peer.session (flush w.peer.session w.own.sent) q (heard w.peer.session w.own.sent) r) (flush_is w.own.session r u us k.next)
+      (record {
+        meets = h.meeting.meets;
+        units = h.meeting.units;
+        base = h.meeting.base;
+        restart = h.meeting.restart;
+        connect = h.meeting.connect;
+        holds = k.others.holds;
+        wants = k.others.wants;
+        absent = k.others.absent;
+        released = k.released;
+      });
+}
+
+taker_views : (w : Core) (u : Meaning) (us : List Meaning) (r : State) (v : List Item) (got : List (List ℕ)) (o : Owners) → Moves w u us r v got o
+    → Views w.history w.own (rest_of w.peer (u ∷ us)) → Views w.history (party_after w.own r v got) (rest_of w.peer us)
+taker_views w u us r v got o k h = record {
+  ends = λ l. sym (view_is w.own.session r u us w.own.view v k.stays k.next k.view)
+      ∙ h.ends (ap (λ (q : State). hears q.phase) (heard_is w.own.session r u us k.stays k.next) ∙ l);
+  cut = λ c. k.cut (ap (λ (q : State). is_restarting q.phase) (heard_is w.own.session r u us k.stays k.next) ∙ c);
+  due = k.due;
+  stream = λ d.
+      let e = ap (λ (q : State). q.units.duplex) (flush_is w.own.session r u us k.next) ∙ d in
+      let s = h.stream e in
+      (k.stream e ∙ s.0, s.1);
+}
+
+giver_views : (w : Core) (u : Meaning) (us : List Meaning) (r : State) (v : List Item) (got : List (List ℕ)) (o : Owners) → Moves w u us r v got o
+    → Views w.history (rest_of w.peer (u ∷ us)) w.own → Views w.history (rest_of w.peer us) (party_after w.own r v got)
+giver_views w u us r v got o k h = record { ends = h.ends; cut = h.cut; due = k.other_due; stream = h.stream }
+
+taker_counts : (w : Core) (u : Meaning) (us : List Meaning) (r : State) (v : List Item) (got : List (List ℕ)) (o : Owners) → Moves w u us r v got o
+    → Counts w.own (rest_of w.peer (u ∷ us)) → Counts (party_after w.own r v got) (rest_of w.peer us)
+taker_counts w u us r v got o k h =
+    subst (λ (q : State). Counting r q (heard w.peer.session w.own.sent) w.peer.session) (heard_is w.own.session r u us k.stays k.next)
+    (record { flag = k.flag; below = h.below; reach = h.reach })
+
+giver_counts : (w : Core) (u : Meaning) (us : List Meaning) (r : State) (v : List Item) (got : List (List ℕ)) (o : Owners) → Moves w u us r v got o
+    → Counts (rest_of w.peer (u ∷ us)) w.own → Counts (rest_of w.peer us) (party_after w.own r v got)
+giver_counts w u us r v got o k h =
+    subst (λ (q : State). Counting w.peer.session (heard w.peer.session w.own.sent) q r) (heard_is w.own.session r u us k.stays k.next)
+    (record { flag = h.flag; below = k.below; reach = k.reach })
+
+pair_after : (w : Core) (u : Meaning) (us : List Meaning) (r : State) (v : List Item) (got : List (List ℕ)) (o : Owners) → Moves w u us r v got o
+    → Pair w.history w.own (rest_of w.peer (u ∷ us)) → Pair w.history (party_after w.own r v got) (rest_of w.peer us)
+pair_after w u us r v got o k p =
+    let e = flush_is w.own.session r u us k.next in
+    record {
+      numbered = subst (λ (q : State). AreNumberedFrom q.base w.history) e p.numbered;
+      one_way = λ d. one_less (needs_token data_token) (list_any (needs_token data_token) w.own.sent) u us
+          (p.one_way (ap (λ (q : State). q.units.half_duplex) e ∙ d));
+      callers = p.callers ∙ ap not (sym k.caller);
+      profile = subst (λ (q : State). IsOfProfile q.units) e p.profile;
+    }
+
+-- all that is true of both sides stays
+pub moves_stands : SessionLaws → (w : Core) (u : Meaning) (us : List Meaning) (r : State) (v : List Item) (got : List (List ℕ)) (o : Owners)
+    → w.peer.sent ≡ u ∷ us → Stands w → Moves w u us r v got o → Stands (taking w (u ∷ us))
+moves_stands laws w u us r v got o e s k =
+    let h = stands_at w (u ∷ us) e s in
+    let f : AllFit w.own.session (u ∷ us) = h.own.fits in
+    let party = takes_as w.own u (alive w.owner w.own w.peer s.own) f.0 in
+    let same : taken_party w.own u ≡ party_after w.own r v got =
+    λ i. record { session = k.next i; view = k.view i; said = w.own.said; got = k.gets i; sent = w.own.sent } in
+    let path : after_take w us r v got o ≡ taking w (u ∷ us) =
+    λ i. record { history = sym k.history i; owner = sym k.owner i; own = sym (party ∙ same) i; peer = rest_of w.peer us } in
+    subst Stands path (record {
+      consistent = subst AreConsistent (sym path) (taking_kept laws w (u ∷ us) e s.consistent);
+      own = taker_half w u us r v got o k h.own;
+      peer = giver_half w u us r v got o k h.peer;
+      own_views = taker_views w u us r v got o k h.own_views;
+      peer_views = giver_views w u us r v got o k h.peer_views;
+      own_counts = taker_counts w u us r v got o k h.own_counts;
+      peer_counts = giver_counts w u us r v got o k h.peer_counts;
+      pair = pair_after w u us r v got o k h.pair;
+    })
+
+-- ---- a unit that moves no token, at a side that listens
+
+-- where the owners stay, so do the lines on tokens
+pub same_tokens : (o : Owners) (now end other heard peer r : State) → Meeting o now end other heard peer → r.held ≡ now.held → Tokens_of o r end heard
+same_tokens o now end other heard peer r m e = record {
+  holds = λ t. ap (λ (k : Tokens). has k t) e ∙ m.holds t;
+  wants = m.wants;
+  absent = m.absent;
+}
+
+pub either_way : {A : Type 0} → (b : Bool) (a c : A) → a ≡ c → (if b then a else c) ≡ c
+either_way true a c e = e
+either_way false a c e = refl
+
+-- what shows no data gets none
+pub none_got : (x : Party) (u : Meaning) → got_in x.session u ≡ [] → (if drops x.session u then x.got else x.got ++ got_in x.session u) ≡ x.got
+none_got x u e = either_else (drops x.session u) x.got (x.got ++ got_in x.session u) (ap (λ (g : List (List ℕ)). x.got ++ g) e ∙ append_nil x.got)
+  where
+    either_else : (b : Bool) (a c : List (List ℕ)) → c ≡ a → (if b then a else c) ≡ a
+    either_else true a c k = refl
+    either_else false a c k = k
+
+pub same_stream : (got : List (List ℕ)) (u : Meaning) (us : List Meaning) → data_in u ≡ [] → got ++ data_of us ≡ got ++ data_of (u ∷ us)
+same_stream got u us e = ap (λ (d : List (List ℕ)). got ++ (d ++ data_of us)) (sym e)
+
+-- a side that listens never has asked for a restart
+pub no_cut : (r : State) (us : List Meaning) → is_restarting r.phase ≡ false → AllFit r us → is_restarting (heard r us).phase ≡ true → ⊥
+no_cut r us listens f c = turn _ (kept_heard (λ (q : State). hears q.phase ≡ true) (λ q m p g. next_hears q m p) r us (ap not listens) f) c
+  where
+    turn : (b : Bool) → not b ≡ true → b ≡ true → ⊥
+    turn true p q = cc
+    turn false p q = cc
+
+-- no answer is due at the other of a side that listens
+pub none_due_there : (o : Owners) (x y : Party) → Half o x y → Half (turned_owners o) y x → is_restarting x.session.phase ≡ false
+    → is_restart_due y.session.phase ≡ true → ⊥
+none_due_there o x y a b listens r =
+    let e = due_end y.session x.sent r b.fits in
+    let d = subst (λ (q : State). is_restart_due q.phase ≡ true) (sym e) r in
+    let n = none_owed o x y a listens in
+    cc
+
+-- what has to be known of it then
+pub record Calm (w : Core) (u : Meaning) (us : List Meaning) (r : State) : Type 0 where
+  pub acts : drops w.own.session u ≡ false
+  pub stays : stops w.own.session u ≡ false
+  pub next : next w.own.session u ≡ r
+  pub silent : got_in w.own.session u ≡ []
+  pub empty : data_in u ≡ []
+  pub history : cut_by w.own.session u w.history ≡ w.history
+  pub owner : owners_after w.own.session u w.owner ≡ w.owner
+  pub held : r.held ≡ w.own.session.held
+  pub listens : is_restarting w.own.session.phase ≡ false
+  pub hears : is_restarting r.phase ≡ false
+  pub owes : is_restart_due r.phase ≡ false
+  pub released : is_release_due (heard w.peer.session w.own.sent).phase ≡ true → is_releasing r.phase ≡ true
+  pub flag : r.numbers.answers ≡ true → (heard w.peer.session w.own.sent).numbers.answers ≡ false
+  pub below : not (is_restarting (heard w.own.session (u ∷ us)).phase) ≡ true → (n : ℕ) → (heard w.peer.session w.own.sent).base ≤ n
+      → n < (heard w.peer.session w.own.sent).numbers.confirmed → n < r.numbers.next
+  pub reach : r.numbers.answers ≡ true → lower r.numbers.next (heard w.peer.session w.own.sent).numbers.confirmed ≤ r.numbers.confirmed
+  pub caller : r.is_caller ≡ w.own.session.is_caller
+
+pub calm_moves : (w : Core) (u : Meaning) (us : List Meaning) (r : State) → Stands (at w (u ∷ us)) → Calm w u us r
+    → Moves w u us r (seen w.own.session u w.own.view) w.own.got w.owner
+calm_moves w u us r h k = record {
+  stays = k.stays;
+  next = k.next;
+  view = ap (λ (b : Bool). if b then w.own.view else seen w.own.session u w.own.view) k.acts;
+  gets = none_got w.own u k.silent;
+  history = either_way (is_acted_on w.own.session u) (cut_by w.own.session u w.history) w.history k.history;
+  owner = either_way (is_acted_on w.own.session u) (owners_after w.own.session u w.owner) w.owner k.owner;
+  tokens = same_tokens w.owner w.own.session (flush w.own.session (u ∷ us)) (flush w.peer.session w.own.sent) (heard w.own.session (u ∷ us)) w.peer.session r h.own.meeting k.held;
+  others = same_tokens (turned_owners w.owner) w.peer.session (flush w.peer.session w.own.sent) (flush w.own.session (u ∷ us)) (heard w.peer.session w.own.sent) w.own.session w.peer.session h.peer.meeting refl;
+  released = k.released;
+  cut = λ c. absurd (no_cut r us k.hears (subst (λ (q : State). AllFit q us) k.next f.1)
+      (subst (λ (q : State). is_restarting q.phase ≡ true) (heard_is w.own.session r u us k.stays k.next) c));
+  due = λ d. absurd (let o = k.owes in cc);
+  other_due = λ d. absurd (none_due_there w.owner w.own (rest_of w.peer (u ∷ us)) h.own h.peer k.listens d);
+  stream = λ d. same_stream w.own.got u us k.empty;
+  flag = k.flag;
+  below = k.below;
+  reach = k.reach;
+  caller = k.caller;
+}
+  where
+    f : AllFit w.own.session (u ∷ us)
+    f = h.own.fits
+
+pub calm_stands : SessionLaws → (w : Core) (u : Meaning) (us : List Meaning) (r : State) → w.peer.sent ≡ u ∷ us → Stands w
+    → (Stands (at w (u ∷ us)) → Calm w u us r) → Stands (taking w (u ∷ us))
+calm_stands laws w u us r e s k =
+    let h = stands_at w (u ∷ us) e s in
+    moves_stands laws w u us r (seen w.own.session u w.own.view) w.own.got w.owner e s (calm_moves w u us r h (k h))
