@@ -3,6 +3,10 @@
 #![tactic(auto)]
 
 #[cfg(test)]
+mod carrier_words;
+#[cfg(test)]
+mod carriers;
+#[cfg(test)]
 mod links;
 #[cfg(test)]
 mod listings;
