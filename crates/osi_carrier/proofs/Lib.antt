@@ -17,3 +17,5 @@ pub mod MeetingMessages
 pub mod Changes
 pub mod Meetings
 pub mod Coming
+pub mod InFront
+pub mod Pieces

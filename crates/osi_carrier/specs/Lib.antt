@@ -16,3 +16,4 @@ pub mod OpenLinks
 pub mod Messages
 pub mod Meeting
 pub mod Coming
+pub mod Runs

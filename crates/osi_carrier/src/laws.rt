@@ -1,16 +1,21 @@
 //! Laws of carriers. Each function does nothing: its clauses are the laws.
 
-ghost use Rattle.std.specs.Prelude.{◌≡◌, ◌≤◌, ℕ, Bool, List, Option, None};
+ghost use Rattle.std.specs.Prelude.{◌≡◌, ◌<◌, ◌≤◌, ◌^◌, ℕ, Bool, List, [], Option, None};
+ghost use Rattle.std.specs.List.{flat_map};
+ghost use Rattle.osi_tpkt.specs.Packet.{IsPartial};
 ghost use Rattle.osi_tpdu.specs.Value.{Value};
 ghost use Rattle.osi_class.specs.declared.terms.Local.{Local};
 ghost use Rattle.osi_carrier.specs.Calls.{fresh_state, may_connect, asks, sent, closed_with, ended_by};
 ghost use Rattle.osi_carrier.specs.Happenings.{Happening};
 ghost use Rattle.osi_carrier.specs.Orderly.{IsOrderly, ChangesOne, connection_of};
-ghost use Rattle.osi_carrier.specs.Packets.{after_packet};
+ghost use Rattle.osi_carrier.specs.Packets.{Carrying, after_packet};
 ghost use Rattle.osi_carrier.specs.React.{react};
 ghost use Rattle.osi_carrier.specs.Rows.{value_at};
+ghost use Rattle.osi_carrier.specs.Runs.{Call, CallsAlong, Reads, AreAlike, called_in, used_in};
 ghost use Rattle.osi_carrier.specs.State.{State, ends};
 ghost use Rattle.osi_carrier.specs.declared.ends.EndReason.{EndReason};
+
+use osi_tpkt::laws::{a_prefix_of_a_packet, a_stream_has_one_cut};
 
 /// A unit is for one connection: that of the reference that it names, and in class 0 the only one. All
 /// others stand as they did, unless it ends the carrier; and at most one event is told, of this one.
@@ -41,3 +46,16 @@ pub fn no_reference_is_given_twice()
     ensures sent { (q r : ℕ) (tsdu : List ℕ) (s : State) → value_at r s.live ≡ None → value_at r (sent q tsdu s).live ≡ None }
     ensures closed { (q r reason : ℕ) (s : State) → value_at r s.live ≡ None → value_at r (closed_with q reason s).live ≡ None }
 {}
+
+/// Over every list of calls after which the carrier has not ended, the packets of the octets that it
+/// held and used acted, each whole and in order, with the user's calls between them, and nothing else
+/// did. So where the user only takes events and octets away, the pieces in which the octets came do not matter.
+pub fn the_pieces_do_not_matter()
+    ensures calls { (old new : Carrying) (calls : List Call) → CallsAlong old calls new → new.state.ended ≡ None → Reads old calls new }
+    ensures pieces { (old a b : Carrying) (xs ys : List Call) → IsPartial old.held.octets → old.held.offset < 2 ^ 64 →
+        CallsAlong old xs a → CallsAlong old ys b → flat_map called_in xs ≡ [] → flat_map called_in ys ≡ [] →
+        flat_map used_in xs ≡ flat_map used_in ys → a.state.ended ≡ None → b.state.ended ≡ None → AreAlike a xs b ys }
+{
+    a_prefix_of_a_packet();
+    a_stream_has_one_cut();
+}

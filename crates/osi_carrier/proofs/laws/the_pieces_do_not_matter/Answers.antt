@@ -1,0 +1,13 @@
+use Rattle.osi_carrier.specs.Packets.{Carrying}
+use Rattle.osi_carrier.specs.Runs.{Call}
+use Rattle.std.proofs.Common.{List}
+use Rattle.osi_carrier.proofs.Pieces.{calls_read, pieces_alike}
+use Rattle.osi_carrier.proofs.laws.the_pieces_do_not_matter.Goals as goal
+
+pub returns : goal.returns
+returns c =
+    let nothing = c.a_prefix_of_a_packet.ensures.nothing in
+    record {
+      calls = λ old new calls. calls_read nothing old calls new;
+      pieces = pieces_alike nothing c.a_stream_has_one_cut.ensures.packets;
+    }
