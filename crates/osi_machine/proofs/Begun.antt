@@ -60,7 +60,7 @@ abbrev pub Lively : State → Type 0
 Lively s = is_lively s.phase ≡ true
 
 -- it stays so, until a restart stands
-becomes_lively : (s : State) (u : Meaning) → is_plain u ≡ true → Good s u → stops s u ≡ false → Lively s → Lively (becomes s u)
+pub becomes_lively : (s : State) (u : Meaning) → is_plain u ≡ true → Good s u → stops s u ≡ false → Lively s → Lively (becomes s u)
 becomes_lively s (CN w r n x from to o) p g st h = absurd (let e = excluded is_wait_cn is_lively refl s.phase g.expected in cc)
 becomes_lively s (AC w r n x o) p g st h = refl
 becomes_lively s (RF r o) p g st h = absurd (cc)

@@ -5,8 +5,10 @@ pub mod ChannelLaws
 pub mod Consistent
 pub mod CoreLaws
 pub mod DataCall
+pub mod Deaf
 pub mod Fewer
 pub mod GiveCall
+pub mod Heard
 pub mod HistoryLaws
 pub mod Idle
 pub mod NumberLaws
@@ -14,6 +16,9 @@ pub mod Passed
 pub mod PhaseLaws
 pub mod PleaseCall
 pub mod Records
+pub mod RestartCall
+pub mod RestartFlow
+pub mod RestartMeet
 pub mod Retoken
 pub mod Starts
 pub mod TakeIdle

@@ -1,13 +1,13 @@
 -- The lower of two numbers, and what the units on the way do to the direction of points.
-use Rattle.std.proofs.Common.{◌≡◌, refl, sym, ◌∙◌, ap, subst, ℕ, ◌+◌, ◌≤◌, ◌<◌, Bool, true, false, not, ◌||◌, nat_lt, if◌then◌else◌, List, [], ◌∷◌, arith}
+use Rattle.std.proofs.Common.{◌≡◌, refl, ℕ, ◌≤◌, ◌<◌, Bool, true, false, ◌||◌, nat_lt, if◌then◌else◌, List, [], ◌∷◌, arith}
 use Rattle.std.proofs.lemmas.Bool.{ltb-true, ltb-false}
 use Rattle.std.specs.List.{list_any}
-use Rattle.osi_machine.specs.Floor.{State, Meaning, CN, AC, RF, DT, GT, PT, MIP, MIA, MAP, MAA, RS, RA, FN, DN, NF, AB, AA, data_token, lower, is_wait_cn, is_connecting, is_acceptable, stands, point_taken, minor_confirmed, major_confirmed, restarted_at, becomes, drops, next, Good}
-use Rattle.osi_machine.specs.Channels.{is_plain, Fits, AllFit, heard, stops, needs_token}
+use Rattle.osi_machine.specs.Floor.{State, Meaning, CN, AC, RF, DT, GT, PT, MIP, MIA, MAP, MAA, RS, RA, FN, DN, NF, AB, AA, data_token, lower, is_wait_cn, is_connecting, is_acceptable, stands, point_taken, minor_confirmed, major_confirmed, restarted_at, becomes, next, Good}
+use Rattle.osi_machine.specs.Channels.{is_plain, AllFit, heard, stops, needs_token}
 use Rattle.osi_machine.specs.Parties.{is_opening}
 use Rattle.osi_machine.proofs.PhaseLaws.{implied}
 use Rattle.osi_machine.proofs.Units.{next_cases, fit_cases}
-use Rattle.osi_machine.proofs.ChannelLaws.{kept_all, kept_heard}
+use Rattle.osi_machine.proofs.ChannelLaws.{kept_heard}
 
 -- ---- the lower of two numbers
 
@@ -31,6 +31,21 @@ lower_from n m k p q = by (nat_lt n m)
     by : (b : Bool) → k ≤ (if b then n else m)
     by true = p
     by false = q
+
+-- of lower numbers
+pub lower_less : (m a b c : ℕ) → a ≤ b → lower m b ≤ c → lower m a ≤ c
+lower_less m a b c le h =
+    let p = lower_first m a in
+    let q = lower_second m a in
+    let r = lower_from m b (lower m a) p (omega arith) in
+    omega arith
+
+pub lower_both : (n m a c : ℕ) → n ≤ m → lower m a ≤ c → lower n a ≤ lower n c
+lower_both n m a c le h =
+    let p = lower_first n a in
+    let q = lower_second n a in
+    let r = lower_from m a (lower n a) (omega arith) q in
+    lower_from n c (lower n a) p (omega arith)
 
 -- ---- the direction of points
 

@@ -1,7 +1,7 @@
 -- Tokens: a side that holds one, and what that keeps out of its channel.
 use Rattle.std.proofs.Common.{◌≡◌, refl, ◌∙◌, Bool, true, false, not, ◌&&◌, ◌||◌, if◌then◌else◌, List, [], ◌∷◌}
 use Rattle.std.proofs.lemmas.Bool.{and_parts, or_left}
-use Rattle.osi_machine.specs.Floor.{State, Tokens, Meaning, CN, AC, RF, DT, GT, PT, MIP, MIA, MAP, MAA, RS, RA, FN, DN, NF, AB, AA, Token, data_token, minor, major, release, has, set_of, each, some, is_empty, without, united, lacks, may_hold, is_wait_cn, is_connecting, is_restarting, becomes, drops, Good, next}
+use Rattle.osi_machine.specs.Floor.{State, Tokens, Meaning, CN, AC, RF, DT, GT, PT, MIP, MIA, MAP, MAA, RS, RA, FN, DN, NF, AB, AA, Token, data_token, minor, major, release, has, set_of, each, some, no_token, is_empty, without, united, lacks, may_hold, is_wait_cn, is_connecting, is_restarting, becomes, drops, Good, next}
 use Rattle.osi_machine.specs.Histories.{Item}
 use Rattle.osi_machine.specs.Taking.{seen}
 use Rattle.osi_machine.specs.Channels.{is_plain, Fits, AllFit, stops, heard, is_data, is_data_or_minor, is_no_release, needs_token, view_next, heard_view}
@@ -66,6 +66,9 @@ united_has a b t = has_set (λ t. has a t || has b t) t
 pub without_has : (a b : Tokens) (t : Token) → has (without a b) t ≡ (has a t && not (has b t))
 unfolding without
 without_has a b t = has_set (λ t. has a t && not (has b t)) t
+
+pub none_held : (t : Token) → has no_token t ≡ false
+none_held t = has_set (λ t. false) t
 
 -- ---- a side that holds a token
 

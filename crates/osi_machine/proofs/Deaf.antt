@@ -1,0 +1,188 @@
+-- What is under way to a side that has asked for a restart, or that expects nothing.
+use Rattle.std.proofs.Common.{◌≡◌, refl, sym, ◌∙◌, ap, subst, ℕ, Bool, true, false, not, ◌&&◌, ◌||◌, if◌then◌else◌, List, [], ◌∷◌, ◌++◌, ◌⊎◌, inl, inr}
+use Rattle.osi_machine.specs.Floor.{TokenSetting, ResyncType, State, RestartDue, Meaning, GT, PT, RS, RA, AB, is_restarting, is_restart_due, is_expected, has_no_effect, passes_restarting, without_tokens, restarted_at, becomes, stands, drops, next}
+use Rattle.osi_machine.specs.Histories.{Item, cutat}
+use Rattle.osi_machine.specs.Taking.{seen}
+use Rattle.osi_machine.specs.Channels.{is_plain, Fits, AllFit, flush, stops, heard, hears, view_next, heard_view}
+use Rattle.osi_machine.proofs.PhaseLaws.{excluded}
+use Rattle.osi_machine.proofs.Units.{next_dropped, next_acted}
+use Rattle.osi_machine.proofs.ChannelLaws.{hears_kept, heard_flush, heard_append, view_append}
+
+either : {A : Type 0} → (b : Bool) (x y : A) → y ≡ x → (if b then x else y) ≡ x
+either true x y e = refl
+either false x y e = e
+
+-- ---- units that have no effect
+
+abbrev pub AllEmpty : List Meaning → Type 0
+AllEmpty [] = Unit {0}
+AllEmpty (u ∷ us) = (has_no_effect u ≡ true) × AllEmpty us
+
+empty_dropped : (s : State) (u : Meaning) → has_no_effect u ≡ true → drops s u ≡ true
+empty_dropped s u h = by (has_no_effect u) (is_restarting s.phase && not (passes_restarting u)) h
+  where
+    by : (a b : Bool) → a ≡ true → (a || b) ≡ true
+    by true b h = refl
+    by false b h = absurd (cc)
+
+empty_plain : (u : Meaning) → has_no_effect u ≡ true → is_plain u ≡ true
+empty_plain (GT k) h = refl
+empty_plain (PT k o) h = refl
+empty_plain _ h = absurd (cc)
+
+pub empty_fits : (s : State) (us : List Meaning) → AllEmpty us → AllFit s us
+empty_fits s [] h = tt
+empty_fits s (u ∷ us) h =
+    let d = empty_dropped s u h.0 in (
+      record { plain = empty_plain u h.0; good = λ e. absurd (cc) },
+      subst (λ (r : State). AllFit r us) (sym (next_dropped s u d)) (empty_fits s us h.1),
+    )
+
+pub empty_end : (s : State) (us : List Meaning) → AllEmpty us → flush s us ≡ s
+empty_end s [] h = refl
+empty_end s (u ∷ us) h = ap (λ (r : State). flush r us) (next_dropped s u (empty_dropped s u h.0)) ∙ empty_end s us h.1
+
+pub empty_heard : (s : State) (us : List Meaning) → AllEmpty us → heard s us ≡ s
+empty_heard s [] h = refl
+empty_heard s (u ∷ us) h =
+    either (stops s u) s (heard (next s u) us)
+    (ap (λ (r : State). heard r us) (next_dropped s u (empty_dropped s u h.0)) ∙ empty_heard s us h.1)
+
+pub empty_view : (s : State) (us : List Meaning) (v : List Item) → AllEmpty us → heard_view s us v ≡ v
+empty_view s [] v h = refl
+empty_view s (u ∷ us) v h =
+    let d = empty_dropped s u h.0 in
+    let same : view_next s u v ≡ v = ap (λ (b : Bool). if b then v else seen s u v) d in
+    either (stops s u) v (heard_view (next s u) us (view_next s u v))
+    (ap (λ (r : State). heard_view r us (view_next s u v)) (next_dropped s u d) ∙ ap (heard_view s us) same ∙ empty_view s us v h.1)
+
+-- to a side that expects no unit, only such units come
+pub dropped_empty : (e r p : Bool) → (e || (r && not p)) ≡ true → r ≡ false → e ≡ true
+dropped_empty true r p h k = refl
+dropped_empty false true p h k = absurd (cc)
+dropped_empty false false p h k = absurd (cc)
+
+dropped_here : (s : State) (u : Meaning) → is_expected s.phase u ≡ false → Fits s u → drops s u ≡ true
+dropped_here s u none f = by (drops s u) refl
+  where
+    by : (b : Bool) → drops s u ≡ b → b ≡ true
+    by true d = refl
+    by false d = absurd (let e = (f.good d).expected in cc)
+
+pub all_empty : (s : State) (us : List Meaning) → ((u : Meaning) → is_plain u ≡ true → is_expected s.phase u ≡ false) → is_restarting s.phase ≡ false
+    → AllFit s us → AllEmpty us
+all_empty s [] none listens f = tt
+all_empty s (u ∷ us) none listens f =
+    let d = dropped_here s u (none u f.0.plain) f.0 in (
+      dropped_empty (has_no_effect u) (is_restarting s.phase) (passes_restarting u) d listens,
+      all_empty s us none listens (subst (λ (r : State). AllFit r us) (next_dropped s u d) f.1),
+    )
+
+-- ---- a restart
+
+-- a side, once it has taken an RS
+abbrev pub crossed : State → ℕ → TokenSetting → State
+crossed s n w = if stands s n then record (without_tokens RestartDue s) { wishes = w; numbers = restarted_at n s.numbers } else s
+
+and_false : (b : Bool) → (b && false) ≡ false
+and_false true = refl
+and_false false = refl
+
+pub restart_kept : (s : State) (k : ResyncType) (n : ℕ) (w : TokenSetting) (o : List ℕ) → drops s (RS k n w o) ≡ false
+restart_kept s k n w o = and_false (is_restarting s.phase)
+
+pub restart_next : (s : State) (k : ResyncType) (n : ℕ) (w : TokenSetting) (o : List ℕ) → next s (RS k n w o) ≡ crossed s n w
+restart_next s k n w o = next_acted s (RS k n w o) (restart_kept s k n w o)
+
+pub yielded : (s : State) (n : ℕ) (w : TokenSetting) → stands s n ≡ false → crossed s n w ≡ s
+yielded s n w e = ap (λ (b : Bool). if b then record (without_tokens RestartDue s) { wishes = w; numbers = restarted_at n s.numbers } else s) e
+
+pub stood : (s : State) (n : ℕ) (w : TokenSetting) → stands s n ≡ true
+    → crossed s n w ≡ record (without_tokens RestartDue s) { wishes = w; numbers = restarted_at n s.numbers }
+stood s n w e = ap (λ (b : Bool). if b then record (without_tokens RestartDue s) { wishes = w; numbers = restarted_at n s.numbers } else s) e
+
+-- one that does not stand shows nothing
+pub yielded_view : (s : State) (k : ResyncType) (n : ℕ) (w : TokenSetting) (o : List ℕ) (v : List Item) → stands s n ≡ false → view_next s (RS k n w o) v ≡ v
+yielded_view s k n w o v e =
+    ap (λ (b : Bool). if b then v else seen s (RS k n w o) v) (restart_kept s k n w o)
+    ∙ ap (λ (b : Bool). if b then cutat s.base v n else v) e
+
+-- what its taker has heard before it
+pub heard_restart : (s : State) (us : List Meaning) (k : ResyncType) (n : ℕ) (w : TokenSetting) (o : List ℕ) → AllFit s us → is_restart_due (flush s us).phase ≡ false
+    → heard s (us ++ RS k n w o ∷ []) ≡ flush s us
+heard_restart s us k n w o f due = heard_append s us (RS k n w o) f due ∙ by (stands (flush s us) n) refl
+  where
+    by : (b : Bool) → stands (flush s us) n ≡ b → (if b then flush s us else next (flush s us) (RS k n w o)) ≡ flush s us
+    by true e = refl
+    by false e = restart_next (flush s us) k n w o ∙ yielded (flush s us) n w e
+
+pub view_restart : (s : State) (us : List Meaning) (k : ResyncType) (n : ℕ) (w : TokenSetting) (o : List ℕ) (v : List Item) → AllFit s us
+    → is_restart_due (flush s us).phase ≡ false → heard_view s (us ++ RS k n w o ∷ []) v ≡ heard_view s us v
+view_restart s us k n w o v f due = view_append s us (RS k n w o) v f due ∙ by (stands (flush s us) n) refl
+  where
+    by : (b : Bool) → stands (flush s us) n ≡ b
+        → (if b then heard_view s us v else view_next (flush s us) (RS k n w o) (heard_view s us v)) ≡ heard_view s us v
+    by true e = refl
+    by false e = yielded_view (flush s us) k n w o (heard_view s us v) e
+
+-- ---- a side that has asked for a restart, and will wait for the answer when all is taken
+
+passes : (e r p : Bool) → (e || (r && not p)) ≡ false → r ≡ true → p ≡ true
+passes true r p h k = absurd (cc)
+passes false true true h k = refl
+passes false true false h k = absurd (cc)
+passes false false p h k = absurd (cc)
+
+-- a unit changes nothing there and shows nothing, or is the answer or a restart that stands
+abbrev Passes : State → Meaning → State → Type 0
+Passes s u r = ((r ≡ s) × ((v : List Item) → view_next s u v ≡ v)) ⊎ (hears r.phase ≡ true)
+
+deaf_acts : (s : State) (u : Meaning) → is_plain u ≡ true → passes_restarting u ≡ true → Passes s u (becomes s u)
+deaf_acts s (RS k n w o) p q = by (stands s n) refl
+  where
+    by : (b : Bool) → stands s n ≡ b → Passes s (RS k n w o) (if b then record (without_tokens RestartDue s) { wishes = w; numbers = restarted_at n s.numbers } else s)
+    by true e = inr refl
+    by false e = inl (refl, λ v. yielded_view s k n w o v e)
+deaf_acts s (RA n w o) p q = inr refl
+deaf_acts s (AB b o) p q = absurd (cc)
+deaf_acts s _ p q = absurd (cc)
+
+deaf_next : (s : State) (u : Meaning) → is_restarting s.phase ≡ true → Fits s u → Passes s u (next s u)
+deaf_next s u r f = by (drops s u) refl
+  where
+    by : (b : Bool) → drops s u ≡ b → Passes s u (next s u)
+    by true d = inl (next_dropped s u d, λ v. ap (λ (b : Bool). if b then v else seen s u v) d)
+    by false d = subst (Passes s u) (sym (next_acted s u d))
+        (deaf_acts s u f.plain (passes (has_no_effect u) (is_restarting s.phase) (passes_restarting u) d r))
+
+-- a side that will wait has asked already
+not_both : (b : Bool) → not b ≡ true → b ≡ true → ⊥
+not_both true p q = cc
+not_both false p q = cc
+
+pub deaf_now : (s : State) (us : List Meaning) → is_restarting (flush s us).phase ≡ true → AllFit s us → is_restarting s.phase ≡ true
+deaf_now s us r f = by (is_restarting s.phase) refl
+  where
+    by : (b : Bool) → is_restarting s.phase ≡ b → b ≡ true
+    by true e = refl
+    by false e = absurd (not_both _ (hears_kept s us (ap not e) f) r)
+
+pub deaf_end : (s : State) (us : List Meaning) → is_restarting (flush s us).phase ≡ true → AllFit s us → flush s us ≡ s
+deaf_end s [] r f = refl
+deaf_end s (u ∷ us) r f = elim (deaf_next s u (deaf_now s (u ∷ us) r f) f.0) [
+  | inl e ↦ ap (λ (q : State). flush q us) e.0
+      ∙ deaf_end s us (subst (λ (q : State). is_restarting (flush q us).phase ≡ true) e.0 r) (subst (λ (q : State). AllFit q us) e.0 f.1)
+  | inr l ↦ absurd (not_both _ (hears_kept (next s u) us l f.1) r)
+]
+
+pub deaf_heard : (s : State) (us : List Meaning) → is_restarting (flush s us).phase ≡ true → AllFit s us → heard s us ≡ s
+deaf_heard s us r f = heard_flush s us f (excluded is_restarting is_restart_due refl (flush s us).phase r) ∙ deaf_end s us r f
+
+pub deaf_view : (s : State) (us : List Meaning) (v : List Item) → is_restarting (flush s us).phase ≡ true → AllFit s us → heard_view s us v ≡ v
+deaf_view s [] v r f = refl
+deaf_view s (u ∷ us) v r f = elim (deaf_next s u (deaf_now s (u ∷ us) r f) f.0) [
+  | inl e ↦ either (stops s u) v (heard_view (next s u) us (view_next s u v))
+      (ap (λ (q : State). heard_view q us (view_next s u v)) e.0 ∙ ap (heard_view s us) (e.1 v)
+      ∙ deaf_view s us v (subst (λ (q : State). is_restarting (flush q us).phase ≡ true) e.0 r) (subst (λ (q : State). AllFit q us) e.0 f.1))
+  | inr l ↦ absurd (not_both _ (hears_kept (next s u) us l f.1) r)
+]

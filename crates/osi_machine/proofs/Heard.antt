@@ -1,0 +1,193 @@
+-- What a side will have seen when it has heard all before a restart that stands, and how it is counted.
+use Rattle.std.proofs.Common.{◌≡◌, refl, sym, ◌∙◌, ap, subst, ℕ, ◌+◌, ◌≤◌, ◌<◌, Bool, true, false, not, nat_le, nat_lt, if◌then◌else◌, List, [], ◌∷◌, ◌++◌, append_assoc, arith}
+use Rattle.std.proofs.lemmas.Bool.{leb-true, ltb-true, and_parts}
+use Rattle.osi_machine.specs.Floor.{State, Meaning, CN, AC, RF, DT, GT, PT, MIP, MIA, MAP, MAA, RS, RA, FN, DN, NF, AB, AA, is_ready, is_major_asked, takes_data, is_wait_cn, is_connecting, is_acceptable, is_acknowledgeable, point_taken, minor_confirmed, major_confirmed, becomes, drops, Good, next}
+use Rattle.osi_machine.specs.Histories.{Item, Octets, Point, minor_kind, major_point, points, Begins}
+use Rattle.osi_machine.specs.Taking.{seen}
+use Rattle.osi_machine.specs.Channels.{is_plain, Fits, AllFit, stops, heard, hears, view_next, heard_view}
+use Rattle.osi_machine.specs.Core.{Party}
+use Rattle.osi_machine.specs.Parties.{is_opening, IsConsistent}
+use Rattle.osi_machine.proofs.Records.{hearing, Views}
+use Rattle.osi_machine.proofs.PhaseLaws.{implied, excluded}
+use Rattle.osi_machine.proofs.Units.{fit_cases}
+use Rattle.osi_machine.proofs.HistoryLaws.{points_append}
+use Rattle.osi_machine.proofs.Idle.{append_nil}
+
+-- ---- what was seen stays
+
+same_begins : (v w : List Item) → w ≡ v → Begins v w
+same_begins v w e = ([], append_nil v ∙ sym e)
+
+seen_begins : (s : State) (u : Meaning) (v : List Item) → stops s u ≡ false → Begins v (seen s u v)
+seen_begins s (DT o) v st = by s.units.duplex
+  where
+    by : (b : Bool) → Begins v (if b then v else v ++ Octets o ∷ [])
+    by true = same_begins v v refl
+    by false = (Octets o ∷ [], refl)
+seen_begins s (MIP c n o) v st = (Point n (minor_kind c) o ∷ [], refl)
+seen_begins s (MAP n o) v st = (Point n major_point o ∷ [], refl)
+seen_begins s (RS k n w o) v st = same_begins v _ (rw st refl)
+seen_begins s _ v st = same_begins v v refl
+
+begins_twice : (v w z : List Item) → Begins v w → Begins w z → Begins v z
+begins_twice v w z a b = (a.0 ++ b.0, sym (append_assoc v a.0 b.0) ∙ ap (λ (r : List Item). r ++ b.0) a.1 ∙ b.1)
+
+pub heard_more : (s : State) (us : List Meaning) (v : List Item) → Begins v (heard_view s us v)
+heard_more s [] v = same_begins v v refl
+heard_more s (u ∷ us) v = by (stops s u) refl (heard_more (next s u) us (view_next s u v))
+  where
+    shown : (d : Bool) → stops s u ≡ false → Begins v (if d then v else seen s u v)
+    shown true st = same_begins v v refl
+    shown false st = seen_begins s u v st
+
+    by : (b : Bool) → stops s u ≡ b → Begins (view_next s u v) (heard_view (next s u) us (view_next s u v))
+        → Begins v (if b then v else heard_view (next s u) us (view_next s u v))
+    by true e more = same_begins v v refl
+    by false e more = begins_twice v (view_next s u v) (heard_view (next s u) us (view_next s u v)) (shown (drops s u) e) more
+
+pub begins_points : (v w : List Item) → Begins v w → points v ≤ points w
+begins_points v w b = let e = points_append v b.0 in let f = ap points b.1 in omega arith
+
+-- ---- V(M) counts it
+
+-- V(M) is the base and the points that were seen; before an AC nothing was seen
+pub record Counted (s : State) (v : List Item) : Type 0 where
+  pub count : s.numbers.next ≡ s.base + points v
+  pub fresh : is_opening s.phase ≡ true → v ≡ []
+
+one_point : (n base : ℕ) (v : List Item) (i : Item) → points (i ∷ []) ≡ 1 → n ≡ base + points v → n + 1 ≡ base + points (v ++ i ∷ [])
+one_point n base v i one h = let e = points_append v (i ∷ []) in omega arith
+
+data_point : (n base : ℕ) (b : Bool) (o : List ℕ) (v : List Item) → n ≡ base + points v → n ≡ base + points (if b then v else v ++ Octets o ∷ [])
+data_point n base true o v h = h
+data_point n base false o v h = let e = points_append v (Octets o ∷ []) in omega arith
+
+from_none : (base : ℕ) (v : List Item) → v ≡ [] → base ≡ base + points v
+from_none base v e = rw e (omega arith)
+
+chosen : (P : State → Type 0) (b : Bool) (x y : State) → P x → P y → P (if b then x else y)
+chosen P true x y h k = h
+chosen P false x y h k = k
+
+begun : {v : List Item} (b : Bool) → b ≡ false → b ≡ true → v ≡ []
+begun b e h = absurd (cc)
+
+becomes_counted : (s : State) (u : Meaning) (v : List Item) → is_plain u ≡ true → Good s u → stops s u ≡ false → Counted s v → Counted (becomes s u) (seen s u v)
+unfolding point_taken minor_confirmed major_confirmed
+becomes_counted s (CN w r n x from to o) v p g st h =
+    let none = h.fresh (implied is_wait_cn is_opening refl s.phase g.expected) in
+    chosen (λ r. Counted r v) (is_acceptable w r) _ _ (record { count = h.count; fresh = λ k. none }) (record { count = h.count; fresh = λ k. none })
+becomes_counted s (AC w r n x o) v p g st h =
+    let none = h.fresh (implied is_connecting is_opening refl s.phase g.expected) in
+    record { count = from_none _ v none; fresh = λ k. none }
+becomes_counted s (RF r o) v p g st h = absurd (cc)
+becomes_counted s (DT o) v p g st h = record {
+  count = data_point _ _ s.units.duplex o v h.count;
+  fresh = λ k. begun (is_opening s.phase) (excluded takes_data is_opening refl s.phase g.expected) k;
+}
+becomes_counted s (GT k) v p g st h = record { count = h.count; fresh = h.fresh }
+becomes_counted s (PT k o) v p g st h = h
+becomes_counted s (MIP c n o) v p g st h = record {
+  count = one_point _ _ v (Point n (minor_kind c) o) refl h.count;
+  fresh = λ k. begun (is_opening s.phase) (excluded is_ready is_opening refl s.phase g.expected) k;
+}
+becomes_counted s (MIA n o) v p g st h = record { count = h.count; fresh = h.fresh }
+becomes_counted s (MAP n o) v p g st h = record { count = one_point _ _ v (Point n major_point o) refl h.count; fresh = λ k. absurd (cc) }
+becomes_counted s (MAA n o) v p g st h = record { count = h.count; fresh = λ k. absurd (cc) }
+becomes_counted s (RS k n w o) v p g st h = rw st h
+becomes_counted s (RA n w o) v p g st h = record { count = h.count; fresh = λ k. absurd (cc) }
+becomes_counted s (FN o) v p g st h = record { count = h.count; fresh = λ k. absurd (cc) }
+becomes_counted s (DN o) v p g st h = absurd (cc)
+becomes_counted s (NF o) v p g st h = record { count = h.count; fresh = λ k. absurd (cc) }
+becomes_counted s (AB x o) v p g st h = absurd (cc)
+becomes_counted s AA v p g st h = absurd (cc)
+
+next_counted : (s : State) (u : Meaning) (v : List Item) → Fits s u → stops s u ≡ false → Counted s v → Counted (next s u) (view_next s u v)
+next_counted s u v f st h = by (drops s u) refl
+  where
+    by : (b : Bool) → drops s u ≡ b → Counted (if b then s else becomes s u) (if b then v else seen s u v)
+    by true d = h
+    by false d = becomes_counted s u v f.plain (f.good d) st h
+
+pub heard_counted : (s : State) (us : List Meaning) (v : List Item) → Counted s v → AllFit s us → Counted (heard s us) (heard_view s us v)
+heard_counted s [] v h f = h
+heard_counted s (u ∷ us) v h f =
+    by (stops s u) refl (λ e. heard_counted (next s u) us (view_next s u v) (next_counted s u v f.0 e h) f.1)
+  where
+    by : (b : Bool) → stops s u ≡ b → (stops s u ≡ false → Counted (heard (next s u) us) (heard_view (next s u) us (view_next s u v)))
+        → Counted (if b then s else heard (next s u) us) (if b then v else heard_view (next s u) us (view_next s u v))
+    by true e more = h
+    by false e more = more e
+
+-- ---- V(A) does not fall
+
+-- an open connection whose V(A) has come from here, and is no higher than V(M)
+pub record Grown (a : ℕ) (s : State) : Type 0 where
+  pub phase : is_opening s.phase ≡ false
+  pub from : a ≤ s.numbers.confirmed
+  pub to : s.numbers.confirmed ≤ s.numbers.next
+
+acked_from : (s : State) (n : ℕ) → is_acknowledgeable s n ≡ true → (s.numbers.confirmed ≤ n) × (n < s.numbers.next)
+acked_from s n h =
+    let a = and_parts (not s.numbers.answers) _ h in
+    let b = and_parts (nat_le s.numbers.confirmed n) _ a.1 in
+    (leb-true s.numbers.confirmed n b.0, by (is_major_asked s.phase) b.1)
+  where
+    by : (m : Bool) → (if m then nat_lt (n + 1) s.numbers.next else nat_lt n s.numbers.next) ≡ true → n < s.numbers.next
+    by true e = let k = ltb-true (n + 1) s.numbers.next e in omega arith
+    by false e = ltb-true n s.numbers.next e
+
+taken_from : (a c n : ℕ) (b : Bool) → a ≤ c → c ≤ n → a ≤ (if b then c else n)
+taken_from a c n true h k = h
+taken_from a c n false h k = omega arith
+
+taken_to : (c n : ℕ) (b : Bool) → c ≤ n → (if b then c else n) ≤ n + 1
+taken_to c n true k = omega arith
+taken_to c n false k = omega arith
+
+becomes_grown : (a : ℕ) (s : State) (u : Meaning) → is_plain u ≡ true → Good s u → stops s u ≡ false → Grown a s → Grown a (becomes s u)
+unfolding point_taken minor_confirmed major_confirmed
+becomes_grown a s (CN w r n x from to o) p g st h = absurd (let e = implied is_wait_cn is_opening refl s.phase g.expected in let f = h.phase in cc)
+becomes_grown a s (AC w r n x o) p g st h = absurd (let e = implied is_connecting is_opening refl s.phase g.expected in let f = h.phase in cc)
+becomes_grown a s (RF r o) p g st h = absurd (cc)
+becomes_grown a s (DT o) p g st h = h
+becomes_grown a s (GT k) p g st h = record { phase = h.phase; from = h.from; to = h.to }
+becomes_grown a s (PT k o) p g st h = h
+becomes_grown a s (MIP c n o) p g st h = record { phase = h.phase; from = taken_from a _ _ s.numbers.answers h.from h.to; to = taken_to _ _ s.numbers.answers h.to }
+becomes_grown a s (MIA n o) p g st h =
+    let k = acked_from s n g.met.1.0 in
+    let from = h.from in
+    record { phase = h.phase; from = omega arith; to = omega arith }
+becomes_grown a s (MAP n o) p g st h = record { phase = refl; from = taken_from a _ _ s.numbers.answers h.from h.to; to = taken_to _ _ s.numbers.answers h.to }
+becomes_grown a s (MAA n o) p g st h = let from = h.from in let to = h.to in record { phase = refl; from = omega arith; to = omega arith }
+becomes_grown a s (RS k n w o) p g st h = rw st h
+becomes_grown a s (RA n w o) p g st h = record { phase = refl; from = h.from; to = h.to }
+becomes_grown a s (FN o) p g st h = record { phase = refl; from = h.from; to = h.to }
+becomes_grown a s (DN o) p g st h = absurd (cc)
+becomes_grown a s (NF o) p g st h = record { phase = refl; from = h.from; to = h.to }
+becomes_grown a s (AB x o) p g st h = absurd (cc)
+becomes_grown a s AA p g st h = absurd (cc)
+
+next_grown : (a : ℕ) (s : State) (u : Meaning) → Fits s u → stops s u ≡ false → Grown a s → Grown a (next s u)
+next_grown a s u f st h = fit_cases (Grown a) s u f h (λ d g. becomes_grown a s u f.plain g st h)
+
+pub heard_grown : (a : ℕ) (s : State) (us : List Meaning) → Grown a s → AllFit s us → Grown a (heard s us)
+heard_grown a s [] h f = h
+heard_grown a s (u ∷ us) h f = by (stops s u) refl (λ e. heard_grown a (next s u) us (next_grown a s u f.0 e h) f.1)
+  where
+    by : (b : Bool) → stops s u ≡ b → (stops s u ≡ false → Grown a (heard (next s u) us)) → Grown a (if b then s else heard (next s u) us)
+    by true e more = h
+    by false e more = more e
+
+-- ---- a listener
+
+-- V(M) of a side that listens counts the history, when it has heard all
+pub listener_count : (h : List Item) (x y : Party) → IsConsistent x → AllFit x.session y.sent → Views h x y → hears (hearing x y).phase ≡ true
+    → (hearing x y).numbers.next ≡ (hearing x y).base + points h
+listener_count h x y c f v l =
+    let k = heard_counted x.session y.sent x.view (record { count = c.count; fresh = λ p. (c.fresh p).view }) f in
+    k.count ∙ ap (λ (r : List Item). (hearing x y).base + points r) (v.ends l)
+
+-- what it has seen begins the history
+pub listener_begins : (h : List Item) (x y : Party) → Views h x y → hears (hearing x y).phase ≡ true → Begins x.view h
+listener_begins h x y v l = subst (Begins x.view) (v.ends l) (heard_more x.session y.sent x.view)
