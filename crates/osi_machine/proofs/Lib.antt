@@ -23,5 +23,7 @@ pub mod Retoken
 pub mod Starts
 pub mod TakeIdle
 pub mod TakeMoves
+pub mod TakeRestart
+pub mod TakeYielded
 pub mod Tokens
 pub mod Units

@@ -1,0 +1,375 @@
+-- A restart is taken. It keeps what is true of both sides: where it stands it cuts what was seen and the
+-- history, and where it does not it changes nothing.
+use Rattle.std.proofs.Common.{◌≡◌, refl, sym, ◌∙◌, ap, subst, ℕ, zero, suc, ◌-◌, ◌==◌, ◌≤◌, ◌<◌, Bool, true, false, not, ◌&&◌, ◌||◌, nat_le, nat_lt, if◌then◌else◌, List, [], ◌∷◌, ◌++◌, arith}
+use Rattle.std.proofs.lemmas.Bool.{leb-true, ltb-true, eqb-true, and_parts}
+use Rattle.std.specs.List.{list_any}
+use Rattle.osi_machine.specs.Floor.{TokenSetting, ResyncType, State, RestartDue, Meaning, RS, Tokens, data_token, has, is_restarting, is_restart_due, is_release_due, may_hold, without_tokens, restarted_at, stands, next}
+use Rattle.osi_machine.specs.Histories.{Item, upto, cutat, AreNumberedFrom}
+use Rattle.osi_machine.specs.Owners.{Owner, Own, Theirs, ToOwn, ToThem, Pool, Absent, turned_owner, turned_owners, is_own, is_absent, all_to_pool, pooled}
+use Rattle.osi_machine.specs.Taking.{is_acted_on, seen, cut_by, owners_after}
+use Rattle.osi_machine.specs.Channels.{Fits, AllFit, flush, heard, hears, view_next, heard_view, data_of, needs_token}
+use Rattle.osi_machine.specs.Core.{Party, Core, taking}
+use Rattle.osi_machine.specs.Parties.{AreConsistent}
+use Rattle.osi_machine.proofs.PhaseLaws.{excluded, implied_two}
+use Rattle.osi_machine.proofs.Units.{none_due, restart_due}
+use Rattle.osi_machine.proofs.HistoryLaws.{upto_twice, numbered_cut}
+use Rattle.osi_machine.proofs.Tokens.{none_held}
+use Rattle.osi_machine.proofs.Acting.{fit_acts}
+use Rattle.osi_machine.proofs.Alive.{alive, taken_party, takes_as}
+use Rattle.osi_machine.proofs.CoreLaws.{SessionLaws, taking_kept}
+use Rattle.osi_machine.proofs.Records.{matched, Meeting, Half, Views, Counting, Counts, IsOfProfile, Pair, Stands}
+use Rattle.osi_machine.proofs.NumberLaws.{lower_second, lower_less, lower_both}
+use Rattle.osi_machine.proofs.TakeIdle.{rest_of, one_less}
+use Rattle.osi_machine.proofs.TakeMoves.{at, stands_at, party_after, none_got}
+use Rattle.osi_machine.proofs.Deaf.{AllEmpty, all_empty, empty_fits, empty_end, empty_heard, empty_view, restart_kept, restart_next, stood, deaf_end, deaf_heard}
+
+-- ---- the taker after it
+
+abbrev answering : State → ℕ → TokenSetting → State
+answering s n t = record (without_tokens RestartDue s) { wishes = t; numbers = restarted_at n s.numbers }
+
+-- a restart that stands is the first under way
+record Comes (w : Core) (k : ResyncType) (n : ℕ) (t : TokenSetting) (o : List ℕ) (us : List Meaning) : Type 0 where
+  all : Stands (at w (RS k n t o ∷ us))
+  wins : stands w.own.session n ≡ true
+
+next_is : (w : Core) (k : ResyncType) (n : ℕ) (t : TokenSetting) (o : List ℕ) (us : List Meaning) → Comes w k n t o us → next w.own.session (RS k n t o) ≡ answering w.own.session n t
+next_is w k n t o us c = restart_next w.own.session k n t o ∙ stood w.own.session n t c.wins
+
+fit_first : (w : Core) (k : ResyncType) (n : ℕ) (t : TokenSetting) (o : List ℕ) (us : List Meaning) → Comes w k n t o us → Fits w.own.session (RS k n t o)
+fit_first w k n t o us c = f.0
+  where
+    f : AllFit w.own.session (RS k n t o ∷ us)
+    f = c.all.own.fits
+
+-- nothing comes behind it
+none_behind : (w : Core) (k : ResyncType) (n : ℕ) (t : TokenSetting) (o : List ℕ) (us : List Meaning) → Comes w k n t o us → AllEmpty us
+none_behind w k n t o us c =
+    let d = restart_due w.own.session (RS k n t o) c.wins in
+    let s = next w.own.session (RS k n t o) in
+    all_empty s us (λ u p. none_due s.phase u d p) (excluded is_restart_due is_restarting refl s.phase d) f.1
+  where
+    f : AllFit w.own.session (RS k n t o ∷ us)
+    f = c.all.own.fits
+
+end_is : (w : Core) (k : ResyncType) (n : ℕ) (t : TokenSetting) (o : List ℕ) (us : List Meaning) → Comes w k n t o us
+    → flush w.own.session (RS k n t o ∷ us) ≡ answering w.own.session n t
+end_is w k n t o us c = empty_end (next w.own.session (RS k n t o)) us (none_behind w k n t o us c) ∙ next_is w k n t o us c
+
+heard_is : (w : Core) (k : ResyncType) (n : ℕ) (t : TokenSetting) (o : List ℕ) (us : List Meaning) → Comes w k n t o us
+    → heard w.own.session (RS k n t o ∷ us) ≡ w.own.session
+heard_is w k n t o us c = ap (λ (b : Bool). if b then w.own.session else heard (next w.own.session (RS k n t o)) us) c.wins
+
+-- the other has asked for it, and discards all that is under way
+both : (a b : Bool) → a ≡ true → b ≡ true → (a && b) ≡ true
+both a b p q = rw (p, q) refl
+
+other_waits : (w : Core) (k : ResyncType) (n : ℕ) (t : TokenSetting) (o : List ℕ) (us : List Meaning) → Comes w k n t o us
+    → is_restarting (flush w.peer.session w.own.sent).phase ≡ true
+other_waits w k n t o us c =
+    let end = flush w.own.session (RS k n t o ∷ us) in
+    let other = flush w.peer.session w.own.sent in
+    let d = ap (λ (r : State). is_restart_due r.phase) (end_is w k n t o us c) in
+    implied_two (λ p q. matched p q && is_restart_due p) (λ p q. is_restarting q) refl end.phase other.phase
+    (both (matched end.phase other.phase) (is_restart_due end.phase) c.all.own.meeting.meets d)
+
+other_end : (w : Core) (k : ResyncType) (n : ℕ) (t : TokenSetting) (o : List ℕ) (us : List Meaning) → Comes w k n t o us → flush w.peer.session w.own.sent ≡ w.peer.session
+other_end w k n t o us c = deaf_end w.peer.session w.own.sent (other_waits w k n t o us c) c.all.peer.fits
+
+other_heard : (w : Core) (k : ResyncType) (n : ℕ) (t : TokenSetting) (o : List ℕ) (us : List Meaning) → Comes w k n t o us → heard w.peer.session w.own.sent ≡ w.peer.session
+other_heard w k n t o us c = deaf_heard w.peer.session w.own.sent (other_waits w k n t o us c) c.all.peer.fits
+
+asking_now : (w : Core) (k : ResyncType) (n : ℕ) (t : TokenSetting) (o : List ℕ) (us : List Meaning) → Comes w k n t o us → is_restarting w.peer.session.phase ≡ true
+asking_now w k n t o us c = ap (λ (r : State). is_restarting r.phase) (sym (other_end w k n t o us c)) ∙ other_waits w k n t o us c
+
+heard_asking : (w : Core) (k : ResyncType) (n : ℕ) (t : TokenSetting) (o : List ℕ) (us : List Meaning) → Comes w k n t o us
+    → is_restarting (heard w.peer.session w.own.sent).phase ≡ true
+heard_asking w k n t o us c = ap (λ (r : State). is_restarting r.phase) (other_heard w k n t o us c) ∙ asking_now w k n t o us c
+
+-- ---- its number
+
+same_number : (w : Core) (k : ResyncType) (n : ℕ) (t : TokenSetting) (o : List ℕ) (us : List Meaning) → Comes w k n t o us → w.peer.session.numbers.next ≡ n
+unfolding restarted_at
+same_number w k n t o us c =
+    ap (λ (r : State). r.numbers.next) (sym (other_end w k n t o us c))
+    ∙ (c.all.peer.meeting.restart (other_waits w k n t o us c)).0
+    ∙ ap (λ (r : State). r.numbers.next) (end_is w k n t o us c)
+
+same_base : (w : Core) (k : ResyncType) (n : ℕ) (t : TokenSetting) (o : List ℕ) (us : List Meaning) → Comes w k n t o us → w.peer.session.base ≡ w.own.session.base
+same_base w k n t o us c =
+    ap (λ (r : State). r.base) (sym (other_end w k n t o us c)) ∙ c.all.peer.meeting.base ∙ ap (λ (r : State). r.base) (end_is w k n t o us c)
+
+stood_below : (s : State) (n : ℕ) → (is_restarting s.phase || nat_le n s.numbers.next) ≡ true → stands s n ≡ true → n ≤ s.numbers.next
+unfolding stands
+stood_below s n e st = by (is_restarting s.phase) (nat_lt n s.numbers.next) (nat_le n s.numbers.next) e st (ltb-true n s.numbers.next) (leb-true n s.numbers.next)
+  where
+    by : (r l m : Bool) → (r || m) ≡ true → (not r || (l || ((n == s.numbers.next) && not s.is_caller))) ≡ true
+        → (l ≡ true → n < s.numbers.next) → (m ≡ true → n ≤ s.numbers.next) → n ≤ s.numbers.next
+    by false l m e st f g = g e
+    by true true m e st f g = let k = f refl in omega arith
+    by true false m e st f g = let k = eqb-true n s.numbers.next (and_parts (n == s.numbers.next) (not s.is_caller) st).0 in omega arith
+
+top : (w : Core) (k : ResyncType) (n : ℕ) (t : TokenSetting) (o : List ℕ) (us : List Meaning) → Comes w k n t o us → n ≤ w.own.session.numbers.next
+top w k n t o us c =
+    let g = (fit_first w k n t o us c).good (restart_kept w.own.session k n t o) in
+    let b = and_parts (nat_le w.own.session.base n) (is_restarting w.own.session.phase || nat_le n w.own.session.numbers.next) g.met.1.0 in
+    stood_below w.own.session n b.1 c.wins
+
+-- what it leaves of what was seen is what it leaves of the history
+cut_twice : (base n m : ℕ) (h : List Item) → n ≤ m → cutat base (cutat base h m) n ≡ cutat base h n
+cut_twice base n m h le = upto_twice (n - base) (m - base) h (omega arith)
+
+same_cut : (w : Core) (k : ResyncType) (n : ℕ) (t : TokenSetting) (o : List ℕ) (us : List Meaning) → Comes w k n t o us
+    → cutat w.own.session.base w.own.view n ≡ cutat w.own.session.base w.history n
+same_cut w k n t o us c = by (is_restarting w.own.session.phase) refl
+  where
+    seen_all : (w.own.view ≡ w.history) → cutat w.own.session.base w.own.view n ≡ cutat w.own.session.base w.history n
+    seen_all e = ap (λ (h : List Item). cutat w.own.session.base h n) e
+
+    by : (b : Bool) → is_restarting w.own.session.phase ≡ b → cutat w.own.session.base w.own.view n ≡ cutat w.own.session.base w.history n
+    by false e =
+        let l = ap (λ (r : State). hears r.phase) (heard_is w k n t o us c) ∙ ap not e in
+        seen_all (sym (ap (λ (b : Bool). if b then w.own.view else heard_view (next w.own.session (RS k n t o)) us (view_next w.own.session (RS k n t o) w.own.view)) c.wins)
+        ∙ c.all.own_views.ends l)
+    by true e =
+        let l = ap (λ (r : State). is_restarting r.phase) (heard_is w k n t o us c) ∙ e in
+        ap (λ (h : List Item). cutat w.own.session.base h n) (c.all.own_views.cut l)
+        ∙ cut_twice w.own.session.base n w.own.session.numbers.next w.history (top w k n t o us c)
+
+-- ---- tokens
+
+pool_own : (p : Owner) → false ≡ is_own (all_to_pool p)
+pool_own Own = refl
+pool_own Theirs = refl
+pool_own ToOwn = refl
+pool_own ToThem = refl
+pool_own Pool = refl
+pool_own Absent = refl
+
+pool_theirs : (p : Owner) → false ≡ is_own (turned_owner (all_to_pool p))
+pool_theirs Own = refl
+pool_theirs Theirs = refl
+pool_theirs ToOwn = refl
+pool_theirs ToThem = refl
+pool_theirs Pool = refl
+pool_theirs Absent = refl
+
+pool_absent : (p : Owner) → is_absent p ≡ true → is_absent (all_to_pool p) ≡ true
+pool_absent Absent h = refl
+pool_absent Own h = absurd (cc)
+pool_absent Theirs h = absurd (cc)
+pool_absent ToOwn h = absurd (cc)
+pool_absent ToThem h = absurd (cc)
+pool_absent Pool h = h
+
+pool_turned_absent : (p : Owner) → is_absent (turned_owner p) ≡ true → is_absent (turned_owner (all_to_pool p)) ≡ true
+pool_turned_absent Absent h = refl
+pool_turned_absent Own h = absurd (cc)
+pool_turned_absent Theirs h = absurd (cc)
+pool_turned_absent ToOwn h = absurd (cc)
+pool_turned_absent ToThem h = absurd (cc)
+pool_turned_absent Pool h = h
+
+-- ---- the two halves
+
+taker : (w : Core) (n : ℕ) (t : TokenSetting) → Party
+taker w n t = party_after w.own (answering w.own.session n t) (cutat w.own.session.base w.own.view n) w.own.got
+
+was_met : (w : Core) (k : ResyncType) (n : ℕ) (t : TokenSetting) (o : List ℕ) (us : List Meaning) → Comes w k n t o us
+    → Meeting w.owner w.own.session (answering w.own.session n t) (flush w.peer.session w.own.sent) w.own.session w.peer.session
+was_met w k n t o us c =
+    subst (λ (e : State). Meeting w.owner w.own.session e (flush w.peer.session w.own.sent) w.own.session w.peer.session) (end_is w k n t o us c)
+    (subst (λ (e : State). Meeting w.owner w.own.session (flush w.own.session (RS k n t o ∷ us)) (flush w.peer.session w.own.sent) e w.peer.session) (heard_is w k n t o us c)
+    c.all.own.meeting)
+
+was_met_there : (w : Core) (k : ResyncType) (n : ℕ) (t : TokenSetting) (o : List ℕ) (us : List Meaning) → Comes w k n t o us
+    → Meeting (turned_owners w.owner) w.peer.session (flush w.peer.session w.own.sent) (answering w.own.session n t) (heard w.peer.session w.own.sent) w.own.session
+was_met_there w k n t o us c =
+    subst (λ (e : State). Meeting (turned_owners w.owner) w.peer.session (flush w.peer.session w.own.sent) e (heard w.peer.session w.own.sent) w.own.session) (end_is w k n t o us c)
+    c.all.peer.meeting
+
+taker_half : (w : Core) (k : ResyncType) (n : ℕ) (t : TokenSetting) (o : List ℕ) (us : List Meaning) → Comes w k n t o us → Half (pooled w.owner) (taker w n t) (rest_of w.peer us)
+unfolding taker
+taker_half w k n t o us c =
+    let m = was_met w k n t o us c in
+    let none = none_behind w k n t o us c in
+    record {
+      fits = empty_fits (answering w.own.session n t) us none;
+      meeting = subst (λ (e : State). Meeting (pooled w.owner) (answering w.own.session n t) e (flush w.peer.session w.own.sent) (heard (answering w.own.session n t) us) w.peer.session)
+          (sym (empty_end (answering w.own.session n t) us none))
+          (subst (λ (e : State). Meeting (pooled w.owner) (answering w.own.session n t) (answering w.own.session n t) (flush w.peer.session w.own.sent) e w.peer.session)
+          (sym (empty_heard (answering w.own.session n t) us none)) (record {
+            meets = m.meets;
+            units = m.units;
+            base = m.base;
+            restart = m.restart;
+            connect = m.connect;
+            holds = λ a. none_held a ∙ pool_own (w.owner a);
+            wants = λ h. absurd (cc);
+            absent = λ a z. pool_absent (w.owner a) (m.absent a z);
+            released = λ d. absurd (cc);
+          }));
+    }
+
+giver_half : (w : Core) (k : ResyncType) (n : ℕ) (t : TokenSetting) (o : List ℕ) (us : List Meaning) → Comes w k n t o us
+    → Half (turned_owners (pooled w.owner)) (rest_of w.peer us) (taker w n t)
+unfolding taker
+giver_half w k n t o us c =
+    let m = was_met_there w k n t o us c in
+    let none = none_behind w k n t o us c in
+    let asking = asking_now w k n t o us c in
+    let asked = heard_asking w k n t o us c in
+    let no_tokens = c.all.consistent.peer.sound.tokens (excluded is_restarting may_hold refl w.peer.session.phase asking) in
+    record {
+      fits = c.all.peer.fits;
+      meeting = subst (λ (e : State). Meeting (turned_owners (pooled w.owner)) w.peer.session (flush w.peer.session w.own.sent) e (heard w.peer.session w.own.sent) (answering w.own.session n t))
+          (sym (empty_end (answering w.own.session n t) us none)) (record {
+            meets = m.meets;
+            units = m.units;
+            base = m.base;
+            restart = m.restart;
+            connect = m.connect;
+            holds = λ a. ap (λ (v : Tokens). has v a) no_tokens ∙ none_held a ∙ pool_theirs (w.owner a);
+            wants = λ h. absurd (let e = excluded is_restarting may_hold refl (heard w.peer.session w.own.sent).phase asked in cc);
+            absent = λ a z. pool_turned_absent (w.owner a) (m.absent a z);
+            released = λ d. absurd (let e = excluded is_restarting is_release_due refl (heard w.peer.session w.own.sent).phase asked in cc);
+          });
+    }
+
+-- ---- what was seen
+
+none_left : (k : ℕ) (h : List Item) → h ≡ [] → upto k h ≡ []
+none_left k h e = ap (upto k) e ∙ by k
+  where
+    by : (k : ℕ) → upto k [] ≡ []
+    by zero = refl
+    by (suc k) = refl
+
+taker_views : (w : Core) (k : ResyncType) (n : ℕ) (t : TokenSetting) (o : List ℕ) (us : List Meaning) → Comes w k n t o us
+    → Views (cutat w.own.session.base w.history n) (taker w n t) (rest_of w.peer us)
+unfolding taker
+taker_views w k n t o us c =
+    let none = none_behind w k n t o us c in
+    let r = answering w.own.session n t in
+    record {
+      ends = λ l. empty_view r us (cutat w.own.session.base w.own.view n) none ∙ same_cut w k n t o us c;
+      cut = λ d. absurd (let e = ap (λ (q : State). is_restarting q.phase) (sym (empty_heard r us none)) ∙ d in cc);
+      due = λ d. c.all.peer_views.cut (heard_asking w k n t o us c)
+          ∙ ap (λ (b : ℕ). cutat b w.history w.peer.session.numbers.next) (same_base w k n t o us c)
+          ∙ ap (cutat w.own.session.base w.history) (same_number w k n t o us c);
+      stream = λ d. streams (c.all.own_views.stream (ap (λ (q : State). q.units.duplex) (end_is w k n t o us c ∙ sym (empty_end r us none)) ∙ d));
+    }
+  where
+    streams : (w.own.got ++ data_of (RS k n t o ∷ us) ≡ w.peer.said) × (w.history ≡ []) → (w.own.got ++ data_of us ≡ w.peer.said) × (cutat w.own.session.base w.history n ≡ [])
+    streams old = (old.0, none_left (n - w.own.session.base) w.history old.1)
+
+giver_views : (w : Core) (k : ResyncType) (n : ℕ) (t : TokenSetting) (o : List ℕ) (us : List Meaning) → Comes w k n t o us
+    → Views (cutat w.own.session.base w.history n) (rest_of w.peer us) (taker w n t)
+unfolding taker
+giver_views w k n t o us c = record {
+  ends = λ l. absurd (both_not _ l (heard_asking w k n t o us c));
+  cut = λ d. c.all.peer_views.cut d
+      ∙ ap (cutat w.peer.session.base w.history) (same_number w k n t o us c)
+      ∙ sym (cut_twice w.peer.session.base n n w.history (omega arith))
+      ∙ ap (λ (h : List Item). cutat w.peer.session.base h n) (ap (λ (b : ℕ). cutat b w.history n) (same_base w k n t o us c))
+      ∙ ap (cutat w.peer.session.base (cutat w.own.session.base w.history n)) (sym (same_number w k n t o us c));
+  due = λ d. absurd (let e = excluded is_restarting is_restart_due refl w.peer.session.phase (asking_now w k n t o us c) in cc);
+  stream = λ d. let s = c.all.peer_views.stream d in (s.0, none_left (n - w.own.session.base) w.history s.1);
+}
+  where
+    both_not : (b : Bool) → not b ≡ true → b ≡ true → ⊥
+    both_not true p q = cc
+    both_not false p q = cc
+
+-- ---- the numbers
+
+taker_counts : (w : Core) (k : ResyncType) (n : ℕ) (t : TokenSetting) (o : List ℕ) (us : List Meaning) → Comes w k n t o us → Counts (taker w n t) (rest_of w.peer us)
+unfolding taker restarted_at
+taker_counts w k n t o us c =
+    let old = subst (λ (e : State). Counting w.own.session e (heard w.peer.session w.own.sent) w.peer.session) (heard_is w k n t o us c) c.all.own_counts in
+    subst (λ (e : State). Counting (answering w.own.session n t) e (heard w.peer.session w.own.sent) w.peer.session)
+    (sym (empty_heard (answering w.own.session n t) us (none_behind w k n t o us c))) (record {
+      flag = old.flag;
+      below = λ l. absurd (both_not _ l (heard_asking w k n t o us c));
+      reach = λ f. lower_less w.peer.session.numbers.next _ w.own.session.numbers.confirmed w.peer.session.numbers.confirmed
+          (lower_second n w.own.session.numbers.confirmed) (old.reach f);
+    })
+  where
+    both_not : (b : Bool) → not b ≡ true → b ≡ true → ⊥
+    both_not true p q = cc
+    both_not false p q = cc
+
+giver_counts : (w : Core) (k : ResyncType) (n : ℕ) (t : TokenSetting) (o : List ℕ) (us : List Meaning) → Comes w k n t o us → Counts (rest_of w.peer us) (taker w n t)
+unfolding taker restarted_at
+giver_counts w k n t o us c =
+    let old = subst (λ (e : State). Counting w.peer.session (heard w.peer.session w.own.sent) e w.own.session) (heard_is w k n t o us c) c.all.peer_counts in
+    subst (λ (e : State). Counting w.peer.session (heard w.peer.session w.own.sent) e (answering w.own.session n t))
+    (sym (empty_heard (answering w.own.session n t) us (none_behind w k n t o us c))) (record {
+      flag = old.flag;
+      below = λ l a from to.
+          let high = subst (λ (v : State). a < v.numbers.confirmed) (other_heard w k n t o us c) to in
+          let order = c.all.consistent.peer.sound.ordered.confirmed_to in
+          let same = same_number w k n t o us c in
+          omega arith;
+      reach = λ f. lower_both n w.own.session.numbers.next _ w.own.session.numbers.confirmed (top w k n t o us c) (old.reach f);
+    })
+
+-- ---- both at once
+
+pair_after : (w : Core) (k : ResyncType) (n : ℕ) (t : TokenSetting) (o : List ℕ) (us : List Meaning) → Comes w k n t o us
+    → Pair (cutat w.own.session.base w.history n) (taker w n t) (rest_of w.peer us)
+unfolding taker
+pair_after w k n t o us c =
+    let same : flush w.own.session (RS k n t o ∷ us) ≡ flush (answering w.own.session n t) us =
+    end_is w k n t o us c ∙ sym (empty_end (answering w.own.session n t) us (none_behind w k n t o us c)) in
+    record {
+      numbered = subst (λ (e : State). AreNumberedFrom e.base (cutat w.own.session.base w.history n)) same (numbered_cut _ (n - w.own.session.base) w.history c.all.pair.numbered);
+      one_way = λ d. one_less (needs_token data_token) (list_any (needs_token data_token) w.own.sent) (RS k n t o) us
+          (c.all.pair.one_way (ap (λ (e : State). e.units.half_duplex) same ∙ d));
+      callers = c.all.pair.callers;
+      profile = subst (λ (e : State). IsOfProfile e.units) same c.all.pair.profile;
+    }
+
+-- ---- all that is true of both sides
+
+after_restart : Core → ℕ → TokenSetting → List Meaning → Core
+after_restart w n t us = record { history = cutat w.own.session.base w.history n; owner = pooled w.owner; own = taker w n t; peer = rest_of w.peer us }
+
+takes_restart : (w : Core) (k : ResyncType) (n : ℕ) (t : TokenSetting) (o : List ℕ) (us : List Meaning) → Comes w k n t o us → after_restart w n t us ≡ taking w (RS k n t o ∷ us)
+unfolding taker after_restart
+takes_restart w k n t o us c =
+    let u = RS k n t o in
+    let f = fit_first w k n t o us c in
+    let lives = alive w.owner w.own (rest_of w.peer (u ∷ us)) c.all.own in
+    let kept = restart_kept w.own.session k n t o in
+    let acts = fit_acts w.own.session u lives f ∙ ap not kept in
+    let party = takes_as w.own u lives f in
+    let view : view_next w.own.session u w.own.view ≡ cutat w.own.session.base w.own.view n =
+    ap (λ (b : Bool). if b then w.own.view else seen w.own.session u w.own.view) kept
+    ∙ ap (λ (b : Bool). if b then cutat w.own.session.base w.own.view n else w.own.view) c.wins in
+    let same : taken_party w.own u ≡ party_after w.own (answering w.own.session n t) (cutat w.own.session.base w.own.view n) w.own.got =
+    λ i. record { session = next_is w k n t o us c i; view = view i; said = w.own.said; got = none_got w.own u refl i; sent = w.own.sent } in
+    let history : (if is_acted_on w.own.session u then cut_by w.own.session u w.history else w.history) ≡ cutat w.own.session.base w.history n =
+    ap (λ (b : Bool). if b then cut_by w.own.session u w.history else w.history) acts
+    ∙ ap (λ (b : Bool). if b then cutat w.own.session.base w.history n else w.history) c.wins in
+    let owner : (if is_acted_on w.own.session u then owners_after w.own.session u w.owner else w.owner) ≡ pooled w.owner =
+    ap (λ (b : Bool). if b then owners_after w.own.session u w.owner else w.owner) acts
+    ∙ ap (λ (b : Bool). if b then pooled w.owner else w.owner) c.wins in
+    λ i. record { history = sym history i; owner = sym owner i; own = sym (party ∙ same) i; peer = rest_of w.peer us }
+
+pub restart_taken : SessionLaws → (w : Core) (k : ResyncType) (n : ℕ) (t : TokenSetting) (o : List ℕ) (us : List Meaning) → w.peer.sent ≡ RS k n t o ∷ us
+    → stands w.own.session n ≡ true → Stands w → Stands (taking w (RS k n t o ∷ us))
+unfolding after_restart
+restart_taken laws w k n t o us e st s =
+    let c : Comes w k n t o us = record { all = stands_at w (RS k n t o ∷ us) e s; wins = st } in
+    let path = takes_restart w k n t o us c in
+    subst Stands path (record {
+      consistent = subst AreConsistent (sym path) (taking_kept laws w (RS k n t o ∷ us) e s.consistent);
+      own = taker_half w k n t o us c;
+      peer = giver_half w k n t o us c;
+      own_views = taker_views w k n t o us c;
+      peer_views = giver_views w k n t o us c;
+      own_counts = taker_counts w k n t o us c;
+      peer_counts = giver_counts w k n t o us c;
+      pair = pair_after w k n t o us c;
+    })
