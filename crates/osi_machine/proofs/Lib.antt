@@ -17,9 +17,11 @@ pub mod PhaseLaws
 pub mod PleaseCall
 pub mod Records
 pub mod RestartCall
+pub mod RestartConfirmCall
 pub mod RestartFlow
 pub mod RestartMeet
 pub mod Retoken
+pub mod Settled
 pub mod Starts
 pub mod TakeIdle
 pub mod TakeMoves

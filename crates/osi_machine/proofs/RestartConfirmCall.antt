@@ -1,0 +1,282 @@
+-- The call of RestartConfirm keeps what is true of both sides.
+use Rattle.std.proofs.Common.{◌≡◌, refl, sym, ◌∙◌, ap, subst, ℕ, Bool, true, false, not, ◌&&◌, if◌then◌else◌, List, [], ◌∷◌, ◌++◌, Ok, arith}
+use Rattle.std.proofs.lemmas.Bool.{eq-eqb}
+use Rattle.std.specs.List.{list_any}
+use Rattle.osi_machine.specs.Floor.{TokenSetting, State, FunctionalUnits, Sides, Ready, Meaning, RA, Tokens, Token, data_token, has, available, settle, setting_of, of_asker, of_answerer, stated, answers_wishes, is_restarting, is_restart_due, may_hold, RestartConfirm, Granted, allowed, becomes, next}
+use Rattle.osi_machine.specs.Histories.{Item, AreNumberedFrom}
+use Rattle.osi_machine.specs.Owners.{turned_owners, settled_by}
+use Rattle.osi_machine.specs.Channels.{Fits, flush, heard, hears, heard_view, data_of, needs_token}
+use Rattle.osi_machine.specs.Core.{Party, Core, answered}
+use Rattle.osi_machine.specs.Parties.{AreConsistent}
+use Rattle.osi_machine.proofs.PhaseLaws.{excluded, implied_two}
+use Rattle.osi_machine.proofs.Passed.{passed}
+use Rattle.osi_machine.proofs.Units.{none_due, next_acted}
+use Rattle.osi_machine.proofs.ChannelLaws.{fit_append, flush_append, heard_append, view_append, data_append}
+use Rattle.osi_machine.proofs.Tokens.{none_held}
+use Rattle.osi_machine.proofs.CoreLaws.{SessionLaws, answered_kept}
+use Rattle.osi_machine.proofs.Records.{flushed, hearing, matched, Meeting, Half, Views, Counting, Counts, IsOfProfile, Pair, Stands}
+use Rattle.osi_machine.proofs.Idle.{append_nil, list_any_append}
+use Rattle.osi_machine.proofs.Deaf.{AllEmpty, all_empty, empty_fits, empty_end, empty_heard, empty_view, deaf_end, deaf_heard, deaf_view}
+use Rattle.osi_machine.proofs.Settled.{settled_answers, answerer_there, asker_holds, own_held, own_wanted, own_absent, their_held, their_wanted, their_absent}
+
+-- ---- both sides after the call
+
+abbrev held_by : State → Sides → Tokens
+held_by s a = of_answerer s.units (settle s.units s.wishes a)
+
+abbrev confirmed : State → Sides → State
+confirmed s a = record s { phase = Ready; held = held_by s a }
+
+abbrev answer : State → Sides → List ℕ → Meaning
+answer s a o = RA s.numbers.next (setting_of (settle s.units s.wishes a)) o
+
+abbrev answerer : Party → Sides → List ℕ → Party
+answerer x a o = record { session = confirmed x.session a; view = x.view ++ []; said = x.said ++ []; got = x.got; sent = x.sent ++ answer x.session a o ∷ [] }
+
+-- the other, when it has taken the answer
+abbrev restarted : Core → Sides → List ℕ → State
+restarted w a o = becomes (flushed w.peer w.own) (answer w.own.session a o)
+
+-- ---- what is under way: nothing to this side, and nothing that the other heeds
+
+none_under_way : (w : Core) → is_restart_due w.own.session.phase ≡ true → Stands w → AllEmpty w.peer.sent
+none_under_way w due s =
+    all_empty w.own.session w.peer.sent (λ u p. none_due w.own.session.phase u due p) (excluded is_restart_due is_restarting refl w.own.session.phase due) s.own.fits
+
+own_end : (w : Core) → is_restart_due w.own.session.phase ≡ true → Stands w → flushed w.own w.peer ≡ w.own.session
+own_end w due s = empty_end w.own.session w.peer.sent (none_under_way w due s)
+
+own_heard : (w : Core) → is_restart_due w.own.session.phase ≡ true → Stands w → hearing w.own w.peer ≡ w.own.session
+own_heard w due s = empty_heard w.own.session w.peer.sent (none_under_way w due s)
+
+both : (a b : Bool) → a ≡ true → b ≡ true → (a && b) ≡ true
+both a b p q = rw (p, q) refl
+
+other_waits : (w : Core) → is_restart_due w.own.session.phase ≡ true → Stands w → is_restarting (flushed w.peer w.own).phase ≡ true
+other_waits w due s =
+    let d = ap (λ (r : State). is_restart_due r.phase) (own_end w due s) ∙ due in
+    implied_two (λ p q. matched p q && is_restart_due p) (λ p q. is_restarting q) refl (flushed w.own w.peer).phase (flushed w.peer w.own).phase
+    (both (matched (flushed w.own w.peer).phase (flushed w.peer w.own).phase) (is_restart_due (flushed w.own w.peer).phase) s.own.meeting.meets d)
+
+other_end : (w : Core) → is_restart_due w.own.session.phase ≡ true → Stands w → flushed w.peer w.own ≡ w.peer.session
+other_end w due s = deaf_end w.peer.session w.own.sent (other_waits w due s) s.peer.fits
+
+other_heard : (w : Core) → is_restart_due w.own.session.phase ≡ true → Stands w → hearing w.peer w.own ≡ w.peer.session
+other_heard w due s = deaf_heard w.peer.session w.own.sent (other_waits w due s) s.peer.fits
+
+other_asks : (w : Core) → is_restart_due w.own.session.phase ≡ true → Stands w → is_restarting w.peer.session.phase ≡ true
+other_asks w due s = ap (λ (r : State). is_restarting r.phase) (sym (other_end w due s)) ∙ other_waits w due s
+
+other_owes_none : (w : Core) → is_restart_due w.own.session.phase ≡ true → Stands w → is_restart_due (flushed w.peer w.own).phase ≡ false
+other_owes_none w due s = excluded is_restarting is_restart_due refl (flushed w.peer w.own).phase (other_waits w due s)
+
+other_units : (w : Core) → is_restart_due w.own.session.phase ≡ true → Stands w → (flushed w.peer w.own).units ≡ w.own.session.units
+other_units w due s = sym s.own.meeting.units ∙ ap (λ (r : State). r.units) (own_end w due s)
+
+other_base : (w : Core) → is_restart_due w.own.session.phase ≡ true → Stands w → (flushed w.peer w.own).base ≡ w.own.session.base
+other_base w due s = sym s.own.meeting.base ∙ ap (λ (r : State). r.base) (own_end w due s)
+
+other_number : (w : Core) → is_restart_due w.own.session.phase ≡ true → Stands w → (flushed w.peer w.own).numbers.next ≡ w.own.session.numbers.next
+other_number w due s = (s.peer.meeting.restart (other_waits w due s)).0 ∙ ap (λ (r : State). r.numbers.next) (own_end w due s)
+
+other_wishes : (w : Core) → is_restart_due w.own.session.phase ≡ true → Stands w → (flushed w.peer w.own).wishes ≡ w.own.session.wishes
+other_wishes w due s = (s.peer.meeting.restart (other_waits w due s)).1 ∙ ap (λ (r : State). r.wishes) (own_end w due s)
+
+-- ---- the answer
+
+answer_kept : (b : Bool) → (b && false) ≡ false
+answer_kept true = refl
+answer_kept false = refl
+
+answer_next : (s : State) (n : ℕ) (t : TokenSetting) (o : List ℕ) → next s (RA n t o) ≡ becomes s (RA n t o)
+answer_next s n t o = next_acted s (RA n t o) (answer_kept (is_restarting s.phase))
+
+answer_fits : (w : Core) (a : Sides) (o : List ℕ) → is_restart_due w.own.session.phase ≡ true → Stands w → Fits (flushed w.peer w.own) (answer w.own.session a o)
+answer_fits w a o due s = record {
+  plain = refl;
+  good = λ d. record {
+    expected = other_waits w due s;
+    met = (
+      eq-eqb w.own.session.numbers.next (flushed w.peer w.own).numbers.next (sym (other_number w due s)),
+      (
+        ap (λ (u : FunctionalUnits). answers_wishes u (flushed w.peer w.own).wishes (setting_of (settle w.own.session.units w.own.session.wishes a))) (other_units w due s)
+            ∙ ap (λ (t : TokenSetting). answers_wishes w.own.session.units t (setting_of (settle w.own.session.units w.own.session.wishes a))) (other_wishes w due s)
+            ∙ settled_answers w.own.session.units w.own.session.wishes a,
+        tt,
+      ),
+    );
+  };
+}
+
+end_after : (w : Core) (a : Sides) (o : List ℕ) → flush w.peer.session (w.own.sent ++ answer w.own.session a o ∷ []) ≡ restarted w a o
+end_after w a o = flush_append w.peer.session w.own.sent (answer w.own.session a o) ∙ answer_next (flushed w.peer w.own) w.own.session.numbers.next (setting_of (settle w.own.session.units w.own.session.wishes a)) o
+
+heard_after : (w : Core) (a : Sides) (o : List ℕ) → is_restart_due w.own.session.phase ≡ true → Stands w
+    → heard w.peer.session (w.own.sent ++ answer w.own.session a o ∷ []) ≡ restarted w a o
+heard_after w a o due s =
+    heard_append w.peer.session w.own.sent (answer w.own.session a o) s.peer.fits (other_owes_none w due s) ∙ answer_next (flushed w.peer w.own) w.own.session.numbers.next (setting_of (settle w.own.session.units w.own.session.wishes a)) o
+
+-- ---- tokens
+
+there : (w : Core) (a : Sides) (t : Token) → has (held_by w.own.session a) t ≡ true → has (available w.own.session.units) t ≡ true
+there w a t h = answerer_there w.own.session.units (settle w.own.session.units w.own.session.wishes a) t h
+
+will_hold : (w : Core) (a : Sides) (o : List ℕ) (t : Token) → is_restart_due w.own.session.phase ≡ true → Stands w
+    → has (restarted w a o).held t ≡ (has (available w.own.session.units) t && not (has (held_by w.own.session a) t))
+will_hold w a o t due s =
+    ap (λ (u : FunctionalUnits). has (of_asker u (stated u (setting_of (settle w.own.session.units w.own.session.wishes a)))) t) (other_units w due s)
+    ∙ asker_holds w.own.session.units w.own.session.wishes a t
+
+-- ---- the two halves
+
+own_half : (w : Core) (a : Sides) (o : List ℕ) → is_restart_due w.own.session.phase ≡ true → Stands w
+    → Half (settled_by (confirmed w.own.session a)) (answerer w.own a o) w.peer
+own_half w a o due s =
+    let r = confirmed w.own.session a in
+    let none = none_under_way w due s in
+    let owners = settled_by (confirmed w.own.session a) in
+    record {
+      fits = empty_fits r w.peer.sent none;
+      meeting = subst (λ (e : State). Meeting owners r e (flush w.peer.session (w.own.sent ++ answer w.own.session a o ∷ [])) (heard r w.peer.sent) w.peer.session) (sym (empty_end r w.peer.sent none))
+          (subst (λ (e : State). Meeting owners r r (flush w.peer.session (w.own.sent ++ answer w.own.session a o ∷ [])) e w.peer.session) (sym (empty_heard r w.peer.sent none))
+          (subst (λ (e : State). Meeting owners r r e r w.peer.session) (sym (end_after w a o)) (record {
+            meets = refl;
+            units = sym (other_units w due s);
+            base = sym (other_base w due s);
+            restart = λ k. absurd (cc);
+            connect = λ k. absurd (cc);
+            holds = λ t. own_held (has (held_by w.own.session a) t) (has (available w.own.session.units) t);
+            wants = λ m t. own_wanted (has (held_by w.own.session a) t) (has (available w.own.session.units) t);
+            absent = λ t z. own_absent (has (held_by w.own.session a) t) (has (available w.own.session.units) t) (there w a t) z;
+            released = λ d. absurd (cc);
+          })));
+    }
+
+peer_half : (w : Core) (a : Sides) (o : List ℕ) → is_restart_due w.own.session.phase ≡ true → Stands w
+    → Half (turned_owners (settled_by (confirmed w.own.session a))) w.peer (answerer w.own a o)
+peer_half w a o due s =
+    let r = confirmed w.own.session a in
+    let u = answer w.own.session a o in
+    let none = none_under_way w due s in
+    let owners = turned_owners (settled_by (confirmed w.own.session a)) in
+    let no_tokens = s.consistent.peer.sound.tokens (excluded is_restarting may_hold refl w.peer.session.phase (other_asks w due s)) in
+    record {
+      fits = fit_append w.peer.session w.own.sent u s.peer.fits (answer_fits w a o due s);
+      meeting = subst (λ (e : State). Meeting owners w.peer.session e (flush r w.peer.sent) (heard w.peer.session (w.own.sent ++ u ∷ [])) r) (sym (end_after w a o))
+          (subst (λ (e : State). Meeting owners w.peer.session (restarted w a o) (flush r w.peer.sent) e r) (sym (heard_after w a o due s))
+          (subst (λ (e : State). Meeting owners w.peer.session (restarted w a o) e (restarted w a o) r) (sym (empty_end r w.peer.sent none)) (record {
+            meets = refl;
+            units = other_units w due s;
+            base = other_base w due s;
+            restart = λ k. absurd (cc);
+            connect = λ k. absurd (cc);
+            holds = λ t. ap (λ (v : Tokens). has v t) no_tokens ∙ none_held t ∙ their_held (has (held_by w.own.session a) t) (has (available w.own.session.units) t);
+            wants = λ m t. will_hold w a o t due s ∙ their_wanted (has (held_by w.own.session a) t) (has (available w.own.session.units) t);
+            absent = λ t z. their_absent (has (held_by w.own.session a) t) (has (available w.own.session.units) t) (there w a t)
+                (ap (λ (v : FunctionalUnits). has (available v) t) (sym (other_units w due s)) ∙ z);
+            released = λ d. absurd (cc);
+          })));
+    }
+
+-- ---- what was seen
+
+own_views : (w : Core) (a : Sides) (o : List ℕ) → is_restart_due w.own.session.phase ≡ true → Stands w → Views (w.history ++ []) (answerer w.own a o) w.peer
+own_views w a o due s =
+    let r = confirmed w.own.session a in
+    let none = none_under_way w due s in
+    let listens = ap (λ (q : State). hears q.phase) (own_heard w due s) ∙ ap not (excluded is_restart_due is_restarting refl w.own.session.phase due) in
+    let seen = sym (empty_view w.own.session w.peer.sent w.own.view none) ∙ s.own_views.ends listens in
+    record {
+      ends = λ l. empty_view r w.peer.sent (w.own.view ++ []) none ∙ ap (λ (v : List Item). v ++ []) seen;
+      cut = λ c. absurd (let e = ap (λ (q : State). is_restarting q.phase) (sym (empty_heard r w.peer.sent none)) ∙ c in cc);
+      due = λ d. absurd (cc);
+      stream = λ d.
+          let k = s.own_views.stream (ap (λ (q : State). q.units.duplex) (own_end w due s) ∙ ap (λ (q : State). q.units.duplex) (sym (empty_end r w.peer.sent none)) ∙ d) in
+          (k.0, append_nil w.history ∙ k.1);
+    }
+
+peer_views : (w : Core) (a : Sides) (o : List ℕ) → is_restart_due w.own.session.phase ≡ true → Stands w → Views (w.history ++ []) w.peer (answerer w.own a o)
+peer_views w a o due s = record {
+  ends = λ l. view_append w.peer.session w.own.sent u w.peer.view s.peer.fits (other_owes_none w due s)
+      ∙ ap (λ (b : Bool). if b then heard_view w.peer.session w.own.sent w.peer.view else heard_view w.peer.session w.own.sent w.peer.view) (answer_kept (is_restarting (flushed w.peer w.own).phase))
+      ∙ deaf_view w.peer.session w.own.sent w.peer.view (other_waits w due s) s.peer.fits
+      ∙ s.own_views.due due ∙ sym (append_nil w.history);
+  cut = λ c. absurd (let e = ap (λ (q : State). is_restarting q.phase) (sym (heard_after w a o due s)) ∙ c in cc);
+  due = λ d. absurd (let e = excluded is_restarting is_restart_due refl w.peer.session.phase (other_asks w due s) in cc);
+  stream = λ d. streams (s.peer_views.stream (ap (λ (q : State). q.units.duplex) (sym (end_after w a o)) ∙ d));
+}
+  where
+    u : Meaning
+    u = answer w.own.session a o
+
+    streams : (w.peer.got ++ data_of w.own.sent ≡ w.own.said) × (w.history ≡ [])
+        → (w.peer.got ++ data_of (w.own.sent ++ answer w.own.session a o ∷ []) ≡ w.own.said ++ []) × (w.history ++ [] ≡ [])
+    streams old = (
+      ap (λ (d : List (List ℕ)). w.peer.got ++ d) (data_append w.own.sent (u ∷ []) ∙ append_nil (data_of w.own.sent)) ∙ old.0 ∙ sym (append_nil w.own.said),
+      append_nil w.history ∙ old.1,
+    )
+
+-- ---- the numbers
+
+own_counts : (w : Core) (a : Sides) (o : List ℕ) → is_restart_due w.own.session.phase ≡ true → Stands w → Counts (answerer w.own a o) w.peer
+own_counts w a o due s =
+    let r = confirmed w.own.session a in
+    let old = subst (λ (e : State). Counting w.own.session e (hearing w.peer w.own) w.peer.session) (own_heard w due s) s.own_counts in
+    subst (λ (e : State). Counting r e (heard w.peer.session (w.own.sent ++ answer w.own.session a o ∷ [])) w.peer.session) (sym (empty_heard r w.peer.sent (none_under_way w due s)))
+    (subst (λ (e : State). Counting r r e w.peer.session) (sym (heard_after w a o due s)) (record {
+      flag = λ f. ap (λ (q : State). q.numbers.answers) (other_end w due s ∙ sym (other_heard w due s)) ∙ old.flag f;
+      below = λ l n from to.
+          let order = s.consistent.own.sound.ordered.confirmed_to in
+          let same = ap (λ (q : State). q.numbers.next) (sym (other_end w due s)) ∙ other_number w due s in
+          omega arith;
+      reach = old.reach;
+    }))
+
+peer_counts : (w : Core) (a : Sides) (o : List ℕ) → is_restart_due w.own.session.phase ≡ true → Stands w → Counts w.peer (answerer w.own a o)
+peer_counts w a o due s =
+    let r = confirmed w.own.session a in
+    let old = subst (λ (e : State). Counting w.peer.session e (hearing w.own w.peer) w.own.session) (other_heard w due s ∙ sym (other_end w due s)) s.peer_counts in
+    let new = subst (λ (e : State). Counting w.peer.session (flushed w.peer w.own) e w.own.session) (own_heard w due s) old in
+    let listens = ap not (excluded is_restart_due is_restarting refl w.own.session.phase due) in
+    subst (λ (e : State). Counting w.peer.session e (heard r w.peer.sent) r) (sym (heard_after w a o due s))
+    (subst (λ (e : State). Counting w.peer.session (restarted w a o) e r) (sym (empty_heard r w.peer.sent (none_under_way w due s)))
+    (record { flag = new.flag; below = λ l. new.below listens; reach = new.reach }))
+
+-- ---- both at once
+
+pair_kept : (w : Core) (a : Sides) (o : List ℕ) → is_restart_due w.own.session.phase ≡ true → Stands w → Pair (w.history ++ []) (answerer w.own a o) w.peer
+pair_kept w a o due s =
+    let r = confirmed w.own.session a in
+    let end = empty_end r w.peer.sent (none_under_way w due s) in
+    record {
+      numbered = subst (λ (e : State). AreNumberedFrom e.base (w.history ++ [])) (sym end)
+          (subst (λ (e : State). AreNumberedFrom e.base (w.history ++ [])) (own_end w due s) (subst (AreNumberedFrom (flushed w.own w.peer).base) (sym (append_nil w.history)) s.pair.numbered));
+      one_way = λ d. ap (λ (b : Bool). b && list_any (needs_token data_token) w.peer.sent) (list_any_append (needs_token data_token) w.own.sent (answer w.own.session a o) refl)
+          ∙ s.pair.one_way (ap (λ (q : State). q.units.half_duplex) (own_end w due s) ∙ ap (λ (q : State). q.units.half_duplex) (sym end) ∙ d);
+      callers = s.pair.callers;
+      profile = subst (λ (e : State). IsOfProfile e.units) (sym end) (subst (λ (e : State). IsOfProfile e.units) (own_end w due s) s.pair.profile);
+    }
+
+-- ---- the call
+
+all_kept : (w : Core) (a : Sides) (o : List ℕ) → is_restart_due w.own.session.phase ≡ true → Stands w
+    → AreConsistent (answered w (RestartConfirm a o) (Ok (record { next = confirmed w.own.session a; sent = answer w.own.session a o })))
+    → Stands (answered w (RestartConfirm a o) (Ok (record { next = confirmed w.own.session a; sent = answer w.own.session a o })))
+all_kept w a o due s c = record {
+  consistent = c;
+  own = own_half w a o due s;
+  peer = peer_half w a o due s;
+  own_views = own_views w a o due s;
+  peer_views = peer_views w a o due s;
+  own_counts = own_counts w a o due s;
+  peer_counts = peer_counts w a o due s;
+  pair = pair_kept w a o due s;
+}
+
+pub restart_confirm_stands : SessionLaws → (w : Core) (a : Sides) (o : List ℕ) (g : Granted) → allowed w.own.session (RestartConfirm a o) ≡ Ok g → Stands w
+    → Stands (answered w (RestartConfirm a o) (Ok g))
+restart_confirm_stands laws w a o g e s =
+    let p = passed w.own.session (RestartConfirm a o) g e in
+    let c = answered_kept laws w (RestartConfirm a o) (Ok g) tt e s.consistent in
+    subst (λ (r : Granted). Stands (answered w (RestartConfirm a o) (Ok r))) (sym p.gives)
+    (all_kept w a o p.phase s (subst (λ (r : Granted). AreConsistent (answered w (RestartConfirm a o) (Ok r))) p.gives c))
