@@ -32,7 +32,7 @@ none_expected p (NF o) h k = excluded is_over is_releasing refl p h
 none_expected p (AB b o) h k = absurd (cc)
 none_expected p AA h k = absurd (cc)
 
-over_kept : (s : State) (us : List Meaning) → is_over s.phase ≡ true → AllFit s us → is_over (flush s us).phase ≡ true
+pub over_kept : (s : State) (us : List Meaning) → is_over s.phase ≡ true → AllFit s us → is_over (flush s us).phase ≡ true
 over_kept = kept_all (λ s. is_over s.phase ≡ true)
     (λ s u h f. fit_cases (λ r. is_over r.phase ≡ true) s u f h (λ d g. absurd (let n = none_expected s.phase u h f.plain in let e = g.expected in cc)))
 

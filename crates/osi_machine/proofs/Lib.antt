@@ -23,9 +23,11 @@ pub mod RestartMeet
 pub mod Retoken
 pub mod Settled
 pub mod Starts
+pub mod TakeAnswers
 pub mod TakeIdle
 pub mod TakeMoves
 pub mod TakeRestart
+pub mod TakeTokens
 pub mod TakeYielded
 pub mod Tokens
 pub mod Units

@@ -1,16 +1,16 @@
 -- A unit is taken that cuts nothing off: what has to be known of it, so that all that is true of both sides
 -- stays.
-use Rattle.std.proofs.Common.{◌≡◌, refl, sym, ◌∙◌, ap, subst, ℕ, ◌≤◌, ◌<◌, Bool, true, false, not, if◌then◌else◌, List, [], ◌∷◌, ◌++◌, append_assoc}
+use Rattle.std.proofs.Common.{◌≡◌, refl, sym, ◌∙◌, ap, subst, ℕ, ◌≤◌, ◌<◌, Bool, true, false, not, if◌then◌else◌, List, [], ◌∷◌, ◌++◌}
 use Rattle.std.specs.List.{list_any}
-use Rattle.osi_machine.specs.Floor.{State, Tokens, Token, has, available, data_token, Meaning, lower, may_hold, is_restarting, is_restart_due, is_release_due, is_releasing, drops, next}
+use Rattle.osi_machine.specs.Floor.{State, Tokens, has, data_token, Meaning, lower, is_restarting, is_restart_due, is_release_due, is_releasing, drops, next}
 use Rattle.osi_machine.specs.Histories.{Item, cutat, AreNumberedFrom}
-use Rattle.osi_machine.specs.Owners.{Owners, turned_owners, is_own, is_to_own, is_absent}
+use Rattle.osi_machine.specs.Owners.{Owners, turned_owners}
 use Rattle.osi_machine.specs.Taking.{is_acted_on, seen, got_in, cut_by, owners_after}
 use Rattle.osi_machine.specs.Channels.{AllFit, flush, stops, heard, hears, view_next, heard_view, data_in, data_of, needs_token}
 use Rattle.osi_machine.specs.Core.{Party, Core, taking}
 use Rattle.osi_machine.specs.Parties.{AreConsistent}
-use Rattle.osi_machine.proofs.Records.{flushed, hearing, Meeting, Half, Views, Counting, Counts, IsOfProfile, Pair, Stands}
-use Rattle.osi_machine.proofs.Units.{next_acted, next_hears}
+use Rattle.osi_machine.proofs.Records.{Meeting, Half, Views, Counting, Counts, IsOfProfile, Pair, Stands}
+use Rattle.osi_machine.proofs.Units.{next_hears}
 use Rattle.osi_machine.proofs.ChannelLaws.{kept_heard, due_end}
 use Rattle.osi_machine.proofs.Idle.{append_nil}
 use Rattle.osi_machine.proofs.DataCall.{none_owed}
@@ -58,10 +58,10 @@ pub record Moves (w : Core) (u : Meaning) (us : List Meaning) (r : State) (v : L
 
 -- ---- what the taker will be is what it was to be
 
-heard_is : (s r : State) (u : Meaning) (us : List Meaning) → stops s u ≡ false → next s u ≡ r → heard s (u ∷ us) ≡ heard r us
+pub heard_is : (s r : State) (u : Meaning) (us : List Meaning) → stops s u ≡ false → next s u ≡ r → heard s (u ∷ us) ≡ heard r us
 heard_is s r u us st e = ap (λ (b : Bool). if b then s else heard (next s u) us) st ∙ ap (λ (q : State). heard q us) e
 
-flush_is : (s r : State) (u : Meaning) (us : List Meaning) → next s u ≡ r → flush s (u ∷ us) ≡ flush r us
+pub flush_is : (s r : State) (u : Meaning) (us : List Meaning) → next s u ≡ r → flush s (u ∷ us) ≡ flush r us
 flush_is s r u us e = ap (λ (q : State). flush q us) e
 
 view_is : (s r : State) (u : Meaning) (us : List Meaning) (v v' : List Item) → stops s u ≡ false → next s u ≡ r → view_next s u v ≡ v'
