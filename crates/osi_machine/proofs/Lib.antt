@@ -1,3 +1,4 @@
+pub mod AcceptCall
 pub mod Acting
 pub mod Alive
 pub mod Begun
@@ -12,9 +13,11 @@ pub mod Heard
 pub mod HistoryLaws
 pub mod Idle
 pub mod NumberLaws
+pub mod Opening
 pub mod Passed
 pub mod PhaseLaws
 pub mod PleaseCall
+pub mod Profiles
 pub mod Records
 pub mod RestartCall
 pub mod RestartConfirmCall

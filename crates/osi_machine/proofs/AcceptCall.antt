@@ -1,0 +1,314 @@
+-- The call of Accept keeps what is true of both sides.
+use Rattle.std.proofs.Common.{◌≡◌, refl, sym, ◌∙◌, ap, subst, ℕ, Bool, true, false, not, ◌&&◌, if◌then◌else◌, List, [], ◌∷◌, ◌++◌, Ok, arith}
+use Rattle.std.proofs.lemmas.Bool.{and_parts}
+use Rattle.std.specs.List.{list_any}
+use Rattle.osi_session.specs.Respond.{agreed_base}
+use Rattle.osi_machine.specs.Floor.{TokenSetting, State, FunctionalUnits, Sides, Meaning, AC, Tokens, Token, data_token, has, available, functional_units, both_units, units_within, has_data, is_profile, settle, setting_of, of_asker, of_answerer, stated, answers_wishes, base_for, serial_for, opened_with, is_answering, is_connecting, is_restarting, is_restart_due, may_hold, Accept, HasSerial, Granted, allowed, becomes, drops, next}
+use Rattle.osi_machine.specs.Histories.{Item, AreNumberedFrom}
+use Rattle.osi_machine.specs.Owners.{turned_owners, settled_by}
+use Rattle.osi_machine.specs.Channels.{Fits, flush, heard, hears, heard_view, data_of, needs_token}
+use Rattle.osi_machine.specs.Core.{Party, Core, answered}
+use Rattle.osi_machine.specs.Parties.{is_opening, IsFresh, AreConsistent}
+use Rattle.osi_machine.proofs.PhaseLaws.{implied, excluded, implied_two}
+use Rattle.osi_machine.proofs.Passed.{passed}
+use Rattle.osi_machine.proofs.Units.{next_acted}
+use Rattle.osi_machine.proofs.ChannelLaws.{fit_append, flush_append, heard_append, view_append, data_append}
+use Rattle.osi_machine.proofs.Tokens.{none_held}
+use Rattle.osi_machine.proofs.CoreLaws.{SessionLaws, answered_kept}
+use Rattle.osi_machine.proofs.Records.{flushed, hearing, matched, Meeting, Half, Views, Counting, Counts, IsOfProfile, Pair, Stands}
+use Rattle.osi_machine.proofs.Idle.{append_nil, list_any_append}
+use Rattle.osi_machine.proofs.Deaf.{AllEmpty, all_empty, empty_fits, empty_end, empty_heard, empty_view}
+use Rattle.osi_machine.proofs.Opening.{none_answering, waiting}
+use Rattle.osi_machine.proofs.Profiles.{profile_of, profile_data, within_duplex, within_half, within_both, same_first}
+use Rattle.osi_machine.proofs.Settled.{settled_answers, answerer_there, asker_holds, own_held, own_wanted, own_absent, their_held, their_wanted, their_absent}
+
+-- ---- what is accepted
+
+record Accepts (w : Core) (u : ℕ) : Type 0 where
+  answering : is_answering w.own.session.phase ≡ true
+  within : units_within (functional_units u) w.own.session.units ≡ true
+  profile : IsOfProfile (functional_units u)
+  all : Stands w
+
+abbrev held_by : State → ℕ → Sides → Tokens
+held_by s u a = of_answerer (functional_units u) (settle (functional_units u) s.wishes a)
+
+abbrev accepting : State → ℕ → ℕ → Sides → State
+accepting s u n a = opened_with (functional_units u) (held_by s u a) (base_for (functional_units u) n) s
+
+abbrev acceptance : State → ℕ → ℕ → Sides → List ℕ → Meaning
+acceptance s u n a o = AC true u (serial_for (functional_units u) n) (setting_of (settle (functional_units u) s.wishes a)) o
+
+abbrev accepter : Party → ℕ → ℕ → Sides → List ℕ → Party
+accepter x u n a o = record {
+  session = accepting x.session u n a;
+  view = x.view ++ [];
+  said = x.said ++ [];
+  got = x.got;
+  sent = x.sent ++ acceptance x.session u n a o ∷ [];
+}
+
+-- the caller, when it has taken the AC
+abbrev connected : Core → ℕ → ℕ → Sides → List ℕ → State
+connected w u n a o = becomes (flushed w.peer w.own) (acceptance w.own.session u n a o)
+
+-- ---- nothing is under way
+
+none_under_way : (w : Core) (u : ℕ) → Accepts w u → AllEmpty w.peer.sent
+none_under_way w u q =
+    all_empty w.own.session w.peer.sent (λ m p. none_answering w.own.session.phase m q.answering p) (excluded is_answering is_restarting refl w.own.session.phase q.answering) q.all.own.fits
+
+own_end : (w : Core) (u : ℕ) → Accepts w u → flushed w.own w.peer ≡ w.own.session
+own_end w u q = empty_end w.own.session w.peer.sent (none_under_way w u q)
+
+own_heard : (w : Core) (u : ℕ) → Accepts w u → hearing w.own w.peer ≡ w.own.session
+own_heard w u q = empty_heard w.own.session w.peer.sent (none_under_way w u q)
+
+both : (a b : Bool) → a ≡ true → b ≡ true → (a && b) ≡ true
+both a b p q = rw (p, q) refl
+
+other_waits : (w : Core) (u : ℕ) → Accepts w u → is_connecting (flushed w.peer w.own).phase ≡ true
+other_waits w u q =
+    let d = ap (λ (r : State). is_answering r.phase) (own_end w u q) ∙ q.answering in
+    implied_two (λ p q. matched p q && is_answering p) (λ p q. is_connecting q) refl (flushed w.own w.peer).phase (flushed w.peer w.own).phase
+    (both (matched (flushed w.own w.peer).phase (flushed w.peer w.own).phase) (is_answering (flushed w.own w.peer).phase) q.all.own.meeting.meets d)
+
+other_connects : (w : Core) (u : ℕ) → Accepts w u → is_connecting w.peer.session.phase ≡ true
+other_connects w u q = (waiting w.peer.session w.own.sent (other_waits w u q) q.all.peer.fits).1
+
+other_heard : (w : Core) (u : ℕ) → Accepts w u → hearing w.peer w.own ≡ w.peer.session
+other_heard w u q = empty_heard w.peer.session w.own.sent (waiting w.peer.session w.own.sent (other_waits w u q) q.all.peer.fits).0
+
+other_owes_none : (w : Core) (u : ℕ) → Accepts w u → is_restart_due (flushed w.peer w.own).phase ≡ false
+other_owes_none w u q = excluded is_connecting is_restart_due refl (flushed w.peer w.own).phase (other_waits w u q)
+
+other_units : (w : Core) (u : ℕ) → Accepts w u → (flushed w.peer w.own).units ≡ w.own.session.units
+other_units w u q = sym q.all.own.meeting.units ∙ ap (λ (r : State). r.units) (own_end w u q)
+
+other_wishes : (w : Core) (u : ℕ) → Accepts w u → (flushed w.peer w.own).wishes ≡ w.own.session.wishes
+other_wishes w u q = (q.all.peer.meeting.connect (other_waits w u q)).0 ∙ ap (λ (r : State). r.wishes) (own_end w u q)
+
+own_fresh : (w : Core) (u : ℕ) → Accepts w u → IsFresh w.own
+own_fresh w u q = q.all.consistent.own.fresh (implied is_answering is_opening refl w.own.session.phase q.answering)
+
+other_fresh : (w : Core) (u : ℕ) → Accepts w u → IsFresh w.peer
+other_fresh w u q = q.all.consistent.peer.fresh (implied is_connecting is_opening refl w.peer.session.phase (other_connects w u q))
+
+-- ---- the AC
+
+agreed_units : (w : Core) (u : ℕ) → Accepts w u → both_units (flushed w.peer w.own).units (functional_units u) ≡ functional_units u
+agreed_units w u q =
+    ap (λ (v : FunctionalUnits). both_units v (functional_units u)) (other_units w u q) ∙ within_both (functional_units u) w.own.session.units q.within
+
+agreed_first : (w : Core) (u n : ℕ) → Accepts w u
+    → agreed_base (both_units (flushed w.peer w.own).units (functional_units u)) (serial_for (functional_units u) n) (flushed w.peer w.own).proposed ≡ base_for (functional_units u) n
+agreed_first w u n q =
+    ap (λ (v : FunctionalUnits). agreed_base v (serial_for (functional_units u) n) (flushed w.peer w.own).proposed) (agreed_units w u q)
+    ∙ same_first (functional_units u) n (flushed w.peer w.own).proposed
+
+accept_fits : (w : Core) (u n : ℕ) (a : Sides) (o : List ℕ) → Accepts w u → Fits (flushed w.peer w.own) (acceptance w.own.session u n a o)
+accept_fits w u n a o q = record {
+  plain = refl;
+  good = λ d. record {
+    expected = other_waits w u q;
+    met = (
+      ap has_data (agreed_units w u q) ∙ profile_data (functional_units u) q.profile,
+      (
+        ap (λ (v : FunctionalUnits). answers_wishes v (flushed w.peer w.own).wishes (setting_of (settle (functional_units u) w.own.session.wishes a))) (agreed_units w u q)
+            ∙ ap (λ (t : TokenSetting). answers_wishes (functional_units u) t (setting_of (settle (functional_units u) w.own.session.wishes a))) (other_wishes w u q)
+            ∙ settled_answers (functional_units u) w.own.session.wishes a,
+        tt,
+      ),
+    );
+  };
+}
+
+accept_kept : (w : Core) (u : ℕ) → Accepts w u → (is_restarting (flushed w.peer w.own).phase && true) ≡ false
+accept_kept w u q = ap (λ (b : Bool). b && true) (excluded is_connecting is_restarting refl (flushed w.peer w.own).phase (other_waits w u q))
+
+accept_next : (w : Core) (u n : ℕ) (a : Sides) (o : List ℕ) → Accepts w u → next (flushed w.peer w.own) (acceptance w.own.session u n a o) ≡ connected w u n a o
+accept_next w u n a o q = next_acted (flushed w.peer w.own) (acceptance w.own.session u n a o) (accept_kept w u q)
+
+end_after : (w : Core) (u n : ℕ) (a : Sides) (o : List ℕ) → Accepts w u → flush w.peer.session (w.own.sent ++ acceptance w.own.session u n a o ∷ []) ≡ connected w u n a o
+end_after w u n a o q = flush_append w.peer.session w.own.sent (acceptance w.own.session u n a o) ∙ accept_next w u n a o q
+
+heard_after : (w : Core) (u n : ℕ) (a : Sides) (o : List ℕ) → Accepts w u → heard w.peer.session (w.own.sent ++ acceptance w.own.session u n a o ∷ []) ≡ connected w u n a o
+heard_after w u n a o q =
+    heard_append w.peer.session w.own.sent (acceptance w.own.session u n a o) q.all.peer.fits (other_owes_none w u q) ∙ accept_next w u n a o q
+
+-- ---- tokens
+
+there : (w : Core) (u : ℕ) (a : Sides) (t : Token) → has (held_by w.own.session u a) t ≡ true → has (available (functional_units u)) t ≡ true
+there w u a t h = answerer_there (functional_units u) (settle (functional_units u) w.own.session.wishes a) t h
+
+will_hold : (w : Core) (u n : ℕ) (a : Sides) (o : List ℕ) (t : Token) → Accepts w u
+    → has (connected w u n a o).held t ≡ (has (available (functional_units u)) t && not (has (held_by w.own.session u a) t))
+will_hold w u n a o t q =
+    ap (λ (v : FunctionalUnits). has (of_asker v (stated v (setting_of (settle (functional_units u) w.own.session.wishes a)))) t) (agreed_units w u q)
+    ∙ asker_holds (functional_units u) w.own.session.wishes a t
+
+-- ---- the two halves
+
+own_half : (w : Core) (u n : ℕ) (a : Sides) (o : List ℕ) → Accepts w u → Half (settled_by (accepting w.own.session u n a)) (accepter w.own u n a o) w.peer
+own_half w u n a o q =
+    let r = accepting w.own.session u n a in
+    let none = none_under_way w u q in
+    let owners = settled_by (accepting w.own.session u n a) in
+    record {
+      fits = empty_fits r w.peer.sent none;
+      meeting = subst (λ (e : State). Meeting owners r e (flush w.peer.session (w.own.sent ++ acceptance w.own.session u n a o ∷ [])) (heard r w.peer.sent) w.peer.session) (sym (empty_end r w.peer.sent none))
+          (subst (λ (e : State). Meeting owners r r (flush w.peer.session (w.own.sent ++ acceptance w.own.session u n a o ∷ [])) e w.peer.session) (sym (empty_heard r w.peer.sent none))
+          (subst (λ (e : State). Meeting owners r r e r w.peer.session) (sym (end_after w u n a o q)) (record {
+            meets = refl;
+            units = sym (agreed_units w u q);
+            base = sym (agreed_first w u n q);
+            restart = λ k. absurd (cc);
+            connect = λ k. absurd (cc);
+            holds = λ t. own_held (has (held_by w.own.session u a) t) (has (available (functional_units u)) t);
+            wants = λ m t. own_wanted (has (held_by w.own.session u a) t) (has (available (functional_units u)) t);
+            absent = λ t z. own_absent (has (held_by w.own.session u a) t) (has (available (functional_units u)) t) (there w u a t) z;
+            released = λ d. absurd (cc);
+          })));
+    }
+
+peer_half : (w : Core) (u n : ℕ) (a : Sides) (o : List ℕ) → Accepts w u → Half (turned_owners (settled_by (accepting w.own.session u n a))) w.peer (accepter w.own u n a o)
+peer_half w u n a o q =
+    let r = accepting w.own.session u n a in
+    let m = acceptance w.own.session u n a o in
+    let none = none_under_way w u q in
+    let owners = turned_owners (settled_by (accepting w.own.session u n a)) in
+    let no_tokens = q.all.consistent.peer.sound.tokens (excluded is_connecting may_hold refl w.peer.session.phase (other_connects w u q)) in
+    record {
+      fits = fit_append w.peer.session w.own.sent m q.all.peer.fits (accept_fits w u n a o q);
+      meeting = subst (λ (e : State). Meeting owners w.peer.session e (flush r w.peer.sent) (heard w.peer.session (w.own.sent ++ m ∷ [])) r) (sym (end_after w u n a o q))
+          (subst (λ (e : State). Meeting owners w.peer.session (connected w u n a o) (flush r w.peer.sent) e r) (sym (heard_after w u n a o q))
+          (subst (λ (e : State). Meeting owners w.peer.session (connected w u n a o) e (connected w u n a o) r) (sym (empty_end r w.peer.sent none)) (record {
+            meets = refl;
+            units = agreed_units w u q;
+            base = agreed_first w u n q;
+            restart = λ k. absurd (cc);
+            connect = λ k. absurd (cc);
+            holds = λ t. ap (λ (v : Tokens). has v t) no_tokens ∙ none_held t ∙ their_held (has (held_by w.own.session u a) t) (has (available (functional_units u)) t);
+            wants = λ h t. will_hold w u n a o t q ∙ their_wanted (has (held_by w.own.session u a) t) (has (available (functional_units u)) t);
+            absent = λ t z. their_absent (has (held_by w.own.session u a) t) (has (available (functional_units u)) t) (there w u a t)
+                (ap (λ (v : FunctionalUnits). has (available v) t) (sym (agreed_units w u q)) ∙ z);
+            released = λ d. absurd (cc);
+          })));
+    }
+
+-- ---- what was seen
+
+own_seen : (w : Core) (u : ℕ) → Accepts w u → w.own.view ≡ w.history
+own_seen w u q =
+    let listens = ap (λ (r : State). hears r.phase) (own_heard w u q) ∙ ap not (excluded is_answering is_restarting refl w.own.session.phase q.answering) in
+    sym (empty_view w.own.session w.peer.sent w.own.view (none_under_way w u q)) ∙ q.all.own_views.ends listens
+
+own_views : (w : Core) (u n : ℕ) (a : Sides) (o : List ℕ) → Accepts w u → Views (w.history ++ []) (accepter w.own u n a o) w.peer
+own_views w u n a o q =
+    let r = accepting w.own.session u n a in
+    let none = none_under_way w u q in
+    record {
+      ends = λ l. empty_view r w.peer.sent (w.own.view ++ []) none ∙ ap (λ (v : List Item). v ++ []) (own_seen w u q);
+      cut = λ c. absurd (let e = ap (λ (s : State). is_restarting s.phase) (sym (empty_heard r w.peer.sent none)) ∙ c in cc);
+      due = λ d. absurd (cc);
+      stream = λ d.
+          let was = within_duplex (functional_units u) w.own.session.units q.within (ap (λ (s : State). s.units.duplex) (sym (empty_end r w.peer.sent none)) ∙ d) in
+          let k = q.all.own_views.stream (ap (λ (s : State). s.units.duplex) (own_end w u q) ∙ was) in
+          (k.0, append_nil w.history ∙ k.1);
+    }
+
+same_either : (b : Bool) (v : List Item) → (if b then v else v) ≡ v
+same_either true v = refl
+same_either false v = refl
+
+peer_views : (w : Core) (u n : ℕ) (a : Sides) (o : List ℕ) → Accepts w u → Views (w.history ++ []) w.peer (accepter w.own u n a o)
+peer_views w u n a o q = record {
+  ends = λ l. view_append w.peer.session w.own.sent m w.peer.view q.all.peer.fits (other_owes_none w u q)
+      ∙ same_either (drops (flushed w.peer w.own) m) (heard_view w.peer.session w.own.sent w.peer.view)
+      ∙ q.all.peer_views.ends listens ∙ sym (append_nil w.history);
+  cut = λ c. absurd (let e = ap (λ (s : State). is_restarting s.phase) (sym (heard_after w u n a o q)) ∙ c in cc);
+  due = λ d. absurd (let e = excluded is_connecting is_restart_due refl w.peer.session.phase (other_connects w u q) in cc);
+  stream = λ d. streams (q.all.peer_views.stream (duplex d));
+}
+  where
+    m : Meaning
+    m = acceptance w.own.session u n a o
+
+    listens : hears (hearing w.peer w.own).phase ≡ true
+    listens = ap (λ (r : State). hears r.phase) (other_heard w u q) ∙ ap not (excluded is_connecting is_restarting refl w.peer.session.phase (other_connects w u q))
+
+    duplex : (flush w.peer.session (w.own.sent ++ acceptance w.own.session u n a o ∷ [])).units.duplex ≡ true → (flushed w.peer w.own).units.duplex ≡ true
+    duplex d =
+        let now = ap (λ (v : FunctionalUnits). v.duplex) (sym (agreed_units w u q)) ∙ ap (λ (s : State). s.units.duplex) (sym (end_after w u n a o q)) ∙ d in
+        ap (λ (v : FunctionalUnits). v.duplex) (other_units w u q) ∙ within_duplex (functional_units u) w.own.session.units q.within now
+
+    streams : (w.peer.got ++ data_of w.own.sent ≡ w.own.said) × (w.history ≡ [])
+        → (w.peer.got ++ data_of (w.own.sent ++ acceptance w.own.session u n a o ∷ []) ≡ w.own.said ++ []) × (w.history ++ [] ≡ [])
+    streams old = (
+      ap (λ (d : List (List ℕ)). w.peer.got ++ d) (data_append w.own.sent (m ∷ []) ∙ append_nil (data_of w.own.sent)) ∙ old.0 ∙ sym (append_nil w.own.said),
+      append_nil w.history ∙ old.1,
+    )
+
+-- ---- the numbers
+
+own_counts : (w : Core) (u n : ℕ) (a : Sides) (o : List ℕ) → Accepts w u → Counts (accepter w.own u n a o) w.peer
+own_counts w u n a o q =
+    let r = accepting w.own.session u n a in
+    subst (λ (e : State). Counting r e (heard w.peer.session (w.own.sent ++ acceptance w.own.session u n a o ∷ [])) w.peer.session) (sym (empty_heard r w.peer.sent (none_under_way w u q))) (record {
+      flag = λ f. absurd (cc);
+      below = λ l k from to. absurd (omega arith);
+      reach = λ f. absurd (let fresh = (other_fresh w u q).numbers in let none : w.peer.session.numbers.answers ≡ false = rw fresh refl in cc);
+    })
+
+peer_counts : (w : Core) (u n : ℕ) (a : Sides) (o : List ℕ) → Accepts w u → Counts w.peer (accepter w.own u n a o)
+peer_counts w u n a o q =
+    let r = accepting w.own.session u n a in
+    subst (λ (e : State). Counting w.peer.session e (heard r w.peer.sent) r) (sym (heard_after w u n a o q))
+    (subst (λ (e : State). Counting w.peer.session (connected w u n a o) e r) (sym (empty_heard r w.peer.sent (none_under_way w u q))) (record {
+      flag = λ f. refl;
+      below = λ l k from to. absurd (omega arith);
+      reach = λ f. absurd (cc);
+    }))
+
+-- ---- both at once
+
+pair_kept : (w : Core) (u n : ℕ) (a : Sides) (o : List ℕ) → Accepts w u → Pair (w.history ++ []) (accepter w.own u n a o) w.peer
+pair_kept w u n a o q =
+    let r = accepting w.own.session u n a in
+    let end = empty_end r w.peer.sent (none_under_way w u q) in
+    let nothing : w.history ++ [] ≡ [] = append_nil w.history ∙ sym (own_seen w u q) ∙ (own_fresh w u q).view in
+    record {
+      numbered = subst (AreNumberedFrom (flush r w.peer.sent).base) (sym nothing) tt;
+      one_way = λ d.
+          let was = within_half (functional_units u) w.own.session.units q.within (ap (λ (s : State). s.units.half_duplex) (sym end) ∙ d) in
+          ap (λ (b : Bool). b && list_any (needs_token data_token) w.peer.sent) (list_any_append (needs_token data_token) w.own.sent (acceptance w.own.session u n a o) refl)
+          ∙ q.all.pair.one_way (ap (λ (s : State). s.units.half_duplex) (own_end w u q) ∙ was);
+      callers = q.all.pair.callers;
+      profile = subst (λ (e : State). IsOfProfile e.units) (sym end) q.profile;
+    }
+
+-- ---- the call
+
+all_kept : (w : Core) (u n : ℕ) (a : Sides) (o : List ℕ) → Accepts w u
+    → AreConsistent (answered w (Accept u n a o) (Ok (record { next = accepting w.own.session u n a; sent = acceptance w.own.session u n a o })))
+    → Stands (answered w (Accept u n a o) (Ok (record { next = accepting w.own.session u n a; sent = acceptance w.own.session u n a o })))
+all_kept w u n a o q c = record {
+  consistent = c;
+  own = own_half w u n a o q;
+  peer = peer_half w u n a o q;
+  own_views = own_views w u n a o q;
+  peer_views = peer_views w u n a o q;
+  own_counts = own_counts w u n a o q;
+  peer_counts = peer_counts w u n a o q;
+  pair = pair_kept w u n a o q;
+}
+
+pub accept_stands : SessionLaws → (w : Core) (u n : ℕ) (a : Sides) (o : List ℕ) (g : Granted) → HasSerial (Accept u n a o)
+    → allowed w.own.session (Accept u n a o) ≡ Ok g → Stands w → Stands (answered w (Accept u n a o) (Ok g))
+accept_stands laws w u n a o g small e s =
+    let p = passed w.own.session (Accept u n a o) g e in
+    let c = answered_kept laws w (Accept u n a o) (Ok g) small e s.consistent in
+    let tests = and_parts (units_within (functional_units u) w.own.session.units) (is_profile u) p.needed.0 in
+    let q : Accepts w u = record { answering = p.phase; within = tests.0; profile = profile_of u tests.1; all = s } in
+    subst (λ (r : Granted). Stands (answered w (Accept u n a o) (Ok r))) (sym p.gives)
+    (all_kept w u n a o q (subst (λ (r : Granted). AreConsistent (answered w (Accept u n a o) (Ok r))) p.gives c))

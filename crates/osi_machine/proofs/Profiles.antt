@@ -1,0 +1,89 @@
+-- The units that an AC selects.
+use Rattle.std.proofs.Common.{◌≡◌, refl, sym, ◌∙◌, ap, subst, ℕ, ◌==◌, Bool, true, false, not, ◌&&◌, ◌||◌, if◌then◌else◌, Some, None, unwrap_or, arith}
+use Rattle.std.proofs.lemmas.Bool.{eqb-true, and_parts}
+use Rattle.std.proofs.lemmas.Nat.{and_assoc, and_le_r}
+use Rattle.std.specs.Int.RustNames.{bit_and}
+use Rattle.osi_message.specs.Reading.{names}
+use Rattle.osi_machine.specs.Floor.{FunctionalUnits, functional_units, both_units, units_within, has_data, has_points, is_profile, base_for, serial_for}
+use Rattle.osi_session.specs.Respond.{agreed_base}
+use Rattle.osi_machine.proofs.Records.{IsOfProfile}
+
+-- ---- the profile
+
+no_bits : (n : ℕ) → bit_and n 0 ≡ 0
+no_bits n = let e = and_le_r n 0 in omega arith
+
+no_duplex : (bits : ℕ) → bit_and bits 185 ≡ bits → names bits 2 ≡ false
+no_duplex bits e =
+    let none : bit_and bits 2 ≡ 0 = ap (λ (n : ℕ). bit_and n 2) (sym e) ∙ and_assoc 2 bits 185 ∙ no_bits bits in
+    ap (λ (n : ℕ). n == 2) none
+
+pub profile_of : (bits : ℕ) → is_profile bits ≡ true → IsOfProfile (functional_units bits)
+unfolding is_profile
+profile_of bits h = by (bits == 2) refl h
+  where
+    alone : IsOfProfile (functional_units 2)
+    alone = record { duplex = refl; alone = λ d. (refl, refl, refl, refl) }
+
+    by : (b : Bool) → (bits == 2) ≡ b → (b || ((bit_and bits 185 == bits) && names bits 1)) ≡ true → IsOfProfile (functional_units bits)
+    by true e k = subst (λ (n : ℕ). IsOfProfile (functional_units n)) (sym (eqb-true bits 2 e)) alone
+    by false e k =
+        let p = and_parts (bit_and bits 185 == bits) (names bits 1) k in
+        let half = p.1 in
+        let none = no_duplex bits (eqb-true (bit_and bits 185) bits p.0) in
+        record { duplex = none ∙ sym (ap not half); alone = λ d. absurd (cc) }
+
+pub profile_data : (u : FunctionalUnits) → IsOfProfile u → has_data u ≡ true
+unfolding has_data
+profile_data u p = ap (λ (b : Bool). u.half_duplex || b) p.duplex ∙ by u.half_duplex
+  where
+    by : (b : Bool) → (b || not b) ≡ true
+    by true = refl
+    by false = refl
+
+-- ---- units that were asked for
+
+within_part : (a b : Bool) → (not a || b) ≡ true → a ≡ true → b ≡ true
+within_part true b h k = h
+within_part false b h k = absurd (cc)
+
+pub within_duplex : (a b : FunctionalUnits) → units_within a b ≡ true → a.duplex ≡ true → b.duplex ≡ true
+unfolding units_within
+within_duplex a b h = within_part a.duplex b.duplex (and_parts _ _ (and_parts (not a.half_duplex || b.half_duplex) _ h).1).0
+
+pub within_half : (a b : FunctionalUnits) → units_within a b ≡ true → a.half_duplex ≡ true → b.half_duplex ≡ true
+unfolding units_within
+within_half a b h = within_part a.half_duplex b.half_duplex (and_parts (not a.half_duplex || b.half_duplex) _ h).0
+
+part_both : (a b : Bool) → (not a || b) ≡ true → (b && a) ≡ a
+part_both true true h = refl
+part_both true false h = absurd (cc)
+part_both false true h = refl
+part_both false false h = refl
+
+-- what both name is what was selected
+pub within_both : (a b : FunctionalUnits) → units_within a b ≡ true → both_units b a ≡ a
+unfolding units_within both_units
+within_both a b h =
+    let p = and_parts (not a.half_duplex || b.half_duplex) _ h in
+    let q = and_parts (not a.duplex || b.duplex) _ p.1 in
+    let r = and_parts (not a.minor || b.minor) _ q.1 in
+    let s = and_parts (not a.major || b.major) _ r.1 in
+    let t = and_parts (not a.resynchronize || b.resynchronize) (not a.negotiated_release || b.negotiated_release) s.1 in
+    λ i. record {
+      half_duplex = part_both a.half_duplex b.half_duplex p.0 i;
+      duplex = part_both a.duplex b.duplex q.0 i;
+      minor = part_both a.minor b.minor r.0 i;
+      major = part_both a.major b.major s.0 i;
+      resynchronize = part_both a.resynchronize b.resynchronize t.0 i;
+      negotiated_release = part_both a.negotiated_release b.negotiated_release t.1 i;
+    }
+
+-- ---- the first number
+
+pub same_first : (u : FunctionalUnits) (serial proposed : ℕ) → agreed_base u (serial_for u serial) proposed ≡ base_for u serial
+same_first u serial proposed = by (has_points u)
+  where
+    by : (b : Bool) → (if b then unwrap_or (if b then Some serial else None) proposed else 0) ≡ (if b then serial else 0)
+    by true = refl
+    by false = refl
