@@ -80,7 +80,7 @@ taking_kept laws w (u ∷ us) e h =
       peer_small = small.1;
     }
 
-turned_kept : (w : Core) → AreConsistent w → AreConsistent (turned w)
+pub turned_kept : (w : Core) → AreConsistent w → AreConsistent (turned w)
 turned_kept w h = record { own = h.peer; peer = h.own; own_small = h.peer_small; peer_small = h.own_small }
 
 side_kept : (f : Core → Core) → ((w : Core) → AreConsistent w → AreConsistent (f w)) → (side : Side) (w : Core) → AreConsistent w → AreConsistent (at_side side f w)

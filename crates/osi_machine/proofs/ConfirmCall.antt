@@ -1,0 +1,457 @@
+-- The calls of MinorConfirm and of MajorConfirm keep what is true of both sides.
+use Rattle.std.proofs.Common.{◌≡◌, refl, sym, ◌∙◌, ap, subst, ℕ, ◌+◌, ◌-◌, ◌==◌, ◌≤◌, ◌<◌, Bool, true, false, not, ◌&&◌, ◌||◌, nat_le, nat_lt, if◌then◌else◌, List, [], ◌⊎◌, inl, inr, Ok, arith}
+use Rattle.std.proofs.lemmas.Bool.{and_parts, ltb-true, leb-true, lt-ltb, le-leb, eq-eqb, cases_lt}
+use Rattle.std.specs.List.{list_any}
+use Rattle.osi_machine.specs.Floor.{State, Phase, Numbers, FunctionalUnits, Ready, MajorDue, Meaning, CN, AC, RF, DT, GT, PT, MIP, MIA, MAP, MAA, RS, RA, FN, DN, NF, AB, AA, data_token, is_wait_cn, is_connecting, is_ready, is_major_asked, is_major_due, is_releasing, is_release_due, is_restarting, is_restart_due, in_major, may_hold, may_confirm_minor, takes_minor_ack, lower, point_taken, minor_confirmed, major_confirmed, becomes, drops, next, Good, MinorConfirm, MajorConfirm, HasSerial, Granted, allowed}
+use Rattle.osi_machine.specs.Histories.{Item, points, AreNumberedFrom}
+use Rattle.osi_machine.specs.Taking.{seen}
+use Rattle.osi_machine.specs.Channels.{is_plain, AllFit, heard_view, stops, needs_token}
+use Rattle.osi_machine.specs.Core.{Core, answered}
+use Rattle.osi_machine.specs.Parties.{is_opening, AreConsistent}
+use Rattle.osi_machine.proofs.PhaseLaws.{implied, excluded, implied_two}
+use Rattle.osi_machine.proofs.Passed.{passed}
+use Rattle.osi_machine.proofs.Units.{next_cases, next_hears}
+use Rattle.osi_machine.proofs.ChannelLaws.{kept_heard, heard_flush}
+use Rattle.osi_machine.proofs.Begun.{flush_open, heard_open}
+use Rattle.osi_machine.proofs.Idle.{end_units, append_nil, list_any_append}
+use Rattle.osi_machine.proofs.DataCall.{none_owed}
+use Rattle.osi_machine.proofs.CoreLaws.{SessionLaws, answered_kept}
+use Rattle.osi_machine.proofs.Records.{flushed, hearing, matched, Stands}
+use Rattle.osi_machine.proofs.NumberLaws.{lower_first, lower_second, lower_from, Turned, heard_turned}
+use Rattle.osi_machine.proofs.ViewLaws.{until_heard, view_cases, heard_counted, view_grows, major_came}
+use Rattle.osi_machine.proofs.Shift.{Shift, listening_stands, none_never}
+use Rattle.osi_machine.proofs.ShiftCall.{Sending, sending_stands}
+use Rattle.osi_machine.proofs.ReleaseCall.{in_phase, good_in}
+use Rattle.osi_machine.proofs.PointCall.{other_number, other_saw, other_above, hears_there}
+
+both : (a b : Bool) → a ≡ true → b ≡ true → (a && b) ≡ true
+both a b p q = rw (p, q) refl
+
+-- ---- a side that took points last
+
+abbrev is_confirming : Phase → Bool
+is_confirming p = is_ready p || (is_release_due p || is_major_due p)
+
+record Answers (s : State) : Type 0 where
+  phase : is_confirming s.phase ≡ true
+  answers : s.numbers.answers ≡ true
+
+turned : (s : State) → Answers s → Turned s
+turned s a = record { phase = excluded is_confirming is_opening refl s.phase a.phase; answers = a.answers }
+
+open_now : (w : Core) → Answers w.own.session → is_opening w.own.session.phase ≡ false
+open_now w a = excluded is_confirming is_opening refl w.own.session.phase a.phase
+
+listens : (w : Core) → Answers w.own.session → is_restarting w.own.session.phase ≡ false
+listens w a = excluded is_confirming is_restarting refl w.own.session.phase a.phase
+
+owed : (w : Core) → Answers w.own.session → Stands w → is_restart_due (flushed w.peer w.own).phase ≡ false
+owed w a h = none_owed w.owner w.own w.peer h.own (listens w a)
+
+ends_same : (w : Core) → Answers w.own.session → Stands w → hearing w.peer w.own ≡ flushed w.peer w.own
+ends_same w a h = heard_flush w.peer.session w.own.sent h.peer.fits (owed w a h)
+
+end_base : (w : Core) → Answers w.own.session → Stands w → (flushed w.own w.peer).base ≡ w.own.session.base
+end_base w a h = (flush_open w.own.session w.peer.sent (open_now w a) h.own.fits).base
+
+there_base : (w : Core) → Answers w.own.session → Stands w → (flushed w.peer w.own).base ≡ w.own.session.base
+there_base w a h = sym h.own.meeting.base ∙ end_base w a h
+
+heard_base : (w : Core) → Answers w.own.session → Stands w → (hearing w.own w.peer).base ≡ w.own.session.base
+heard_base w a h = (heard_open w.own.session w.peer.sent (open_now w a) h.own.fits).base
+
+same_base : (w : Core) → Answers w.own.session → Stands w → w.peer.session.base ≡ w.own.session.base ⊎ (is_opening w.peer.session.phase ≡ true)
+same_base w a h = by (is_opening w.peer.session.phase) refl
+  where
+    by : (b : Bool) → is_opening w.peer.session.phase ≡ b → w.peer.session.base ≡ w.own.session.base ⊎ (is_opening w.peer.session.phase ≡ true)
+    by true e = inr e
+    by false e = inl (sym (flush_open w.peer.session w.own.sent e h.peer.fits).base ∙ there_base w a h)
+
+heeds : (w : Core) → Answers w.own.session → Stands w → not (is_restarting (hearing w.own w.peer).phase) ≡ true
+heeds w a h = kept_heard (λ (q : State). not (is_restarting q.phase) ≡ true) (λ q u p g. next_hears q u p) w.own.session w.peer.sent (ap not (listens w a)) h.own.fits
+
+-- points go one way
+there_sends : (w : Core) → Answers w.own.session → Stands w → (flushed w.peer w.own).numbers.answers ≡ false
+there_sends w a h = ap (λ (q : State). q.numbers.answers) (sym (ends_same w a h)) ∙ h.own_counts.flag a.answers
+
+own_count : (w : Core) → Stands w → w.own.session.numbers.next ≡ w.own.session.base + points w.own.view
+own_count w h = h.consistent.own.count
+
+seen_all : (w : Core) → Answers w.own.session → Stands w → points w.own.view ≤ points w.history
+seen_all w a h = subst (λ (v : List Item). points w.own.view ≤ points v) (h.own_views.ends (heeds w a h)) (view_grows w.own.session w.peer.sent w.own.view h.own.fits)
+
+heard_number : (w : Core) → Answers w.own.session → Stands w → (hearing w.own w.peer).numbers.next ≡ w.own.session.base + points w.history
+heard_number w a h =
+    let c = heard_counted w.own.session w.peer.sent w.own.view (record { count = h.consistent.own.count; fresh = λ o. (h.consistent.own.fresh o).view }) h.own.fits in
+    c.count ∙ ap (λ (n : ℕ). n + points (heard_view w.own.session w.peer.sent w.own.view)) (heard_base w a h)
+    ∙ ap (λ (v : List Item). w.own.session.base + points v) (h.own_views.ends (heeds w a h))
+
+-- what this side has seen, the other has
+all_above : (w : Core) (n : ℕ) → Answers w.own.session → Stands w → is_restarting (flushed w.peer w.own).phase ≡ false
+    → (hearing w.own w.peer).base ≤ n → n < w.own.session.base + points w.history → n < w.peer.session.numbers.next
+all_above w n a h l from to =
+    other_above w n h (same_base w a h) (other_saw w h (ends_same w a h) l (there_sends w a h)) (subst (λ (b : ℕ). b ≤ n) (heard_base w a h) from) to
+
+-- the other does not answer
+none_back : (w : Core) → Answers w.own.session → Stands w → w.peer.session.numbers.answers ≡ true → ⊥
+none_back w a h t =
+    let no = h.peer_counts.flag t in
+    let yes = (heard_turned w.own.session w.peer.sent (turned w.own.session a) h.own.fits).answers in
+    cc
+
+keeps_flag : (w : Core) (m : Meaning) → ((s : State) → (becomes s m).numbers.answers ≡ s.numbers.answers) → Answers w.own.session → Stands w
+    → (next (flushed w.peer w.own) m).numbers.answers ≡ false
+keeps_flag w m same a h = next_cases (λ q. q.numbers.answers ≡ false) (flushed w.peer w.own) m (λ d. there_sends w a h) (λ d. same (flushed w.peer w.own) ∙ there_sends w a h)
+
+was_below : (w : Core) (n : ℕ) → Answers w.own.session → Stands w → (flushed w.peer w.own).base ≤ n → n < (flushed w.peer w.own).numbers.confirmed → n < w.own.session.numbers.next
+was_below w n a h from to =
+    h.peer_counts.below (heeds w a h) n (subst (λ (q : State). q.base ≤ n) (sym (ends_same w a h)) from) (subst (λ (q : State). n < q.numbers.confirmed) (sym (ends_same w a h)) to)
+
+was_reach : (w : Core) → Answers w.own.session → Stands w → lower w.own.session.numbers.next (flushed w.peer w.own).numbers.confirmed ≤ w.own.session.numbers.confirmed
+was_reach w a h =
+    subst (λ (q : State). lower w.own.session.numbers.next q.numbers.confirmed ≤ w.own.session.numbers.confirmed) (ends_same w a h) (h.peer_counts.reach a.answers)
+
+-- ---- the confirmation of a minor point
+
+abbrev confirmed_at : ℕ → State → State
+confirmed_at n s = record s { numbers = minor_confirmed n s.numbers }
+
+confirm_good : (n : ℕ) (s : State) (u : Meaning) → s.numbers.answers ≡ true → is_plain u ≡ true → Good s u → Good (confirmed_at n s) u
+unfolding minor_confirmed
+confirm_good n s (MIA m o) a p g = absurd (let b = and_parts (not s.numbers.answers) _ g.met.1.0 in turn s.numbers.answers b.0 a)
+  where
+    turn : (b : Bool) → not b ≡ true → b ≡ true → ⊥
+    turn true h k = cc
+    turn false h k = cc
+confirm_good n s (CN v u i w from to o) a p g = record { expected = g.expected; met = g.met }
+confirm_good n s (AC v u i w o) a p g = record { expected = g.expected; met = g.met }
+confirm_good n s (RF r o) a p g = absurd (cc)
+confirm_good n s (DT o) a p g = record { expected = g.expected; met = g.met }
+confirm_good n s (GT k) a p g = record { expected = g.expected; met = g.met }
+confirm_good n s (PT k o) a p g = record { expected = g.expected; met = g.met }
+confirm_good n s (MIP c i o) a p g = record { expected = g.expected; met = g.met }
+confirm_good n s (MAP i o) a p g = record { expected = g.expected; met = g.met }
+confirm_good n s (MAA i o) a p g = record { expected = g.expected; met = g.met }
+confirm_good n s (RS j i w o) a p g = record { expected = g.expected; met = g.met }
+confirm_good n s (RA i w o) a p g = record { expected = g.expected; met = g.met }
+confirm_good n s (FN o) a p g = record { expected = g.expected; met = g.met }
+confirm_good n s (DN o) a p g = absurd (cc)
+confirm_good n s (NF o) a p g = record { expected = g.expected; met = g.met }
+confirm_good n s (AB b o) a p g = absurd (cc)
+confirm_good n s AA a p g = absurd (cc)
+
+taken_confirmed : (n : ℕ) (v : Numbers) → v.answers ≡ true → point_taken (minor_confirmed n v) ≡ minor_confirmed n (point_taken v)
+unfolding point_taken minor_confirmed
+taken_confirmed n v e = ap (λ (b : Bool). record { next = v.next + 1; confirmed = if b then n + 1 else v.next; lowest = v.lowest; answers = true }) e
+
+point_answers : (v : Numbers) → (point_taken v).answers ≡ true
+unfolding point_taken
+point_answers v = refl
+
+confirm_step : (n : ℕ) (s : State) (u : Meaning) → Answers s → is_plain u ≡ true → Good s u → stops s u ≡ false
+    → (becomes (confirmed_at n s) u ≡ confirmed_at n (becomes s u)) × Answers (becomes s u)
+confirm_step n s (CN v u i w from to o) a p g st = absurd (let x = excluded is_confirming is_wait_cn refl s.phase a.phase in let y = g.expected in cc)
+confirm_step n s (AC v u i w o) a p g st = absurd (let x = excluded is_confirming is_connecting refl s.phase a.phase in let y = g.expected in cc)
+confirm_step n s (RF r o) a p g st = absurd (cc)
+confirm_step n s (DT o) a p g st = (refl, a)
+confirm_step n s (GT k) a p g st = (refl, record { phase = a.phase; answers = a.answers })
+confirm_step n s (PT k o) a p g st = (refl, a)
+confirm_step n s (MIP c i o) a p g st = (ap (λ (v : Numbers). record s { numbers = v }) (taken_confirmed n s.numbers a.answers), record { phase = a.phase; answers = point_answers s.numbers })
+confirm_step n s (MIA i o) a p g st = absurd (let b = and_parts (not s.numbers.answers) _ g.met.1.0 in turn s.numbers.answers b.0 a.answers)
+  where
+    turn : (b : Bool) → not b ≡ true → b ≡ true → ⊥
+    turn true h k = cc
+    turn false h k = cc
+confirm_step n s (MAP i o) a p g st = (ap (λ (v : Numbers). record s { phase = MajorDue; numbers = v }) (taken_confirmed n s.numbers a.answers), record { phase = refl; answers = point_answers s.numbers })
+confirm_step n s (MAA i o) a p g st = absurd (let x = excluded is_confirming is_major_asked refl s.phase a.phase in let y = g.expected in cc)
+confirm_step n s (RS j i w o) a p g st = absurd (let t = listening_stands s i (excluded is_confirming is_restarting refl s.phase a.phase) in cc)
+confirm_step n s (RA i w o) a p g st = absurd (let x = excluded is_confirming is_restarting refl s.phase a.phase in let y = g.expected in cc)
+confirm_step n s (FN o) a p g st = (refl, record { phase = refl; answers = a.answers })
+confirm_step n s (DN o) a p g st = absurd (cc)
+confirm_step n s (NF o) a p g st = absurd (let x = excluded is_confirming is_releasing refl s.phase a.phase in let y = g.expected in cc)
+confirm_step n s (AB b o) a p g st = absurd (cc)
+confirm_step n s AA a p g st = absurd (cc)
+
+abbrev confirm_shift : ℕ → Shift
+confirm_shift n = record {
+  never = λ u. false;
+  to = confirmed_at n;
+  inv = Answers;
+  holds = λ s a. implied is_confirming may_hold refl s.phase a.phase;
+  holds_after = λ s a. implied is_confirming may_hold refl s.phase a.phase;
+  same = λ s a. record { units = refl; wishes = refl; held = refl; proposed = refl; base = refl; is_caller = refl };
+  good = λ s u a f p e g. confirm_good n s u a.answers p g;
+  step = λ s u a f p e g st. confirm_step n s u a p g st;
+}
+
+-- what the call has passed
+record Confirms (w : Core) (n : ℕ) : Type 0 where
+  phase : may_confirm_minor w.own.session.phase ≡ true
+  selected : w.own.session.units.minor ≡ true
+  answers : w.own.session.numbers.answers ≡ true
+  from : w.own.session.numbers.confirmed ≤ n
+  to : n < w.own.session.numbers.next
+
+own_answers : (w : Core) (n : ℕ) → Confirms w n → Answers w.own.session
+own_answers w n k = record { phase = implied may_confirm_minor is_confirming refl w.own.session.phase k.phase; answers = k.answers }
+
+-- nothing at or above it was confirmed
+confirmed_below : (w : Core) (n : ℕ) → Confirms w n → Stands w → (flushed w.peer w.own).numbers.confirmed ≤ n
+confirmed_below w n k h = by (cases_lt n (flushed w.peer w.own).numbers.confirmed)
+  where
+    reach : lower w.own.session.numbers.next (flushed w.peer w.own).numbers.confirmed ≤ w.own.session.numbers.confirmed
+    reach = was_reach w (own_answers w n k) h
+
+    by : (n < (flushed w.peer w.own).numbers.confirmed) ⊎ ((flushed w.peer w.own).numbers.confirmed ≤ n) → (flushed w.peer w.own).numbers.confirmed ≤ n
+    by (inr l) = l
+    by (inl l) = absurd (
+        let a = k.from in
+        let b = k.to in
+        let c = lower_from w.own.session.numbers.next (flushed w.peer w.own).numbers.confirmed (n + 1) (omega arith) (omega arith) in
+        let d = reach in
+        omega arith)
+
+-- a major point that is still under way is no minor one
+confirm_above : (w : Core) (n : ℕ) → Confirms w n → Stands w → is_restarting (flushed w.peer w.own).phase ≡ false
+    → (if is_major_asked (flushed w.peer w.own).phase then nat_lt (n + 1) (flushed w.peer w.own).numbers.next else nat_lt n (flushed w.peer w.own).numbers.next) ≡ true
+confirm_above w n k h l = by (is_major_asked fy.phase) refl
+  where
+    fx : State
+    fx = flushed w.own w.peer
+
+    fy : State
+    fy = flushed w.peer w.own
+
+    a : Answers w.own.session
+    a = own_answers w n k
+
+    next_there : fy.numbers.next ≡ w.own.session.base + points w.history
+    next_there = other_number w h (there_base w a h) (ends_same w a h) l
+
+    below : n < w.own.session.base + points w.own.view
+    below = subst (λ (m : ℕ). n < m) (own_count w h) k.to
+
+    not_owed : is_restart_due fx.phase ≡ false
+    not_owed = turn (is_restart_due fx.phase) refl
+      where
+        turn : (b : Bool) → is_restart_due fx.phase ≡ b → b ≡ false
+        turn false e = refl
+        turn true e = absurd (
+            let r = implied_two (λ p q. matched p q && is_restart_due p) (λ p q. is_restarting q) refl fx.phase fy.phase
+            (both (matched fx.phase fy.phase) (is_restart_due fx.phase) h.own.meeting.meets e) in
+            cc)
+
+    one_more : is_major_asked fy.phase ≡ true → points w.own.view + 1 ≤ points w.history
+    one_more e =
+        let d = implied_two (λ p q. matched p q && is_major_asked q) (λ p q. is_major_due p) refl fx.phase fy.phase
+        (both (matched fx.phase fy.phase) (is_major_asked fy.phase) h.own.meeting.meets e) in
+        let hd = ap (λ (q : State). is_major_due q.phase) (heard_flush w.own.session w.peer.sent h.own.fits not_owed) ∙ d in
+        subst (λ (v : List Item). points w.own.view + 1 ≤ points v) (h.own_views.ends (heeds w a h))
+        (major_came w.own.session w.peer.sent w.own.view (excluded may_confirm_minor is_major_due refl w.own.session.phase k.phase) h.own.fits hd)
+
+    by : (b : Bool) → is_major_asked fy.phase ≡ b → (if b then nat_lt (n + 1) fy.numbers.next else nat_lt n fy.numbers.next) ≡ true
+    by true e = lt-ltb (n + 1) fy.numbers.next (let x = one_more e in let y = below in let z = next_there in omega arith)
+    by false e = lt-ltb n fy.numbers.next (let x = seen_all w a h in let y = below in let z = next_there in omega arith)
+
+confirm_fits : (w : Core) (n : ℕ) (octets : List ℕ) → Confirms w n → Stands w → is_restarting (flushed w.peer w.own).phase ≡ false → Answers (flushed w.own w.peer)
+    → Good (flushed w.peer w.own) (MIA n octets)
+confirm_fits w n octets k h l i =
+    let fx = flushed w.own w.peer in
+    let fy = flushed w.peer w.own in
+    let a = own_answers w n k in
+    record {
+      expected = implied_two (λ p q. matched p q && is_confirming p) (λ p q. takes_minor_ack q) refl (flushed w.own w.peer).phase (flushed w.peer w.own).phase
+          (both (matched (flushed w.own w.peer).phase (flushed w.peer w.own).phase) (is_confirming (flushed w.own w.peer).phase) h.own.meeting.meets i.phase);
+      met = (
+        ap (λ (u : FunctionalUnits). u.minor) (sym h.own.meeting.units ∙ end_units w.owner w.own w.peer h.own (open_now w a)) ∙ k.selected,
+        (
+          both (not (flushed w.peer w.own).numbers.answers) _ (ap not (there_sends w a h))
+              (both (nat_le (flushed w.peer w.own).numbers.confirmed n) _ (le-leb (flushed w.peer w.own).numbers.confirmed n (confirmed_below w n k h)) (confirm_above w n k h l)),
+          tt,
+        ),
+      );
+    }
+
+confirm_sending : (w : Core) (n : ℕ) (octets : List ℕ) → Confirms w n → Stands w → Sending w (confirm_shift n) (MIA n octets) []
+unfolding minor_confirmed
+confirm_sending w n octets k h = record {
+  now = own_answers w n k;
+  none = none_never w.peer.sent;
+  plain = refl;
+  effect = refl;
+  waits = refl;
+  quiet = λ s. refl;
+  keeps = λ s. record { units = refl; wishes = refl; held = refl; proposed = refl; base = refl; is_caller = refl };
+  shows = λ s v. sym (append_nil v);
+  empty = refl;
+  good = λ l i. confirm_fits w n octets k h l i;
+  meets = λ l i. h.own.meeting.meets;
+  release = λ s i r. r;
+  releasing = λ s i r. absurd (let x = excluded is_confirming is_releasing refl s.phase i.phase in cc);
+  sees = λ l. ap (heard_view w.own.session w.peer.sent) (append_nil w.own.view) ∙ h.own_views.ends l ∙ sym (append_nil w.history);
+  duplex = λ d. refl;
+  flag = λ f. keeps_flag w (MIA n octets) (λ s. refl) (own_answers w n k) h;
+  below = λ l m from to. all_above w m (own_answers w n k) h (hears_there (flushed w.peer w.own) (MIA n octets) refl l) from
+      (let x = k.to in let y = seen_all w (own_answers w n k) h in let z = own_count w h in omega arith);
+  reach = λ t. absurd (none_back w (own_answers w n k) h t);
+  other_flag = h.peer_counts.flag;
+  other_below = λ m from to. next_cases (λ q. m < q.numbers.confirmed → m < w.own.session.numbers.next) (flushed w.peer w.own) (MIA n octets)
+      (λ d. was_below w m (own_answers w n k) h from) (λ d e. let x = k.to in omega arith) to;
+  other_reach = λ f. next_cases (λ q. lower w.own.session.numbers.next q.numbers.confirmed ≤ n + 1) (flushed w.peer w.own) (MIA n octets)
+      (λ d. let x = was_reach w (own_answers w n k) h in let y = k.from in omega arith) (λ d. lower_second w.own.session.numbers.next (n + 1));
+  numbered = λ p. subst (AreNumberedFrom (flushed w.own w.peer).base) (sym (append_nil w.history)) p;
+  one_way = λ d. ap (λ (b : Bool). b && list_any (needs_token data_token) w.peer.sent) (list_any_append (needs_token data_token) w.own.sent (MIA n octets) refl) ∙ h.pair.one_way d;
+}
+
+pub minor_confirm_stands : SessionLaws → (w : Core) (n : ℕ) (octets : List ℕ) (g : Granted) → HasSerial (MinorConfirm n octets)
+    → allowed w.own.session (MinorConfirm n octets) ≡ Ok g → Stands w → Stands (answered w (MinorConfirm n octets) (Ok g))
+minor_confirm_stands laws w n octets g small e h =
+    let q = passed w.own.session (MinorConfirm n octets) g e in
+    let c = answered_kept laws w (MinorConfirm n octets) (Ok g) small e h.consistent in
+    let a = and_parts w.own.session.numbers.answers (nat_le w.own.session.numbers.confirmed n && nat_lt n w.own.session.numbers.next) q.needed.1.0 in
+    let b = and_parts (nat_le w.own.session.numbers.confirmed n) (nat_lt n w.own.session.numbers.next) a.1 in
+    let k : Confirms w n = record {
+      phase = q.phase;
+      selected = q.needed.0;
+      answers = a.0;
+      from = leb-true w.own.session.numbers.confirmed n b.0;
+      to = ltb-true n w.own.session.numbers.next b.1;
+    } in
+    subst (λ (r : Granted). Stands (answered w (MinorConfirm n octets) (Ok r))) (sym q.gives)
+    (sending_stands w (confirm_shift n) (MIA n octets) [] (confirm_sending w n octets k h) h
+    (subst (λ (r : Granted). AreConsistent (answered w (MinorConfirm n octets) (Ok r))) q.gives c))
+
+-- ---- the confirmation of a major point
+
+record Owes (s : State) : Type 0 where
+  phase : s.phase ≡ MajorDue
+  answers : s.numbers.answers ≡ true
+
+abbrev all_confirmed : State → State
+all_confirmed s = record s { phase = Ready; numbers = major_confirmed s.numbers }
+
+due_good : (s : State) (u : Meaning) → is_plain u ≡ true → Good (in_phase MajorDue s) u → Good (all_confirmed s) u
+unfolding major_confirmed
+due_good s (GT k) p g = record { expected = refl; met = g.met }
+due_good s (PT k o) p g = record { expected = refl; met = g.met }
+due_good s (RS j n w o) p g = record { expected = refl; met = g.met }
+due_good s _ p g = absurd (let a = g.expected in cc)
+
+due_step : (s : State) (u : Meaning) → Owes s → is_plain u ≡ true → Good (in_phase MajorDue s) u → stops s u ≡ false
+    → (becomes (all_confirmed s) u ≡ all_confirmed (becomes s u)) × Owes (becomes s u)
+due_step s (GT k) i p g st = (refl, record { phase = i.phase; answers = i.answers })
+due_step s (PT k o) i p g st = (refl, i)
+due_step s (RS j n w o) i p g st = absurd (let t = listening_stands s n (ap is_restarting i.phase) in cc)
+due_step s _ i p g st = absurd (let a = g.expected in cc)
+
+abbrev due_shift : Shift
+due_shift = record {
+  never = λ u. false;
+  to = all_confirmed;
+  inv = Owes;
+  holds = λ s i. ap may_hold i.phase;
+  holds_after = λ s i. refl;
+  same = λ s i. record { units = refl; wishes = refl; held = refl; proposed = refl; base = refl; is_caller = refl };
+  good = λ s u i f p e g. due_good s u p (good_in MajorDue s u i.phase g);
+  step = λ s u i f p e g st. due_step s u i p (good_in MajorDue s u i.phase g) st;
+}
+
+-- nothing is seen by a side that owes the answer
+due_seen : (s : State) (u : Meaning) (v : List Item) → Owes s → is_plain u ≡ true → Good (in_phase MajorDue s) u → stops s u ≡ false → seen s u v ≡ v
+due_seen s (GT k) v i p g st = refl
+due_seen s (PT k o) v i p g st = refl
+due_seen s (RS j n w o) v i p g st = absurd (let t = listening_stands s n (ap is_restarting i.phase) in cc)
+due_seen s _ v i p g st = absurd (let a = g.expected in cc)
+
+owes_nothing : (s : State) (us : List Meaning) (v : List Item) → Owes s → AllFit s us → heard_view s us v ≡ v
+owes_nothing s us v i f =
+    (until_heard (λ q x. Owes q × (x ≡ v))
+    (λ q u x g st a. view_cases (λ r y. Owes r × (y ≡ v)) q u x g a (λ c.
+    let d = good_in MajorDue q u a.0.phase c in
+    ((due_step q u a.0 g.plain d st).1, due_seen q u x a.0 g.plain d st ∙ a.1)))
+    s us v (i, refl) f).1
+
+due_answers : (w : Core) → Owes w.own.session → Answers w.own.session
+due_answers w k = record { phase = ap is_confirming k.phase; answers = k.answers }
+
+due_all : (w : Core) → Owes w.own.session → Stands w → w.own.session.numbers.next ≡ w.own.session.base + points w.history
+due_all w k h =
+    own_count w h ∙ ap (λ (v : List Item). w.own.session.base + points v)
+    (sym (owes_nothing w.own.session w.peer.sent w.own.view k h.own.fits) ∙ h.own_views.ends (heeds w (due_answers w k) h))
+
+due_number : (w : Core) → Owes w.own.session → Stands w → is_restarting (flushed w.peer w.own).phase ≡ false
+    → ((w.own.session.numbers.next - 1) + 1 == (flushed w.peer w.own).numbers.next) ≡ true
+due_number w k h l =
+    let a = due_answers w k in
+    let x = due_all w k h in
+    let y = other_number w h (there_base w a h) (ends_same w a h) l in
+    let z = h.consistent.own.sound.major (ap in_major k.phase) in
+    eq-eqb ((w.own.session.numbers.next - 1) + 1) (flushed w.peer w.own).numbers.next (omega arith)
+
+due_below : (w : Core) (n : ℕ) (u : ℕ) (octets : List ℕ) → Owes w.own.session → Stands w → (flushed w.peer w.own).base ≤ n
+    → n < (next (flushed w.peer w.own) (MAA u octets)).numbers.confirmed → n < w.own.session.numbers.next
+unfolding major_confirmed
+due_below w n u octets k h from to = by (drops fy (MAA u octets)) refl to
+  where
+    fy : State
+    fy = flushed w.peer w.own
+
+    by : (b : Bool) → drops fy (MAA u octets) ≡ b → n < (if b then fy else becomes fy (MAA u octets)).numbers.confirmed → n < w.own.session.numbers.next
+    by true d e = was_below w n (due_answers w k) h from e
+    by false d e =
+        let a = due_answers w k in
+        let x = due_all w k h in
+        let y = other_number w h (there_base w a h) (ends_same w a h) (hears (is_restarting fy.phase) d) in
+        omega arith
+      where
+        hears : (b : Bool) → (b && true) ≡ false → b ≡ false
+        hears true p = absurd (cc)
+        hears false p = refl
+
+due_sending : (w : Core) (octets : List ℕ) → Owes w.own.session → Stands w → Sending w due_shift (MAA (w.own.session.numbers.next - 1) octets) []
+unfolding major_confirmed
+due_sending w octets k h = record {
+  now = k;
+  none = none_never w.peer.sent;
+  plain = refl;
+  effect = refl;
+  waits = refl;
+  quiet = λ s. refl;
+  keeps = λ s. record { units = refl; wishes = refl; held = refl; proposed = refl; base = refl; is_caller = refl };
+  shows = λ s v. sym (append_nil v);
+  empty = refl;
+  good = λ l i. record {
+    expected = implied_two (λ p q. matched p q && is_major_due p) (λ p q. is_major_asked q) refl (flushed w.own w.peer).phase (flushed w.peer w.own).phase
+        (both (matched (flushed w.own w.peer).phase (flushed w.peer w.own).phase) (is_major_due (flushed w.own w.peer).phase) h.own.meeting.meets (ap is_major_due i.phase));
+    met = (due_number w k h l, tt);
+  };
+  meets = λ l i. refl;
+  release = λ s i r. absurd (cc);
+  releasing = λ s i r. absurd (cc);
+  sees = λ l. ap (heard_view w.own.session w.peer.sent) (append_nil w.own.view) ∙ h.own_views.ends l ∙ sym (append_nil w.history);
+  duplex = λ d. refl;
+  flag = λ f. keeps_flag w (MAA (w.own.session.numbers.next - 1) octets) (λ s. refl) (due_answers w k) h;
+  below = λ l n from to. all_above w n (due_answers w k) h (hears_there (flushed w.peer w.own) (MAA (w.own.session.numbers.next - 1) octets) refl l) from
+      (subst (λ (m : ℕ). n < m) (heard_number w (due_answers w k) h) to);
+  reach = λ t. absurd (none_back w (due_answers w k) h t);
+  other_flag = h.peer_counts.flag;
+  other_below = λ n from to. due_below w n (w.own.session.numbers.next - 1) octets k h from to;
+  other_reach = λ f. lower_first w.own.session.numbers.next (next (flushed w.peer w.own) (MAA (w.own.session.numbers.next - 1) octets)).numbers.confirmed;
+  numbered = λ p. subst (AreNumberedFrom (flushed w.own w.peer).base) (sym (append_nil w.history)) p;
+  one_way = λ d. ap (λ (b : Bool). b && list_any (needs_token data_token) w.peer.sent)
+      (list_any_append (needs_token data_token) w.own.sent (MAA (w.own.session.numbers.next - 1) octets) refl) ∙ h.pair.one_way d;
+}
+
+major_due_is : (p : Phase) → is_major_due p ≡ true → p ≡ MajorDue
+major_due_is MajorDue h = refl
+major_due_is _ h = absurd (cc)
+
+pub major_confirm_stands : SessionLaws → (w : Core) (octets : List ℕ) (g : Granted) → allowed w.own.session (MajorConfirm octets) ≡ Ok g → Stands w
+    → Stands (answered w (MajorConfirm octets) (Ok g))
+major_confirm_stands laws w octets g e h =
+    let q = passed w.own.session (MajorConfirm octets) g e in
+    let c = answered_kept laws w (MajorConfirm octets) (Ok g) tt e h.consistent in
+    let k : Owes w.own.session = record { phase = major_due_is w.own.session.phase q.phase; answers = h.consistent.own.major q.phase } in
+    subst (λ (r : Granted). Stands (answered w (MajorConfirm octets) (Ok r))) (sym q.gives)
+    (sending_stands w due_shift (MAA (w.own.session.numbers.next - 1) octets) [] (due_sending w octets k h) h
+    (subst (λ (r : Granted). AreConsistent (answered w (MajorConfirm octets) (Ok r))) q.gives c))

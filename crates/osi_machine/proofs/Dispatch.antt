@@ -1,0 +1,153 @@
+-- Every step of the core keeps what is true of both sides.
+use Rattle.std.proofs.Common.{◌≡◌, refl, sym, ◌∙◌, ap, subst, ℕ, Bool, true, false, not, ◌&&◌, if◌then◌else◌, List, [], ◌∷◌, Ok, Err}
+use Rattle.std.specs.List.{AllByRecursion, list_any}
+use Rattle.osi_machine.specs.Floor.{FunctionalUnits, Granted, Answer, Call, Accept, Refuse, Data, Give, Please, Minor, MinorConfirm, Major, MajorConfirm, Restart, RestartConfirm, Release, ReleaseAccept, ReleaseRefuse, Abort, HasSerial, Meaning, CN, AC, RF, DT, GT, PT, MIP, MIA, MAP, MAA, RS, RA, FN, DN, NF, AB, AA, data_token, stands, drops, allowed}
+use Rattle.osi_machine.specs.Histories.{AreNumberedFrom}
+use Rattle.osi_machine.specs.Owners.{Owner, Own, Theirs, ToOwn, ToThem, Pool, Absent, Owners, turned_owner, turned_owners}
+use Rattle.osi_machine.specs.Channels.{is_plain, AllFit, needs_token}
+use Rattle.osi_machine.specs.Core.{Core, CoreStep, call_at, take_at, Side, Left, Right, turned, stays_in_core, answered, called, taking, takes, at_side, core_step, core_run}
+use Rattle.osi_machine.specs.Parties.{IsNumberedStep}
+use Rattle.osi_machine.proofs.CoreLaws.{SessionLaws, turned_kept}
+use Rattle.osi_machine.proofs.Records.{Half, IsOfProfile, Pair, Stands}
+use Rattle.osi_machine.proofs.DataCall.{data_stands}
+use Rattle.osi_machine.proofs.GiveCall.{give_stands}
+use Rattle.osi_machine.proofs.PleaseCall.{please_stands}
+use Rattle.osi_machine.proofs.PointCall.{minor_stands, major_stands}
+use Rattle.osi_machine.proofs.ConfirmCall.{minor_confirm_stands, major_confirm_stands}
+use Rattle.osi_machine.proofs.RestartCall.{restart_stands}
+use Rattle.osi_machine.proofs.RestartConfirmCall.{restart_confirm_stands}
+use Rattle.osi_machine.proofs.ReleaseCall.{release_stands, refuse_stands}
+use Rattle.osi_machine.proofs.AcceptCall.{accept_stands}
+use Rattle.osi_machine.proofs.TakeIdle.{data_taken, please_taken, dropped_taken}
+use Rattle.osi_machine.proofs.TakeMoves.{stands_at}
+use Rattle.osi_machine.proofs.TakeTokens.{give_taken}
+use Rattle.osi_machine.proofs.TakePoint.{point_taken_stands, major_taken}
+use Rattle.osi_machine.proofs.TakeQuiet.{finish_taken, not_finished_taken, point_confirmed, major_confirmed_taken}
+use Rattle.osi_machine.proofs.TakeRestart.{restart_taken}
+use Rattle.osi_machine.proofs.TakeYielded.{restart_yielded}
+use Rattle.osi_machine.proofs.TakeAnswers.{restarted_taken, accept_taken, connect_taken}
+
+-- ---- a call
+
+call_stands : SessionLaws → (w : Core) (c : Call) (g : Granted) → HasSerial c → stays_in_core c ≡ true → allowed w.own.session c ≡ Ok g → Stands w
+    → Stands (answered w c (Ok g))
+call_stands laws w (Accept requirements serial sides octets) g small k e s = accept_stands laws w requirements serial sides octets g small e s
+call_stands laws w (Refuse octets) g small k e s = absurd (cc)
+call_stands laws w (Data octets) g small k e s = data_stands laws w octets g e s
+call_stands laws w (Give tokens) g small k e s = give_stands laws w tokens g e s
+call_stands laws w (Please tokens octets) g small k e s = please_stands laws w tokens octets g e s
+call_stands laws w (Minor confirm octets) g small k e s = minor_stands laws w confirm octets g e s
+call_stands laws w (MinorConfirm n octets) g small k e s = minor_confirm_stands laws w n octets g small e s
+call_stands laws w (Major octets) g small k e s = major_stands laws w octets g e s
+call_stands laws w (MajorConfirm octets) g small k e s = major_confirm_stands laws w octets g e s
+call_stands laws w (Restart n wishes octets) g small k e s = restart_stands laws w n wishes octets g e s
+call_stands laws w (RestartConfirm sides octets) g small k e s = restart_confirm_stands laws w sides octets g e s
+call_stands laws w (Release octets) g small k e s = release_stands laws w octets g e s
+call_stands laws w (ReleaseAccept octets) g small k e s = absurd (cc)
+call_stands laws w (ReleaseRefuse octets) g small k e s = refuse_stands laws w octets g e s
+call_stands laws w (Abort octets) g small k e s = absurd (cc)
+
+answer_stands : SessionLaws → (w : Core) (c : Call) (a : Answer) → HasSerial c → stays_in_core c ≡ true → allowed w.own.session c ≡ a → Stands w → Stands (answered w c a)
+answer_stands laws w c (Ok g) small k e s = call_stands laws w c g small k e s
+answer_stands laws w c (Err d) small k e s = s
+
+pub called_stands : SessionLaws → (w : Core) (c : Call) → HasSerial c → Stands w → Stands (called w c)
+called_stands laws w c small s = by (stays_in_core c) refl
+  where
+    by : (b : Bool) → stays_in_core c ≡ b → Stands (if b then answered w c (allowed w.own.session c) else w)
+    by true k = answer_stands laws w c (allowed w.own.session c) small k refl s
+    by false k = s
+
+-- ---- a unit that is taken
+
+not_plain : (w : Core) (u : Meaning) (us : List Meaning) → w.peer.sent ≡ u ∷ us → Stands w → is_plain u ≡ true
+not_plain w u us e s = let f : AllFit w.own.session (u ∷ us) = (stands_at w (u ∷ us) e s).own.fits in f.0.plain
+
+unit_stands : SessionLaws → (w : Core) (u : Meaning) (us : List Meaning) → w.peer.sent ≡ u ∷ us → drops w.own.session u ≡ false → Stands w → Stands (taking w (u ∷ us))
+unit_stands laws w (CN v u n x from to o) us e d s = connect_taken laws w v u n x from to o us e d s
+unit_stands laws w (AC v u n sides o) us e d s = accept_taken laws w v u n sides o us e d s
+unit_stands laws w (RF r o) us e d s = absurd (let p = not_plain w (RF r o) us e s in cc)
+unit_stands laws w (DT o) us e d s = data_taken laws w o us e d s
+unit_stands laws w (GT k) us e d s = give_taken laws w k us e d s
+unit_stands laws w (PT k o) us e d s = please_taken laws w k o us e d s
+unit_stands laws w (MIP c n o) us e d s = point_taken_stands laws w c n o us e d s
+unit_stands laws w (MIA n o) us e d s = point_confirmed laws w n o us e d s
+unit_stands laws w (MAP n o) us e d s = major_taken laws w n o us e d s
+unit_stands laws w (MAA n o) us e d s = major_confirmed_taken laws w n o us e d s
+unit_stands laws w (RS k n t o) us e d s = by (stands w.own.session n) refl
+  where
+    by : (b : Bool) → stands w.own.session n ≡ b → Stands (taking w (RS k n t o ∷ us))
+    by true st = restart_taken laws w k n t o us e st s
+    by false st = restart_yielded laws w k n t o us e st s
+unit_stands laws w (RA n sides o) us e d s = restarted_taken laws w n sides o us e d s
+unit_stands laws w (FN o) us e d s = finish_taken laws w o us e d s
+unit_stands laws w (DN o) us e d s = absurd (let p = not_plain w (DN o) us e s in cc)
+unit_stands laws w (NF o) us e d s = not_finished_taken laws w o us e d s
+unit_stands laws w (AB b o) us e d s = absurd (let p = not_plain w (AB b o) us e s in cc)
+unit_stands laws w AA us e d s = absurd (let p = not_plain w AA us e s in cc)
+
+pub taking_stands : SessionLaws → (w : Core) (us : List Meaning) → w.peer.sent ≡ us → Stands w → Stands (taking w us)
+taking_stands laws w [] e s = s
+taking_stands laws w (u ∷ us) e s = by (drops w.own.session u) refl
+  where
+    by : (b : Bool) → drops w.own.session u ≡ b → Stands (taking w (u ∷ us))
+    by true d = dropped_taken laws w u us e d s
+    by false d = unit_stands laws w u us e d s
+
+-- ---- seen from the other side
+
+twice : (o : Owner) → turned_owner (turned_owner o) ≡ o
+twice Own = refl
+twice Theirs = refl
+twice ToOwn = refl
+twice ToThem = refl
+twice Pool = refl
+twice Absent = refl
+
+turned_twice : (o : Owners) → turned_owners (turned_owners o) ≡ o
+turned_twice o = λ i t. twice (o t) i
+
+turned_pair : (w : Core) → Stands w → Pair w.history w.peer w.own
+turned_pair w s = record {
+  numbered = subst (λ (b : ℕ). AreNumberedFrom b w.history) s.own.meeting.base s.pair.numbered;
+  one_way = λ d. swapped (list_any (needs_token data_token) w.own.sent) (list_any (needs_token data_token) w.peer.sent)
+      (s.pair.one_way (ap (λ (u : FunctionalUnits). u.half_duplex) s.own.meeting.units ∙ d));
+  callers = other_way w.own.session.is_caller ∙ ap not (sym s.pair.callers);
+  profile = subst IsOfProfile s.own.meeting.units s.pair.profile;
+}
+  where
+    swapped : (a b : Bool) → (a && b) ≡ false → (b && a) ≡ false
+    swapped true true h = h
+    swapped true false h = refl
+    swapped false true h = refl
+    swapped false false h = refl
+
+    other_way : (b : Bool) → b ≡ not (not b)
+    other_way true = refl
+    other_way false = refl
+
+pub turned_stands : (w : Core) → Stands w → Stands (turned w)
+turned_stands w s = record {
+  consistent = turned_kept w s.consistent;
+  own = s.peer;
+  peer = subst (λ (o : Owners). Half o w.own w.peer) (sym (turned_twice w.owner)) s.own;
+  own_views = s.peer_views;
+  peer_views = s.own_views;
+  own_counts = s.peer_counts;
+  peer_counts = s.own_counts;
+  pair = turned_pair w s;
+}
+
+-- ---- a step, and a list of steps
+
+side_stands : (f : Core → Core) → ((w : Core) → Stands w → Stands (f w)) → (side : Side) (w : Core) → Stands w → Stands (at_side side f w)
+side_stands f step Left w s = step w s
+side_stands f step Right w s = turned_stands (f (turned w)) (step (turned w) (turned_stands w s))
+
+pub step_stands : SessionLaws → (w : Core) (step : CoreStep) → IsNumberedStep step → Stands w → Stands (core_step w step)
+step_stands laws w (call_at side c) small s = side_stands (λ v. called v c) (λ v k. called_stands laws v c small k) side w s
+step_stands laws w (take_at side) small s = side_stands takes (λ v k. taking_stands laws v v.peer.sent refl k) side w s
+
+pub run_stands : SessionLaws → (w : Core) (steps : List CoreStep) → AllByRecursion IsNumberedStep steps → Stands w → Stands (core_run w steps)
+run_stands laws w [] small s = s
+run_stands laws w (step ∷ steps) small s = run_stands laws (core_step w step) steps small.1 (step_stands laws w step small.0 s)

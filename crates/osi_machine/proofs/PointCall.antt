@@ -1,0 +1,496 @@
+-- The calls of Minor and of Major keep what is true of both sides.
+use Rattle.std.proofs.Common.{◌≡◌, refl, sym, ◌∙◌, ap, subst, ℕ, ◌+◌, ◌==◌, ◌≤◌, ◌<◌, Bool, true, false, not, ◌&&◌, ◌||◌, nat_le, nat_lt, if◌then◌else◌, List, [], ◌∷◌, ◌++◌, ◌⊎◌, inl, inr, Ok, arith}
+use Rattle.std.proofs.lemmas.Bool.{and_parts, ltb-true, leb-true, lt-ltb, le-leb, eq-eqb, or_left}
+use Rattle.std.specs.List.{list_any}
+use Rattle.osi_machine.specs.Floor.{State, Phase, Numbers, FunctionalUnits, Ready, MajorAsked, Meaning, CN, AC, RF, DT, GT, PT, MIP, MIA, MAP, MAA, RS, RA, FN, DN, NF, AB, AA, Token, data_token, minor, major, has, available, has_right, is_ready, is_major_asked, is_restarting, is_restart_due, may_ask, may_hold, takes_please, takes_minor_ack, takes_restart, lower, point_sent, point_taken, minor_confirmed, becomes, drops, next, Good, has_no_effect, passes_restarting, Minor, Major, Granted, allowed, after}
+use Rattle.osi_machine.specs.Histories.{Item, PointKind, Point, points, minor_kind, major_point, AreNumberedFrom}
+use Rattle.osi_machine.specs.Channels.{is_plain, heard_view, stops, needs_token}
+use Rattle.osi_machine.specs.Core.{Core, answered}
+use Rattle.osi_machine.specs.Parties.{is_opening, AreConsistent}
+use Rattle.osi_machine.proofs.PhaseLaws.{implied, excluded, implied_two}
+use Rattle.osi_machine.proofs.Passed.{passed}
+use Rattle.osi_machine.proofs.Units.{next_dropped}
+use Rattle.osi_machine.proofs.ChannelLaws.{heard_flush}
+use Rattle.osi_machine.proofs.Tokens.{Holds, empty_has, united_has, nothing_to_see, heard_holds}
+use Rattle.osi_machine.proofs.Begun.{none_needs, flush_open, heard_open}
+use Rattle.osi_machine.proofs.Idle.{HasRight, right_of, other_lacks, end_units}
+use Rattle.osi_machine.proofs.DataCall.{none_owed}
+use Rattle.osi_machine.proofs.CoreLaws.{SessionLaws, answered_kept}
+use Rattle.osi_machine.proofs.Records.{flushed, hearing, matched, IsOfProfile, Stands}
+use Rattle.osi_machine.proofs.NumberLaws.{heard_sends}
+use Rattle.osi_machine.proofs.ViewLaws.{heard_counted, unseen, numbered_point}
+use Rattle.osi_machine.proofs.Shift.{Shift, listening_stands, none_never}
+use Rattle.osi_machine.proofs.ShiftCall.{Sending, sending_stands}
+use Rattle.osi_machine.proofs.ReleaseCall.{in_phase, good_in, is_ready_is, not_lacking}
+
+both : (a b : Bool) → a ≡ true → b ≡ true → (a && b) ≡ true
+both a b p q = rw (p, q) refl
+
+-- ---- what the call changes
+
+-- a phase in which the other's tokens, requests, confirmations and restarts are taken as in Ready
+pub record IsOpenPhase (p : Phase) : Type 0 where
+  pub holds : may_hold p ≡ true
+  pub asks : may_ask p ≡ true
+  pub please : takes_please p ≡ true
+  pub acks : takes_minor_ack p ≡ true
+  pub restart : takes_restart p ≡ true
+
+abbrev pub sent_in : Phase → State → State
+sent_in p s = record s { phase = p; numbers = point_sent s.numbers }
+
+pub record Speaks (s : State) : Type 0 where
+  pub phase : s.phase ≡ Ready
+  pub held : has s.held data_token ≡ true
+
+-- a number that may be acknowledged still may
+still_acks : (p : Phase) (v : Numbers) (n : ℕ) → (not v.answers && (nat_le v.confirmed n && nat_lt n v.next)) ≡ true
+    → (true && (nat_le (if v.answers then v.next else v.confirmed) n && (if is_major_asked p then nat_lt (n + 1) (v.next + 1) else nat_lt n (v.next + 1)))) ≡ true
+still_acks p v n h =
+    let a = and_parts (not v.answers) (nat_le v.confirmed n && nat_lt n v.next) h in
+    let b = and_parts (nat_le v.confirmed n) (nat_lt n v.next) a.1 in
+    both (nat_le (if v.answers then v.next else v.confirmed) n) (if is_major_asked p then nat_lt (n + 1) (v.next + 1) else nat_lt n (v.next + 1))
+    (low v.answers a.0 b.0) (by (is_major_asked p) (ltb-true n v.next b.1))
+  where
+    low : (b : Bool) → not b ≡ true → nat_le v.confirmed n ≡ true → nat_le (if b then v.next else v.confirmed) n ≡ true
+    low true x y = absurd (cc)
+    low false x y = y
+
+    by : (b : Bool) → n < v.next → (if b then nat_lt (n + 1) (v.next + 1) else nat_lt n (v.next + 1)) ≡ true
+    by true l = lt-ltb (n + 1) (v.next + 1) (omega arith)
+    by false l = lt-ltb n (v.next + 1) (omega arith)
+
+still_below : (b n next : ℕ) → (nat_le b n && (false || nat_le n next)) ≡ true → (nat_le b n && nat_le n (next + 1)) ≡ true
+still_below b n next h =
+    let a = and_parts (nat_le b n) (nat_le n next) h in
+    let l = leb-true n next a.1 in
+    both (nat_le b n) (nat_le n (next + 1)) a.0 (le-leb n (next + 1) (omega arith))
+
+below_in : (p : Phase) (b n next : ℕ) → is_restarting p ≡ false → (nat_le b n && (false || nat_le n next)) ≡ true
+    → (nat_le b n && (is_restarting p || nat_le n (next + 1))) ≡ true
+below_in p b n next e h = ap (λ (r : Bool). nat_le b n && (r || nat_le n (next + 1))) e ∙ still_below b n next h
+
+point_good : (p : Phase) → IsOpenPhase p → (s : State) (u : Meaning) → has s.held data_token ≡ true → is_plain u ≡ true → has_no_effect u ≡ false
+    → Good (in_phase Ready s) u → Good (sent_in p s) u
+unfolding point_sent
+point_good p k s (CN w r n x from to o) d pl e g = absurd (let a = g.expected in cc)
+point_good p k s (AC w r n x o) d pl e g = absurd (let a = g.expected in cc)
+point_good p k s (RF r o) d pl e g = absurd (cc)
+point_good p k s (DT o) d pl e g = absurd (not_lacking (has s.held data_token) g.met.0 d)
+point_good p k s (GT j) d pl e g = record { expected = k.asks; met = g.met }
+point_good p k s (PT j o) d pl e g = record { expected = k.please; met = g.met }
+point_good p k s (MIP c n o) d pl e g = absurd (not_lacking (has s.held data_token) (and_parts (not (has s.held data_token)) (not (has s.held minor)) g.met.1.0).0 d)
+point_good p k s (MIA n o) d pl e g = record { expected = k.acks; met = (g.met.0, (still_acks p s.numbers n g.met.1.0, tt)) }
+point_good p k s (MAP n o) d pl e g = absurd (not_lacking (has s.held data_token) (and_parts (not (has s.held data_token)) (not (has s.held minor) && not (has s.held major)) g.met.1.0).0 d)
+point_good p k s (MAA n o) d pl e g = absurd (let a = g.expected in cc)
+point_good p k s (RS j n w o) d pl e g = record {
+  expected = k.restart;
+  met = (g.met.0, (below_in p s.base n s.numbers.next (excluded may_hold is_restarting refl p k.holds) g.met.1.0, tt));
+}
+point_good p k s (RA n w o) d pl e g = absurd (let a = g.expected in cc)
+point_good p k s (FN o) d pl e g = absurd (let a = empty_has s.held data_token g.met.0 in cc)
+point_good p k s (DN o) d pl e g = absurd (cc)
+point_good p k s (NF o) d pl e g = absurd (let a = g.expected in cc)
+point_good p k s (AB b o) d pl e g = absurd (cc)
+point_good p k s AA d pl e g = absurd (cc)
+
+-- the flag is off where a confirmation comes
+same_numbers : (v : Numbers) (n : ℕ) → v.answers ≡ false → minor_confirmed n (point_sent v) ≡ point_sent (minor_confirmed n v)
+unfolding point_sent minor_confirmed
+same_numbers v n e = ap (λ (b : Bool). record { next = v.next + 1; confirmed = if b then n + 1 else n + 1; lowest = v.lowest; answers = false }) (sym e)
+    ∙ ap (λ (c : ℕ). record { next = v.next + 1; confirmed = c; lowest = v.lowest; answers = false }) (by v.answers e)
+  where
+    by : (b : Bool) → b ≡ false → (if b then n + 1 else n + 1) ≡ (if b then v.next else n + 1)
+    by true h = absurd (cc)
+    by false h = refl
+
+point_step : (p : Phase) (s : State) (u : Meaning) → Speaks s → is_plain u ≡ true → Good (in_phase Ready s) u → stops s u ≡ false
+    → (becomes (sent_in p s) u ≡ sent_in p (becomes s u)) × Speaks (becomes s u)
+point_step p s (CN w r n x from to o) i pl g st = absurd (let a = g.expected in cc)
+point_step p s (AC w r n x o) i pl g st = absurd (let a = g.expected in cc)
+point_step p s (RF r o) i pl g st = absurd (cc)
+point_step p s (DT o) i pl g st = (refl, i)
+point_step p s (GT j) i pl g st = (refl, record { phase = i.phase; held = united_has s.held j data_token ∙ or_left (has s.held data_token) (has j data_token) i.held })
+point_step p s (PT j o) i pl g st = (refl, i)
+point_step p s (MIP c n o) i pl g st = absurd (not_lacking (has s.held data_token) (and_parts (not (has s.held data_token)) (not (has s.held minor)) g.met.1.0).0 i.held)
+point_step p s (MIA n o) i pl g st =
+    let a = and_parts (not s.numbers.answers) (nat_le s.numbers.confirmed n && nat_lt n s.numbers.next) g.met.1.0 in
+    (ap (λ (v : Numbers). record s { phase = p; numbers = v }) (same_numbers s.numbers n (turn s.numbers.answers a.0)), record { phase = i.phase; held = i.held })
+  where
+    turn : (b : Bool) → not b ≡ true → b ≡ false
+    turn true h = absurd (cc)
+    turn false h = refl
+point_step p s (MAP n o) i pl g st = absurd (not_lacking (has s.held data_token) (and_parts (not (has s.held data_token)) (not (has s.held minor) && not (has s.held major)) g.met.1.0).0 i.held)
+point_step p s (MAA n o) i pl g st = absurd (let a = g.expected in cc)
+point_step p s (RS j n w o) i pl g st = absurd (let t = listening_stands s n (ap is_restarting i.phase) in cc)
+point_step p s (RA n w o) i pl g st = absurd (let a = g.expected in cc)
+point_step p s (FN o) i pl g st = absurd (let a = empty_has s.held data_token g.met.0 in let b = i.held in cc)
+point_step p s (DN o) i pl g st = absurd (cc)
+point_step p s (NF o) i pl g st = absurd (let a = g.expected in cc)
+point_step p s (AB b o) i pl g st = absurd (cc)
+point_step p s AA i pl g st = absurd (cc)
+
+abbrev point_shift : (p : Phase) → IsOpenPhase p → Shift
+point_shift p k = record {
+  never = λ u. false;
+  to = sent_in p;
+  inv = Speaks;
+  holds = λ s i. ap may_hold i.phase;
+  holds_after = λ s i. k.holds;
+  same = λ s i. record { units = refl; wishes = refl; held = refl; proposed = refl; base = refl; is_caller = refl };
+  good = λ s u i f pl e g. point_good p k s u i.held pl e (good_in Ready s u i.phase g);
+  step = λ s u i f pl e g st. point_step p s u i pl (good_in Ready s u i.phase g) st;
+}
+
+-- ---- what is known of both sides
+
+pub record Points (w : Core) : Type 0 where
+  pub phase : is_ready w.own.session.phase ≡ true
+  pub selected : (w.own.session.units.minor ≡ true) ⊎ (w.own.session.units.major ≡ true)
+  pub right : HasRight w.own.session data_token
+
+own_units : (w : Core) → Points w → Stands w → (flushed w.own w.peer).units ≡ w.own.session.units
+own_units w a h = end_units w.owner w.own w.peer h.own (excluded is_ready is_opening refl w.own.session.phase a.phase)
+
+-- half-duplex, and so the data token is held
+is_half : (u : FunctionalUnits) → IsOfProfile u → (u.minor ≡ true) ⊎ (u.major ≡ true) → u.duplex ≡ false
+is_half u p k = by u.duplex refl
+  where
+    by : (b : Bool) → u.duplex ≡ b → b ≡ false
+    by false e = refl
+    by true e = absurd (let d = p.alone e in elim k [ inl m ↦ (let n = d.0 in cc) | inr m ↦ (let n = d.1 in cc) ])
+
+has_data : (u : FunctionalUnits) → IsOfProfile u → u.duplex ≡ false → has (available u) data_token ≡ true
+unfolding available
+has_data u p d = turn u.half_duplex (sym p.duplex ∙ d)
+  where
+    turn : (b : Bool) → not b ≡ false → b ≡ true
+    turn true h = refl
+    turn false h = absurd (cc)
+
+pub holds_data : (w : Core) → Points w → Stands w → has w.own.session.held data_token ≡ true
+holds_data w a h = by a.right
+  where
+    profile : IsOfProfile w.own.session.units
+    profile = subst IsOfProfile (own_units w a h) h.pair.profile
+
+    by : HasRight w.own.session data_token → has w.own.session.held data_token ≡ true
+    by (inl e) = e
+    by (inr e) = absurd (let f = has_data w.own.session.units profile (is_half w.own.session.units profile a.selected) in cc)
+
+speaks : (w : Core) → Points w → Stands w → Speaks w.own.session
+speaks w a h = record { phase = is_ready_is w.own.session.phase a.phase; held = holds_data w a h }
+
+listens : (w : Core) → Points w → is_restarting w.own.session.phase ≡ false
+listens w a = excluded is_ready is_restarting refl w.own.session.phase a.phase
+
+owed : (w : Core) → Points w → Stands w → is_restart_due (flushed w.peer w.own).phase ≡ false
+owed w a h = none_owed w.owner w.own w.peer h.own (listens w a)
+
+holding : (w : Core) → Points w → Stands w → Holds data_token w.own.session
+holding w a h = record { held = holds_data w a h; phase = implied is_ready may_hold refl w.own.session.phase a.phase }
+
+heeds : (w : Core) → Points w → Stands w → not (is_restarting (hearing w.own w.peer).phase) ≡ true
+heeds w a h = ap not (excluded may_hold is_restarting refl (hearing w.own w.peer).phase (heard_holds data_token w.own.session w.peer.sent (holding w a h) h.own.fits).phase)
+
+-- this side has seen all
+all_seen : (w : Core) → Points w → Stands w → w.own.view ≡ w.history
+all_seen w a h = sym (nothing_to_see w.own.session w.peer.sent w.own.view (holding w a h) h.own.fits) ∙ h.own_views.ends (heeds w a h)
+
+own_number : (w : Core) → Points w → Stands w → w.own.session.numbers.next ≡ w.own.session.base + points w.history
+own_number w a h = h.consistent.own.count ∙ ap (λ (v : List Item). w.own.session.base + points v) (all_seen w a h)
+
+end_base : (w : Core) → Points w → Stands w → (flushed w.own w.peer).base ≡ w.own.session.base
+end_base w a h = (flush_open w.own.session w.peer.sent (excluded is_ready is_opening refl w.own.session.phase a.phase) h.own.fits).base
+
+-- the number of the other, where it listens
+pub other_number : (w : Core) → Stands w → (flushed w.peer w.own).base ≡ w.own.session.base → hearing w.peer w.own ≡ flushed w.peer w.own
+    → is_restarting (flushed w.peer w.own).phase ≡ false → (flushed w.peer w.own).numbers.next ≡ w.own.session.base + points w.history
+other_number w h b e l =
+    let c = heard_counted w.peer.session w.own.sent w.peer.view
+    (record { count = h.consistent.peer.count; fresh = λ o. (h.consistent.peer.fresh o).view }) h.peer.fits in
+    let v = h.peer_views.ends (ap (λ (q : State). not (is_restarting q.phase)) e ∙ ap not l) in
+    ap (λ (q : State). q.numbers.next) (sym e) ∙ c.count
+    ∙ ap (λ (q : State). q.base + points (heard_view w.peer.session w.own.sent w.peer.view)) e
+    ∙ ap (λ (n : ℕ). n + points (heard_view w.peer.session w.own.sent w.peer.view)) b
+    ∙ ap (λ (k : List Item). w.own.session.base + points k) v
+
+-- what of the history is there was seen by a side to which no point is under way
+pub other_saw : (w : Core) → Stands w → hearing w.peer w.own ≡ flushed w.peer w.own → is_restarting (flushed w.peer w.own).phase ≡ false
+    → (flushed w.peer w.own).numbers.answers ≡ false → points w.peer.view ≡ points w.history
+other_saw w h e l n =
+    sym (unseen w.peer.session w.own.sent w.peer.view h.peer.fits (ap (λ (q : State). q.numbers.answers) e ∙ n))
+    ∙ ap points (h.peer_views.ends (ap (λ (q : State). not (is_restarting q.phase)) e ∙ ap not l))
+
+-- so each number up to V(M) of the history is below its own
+pub other_above : (w : Core) (n : ℕ) → Stands w → w.peer.session.base ≡ w.own.session.base ⊎ (is_opening w.peer.session.phase ≡ true) → points w.peer.view ≡ points w.history
+    → w.own.session.base ≤ n → n < w.own.session.base + points w.history → n < w.peer.session.numbers.next
+other_above w n h b e from to = by b
+  where
+    by : w.peer.session.base ≡ w.own.session.base ⊎ (is_opening w.peer.session.phase ≡ true) → n < w.peer.session.numbers.next
+    by (inl q) = let c = h.consistent.peer.count in omega arith
+    by (inr q) =
+        let f = ap points (h.consistent.peer.fresh q).view in
+        absurd (omega arith)
+
+-- ---- the lines on numbers
+
+-- a unit that is not discarded comes to a side that listens
+heard_there : (s : State) (m : Meaning) → passes_restarting m ≡ false → drops s m ≡ false → is_restarting s.phase ≡ false
+heard_there s m w d = by (has_no_effect m) (is_restarting s.phase) (passes_restarting m) w d
+  where
+    by : (a b c : Bool) → c ≡ false → (a || (b && not c)) ≡ false → b ≡ false
+    by true b c p q = absurd (cc)
+    by false true true p q = absurd (cc)
+    by false true false p q = absurd (cc)
+    by false false c p q = refl
+
+-- a side that hears after it heard before
+pub hears_there : (s : State) (m : Meaning) → passes_restarting m ≡ false → not (is_restarting (next s m).phase) ≡ true → is_restarting s.phase ≡ false
+hears_there s m w l = by (drops s m) refl
+  where
+    by : (b : Bool) → drops s m ≡ b → is_restarting s.phase ≡ false
+    by false d = heard_there s m w d
+    by true d = turn (is_restarting s.phase) (ap (λ (q : State). not (is_restarting q.phase)) (sym (next_dropped s m d)) ∙ l)
+      where
+        turn : (b : Bool) → not b ≡ true → b ≡ false
+        turn true h = absurd (cc)
+        turn false h = refl
+
+ends_same : (w : Core) → Points w → Stands w → hearing w.peer w.own ≡ flushed w.peer w.own
+ends_same w a h = heard_flush w.peer.session w.own.sent h.peer.fits (owed w a h)
+
+there_base : (w : Core) → Points w → Stands w → (flushed w.peer w.own).base ≡ w.own.session.base
+there_base w a h = sym h.own.meeting.base ∙ end_base w a h
+
+same_base : (w : Core) → Points w → Stands w → w.peer.session.base ≡ w.own.session.base ⊎ (is_opening w.peer.session.phase ≡ true)
+same_base w a h = by (is_opening w.peer.session.phase) refl
+  where
+    by : (b : Bool) → is_opening w.peer.session.phase ≡ b → w.peer.session.base ≡ w.own.session.base ⊎ (is_opening w.peer.session.phase ≡ true)
+    by true e = inr e
+    by false e = inl (sym (flush_open w.peer.session w.own.sent e h.peer.fits).base ∙ there_base w a h)
+
+-- the number of this side, just before a restart that stands
+heard_number : (w : Core) → Points w → Stands w → (hearing w.own w.peer).numbers.next ≡ w.own.session.base + points w.history
+heard_number w a h =
+    let c = heard_counted w.own.session w.peer.sent w.own.view (record { count = h.consistent.own.count; fresh = λ o. (h.consistent.own.fresh o).view }) h.own.fits in
+    let b = (heard_open w.own.session w.peer.sent (excluded is_ready is_opening refl w.own.session.phase a.phase) h.own.fits).base in
+    c.count ∙ ap (λ (n : ℕ). n + points (heard_view w.own.session w.peer.sent w.own.view)) b
+    ∙ ap (λ (v : List Item). w.own.session.base + points v) (h.own_views.ends (heeds w a h))
+
+nothing_needed : (w : Core) → Points w → Stands w → list_any (needs_token data_token) w.peer.sent ≡ false
+nothing_needed w a h = none_needs data_token w.own.session w.peer.sent (holding w a h) h.own.fits
+
+-- where points were taken last here, none is under way there
+both_answer : (w : Core) → Points w → Stands w → (hearing w.own w.peer).numbers.answers ≡ true → (flushed w.peer w.own).numbers.answers ≡ false
+both_answer w a h t = by w.own.session.numbers.answers refl
+  where
+    by : (b : Bool) → w.own.session.numbers.answers ≡ b → (flushed w.peer w.own).numbers.answers ≡ false
+    by true e = ap (λ (q : State). q.numbers.answers) (sym (ends_same w a h)) ∙ h.own_counts.flag e
+    by false e = absurd (let n = heard_sends w.own.session w.peer.sent (nothing_needed w a h) e in cc)
+
+pub point_below : (w : Core) (n : ℕ) → Points w → Stands w → is_restarting (flushed w.peer w.own).phase ≡ false → (hearing w.own w.peer).base ≤ n
+    → n < (if (hearing w.own w.peer).numbers.answers then (hearing w.own w.peer).numbers.next else (hearing w.own w.peer).numbers.confirmed)
+    → n < w.peer.session.numbers.next
+point_below w n a h l from to = by (hearing w.own w.peer).numbers.answers refl to
+  where
+    by : (b : Bool) → (hearing w.own w.peer).numbers.answers ≡ b
+        → n < (if b then (hearing w.own w.peer).numbers.next else (hearing w.own w.peer).numbers.confirmed) → n < w.peer.session.numbers.next
+    by false e k = h.own_counts.below (ap (λ (q : State). not (is_restarting q.phase)) (ends_same w a h) ∙ ap not l) n from k
+    by true e k =
+        let saw = other_saw w h (ends_same w a h) l (both_answer w a h e) in
+        other_above w n h (same_base w a h) saw
+        (subst (λ (b : ℕ). b ≤ n) (heard_open w.own.session w.peer.sent (excluded is_ready is_opening refl w.own.session.phase a.phase) h.own.fits).base from)
+        (subst (λ (m : ℕ). n < m) (heard_number w a h) k)
+
+pub point_reach : (w : Core) → Stands w → w.peer.session.numbers.answers ≡ true
+    → lower w.peer.session.numbers.next (if (hearing w.own w.peer).numbers.answers then (hearing w.own w.peer).numbers.next else (hearing w.own w.peer).numbers.confirmed)
+    ≤ w.peer.session.numbers.confirmed
+point_reach w h t =
+    subst (λ (b : Bool). lower w.peer.session.numbers.next (if b then (hearing w.own w.peer).numbers.next else (hearing w.own w.peer).numbers.confirmed) ≤ w.peer.session.numbers.confirmed)
+    (sym (h.peer_counts.flag t)) (h.own_counts.reach t)
+
+pub point_other_below : (w : Core) (m : Meaning) (n : ℕ) → Points w → Stands w → passes_restarting m ≡ false → ((s : State) → (becomes s m).numbers ≡ point_taken s.numbers)
+    → (flushed w.peer w.own).base ≤ n → n < (next (flushed w.peer w.own) m).numbers.confirmed → n < w.own.session.numbers.next + 1
+unfolding point_taken
+point_other_below w m n a h waits taken from to = by (drops fy m) refl to
+  where
+    fy : State
+    fy = flushed w.peer w.own
+
+    was : n < fy.numbers.confirmed → n < w.own.session.numbers.next + 1
+    was k =
+        let l = h.peer_counts.below (heeds w a h) n (subst (λ (q : State). q.base ≤ n) (sym (ends_same w a h)) from) (subst (λ (q : State). n < q.numbers.confirmed) (sym (ends_same w a h)) k) in
+        omega arith
+
+    acted : is_restarting fy.phase ≡ false → (b : Bool) → n < (if b then fy.numbers.confirmed else fy.numbers.next) → n < w.own.session.numbers.next + 1
+    acted l true k = was k
+    acted l false k =
+        let x = own_number w a h in
+        let y = other_number w h (there_base w a h) (ends_same w a h) l in
+        omega arith
+
+    by : (b : Bool) → drops fy m ≡ b → n < (if b then fy else becomes fy m).numbers.confirmed → n < w.own.session.numbers.next + 1
+    by true d k = was k
+    by false d k = acted (heard_there fy m waits d) fy.numbers.answers (subst (λ (v : Numbers). n < v.confirmed) (taken fy) k)
+
+pub point_sees : (w : Core) (more : List Item) → Points w → Stands w → heard_view w.own.session w.peer.sent (w.own.view ++ more) ≡ w.history ++ more
+point_sees w more a h =
+    nothing_to_see w.own.session w.peer.sent (w.own.view ++ more) (holding w a h) h.own.fits ∙ ap (λ (v : List Item). v ++ more) (all_seen w a h)
+
+pub point_no_duplex : (w : Core) → Points w → Stands w → (flushed w.own w.peer).units.duplex ≡ false
+point_no_duplex w a h = is_half (flushed w.own w.peer).units h.pair.profile (subst (λ (u : FunctionalUnits). (u.minor ≡ true) ⊎ (u.major ≡ true)) (sym (own_units w a h)) a.selected)
+
+pub point_numbered : (w : Core) (k : PointKind) (octets : List ℕ) → Points w → Stands w → AreNumberedFrom (flushed w.own w.peer).base w.history
+    → AreNumberedFrom (flushed w.own w.peer).base (w.history ++ Point w.own.session.numbers.next k octets ∷ [])
+point_numbered w k octets a h p =
+    numbered_point (flushed w.own w.peer).base w.history (Point w.own.session.numbers.next k octets)
+    (own_number w a h ∙ ap (λ (b : ℕ). b + points w.history) (sym (end_base w a h)), tt) p
+
+pub point_one_way : (w : Core) (m : Meaning) → Points w → Stands w
+    → (list_any (needs_token data_token) (w.own.sent ++ m ∷ []) && list_any (needs_token data_token) w.peer.sent) ≡ false
+point_one_way w m a h = and_no (list_any (needs_token data_token) (w.own.sent ++ m ∷ [])) (list_any (needs_token data_token) w.peer.sent) (nothing_needed w a h)
+  where
+    and_no : (b c : Bool) → c ≡ false → (b && c) ≡ false
+    and_no true c e = e
+    and_no false c e = refl
+
+-- ---- the other takes it
+
+there_ready : (w : Core) → Stands w → (flushed w.own w.peer).phase ≡ Ready → is_ready (flushed w.peer w.own).phase ≡ true
+there_ready w h e = implied_two (λ p q. matched p q && is_ready p) (λ p q. is_ready q) refl (flushed w.own w.peer).phase (flushed w.peer w.own).phase
+    (both (matched (flushed w.own w.peer).phase (flushed w.peer w.own).phase) (is_ready (flushed w.own w.peer).phase) h.own.meeting.meets (ap is_ready e))
+
+there_units : (w : Core) → Points w → Stands w → (flushed w.peer w.own).units ≡ w.own.session.units
+there_units w a h = sym h.own.meeting.units ∙ own_units w a h
+
+there_lacks : (w : Core) (t : Token) → Points w → Stands w → HasRight w.own.session t → is_ready (flushed w.peer w.own).phase ≡ true → not (has (flushed w.peer w.own).held t) ≡ true
+there_lacks w t a h right r =
+    ap not (other_lacks w.owner w.own w.peer t h.own h.peer (excluded is_ready is_opening refl w.own.session.phase a.phase) right (owed w a h)
+    (implied is_ready may_hold refl (flushed w.peer w.own).phase r))
+
+there_number : (w : Core) → Points w → Stands w → is_restarting (flushed w.peer w.own).phase ≡ false → (w.own.session.numbers.next == (flushed w.peer w.own).numbers.next) ≡ true
+there_number w a h l = eq-eqb w.own.session.numbers.next (flushed w.peer w.own).numbers.next (own_number w a h ∙ sym (other_number w h (there_base w a h) (ends_same w a h) l))
+
+-- ---- Minor
+
+ready_open : IsOpenPhase Ready
+ready_open = record { holds = refl; asks = refl; please = refl; acks = refl; restart = refl }
+
+minor_sending : (w : Core) (confirm : Bool) (octets : List ℕ) → Points w → w.own.session.units.minor ≡ true → HasRight w.own.session minor → Stands w
+    → Sending w (point_shift Ready ready_open) (MIP confirm w.own.session.numbers.next octets) (Point w.own.session.numbers.next (minor_kind confirm) octets ∷ [])
+unfolding point_sent point_taken
+minor_sending w confirm octets a sel right h = record {
+  now = speaks w a h;
+  none = none_never w.peer.sent;
+  plain = refl;
+  effect = refl;
+  waits = refl;
+  quiet = λ s. refl;
+  keeps = λ s. record { units = refl; wishes = refl; held = refl; proposed = refl; base = refl; is_caller = refl };
+  shows = λ s v. refl;
+  empty = refl;
+  good = λ l i.
+      let r = there_ready w h i.phase in
+      record {
+        expected = r;
+        met = (
+          ap (λ (u : FunctionalUnits). u.minor) (there_units w a h) ∙ sel,
+          (
+            both (not (has (flushed w.peer w.own).held data_token)) (not (has (flushed w.peer w.own).held minor)) (there_lacks w data_token a h a.right r) (there_lacks w minor a h right r),
+            (there_number w a h l, tt),
+          ),
+        );
+      };
+  meets = λ l i. subst (λ (q : Phase). matched Ready q ≡ true) (sym (is_ready_is (flushed w.peer w.own).phase (there_ready w h i.phase))) refl;
+  release = λ s i r. absurd (cc);
+  releasing = λ s i r. absurd (cc);
+  sees = λ l. point_sees w (Point w.own.session.numbers.next (minor_kind confirm) octets ∷ []) a h;
+  duplex = λ d. absurd (let n = point_no_duplex w a h in cc);
+  flag = λ f. absurd (cc);
+  below = λ l n from to. point_below w n a h (hears_there (flushed w.peer w.own) (MIP confirm w.own.session.numbers.next octets) refl l) from to;
+  reach = point_reach w h;
+  other_flag = λ f. refl;
+  other_below = λ n from to. point_other_below w (MIP confirm w.own.session.numbers.next octets) n a h refl (λ s. refl) from to;
+  other_reach = λ f. absurd (cc);
+  numbered = point_numbered w (minor_kind confirm) octets a h;
+  one_way = λ d. point_one_way w (MIP confirm w.own.session.numbers.next octets) a h;
+}
+
+-- the phase is as it was
+same_phase : (s : State) → s.phase ≡ Ready → after s (Minor false []) ≡ sent_in Ready s
+same_phase s e = λ i. record s { phase = e i; numbers = point_sent s.numbers }
+
+pub minor_stands : SessionLaws → (w : Core) (confirm : Bool) (octets : List ℕ) (g : Granted) → allowed w.own.session (Minor confirm octets) ≡ Ok g → Stands w
+    → Stands (answered w (Minor confirm octets) (Ok g))
+minor_stands laws w confirm octets g e h =
+    let q = passed w.own.session (Minor confirm octets) g e in
+    let c = answered_kept laws w (Minor confirm octets) (Ok g) tt e h.consistent in
+    let p = and_parts (has_right w.own.session data_token) (has_right w.own.session minor) q.needed.1.0 in
+    let a : Points w = record { phase = q.phase; selected = inl q.needed.0; right = right_of w.own.session data_token p.0 } in
+    let m = MIP confirm w.own.session.numbers.next octets in
+    let gives : g ≡ record { next = sent_in Ready w.own.session; sent = MIP confirm w.own.session.numbers.next octets } =
+    q.gives ∙ ap (λ (s : State). record { next = s; sent = MIP confirm w.own.session.numbers.next octets }) (same_phase w.own.session (is_ready_is w.own.session.phase a.phase)) in
+    subst (λ (r : Granted). Stands (answered w (Minor confirm octets) (Ok r))) (sym gives)
+    (sending_stands w (point_shift Ready ready_open) (MIP confirm w.own.session.numbers.next octets) (Point w.own.session.numbers.next (minor_kind confirm) octets ∷ [])
+    (minor_sending w confirm octets a q.needed.0 (right_of w.own.session minor p.1) h) h
+    (subst (λ (r : Granted). AreConsistent (answered w (Minor confirm octets) (Ok r))) gives c))
+
+-- ---- Major
+
+asked_open : IsOpenPhase MajorAsked
+asked_open = record { holds = refl; asks = refl; please = refl; acks = refl; restart = refl }
+
+major_sending : (w : Core) (octets : List ℕ) → Points w → w.own.session.units.major ≡ true → HasRight w.own.session minor → HasRight w.own.session major → Stands w
+    → Sending w (point_shift MajorAsked asked_open) (MAP w.own.session.numbers.next octets) (Point w.own.session.numbers.next major_point octets ∷ [])
+unfolding point_sent point_taken
+major_sending w octets a sel right right' h = record {
+  now = speaks w a h;
+  none = none_never w.peer.sent;
+  plain = refl;
+  effect = refl;
+  waits = refl;
+  quiet = λ s. refl;
+  keeps = λ s. record { units = refl; wishes = refl; held = refl; proposed = refl; base = refl; is_caller = refl };
+  shows = λ s v. refl;
+  empty = refl;
+  good = λ l i.
+      let r = there_ready w h i.phase in
+      record {
+        expected = r;
+        met = (
+          ap (λ (u : FunctionalUnits). u.major) (there_units w a h) ∙ sel,
+          (
+            both (not (has (flushed w.peer w.own).held data_token)) (not (has (flushed w.peer w.own).held minor) && not (has (flushed w.peer w.own).held major)) (there_lacks w data_token a h a.right r)
+                (both (not (has (flushed w.peer w.own).held minor)) (not (has (flushed w.peer w.own).held major)) (there_lacks w minor a h right r) (there_lacks w major a h right' r)),
+            (there_number w a h l, tt),
+          ),
+        );
+      };
+  meets = λ l i. refl;
+  release = λ s i r. absurd (cc);
+  releasing = λ s i r. absurd (cc);
+  sees = λ l. point_sees w (Point w.own.session.numbers.next major_point octets ∷ []) a h;
+  duplex = λ d. absurd (let n = point_no_duplex w a h in cc);
+  flag = λ f. absurd (cc);
+  below = λ l n from to. point_below w n a h (hears_there (flushed w.peer w.own) (MAP w.own.session.numbers.next octets) refl l) from to;
+  reach = point_reach w h;
+  other_flag = λ f. refl;
+  other_below = λ n from to. point_other_below w (MAP w.own.session.numbers.next octets) n a h refl (λ s. refl) from to;
+  other_reach = λ f. absurd (cc);
+  numbered = point_numbered w major_point octets a h;
+  one_way = λ d. point_one_way w (MAP w.own.session.numbers.next octets) a h;
+}
+
+pub major_stands : SessionLaws → (w : Core) (octets : List ℕ) (g : Granted) → allowed w.own.session (Major octets) ≡ Ok g → Stands w
+    → Stands (answered w (Major octets) (Ok g))
+major_stands laws w octets g e h =
+    let q = passed w.own.session (Major octets) g e in
+    let c = answered_kept laws w (Major octets) (Ok g) tt e h.consistent in
+    let p = and_parts (has_right w.own.session data_token) (has_right w.own.session minor && has_right w.own.session major) q.needed.1.0 in
+    let r = and_parts (has_right w.own.session minor) (has_right w.own.session major) p.1 in
+    let a : Points w = record { phase = q.phase; selected = inr q.needed.0; right = right_of w.own.session data_token p.0 } in
+    subst (λ (r : Granted). Stands (answered w (Major octets) (Ok r))) (sym q.gives)
+    (sending_stands w (point_shift MajorAsked asked_open) (MAP w.own.session.numbers.next octets) (Point w.own.session.numbers.next major_point octets ∷ [])
+    (major_sending w octets a q.needed.0 (right_of w.own.session minor r.0) (right_of w.own.session major r.1) h) h
+    (subst (λ (r : Granted). AreConsistent (answered w (Major octets) (Ok r))) q.gives c))

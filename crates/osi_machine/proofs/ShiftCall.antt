@@ -1,0 +1,422 @@
+-- A call that changes no more of a side than its phase and its numbers: what has to be known of it, so that
+-- all that is true of both sides stays.
+use Rattle.std.proofs.Common.{◌≡◌, refl, sym, ◌∙◌, ap, subst, ℕ, ◌≤◌, ◌<◌, Bool, true, false, not, ◌&&◌, ◌||◌, if◌then◌else◌, List, [], ◌∷◌, ◌++◌, ◌⊎◌, inl, inr}
+use Rattle.std.specs.List.{list_any}
+use Rattle.osi_machine.specs.Floor.{State, FunctionalUnits, Tokens, Meaning, Token, has, available, data_token, lower, is_answering, is_connecting, is_release_due, is_releasing, is_restarting, is_restart_due, may_hold, has_no_effect, passes_restarting, becomes, drops, next, Good}
+use Rattle.osi_machine.specs.Histories.{Item, cutat, AreNumberedFrom}
+use Rattle.osi_machine.specs.Owners.{turned_owners, is_own, is_to_own}
+use Rattle.osi_machine.specs.Taking.{seen}
+use Rattle.osi_machine.specs.Channels.{is_plain, Fits, flush, stops, heard, hears, view_next, heard_view, data_in, data_of, needs_token}
+use Rattle.osi_machine.specs.Core.{Party, Core}
+use Rattle.osi_machine.specs.Parties.{AreConsistent}
+use Rattle.osi_machine.proofs.PhaseLaws.{excluded, implied_two}
+use Rattle.osi_machine.proofs.Units.{next_cases, next_acted, next_dropped, next_hears}
+use Rattle.osi_machine.proofs.ChannelLaws.{fit_append, flush_append, heard_flush, heard_append, view_append, data_append}
+use Rattle.osi_machine.proofs.HistoryLaws.{cut_append}
+use Rattle.osi_machine.proofs.Records.{flushed, hearing, matched, Meeting, Half, Views, Counting, Counts, IsOfProfile, Pair, Stands}
+use Rattle.osi_machine.proofs.Idle.{append_nil}
+use Rattle.osi_machine.proofs.DataCall.{none_owed}
+use Rattle.osi_machine.proofs.TakeMoves.{none_due_there}
+use Rattle.osi_machine.proofs.Shift.{Shift, Still, still, Due, Shifted, Shifts, shifts, shift_view, shifted_still, shifted_listens, inv_listens, after_listens}
+
+-- the connection after the call
+abbrev pub sender : Party → State → Meaning → List Item → Party
+sender x r m more = record { session = r; view = x.view ++ more; said = x.said ++ []; got = x.got; sent = x.sent ++ m ∷ [] }
+
+abbrev pub after_sending : Core → State → Meaning → List Item → Core
+after_sending w r m more = record { history = w.history ++ more; owner = w.owner; own = sender w.own r m more; peer = w.peer }
+
+-- what has to be known: the change, the unit, and what it adds to the history
+pub record Sending (w : Core) (k : Shift) (m : Meaning) (more : List Item) : Type 0 where
+  pub now : k.inv w.own.session
+  pub none : list_any k.never w.peer.sent ≡ false
+  pub plain : is_plain m ≡ true
+  pub effect : has_no_effect m ≡ false
+  pub waits : passes_restarting m ≡ false
+  pub quiet : (s : State) → stops s m ≡ false
+  pub keeps : (s : State) → Still s (becomes s m)
+  pub shows : (s : State) (v : List Item) → seen s m v ≡ v ++ more
+  pub empty : data_in m ≡ []
+  pub good : is_restarting (flushed w.peer w.own).phase ≡ false → k.inv (flushed w.own w.peer) → Good (flushed w.peer w.own) m
+  pub meets : is_restarting (flushed w.peer w.own).phase ≡ false → k.inv (flushed w.own w.peer)
+      → matched (k.to (flushed w.own w.peer)).phase (becomes (flushed w.peer w.own) m).phase ≡ true
+  pub release : (s : State) → k.inv s → is_release_due (k.to s).phase ≡ true → is_release_due s.phase ≡ true
+  pub releasing : (s : State) → k.inv s → is_releasing (k.to s).phase ≡ true → is_releasing (k.to w.own.session).phase ≡ true
+  pub sees : hears (hearing w.own w.peer).phase ≡ true → heard_view w.own.session w.peer.sent (w.own.view ++ more) ≡ w.history ++ more
+  pub duplex : (flushed w.own w.peer).units.duplex ≡ true → more ≡ []
+  pub flag : (k.to w.own.session).numbers.answers ≡ true → (next (flushed w.peer w.own) m).numbers.answers ≡ false
+  pub below : hears (next (flushed w.peer w.own) m).phase ≡ true → (n : ℕ) → (k.to (hearing w.own w.peer)).base ≤ n
+      → n < (k.to (hearing w.own w.peer)).numbers.confirmed → n < w.peer.session.numbers.next
+  pub reach : w.peer.session.numbers.answers ≡ true
+      → lower w.peer.session.numbers.next (k.to (hearing w.own w.peer)).numbers.confirmed ≤ w.peer.session.numbers.confirmed
+  pub other_flag : w.peer.session.numbers.answers ≡ true → (k.to (hearing w.own w.peer)).numbers.answers ≡ false
+  pub other_below : (n : ℕ) → (flushed w.peer w.own).base ≤ n → n < (next (flushed w.peer w.own) m).numbers.confirmed → n < (k.to w.own.session).numbers.next
+  pub other_reach : (k.to w.own.session).numbers.answers ≡ true
+      → lower (k.to w.own.session).numbers.next (next (flushed w.peer w.own) m).numbers.confirmed ≤ (k.to w.own.session).numbers.confirmed
+  pub numbered : AreNumberedFrom (flushed w.own w.peer).base w.history → AreNumberedFrom (flushed w.own w.peer).base (w.history ++ more)
+  pub one_way : (flushed w.own w.peer).units.half_duplex ≡ true
+      → (list_any (needs_token data_token) (w.own.sent ++ m ∷ []) && list_any (needs_token data_token) w.peer.sent) ≡ false
+
+-- ---- the channel to the caller
+
+both : (a b : Bool) → a ≡ true → b ≡ true → (a && b) ≡ true
+both a b p q = rw (p, q) refl
+
+pub runs : (w : Core) (k : Shift) (m : Meaning) (more : List Item) → Sending w k m more → Stands w → Shifts k w.own.session w.peer.sent
+runs w k m more g h = shifts k w.own.session w.peer.sent g.now g.none h.own.fits
+
+pub listens : (w : Core) (k : Shift) (m : Meaning) (more : List Item) → Sending w k m more → is_restarting w.own.session.phase ≡ false
+listens w k m more g = inv_listens k w.own.session g.now
+
+pub owed : (w : Core) (k : Shift) (m : Meaning) (more : List Item) → Sending w k m more → Stands w → is_restart_due (flushed w.peer w.own).phase ≡ false
+owed w k m more g h = none_owed w.owner w.own w.peer h.own (listens w k m more g)
+
+-- the other has asked for a restart, and discards it; or acts on it
+record Deaf (w : Core) (k : Shift) (m : Meaning) : Type 0 where
+  asked : is_restarting (flushed w.peer w.own).phase ≡ true
+  due : Due (flushed w.own w.peer) (flush (k.to w.own.session) w.peer.sent)
+  same : next (flushed w.peer w.own) m ≡ flushed w.peer w.own
+
+record Acts (w : Core) (k : Shift) (m : Meaning) : Type 0 where
+  listens : is_restarting (flushed w.peer w.own).phase ≡ false
+  inv : k.inv (flushed w.own w.peer)
+  there : flush (k.to w.own.session) w.peer.sent ≡ k.to (flushed w.own w.peer)
+  same : next (flushed w.peer w.own) m ≡ becomes (flushed w.peer w.own) m
+  acts : drops (flushed w.peer w.own) m ≡ false
+
+drops_waiting : (s : State) (m : Meaning) → is_restarting s.phase ≡ true → passes_restarting m ≡ false → drops s m ≡ true
+drops_waiting s m h k = by (has_no_effect m) (is_restarting s.phase) (passes_restarting m) h k
+  where
+    by : (a b c : Bool) → b ≡ true → c ≡ false → (a || (b && not c)) ≡ true
+    by true b c p q = refl
+    by false b c p q = rw (p, q) refl
+
+acts_listening : (s : State) (m : Meaning) → is_restarting s.phase ≡ false → has_no_effect m ≡ false → drops s m ≡ false
+acts_listening s m h k = rw (k, h) refl
+
+sides : (w : Core) (k : Shift) (m : Meaning) (more : List Item) → Sending w k m more → Stands w → Deaf w k m ⊎ Acts w k m
+sides w k m more g h = by (runs w k m more g h).flush
+  where
+    fx : State
+    fx = flushed w.own w.peer
+
+    fy : State
+    fy = flushed w.peer w.own
+
+    by : Shifted k fx (flush (k.to w.own.session) w.peer.sent) → Deaf w k m ⊎ Acts w k m
+    by (inr d) =
+        let r = implied_two (λ p q. matched p q && is_restart_due p) (λ p q. is_restarting q) refl fx.phase fy.phase
+        (both (matched fx.phase fy.phase) (is_restart_due fx.phase) h.own.meeting.meets d.due) in
+        inl (record { asked = r; due = d; same = next_dropped fy m (drops_waiting fy m r g.waits) })
+    by (inl (e, i)) =
+        let l = not_true (is_restarting fy.phase) (implied_two (λ p q. matched p q && may_hold p) (λ p q. not (is_restarting q)) refl fx.phase fy.phase
+        (both (matched fx.phase fy.phase) (may_hold fx.phase) h.own.meeting.meets (k.holds fx i))) in
+        let a = acts_listening fy m l g.effect in
+        inr (record { listens = l; inv = i; there = e; same = next_acted fy m a; acts = a })
+      where
+        not_true : (b : Bool) → not b ≡ true → b ≡ false
+        not_true true p = absurd (cc)
+        not_true false p = refl
+
+other_fits : (w : Core) (k : Shift) (m : Meaning) (more : List Item) → Sending w k m more → Stands w → Fits (flushed w.peer w.own) m
+other_fits w k m more g h = by (sides w k m more g h)
+  where
+    by : Deaf w k m ⊎ Acts w k m → Fits (flushed w.peer w.own) m
+    by (inl d) = record { plain = g.plain; good = λ a. absurd (let b = drops_waiting (flushed w.peer w.own) m d.asked g.waits in cc) }
+    by (inr a) = record { plain = g.plain; good = λ b. g.good a.listens a.inv }
+
+-- ---- what both will be
+
+pub meets_after : (w : Core) (k : Shift) (m : Meaning) (more : List Item) → Sending w k m more → Stands w
+    → matched (flush (k.to w.own.session) w.peer.sent).phase (next (flushed w.peer w.own) m).phase ≡ true
+meets_after w k m more g h = by (sides w k m more g h)
+  where
+    fx' : State
+    fx' = flush (k.to w.own.session) w.peer.sent
+
+    fy : State
+    fy = flushed w.peer w.own
+
+    by : Deaf w k m ⊎ Acts w k m → matched fx'.phase (next fy m).phase ≡ true
+    by (inl d) = subst (λ (q : State). matched fx'.phase q.phase ≡ true) (sym d.same)
+        (implied_two (λ p q. is_restart_due p && is_restarting q) (λ p q. matched p q) refl fx'.phase fy.phase
+        (both (is_restart_due fx'.phase) (is_restarting fy.phase) d.due.other d.asked))
+    by (inr a) = subst (λ (q : State). matched q.phase (next fy m).phase ≡ true) (sym a.there)
+        (subst (λ (q : State). matched (k.to (flushed w.own w.peer)).phase q.phase ≡ true) (sym a.same) (g.meets a.listens a.inv))
+
+own_still : (w : Core) (k : Shift) (m : Meaning) (more : List Item) → Sending w k m more → Stands w → Still (flushed w.own w.peer) (flush (k.to w.own.session) w.peer.sent)
+own_still w k m more g h = shifted_still k (flushed w.own w.peer) (flush (k.to w.own.session) w.peer.sent) (runs w k m more g h).flush
+
+other_still : (w : Core) (k : Shift) (m : Meaning) (more : List Item) → Sending w k m more → Still (flushed w.peer w.own) (next (flushed w.peer w.own) m)
+other_still w k m more g = next_cases (Still (flushed w.peer w.own)) (flushed w.peer w.own) m (λ d. still (flushed w.peer w.own)) (λ d. g.keeps (flushed w.peer w.own))
+
+other_end : (w : Core) (m : Meaning) → flush w.peer.session (w.own.sent ++ m ∷ []) ≡ next (flushed w.peer w.own) m
+other_end w m = flush_append w.peer.session w.own.sent m
+
+other_heard : (w : Core) (k : Shift) (m : Meaning) (more : List Item) → Sending w k m more → Stands w
+    → heard w.peer.session (w.own.sent ++ m ∷ []) ≡ next (flushed w.peer w.own) m
+other_heard w k m more g h =
+    heard_append w.peer.session w.own.sent m h.peer.fits (owed w k m more g h)
+    ∙ ap (λ (b : Bool). if b then flushed w.peer w.own else next (flushed w.peer w.own) m) (g.quiet (flushed w.peer w.own))
+
+heard_end : (w : Core) (k : Shift) (m : Meaning) (more : List Item) → Sending w k m more → Stands w → hearing w.peer w.own ≡ flushed w.peer w.own
+heard_end w k m more g h = heard_flush w.peer.session w.own.sent h.peer.fits (owed w k m more g h)
+
+-- ---- the half of the caller
+
+own_half : (w : Core) (k : Shift) (m : Meaning) (more : List Item) → Sending w k m more → Stands w → Half w.owner (sender w.own (k.to w.own.session) m more) w.peer
+own_half w k m more g h = record {
+  fits = (runs w k m more g h).fits;
+  meeting = subst (λ (q : State). Meeting w.owner (k.to w.own.session) fx' q (heard (k.to w.own.session) w.peer.sent) w.peer.session) (sym (other_end w m))
+      (subst (λ (q : State). Meeting w.owner (k.to w.own.session) fx' (next fy m) q w.peer.session) (sym (runs w k m more g h).heard.0)
+      (record {
+        meets = meets_after w k m more g h;
+        units = a.units ∙ h.own.meeting.units ∙ sym b.units;
+        base = a.base ∙ h.own.meeting.base ∙ sym b.base;
+        restart = λ r. absurd (let l = (shifted_listens k fx fx' (runs w k m more g h).flush).1 in cc);
+        connect = λ r. absurd (let l = not_connecting (runs w k m more g h).flush in cc);
+        holds = λ t. ap (λ (s : Tokens). has s t) (k.same w.own.session g.now).held ∙ h.own.meeting.holds t;
+        wants = λ l t. ap (λ (s : Tokens). has s t) (k.same hx i).held ∙ h.own.meeting.wants (k.holds hx i) t;
+        absent = λ t n. h.own.meeting.absent t (ap (λ (u : FunctionalUnits). has (available u) t) (sym a.units) ∙ n);
+        released = λ r. h.own.meeting.released (g.release hx i r);
+      }));
+}
+  where
+    fx : State
+    fx = flushed w.own w.peer
+
+    fx' : State
+    fx' = flush (k.to w.own.session) w.peer.sent
+
+    fy : State
+    fy = flushed w.peer w.own
+
+    hx : State
+    hx = hearing w.own w.peer
+
+    i : k.inv hx
+    i = (runs w k m more g h).heard.1
+
+    a : Still fx fx'
+    a = own_still w k m more g h
+
+    b : Still fy (next fy m)
+    b = other_still w k m more g
+
+    not_connecting : Shifted k fx fx' → is_connecting fx'.phase ≡ false
+    not_connecting (inl (e, j)) = ap (λ (q : State). is_connecting q.phase) e ∙ excluded may_hold is_connecting refl (k.to fx).phase (k.holds_after fx j)
+    not_connecting (inr d) = excluded is_restart_due is_connecting refl fx'.phase d.other
+
+-- ---- the half of the other
+
+other_wants : (w : Core) (k : Shift) (m : Meaning) (more : List Item) → Sending w k m more → Stands w → may_hold (next (flushed w.peer w.own) m).phase ≡ true
+    → (t : Token) → has (next (flushed w.peer w.own) m).held t ≡ (is_own (turned_owners w.owner t) || is_to_own (turned_owners w.owner t))
+other_wants w k m more g h may t =
+    ap (λ (s : Tokens). has s t) (other_still w k m more g).held
+    ∙ subst (λ (q : State). has q.held t ≡ (is_own (turned_owners w.owner t) || is_to_own (turned_owners w.owner t))) (heard_end w k m more g h)
+    (h.peer.meeting.wants (ap (λ (q : State). may_hold q.phase) (heard_end w k m more g h) ∙ by (sides w k m more g h)) t)
+  where
+    fx : State
+    fx = flushed w.own w.peer
+
+    fy : State
+    fy = flushed w.peer w.own
+
+    by : Deaf w k m ⊎ Acts w k m → may_hold fy.phase ≡ true
+    by (inl d) = ap (λ (q : State). may_hold q.phase) (sym d.same) ∙ may
+    by (inr a) = implied_two (λ p q. matched p q && may_hold p) (λ p q. may_hold q) refl fx.phase fy.phase
+        (both (matched fx.phase fy.phase) (may_hold fx.phase) h.own.meeting.meets (k.holds fx a.inv))
+
+other_restart : (w : Core) (k : Shift) (m : Meaning) (more : List Item) → Sending w k m more → Stands w → is_restarting (next (flushed w.peer w.own) m).phase ≡ true
+    → ((next (flushed w.peer w.own) m).numbers.next ≡ (flush (k.to w.own.session) w.peer.sent).numbers.next)
+    × ((next (flushed w.peer w.own) m).wishes ≡ (flush (k.to w.own.session) w.peer.sent).wishes)
+other_restart w k m more g h r = by (sides w k m more g h)
+  where
+    fx' : State
+    fx' = flush (k.to w.own.session) w.peer.sent
+
+    fy : State
+    fy = flushed w.peer w.own
+
+    by : Deaf w k m ⊎ Acts w k m → ((next fy m).numbers.next ≡ fx'.numbers.next) × ((next fy m).wishes ≡ fx'.wishes)
+    by (inl d) =
+        let old = h.peer.meeting.restart d.asked in
+        (ap (λ (q : State). q.numbers.next) d.same ∙ old.0 ∙ sym d.due.next, ap (λ (q : State). q.wishes) d.same ∙ old.1 ∙ sym d.due.same.wishes)
+    by (inr a) = absurd (turn _ (next_hears fy m (ap not a.listens)) r)
+      where
+        turn : (b : Bool) → not b ≡ true → b ≡ true → ⊥
+        turn true p q = cc
+        turn false p q = cc
+
+other_released : (w : Core) (k : Shift) (m : Meaning) (more : List Item) → Sending w k m more → Stands w → is_release_due (next (flushed w.peer w.own) m).phase ≡ true
+    → is_releasing (k.to w.own.session).phase ≡ true
+other_released w k m more g h r = by (runs w k m more g h).flush
+  where
+    fx : State
+    fx = flushed w.own w.peer
+
+    fx' : State
+    fx' = flush (k.to w.own.session) w.peer.sent
+
+    here : is_releasing fx'.phase ≡ true
+    here = implied_two (λ p q. matched p q && is_release_due q) (λ p q. is_releasing p) refl fx'.phase (next (flushed w.peer w.own) m).phase
+        (both (matched fx'.phase (next (flushed w.peer w.own) m).phase) (is_release_due (next (flushed w.peer w.own) m).phase) (meets_after w k m more g h) r)
+
+    by : Shifted k fx fx' → is_releasing (k.to w.own.session).phase ≡ true
+    by (inl (e, i)) = g.releasing fx i (ap (λ (q : State). is_releasing q.phase) (sym e) ∙ here)
+    by (inr d) = absurd (let n = excluded is_restart_due is_releasing refl fx'.phase d.other in let p = here in cc)
+
+peer_half : (w : Core) (k : Shift) (m : Meaning) (more : List Item) → Sending w k m more → Stands w → Half (turned_owners w.owner) w.peer (sender w.own (k.to w.own.session) m more)
+peer_half w k m more g h = record {
+  fits = fit_append w.peer.session w.own.sent m h.peer.fits (other_fits w k m more g h);
+  meeting = subst (λ (q : State). Meeting (turned_owners w.owner) w.peer.session q fx' (heard w.peer.session (w.own.sent ++ m ∷ [])) (k.to w.own.session)) (sym (other_end w m))
+      (subst (λ (q : State). Meeting (turned_owners w.owner) w.peer.session (next fy m) fx' q (k.to w.own.session)) (sym (other_heard w k m more g h))
+      (record {
+        meets = implied_two matched (λ p q. matched q p) refl fx'.phase (next fy m).phase (meets_after w k m more g h);
+        units = b.units ∙ h.peer.meeting.units ∙ sym a.units;
+        base = b.base ∙ h.peer.meeting.base ∙ sym a.base;
+        restart = other_restart w k m more g h;
+        connect = λ r. absurd (not_answering (runs w k m more g h).flush (implied_two (λ p q. matched p q && is_connecting q) (λ p q. is_answering p) refl fx'.phase (next fy m).phase
+            (both (matched fx'.phase (next fy m).phase) (is_connecting (next fy m).phase) (meets_after w k m more g h) r)));
+        holds = h.peer.meeting.holds;
+        wants = other_wants w k m more g h;
+        absent = λ t n. h.peer.meeting.absent t (ap (λ (u : FunctionalUnits). has (available u) t) (sym b.units) ∙ n);
+        released = other_released w k m more g h;
+      }));
+}
+  where
+    fx : State
+    fx = flushed w.own w.peer
+
+    fx' : State
+    fx' = flush (k.to w.own.session) w.peer.sent
+
+    fy : State
+    fy = flushed w.peer w.own
+
+    a : Still fx fx'
+    a = own_still w k m more g h
+
+    b : Still fy (next fy m)
+    b = other_still w k m more g
+
+    not_answering : Shifted k fx fx' → is_answering fx'.phase ≡ true → ⊥
+    not_answering (inl (e, j)) r = let n = ap (λ (q : State). is_answering q.phase) e ∙ excluded may_hold is_answering refl (k.to fx).phase (k.holds_after fx j) in cc
+    not_answering (inr d) r = let n = excluded is_restart_due is_answering refl fx'.phase d.other in cc
+
+-- ---- what was seen
+
+own_views : (w : Core) (k : Shift) (m : Meaning) (more : List Item) → Sending w k m more → Stands w
+    → Views (w.history ++ more) (sender w.own (k.to w.own.session) m more) w.peer
+own_views w k m more g h = record {
+  ends = λ l. shift_view k w.own.session w.peer.sent (w.own.view ++ more) g.now g.none h.own.fits ∙ g.sees (ap not (inv_listens k (hearing w.own w.peer) (runs w k m more g h).heard.1));
+  cut = λ r. absurd (
+      let l = after_listens k (hearing w.own w.peer) (runs w k m more g h).heard.1 in
+      let c = ap (λ (q : State). is_restarting q.phase) (sym (runs w k m more g h).heard.0) ∙ r in
+      cc);
+  due = λ r. absurd (let n = excluded may_hold is_restart_due refl (k.to w.own.session).phase (k.holds_after w.own.session g.now) in cc);
+  stream = λ d. streams (ap (λ (u : FunctionalUnits). u.duplex) (sym (own_still w k m more g h).units) ∙ d);
+}
+  where
+    streams : (flushed w.own w.peer).units.duplex ≡ true → (w.own.got ++ data_of w.peer.sent ≡ w.peer.said) × (w.history ++ more ≡ [])
+    streams d = let s = h.own_views.stream d in (s.0, ap (λ (v : List Item). w.history ++ v) (g.duplex d) ∙ append_nil w.history ∙ s.1)
+
+peer_sees : (w : Core) (k : Shift) (m : Meaning) (more : List Item) → Sending w k m more → Stands w → hears (next (flushed w.peer w.own) m).phase ≡ true
+    → heard_view w.peer.session (w.own.sent ++ m ∷ []) w.peer.view ≡ w.history ++ more
+peer_sees w k m more g h l = by (sides w k m more g h)
+  where
+    fy : State
+    fy = flushed w.peer w.own
+
+    was : List Item
+    was = heard_view w.peer.session w.own.sent w.peer.view
+
+    turn : (b : Bool) → not b ≡ true → b ≡ true → ⊥
+    turn true p q = cc
+    turn false p q = cc
+
+    by : Deaf w k m ⊎ Acts w k m → heard_view w.peer.session (w.own.sent ++ m ∷ []) w.peer.view ≡ w.history ++ more
+    by (inl d) = absurd (turn _ (ap (λ (q : State). hears q.phase) (sym d.same) ∙ l) d.asked)
+    by (inr a) =
+        view_append w.peer.session w.own.sent m w.peer.view h.peer.fits (owed w k m more g h)
+        ∙ ap (λ (b : Bool). if b then heard_view w.peer.session w.own.sent w.peer.view else view_next fy m (heard_view w.peer.session w.own.sent w.peer.view)) (g.quiet fy)
+        ∙ ap (λ (b : Bool). if b then heard_view w.peer.session w.own.sent w.peer.view else seen fy m (heard_view w.peer.session w.own.sent w.peer.view)) a.acts
+        ∙ g.shows fy (heard_view w.peer.session w.own.sent w.peer.view)
+        ∙ ap (λ (v : List Item). v ++ more) (h.peer_views.ends (ap (λ (q : State). hears q.phase) (heard_end w k m more g h) ∙ ap not a.listens))
+
+peer_views : (w : Core) (k : Shift) (m : Meaning) (more : List Item) → Sending w k m more → Stands w
+    → Views (w.history ++ more) w.peer (sender w.own (k.to w.own.session) m more)
+peer_views w k m more g h = record {
+  ends = λ l. peer_sees w k m more g h (ap (λ (q : State). hears q.phase) (sym (other_heard w k m more g h)) ∙ l);
+  cut = λ r. cuts (was (is_restarting (flushed w.peer w.own).phase) refl (ap (λ (q : State). is_restarting q.phase) (sym (other_heard w k m more g h)) ∙ r));
+  due = λ r. absurd (none_due_there w.owner w.own w.peer h.own h.peer (listens w k m more g) r);
+  stream = λ d. streams (ap (λ (u : FunctionalUnits). u.duplex) (sym (other_still w k m more g).units) ∙ ap (λ (q : State). q.units.duplex) (sym (other_end w m)) ∙ d);
+}
+  where
+    fy : State
+    fy = flushed w.peer w.own
+
+    was : (b : Bool) → is_restarting fy.phase ≡ b → is_restarting (next fy m).phase ≡ true → is_restarting fy.phase ≡ true
+    was true e r = e
+    was false e r = absurd (turn _ (next_hears fy m (ap not e)) r)
+      where
+        turn : (b : Bool) → not b ≡ true → b ≡ true → ⊥
+        turn true p q = cc
+        turn false p q = cc
+
+    cuts : is_restarting fy.phase ≡ true → w.peer.view ≡ cutat w.peer.session.base (w.history ++ more) w.peer.session.numbers.next
+    cuts r =
+        let c = h.peer_views.cut (ap (λ (q : State). is_restarting q.phase) (heard_end w k m more g h) ∙ r) in
+        c ∙ sym (cut_append w.peer.session.base w.peer.session.numbers.next w.history more w.peer.view c h.consistent.peer.count)
+
+    streams : fy.units.duplex ≡ true → (w.peer.got ++ data_of (w.own.sent ++ m ∷ []) ≡ w.own.said ++ []) × (w.history ++ more ≡ [])
+    streams d =
+        let s = h.peer_views.stream d in
+        let e = data_append w.own.sent (m ∷ []) ∙ ap (λ (r : List (List ℕ)). data_of w.own.sent ++ (r ++ [])) g.empty ∙ append_nil (data_of w.own.sent) in (
+          ap (λ (r : List (List ℕ)). w.peer.got ++ r) e ∙ s.0 ∙ sym (append_nil w.own.said),
+          ap (λ (v : List Item). w.history ++ v) (g.duplex (ap (λ (u : FunctionalUnits). u.duplex) h.own.meeting.units ∙ d)) ∙ append_nil w.history ∙ s.1,
+        )
+
+-- ---- the numbers
+
+own_counts : (w : Core) (k : Shift) (m : Meaning) (more : List Item) → Sending w k m more → Stands w → Counts (sender w.own (k.to w.own.session) m more) w.peer
+own_counts w k m more g h =
+    subst (λ (q : State). Counting (k.to w.own.session) (heard (k.to w.own.session) w.peer.sent) q w.peer.session) (sym (other_heard w k m more g h))
+    (subst (λ (q : State). Counting (k.to w.own.session) q (next (flushed w.peer w.own) m) w.peer.session) (sym (runs w k m more g h).heard.0)
+    (record { flag = g.flag; below = g.below; reach = g.reach }))
+
+peer_counts : (w : Core) (k : Shift) (m : Meaning) (more : List Item) → Sending w k m more → Stands w → Counts w.peer (sender w.own (k.to w.own.session) m more)
+peer_counts w k m more g h =
+    subst (λ (q : State). Counting w.peer.session q (heard (k.to w.own.session) w.peer.sent) (k.to w.own.session)) (sym (other_heard w k m more g h))
+    (subst (λ (q : State). Counting w.peer.session (next (flushed w.peer w.own) m) q (k.to w.own.session)) (sym (runs w k m more g h).heard.0)
+    (record {
+      flag = g.other_flag;
+      below = λ l n from. g.other_below n (subst (λ (b : ℕ). b ≤ n) (other_still w k m more g).base from);
+      reach = g.other_reach;
+    }))
+
+-- ---- both at once
+
+pair_after : (w : Core) (k : Shift) (m : Meaning) (more : List Item) → Sending w k m more → Stands w
+    → Pair (w.history ++ more) (sender w.own (k.to w.own.session) m more) w.peer
+pair_after w k m more g h =
+    let e = own_still w k m more g h in
+    record {
+      numbered = subst (λ (b : ℕ). AreNumberedFrom b (w.history ++ more)) (sym e.base) (g.numbered h.pair.numbered);
+      one_way = λ d. g.one_way (ap (λ (u : FunctionalUnits). u.half_duplex) (sym e.units) ∙ d);
+      callers = h.pair.callers ∙ ap not (sym (k.same w.own.session g.now).is_caller);
+      profile = subst IsOfProfile (sym e.units) h.pair.profile;
+    }
+
+pub sending_stands : (w : Core) (k : Shift) (m : Meaning) (more : List Item) → Sending w k m more → Stands w
+    → AreConsistent (after_sending w (k.to w.own.session) m more) → Stands (after_sending w (k.to w.own.session) m more)
+sending_stands w k m more g h c = record {
+  consistent = c;
+  own = own_half w k m more g h;
+  peer = peer_half w k m more g h;
+  own_views = own_views w k m more g h;
+  peer_views = peer_views w k m more g h;
+  own_counts = own_counts w k m more g h;
+  peer_counts = peer_counts w k m more g h;
+  pair = pair_after w k m more g h;
+}

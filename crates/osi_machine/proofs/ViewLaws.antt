@@ -1,0 +1,178 @@
+-- What will have been seen before a restart that stands: its points are counted by V(M), and there are no
+-- fewer of them than now.
+use Rattle.std.proofs.Common.{◌≡◌, refl, sym, ◌∙◌, ap, subst, ℕ, ◌+◌, ◌≤◌, Bool, true, false, if◌then◌else◌, List, [], ◌∷◌, ◌++◌, arith}
+use Rattle.osi_machine.specs.Floor.{State, Meaning, CN, AC, RF, DT, GT, PT, MIP, MIA, MAP, MAA, RS, RA, FN, DN, NF, AB, AA, is_wait_cn, is_connecting, is_ready, takes_data, is_major_due, is_acceptable, point_taken, minor_confirmed, major_confirmed, becomes, drops, next, Good}
+use Rattle.osi_machine.specs.Histories.{Item, Octets, Point, points, minor_kind, major_point, cutat, AreNumberedFrom}
+use Rattle.osi_machine.specs.Taking.{seen}
+use Rattle.osi_machine.specs.Channels.{is_plain, Fits, AllFit, stops, heard, view_next, heard_view}
+use Rattle.osi_machine.specs.Parties.{is_opening}
+use Rattle.osi_machine.proofs.PhaseLaws.{implied, excluded}
+use Rattle.osi_machine.proofs.Units.{next_acted}
+use Rattle.osi_machine.proofs.NumberLaws.{Turned, heard_turned}
+use Rattle.osi_machine.proofs.HistoryLaws.{points_append}
+
+-- what holds of each state and view up to a restart that stands, or of all
+pub until_heard : (P : State → List Item → Type 0) → ((s : State) (u : Meaning) (v : List Item) → Fits s u → stops s u ≡ false → P s v → P (next s u) (view_next s u v)) →
+    (s : State) (us : List Meaning) (v : List Item) → P s v → AllFit s us → P (heard s us) (heard_view s us v)
+until_heard P step s [] v h f = h
+until_heard P step s (u ∷ us) v h f =
+    by (stops s u) refl (λ e. until_heard P step (next s u) us (view_next s u v) (step s u v f.0 e h) f.1)
+  where
+    by : (b : Bool) → stops s u ≡ b → (stops s u ≡ false → P (heard (next s u) us) (heard_view (next s u) us (view_next s u v)))
+        → P (if b then s else heard (next s u) us) (if b then v else heard_view (next s u) us (view_next s u v))
+    by true e more = h
+    by false e more = more e
+
+-- one unit that fits: it is discarded, or acted on
+pub view_cases : (P : State → List Item → Type 0) (s : State) (u : Meaning) (v : List Item) → Fits s u → P s v → (Good s u → P (becomes s u) (seen s u v)) → P (next s u) (view_next s u v)
+view_cases P s u v f h k = by (drops s u) refl
+  where
+    by : (b : Bool) → drops s u ≡ b → P (if b then s else becomes s u) (if b then v else seen s u v)
+    by true d = h
+    by false d = k (f.good d)
+
+-- ---- V(M) counts
+
+pub record Counted (s : State) (v : List Item) : Type 0 where
+  pub count : s.numbers.next ≡ s.base + points v
+  pub fresh : is_opening s.phase ≡ true → v ≡ []
+
+one_octets : (n base : ℕ) (b : Bool) (octets : List ℕ) (v : List Item) → n ≡ base + points v → n ≡ base + points (if b then v else v ++ Octets octets ∷ [])
+one_octets n base true octets v h = h
+one_octets n base false octets v h = let e = points_append v (Octets octets ∷ []) in omega arith
+
+one_point : (n base : ℕ) (v : List Item) (i : Item) → points (i ∷ []) ≡ 1 → n ≡ base + points v → n + 1 ≡ base + points (v ++ i ∷ [])
+one_point n base v i one h = let e = points_append v (i ∷ []) in omega arith
+
+none_counted : (base : ℕ) (v : List Item) → v ≡ [] → base ≡ base + points v
+none_counted base v e = rw e (omega arith)
+
+chosen : (P : State → Type 0) (b : Bool) (x y : State) → P x → P y → P (if b then x else y)
+chosen P true x y h k = h
+chosen P false x y h k = k
+
+becomes_counted : (s : State) (u : Meaning) (v : List Item) → is_plain u ≡ true → Good s u → stops s u ≡ false → Counted s v → Counted (becomes s u) (seen s u v)
+unfolding point_taken minor_confirmed major_confirmed
+becomes_counted s (CN w r n x from to o) v p g st h =
+    let e = h.fresh (implied is_wait_cn is_opening refl s.phase g.expected) in
+    chosen (λ q. Counted q v) (is_acceptable w r) _ _ (record { count = h.count; fresh = λ k. e }) (record { count = h.count; fresh = λ k. e })
+becomes_counted s (AC w r n x o) v p g st h =
+    record { count = none_counted _ v (h.fresh (implied is_connecting is_opening refl s.phase g.expected)); fresh = λ k. absurd (cc) }
+becomes_counted s (RF r o) v p g st h = absurd (cc)
+becomes_counted s (DT o) v p g st h = record { count = one_octets _ _ s.units.duplex o v h.count; fresh = λ k. absurd (let e = excluded takes_data is_opening refl s.phase g.expected in cc) }
+becomes_counted s (GT k) v p g st h = record { count = h.count; fresh = h.fresh }
+becomes_counted s (PT k o) v p g st h = h
+becomes_counted s (MIP c n o) v p g st h = record {
+  count = one_point _ _ v (Point n (minor_kind c) o) refl h.count;
+  fresh = λ k. absurd (let e = excluded is_ready is_opening refl s.phase g.expected in cc);
+}
+becomes_counted s (MIA n o) v p g st h = record { count = h.count; fresh = h.fresh }
+becomes_counted s (MAP n o) v p g st h = record { count = one_point _ _ v (Point n major_point o) refl h.count; fresh = λ k. absurd (cc) }
+becomes_counted s (MAA n o) v p g st h = record { count = h.count; fresh = λ k. absurd (cc) }
+becomes_counted s (RS j n w o) v p g st h = rw st h
+becomes_counted s (RA n w o) v p g st h = record { count = h.count; fresh = λ k. absurd (cc) }
+becomes_counted s (FN o) v p g st h = record { count = h.count; fresh = λ k. absurd (cc) }
+becomes_counted s (DN o) v p g st h = absurd (cc)
+becomes_counted s (NF o) v p g st h = record { count = h.count; fresh = λ k. absurd (cc) }
+becomes_counted s (AB b o) v p g st h = absurd (cc)
+becomes_counted s AA v p g st h = absurd (cc)
+
+pub heard_counted : (s : State) (us : List Meaning) (v : List Item) → Counted s v → AllFit s us → Counted (heard s us) (heard_view s us v)
+heard_counted = until_heard Counted (λ s u v f st h. view_cases Counted s u v f h (λ g. becomes_counted s u v f.plain g st h))
+
+-- ---- points are added alone
+
+more_or_same : (b : Bool) (v w : List Item) (k : ℕ) → k ≤ points v → k ≤ points (if b then v else v ++ w)
+more_or_same true v w k h = h
+more_or_same false v w k h = let e = points_append v w in omega arith
+
+seen_more : (s : State) (u : Meaning) (v : List Item) (k : ℕ) → stops s u ≡ false → k ≤ points v → k ≤ points (seen s u v)
+seen_more s (DT o) v k st h = more_or_same s.units.duplex v (Octets o ∷ []) k h
+seen_more s (MIP c n o) v k st h = more_or_same false v (Point n (minor_kind c) o ∷ []) k h
+seen_more s (MAP n o) v k st h = more_or_same false v (Point n major_point o ∷ []) k h
+seen_more s (RS j n w o) v k st h = rw st h
+seen_more s _ v k st h = h
+
+pub view_grows : (s : State) (us : List Meaning) (v : List Item) → AllFit s us → points v ≤ points (heard_view s us v)
+view_grows s us v f = until_heard (λ q w. points v ≤ points w)
+    (λ q u w g st h. view_cases (λ r x. points v ≤ points x) q u w g h (λ a. seen_more q u w (points v) st h)) s us v (omega arith) f
+
+-- where an answer to a major point comes to be due, there is one point more
+abbrev DueAbove : ℕ → State → List Item → Type 0
+DueAbove k s v = (k ≤ points v) × (is_major_due s.phase ≡ true → k + 1 ≤ points v)
+
+becomes_above : (k : ℕ) (s : State) (u : Meaning) (v : List Item) → is_plain u ≡ true → Good s u → stops s u ≡ false → DueAbove k s v → DueAbove k (becomes s u) (seen s u v)
+becomes_above k s (CN w r n x from to o) v p g st h =
+    chosen (λ q. DueAbove k q v) (is_acceptable w r) _ _ (h.0, λ e. absurd (cc)) (h.0, λ e. absurd (cc))
+becomes_above k s (AC w r n x o) v p g st h = (h.0, λ e. absurd (cc))
+becomes_above k s (RF r o) v p g st h = absurd (cc)
+becomes_above k s (DT o) v p g st h = (more_or_same s.units.duplex v (Octets o ∷ []) k h.0, λ e. more_or_same s.units.duplex v (Octets o ∷ []) (k + 1) (h.1 e))
+becomes_above k s (GT j) v p g st h = h
+becomes_above k s (PT j o) v p g st h = h
+becomes_above k s (MIP c n o) v p g st h = (more_or_same false v (Point n (minor_kind c) o ∷ []) k h.0, λ e. more_or_same false v (Point n (minor_kind c) o ∷ []) (k + 1) (h.1 e))
+becomes_above k s (MIA n o) v p g st h = h
+becomes_above k s (MAP n o) v p g st h =
+    let e = points_append v (Point n major_point o ∷ []) in
+    let a = h.0 in
+    (omega arith, λ d. omega arith)
+becomes_above k s (MAA n o) v p g st h = (h.0, λ e. absurd (cc))
+becomes_above k s (RS j n w o) v p g st h = rw st h
+becomes_above k s (RA n w o) v p g st h = (h.0, λ e. absurd (cc))
+becomes_above k s (FN o) v p g st h = (h.0, λ e. absurd (cc))
+becomes_above k s (DN o) v p g st h = absurd (cc)
+becomes_above k s (NF o) v p g st h = (h.0, λ e. absurd (cc))
+becomes_above k s (AB b o) v p g st h = absurd (cc)
+becomes_above k s AA v p g st h = absurd (cc)
+
+pub major_came : (s : State) (us : List Meaning) (v : List Item) → is_major_due s.phase ≡ false → AllFit s us → is_major_due (heard s us).phase ≡ true
+    → points v + 1 ≤ points (heard_view s us v)
+major_came s us v n f d =
+    (until_heard (DueAbove (points v)) (λ q u w g st h. view_cases (DueAbove (points v)) q u w g h (λ a. becomes_above (points v) q u w g.plain a st h))
+    s us v (omega arith, λ e. absurd (cc)) f).1 d
+
+-- ---- where points are not taken last, none was seen
+
+minor_turned : (s : State) (c : Bool) (i : ℕ) (o : List ℕ) → is_ready s.phase ≡ true → Turned (becomes s (MIP c i o))
+unfolding point_taken
+minor_turned s c i o a = record { phase = excluded is_ready is_opening refl s.phase a; answers = refl }
+
+major_turned : (s : State) (i : ℕ) (o : List ℕ) → Turned (becomes s (MAP i o))
+unfolding point_taken
+major_turned s i o = record { phase = refl; answers = refl }
+
+pub unseen : (s : State) (us : List Meaning) (v : List Item) → AllFit s us → (heard s us).numbers.answers ≡ false → points (heard_view s us v) ≡ points v
+unseen s [] v f n = refl
+unseen s (u ∷ us) v f n = by (stops s u) refl (λ m. unseen (next s u) us (view_next s u v) f.1 m) n
+  where
+    none_shown : (w : Meaning) → Fits s w → AllFit (next s w) us → stops s w ≡ false → (heard (next s w) us).numbers.answers ≡ false → drops s w ≡ false → points (seen s w v) ≡ points v
+    none_shown (DT o) g more st m d = sym (one_octets (points v) 0 s.units.duplex o v (omega arith) ∙ omega arith)
+    none_shown (MIP c i o) g more st m d = absurd (
+        let a = (g.good d).expected in
+        let t = heard_turned (next s (MIP c i o)) us (subst Turned (sym (next_acted s (MIP c i o) d)) (minor_turned s c i o a)) more in
+        let x = t.answers in
+        cc)
+    none_shown (MAP i o) g more st m d = absurd (
+        let t = heard_turned (next s (MAP i o)) us (subst Turned (sym (next_acted s (MAP i o) d)) (major_turned s i o)) more in
+        let x = t.answers in
+        cc)
+    none_shown (RS j i w o) g more st m d = ap points (ap (λ (b : Bool). if b then cutat s.base v i else v) st)
+    none_shown _ g more st m d = refl
+
+    shown : stops s u ≡ false → (heard (next s u) us).numbers.answers ≡ false → points (view_next s u v) ≡ points v
+    shown st m = each (drops s u) refl
+      where
+        each : (b : Bool) → drops s u ≡ b → points (if b then v else seen s u v) ≡ points v
+        each true d = refl
+        each false d = none_shown u f.0 f.1 st m d
+
+    by : (b : Bool) → stops s u ≡ b → ((heard (next s u) us).numbers.answers ≡ false → points (heard_view (next s u) us (view_next s u v)) ≡ points (view_next s u v))
+        → (if b then s else heard (next s u) us).numbers.answers ≡ false → points (if b then v else heard_view (next s u) us (view_next s u v)) ≡ points v
+    by true e more m = refl
+    by false e more m = more m ∙ shown e m
+
+-- ---- one point more
+
+pub numbered_point : (b : ℕ) (h : List Item) (i : Item) → AreNumberedFrom (b + points h) (i ∷ []) → AreNumberedFrom b h → AreNumberedFrom b (h ++ i ∷ [])
+numbered_point b [] i e a = subst (λ (n : ℕ). AreNumberedFrom n (i ∷ [])) (omega arith) e
+numbered_point b (Octets o ∷ h) i e a = numbered_point b h i e a
+numbered_point b (Point n kind o ∷ h) i e a = (a.0, numbered_point (b + 1) h i (subst (λ (n : ℕ). AreNumberedFrom n (i ∷ [])) (omega arith) e) a.1)
