@@ -19,3 +19,4 @@ pub mod Meetings
 pub mod Coming
 pub mod InFront
 pub mod Pieces
+pub mod ToldOpen

@@ -17,3 +17,4 @@ pub mod Messages
 pub mod Meeting
 pub mod Coming
 pub mod Runs
+pub mod Told

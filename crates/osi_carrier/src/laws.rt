@@ -1,6 +1,6 @@
 //! Laws of carriers. Each function does nothing: its clauses are the laws.
 
-ghost use Rattle.std.specs.Prelude.{◌≡◌, ◌<◌, ◌≤◌, ◌^◌, ℕ, Bool, List, [], Option, None};
+ghost use Rattle.std.specs.Prelude.{◌≡◌, ◌<◌, ◌≤◌, ◌^◌, ◌==◌, ◌&&◌, not, ℕ, Bool, List, [], Option, None};
 ghost use Rattle.std.specs.List.{flat_map};
 ghost use Rattle.osi_tpkt.specs.Packet.{IsPartial};
 ghost use Rattle.osi_tpdu.specs.Value.{Value};
@@ -13,6 +13,7 @@ ghost use Rattle.osi_carrier.specs.React.{react};
 ghost use Rattle.osi_carrier.specs.Rows.{value_at};
 ghost use Rattle.osi_carrier.specs.Runs.{Call, CallsAlong, Reads, AreAlike, called_in, used_in};
 ghost use Rattle.osi_carrier.specs.State.{State, ends};
+ghost use Rattle.osi_carrier.specs.Told.{TellsOpen, is_open};
 ghost use Rattle.osi_carrier.specs.declared.ends.EndReason.{EndReason};
 
 use osi_tpkt::laws::{a_prefix_of_a_packet, a_stream_has_one_cut};
@@ -59,3 +60,15 @@ pub fn the_pieces_do_not_matter()
     a_prefix_of_a_packet();
     a_stream_has_one_cut();
 }
+
+/// The events tell which connections are open, one by one: where the carrier has not ended, a connection
+/// is open exactly where it was and no event told that it closed or faulted, or where an event told that
+/// it opened. Of the calls a close alone changes that.
+pub fn what_is_open_is_told()
+    ensures unit { (unit : Value) (s : State) (r : ℕ) → IsOrderly s → (react unit s).ended ≡ None → TellsOpen r s (react unit s) }
+    ensures packet { (packet : List ℕ) (s : State) (r : ℕ) → IsOrderly s → (after_packet s packet).ended ≡ None → TellsOpen r s (after_packet s packet) }
+    ensures asks { (calling called : Option (List ℕ)) (s : State) (r : ℕ) → IsOrderly s → is_open r (asks calling called s) ≡ is_open r s }
+    ensures sent { (q r : ℕ) (tsdu : List ℕ) (s : State) → is_open r (sent q tsdu s) ≡ is_open r s }
+    ensures closed { (q r reason : ℕ) (s : State) → (closed_with q reason s).ended ≡ None →
+        is_open r (closed_with q reason s) ≡ (is_open r s && not (q == r)) }
+{}
