@@ -21,6 +21,7 @@ pub mod PhaseLaws
 pub mod PleaseCall
 pub mod PointCall
 pub mod Profiles
+pub mod Promises
 pub mod Records
 pub mod ReleaseCall
 pub mod RestartCall

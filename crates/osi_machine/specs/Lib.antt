@@ -6,5 +6,6 @@ pub mod Histories
 pub mod Machine
 pub mod Owners
 pub mod Parties
+pub mod Promises
 pub mod Taking
 pub mod Worlds

@@ -7,6 +7,7 @@ ghost use Rattle.osi_machine.specs.Examples.{all_tokens, lost_give_seen, after_l
 ghost use Rattle.osi_machine.specs.Floor.{no_token};
 ghost use Rattle.osi_machine.specs.Machine.{run, start, step};
 ghost use Rattle.osi_machine.specs.Parties.{AreConsistent, IsNumberedStep};
+ghost use Rattle.osi_machine.specs.Promises.{IsReached, OfBoth, OneHolder, HoldsItsOwn, TakesNoFault, SeesTheHistory, ViewsAgree, GotWhatWasSaid, TakesTheNextItem, ConfirmedIsSeen};
 ghost use Rattle.osi_machine.specs.Worlds.{accepts, class_2};
 
 use osi_session::laws as session;
@@ -19,6 +20,60 @@ pub fn what_is_true_of_each_side()
     ensures begins { (o : Offer) → o.serial < 1000000 → AreConsistent (core_start o) }
     ensures kept { (w : Core) (steps : List CoreStep) → AllByRecursion IsNumberedStep steps → AreConsistent w →
         AreConsistent (core_run w steps) }
+{
+    session::numbers_stay_in_order();
+    session::what_is_sent_can_be_sent();
+    session::what_two_units_do();
+}
+
+/// However a connection came about by calls and units taken: no token is held by both sides, and each
+/// side holds the tokens that it owns.
+pub fn one_holder()
+    ensures both { (w : Core) → IsReached w → OneHolder w }
+    ensures own { (w : Core) → IsReached w → OfBoth HoldsItsOwn w }
+{
+    session::numbers_stay_in_order();
+    session::what_is_sent_can_be_sent();
+    session::what_two_units_do();
+}
+
+/// No unit that either side sends is a fault at the other: it is discarded, or answered as the table of
+/// good units says.
+pub fn no_fault()
+    ensures { (w : Core) → IsReached w → OfBoth TakesNoFault w }
+{
+    session::numbers_stay_in_order();
+    session::what_is_sent_can_be_sent();
+    session::what_two_units_do();
+}
+
+/// What a side has seen is how the history begins, so that one of both views begins with the other: each
+/// point that is in both has in both the same number and kind, the same octets, and the same items
+/// before it. With duplex, what a side got is how what the other said begins.
+pub fn agreement()
+    ensures history { (w : Core) → IsReached w → OfBoth SeesTheHistory w }
+    ensures views { (w : Core) → IsReached w → ViewsAgree w }
+    ensures duplex { (w : Core) → IsReached w → OfBoth GotWhatWasSaid w }
+{
+    session::numbers_stay_in_order();
+    session::what_is_sent_can_be_sent();
+    session::what_two_units_do();
+}
+
+/// Data or a point that is taken is the item of the history that comes behind all that its taker has
+/// seen.
+pub fn next_item()
+    ensures { (w : Core) → IsReached w → OfBoth TakesTheNextItem w }
+{
+    session::numbers_stay_in_order();
+    session::what_is_sent_can_be_sent();
+    session::what_two_units_do();
+}
+
+/// A point that a side has seen, and whose number is below its V(A), was seen by the other too, behind
+/// the same items; unless the other has asked for a restart and awaits the answer.
+pub fn confirmed_is_seen()
+    ensures { (w : Core) → IsReached w → OfBoth ConfirmedIsSeen w }
 {
     session::numbers_stay_in_order();
     session::what_is_sent_can_be_sent();
