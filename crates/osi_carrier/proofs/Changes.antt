@@ -23,9 +23,9 @@ use Rattle.osi_carrier.proofs.Reacts.{react_quiet}
 
 -- another connection at the reference
 changes_put : (n : ℕ) (s t : State) (x z : Connection) (us : List Value) (es : List Happening) → IsOrderly s → value_at n s.live ≡ Some z →
-    t.live ≡ put n x s.live → t.outgoing ≡ s.outgoing ++ packets us → t.events ≡ s.events ++ es → t.ended ≡ s.ended → t.class ≡ s.class → t.given ≡ s.given →
+    t.live ≡ put n x s.live → t.outgoing ≡ s.outgoing ++ packets us → t.events ≡ s.events ++ es → t.ended ≡ s.ended → t.class ≡ s.class → t.given ≡ s.given → t.local ≡ s.local → t.is_caller ≡ s.is_caller →
     Changes n s t (Some x) us es
-changes_put n s t x z us es orderly at live outgoing events ended class given = record {
+changes_put n s t x z us es orderly at live outgoing events ended class given local is_caller = record {
   here = ap (value_at n) live ∙ put_here n x z s.live at;
   others = λ m other. ap (value_at m) live ∙ put_other m n x s.live other;
   outgoing = outgoing;
@@ -33,13 +33,15 @@ changes_put n s t x z us es orderly at live outgoing events ended class given = 
   ended = ended;
   class = class;
   given = given;
+  local = local;
+  is_caller = is_caller;
 }
 
 -- none at the reference
 changes_drop : (n : ℕ) (s t : State) (us : List Value) (es : List Happening) → IsOrderly s →
-    t.live ≡ without n s.live → t.outgoing ≡ s.outgoing ++ packets us → t.events ≡ s.events ++ es → t.ended ≡ s.ended → t.class ≡ s.class → t.given ≡ s.given →
+    t.live ≡ without n s.live → t.outgoing ≡ s.outgoing ++ packets us → t.events ≡ s.events ++ es → t.ended ≡ s.ended → t.class ≡ s.class → t.given ≡ s.given → t.local ≡ s.local → t.is_caller ≡ s.is_caller →
     Changes n s t None us es
-changes_drop n s t us es orderly live outgoing events ended class given = record {
+changes_drop n s t us es orderly live outgoing events ended class given local is_caller = record {
   here = ap (value_at n) live ∙ without_here n s.live orderly.rise;
   others = λ m other. ap (value_at m) live ∙ without_other m n s.live other;
   outgoing = outgoing;
@@ -47,6 +49,8 @@ changes_drop n s t us es orderly live outgoing events ended class given = record
   ended = ended;
   class = class;
   given = given;
+  local = local;
+  is_caller = is_caller;
 }
 
 -- nothing
@@ -59,6 +63,8 @@ changes_none n s o orderly at = record {
   ended = refl;
   class = refl;
   given = refl;
+  local = refl;
+  is_caller = refl;
 }
 
 -- ---- a unit goes to the connection that it names
@@ -108,7 +114,7 @@ given_changes n s link t g quiet class orderly two at ok =
     let es = map (tsdu n) (take 1 t.ends.joining.whole) in
     let x = linked n (pumped (handed_out t)) in
     subst (λ (r : State). Changes n s r (Some x) us es) (sym does)
-    (changes_put n s (taking n n (Ok t) s) x (linked n link) us es orderly at refl refl refl refl refl refl)
+    (changes_put n s (taking n n (Ok t) s) x (linked n link) us es orderly at refl refl refl refl refl refl refl refl)
 
 -- a DT or an AK that is ignored
 pub given_ignored : (n : ℕ) (s : State) (g : Given) → s.ended ≡ None → s.class ≡ Some Two → IsOrderly s → is_of_two g ≡ true →
@@ -126,7 +132,7 @@ leaving_changes n s link reason quiet class orderly at =
     react_two (leaving n reason) s quiet class ∙ leaving_to s.is_caller n n reason s ∙ at_connection n (Some (linked n link)) (leaving n reason) s at
     ∙ ap (λ (k : Option Class). leaves n n reason k s) class in
     subst (λ (r : State). Changes n s r None (disconnected n n ∷ []) (closed n reason ∷ [])) (sym does)
-    (changes_drop n s (leaves n n reason (Some Two) s) (disconnected n n ∷ []) (closed n reason ∷ []) orderly refl refl refl refl refl refl)
+    (changes_drop n s (leaves n n reason (Some Two) s) (disconnected n n ∷ []) (closed n reason ∷ []) orderly refl refl refl refl refl refl refl refl)
 
 -- a DR or a DC to a connection that is closing
 pub crossed_changes : (n : ℕ) (s : State) (reason : ℕ) → s.ended ≡ None → s.class ≡ Some Two → IsOrderly s →
@@ -135,7 +141,7 @@ crossed_changes n s reason quiet class orderly at =
     let does : react (leaving n reason) s ≡ to_closing n (leaving n reason) s =
     react_two (leaving n reason) s quiet class ∙ leaving_to s.is_caller n n reason s ∙ at_connection n (Some (closing n)) (leaving n reason) s at in
     subst (λ (r : State). Changes n s r None [] []) (sym does)
-    (changes_drop n s (to_closing n (leaving n reason) s) [] [] orderly refl (sym (append-nil s.outgoing)) (sym (append-nil s.events)) refl refl refl)
+    (changes_drop n s (to_closing n (leaving n reason) s) [] [] orderly refl (sym (append-nil s.outgoing)) (sym (append-nil s.events)) refl refl refl refl refl)
 
 pub over_changes : (n : ℕ) (s : State) → s.ended ≡ None → s.class ≡ Some Two → IsOrderly s →
     value_at n s.live ≡ Some (closing n) → Changes n s (react (disconnected n n) s) None [] []
@@ -143,7 +149,7 @@ over_changes n s quiet class orderly at =
     let does : react (disconnected n n) s ≡ to_closing n (disconnected n n) s =
     react_two (disconnected n n) s quiet class ∙ over_to s.is_caller n n s ∙ at_connection n (Some (closing n)) (disconnected n n) s at in
     subst (λ (r : State). Changes n s r None [] []) (sym does)
-    (changes_drop n s (to_closing n (disconnected n n) s) [] [] orderly refl (sym (append-nil s.outgoing)) (sym (append-nil s.events)) refl refl refl)
+    (changes_drop n s (to_closing n (disconnected n n) s) [] [] orderly refl (sym (append-nil s.outgoing)) (sym (append-nil s.events)) refl refl refl refl refl)
 
 -- ---- what each call does
 
@@ -156,7 +162,7 @@ send_changes n s link octets quiet orderly at =
     let us = addressed n (all_given (with_tsdu link octets)) in
     let x = linked n (pumped (with_tsdu link octets)) in
     subst (λ (r : State). Changes n s r (Some x) us []) (sym (ap (λ (o : Option (ℕ × Standing)). sent_on n octets o s) (open_is_linked n s link quiet at)))
-    (changes_put n s (sent_on n octets (Some (n, link)) s) x (linked n link) us [] orderly at refl refl (sym (append-nil s.events)) refl refl refl)
+    (changes_put n s (sent_on n octets (Some (n, link)) s) x (linked n link) us [] orderly at refl refl (sym (append-nil s.events)) refl refl refl refl refl)
 
 pub close_changes : (n : ℕ) (s : State) (link : Standing) (reason : ℕ) → s.ended ≡ None → s.class ≡ Some Two → IsOrderly s → value_at n s.live ≡ Some (linked n link) →
     Changes n s (closed_with n reason s) (Some (closing n)) (leaving n reason ∷ []) []
@@ -164,4 +170,4 @@ close_changes n s link reason quiet class orderly at =
     let does : closed_with n reason s ≡ closes n n reason (Some Two) s =
     ap (λ (o : Option (ℕ × Standing)). closed_on n reason o s) (open_is_linked n s link quiet at) ∙ ap (λ (k : Option Class). closes n n reason k s) class in
     subst (λ (r : State). Changes n s r (Some (closing n)) (leaving n reason ∷ []) []) (sym does)
-    (changes_put n s (closes n n reason (Some Two) s) (closing n) (linked n link) (leaving n reason ∷ []) [] orderly at refl refl (sym (append-nil s.events)) refl refl refl)
+    (changes_put n s (closes n n reason (Some Two) s) (closing n) (linked n link) (leaving n reason ∷ []) [] orderly at refl refl (sym (append-nil s.events)) refl refl refl refl refl)

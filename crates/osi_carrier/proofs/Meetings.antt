@@ -4,8 +4,9 @@ use Rattle.std.proofs.lemmas.List.{append-nil, map-append}
 use Rattle.osi_tpdu.specs.Value.{Value, disconnected}
 use Rattle.osi_class.specs.Between.{LinkPair, swapped, AreOfClass, IsShortTsdu}
 use Rattle.osi_class.specs.Giving.{all_given}
-use Rattle.osi_class.specs.Link.{Standing, Given, unit_of, is_of_two, with_tsdu}
+use Rattle.osi_class.specs.Link.{Standing, Given, part0, part2, ack, unit_of, is_of_two, with_tsdu}
 use Rattle.osi_class.specs.declared.terms.Class.TheVariants.{Two}
+use Rattle.osi_carrier.specs.Addresses.{reference_of, AreFor}
 use Rattle.osi_carrier.specs.Calls.{sent, closed_with}
 use Rattle.osi_carrier.specs.Happenings.{tsdu, closed}
 use Rattle.osi_carrier.specs.Meeting.{Meeting, talking, left_here, left_there, left_both, waiting_here, waiting_there, parted, mirror, here, addressed, leaving, farewell, out, back, Stands, Moves}
@@ -56,19 +57,28 @@ mirror_twice parted = refl
 
 -- ---- units of class 2
 
-class_end : (us vs : List Given) → AreOfClass true (us ++ vs) → AreOfClass true vs
+pub class_end : (us vs : List Given) → AreOfClass true (us ++ vs) → AreOfClass true vs
 class_end [] vs h = h
 class_end (u ∷ us) vs h = class_end us vs h.1
 
-class_join : (us vs : List Given) → AreOfClass true us → AreOfClass true vs → AreOfClass true (us ++ vs)
+pub class_join : (us vs : List Given) → AreOfClass true us → AreOfClass true vs → AreOfClass true (us ++ vs)
 class_join [] vs a b = b
 class_join (u ∷ us) vs a b = (a.0, class_join us vs a.1 b)
 
-addressed_join : (n : ℕ) (us vs : List Given) → addressed n (us ++ vs) ≡ addressed n us ++ addressed n vs
+pub addressed_join : (n : ℕ) (us vs : List Given) → addressed n (us ++ vs) ≡ addressed n us ++ addressed n vs
 addressed_join n us vs = map-append (unit_of n) us vs
 
 first_two : (p : LinkPair) (g : Given) (gs : List Given) → AreOpen true p → p.leftward ≡ g ∷ gs → is_of_two g ≡ true
 first_two p g gs a e = (subst (λ (us : List Given). AreOfClass true us) e a.agree.agree_back.class).0
+
+unit_for : (n : ℕ) (g : Given) → is_of_two g ≡ true → reference_of (unit_of n g) ≡ n
+unit_for n (part0 end octets) e = cc
+unit_for n (part2 number end octets) e = refl
+unit_for n (ack number credit) e = refl
+
+pub addressed_for : (n : ℕ) (gs : List Given) → AreOfClass true gs → AreFor n (addressed n gs)
+addressed_for n [] h = tt
+addressed_for n (g ∷ gs) h = (unit_for n g h.0, addressed_for n gs h.1)
 
 -- ---- a unit is taken here
 
@@ -81,6 +91,7 @@ take_talking n s p g gs some quiet class orderly at a e =
       units = addressed n (all_given (handed_out t.link));
       events = map (tsdu n) (take 1 t.link.ends.joining.whole);
       changes = given_changes n s p.left t.link g quiet class orderly (first_two p g gs a e) at t.taken;
+      all_for = addressed_for n (all_given (handed_out t.link)) (class_end p.rightward (all_given (handed_out t.link)) t.passes.stay_open.agree.agree.class);
       there = refl;
       out = addressed_join n p.rightward (all_given (handed_out t.link));
       back = ap (addressed n) e;
@@ -100,6 +111,7 @@ take_behind n s p hs reason g gs some quiet class orderly at a two e =
       units = addressed n given;
       events = map (tsdu n) (take 1 t.link.ends.joining.whole);
       changes = given_changes n s p.left t.link g quiet class orderly (first_two p g gs a e) at t.taken;
+      all_for = addressed_for n (all_given (handed_out t.link)) (class_end p.rightward (all_given (handed_out t.link)) t.passes.stay_open.agree.agree.class);
       there = refl;
       out = addressed_join n hs given;
       back = ap (λ (us : List Given). addressed n us ++ leaving n reason ∷ []) e;
@@ -116,6 +128,7 @@ take_leaving n s p hs reason some quiet class orderly at two e = record {
   units = disconnected n n ∷ [];
   events = closed n reason ∷ [];
   changes = leaving_changes n s p.left reason quiet class orderly at;
+  all_for = (refl, tt);
   there = refl;
   out = refl;
   back = ap (λ (us : List Given). addressed n us ++ leaving n reason ∷ []) e;
@@ -158,6 +171,7 @@ take_here n s (left_here p (g ∷ gs) reason) unit rest some quiet class orderly
       units = [];
       events = [];
       changes = given_ignored n s g quiet class orderly h.1.0 at;
+      all_for = tt;
       there = refl;
       out = sym (append-nil (out n (left_here p gs reason)));
       back = refl;
@@ -171,6 +185,7 @@ take_here n s (left_both hs reason [] other) unit rest some quiet class orderly 
       units = [];
       events = [];
       changes = crossed_changes n s other quiet class orderly at;
+      all_for = tt;
       there = refl;
       out = sym (append-nil (addressed n hs ++ leaving n reason ∷ []));
       back = refl;
@@ -184,6 +199,7 @@ take_here n s (left_both hs reason (g ∷ gs) other) unit rest some quiet class 
       units = [];
       events = [];
       changes = given_ignored n s g quiet class orderly h.1.0 at;
+      all_for = tt;
       there = refl;
       out = sym (append-nil (addressed n hs ++ leaving n reason ∷ []));
       back = refl;
@@ -197,6 +213,7 @@ take_here n s (waiting_here [] None) unit rest some quiet class orderly at h b =
       units = [];
       events = [];
       changes = over_changes n s quiet class orderly at;
+      all_for = tt;
       there = refl;
       out = refl;
       back = refl;
@@ -210,6 +227,7 @@ take_here n s (waiting_here [] (Some reason)) unit rest some quiet class orderly
       units = [];
       events = [];
       changes = crossed_changes n s reason quiet class orderly at;
+      all_for = tt;
       there = refl;
       out = refl;
       back = refl;
@@ -223,6 +241,7 @@ take_here n s (waiting_here (g ∷ gs) last) unit rest some quiet class orderly 
       units = [];
       events = [];
       changes = given_ignored n s g quiet class orderly h.0 at;
+      all_for = tt;
       there = refl;
       out = refl;
       back = refl;
@@ -244,6 +263,7 @@ send_here n s (talking p) link octets quiet orderly at is h short =
       units = addressed n (all_given (with_tsdu p.left octets));
       events = [];
       changes = send_changes n s p.left octets quiet orderly at;
+      all_for = addressed_for n (all_given (with_tsdu p.left octets)) (class_end p.rightward (all_given (with_tsdu p.left octets)) passes.stay_open.agree.agree.class);
       there = refl;
       out = addressed_join n p.rightward (all_given (with_tsdu p.left octets));
       back = refl;
@@ -259,6 +279,7 @@ send_here n s (left_there p hs reason) link octets quiet orderly at is h short =
       units = addressed n given;
       events = [];
       changes = send_changes n s p.left octets quiet orderly at;
+      all_for = addressed_for n (all_given (with_tsdu p.left octets)) (class_end p.rightward (all_given (with_tsdu p.left octets)) passes.stay_open.agree.agree.class);
       there = refl;
       out = addressed_join n hs given;
       back = refl;
@@ -279,6 +300,7 @@ close_here n s (talking p) link reason some quiet class orderly at is h = record
   units = leaving n reason ∷ [];
   events = [];
   changes = close_changes n s p.left reason quiet class orderly at;
+  all_for = (refl, tt);
   there = refl;
   out = refl;
   back = refl;
@@ -291,6 +313,7 @@ close_here n s (left_there p hs other) link reason some quiet class orderly at i
   units = leaving n reason ∷ [];
   events = [];
   changes = close_changes n s p.left reason quiet class orderly at;
+  all_for = (refl, tt);
   there = refl;
   out = refl;
   back = refl;

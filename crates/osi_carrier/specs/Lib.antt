@@ -14,7 +14,9 @@ pub mod Fetching
 pub mod Orderly
 pub mod OpenLinks
 pub mod Messages
+pub mod Addresses
 pub mod Meeting
 pub mod Coming
 pub mod Runs
 pub mod Told
+pub mod Course

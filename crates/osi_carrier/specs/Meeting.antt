@@ -6,6 +6,7 @@ use Rattle.osi_tpdu.specs.Value.{Value, disconnect, disconnected}
 use Rattle.osi_class.specs.Between.{LinkPair, swapped, AreOfClass}
 use Rattle.osi_class.specs.Link.{Given, unit_of}
 use Rattle.osi_class.specs.declared.terms.Class.TheVariants.{Two}
+use Rattle.osi_carrier.specs.Addresses.{AreFor}
 use Rattle.osi_carrier.specs.Happenings.{Happening, tsdu, closed}
 use Rattle.osi_carrier.specs.Messages.{Message, ask, agree, deny, message, bye, over, messages_to, AreLike}
 use Rattle.osi_carrier.specs.OpenLinks.{AreOpen}
@@ -110,6 +111,8 @@ pub record Changes (n : ℕ) (old new : State) (after : Option Connection) (unit
   pub ended : new.ended ≡ old.ended
   pub class : new.class ≡ old.class
   pub given : new.given ≡ old.given
+  pub local : new.local ≡ old.local
+  pub is_caller : new.is_caller ≡ old.is_caller
 
 -- what the user of an open connection is told of a message that arrives, and of a closing one: nothing
 abbrev pub told_open : ℕ → Message → List Happening
@@ -151,6 +154,7 @@ pub record Moves (n : ℕ) (old : Meeting) (s t : State) (taken : List Value) : 
   pub units : List Value
   pub events : List Happening
   pub changes : Changes n s t (here n new) units events
+  pub all_for : AreFor n units
   pub there : there n new ≡ there n old
   pub out : out n new ≡ out n old ++ units
   pub back : back n old ≡ taken ++ back n new
