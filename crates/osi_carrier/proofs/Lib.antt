@@ -20,3 +20,6 @@ pub mod Coming
 pub mod InFront
 pub mod Pieces
 pub mod ToldOpen
+pub mod Openings
+pub mod Courses
+pub mod CourseOpening

@@ -53,7 +53,7 @@ pair_before : (n : ℕ) (p : LinkPair) (later : List (List ℕ)) → p.right.end
 pair_before n p later e =
     tsdu_messages n p.rightward p.right.ends.joining.begun (p.left.ends.unsent ++ later) ∙ ap (map message) (sym (under_way_is p later e))
 
-pair_messages : (n : ℕ) (p : LinkPair) → p.right.ends.joining.whole ≡ [] →
+pub pair_messages : (n : ℕ) (p : LinkPair) → p.right.ends.joining.whole ≡ [] →
     messages_after p.right.ends.joining.begun (addressed n p.rightward ++ uncut_units p.left.ends.unsent) ≡ map message (under_way p)
 pair_messages n p e =
     ap (λ (ts : List (List ℕ)). messages_after p.right.ends.joining.begun (addressed n p.rightward ++ uncut_units ts)) (sym (append-nil p.left.ends.unsent))
@@ -110,7 +110,7 @@ alone : (begun : List ℕ) (us : List Value) → messages_after begun (us ++ unc
 alone begun us = ap (messages_after begun) (append-nil us)
 
 -- a DR behind units
-behind_leaving : (n : ℕ) (us : List Value) (reason : ℕ) (begun : List ℕ) → 0 < n →
+pub behind_leaving : (n : ℕ) (us : List Value) (reason : ℕ) (begun : List ℕ) → 0 < n →
     messages_after begun ((us ++ leaving n reason ∷ []) ++ uncut_units []) ≡ messages_after begun us ++ bye reason ∷ []
 behind_leaving n us reason begun some =
     alone begun (us ++ leaving n reason ∷ [])

@@ -1,6 +1,6 @@
 -- How one connection of class 2 stands at a caller's and a called end's carrier, from before it is
 -- asked for until it is gone at both, and which units are under way for it.
-use Rattle.std.specs.Prelude.{◌≡◌, ◌≢◌, ℕ, Bool, true, false, not, List, [], ◌∷◌, ◌++◌, Option, Some, None, nat_lt, if◌then◌else◌}
+use Rattle.std.specs.Prelude.{◌≡◌, ◌≢◌, ℕ, Bool, true, false, not, List, [], ◌∷◌, ◌++◌, Option, Some, None, nat_lt, if◌then◌else◌, ◌⊎◌}
 use Rattle.std.specs.List.{flat_map}
 use Rattle.osi_tpdu.specs.Value.{Value, Connect, request, confirm}
 use Rattle.osi_class.specs.Between.{LinkPair}
@@ -70,6 +70,10 @@ from_end true n called (withdrawing c p reason) = []
 from_end false n called (withdrawing c p reason) = confirm n (answer_of n called c) ∷ (addressed n p.leftward ++ leaving n reason ∷ [])
 from_end true n called (met m) = meeting.out n m
 from_end false n called (met m) = meeting.out n (mirror m)
+
+-- no class holds yet, or class 2 does
+abbrev pub MayTakeTwo : Option Class → Type 0
+MayTakeTwo class = (class ≡ None) ⊎ (class ≡ Some Two)
 
 -- a CR that the caller wrote
 pub record IsAskedBy (n : ℕ) (caller : Local) (c : Connect) : Type 0 where

@@ -1,0 +1,91 @@
+-- Two links of class 2 as a CR and its CC open them.
+use Rattle.std.proofs.Common.{◌≡◌, ℕ, ◌-◌, ◌^◌, ◌<◌, ◌≤◌, ◌+◌, ◌&&◌, Bool, true, false, List, [], ◌∷◌, min, Option, Some, None, refl, sym, ap, subst, ◌∙◌, inl, inr, arith, if◌then◌else◌}
+use Rattle.std.specs.List.{AllByRecursion}
+use Rattle.std.proofs.Math.Nat.{pow-le-pow_right}
+use Rattle.osi_tpdu.specs.Limits.{size_code, window_units}
+use Rattle.osi_tpdu.specs.Value.{Connect}
+use Rattle.osi_class.specs.Between.{LinkPair, opened_pair, swapped, under_way, IsShortTsdu}
+use Rattle.osi_class.specs.Link.{Standing, two_standing, fresh_two}
+use Rattle.osi_class.specs.Negotiation.{Selection, accept, selected_by, selected_size}
+use Rattle.osi_class.specs.declared.terms.Class.{Class}
+use Rattle.osi_class.specs.declared.terms.Class.TheVariants.{Two}
+use Rattle.osi_class.specs.declared.terms.Local.{Local}
+use Rattle.osi_class.proofs.Flows.{agree_begins}
+use Rattle.osi_class.proofs.Nothing as nothing
+use Rattle.osi_class.proofs.Ways.{begins}
+use Rattle.osi_carrier.specs.Course.{answer_of}
+use Rattle.osi_carrier.specs.Negotiation.{proposal_by, confirmed, agreed_size, opened_link}
+use Rattle.osi_carrier.specs.OpenLinks.{AreOpen, IsSettled}
+
+-- ---- links
+
+-- a new link of class 2: the code of its size, its window and the peer's
+abbrev new_link : ℕ → ℕ → ℕ → Standing
+new_link code window credit = two_standing (fresh_two (2 ^ code) window credit).ends (fresh_two (2 ^ code) window credit).flow
+
+new_settled : (code window credit : ℕ) → 7 ≤ code → IsSettled (new_link code window credit)
+new_settled code window credit least =
+    let size : 128 ≤ 2 ^ code = pow-le-pow_right {n = 2} (omega arith) least in
+    record {
+      limit = omega arith;
+      handed = refl;
+      given = (nothing.class_2 (new_link code window credit).ends (fresh_two (2 ^ code) window credit).flow).1 (refl, inl refl);
+    }
+
+none_short : (ts : List (List ℕ)) → ts ≡ [] → AllByRecursion IsShortTsdu ts
+none_short ts e = subst (λ (l : List (List ℕ)). AllByRecursion IsShortTsdu l) (sym e) tt
+
+new_open : (i j a b : ℕ) → 7 ≤ i → 7 ≤ j → 1 ≤ a → a ≤ 15 → 1 ≤ b → b ≤ 15 → AreOpen true (opened_pair (new_link i a b) (new_link j b a))
+new_open i j a b least least_j some few some_b few_b =
+    let left = new_link i a b in
+    let right = new_link j b a in
+    let there = begins left right (refl, refl, refl) (refl, refl, refl) in
+    let back = begins right left (refl, refl, refl) (refl, refl, refl) in
+    record {
+      agree = record {
+        window = b;
+        back = a;
+        some = omega arith;
+        some_back = omega arith;
+        agree = agree_begins left right (fresh_two (2 ^ i) a b).flow (fresh_two (2 ^ j) b a).flow b refl refl refl refl few_b;
+        agree_back = agree_begins right left (fresh_two (2 ^ j) b a).flow (fresh_two (2 ^ i) a b).flow a refl refl refl refl few;
+      };
+      whole = there.0;
+      whole_back = back.0;
+      short = none_short (under_way (opened_pair left right)) there.1;
+      short_back = none_short (under_way (opened_pair right left)) back.1;
+      left = new_settled i a b least;
+      right = new_settled j b a least_j;
+    }
+
+-- ---- the CR and its CC
+
+-- the CR of a caller that supports class 2
+abbrev pub request_of : Local → Option Class → Option (List ℕ) → Option (List ℕ) → ℕ → Connect
+request_of caller class calling called n = proposal_by true caller class calling called n
+
+pub selects_two : (caller local : Local) (class : Option Class) (calling called : Option (List ℕ)) (n : ℕ) → local.class2 ≡ true →
+    selected_by (request_of caller class calling called n) local ≡ accept Two (selected_size (request_of caller class calling called n) local)
+selects_two caller local class calling called n supports = rw supports refl
+
+pub confirms_two : (caller called : Local) (class : Option Class) (c : Connect) (n : ℕ) → caller.class2 ≡ true → confirmed (answer_of n called c) caller class ≡ Some Two
+confirms_two caller called class c n supports = rw supports refl
+
+-- the links that they open
+abbrev pub caller_link : ℕ → Local → Local → Connect → Standing
+caller_link n caller called c = opened_link Two (agreed_size (answer_of n called c).parameters.size caller) caller (answer_of n called c).credit
+
+abbrev pub called_link : Local → Connect → Standing
+called_link called c = opened_link Two (selected_size c called) called c.credit
+
+pub opens_links : (caller called : Local) (class : Option Class) (calling to : Option (List ℕ)) (n : ℕ) →
+    AreOpen true (opened_pair (caller_link n caller called (request_of caller class calling to n)) (called_link called (request_of caller class calling to n)))
+opens_links caller called class calling to n =
+    let x = caller.size.at_least in
+    let y = called.size.at_least in
+    let a = caller.window.at_least in
+    let b = called.window.at_least in
+    let p = caller.window.at_most in
+    let q = called.window.at_most in
+    new_open (min (min (size_code caller.size) (size_code called.size)) (size_code caller.size)) (min (size_code caller.size) (size_code called.size))
+    (window_units caller.window) (window_units called.window) (omega arith) (omega arith) a p b q
