@@ -17,6 +17,7 @@ use Rattle.osi_carrier.specs.Rows.{Rows, value_at, put, without}
 use Rattle.osi_carrier.specs.State.{Connection, linked, closing, State, packets}
 use Rattle.osi_carrier.proofs.Apart.{put_here, without_here}
 use Rattle.osi_carrier.proofs.AtReferences.{put_other, without_other}
+use Rattle.osi_carrier.proofs.Places.{put_same}
 use Rattle.osi_carrier.proofs.Reacts.{react_quiet}
 
 -- ---- what changed
@@ -27,6 +28,7 @@ changes_put : (n : ℕ) (s t : State) (x z : Connection) (us : List Value) (es :
     Changes n s t (Some x) us es
 changes_put n s t x z us es orderly at live outgoing events ended class given local is_caller = record {
   here = ap (value_at n) live ∙ put_here n x z s.live at;
+  live = live;
   others = λ m other. ap (value_at m) live ∙ put_other m n x s.live other;
   outgoing = outgoing;
   events = events;
@@ -43,6 +45,7 @@ changes_drop : (n : ℕ) (s t : State) (us : List Value) (es : List Happening) �
     Changes n s t None us es
 changes_drop n s t us es orderly live outgoing events ended class given local is_caller = record {
   here = ap (value_at n) live ∙ without_here n s.live orderly.rise;
+  live = live;
   others = λ m other. ap (value_at m) live ∙ without_other m n s.live other;
   outgoing = outgoing;
   events = events;
@@ -54,9 +57,10 @@ changes_drop n s t us es orderly live outgoing events ended class given local is
 }
 
 -- nothing
-changes_none : (n : ℕ) (s : State) (o : Option Connection) → IsOrderly s → value_at n s.live ≡ o → Changes n s s o [] []
-changes_none n s o orderly at = record {
+changes_none : (n : ℕ) (s : State) (x : Connection) → IsOrderly s → value_at n s.live ≡ Some x → Changes n s s (Some x) [] []
+changes_none n s x orderly at = record {
   here = at;
+  live = sym (put_same n x s.live at);
   others = λ m other. refl;
   outgoing = sym (append-nil s.outgoing);
   events = sym (append-nil s.events);
@@ -122,7 +126,7 @@ pub given_ignored : (n : ℕ) (s : State) (g : Given) → s.ended ≡ None → s
 given_ignored n s g quiet class orderly two at =
     let does : react (unit_of n g) s ≡ s =
     react_two (unit_of n g) s quiet class ∙ given_to s.is_caller n g s two ∙ at_connection n (Some (closing n)) (unit_of n g) s at ∙ closing_ignores n g s in
-    subst (λ (r : State). Changes n s r (Some (closing n)) [] []) (sym does) (changes_none n s (Some (closing n)) orderly at)
+    subst (λ (r : State). Changes n s r (Some (closing n)) [] []) (sym does) (changes_none n s (closing n) orderly at)
 
 -- a DR to an open connection
 pub leaving_changes : (n : ℕ) (s : State) (link : Standing) (reason : ℕ) → s.ended ≡ None → s.class ≡ Some Two → IsOrderly s →

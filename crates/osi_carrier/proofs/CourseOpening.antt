@@ -12,6 +12,7 @@ use Rattle.osi_class.specs.Negotiation.{Selection, accept, selected_by, selected
 use Rattle.osi_class.specs.declared.terms.Class.{Class}
 use Rattle.osi_class.specs.declared.terms.Class.TheVariants.{Two}
 use Rattle.osi_class.specs.declared.terms.Local.{Local}
+use Rattle.osi_carrier.specs.Addresses.{references}
 use Rattle.osi_carrier.specs.Calls.{asks, sent, closed_with}
 use Rattle.osi_carrier.specs.Course.{Place, never, was_given, place_at, connection_in, Course, unasked, asking, accepting, withdrawing, met, answer_of, at_end, from_end, IsAskedBy, MayTakeTwo, IsAccepted, HaveMet, messages_from, CourseCarries, Acts, CourseMoves}
 use Rattle.osi_carrier.specs.Happenings.{Happening, opened}
@@ -27,7 +28,7 @@ use Rattle.osi_carrier.specs.State.{Connection, asked, linked, closing, State, p
 use Rattle.osi_carrier.proofs.Apart.{push_here, beyond, put_here}
 use Rattle.osi_carrier.proofs.AtReferences.{push_other, put_other}
 use Rattle.osi_carrier.proofs.Changes.{send_changes, close_changes}
-use Rattle.osi_carrier.proofs.Courses.{given_place, acts_changed, place_changed}
+use Rattle.osi_carrier.proofs.Courses.{given_place, acts_changed, place_changed, put_references, none_more}
 use Rattle.osi_carrier.proofs.Meetings.{open_mirror, class_end, addressed_join, addressed_for}
 use Rattle.osi_carrier.proofs.MeetingMessages.{pair_messages, behind_leaving}
 use Rattle.osi_carrier.proofs.MessageLaws.{messages_front}
@@ -57,7 +58,7 @@ push_place s t x orderly given live =
 -- ---- the CR
 
 pub asks_moves : (s r : State) (calling called : Option (List ℕ)) → IsOrderly s → s.local.class2 ≡ true →
-    CourseMoves true (s.given + 1) unasked s r (asks calling called s) []
+    CourseMoves true (s.given + 1) unasked s r (asks calling called s) [] 1
 asks_moves s r calling called orderly supports =
     let c = request_of s.local s.class calling called (s.given + 1) in
     let t = asks calling called s in
@@ -74,6 +75,7 @@ asks_moves s r calling called orderly supports =
         local = refl;
         is_caller = refl;
         class = λ h. h;
+        may = λ h. h;
         all_for = (refl, tt);
       };
       place = push_place s t asked orderly refl refl;
@@ -81,6 +83,9 @@ asks_moves s r calling called orderly supports =
       out = refl;
       back = refl;
       holds = record { class = s.class; calling = calling; called = called; is = refl };
+      given = refl;
+      numbers = refl;
+      places = tt;
       carries = record { arrived = []; stays = []; lost = []; told = refl; came = refl; before = refl; after = refl };
     }
 
@@ -99,7 +104,7 @@ request_accepted c r free room selects = rw (free, room) (ap (λ (x : Selection)
 accepts_moves_by : (s r : State) (class : Option Class) (calling called : Option (List ℕ)) → IsOrderly r →
     CourseMoves false (r.given + 1) (asking (request_of s.local class calling called (r.given + 1))) r s
     (accepts Two (selected_size (request_of s.local class calling called (r.given + 1)) r.local) (request_of s.local class calling called (r.given + 1)) r)
-    (request (request_of s.local class calling called (r.given + 1)) ∷ [])
+    (request (request_of s.local class calling called (r.given + 1)) ∷ []) 1
 accepts_moves_by s r class calling called orderly =
     let n = r.given + 1 in
     let c = request_of s.local class calling called n in
@@ -118,6 +123,7 @@ accepts_moves_by s r class calling called orderly =
         local = refl;
         is_caller = refl;
         class = λ h. refl;
+        may = λ h. inr refl;
         all_for = (refl, tt);
       };
       place = push_place r t (linked n (called_link r.local c)) orderly refl refl;
@@ -131,11 +137,14 @@ accepts_moves_by s r class calling called orderly =
         rightward = refl;
         left = refl;
       };
+      given = refl;
+      numbers = refl;
+      places = map-append (λ (row : ℕ × Connection). row.0) r.live ((n, linked n (called_link r.local c)) ∷ []);
       carries = record { arrived = ask ∷ []; stays = []; lost = []; told = refl; came = refl; before = refl; after = refl };
     }
 
 pub accepts_moves : (n : ℕ) (c : Connect) (s r : State) → n ≡ r.given + 1 → IsAskedBy n s.local c → IsOrderly r → r.ended ≡ None → r.is_caller ≡ false → MayTakeTwo r.class →
-    has_peer c.source r.live ≡ false → is_full r ≡ false → r.local.class2 ≡ true → CourseMoves false n (asking c) r s (react (request c) r) (request c ∷ [])
+    has_peer c.source r.live ≡ false → is_full r ≡ false → r.local.class2 ≡ true → CourseMoves false n (asking c) r s (react (request c) r) (request c ∷ []) 1
 accepts_moves n c s r next a orderly quiet called two free room supports =
     let d = request_of s.local a.class a.calling a.called (r.given + 1) in
     let same : c ≡ d = a.is ∙ ap (λ (m : ℕ). request_of s.local a.class a.calling a.called m) next in
@@ -143,9 +152,9 @@ accepts_moves n c s r next a orderly quiet called two free room supports =
     react_request c r quiet called two
     ∙ request_accepted c r free room (ap (λ (x : Connect). selected_by x r.local) same ∙ selects_two s.local r.local a.class a.calling a.called (r.given + 1) supports ∙ ap (λ (x : Connect). accept Two (selected_size x r.local)) (sym same))
     ∙ ap (λ (x : Connect). accepts Two (selected_size x r.local) x r) same in
-    subst (λ (t : State). CourseMoves false n (asking c) r s t (request c ∷ [])) (sym does)
-    (subst (λ (m : ℕ). CourseMoves false m (asking c) r s (accepts Two (selected_size d r.local) d r) (request c ∷ [])) (sym next)
-    (subst (λ (x : Connect). CourseMoves false (r.given + 1) (asking x) r s (accepts Two (selected_size d r.local) d r) (request x ∷ [])) (sym same)
+    subst (λ (t : State). CourseMoves false n (asking c) r s t (request c ∷ []) 1) (sym does)
+    (subst (λ (m : ℕ). CourseMoves false m (asking c) r s (accepts Two (selected_size d r.local) d r) (request c ∷ []) 1) (sym next)
+    (subst (λ (x : Connect). CourseMoves false (r.given + 1) (asking x) r s (accepts Two (selected_size d r.local) d r) (request x ∷ []) 1) (sym same)
     (accepts_moves_by s r a.class a.calling a.called orderly)))
 
 -- ---- the called end before the CC is taken
@@ -174,7 +183,7 @@ accepted_there n s r t c p q h local class a rightward left = record {
 }
 
 pub accepted_sends : (n : ℕ) (c : Connect) (p : LinkPair) (s r : State) (octets : List ℕ) → IsAccepted n s r c p → r.ended ≡ None → IsOrderly r → n ≤ r.given →
-    value_at n r.live ≡ Some (linked n p.right) → IsShortTsdu octets → CourseMoves false n (accepting c p) r s (sent n octets r) []
+    value_at n r.live ≡ Some (linked n p.right) → IsShortTsdu octets → CourseMoves false n (accepting c p) r s (sent n octets r) [] 0
 accepted_sends n c p s r octets h quiet orderly le at short =
     let q = after_send (swapped p) octets in
     let given = all_given (with_tsdu p.right octets) in
@@ -199,6 +208,9 @@ accepted_sends n c p s r octets h quiet orderly le at short =
       out = ap (λ (l : List Value). confirm n (answer_of n r.local c) ∷ l) (addressed_join n p.leftward given);
       back = refl;
       holds = accepted_there n s r t c p (swapped q) h changes.local changes.class new_open refl refl;
+      given = changes.given ∙ none_more r.given;
+      numbers = refl;
+      places = ap references changes.live ∙ put_references n (linked n (swapped q).right) r.live;
       carries = record {
         arrived = [];
         stays = agree ∷ stays;
@@ -211,7 +223,7 @@ accepted_sends n c p s r octets h quiet orderly le at short =
     }
 
 pub accepted_closes : (n : ℕ) (c : Connect) (p : LinkPair) (s r : State) (reason : ℕ) → 0 < n → IsAccepted n s r c p → r.ended ≡ None → IsOrderly r → n ≤ r.given →
-    value_at n r.live ≡ Some (linked n p.right) → CourseMoves false n (accepting c p) r s (closed_with n reason r) []
+    value_at n r.live ≡ Some (linked n p.right) → CourseMoves false n (accepting c p) r s (closed_with n reason r) [] 0
 accepted_closes n c p s r reason some h quiet orderly le at =
     let t = closed_with n reason r in
     let changes = close_changes n r p.right reason quiet h.class orderly at in
@@ -228,6 +240,9 @@ accepted_closes n c p s r reason some h quiet orderly le at =
       out = refl;
       back = refl;
       holds = accepted_there n s r t c p p h changes.local changes.class h.open_links refl refl;
+      given = changes.given ∙ none_more r.given;
+      numbers = refl;
+      places = ap references changes.live ∙ put_references n (closing n) r.live;
       carries = record {
         arrived = [];
         stays = agree ∷ messages_after [] us;
@@ -264,6 +279,7 @@ confirm_acts n c s called = record {
   local = refl;
   is_caller = refl;
   class = λ h. refl;
+  may = λ h. inr refl;
   all_for = tt;
 }
 
@@ -275,11 +291,11 @@ confirm_place n c s called link le at is =
 
 pub confirm_moves : (n : ℕ) (c : Connect) (p : LinkPair) (s r : State) → IsAccepted n s r c p → s.ended ≡ None → s.is_caller ≡ true → MayTakeTwo s.class → s.local.class2 ≡ true →
     n ≤ s.given → value_at n s.live ≡ Some asked →
-    CourseMoves true n (accepting c p) s r (react (confirm n (answer_of n r.local c)) s) (confirm n (answer_of n r.local c) ∷ [])
+    CourseMoves true n (accepting c p) s r (react (confirm n (answer_of n r.local c)) s) (confirm n (answer_of n r.local c) ∷ []) 0
 confirm_moves n c p s r h quiet caller two supports le at =
     let unit = confirm n (answer_of n r.local c) in
     let us = addressed n p.leftward ++ uncut_units p.right.ends.unsent in
-    subst (λ (t : State). CourseMoves true n (accepting c p) s r t (unit ∷ [])) (sym (confirm_opens n c s r.local quiet caller two supports at)) (record {
+    subst (λ (t : State). CourseMoves true n (accepting c p) s r t (unit ∷ []) 0) (sym (confirm_opens n c s r.local quiet caller two supports at)) (record {
       new = met (talking p);
       units = [];
       events = opened n ∷ [];
@@ -290,6 +306,9 @@ confirm_moves n c p s r h quiet caller two supports le at =
       out = ap (addressed n) h.rightward;
       back = refl;
       holds = record { class = refl; class_called = h.class; stands = h.open_links };
+      given = none_more s.given;
+      numbers = refl;
+      places = tt;
       carries = record {
         arrived = agree ∷ [];
         stays = [];
@@ -304,11 +323,11 @@ confirm_moves n c p s r h quiet caller two supports le at =
 
 pub withdrawn_moves : (n : ℕ) (c : Connect) (p : LinkPair) (reason : ℕ) (s r : State) → IsAccepted n s r c p → s.ended ≡ None → s.is_caller ≡ true → MayTakeTwo s.class → s.local.class2 ≡ true →
     n ≤ s.given → value_at n s.live ≡ Some asked →
-    CourseMoves true n (withdrawing c p reason) s r (react (confirm n (answer_of n r.local c)) s) (confirm n (answer_of n r.local c) ∷ [])
+    CourseMoves true n (withdrawing c p reason) s r (react (confirm n (answer_of n r.local c)) s) (confirm n (answer_of n r.local c) ∷ []) 0
 withdrawn_moves n c p reason s r h quiet caller two supports le at =
     let unit = confirm n (answer_of n r.local c) in
     let us = (addressed n p.leftward ++ leaving n reason ∷ []) ++ [] in
-    subst (λ (t : State). CourseMoves true n (withdrawing c p reason) s r t (unit ∷ [])) (sym (confirm_opens n c s r.local quiet caller two supports at)) (record {
+    subst (λ (t : State). CourseMoves true n (withdrawing c p reason) s r t (unit ∷ []) 0) (sym (confirm_opens n c s r.local quiet caller two supports at)) (record {
       new = met (left_there p [] reason);
       units = [];
       events = opened n ∷ [];
@@ -319,6 +338,9 @@ withdrawn_moves n c p reason s r h quiet caller two supports le at =
       out = refl;
       back = refl;
       holds = record { class = refl; class_called = h.class; stands = (h.open_links, tt) };
+      given = none_more s.given;
+      numbers = refl;
+      places = tt;
       carries = record {
         arrived = agree ∷ [];
         stays = [];

@@ -1,18 +1,20 @@
 -- How the course of a connection goes on at each end.
-use Rattle.std.proofs.Common.{◌≡◌, ◌≢◌, ℕ, ◌+◌, ◌<◌, ◌≤◌, Bool, true, false, List, [], ◌∷◌, ◌++◌, map, take, Option, Some, None, refl, sym, ap, subst, ◌∙◌, inl, inr, ◌⊎◌, arith, nat_lt, if◌then◌else◌}
-use Rattle.std.specs.List.{flat_map}
+use Rattle.std.proofs.Common.{◌≡◌, ◌≢◌, ℕ, ◌+◌, ◌<◌, ◌≤◌, ◌==◌, is_none, Bool, true, false, List, [], ◌∷◌, ◌++◌, map, take, Option, Some, None, refl, sym, ap, subst, ◌∙◌, inl, inr, ◌⊎◌, arith, nat_lt, if◌then◌else◌}
+use Rattle.std.specs.List.{flat_map, list_any, AllByRecursion}
 use Rattle.std.proofs.lemmas.Bool.{le-ltb, ltb-false, ltb-true}
 use Rattle.std.proofs.lemmas.List.{append-nil, map-append}
-use Rattle.osi_tpdu.specs.Value.{Value}
+use Rattle.osi_tpdu.specs.Value.{Value, request, confirm, disconnect, disconnected, data0, data2, acknowledge, error}
+use Rattle.osi_class.specs.Between.{AreOfClass}
+use Rattle.osi_class.specs.Link.{Given, part0, part2, ack}
 use Rattle.osi_class.specs.declared.terms.Class.{Class}
 use Rattle.osi_class.specs.declared.terms.Class.TheVariants.{Two}
 use Rattle.osi_class.specs.declared.terms.Local.{Local}
-use Rattle.osi_carrier.specs.Addresses.{AreFor}
-use Rattle.osi_carrier.specs.Course.{Place, never, was_given, place_at, connection_in, Course, met, at_end, from_end, HaveMet, messages_from, told_opening, CourseCarries, Acts, CourseMoves}
+use Rattle.osi_carrier.specs.Addresses.{AreFor, reference_of, asked_by, is_last, dropped, live_behind, live_after, references, requests}
+use Rattle.osi_carrier.specs.Course.{Place, never, was_given, place_at, connection_in, Course, met, at_end, from_end, MayTakeTwo, HaveMet, messages_from, told_opening, CourseCarries, Acts, CourseMoves}
 use Rattle.osi_carrier.specs.Happenings.{Happening}
-use Rattle.osi_carrier.specs.Meeting.{Meeting, talking, left_here, left_there, left_both, waiting_here, waiting_there, parted, mirror, here, there, out, back, Stands, Changes, told_at, messages_back, messages_out, Carries, Moves}
+use Rattle.osi_carrier.specs.Meeting.{Meeting, talking, left_here, left_there, left_both, waiting_here, waiting_there, parted, mirror, here, there, addressed, leaving, farewell, rows_with, out, back, Stands, Changes, told_at, messages_back, messages_out, Carries, Moves}
 use Rattle.osi_carrier.specs.Messages.{Message, messages_to, AreLike}
-use Rattle.osi_carrier.specs.Rows.{value_at}
+use Rattle.osi_carrier.specs.Rows.{Rows, value_at, put, without}
 use Rattle.osi_carrier.specs.State.{Connection, State}
 use Rattle.osi_carrier.proofs.Meetings.{mirror_twice, mirror_stands}
 
@@ -44,6 +46,7 @@ acts_changed n s t after us es c all = record {
   local = c.local;
   is_caller = c.is_caller;
   class = λ h. c.class ∙ h;
+  may = λ h. subst (λ (k : Option Class). MayTakeTwo k) (sym c.class) h;
   all_for = all;
 }
 
@@ -52,6 +55,104 @@ pub place_changed : (n : ℕ) (s t : State) (after : Option Connection) (us : Li
 place_changed n s t after us es le c =
     let same = c.given in
     given_place n t (omega arith) ∙ ap was_given c.here
+
+-- ---- the references that are live
+
+put_references_by : (n q : ℕ) (x y : Connection) (rows : Rows Connection) (b : Bool) → (q == n) ≡ b → references (put n x rows) ≡ references rows →
+    references (put n x ((q, y) ∷ rows)) ≡ q ∷ references rows
+put_references_by n q x y rows true e more = ap references (ap (λ (c : Bool). if◌then◌else◌ {A = Rows Connection} c ((q, x) ∷ rows) ((q, y) ∷ put n x rows)) e)
+put_references_by n q x y rows false e more =
+    ap references (ap (λ (c : Bool). if◌then◌else◌ {A = Rows Connection} c ((q, x) ∷ rows) ((q, y) ∷ put n x rows)) e) ∙ ap (λ (l : List ℕ). q ∷ l) more
+
+pub put_references : (n : ℕ) (x : Connection) (rows : Rows Connection) → references (put n x rows) ≡ references rows
+put_references n x [] = refl
+put_references n x ((q, y) ∷ rows) = put_references_by n q x y rows (q == n) refl (put_references n x rows)
+
+without_references_by : (n q : ℕ) (y : Connection) (rows : Rows Connection) (b : Bool) → (q == n) ≡ b → references (without n rows) ≡ dropped n (references rows) →
+    references (without n ((q, y) ∷ rows)) ≡ dropped n (q ∷ references rows)
+without_references_by n q y rows true e more =
+    ap references (ap (λ (c : Bool). if◌then◌else◌ {A = Rows Connection} c rows ((q, y) ∷ without n rows)) e)
+    ∙ sym (ap (λ (c : Bool). if◌then◌else◌ {A = List ℕ} c (references rows) (q ∷ dropped n (references rows))) e)
+without_references_by n q y rows false e more =
+    ap references (ap (λ (c : Bool). if◌then◌else◌ {A = Rows Connection} c rows ((q, y) ∷ without n rows)) e) ∙ ap (λ (l : List ℕ). q ∷ l) more
+    ∙ sym (ap (λ (c : Bool). if◌then◌else◌ {A = List ℕ} c (references rows) (q ∷ dropped n (references rows))) e)
+
+without_references : (n : ℕ) (rows : Rows Connection) → references (without n rows) ≡ dropped n (references rows)
+without_references n [] = refl
+without_references n ((q, y) ∷ rows) = without_references_by n q y rows (q == n) refl (without_references n rows)
+
+stay_references : (n : ℕ) (after : Option Connection) (rows : Rows Connection) → is_none after ≡ false → references (rows_with n after rows) ≡ references rows
+stay_references n None rows e = cc
+stay_references n (Some x) rows e = put_references n x rows
+
+gone_references : (n m : ℕ) (after : Option Connection) (rows : Rows Connection) → is_none after ≡ true → m ≡ n → references (rows_with n after rows) ≡ dropped m (references rows)
+gone_references n m None rows e same = without_references n rows ∙ ap (λ (q : ℕ). dropped q (references rows)) (sym same)
+gone_references n m (Some x) rows e same = cc
+
+-- for this connection, and no CR
+abbrev pub IsPlain : ℕ → Value → Type 0
+IsPlain n u = (reference_of u ≡ n) × (asked_by u ≡ [])
+
+references_behind : (n : ℕ) (u : Value) (after : Option Connection) (rows : Rows Connection) → IsPlain n u → is_none after ≡ list_any is_last (u ∷ []) →
+    references (rows_with n after rows) ≡ live_behind (references rows) u
+references_behind n (request c) after rows h goes = let none = h.1 in cc
+references_behind n (confirm destination c) after rows h goes = stay_references n after rows goes
+references_behind n (disconnect destination source reason user) after rows h goes = gone_references n destination after rows goes h.0
+references_behind n (disconnected destination source) after rows h goes = gone_references n destination after rows goes h.0
+references_behind n (data0 end user) after rows h goes = stay_references n after rows goes
+references_behind n (data2 destination number end user) after rows h goes = stay_references n after rows goes
+references_behind n (acknowledge credit destination number) after rows h goes = stay_references n after rows goes
+references_behind n (error destination cause) after rows h goes = stay_references n after rows goes
+
+abbrev pub IsOneAtMost : List Value → Type 0
+IsOneAtMost [] = Unit {0}
+IsOneAtMost (u ∷ []) = Unit {0}
+IsOneAtMost (u ∷ v ∷ us) = ⊥
+
+references_after : (n : ℕ) (taken : List Value) (after : Option Connection) (rows : Rows Connection) → IsOneAtMost taken → AllByRecursion (IsPlain n) taken → is_none after ≡ list_any is_last taken →
+    references (rows_with n after rows) ≡ live_after (references rows) taken
+references_after n [] after rows one all goes = stay_references n after rows goes
+references_after n (u ∷ []) after rows one all goes = references_behind n u after rows all.0 goes
+references_after n (u ∷ v ∷ us) after rows one all goes = absurd one
+
+-- the units of open links, and those that close a connection
+plain_units : (n : ℕ) (gs : List Given) → AreOfClass true gs → AllByRecursion (IsPlain n) (addressed n gs)
+plain_units n [] h = tt
+plain_units n (part0 end octets ∷ gs) h = let no = h.0 in cc
+plain_units n (part2 number end octets ∷ gs) h = ((refl, refl), plain_units n gs h.1)
+plain_units n (ack number credit ∷ gs) h = ((refl, refl), plain_units n gs h.1)
+
+plain_join : (n : ℕ) (us vs : List Value) → AllByRecursion (IsPlain n) us → AllByRecursion (IsPlain n) vs → AllByRecursion (IsPlain n) (us ++ vs)
+plain_join n [] vs a b = b
+plain_join n (u ∷ us) vs a b = (a.0, plain_join n us vs a.1 b)
+
+plain_front : (n : ℕ) (us vs : List Value) → AllByRecursion (IsPlain n) (us ++ vs) → AllByRecursion (IsPlain n) us
+plain_front n [] vs h = tt
+plain_front n (u ∷ us) vs h = (h.0, plain_front n us vs h.1)
+
+plain_back : (n : ℕ) (us vs : List Value) → AllByRecursion (IsPlain n) (us ++ vs) → AllByRecursion (IsPlain n) vs
+plain_back n [] vs h = h
+plain_back n (u ∷ us) vs h = plain_back n us vs h.1
+
+plain_requests : (n : ℕ) (us : List Value) → AllByRecursion (IsPlain n) us → requests us ≡ []
+plain_requests n [] h = refl
+plain_requests n (u ∷ us) h = ap (λ (l : List ℕ). l ++ requests us) h.0.1 ∙ plain_requests n us h.1
+
+pub none_more : (n : ℕ) → n ≡ n + 0
+none_more n = omega arith
+
+plain_farewell : (n : ℕ) (last : Option ℕ) → IsPlain n (farewell n last)
+plain_farewell n None = (refl, refl)
+plain_farewell n (Some reason) = (refl, refl)
+
+pub plain_out : (n : ℕ) (m : Meeting) → Stands m → AllByRecursion (IsPlain n) (out n m)
+plain_out n (talking p) h = plain_units n p.rightward h.agree.agree.class
+plain_out n (left_here p us reason) h = plain_join n (addressed n p.rightward) (leaving n reason ∷ []) (plain_units n p.rightward h.0.agree.agree.class) ((refl, refl), tt)
+plain_out n (left_there p us reason) h = plain_units n us h.1
+plain_out n (left_both us reason vs other) h = plain_join n (addressed n us) (leaving n reason ∷ []) (plain_units n us h.0) ((refl, refl), tt)
+plain_out n (waiting_here us last) h = tt
+plain_out n (waiting_there us last) h = plain_join n (addressed n us) (farewell n last ∷ []) (plain_units n us h) (plain_farewell n last, tt)
+plain_out n parted h = tt
 
 -- ---- both have had it open
 
@@ -97,7 +198,7 @@ carries_mirror n local m new es put c = record {
       (subst (λ (l : List Message). AreLike (here n (mirror (mirror m))) l (c.stays ++ put)) (out_mirror n new) c.after);
 }
 
-pub met_caller : (n : ℕ) (m : Meeting) (s r t : State) (taken : List Value) → HaveMet s r m → n ≤ s.given → Moves n m s t taken → CourseMoves true n (met m) s r t taken
+pub met_caller : (n : ℕ) (m : Meeting) (s r t : State) (taken : List Value) → HaveMet s r m → n ≤ s.given → Moves n m s t taken → CourseMoves true n (met m) s r t taken 0
 met_caller n m s r t taken h le mv = record {
   new = met mv.new;
   units = mv.units;
@@ -109,11 +210,14 @@ met_caller n m s r t taken h le mv = record {
   out = mv.out;
   back = mv.back;
   holds = record { class = mv.changes.class ∙ h.class; class_called = h.class_called; stands = mv.stands };
+  given = mv.changes.given ∙ none_more s.given;
+  numbers = plain_requests n mv.units (plain_back n (out n m) mv.units (subst (λ (l : List Value). AllByRecursion (IsPlain n) l) mv.out (plain_out n mv.new mv.stands)));
+  places = tt;
   carries = carries_caller n r.local m mv.new mv.events mv.put mv.carries;
 }
 
-pub met_called : (n : ℕ) (m : Meeting) (r s t : State) (taken : List Value) → HaveMet s r m → n ≤ r.given → Moves n (mirror m) r t taken → CourseMoves false n (met m) r s t taken
-met_called n m r s t taken h le mv = record {
+pub met_called : (n : ℕ) (m : Meeting) (r s t : State) (taken : List Value) → HaveMet s r m → n ≤ r.given → IsOneAtMost taken → Moves n (mirror m) r t taken → CourseMoves false n (met m) r s t taken 0
+met_called n m r s t taken h le one mv = record {
   new = met (mirror mv.new);
   units = mv.units;
   events = mv.events;
@@ -124,6 +228,13 @@ met_called n m r s t taken h le mv = record {
   out = ap (out n) (mirror_twice mv.new) ∙ mv.out;
   back = ap (out n) (sym (mirror_twice m)) ∙ mv.back;
   holds = record { class = h.class; class_called = mv.changes.class ∙ h.class_called; stands = mirror_stands mv.new mv.stands };
+  given = mv.changes.given ∙ none_more r.given;
+  numbers = plain_requests n taken (plain_front n taken (back n mv.new)
+      (subst (λ (l : List Value). AllByRecursion (IsPlain n) l) (ap (out n) (sym (mirror_twice m)) ∙ mv.back) (plain_out n m h.stands)));
+  places =
+      let taken_are : AllByRecursion (IsPlain n) taken =
+      plain_front n taken (back n mv.new) (subst (λ (l : List Value). AllByRecursion (IsPlain n) l) (ap (out n) (sym (mirror_twice m)) ∙ mv.back) (plain_out n m h.stands)) in
+      ap references mv.changes.live ∙ references_after n taken (here n mv.new) r.live one taken_are mv.goes;
   carries = carries_mirror n r.local m (mirror mv.new) mv.events mv.put
       (subst (λ (x : Meeting). Carries n (mirror m) x mv.events mv.put) (sym (mirror_twice mv.new)) mv.carries);
 }

@@ -1,12 +1,12 @@
 -- How a connection stands after each unit that one of its two carriers takes, and after each call.
-use Rattle.std.proofs.Common.{◌≡◌, ℕ, ◌<◌, Bool, true, false, List, [], ◌∷◌, ◌++◌, map, take, Some, None, refl, sym, ap, subst, ◌∙◌}
+use Rattle.std.proofs.Common.{◌≡◌, ℕ, ◌<◌, ◌||◌, Bool, true, false, List, [], ◌∷◌, ◌++◌, map, take, Some, None, refl, sym, ap, subst, ◌∙◌}
 use Rattle.std.proofs.lemmas.List.{append-nil, map-append}
 use Rattle.osi_tpdu.specs.Value.{Value, disconnected}
 use Rattle.osi_class.specs.Between.{LinkPair, swapped, AreOfClass, IsShortTsdu}
 use Rattle.osi_class.specs.Giving.{all_given}
 use Rattle.osi_class.specs.Link.{Standing, Given, part0, part2, ack, unit_of, is_of_two, with_tsdu}
 use Rattle.osi_class.specs.declared.terms.Class.TheVariants.{Two}
-use Rattle.osi_carrier.specs.Addresses.{reference_of, AreFor}
+use Rattle.osi_carrier.specs.Addresses.{reference_of, AreFor, is_last}
 use Rattle.osi_carrier.specs.Calls.{sent, closed_with}
 use Rattle.osi_carrier.specs.Happenings.{tsdu, closed}
 use Rattle.osi_carrier.specs.Meeting.{Meeting, talking, left_here, left_there, left_both, waiting_here, waiting_there, parted, mirror, here, addressed, leaving, farewell, out, back, Stands, Moves}
@@ -80,6 +80,11 @@ pub addressed_for : (n : ℕ) (gs : List Given) → AreOfClass true gs → AreFo
 addressed_for n [] h = tt
 addressed_for n (g ∷ gs) h = (unit_for n g h.0, addressed_for n gs h.1)
 
+given_stays : (n : ℕ) (g : Given) → is_last (unit_of n g) ≡ false
+given_stays n (part0 end octets) = refl
+given_stays n (part2 number end octets) = refl
+given_stays n (ack number credit) = refl
+
 -- ---- a unit is taken here
 
 take_talking : (n : ℕ) (s : State) (p : LinkPair) (g : Given) (gs : List Given) → 0 < n → s.ended ≡ None → s.class ≡ Some Two → IsOrderly s →
@@ -95,6 +100,7 @@ take_talking n s p g gs some quiet class orderly at a e =
       there = refl;
       out = addressed_join n p.rightward (all_given (handed_out t.link));
       back = ap (addressed n) e;
+      goes = sym (ap (λ (b : Bool). b || false) (given_stays n g));
       stands = t.passes.stay_open;
       put = [];
       carries = talking_takes n p (unit_of n g) gs a t;
@@ -115,6 +121,7 @@ take_behind n s p hs reason g gs some quiet class orderly at a two e =
       there = refl;
       out = addressed_join n hs given;
       back = ap (λ (us : List Given). addressed n us ++ leaving n reason ∷ []) e;
+      goes = sym (ap (λ (b : Bool). b || false) (given_stays n g));
       stands = (t.passes.stay_open, class_join hs given two (class_end p.rightward given t.passes.stay_open.agree.agree.class));
       put = [];
       carries = behind_takes n p hs reason g gs some a e t;
@@ -132,6 +139,7 @@ take_leaving n s p hs reason some quiet class orderly at two e = record {
   there = refl;
   out = refl;
   back = ap (λ (us : List Given). addressed n us ++ leaving n reason ∷ []) e;
+  goes = refl;
   stands = two;
   put = over ∷ [];
   carries = leaving_takes n p hs reason some e;
@@ -175,6 +183,7 @@ take_here n s (left_here p (g ∷ gs) reason) unit rest some quiet class orderly
       there = refl;
       out = sym (append-nil (out n (left_here p gs reason)));
       back = refl;
+      goes = sym (ap (λ (b : Bool). b || false) (given_stays n g));
       stands = (h.0, h.1.1);
       put = [];
       carries = left_ignores n p g gs reason;
@@ -189,6 +198,7 @@ take_here n s (left_both hs reason [] other) unit rest some quiet class orderly 
       there = refl;
       out = sym (append-nil (addressed n hs ++ leaving n reason ∷ []));
       back = refl;
+      goes = refl;
       stands = h.0;
       put = [];
       carries = both_takes n hs reason other some;
@@ -203,6 +213,7 @@ take_here n s (left_both hs reason (g ∷ gs) other) unit rest some quiet class 
       there = refl;
       out = sym (append-nil (addressed n hs ++ leaving n reason ∷ []));
       back = refl;
+      goes = sym (ap (λ (b : Bool). b || false) (given_stays n g));
       stands = (h.0, h.1.1);
       put = [];
       carries = both_ignores n hs reason g gs other;
@@ -217,6 +228,7 @@ take_here n s (waiting_here [] None) unit rest some quiet class orderly at h b =
       there = refl;
       out = refl;
       back = refl;
+      goes = refl;
       stands = tt;
       put = [];
       carries = waiting_over n;
@@ -231,6 +243,7 @@ take_here n s (waiting_here [] (Some reason)) unit rest some quiet class orderly
       there = refl;
       out = refl;
       back = refl;
+      goes = refl;
       stands = tt;
       put = [];
       carries = waiting_crossed n reason some;
@@ -245,6 +258,7 @@ take_here n s (waiting_here (g ∷ gs) last) unit rest some quiet class orderly 
       there = refl;
       out = refl;
       back = refl;
+      goes = sym (ap (λ (b : Bool). b || false) (given_stays n g));
       stands = h.1;
       put = [];
       carries = waiting_ignores n g gs last;
@@ -267,6 +281,7 @@ send_here n s (talking p) link octets quiet orderly at is h short =
       there = refl;
       out = addressed_join n p.rightward (all_given (with_tsdu p.left octets));
       back = refl;
+      goes = refl;
       stands = passes.stay_open;
       put = message octets ∷ [];
       carries = talking_sends n p octets h passes.rightward passes.leftward passes.stay_open;
@@ -283,6 +298,7 @@ send_here n s (left_there p hs reason) link octets quiet orderly at is h short =
       there = refl;
       out = addressed_join n hs given;
       back = refl;
+      goes = refl;
       stands = (passes.stay_open, class_join hs given h.1 (class_end p.rightward given passes.stay_open.agree.agree.class));
       put = message octets ∷ [];
       carries = behind_sends n p hs reason octets;
@@ -304,6 +320,7 @@ close_here n s (talking p) link reason some quiet class orderly at is h = record
   there = refl;
   out = refl;
   back = refl;
+  goes = refl;
   stands = (h, h.agree.agree_back.class);
   put = bye reason ∷ [];
   carries = talking_closes n p reason some;
@@ -317,6 +334,7 @@ close_here n s (left_there p hs other) link reason some quiet class orderly at i
   there = refl;
   out = refl;
   back = refl;
+  goes = refl;
   stands = (h.1, h.0.agree.agree_back.class);
   put = bye reason ∷ [];
   carries = behind_closes n p hs reason other some;

@@ -1,6 +1,6 @@
 -- How one connection of class 2 stands at a caller's and a called end's carrier, from before it is
 -- asked for until it is gone at both, and which units are under way for it.
-use Rattle.std.specs.Prelude.{◌≡◌, ◌≢◌, ℕ, Bool, true, false, not, List, [], ◌∷◌, ◌++◌, Option, Some, None, nat_lt, if◌then◌else◌, ◌⊎◌}
+use Rattle.std.specs.Prelude.{◌≡◌, ◌≢◌, ℕ, ◌+◌, Bool, true, false, not, List, [], ◌∷◌, ◌++◌, Option, Some, None, nat_lt, if◌then◌else◌, ◌⊎◌}
 use Rattle.std.specs.List.{flat_map}
 use Rattle.osi_tpdu.specs.Value.{Value, Connect, request, confirm}
 use Rattle.osi_class.specs.Between.{LinkPair}
@@ -8,7 +8,7 @@ use Rattle.osi_class.specs.Negotiation.{selected_size}
 use Rattle.osi_class.specs.declared.terms.Class.{Class}
 use Rattle.osi_class.specs.declared.terms.Class.TheVariants.{Two}
 use Rattle.osi_class.specs.declared.terms.Local.{Local}
-use Rattle.osi_carrier.specs.Addresses.{AreFor}
+use Rattle.osi_carrier.specs.Addresses.{AreFor, live_after, references, requests, behind}
 use Rattle.osi_carrier.specs.Happenings.{Happening, opened}
 use Rattle.osi_carrier.specs.Meeting.{Meeting, mirror, here, addressed, leaving, told_at, Stands}
 use Rattle.osi_carrier.specs.Meeting as meeting
@@ -153,6 +153,7 @@ pub record Acts (n : ℕ) (old new : State) (units : List Value) (told : List Ha
   pub local : new.local ≡ old.local
   pub is_caller : new.is_caller ≡ old.is_caller
   pub class : old.class ≡ Some Two → new.class ≡ Some Two
+  pub may : MayTakeTwo old.class → MayTakeTwo new.class
   pub all_for : AreFor n units
 
 abbrev pub HoldsAt : Bool → ℕ → State → State → Course → Type 0
@@ -163,8 +164,19 @@ abbrev pub called_local : Bool → State → State → Local
 called_local true this other = other.local
 called_local false this other = this.local
 
--- One end (`this` and then `next`) acted: these units to it were taken (one, or none).
-pub record CourseMoves (end : Bool) (n : ℕ) (old : Course) (this other next : State) (taken : List Value) : Type 0 where
+-- at the called end the references that are live are those behind the units that were taken
+abbrev pub KeepsPlaces : Bool → State → State → List Value → Type 0
+KeepsPlaces true old new taken = Unit {0}
+KeepsPlaces false old new taken = references new.live ≡ live_after (references old.live) taken
+
+-- the units in which a reference is asked for: those that the caller writes, and the called end takes
+abbrev pub asked_in : Bool → List Value → List Value → List Value
+asked_in true written taken = written
+asked_in false written taken = taken
+
+-- One end (`this` and then `next`) acted: these units to it were taken (one, or none), and so many
+-- references were given.
+pub record CourseMoves (end : Bool) (n : ℕ) (old : Course) (this other next : State) (taken : List Value) (asked : ℕ) : Type 0 where
   pub new : Course
   pub units : List Value
   pub events : List Happening
@@ -175,4 +187,7 @@ pub record CourseMoves (end : Bool) (n : ℕ) (old : Course) (this other next : 
   pub out : from_end end n (called_local end this other) new ≡ from_end end n (called_local end this other) old ++ units
   pub back : from_end (not end) n (called_local end this other) old ≡ taken ++ from_end (not end) n (called_local end this other) new
   pub holds : HoldsAt end n next other new
+  pub given : next.given ≡ this.given + asked
+  pub numbers : requests (asked_in end units taken) ≡ behind this.given asked
+  pub places : KeepsPlaces end this next taken
   pub carries : CourseCarries end n (called_local end this other) old new events put

@@ -20,3 +20,4 @@ pub mod Coming
 pub mod Runs
 pub mod Told
 pub mod Course
+pub mod Joined

@@ -1,17 +1,17 @@
 -- How one connection of class 2 stands at two carriers since both have had it open, and which units
 -- are under way for it. Both gave it the same reference. `here` is one of the two, `there` the other.
-use Rattle.std.specs.Prelude.{◌≡◌, ◌≢◌, ℕ, ◌<◌, ◌==◌, Bool, true, false, List, [], ◌∷◌, ◌++◌, map, Option, Some, None}
-use Rattle.std.specs.List.{flat_map}
+use Rattle.std.specs.Prelude.{◌≡◌, ◌≢◌, ℕ, ◌<◌, ◌==◌, Bool, true, false, List, [], ◌∷◌, ◌++◌, map, Option, Some, None, is_none}
+use Rattle.std.specs.List.{flat_map, list_any}
 use Rattle.osi_tpdu.specs.Value.{Value, disconnect, disconnected}
 use Rattle.osi_class.specs.Between.{LinkPair, swapped, AreOfClass}
 use Rattle.osi_class.specs.Link.{Given, unit_of}
 use Rattle.osi_class.specs.declared.terms.Class.TheVariants.{Two}
-use Rattle.osi_carrier.specs.Addresses.{AreFor}
+use Rattle.osi_carrier.specs.Addresses.{AreFor, is_last}
 use Rattle.osi_carrier.specs.Happenings.{Happening, tsdu, closed}
 use Rattle.osi_carrier.specs.Messages.{Message, ask, agree, deny, message, bye, over, messages_to, AreLike}
 use Rattle.osi_carrier.specs.OpenLinks.{AreOpen}
 use Rattle.osi_carrier.specs.Orderly.{IsOrderly}
-use Rattle.osi_carrier.specs.Rows.{value_at}
+use Rattle.osi_carrier.specs.Rows.{Rows, value_at, put, without}
 use Rattle.osi_carrier.specs.State.{Connection, asked, linked, closing, State, packets}
 
 -- A side that has closed keeps nothing of its link: `LinkPair` then has it as it was at that time, as
@@ -101,10 +101,16 @@ pub record IsAt (n : ℕ) (s : State) (m : Meeting) : Type 0 where
   pub is : value_at n s.live ≡ here n m
   pub stands : Stands m
 
+-- another connection at a reference, or none
+abbrev pub rows_with : ℕ → Option Connection → Rows Connection → Rows Connection
+rows_with n None live = without n live
+rows_with n (Some connection) live = put n connection live
+
 -- What changed is this connection: `after` is what is left of it, these units were written and these
 -- events told.
 pub record Changes (n : ℕ) (old new : State) (after : Option Connection) (units : List Value) (told : List Happening) : Type 0 where
   pub here : value_at n new.live ≡ after
+  pub live : new.live ≡ rows_with n after old.live
   pub others : (m : ℕ) → m ≢ n → value_at m new.live ≡ value_at m old.live
   pub outgoing : new.outgoing ≡ old.outgoing ++ packets units
   pub events : new.events ≡ old.events ++ told
@@ -158,6 +164,8 @@ pub record Moves (n : ℕ) (old : Meeting) (s t : State) (taken : List Value) : 
   pub there : there n new ≡ there n old
   pub out : out n new ≡ out n old ++ units
   pub back : back n old ≡ taken ++ back n new
+  -- a DR or a DC, and nothing else, leaves none here
+  pub goes : is_none (here n new) ≡ list_any is_last taken
   pub stands : Stands new
   pub put : List Message
   pub carries : Carries n old new events put
