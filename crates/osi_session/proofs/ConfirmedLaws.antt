@@ -15,7 +15,7 @@ use Rattle.osi_message.specs.Meanings.{Meaning, CN, AC, RF, DT, GT, PT, MIP, MIA
 use Rattle.osi_message.specs.Numbered.{IsNumbered}
 use Rattle.osi_session.specs.Shown.{MinorConfirmed, BadUnit}
 use Rattle.osi_session.specs.Allowed.{Step, needs, after, allowed, AllHold}
-use Rattle.osi_session.specs.Respond.{Outcome, si, conditions, first_fault, is_expected, drops, is_acceptable, stands, becomes, bad, judged, take_expected, respond_unit, and_then, is_faulty, verdict, AllMet, respond_all, acting}
+use Rattle.osi_session.specs.Respond.{Outcome, si, conditions, first_fault, is_expected, drops, is_acceptable, stands, becomes, bad, judged, take_expected, respond_unit, is_faulty, verdict, AllMet, respond_all, acting}
 use Rattle.osi_session.specs.Moves.{Input, called, taken, unread, opened, refused, broken, Standing, after_input, after_inputs}
 use Rattle.osi_session.specs.Runs.{HasNumbers}
 use Rattle.osi_session.proofs.ActingLaws.{acting_numbered}

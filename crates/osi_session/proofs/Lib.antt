@@ -1,3 +1,4 @@
+mod StateLaws
 pub mod ActingLaws
 pub mod Begun
 pub mod CallLaws

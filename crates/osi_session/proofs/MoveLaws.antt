@@ -9,7 +9,7 @@ use Rattle.osi_session.specs.Calls.{Call}
 use Rattle.osi_session.specs.Allowed.{Step, Answer, allowed}
 use Rattle.osi_session.specs.Respond.{Outcome, respond, respond_fault, respond_read}
 use Rattle.osi_session.specs.Moves.{called, taken, unread, came_as, Standing, Move, in_state, answered, moved, react, after_input}
-use Rattle.osi_session.specs.Sessions.{Planned, IsPlanOf, IsPlanned}
+use Rattle.osi_session.specs.Sessions.{Planned, IsPlanOf}
 use Rattle.osi_session.specs.declared.faults.CallError.TheVariants as error
 use Rattle.std.proofs.lemmas.Bool.{cases_Bool}
 use Rattle.osi_session.specs.Phases.{is_over}
@@ -52,25 +52,29 @@ came_is s (Err fault) o e = unread_is s fault o e
 -- ---- plans
 
 -- what is committed of a plan is the move of its call
-pub committed : (s : Standing) (c : Call) (plan : Planned) → IsPlanOf s c plan → in_state s plan.next ≡ after_input s (called c)
-committed s c plan p = sym p.next
+accepted : (s : Standing) (c : Call) (plan : Planned) (p : IsPlanOf c plan) → plan.was ≡ s.state → allowed s.state c ≡ Ok (record { next = plan.next; sent = p.0 })
+accepted s c plan p e = ap (λ (x : State). allowed x c) (sym e) ∙ p.1
+
+pub committed : (s : Standing) (c : Call) (plan : Planned) → IsPlanOf c plan → plan.was ≡ s.state → in_state s plan.next ≡ after_input s (called c)
+committed s c plan p e = call_leaves s c (record { next = plan.next; sent = p.0 }) (accepted s c plan p e)
+
+pub committed_sends : (s : Standing) (c : Call) (plan : Planned) → IsPlanOf c plan → plan.was ≡ s.state → option_map written (react s (called c)).reply ≡ Some plan.sent
+committed_sends s c plan p e = call_sends s c (record { next = plan.next; sent = p.0 }) (accepted s c plan p e) ∙ ap (λ (o : List ℕ). Some o) (sym p.2)
 
 over_refused : (s : State) (c : Call) → is_over s.phase ≡ true → allowed s c ≡ Err error.Ended
 unfolding allowed
 over_refused s c h = rw h refl
 
 -- there is none of a session that is over
-pub planned_live : (s : Standing) (c : Call) (plan : Planned) → IsPlanOf s c plan → is_over s.state.phase ≡ false
-planned_live s c plan p = elim (cases_Bool (is_over s.state.phase)) [
-  | inl t ↦
-      let none : option_map written (react s (called c)).reply ≡ None = ap (λ (m : Move). option_map written m.reply) (call_is s c (Err error.Ended) (over_refused s.state c t)) in
-      absurd (some_none plan.sent (sym p.sent ∙ none))
+pub planned_live : (c : Call) (plan : Planned) → IsPlanOf c plan → is_over plan.was.phase ≡ false
+planned_live c plan p = elim (cases_Bool (is_over plan.was.phase)) [
+  | inl t ↦ absurd (apart _ (sym (over_refused plan.was c t) ∙ p.1))
   | inr f ↦ f
 ]
   where
-    some_none : (octets : List ℕ) → Some octets ≡ None → ⊥
-    some_none octets e = cc
+    apart : (x : Step) → (let a : Answer = Err error.Ended in a) ≡ Ok x → ⊥
+    apart x e = cc
 
-pub plan_of : (s : Standing) (c : Call) (plan : Planned) → (react s (called c)).next ≡ in_state s plan.next
-    → option_map written (react s (called c)).reply ≡ Some plan.sent → IsPlanned s plan
-plan_of s c plan n m = (c, record { next = n; sent = m })
+-- what was decided and written is a plan
+pub plan_of : (c : Call) (plan : Planned) (x : Step) → allowed plan.was c ≡ Ok x → plan.next ≡ x.next → plan.sent ≡ written x.sent → IsPlanOf c plan
+plan_of c plan x e n o = (x.sent, e ∙ ap (λ (s : State). Ok (let y : Step = record { next = s; sent = x.sent } in y)) (sym n), o)

@@ -9,7 +9,7 @@ use Rattle.osi_session.specs.Phases.{is_ready, is_major_asked, is_major_due, is_
 use Rattle.osi_session.specs.Calls.{Call, Accept, Refuse, Data, Give, Please, Minor, MinorConfirm, Major, MajorConfirm, Restart, RestartConfirm, Release, ReleaseAccept, ReleaseRefuse, Abort}
 use Rattle.osi_message.specs.Meanings.{Meaning, CN, AC, RF, DT, GT, PT, MIP, MIA, MAP, MAA, RS, RA, FN, DN, NF, AB, AA}
 use Rattle.osi_session.specs.Allowed.{Step, may_call, after}
-use Rattle.osi_session.specs.Respond.{Outcome, is_expected, is_acceptable, stands, becomes, respond_unit, and_then, is_faulty, verdict, respond_all, acting}
+use Rattle.osi_session.specs.Respond.{Outcome, is_expected, is_acceptable, stands, becomes, respond_unit, is_faulty, verdict, respond_all, acting}
 use Rattle.osi_session.specs.Moves.{Input, called, taken, unread, opened, refused, broken, Standing, after_input, after_inputs}
 use Rattle.osi_session.specs.Causes.{some_unit, call_opens, unit_opens, opens_connection}
 use Rattle.osi_session.proofs.Passed.{passed}

@@ -11,8 +11,8 @@ use Rattle.osi_session.specs.Calls.{Call}
 use Rattle.osi_message.specs.Meanings.{Meaning, AB, AA}
 use Rattle.osi_message.specs.Reading.{Said}
 use Rattle.osi_session.specs.Allowed.{Step, Answer, allowed}
-use Rattle.osi_session.specs.Respond.{Outcome, si, conditions, first_fault, is_expected, drops, becomes, judged, take_expected, in_aborting, in_ended, respond_unit, AllMet, is_faulty, verdict, respond_all, acting, respond, respond_fault, lost}
-use Rattle.osi_session.specs.Moves.{Input, called, taken, unread, opened, refused, broken, Standing, Move, answered, react, after_input}
+use Rattle.osi_session.specs.Respond.{Outcome, si, conditions, first_fault, is_expected, drops, becomes, judged, take_expected, in_aborting, in_ended, respond_unit, AllMet, is_faulty, verdict, respond_all, acting, respond, respond_fault}
+use Rattle.osi_session.specs.Moves.{called, taken, unread, opened, refused, broken, Standing, Move, answered, react, after_input}
 use Rattle.osi_session.proofs.SoundUnits.{all_met}
 
 -- a call is accepted, or changes nothing

@@ -1,5 +1,5 @@
 -- What every run of a session keeps.
-use Rattle.std.proofs.Common.{◌≡◌, refl, sym, subst, ℕ, Bool, true, false, ◌||◌, List, [], ◌∷◌, Err, if◌then◌else◌, arith}
+use Rattle.std.proofs.Common.{◌≡◌, refl, sym, subst, ℕ, true, false, ◌||◌, List, [], ◌∷◌, Err, arith}
 use Rattle.std.specs.List.{AllByRecursion}
 use Rattle.osi_session.specs.declared.phases.Phase.{Phase}
 use Rattle.osi_session.specs.declared.phases.Phase.TheVariants.{Connecting, Aborting, Ended}

@@ -1,5 +1,5 @@
 -- How much a TSDU shows.
-use Rattle.std.proofs.Common.{◌≡◌, sym, subst, ℕ, ◌+◌, ◌≤◌, Bool, true, false, List, [], ◌∷◌, ◌++◌, length, if◌then◌else◌, arith}
+use Rattle.std.proofs.Common.{sym, subst, ℕ, ◌+◌, ◌≤◌, Bool, true, false, List, [], ◌∷◌, ◌++◌, length, if◌then◌else◌, arith}
 use Rattle.std.specs.List.{list_any}
 use Rattle.std.proofs.lemmas.List.{length-append}
 use Rattle.osi_session.specs.declared.state.State.{State}
@@ -7,7 +7,7 @@ use Rattle.osi_session.specs.Phases.{is_aborting, is_wait_cn}
 use Rattle.osi_message.specs.Meanings.{Meaning, CN, AC, RF, DT, GT, PT, MIP, MIA, MAP, MAA, RS, RA, FN, DN, NF, AB, AA}
 use Rattle.osi_message.specs.Reading.{Said}
 use Rattle.osi_session.specs.Shown.{Shown}
-use Rattle.osi_session.specs.Respond.{Outcome, is_acceptable, is_resynchronize, stands, shown_for, in_aborting, in_ended, respond_unit, and_then, Verdict, over, dropped, faulty, fine, verdict, enacted, is_faulty, respond_all, acting, respond}
+use Rattle.osi_session.specs.Respond.{Outcome, is_acceptable, is_resynchronize, stands, shown_for, in_aborting, in_ended, respond_unit, Verdict, over, dropped, faulty, fine, verdict, enacted, is_faulty, respond_all, acting, respond}
 use Rattle.osi_session.proofs.VerdictLaws.{enacts}
 
 abbrev AtMost : ℕ → List Shown → Type 0

@@ -9,13 +9,13 @@ use Rattle.osi_session.specs.declared.state.State.{State}
 use Rattle.osi_message.specs.Tokens.{no_token, is_empty}
 use Rattle.osi_session.specs.Phases.{is_aborting, is_ended, is_over}
 use Rattle.osi_session.specs.State.{without_tokens}
-use Rattle.osi_message.specs.Meanings.{Meaning, CN, AC, RF, DT, GT, PT, MIP, MIA, MAP, MAA, RS, RA, FN, DN, NF, AB, AA}
+use Rattle.osi_message.specs.Meanings.{Meaning, CN, GT, PT, AB, AA}
 use Rattle.std.specs.List.{list_any}
 use Rattle.osi_message.specs.Reading.{alone, behind}
 use Rattle.osi_session.specs.Units.{functional_units, has_data}
 use Rattle.osi_message.specs.Written.{is_second}
 use Rattle.osi_message.specs.Sendable.{said_of}
-use Rattle.osi_session.specs.Respond.{Outcome, Condition, si, conditions, first_fault, is_expected, drops, nothing, good, bad, judged, take_expected, in_aborting, in_ended, has_no_effect, is_token_item, is_resynchronize, reply_for, first_reply, replies_abort, respond_unit, and_then, Verdict, over, dropped, faulty, fine, by_fault, verdict, enacted, is_faulty, AllMet, IsGood, respond_all, acting, respond}
+use Rattle.osi_session.specs.Respond.{Outcome, Condition, si, conditions, first_fault, is_expected, drops, nothing, bad, judged, take_expected, in_aborting, in_ended, has_no_effect, is_token_item, is_resynchronize, reply_for, first_reply, replies_abort, respond_unit, and_then, Verdict, over, dropped, faulty, fine, by_fault, verdict, enacted, is_faulty, AllMet, IsGood, respond_all, acting, respond}
 use Rattle.osi_session.proofs.PhaseLaws.{implied, every_is}
 
 live : (s : State) (u : Meaning) (d x : Bool) (f : Option UnitFault) →

@@ -15,3 +15,4 @@ pub mod Sound
 pub mod State
 pub mod Steps
 pub mod Units
+pub mod Same

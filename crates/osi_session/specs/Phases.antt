@@ -115,6 +115,10 @@ takes_data Ready = true
 takes_data Releasing = true
 takes_data _ = false
 
+-- tokens are taken where they may be asked for
+abbrev pub takes_give : Phase → Bool
+takes_give p = may_ask p
+
 abbrev pub takes_please : Phase → Bool
 takes_please Ready = true
 takes_please MajorAsked = true

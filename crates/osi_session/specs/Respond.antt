@@ -16,10 +16,10 @@ use Rattle.osi_session.specs.declared.state.State.{State}
 use Rattle.osi_session.specs.declared.selected.FunctionalUnits.{FunctionalUnits}
 use Rattle.osi_message.specs.Tokens.{Token, has, no_token, is_empty, is_within, is_disjoint, united, token_octet}
 use Rattle.osi_message.specs.Tokens as token
-use Rattle.osi_session.specs.Units.{functional_units, both_units, has_data, has_points, available}
+use Rattle.osi_session.specs.Units.{functional_units, both_units, has_data, available}
 use Rattle.osi_session.specs.Sides.{stated, of_asker, answers_wishes}
 use Rattle.osi_session.specs.Numbers.{point_taken, minor_confirmed, major_confirmed, restarted_at}
-use Rattle.osi_session.specs.Phases.{is_wait_cn, is_connecting, is_ready, is_major_asked, is_releasing, is_restarting, is_aborting, is_ended, is_over, shows_loss, may_ask, takes_data, takes_please, takes_minor_ack, takes_restart}
+use Rattle.osi_session.specs.Phases.{is_wait_cn, is_connecting, is_ready, is_major_asked, is_releasing, is_restarting, is_aborting, is_ended, is_over, shows_loss, takes_give, takes_data, takes_please, takes_minor_ack, takes_restart}
 use Rattle.osi_session.specs.State.{without_tokens}
 use Rattle.osi_session.specs.Allowed.{base_for, opened_with}
 use Rattle.osi_message.specs.Meanings.{Meaning, CN, AC, RF, DT, GT, PT, MIP, MIA, MAP, MAA, RS, RA, FN, DN, NF, AB, AA}
@@ -78,7 +78,7 @@ is_expected p (CN v u n w from to o) = is_wait_cn p
 is_expected p (AC v u n w o) = is_connecting p
 is_expected p (RF r o) = is_connecting p
 is_expected p (DT o) = takes_data p
-is_expected p (GT t) = may_ask p
+is_expected p (GT t) = takes_give p
 is_expected p (PT t o) = takes_please p
 is_expected p (MIP c n o) = is_ready p
 is_expected p (MIA n o) = takes_minor_ack p

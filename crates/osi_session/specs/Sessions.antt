@@ -20,10 +20,10 @@ use Rattle.osi_session.specs.Sides.{offered}
 use Rattle.osi_session.specs.Numbers.{from_base}
 use Rattle.osi_session.specs.Shown.{Shown, shown_by}
 use Rattle.osi_session.specs.Openings.{asked_for}
-use Rattle.osi_session.specs.Allowed.{base_for, most_user_data}
+use Rattle.osi_session.specs.Allowed.{base_for, most_user_data, allowed}
 use Rattle.osi_session.specs.Respond.{is_nil}
 use Rattle.osi_session.specs.Calls.{Call}
-use Rattle.osi_session.specs.Moves.{Input, called, Standing, Move, in_state, react}
+use Rattle.osi_session.specs.Moves.{Standing, Move}
 use Rattle.osi_session.specs.Steps.{shown_list}
 
 -- ---- what a call answers
@@ -47,19 +47,15 @@ CanBeSent (Some m) = IsSendable m
 
 -- ---- a plan
 
--- the state after a call, and the octets that it sends
+-- the state in which a call is planned, the state after it, and the octets that it sends
 pub record Planned : Type 0 where
+  pub was : State
   pub next : State
   pub sent : List ℕ
 
--- the plan of a call that a session would accept now
-pub record IsPlanOf (s : Standing) (c : Call) (plan : Planned) : Type 0 where
-  pub next : (react s (called c)).next ≡ in_state s plan.next
-  pub sent : option_map written (react s (called c)).reply ≡ Some plan.sent
-
--- the plan of some call that the session would accept now
-abbrev pub IsPlanned : Standing → Planned → Type 0
-IsPlanned s plan = (call : Call) × IsPlanOf s call plan
+-- the plan of a call that is accepted in the state in which it is planned
+abbrev pub IsPlanOf : Call → Planned → Type 0
+IsPlanOf c plan = (m : Meaning) × (allowed plan.was c ≡ Ok (record { next = plan.next; sent = m })) × (plan.sent ≡ written m)
 
 -- ---- what a session begins with
 

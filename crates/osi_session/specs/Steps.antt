@@ -10,7 +10,7 @@ use Rattle.osi_session.specs.declared.reactions.Reaction.{Reaction}
 use Rattle.osi_session.specs.declared.grouping.Reactions.{Reactions}
 use Rattle.osi_message.specs.Meanings.{RF, AB, AA}
 use Rattle.osi_session.specs.Shown.{Shown, shown_by}
-use Rattle.osi_session.specs.Allowed.{Step, Answer}
+use Rattle.osi_session.specs.Allowed.{Step, Test, Answer, first_error}
 use Rattle.osi_session.specs.Respond.{Outcome, is_silent}
 
 abbrev pub step_of : memory.Step → Step
@@ -20,6 +20,11 @@ step_of s = record { next = s.next; sent = meant_by s.sent }
 abbrev pub Answers : Result memory.Step CallError → Answer → Type 0
 Answers (Ok s) answer = answer ≡ Ok (step_of s)
 Answers (Err e) answer = answer ≡ Err e
+
+-- what tests of a call find: that each holds, or the error of the first that fails
+abbrev pub Finds : {A : Type 0} → Result A CallError → List Test → Type 0
+Finds (Ok x) tests = (a : Answer) → first_error tests a ≡ a
+Finds (Err e) tests = (a : Answer) → first_error tests a ≡ Err e
 
 -- what is sent in answer to a unit
 abbrev pub reply_of : Reply → Meaning

@@ -1,13 +1,14 @@
 //! The table of calls.
 
-ghost use Rattle.std.specs.Prelude.{◌≡◌, ◌<◌, ◌≤◌, true, length, nat_le, Ok};
-ghost use Rattle.osi_session.specs.Allowed.{allowed, met, may_call, octets_of, most_of, has_right, is_restartable};
+ghost use Rattle.std.specs.Prelude.{◌≡◌, ◌<◌, ◌≤◌, ◌&&◌, true, length, nat_le, Ok, IfOk};
+ghost use Rattle.osi_session.specs.Allowed.{allowed, met, may_call, octets_of, most_of, has_right, point_needs, is_restartable};
 ghost use Rattle.osi_session.specs.Calls.{called_by, Accept, Data, Give, Please, Minor, MinorConfirm, Major, MajorConfirm, Restart, RestartConfirm, Release, ReleaseRefuse};
 ghost use Rattle.osi_message.specs.Meanings.{meant_by};
 ghost use Rattle.osi_session.specs.Sound.{IsSound};
 ghost use Rattle.osi_session.specs.State.{without_tokens};
-ghost use Rattle.osi_session.specs.Steps.{Answers, step_of};
+ghost use Rattle.osi_session.specs.Steps.{Answers, Finds, step_of};
 ghost use Rattle.osi_message.specs.Tokens.{named, no_token, set_of};
+ghost use Rattle.osi_message.specs.Tokens as token;
 ghost use Rattle.osi_session.specs.Units.{available};
 
 use crate::faults::CallError;
@@ -106,6 +107,23 @@ impl State {
             release: !there.release || self.held.release,
         }
     }
+
+    /// The tokens that a minor point needs are held, or not available.
+    fn has_minor_rights(&self) -> bool
+        ensures { result ≡ (has_right self.now token.data_token && has_right self.now token.minor) }
+    {
+        let rights = self.rights();
+        rights.data_token && rights.minor
+    }
+
+    /// The tokens that a major point needs are held, or not available.
+    fn has_major_rights(&self) -> bool
+        ensures { result ≡ (has_right self.now token.data_token
+            && (has_right self.now token.minor && has_right self.now token.major)) }
+    {
+        let rights = self.rights();
+        rights.data_token && rights.minor && rights.major
+    }
 }
 
 #[tactic(auto, unfolding(crate::specs::Allowed::met))]
@@ -123,8 +141,7 @@ fn accept<'a>(
         return Err(CallError::NotSelected);
     }
     let settled = sides.settle(units, state.wishes);
-    let has_points = units.has_points();
-    let base = if has_points { serial.number } else { 0 };
+    let base = units.base(serial.number);
     Ok(Step {
         next: State {
             phase: Phase::Ready,
@@ -137,7 +154,7 @@ fn accept<'a>(
         sent: Message::Accept {
             version_2: true,
             requirements,
-            serial: if has_points { Some(serial) } else { None },
+            serial: units.initial_number(serial),
             sides: settled.setting(),
             user_data,
         },
@@ -204,23 +221,31 @@ fn please<'a>(state: &State, tokens: TokenSet, user_data: &'a [u8]) -> Result<St
     })
 }
 
-#[tactic(auto, unfolding(crate::specs::Allowed::met))]
-fn minor<'a>(state: &State, confirm: bool, user_data: &'a [u8]) -> Result<Step<'a>, CallError>
-    ensures { Answers result (met state.now (Minor confirm user_data.entry.now)) }
+/// The number of the next point, where its functional unit is selected, its tokens are there and there
+/// is a number for it.
+fn next_point(state: &State, is_selected: bool, has_rights: bool) -> Result<Serial, CallError>
+    ensures tests { Finds result (point_needs state.now is_selected has_rights) }
+    ensures number { IfOk result (λ s. s.number ≡ state.now.numbers.next) }
 {
-    let rights = state.rights();
-    if !state.units.minor {
+    if !is_selected {
         return Err(CallError::NotSelected);
     }
-    if !(rights.data_token && rights.minor) {
+    if !has_rights {
         return Err(CallError::TokenNotHeld);
     }
     if state.numbers.next > LAST_NUMBER {
         return Err(CallError::SerialsUsedUp);
     }
-    let number = Serial {
+    Ok(Serial {
         number: state.numbers.next,
-    };
+    })
+}
+
+#[tactic(auto, unfolding(crate::specs::Allowed::met))]
+fn minor<'a>(state: &State, confirm: bool, user_data: &'a [u8]) -> Result<Step<'a>, CallError>
+    ensures { Answers result (met state.now (Minor confirm user_data.entry.now)) }
+{
+    let number = next_point(state, state.units.minor, state.has_minor_rights())?;
     Ok(Step {
         next: State {
             numbers: state.numbers.point_sent(),
@@ -263,19 +288,7 @@ fn minor_confirm<'a>(state: &State, number: u32, user_data: &'a [u8]) -> Result<
 fn major<'a>(state: &State, user_data: &'a [u8]) -> Result<Step<'a>, CallError>
     ensures { Answers result (met state.now (Major user_data.entry.now)) }
 {
-    let rights = state.rights();
-    if !state.units.major {
-        return Err(CallError::NotSelected);
-    }
-    if !(rights.data_token && rights.minor && rights.major) {
-        return Err(CallError::TokenNotHeld);
-    }
-    if state.numbers.next > LAST_NUMBER {
-        return Err(CallError::SerialsUsedUp);
-    }
-    let number = Serial {
-        number: state.numbers.next,
-    };
+    let number = next_point(state, state.units.major, state.has_major_rights())?;
     Ok(Step {
         next: State {
             phase: Phase::MajorAsked,

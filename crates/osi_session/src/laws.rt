@@ -1,7 +1,7 @@
 //! Laws of the definitions that the contracts cite. Each function does nothing: its clauses are the
 //! laws.
 
-ghost use Rattle.std.specs.Prelude.{◌≡◌, ◌+◌, ◌<◌, ◌≤◌, ◌⊎◌, ℕ, true, false, ◌||◌, if◌then◌else◌, length, List, [], ◌∷◌, Some, Ok};
+ghost use Rattle.std.specs.Prelude.{◌≡◌, ◌+◌, ◌<◌, ◌≤◌, ◌⊎◌, ℕ, true, false, ◌||◌, if◌then◌else◌, length, List, [], ◌∷◌, Some, Ok, option_map};
 ghost use Rattle.std.specs.List.{AllByRecursion, list_any};
 ghost use Rattle.std.specs.Int.RustNames.{bit_and};
 ghost use Rattle.osi_session.specs.declared.faults.UnitFault.{UnitFault};
@@ -19,7 +19,8 @@ ghost use Rattle.osi_message.specs.Meanings.{Meaning, MIA, RS};
 ghost use Rattle.osi_session.specs.Numbers.{lower};
 ghost use Rattle.osi_session.specs.Phases.{is_over, is_ended, is_restarting, is_restart_due, may_hold};
 ghost use Rattle.osi_message.specs.Reading.{Said, alone, behind, said_by_units};
-ghost use Rattle.osi_session.specs.Moves.{Input, called, taken, Standing, in_state, after_input, after_inputs};
+ghost use Rattle.osi_session.specs.Moves.{Input, called, taken, Standing, in_state, react, after_input, after_inputs};
+ghost use Rattle.osi_message.specs.Written.{written};
 ghost use Rattle.osi_session.specs.Respond.{nothing, bad, becomes, respond_unit, respond_all, respond, stands, drops, verdict, enacted, fine, IsGood, has_no_effect, is_token_item, is_resynchronize, and_then};
 ghost use Rattle.osi_session.specs.Restarts.{HasAsked, AreCrossed, after_restart};
 ghost use Rattle.osi_session.specs.Runs.{HasNumbers, IsFresh};
@@ -129,12 +130,15 @@ pub fn what_is_held()
     ensures octets { (a b : Tokens) → is_disjoint a b ≡ true → bit_and (token_octet a) (token_octet b) ≡ 0 }
 {}
 
-/// What a plan leaves once it is done is the move of the call that was planned, so that the laws over
-/// lists of inputs hold of runs with plans; and a session that is aborted or ended has no plan.
+/// A plan that is done in the state in which it was made leaves the move of its call and sends what that
+/// sends, so that the laws over lists of inputs hold of runs with plans; and a session that is aborted or
+/// ended has no plan.
 pub fn a_plan_is_its_call()
-    ensures step { (s : Standing) (call : Call) (plan : Planned) → IsPlanOf s call plan →
+    ensures step { (s : Standing) (call : Call) (plan : Planned) → IsPlanOf call plan → plan.was ≡ s.state →
         in_state s plan.next ≡ after_input s (called call) }
-    ensures live { (s : Standing) (call : Call) (plan : Planned) → IsPlanOf s call plan → is_over s.state.phase ≡ false }
+    ensures sent { (s : Standing) (call : Call) (plan : Planned) → IsPlanOf call plan → plan.was ≡ s.state →
+        option_map written (react s (called call)).reply ≡ Some plan.sent }
+    ensures live { (call : Call) (plan : Planned) → IsPlanOf call plan → is_over plan.was.phase ≡ false }
 {}
 
 /// Two restarts that cross: the lower number stands at both sides, and of equal numbers the caller's.

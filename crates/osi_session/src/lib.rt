@@ -13,6 +13,7 @@ mod phases;
 mod plans;
 mod reactions;
 mod requests;
+mod same;
 mod selected;
 mod sessions;
 mod sides;

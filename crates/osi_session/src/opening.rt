@@ -1,5 +1,4 @@
-ghost use Rattle.std.specs.Prelude.{◌≡◌, option_map};
-ghost use Rattle.osi_session.specs.Allowed.{serial_for};
+ghost use Rattle.std.specs.Prelude.{◌≡◌};
 ghost use Rattle.osi_message.specs.Meanings.{meant_by};
 ghost use Rattle.osi_message.specs.Written.{user_data_of};
 ghost use Rattle.osi_session.specs.Openings.{asked_for};
@@ -28,16 +27,6 @@ pub struct Opening<'a> {
     pub user_data: &'a [u8],
 }
 
-/// The number of the first point is written where there are points or restarts.
-fn initial_number(units: FunctionalUnits, serial: Serial) -> Option<Serial>
-    ensures { option_map (λ s. s.number) result ≡ serial_for units serial.number }
-{
-    if units.has_points() {
-        return Some(serial);
-    }
-    None
-}
-
 impl<'a> Opening<'a> {
     /// The CN, of version 2 (X.225 section 8, connect).
     #[tactic(auto, unfolding(osi_message::specs::Written::user_data_of))]
@@ -49,7 +38,7 @@ impl<'a> Opening<'a> {
         Message::Connect {
             version_2: true,
             requirements: self.requirements,
-            serial: initial_number(units, self.serial),
+            serial: units.initial_number(self.serial),
             wishes: offered(units, self.wishes),
             calling: self.calling_selector,
             called: self.called_selector,

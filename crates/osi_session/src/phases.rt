@@ -1,5 +1,5 @@
 ghost use Rattle.std.specs.Prelude.{◌≡◌};
-ghost use Rattle.osi_session.specs.Phases.{is_over, is_wait_transport, is_wait_cn, is_connecting, is_answering, is_ready, is_major_asked, is_major_due, is_releasing, is_release_due, is_restarting, is_restart_due, is_aborting, is_ended, in_major, may_give, may_ask, may_confirm_minor, may_restart, takes_data, takes_please, takes_minor_ack, takes_restart, may_abort, shows_loss};
+ghost use Rattle.osi_session.specs.Phases.{is_over, is_wait_transport, is_wait_cn, is_connecting, is_answering, is_ready, is_major_asked, is_major_due, is_releasing, is_release_due, is_restarting, is_restart_due, is_aborting, is_ended, in_major, may_give, may_ask, may_confirm_minor, may_restart, takes_data, takes_give, takes_please, takes_minor_ack, takes_restart, may_abort, shows_loss};
 
 /// Where a session connection stands (X.225 annex A, states).
 #[derive(Clone, Copy, PartialEq, Eq, Debug)]
@@ -146,7 +146,7 @@ impl Phase {
         matches!(self, Phase::Ready | Phase::MajorDue)
     }
 
-    /// Tokens may be asked for, and taken.
+    /// Tokens may be asked for.
     pub(crate) fn may_ask(self) -> bool
         ensures { result ≡ may_ask self }
     {
@@ -175,6 +175,13 @@ impl Phase {
         ensures { result ≡ takes_data self }
     {
         matches!(self, Phase::Ready | Phase::Releasing)
+    }
+
+    /// Tokens are taken: where they may be asked for.
+    pub(crate) fn takes_give(self) -> bool
+        ensures { result ≡ takes_give self }
+    {
+        self.may_ask()
     }
 
     /// A request for tokens is taken.

@@ -4,10 +4,11 @@ use crate::state::State;
 use osi_message::Sent;
 use std::marker::Model;
 
-/// What a call would do: the state after it, and the TSDU that it sends. It is made by
-/// `Session::plan` and done by `Session::commit`, before anything else happens to the session.
+/// What a call would do: the state in which it was planned, the state after it, and the TSDU that it
+/// sends. It is made by `Session::plan` and done by `Session::commit`.
 #[derive(Drop)]
 pub struct Plan {
+    pub(crate) was: State,
     pub(crate) next: State,
     pub(crate) sent: Sent,
 }
@@ -20,7 +21,7 @@ impl Model for Plan {
 
     ghost Value = { Planned };
 
-    ghost view = { λ p. record { next = p.next; sent = p.sent } };
+    ghost view = { λ p. record { was = p.was; next = p.next; sent = p.sent } };
 
     ghost invariant = { λ p. IsSound p.next × (is_wait_transport p.next.phase ≡ false) };
 }

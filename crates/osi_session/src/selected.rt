@@ -1,9 +1,10 @@
-ghost use Rattle.std.specs.Prelude.{◌≡◌};
+ghost use Rattle.std.specs.Prelude.{◌≡◌, option_map};
+ghost use Rattle.osi_session.specs.Allowed.{base_for, serial_for};
 ghost use Rattle.osi_session.specs.Units.{functional_units, both_units, has_points, has_data, is_profile, units_within, available};
 
 use bitflags::Flags;
 use osi_message::Tokens;
-use osi_spdu::Requirements;
+use osi_spdu::{Requirements, Serial};
 
 /// The functional units that have a meaning here (X.215 section 6.3), by name.
 #[derive(Clone, Copy, PartialEq, Eq, Debug)]
@@ -82,6 +83,23 @@ impl FunctionalUnits {
         ensures { result ≡ has_points self }
     {
         self.minor || self.major || self.resynchronize
+    }
+
+    /// The number of the first point, where there are points or restarts; else 0.
+    pub(crate) fn base(self, serial: u32) -> u32
+        ensures { result ≡ base_for self serial }
+    {
+        if self.has_points() { serial } else { 0 }
+    }
+
+    /// The number of the first point as it is written: where there are points or restarts.
+    pub(crate) fn initial_number(self, serial: Serial) -> Option<Serial>
+        ensures { option_map (λ s. s.number) result ≡ serial_for self serial.number }
+    {
+        if self.has_points() {
+            return Some(serial);
+        }
+        None
     }
 
     /// The tokens that are available (X.225 section 5.8): a token is where its unit is.

@@ -83,7 +83,7 @@ fn written_connect(alloc: Global, opening: &Opening) -> Result<Sent, AllocError>
 }
 
 impl Session {
-    ghost use Rattle.std.specs.Prelude.{◌≡◌, ◌++◌, [], true, false, map, option_map, None, Some, IsSome, IfOk, OnOk, IfErr, OnErr, is_none, ◌&&◌};
+    ghost use Rattle.std.specs.Prelude.{◌≡◌, ◌++◌, [], true, false, map, option_map, None, Some, IsSome, IfSome, OnSome, IfNone, ◌≢◌, IfOk, OnOk, IfErr, OnErr, is_none, ◌&&◌};
     ghost use Rattle.osi_spdu.specs.Groups.{units_of};
     ghost use Rattle.osi_message.specs.Reading.{said_by_units};
     ghost use Rattle.osi_message.specs.Tokens.{named, token_octet};
@@ -91,7 +91,7 @@ impl Session {
     ghost use Rattle.osi_session.specs.Moves.{called, taken, unread, came, opened, refused, broken, in_state, react};
     ghost use Rattle.osi_session.specs.Phases.{is_wait_transport};
     ghost use Rattle.osi_session.specs.Respond.{is_nil};
-    ghost use Rattle.osi_session.specs.Sessions.{Refused, CanBeSent, IsPlanned, opens, refusal_of, awaits, shown_in, is_quiet};
+    ghost use Rattle.osi_session.specs.Sessions.{Refused, CanBeSent, IsPlanOf, opens, refusal_of, awaits, shown_in, is_quiet};
     ghost use Rattle.osi_session.specs.Shown.{shown_by};
     ghost use Rattle.osi_session.specs.Sound.{IsSound};
     ghost use Rattle.osi_session.specs.Steps.{shown_list, outcome_of_all};
@@ -168,13 +168,15 @@ impl Session {
     pub fn plan(&self, request: Request) -> Result<Plan, CallError>
         ensures state { IfOk result (λ p. (react self.now (called (called_by request.entry))).next ≡ in_state self.now p.next) }
         ensures sent { IfOk result (λ p. option_map written (react self.now (called (called_by request.entry))).reply ≡ Some p.sent) }
-        ensures planned { IfOk result (λ p. IsPlanned self.now p) }
+        ensures planned { IfOk result (λ p. IsPlanOf (called_by request.entry) p) }
+        ensures was { IfOk result (λ p. p.was ≡ self.now.state) }
         ensures sendable { OnOk result (CanBeSent (react self.now (called (called_by request.entry))).reply) }
         ensures refused { IfErr result (λ e. Refused e (react self.now (called (called_by request.entry))).error) }
     {
         let step = decide(&self.state, request)?;
         match written_message(self.alloc, step.sent) {
             Ok(sent) => Ok(Plan {
+                was: self.state,
                 next: step.next,
                 sent,
             }),
@@ -183,15 +185,20 @@ impl Session {
     }
 
     /// Does what was planned, and takes no memory: the state is the plan's, and the TSDU is to be
-    /// sent. The plan is that of a call which the session would accept now: nothing has happened to it
-    /// since the plan was made, so no plan brings an ended session back.
-    pub fn commit(&mut self, plan: Plan) -> Sent
-        requires { IsPlanned self.old plan }
-        ensures state { self.new ≡ in_state self.old plan.next }
-        ensures sent { result ≡ plan.sent }
+    /// sent. `None` where the session is not in the state in which the plan was made: then nothing
+    /// changes, and nothing is to be sent. So no plan brings an ended session back.
+    pub fn commit(&mut self, plan: Plan) -> Option<Sent>
+        ensures state { OnSome result (self.new ≡ in_state self.old plan.next) }
+        ensures sent { IfSome result (λ s. s ≡ plan.sent) }
+        ensures planned { OnSome result (plan.was ≡ self.old.state) }
+        ensures stale { IfNone result (plan.was ≢ self.old.state) }
+        ensures rests { IfNone result (self.new ≡ self.old) }
     {
+        if !plan.was.is_same(&self.state) {
+            return None;
+        }
         self.state = plan.next;
-        plan.sent
+        Some(plan.sent)
     }
 
     /// A call of the user (X.225 section 7): the TSDU that is to be sent, or the first error that

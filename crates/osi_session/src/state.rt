@@ -61,11 +61,7 @@ impl State {
             is_caller: true,
             units,
             wishes: offered(units, opening.wishes),
-            proposed: if units.has_points() {
-                opening.serial.number
-            } else {
-                0
-            },
+            proposed: units.base(opening.serial.number),
             ..State::AWAITING
         }
     }

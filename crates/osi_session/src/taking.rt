@@ -1,8 +1,9 @@
 //! The table of units.
 
-ghost use Rattle.std.specs.Prelude.{◌≡◌, ◌<◌, ◌≤◌, true, false, None, option_map, is_some};
+ghost use Rattle.osi_message.specs.Tokens as token;
+ghost use Rattle.std.specs.Prelude.{◌≡◌, ◌&&◌, ◌<◌, ◌≤◌, true, false, None, option_map, is_some};
 ghost use Rattle.osi_message.specs.Meanings.{meant_by, CN, AC, RF, DT, GT, PT, MIP, MIA, MAP, MAA, RS, RA, FN, DN, NF, AB, AA};
-ghost use Rattle.osi_session.specs.Respond.{kind_of, has_no_effect, is_expected, passes_restarting, is_resynchronize, stands, is_acknowledgeable, take_expected, in_aborting, in_ended, respond_unit, agreed_base, is_outside};
+ghost use Rattle.osi_session.specs.Respond.{kind_of, has_no_effect, is_expected, passes_restarting, is_resynchronize, stands, is_acknowledgeable, first_fault, point_conditions, lacks, take_expected, in_aborting, in_ended, respond_unit, agreed_base, is_outside};
 ghost use Rattle.osi_session.specs.Allowed.{opened_with};
 ghost use Rattle.osi_session.specs.Sides.{of_asker};
 ghost use Rattle.osi_session.specs.Steps.{Reacts, outcome_of};
@@ -82,7 +83,7 @@ fn is_expected(phase: Phase, message: &Message) -> bool
         Message::Connect { .. } => phase.is_wait_cn(),
         Message::Accept { .. } | Message::Refuse { .. } => phase.is_connecting(),
         Message::Data { .. } => phase.takes_data(),
-        Message::Give { .. } => phase.may_ask(),
+        Message::Give { .. } => phase.takes_give(),
         Message::Please { .. } => phase.takes_please(),
         Message::MinorPoint { .. } | Message::MajorPoint { .. } => phase.is_ready(),
         Message::MinorAck { .. } => phase.takes_minor_ack(),
@@ -188,11 +189,7 @@ fn accept(
 fn opened(state: &State, units: FunctionalUnits, sides: Sides, serial: Option<u32>) -> State
     ensures { result ≡ opened_with units (of_asker units sides) (agreed_base units serial state.now.proposed) state.now }
 {
-    let base = if units.has_points() {
-        serial.unwrap_or(state.proposed)
-    } else {
-        0
-    };
+    let base = units.base(serial.unwrap_or(state.proposed));
     State {
         phase: Phase::Ready,
         units,
@@ -267,6 +264,46 @@ fn please(
     Ok(Reaction::showing(*state, Indication::Asked { tokens, user_data }))
 }
 
+impl State {
+    /// This end holds no token that a minor point needs.
+    fn lacks_minor_tokens(&self) -> bool
+        ensures { result ≡ (lacks self.now token.data_token && lacks self.now token.minor) }
+    {
+        !self.held.data_token && !self.held.minor
+    }
+
+    /// This end holds no token that a major point needs.
+    fn lacks_major_tokens(&self) -> bool
+        ensures { result ≡ (lacks self.now token.data_token
+            && (lacks self.now token.minor && lacks self.now token.major)) }
+    {
+        !self.held.data_token && !self.held.minor && !self.held.major
+    }
+}
+
+/// The fault of a point: its functional unit is not selected, this end holds one of its tokens, or its
+/// number is not V(M).
+fn point_fault(
+    state: &State,
+    si: u8,
+    is_selected: bool,
+    is_lacking: bool,
+    number: u32,
+) -> Option<UnitFault>
+    ensures { result ≡ first_fault si (point_conditions state.now is_selected is_lacking number) }
+{
+    if !is_selected {
+        return Some(UnitFault::NotSelected(si));
+    }
+    if !is_lacking {
+        return Some(UnitFault::TokenHeld(si));
+    }
+    if number != state.numbers.next {
+        return Some(UnitFault::BadNumber(si));
+    }
+    None
+}
+
 /// MIP, of a peer that has the tokens of data and of minor points; its number is V(M).
 #[tactic(auto, unfolding(crate::specs::Respond::take_expected))]
 fn minor_point(
@@ -280,14 +317,9 @@ fn minor_point(
 {
     let si = Kind::MinorSyncPoint.si();
     let number = number.number;
-    if !state.units.minor {
-        return Ok(Reaction::bad(state, UnitFault::NotSelected(si)));
-    }
-    if state.held.data_token || state.held.minor {
-        return Ok(Reaction::bad(state, UnitFault::TokenHeld(si)));
-    }
-    if number != state.numbers.next {
-        return Ok(Reaction::bad(state, UnitFault::BadNumber(si)));
+    let is_lacking = state.lacks_minor_tokens();
+    if let Some(fault) = point_fault(state, si, state.units.minor, is_lacking, number) {
+        return Ok(Reaction::bad(state, fault));
     }
     let next = State {
         numbers: state.numbers.point_taken(),
@@ -355,14 +387,9 @@ fn major_point(
 {
     let si = Kind::MajorSyncPoint.si();
     let number = number.number;
-    if !state.units.major {
-        return Ok(Reaction::bad(state, UnitFault::NotSelected(si)));
-    }
-    if state.held.data_token || state.held.minor || state.held.major {
-        return Ok(Reaction::bad(state, UnitFault::TokenHeld(si)));
-    }
-    if number != state.numbers.next {
-        return Ok(Reaction::bad(state, UnitFault::BadNumber(si)));
+    let is_lacking = state.lacks_major_tokens();
+    if let Some(fault) = point_fault(state, si, state.units.major, is_lacking, number) {
+        return Ok(Reaction::bad(state, fault));
     }
     let next = State {
         phase: Phase::MajorDue,

@@ -480,7 +480,7 @@ fn plan_goes_on(left: &mut Session) -> Result<(), Fail> {
     let plan = left.plan(give(0x01))?;
     same(plan.octets(), &[0x01, 0x03, 0x10, 0x01, 0x01])?;
     holds(left, 0x55)?;
-    let sent = left.commit(plan);
+    let sent = left.commit(plan).ok_or("the session is as it was planned")?;
     same(sent.as_slice(), &[0x01, 0x03, 0x10, 0x01, 0x01])?;
     holds(left, 0x54)
 }

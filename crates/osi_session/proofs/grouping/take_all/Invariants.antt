@@ -1,9 +1,8 @@
-use Rattle.std.proofs.Common.{◌≡◌, [], None, length, map}
+use Rattle.std.proofs.Common.{length, map}
 use Rattle.osi_spdu.specs.Groups.{units_behind, units_of}
 use Rattle.osi_message.specs.Meanings.{meant_by}
 use Rattle.osi_message.specs.Reading.{meaning, said_by_units}
 use Rattle.osi_session.specs.Respond.{respond}
-use Rattle.osi_session.specs.Steps.{outcome_of_all}
 use Rattle.osi_session.proofs.FollowLaws.{Walks}
 use Rattle.osi_session.proofs.grouping.take_all.Given as goal
 

@@ -1,4 +1,4 @@
-use Rattle.std.proofs.Common.{◌≡◌, ◌∙◌, ap, subst, sym, Some, None, option_map}
+use Rattle.std.proofs.Common.{◌≡◌, ◌∙◌, ap, refl, subst, sym, Some, None, option_map}
 use Rattle.std.specs.Option.{option_and_then}
 use Rattle.osi_message.specs.Written.{written}
 use Rattle.osi_session.specs.Calls.{called_by}
@@ -47,8 +47,9 @@ returns-in-Ok-clause-state c =
 
 pub returns-in-Ok-clause-planned : goal.returns-in-Ok-clause-planned
 returns-in-Ok-clause-planned c =
-    plan_of c.args.self.now (called_by c.args.request) (record { next = c.in_ok-step.step.next; sent = c.in-Ok.sent })
-    (returns-in-Ok-clause-state c) (returns-in-Ok-clause-sent c)
+    let x = step_of c.in_ok-step.step in
+    plan_of (called_by c.args.request) (record { was = c.self.inside.state; next = c.in_ok-step.step.next; sent = c.in-Ok.sent }) x
+    c.in_ok-step.ensures refl c.in-Ok.ensures
 
 pub invariant_of-result : goal.invariant_of-result
 invariant_of-result c = (
