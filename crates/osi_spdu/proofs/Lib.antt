@@ -1,3 +1,4 @@
+pub mod Named
 pub mod Digits
 pub mod OneOctet
 pub mod ParamsLaws

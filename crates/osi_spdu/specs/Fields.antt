@@ -23,20 +23,28 @@ abbrev pub sync_octet : SyncType → ℕ
 sync_octet Asked = 0
 sync_octet Open = 1
 
+-- the bits of a set of tokens, those that name none included
+abbrev pub bits_of : TokenSet → ℕ
+bits_of t = t.0
+
 abbrev pub token_octets : TokenSet → List ℕ
-token_octets t = token_bits t.0 ∷ []
+token_octets t = token_bits (bits_of t) ∷ []
 
 -- no bit of the set names no token
 abbrev pub tokens_alone : Option TokenSet → Bool
 tokens_alone None = true
-tokens_alone (Some t) = token_bits t.0 == t.0
+tokens_alone (Some t) = token_bits (bits_of t) == bits_of t
 
 -- a number of two octets, the high one first
 abbrev pub two_octets : ℕ → List ℕ
 two_octets n = n / 256 ∷ n % 256 ∷ []
 
+-- the bits of functional units, all 16
+abbrev pub unit_bits : Requirements → ℕ
+unit_bits r = r.0
+
 abbrev pub requirement_octets : Requirements → List ℕ
-requirement_octets r = two_octets r.0
+requirement_octets r = two_octets (unit_bits r)
 
 abbrev pub size_octets : TsduMaximumSize → List ℕ
 size_octets s = s.from_asker / 256 ∷ s.from_asker % 256 ∷ s.from_answerer / 256 ∷ s.from_answerer % 256 ∷ []

@@ -12,6 +12,7 @@ pub mod Counted
 pub mod Behind
 pub mod Groups
 pub mod Units
+pub mod Made
 pub mod Found
 pub mod Faults
 pub mod Laws

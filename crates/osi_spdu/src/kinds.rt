@@ -1,5 +1,5 @@
-ghost use Rattle.std.specs.Prelude.{◌≡◌, ◌∷◌};
-ghost use Rattle.osi_spdu.specs.Kinds.{si_of, category_of, codes_of, members_of, references_of, required_of, may_stand, one_kind, later_kinds, kind_named};
+ghost use Rattle.std.specs.Prelude.{◌≡◌};
+ghost use Rattle.osi_spdu.specs.Kinds.{si_of, category_of, codes_of, members_of, references_of, required_of, may_stand, kind_named};
 ghost use Rattle.osi_spdu.specs.Reading.{takes_rest};
 ghost use Rattle.osi_spdu.specs.Writing.{among};
 
@@ -54,46 +54,6 @@ pub enum Category {
     /// After a unit of category 0.
     Two,
 }
-
-/// The units that an SI can name in the first place.
-const FIRST: [Kind; 16] = [
-    Kind::GiveTokens,
-    Kind::PleaseTokens,
-    Kind::NotFinished,
-    Kind::Finish,
-    Kind::Disconnect,
-    Kind::Refuse,
-    Kind::Connect,
-    Kind::Accept,
-    Kind::Abort,
-    Kind::AbortAccept,
-    Kind::ResynchronizeAck,
-    Kind::MajorSyncPoint,
-    Kind::MajorSyncAck,
-    Kind::MinorSyncPoint,
-    Kind::MinorSyncAck,
-    Kind::Resynchronize,
-];
-
-/// The units that an SI can name in the second place.
-const SECOND: [Kind; 16] = [
-    Kind::DataTransfer,
-    Kind::PleaseTokens,
-    Kind::NotFinished,
-    Kind::Finish,
-    Kind::Disconnect,
-    Kind::Refuse,
-    Kind::Connect,
-    Kind::Accept,
-    Kind::Abort,
-    Kind::AbortAccept,
-    Kind::ResynchronizeAck,
-    Kind::MajorSyncPoint,
-    Kind::MajorSyncAck,
-    Kind::MinorSyncPoint,
-    Kind::MinorSyncAck,
-    Kind::Resynchronize,
-];
 
 /// The codes that an RF knows.
 const OF_REFUSE: [Code; 6] = [
@@ -306,19 +266,29 @@ impl Category {
     }
 }
 
-fn kinds_at(second: bool) -> &'static [Kind]
-    ensures { result.now ≡ one_kind second ∷ later_kinds }
-{
-    if second { &SECOND } else { &FIRST }
-}
-
-/// The unit that an SI names in the first place of a TSDU, or in the second.
-#[tactic(auto, unfolding(crate::specs::Kinds::kind_named))]
+/// The unit that an SI names in the first place of a TSDU, or behind another unit.
+#[tactic(auto, using(crate::proofs::Named::unnamed), unfolding(crate::specs::Kinds::kind_named, crate::specs::Kinds::si_of))]
 pub(crate) fn kind_named(second: bool, si: u8) -> Option<Kind>
     ensures { result ≡ kind_named second si }
 {
-    kinds_at(second)
-        .iter()
-        .copied()
-        .find(|kind| kind.si() == si)
+    match si {
+        1 if second => Some(Kind::DataTransfer),
+        1 => Some(Kind::GiveTokens),
+        2 => Some(Kind::PleaseTokens),
+        8 => Some(Kind::NotFinished),
+        9 => Some(Kind::Finish),
+        10 => Some(Kind::Disconnect),
+        12 => Some(Kind::Refuse),
+        13 => Some(Kind::Connect),
+        14 => Some(Kind::Accept),
+        25 => Some(Kind::Abort),
+        26 => Some(Kind::AbortAccept),
+        34 => Some(Kind::ResynchronizeAck),
+        41 => Some(Kind::MajorSyncPoint),
+        42 => Some(Kind::MajorSyncAck),
+        49 => Some(Kind::MinorSyncPoint),
+        50 => Some(Kind::MinorSyncAck),
+        53 => Some(Kind::Resynchronize),
+        _ => None,
+    }
 }

@@ -13,6 +13,7 @@ mod levels;
 mod making;
 mod octets;
 mod params;
+mod readers;
 mod reading;
 mod requirements;
 mod selectors;

@@ -1,8 +1,9 @@
 //! The units that a session makes (X.225 section 8).
 
-ghost use Rattle.std.specs.Prelude.{◌≡◌, ◌≤◌, ◌<◌, length, true, Some, None, []};
+ghost use Rattle.std.specs.Prelude.{◌≡◌, ◌≤◌, ◌<◌, length, true, None};
 ghost use Rattle.osi_spdu.specs.Kinds.{category_of};
 ghost use Rattle.osi_spdu.specs.declared.kinds.Category.TheVariants.{Two};
+ghost use Rattle.osi_spdu.specs.Made.{made, connect_params, accept_params, refuse_params, data_params, abort_params, give_tokens_params, please_tokens_params, minor_point_params, ack_params, major_point_params, resynchronize_params, resynchronize_ack_params};
 ghost use Rattle.osi_spdu.specs.Params.{known_of, no_params};
 ghost use Rattle.osi_spdu.specs.Writing.{is_joined, UnitFits};
 
@@ -38,21 +39,8 @@ impl<'a> Spdu<'a> {
         called_selector: Option<Selector<'a>>,
         user_data: &'a [u8],
     ) -> Spdu<'a>
-        ensures units { said_by result ≡ record {
-          kind = Kind.Connect;
-          known = known_of (record no_params {
-            connect_accept_item = true;
-            protocol_options = Some 1;
-            version = Some 2;
-            initial_number = terms.initial_number;
-            token_setting = Some terms.token_setting;
-            user_requirements = Some terms.user_requirements;
-            calling_selector = calling_selector.entry;
-            called_selector = called_selector.entry;
-            user_data = Some user_data.entry;
-          });
-          information = [];
-        } }
+        ensures units { said_by result
+            ≡ made Kind.Connect (connect_params terms calling_selector.entry called_selector.entry user_data.entry) }
         ensures place { is_joined (said_by result).kind None ≡ true }
         ensures fits { length user_data.entry.now ≤ 65000 → UnitFits (said_by result) }
     {
@@ -73,19 +61,7 @@ impl<'a> Spdu<'a> {
 
     /// AC: accepts a connection.
     pub fn accept(terms: Terms, user_data: &'a [u8]) -> Spdu<'a>
-        ensures units { said_by result ≡ record {
-          kind = Kind.Accept;
-          known = known_of (record no_params {
-            connect_accept_item = true;
-            protocol_options = Some 1;
-            version = Some 2;
-            initial_number = terms.initial_number;
-            token_setting = Some terms.token_setting;
-            user_requirements = Some terms.user_requirements;
-            user_data = Some user_data.entry;
-          });
-          information = [];
-        } }
+        ensures units { said_by result ≡ made Kind.Accept (accept_params terms user_data.entry) }
         ensures place { is_joined (said_by result).kind None ≡ true }
         ensures fits { length user_data.entry.now ≤ 65000 → UnitFits (said_by result) }
     {
@@ -104,14 +80,7 @@ impl<'a> Spdu<'a> {
 
     /// RF: refuses a connection, and keeps no transport connection (17 is 01).
     pub fn refuse(reason: Reason<'a>) -> Spdu<'a>
-        ensures units { said_by result ≡ record {
-          kind = Kind.Refuse;
-          known = known_of (record no_params {
-            transport_disconnect = Some 1;
-            reason = Some reason.entry;
-          });
-          information = [];
-        } }
+        ensures units { said_by result ≡ made Kind.Refuse (refuse_params reason.entry) }
         ensures place { is_joined (said_by result).kind None ≡ true }
         ensures fits { length reason.entry.data_octets.now < 65000 → UnitFits (said_by result) }
     {
@@ -125,13 +94,7 @@ impl<'a> Spdu<'a> {
 
     /// FN: asks for the release of a connection.
     pub fn finish(user_data: &'a [u8]) -> Spdu<'a>
-        ensures units { said_by result ≡ record {
-          kind = Kind.Finish;
-          known = known_of (record no_params {
-            user_data = Some user_data.entry;
-          });
-          information = [];
-        } }
+        ensures units { said_by result ≡ made Kind.Finish (data_params user_data.entry) }
         ensures place { is_joined (said_by result).kind None ≡ true }
         ensures fits { length user_data.entry.now ≤ 65000 → UnitFits (said_by result) }
     {
@@ -144,13 +107,7 @@ impl<'a> Spdu<'a> {
 
     /// DN: releases a connection.
     pub fn disconnect(user_data: &'a [u8]) -> Spdu<'a>
-        ensures units { said_by result ≡ record {
-          kind = Kind.Disconnect;
-          known = known_of (record no_params {
-            user_data = Some user_data.entry;
-          });
-          information = [];
-        } }
+        ensures units { said_by result ≡ made Kind.Disconnect (data_params user_data.entry) }
         ensures place { is_joined (said_by result).kind None ≡ true }
         ensures fits { length user_data.entry.now ≤ 65000 → UnitFits (said_by result) }
     {
@@ -163,13 +120,7 @@ impl<'a> Spdu<'a> {
 
     /// NF: refuses to release a connection.
     pub fn not_finished(user_data: &'a [u8]) -> Spdu<'a>
-        ensures units { said_by result ≡ record {
-          kind = Kind.NotFinished;
-          known = known_of (record no_params {
-            user_data = Some user_data.entry;
-          });
-          information = [];
-        } }
+        ensures units { said_by result ≡ made Kind.NotFinished (data_params user_data.entry) }
         ensures place { is_joined (said_by result).kind None ≡ true }
         ensures fits { length user_data.entry.now ≤ 65000 → UnitFits (said_by result) }
     {
@@ -183,14 +134,8 @@ impl<'a> Spdu<'a> {
     /// AB: aborts a connection. The octet has 01 where the transport connection is released, 02 for
     /// a user's abort, 04 for a protocol error.
     pub fn abort(transport_disconnect: u8, user_data: &'a [u8]) -> Spdu<'a>
-        ensures units { said_by result ≡ record {
-          kind = Kind.Abort;
-          known = known_of (record no_params {
-            transport_disconnect = Some transport_disconnect;
-            user_data = Some user_data.entry;
-          });
-          information = [];
-        } }
+        ensures units { said_by result
+            ≡ made Kind.Abort (abort_params transport_disconnect user_data.entry) }
         ensures place { is_joined (said_by result).kind None ≡ true }
         ensures fits { length user_data.entry.now ≤ 65000 → UnitFits (said_by result) }
     {
@@ -204,11 +149,7 @@ impl<'a> Spdu<'a> {
 
     /// AA: answers an abort.
     pub fn abort_accept() -> Spdu<'a>
-        ensures units { said_by result ≡ record {
-          kind = Kind.AbortAccept;
-          known = known_of no_params;
-          information = [];
-        } }
+        ensures units { said_by result ≡ made Kind.AbortAccept no_params }
         ensures place { is_joined (said_by result).kind None ≡ true }
         ensures fits { UnitFits (said_by result) }
     {
@@ -218,13 +159,7 @@ impl<'a> Spdu<'a> {
 
     /// GT: gives tokens; with none it stands in front of a unit of category 2.
     pub fn give_tokens(token_item: Option<TokenSet>) -> Spdu<'a>
-        ensures units { said_by result ≡ record {
-          kind = Kind.GiveTokens;
-          known = known_of (record no_params {
-            token_item = token_item;
-          });
-          information = [];
-        } }
+        ensures units { said_by result ≡ made Kind.GiveTokens (give_tokens_params token_item) }
         ensures place { is_joined (said_by result).kind None ≡ true }
         ensures fits { UnitFits (said_by result) }
     {
@@ -237,14 +172,8 @@ impl<'a> Spdu<'a> {
 
     /// PT: asks for tokens.
     pub fn please_tokens(token_item: Option<TokenSet>, user_data: &'a [u8]) -> Spdu<'a>
-        ensures units { said_by result ≡ record {
-          kind = Kind.PleaseTokens;
-          known = known_of (record no_params {
-            token_item = token_item;
-            user_data = Some user_data.entry;
-          });
-          information = [];
-        } }
+        ensures units { said_by result
+            ≡ made Kind.PleaseTokens (please_tokens_params token_item user_data.entry) }
         ensures place { is_joined (said_by result).kind None ≡ true }
         ensures fits { length user_data.entry.now ≤ 65000 → UnitFits (said_by result) }
     {
@@ -258,15 +187,8 @@ impl<'a> Spdu<'a> {
 
     /// MIP: a minor synchronization point.
     pub fn minor_point(sync_type: Option<SyncType>, number: Serial, user_data: &'a [u8]) -> Spdu<'a>
-        ensures units { said_by result ≡ record {
-          kind = Kind.MinorSyncPoint;
-          known = known_of (record no_params {
-            sync_type = sync_type;
-            number = Some number;
-            user_data = Some user_data.entry;
-          });
-          information = [];
-        } }
+        ensures units { said_by result
+            ≡ made Kind.MinorSyncPoint (minor_point_params sync_type number user_data.entry) }
         ensures place { category_of (said_by result).kind ≡ Two }
         ensures fits { length user_data.entry.now ≤ 65000 → UnitFits (said_by result) }
     {
@@ -281,14 +203,7 @@ impl<'a> Spdu<'a> {
 
     /// MIA: confirms the minor synchronization points up to this one.
     pub fn minor_ack(number: Serial, user_data: &'a [u8]) -> Spdu<'a>
-        ensures units { said_by result ≡ record {
-          kind = Kind.MinorSyncAck;
-          known = known_of (record no_params {
-            number = Some number;
-            user_data = Some user_data.entry;
-          });
-          information = [];
-        } }
+        ensures units { said_by result ≡ made Kind.MinorSyncAck (ack_params number user_data.entry) }
         ensures place { category_of (said_by result).kind ≡ Two }
         ensures fits { length user_data.entry.now ≤ 65000 → UnitFits (said_by result) }
     {
@@ -302,15 +217,8 @@ impl<'a> Spdu<'a> {
 
     /// MAP: a major synchronization point (15 is 01).
     pub fn major_point(number: Serial, user_data: &'a [u8]) -> Spdu<'a>
-        ensures units { said_by result ≡ record {
-          kind = Kind.MajorSyncPoint;
-          known = known_of (record no_params {
-            sync_type = Some SyncType.Open;
-            number = Some number;
-            user_data = Some user_data.entry;
-          });
-          information = [];
-        } }
+        ensures units { said_by result
+            ≡ made Kind.MajorSyncPoint (major_point_params number user_data.entry) }
         ensures place { category_of (said_by result).kind ≡ Two }
         ensures fits { length user_data.entry.now ≤ 65000 → UnitFits (said_by result) }
     {
@@ -325,14 +233,7 @@ impl<'a> Spdu<'a> {
 
     /// MAA: confirms a major synchronization point.
     pub fn major_ack(number: Serial, user_data: &'a [u8]) -> Spdu<'a>
-        ensures units { said_by result ≡ record {
-          kind = Kind.MajorSyncAck;
-          known = known_of (record no_params {
-            number = Some number;
-            user_data = Some user_data.entry;
-          });
-          information = [];
-        } }
+        ensures units { said_by result ≡ made Kind.MajorSyncAck (ack_params number user_data.entry) }
         ensures place { category_of (said_by result).kind ≡ Two }
         ensures fits { length user_data.entry.now ≤ 65000 → UnitFits (said_by result) }
     {
@@ -351,16 +252,8 @@ impl<'a> Spdu<'a> {
         number: Serial,
         user_data: &'a [u8],
     ) -> Spdu<'a>
-        ensures units { said_by result ≡ record {
-          kind = Kind.Resynchronize;
-          known = known_of (record no_params {
-            token_setting = Some token_setting;
-            resync_type = Some resync_type;
-            number = Some number;
-            user_data = Some user_data.entry;
-          });
-          information = [];
-        } }
+        ensures units { said_by result
+            ≡ made Kind.Resynchronize (resynchronize_params token_setting resync_type number user_data.entry) }
         ensures place { category_of (said_by result).kind ≡ Two }
         ensures fits { length user_data.entry.now ≤ 65000 → UnitFits (said_by result) }
     {
@@ -380,15 +273,8 @@ impl<'a> Spdu<'a> {
         number: Serial,
         user_data: &'a [u8],
     ) -> Spdu<'a>
-        ensures units { said_by result ≡ record {
-          kind = Kind.ResynchronizeAck;
-          known = known_of (record no_params {
-            token_setting = Some token_setting;
-            number = Some number;
-            user_data = Some user_data.entry;
-          });
-          information = [];
-        } }
+        ensures units { said_by result
+            ≡ made Kind.ResynchronizeAck (resynchronize_ack_params token_setting number user_data.entry) }
         ensures place { category_of (said_by result).kind ≡ Two }
         ensures fits { length user_data.entry.now ≤ 65000 → UnitFits (said_by result) }
     {
@@ -403,11 +289,8 @@ impl<'a> Spdu<'a> {
 
     /// DT: user information.
     pub fn data_transfer(information: &'a [u8]) -> Spdu<'a>
-        ensures units { said_by result ≡ record {
-          kind = Kind.DataTransfer;
-          known = known_of no_params;
-          information = information.now;
-        } }
+        ensures units { said_by result
+            ≡ record { kind = Kind.DataTransfer; known = known_of no_params; information = information.now } }
         ensures place { category_of (said_by result).kind ≡ Two }
         ensures fits { UnitFits (said_by result) }
     {

@@ -21,57 +21,57 @@ use crate::tokens::TokenSet;
 #[derive(Clone, Copy)]
 pub struct Params<'a> {
     /// Whether the group of the references is there (1).
-    pub connection_identifier: bool,
+    pub(crate) connection_identifier: bool,
     /// Whether the group of protocol options, version, first number and token setting is there (5).
-    pub connect_accept_item: bool,
+    pub(crate) connect_accept_item: bool,
     /// Reference of the called session user (9).
-    pub called_reference: Option<&'a [u8]>,
+    pub(crate) called_reference: Option<&'a [u8]>,
     /// Reference of the calling session user (10).
-    pub calling_reference: Option<&'a [u8]>,
+    pub(crate) calling_reference: Option<&'a [u8]>,
     /// Common reference (11).
-    pub common_reference: Option<&'a [u8]>,
+    pub(crate) common_reference: Option<&'a [u8]>,
     /// Additional reference information (12).
-    pub additional_reference: Option<&'a [u8]>,
+    pub(crate) additional_reference: Option<&'a [u8]>,
     /// Whether a point asks for its confirmation (15).
-    pub sync_type: Option<SyncType>,
+    pub(crate) sync_type: Option<SyncType>,
     /// Tokens that are given or asked for (16).
-    pub token_item: Option<TokenSet>,
+    pub(crate) token_item: Option<TokenSet>,
     /// Whether the transport connection is kept (01 released), and who aborts (02 the user, 04 for
     /// a protocol error, 08 for no reason) (17).
-    pub transport_disconnect: Option<u8>,
+    pub(crate) transport_disconnect: Option<u8>,
     /// Protocol options: bit 1 is extended concatenation (19).
-    pub protocol_options: Option<u8>,
+    pub(crate) protocol_options: Option<u8>,
     /// The functional units (20).
-    pub user_requirements: Option<Requirements>,
+    pub(crate) user_requirements: Option<Requirements>,
     /// The largest TSDU in each direction (21).
-    pub tsdu_maximum_size: Option<TsduMaximumSize>,
+    pub(crate) tsdu_maximum_size: Option<TsduMaximumSize>,
     /// The versions of the protocol: bit 1 is version 1, bit 2 is version 2 (22).
-    pub version: Option<u8>,
+    pub(crate) version: Option<u8>,
     /// The first synchronization point serial number (23).
-    pub initial_number: Option<Serial>,
+    pub(crate) initial_number: Option<Serial>,
     /// Where the user data begins and ends (25).
-    pub enclosure: Option<Enclosure>,
+    pub(crate) enclosure: Option<Enclosure>,
     /// The side that is to hold each token (26).
-    pub token_setting: Option<TokenSetting>,
+    pub(crate) token_setting: Option<TokenSetting>,
     /// What a resynchronization does (27).
-    pub resync_type: Option<ResyncType>,
+    pub(crate) resync_type: Option<ResyncType>,
     /// A synchronization point serial number (42).
-    pub number: Option<Serial>,
+    pub(crate) number: Option<Serial>,
     /// Reflected parameter values (49).
-    pub reflect: Option<&'a [u8]>,
+    pub(crate) reflect: Option<&'a [u8]>,
     /// Why a connection is refused (50).
-    pub reason: Option<Reason<'a>>,
+    pub(crate) reason: Option<Reason<'a>>,
     /// The calling session selector (51).
-    pub calling_selector: Option<Selector<'a>>,
+    pub(crate) calling_selector: Option<Selector<'a>>,
     /// The called session selector (52).
-    pub called_selector: Option<Selector<'a>>,
-    /// User data (193, or 194 in a CN above 512 octets). Empty user data is none.
-    pub user_data: Option<&'a [u8]>,
+    pub(crate) called_selector: Option<Selector<'a>>,
+    /// User data (193, or 194 in a CN above 512 octets).
+    pub(crate) user_data: Option<&'a [u8]>,
 }
 
 impl Params<'static> {
     /// No parameter.
-    pub const NONE: Params<'static> = Params {
+    pub(crate) const NONE: Params<'static> = Params {
         connection_identifier: false,
         connect_accept_item: false,
         called_reference: None,
@@ -245,7 +245,7 @@ fn tokens_alone(tokens: Option<TokenSet>) -> Option<TokenSet>
 }
 
 /// The octets, if there are some.
-fn some_octets(octets: Option<&[u8]>) -> Option<&[u8]>
+pub(crate) fn some_octets(octets: Option<&[u8]>) -> Option<&[u8]>
     ensures same { option_map (λ s. s.now) result ≡ some_octets (option_map (λ s. s.now) octets.entry) }
 {
     let octets = octets?;

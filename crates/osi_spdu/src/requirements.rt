@@ -1,6 +1,4 @@
 ghost use Rattle.std.specs.Prelude.{⊤, ◌≡◌, ◌/◌, ◌%◌, ◌==◌, ◌-◌, ◌^◌, [], ◌∷◌, codes, option_map};
-ghost use Rattle.std.specs.Int.RustNames.{bit_and, bit_or};
-ghost use Rattle.bitflags.specs.Sets.{without};
 ghost use Rattle.osi_spdu.specs.Values.{canonical};
 ghost use Rattle.osi_spdu.specs.Fields.{requirement_octets};
 ghost use Rattle.osi_spdu.specs.Octets.{octets_of};
@@ -8,7 +6,6 @@ ghost use Rattle.osi_spdu.specs.Octets.{octets_of};
 use crate::codes::Code;
 use crate::octets::{Short, Value};
 use bitflags::{Flag, Flags};
-use std::ops::{BitAnd, BitOr, Sub};
 
 /// The functional units of a session (X.225 section 8, session user requirements). All 16 bits
 /// are kept as they are read.
@@ -126,35 +123,5 @@ impl Flags for Requirements {
 
     fn from_bits_retain(bits: u16) -> Requirements {
         Requirements(bits)
-    }
-}
-
-impl BitOr for Requirements {
-    type Output = Requirements;
-
-    ghost bitor_gives = { λ a b r. r.0 ≡ bit_or a.0 b.0 };
-
-    fn bitor(self, other: Requirements) -> Requirements {
-        Requirements(self.0 | other.0)
-    }
-}
-
-impl BitAnd for Requirements {
-    type Output = Requirements;
-
-    ghost bitand_gives = { λ a b r. r.0 ≡ bit_and a.0 b.0 };
-
-    fn bitand(self, other: Requirements) -> Requirements {
-        Requirements(self.0 & other.0)
-    }
-}
-
-impl Sub for Requirements {
-    type Output = Requirements;
-
-    ghost sub_gives = { λ a b r. r.0 ≡ without 16 a.0 b.0 };
-
-    fn sub(self, other: Requirements) -> Requirements {
-        Requirements(self.0 & !other.0)
     }
 }

@@ -1,17 +1,15 @@
 ghost use Rattle.std.specs.Prelude.{⊤, ◌≡◌, ◌/◌, ◌%◌, ◌==◌, ◌-◌, ◌^◌, [], ◌∷◌, codes, true, option_map};
-ghost use Rattle.std.specs.Int.RustNames.{bit_and, bit_or};
-ghost use Rattle.bitflags.specs.Sets.{without};
 ghost use Rattle.osi_spdu.specs.Values.{token_bits, canonical};
-ghost use Rattle.osi_spdu.specs.Fields.{token_octets, tokens_alone};
+ghost use Rattle.osi_spdu.specs.Fields.{bits_of, token_octets, tokens_alone};
 ghost use Rattle.osi_spdu.specs.Octets.{octets_of};
 
 use crate::codes::Code;
 use crate::octets::Value;
 use bitflags::{Flag, Flags};
-use std::ops::{BitAnd, BitOr, Sub};
 
 /// A set of tokens (X.225 section 8, token item): each has a bit of its own. Bits that name no
-/// token are kept, and never written.
+/// token are kept, and never written. What sets have in common, together and apart are the functions
+/// of [`bitflags::Flags`].
 #[derive(Clone, Copy, PartialEq, Eq, Debug)]
 pub struct TokenSet(u8);
 
@@ -66,7 +64,7 @@ impl TokenSet {
 
     /// The set without bits that name no token.
     pub(crate) fn alone(self) -> TokenSet
-        ensures { result.0 ≡ token_bits self.0 }
+        ensures { bits_of result ≡ token_bits (bits_of self) }
     {
         TokenSet(self.0 & 0x55)
     }
@@ -97,35 +95,5 @@ impl Flags for TokenSet {
 
     fn from_bits_retain(bits: u8) -> TokenSet {
         TokenSet(bits)
-    }
-}
-
-impl BitOr for TokenSet {
-    type Output = TokenSet;
-
-    ghost bitor_gives = { λ a b r. r.0 ≡ bit_or a.0 b.0 };
-
-    fn bitor(self, other: TokenSet) -> TokenSet {
-        TokenSet(self.0 | other.0)
-    }
-}
-
-impl BitAnd for TokenSet {
-    type Output = TokenSet;
-
-    ghost bitand_gives = { λ a b r. r.0 ≡ bit_and a.0 b.0 };
-
-    fn bitand(self, other: TokenSet) -> TokenSet {
-        TokenSet(self.0 & other.0)
-    }
-}
-
-impl Sub for TokenSet {
-    type Output = TokenSet;
-
-    ghost sub_gives = { λ a b r. r.0 ≡ without 8 a.0 b.0 };
-
-    fn sub(self, other: TokenSet) -> TokenSet {
-        TokenSet(self.0 & !other.0)
     }
 }

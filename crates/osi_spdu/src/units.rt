@@ -27,7 +27,7 @@ impl<'a> Spdu<'a> {
     ghost use Rattle.osi_spdu.specs.Units.{said_by};
 
     /// A unit with these parameters.
-    pub fn new(kind: Kind, params: Params<'a>) -> Spdu<'a>
+    pub(crate) fn new(kind: Kind, params: Params<'a>) -> Spdu<'a>
         requires { is_formed kind (known_of params) ≡ true }
         ensures value { said_by result
             ≡ record { kind = kind; known = known_of params.entry; information = [] } }
@@ -43,7 +43,7 @@ impl<'a> Spdu<'a> {
     }
 
     /// A unit with these parameters, and the user information of a DT.
-    pub fn with(kind: Kind, params: Params<'a>, information: &'a [u8]) -> Spdu<'a>
+    pub(crate) fn with(kind: Kind, params: Params<'a>, information: &'a [u8]) -> Spdu<'a>
         requires formed { is_formed kind (known_of params) ≡ true }
         requires informed { is_informed kind information.now ≡ true }
         ensures value { said_by result
