@@ -17,8 +17,8 @@ impl Sum {
         self.later()
             .with(1, u64::from(unit.kind().si()))
             .with(3, unit.information().len() as u64)
-            .with_serial(5, params.number)
-            .with_serial(7, params.initial_number)
+            .with_serial(5, params.number())
+            .with_serial(7, params.initial_number())
     }
 
     // With a TSDU that holds no units, for this reason.

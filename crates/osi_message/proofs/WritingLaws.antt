@@ -15,7 +15,7 @@ use Rattle.osi_spdu.specs.declared.fields.ResyncType.{ResyncType}
 use Rattle.osi_spdu.specs.declared.fields.SyncType.TheVariants.{Open}
 use Rattle.osi_spdu.specs.Codes.{number_of}
 use Rattle.osi_spdu.specs.Values.{digits_of}
-use Rattle.osi_spdu.specs.Fields.{setting_octets, resync_octet}
+use Rattle.osi_spdu.specs.Fields.{setting_octets, resync_octet, bits_of, unit_bits}
 use Rattle.osi_spdu.specs.Known.{nothing, put}
 use Rattle.osi_spdu.specs.Params.{place_of, cells_of, slots_of, known_of, no_params}
 use Rattle.osi_message.specs.declared.tokens.Tokens.{Tokens}
@@ -33,20 +33,20 @@ abbrev selector_octets : Option Selector → Option (List ℕ)
 selector_octets selector = option_map (λ s. s.octets.now) selector
 
 pub connect_known : (serial : Option Serial) (setting : TokenSetting) (requirements : Requirements) (calling called : Option Selector) (octets : Bor (List ℕ)) →
-    known_of (record no_params { connect_accept_item = true; protocol_options = Some 1; version = Some 2; initial_number = serial; token_setting = Some setting; user_requirements = Some requirements; calling_selector = calling; called_selector = called; user_data = Some octets }) ≡ with_data octets.now (put_some CallingSelector (selector_octets calling) (put_some CalledSelector (selector_octets called) (terms (serial_number serial) setting requirements.0)))
+    known_of (record no_params { connect_accept_item = true; protocol_options = Some 1; version = Some 2; initial_number = serial; token_setting = Some setting; user_requirements = Some requirements; calling_selector = calling; called_selector = called; user_data = Some octets }) ≡ with_data octets.now (put_some CallingSelector (selector_octets calling) (put_some CalledSelector (selector_octets called) (terms (serial_number serial) setting (unit_bits requirements))))
 unfolding known_of slots_of cells_of place_of number_of
 connect_known serial setting requirements calling called octets = λ i c. same c i
   where
-    same : (c : Code) → known_of (record no_params { connect_accept_item = true; protocol_options = Some 1; version = Some 2; initial_number = serial; token_setting = Some setting; user_requirements = Some requirements; calling_selector = calling; called_selector = called; user_data = Some octets }) c ≡ (with_data octets.now (put_some CallingSelector (selector_octets calling) (put_some CalledSelector (selector_octets called) (terms (serial_number serial) setting requirements.0)))) c
+    same : (c : Code) → known_of (record no_params { connect_accept_item = true; protocol_options = Some 1; version = Some 2; initial_number = serial; token_setting = Some setting; user_requirements = Some requirements; calling_selector = calling; called_selector = called; user_data = Some octets }) c ≡ (with_data octets.now (put_some CallingSelector (selector_octets calling) (put_some CalledSelector (selector_octets called) (terms (serial_number serial) setting (unit_bits requirements))))) c
     same InitialNumber = same_serial serial
     same _ = refl
 
 pub accept_known : (serial : Option Serial) (setting : TokenSetting) (requirements : Requirements) (octets : Bor (List ℕ)) →
-    known_of (record no_params { connect_accept_item = true; protocol_options = Some 1; version = Some 2; initial_number = serial; token_setting = Some setting; user_requirements = Some requirements; user_data = Some octets }) ≡ with_data octets.now (terms (serial_number serial) setting requirements.0)
+    known_of (record no_params { connect_accept_item = true; protocol_options = Some 1; version = Some 2; initial_number = serial; token_setting = Some setting; user_requirements = Some requirements; user_data = Some octets }) ≡ with_data octets.now (terms (serial_number serial) setting (unit_bits requirements))
 unfolding known_of slots_of cells_of place_of number_of
 accept_known serial setting requirements octets = λ i c. same c i
   where
-    same : (c : Code) → known_of (record no_params { connect_accept_item = true; protocol_options = Some 1; version = Some 2; initial_number = serial; token_setting = Some setting; user_requirements = Some requirements; user_data = Some octets }) c ≡ (with_data octets.now (terms (serial_number serial) setting requirements.0)) c
+    same : (c : Code) → known_of (record no_params { connect_accept_item = true; protocol_options = Some 1; version = Some 2; initial_number = serial; token_setting = Some setting; user_requirements = Some requirements; user_data = Some octets }) c ≡ (with_data octets.now (terms (serial_number serial) setting (unit_bits requirements))) c
     same InitialNumber = same_serial serial
     same _ = refl
 
@@ -78,20 +78,20 @@ abort_known bits octets = λ i c. same c i
     same _ = refl
 
 pub please_known : (tokens : TokenSet) (octets : Bor (List ℕ)) →
-    known_of (record no_params { token_item = Some tokens; user_data = Some octets }) ≡ with_data octets.now (put TokenItem (bit_and tokens.0 85 ∷ []) nothing)
+    known_of (record no_params { token_item = Some tokens; user_data = Some octets }) ≡ with_data octets.now (put TokenItem (bit_and (bits_of tokens) 85 ∷ []) nothing)
 unfolding known_of slots_of cells_of place_of number_of
 please_known tokens octets = λ i c. same c i
   where
-    same : (c : Code) → known_of (record no_params { token_item = Some tokens; user_data = Some octets }) c ≡ (with_data octets.now (put TokenItem (bit_and tokens.0 85 ∷ []) nothing)) c
+    same : (c : Code) → known_of (record no_params { token_item = Some tokens; user_data = Some octets }) c ≡ (with_data octets.now (put TokenItem (bit_and (bits_of tokens) 85 ∷ []) nothing)) c
     same UserData = refl
     same _ = refl
 
 pub give_known : (tokens : TokenSet) →
-    known_of (record no_params { token_item = Some tokens }) ≡ put TokenItem (bit_and tokens.0 85 ∷ []) nothing
+    known_of (record no_params { token_item = Some tokens }) ≡ put TokenItem (bit_and (bits_of tokens) 85 ∷ []) nothing
 unfolding known_of slots_of cells_of place_of number_of
 give_known tokens = λ i c. same c i
   where
-    same : (c : Code) → known_of (record no_params { token_item = Some tokens }) c ≡ (put TokenItem (bit_and tokens.0 85 ∷ []) nothing) c
+    same : (c : Code) → known_of (record no_params { token_item = Some tokens }) c ≡ (put TokenItem (bit_and (bits_of tokens) 85 ∷ []) nothing) c
     same UserData = refl
     same _ = refl
 
@@ -163,5 +163,5 @@ unfolding token_octet
 octet_kept t = bits_kept t.data_token t.minor t.major t.release
 
 -- a set of tokens that has their octet is written so
-pub set_kept : (set : TokenSet) (t : Tokens) → set.0 ≡ token_octet t → bit_and set.0 85 ≡ token_octet t
+pub set_kept : (set : TokenSet) (t : Tokens) → (bits_of set) ≡ token_octet t → bit_and (bits_of set) 85 ≡ token_octet t
 set_kept set t e = ap (λ (n : ℕ). bit_and n 85) e ∙ octet_kept t

@@ -1,4 +1,5 @@
 -- What a session unit means here.
+use Rattle.osi_spdu.specs.Fields.{unit_bits}
 use Rattle.std.specs.Prelude.{ℕ, Bool, List, Option, option_map}
 use Rattle.osi_spdu.specs.declared.settings.TokenSetting.{TokenSetting}
 use Rattle.osi_spdu.specs.declared.fields.ResyncType.{ResyncType}
@@ -34,9 +35,9 @@ selector_octets selector = option_map (λ s. s.octets.now) selector
 -- what a unit in memory means
 abbrev pub meant_by : Message → Meaning
 meant_by (message.Connect version_2 requirements serial wishes calling called data_octets) =
-    CN version_2 requirements.0 (option_map (λ s. s.number) serial) wishes (selector_octets calling) (selector_octets called) data_octets.now
+    CN version_2 (unit_bits requirements) (option_map (λ s. s.number) serial) wishes (selector_octets calling) (selector_octets called) data_octets.now
 meant_by (message.Accept version_2 requirements serial sides data_octets) =
-    AC version_2 requirements.0 (option_map (λ s. s.number) serial) sides data_octets.now
+    AC version_2 (unit_bits requirements) (option_map (λ s. s.number) serial) sides data_octets.now
 meant_by (message.Refuse reason data_octets) = RF reason data_octets.now
 meant_by (message.Data data_octets) = DT data_octets.now
 meant_by (message.Give tokens) = GT tokens

@@ -1,6 +1,7 @@
 //! What the parameters of a unit mean, those that are absent included.
-#![tactic(auto, unfolding(osi_spdu::specs::Params::known_of, osi_spdu::specs::Params::slots_of, osi_spdu::specs::Params::cells_of, osi_spdu::specs::Params::place_of, osi_spdu::specs::Codes::number_of))]
+#![tactic(auto)]
 
+ghost use Rattle.osi_spdu.specs.Fields.{unit_bits};
 ghost use Rattle.std.specs.Prelude.{◌≡◌, [], option_map};
 ghost use Rattle.osi_spdu.specs.declared.codes.Code.TheVariants as code;
 ghost use Rattle.osi_spdu.specs.Units.{said_by};
@@ -33,16 +34,16 @@ const ALL_ASKER: TokenSetting = TokenSetting {
 fn has_version_2(params: &Params) -> bool
     ensures { result ≡ has_version_2 (known_of params.now) }
 {
-    match params.version {
+    match params.version() {
         None => false,
         Some(versions) => versions & VERSION_2 == VERSION_2,
     }
 }
 
 fn requirements(params: &Params) -> Requirements
-    ensures { result.0 ≡ requirements_in (known_of params.now code.UserRequirements) }
+    ensures { unit_bits result ≡ requirements_in (known_of params.now code.UserRequirements) }
 {
-    match params.user_requirements {
+    match params.user_requirements() {
         None => Requirements::from_bits_retain(DEFAULT_REQUIREMENTS),
         Some(requirements) => requirements,
     }
@@ -52,14 +53,14 @@ fn serial(params: &Params) -> Option<Serial>
     ensures { option_map (λ s. s.number) result ≡ serial_in (known_of params.now code.InitialNumber) }
 {
     laws::serial_digits();
-    params.initial_number
+    params.initial_number()
 }
 
 fn number(params: &Params) -> Serial
     ensures { result.number ≡ number_in (known_of params.now code.Number) }
 {
     laws::serial_digits();
-    let Some(number) = params.number else {
+    let Some(number) = params.number() else {
         return Serial { number: 0 };
     };
     number
@@ -68,7 +69,7 @@ fn number(params: &Params) -> Serial
 fn setting(params: &Params) -> TokenSetting
     ensures { result ≡ setting_in (known_of params.now) }
 {
-    match params.token_setting {
+    match params.token_setting() {
         None => ALL_ASKER,
         Some(setting) => setting,
     }
@@ -77,7 +78,7 @@ fn setting(params: &Params) -> TokenSetting
 fn tokens(params: &Params) -> Tokens
     ensures { result ≡ tokens_in (known_of params.now) }
 {
-    match params.token_item {
+    match params.token_item() {
         None => Tokens::NONE,
         Some(tokens) => Tokens::of(tokens),
     }
@@ -87,13 +88,13 @@ fn tokens(params: &Params) -> Tokens
 fn asks(params: &Params) -> bool
     ensures { result ≡ asks (known_of params.now) }
 {
-    !matches!(params.sync_type, Some(SyncType::Open))
+    !matches!(params.sync_type(), Some(SyncType::Open))
 }
 
 fn resync_type(params: &Params) -> ResyncType
     ensures { result ≡ resync_named (octet_in (known_of params.now code.ResyncType)) }
 {
-    match params.resync_type {
+    match params.resync_type() {
         None => ResyncType::Restart,
         Some(kind) => kind,
     }
@@ -102,7 +103,7 @@ fn resync_type(params: &Params) -> ResyncType
 fn transport_disconnect(params: &Params) -> u8
     ensures { result ≡ octet_in (known_of params.now code.TransportDisconnect) }
 {
-    match params.transport_disconnect {
+    match params.transport_disconnect() {
         None => 0,
         Some(bits) => bits,
     }
@@ -111,7 +112,7 @@ fn transport_disconnect(params: &Params) -> u8
 fn user_data<'a>(params: &Params<'a>) -> &'a [u8]
     ensures { result.now ≡ data_in (known_of params.now) }
 {
-    match params.user_data {
+    match params.user_data() {
         None => &[],
         Some(octets) => octets,
     }
@@ -125,8 +126,8 @@ fn connect<'a>(params: &Params<'a>) -> Message<'a>
         requirements: requirements(params),
         serial: serial(params),
         wishes: setting(params),
-        calling: params.calling_selector,
-        called: params.called_selector,
+        calling: params.calling_selector(),
+        called: params.called_selector(),
         user_data: user_data(params),
     }
 }
@@ -146,7 +147,7 @@ fn accept<'a>(params: &Params<'a>) -> Message<'a>
 fn refuse<'a>(params: &Params<'a>) -> Message<'a>
     ensures { meant_by result ≡ meaning_by Kind.Refuse (known_of params.now) [] }
 {
-    match params.reason {
+    match params.reason() {
         None => Message::Refuse {
             reason: 0,
             user_data: &[],

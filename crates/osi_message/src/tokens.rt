@@ -1,3 +1,4 @@
+ghost use Rattle.osi_spdu.specs.Fields.{bits_of};
 ghost use Rattle.std.specs.Prelude.{◌≡◌};
 ghost use Rattle.osi_message.specs.Tokens.{named, token_octet, no_token, is_empty, is_within, is_disjoint, without, united};
 
@@ -28,7 +29,7 @@ impl Tokens {
 
     /// The tokens that a set names; other bits of it are ignored.
     pub fn of(set: TokenSet) -> Tokens
-        ensures { result ≡ named set.0 }
+        ensures { result ≡ named (bits_of set) }
     {
         Tokens {
             data_token: set.contains(TokenSet::DATA),
@@ -41,8 +42,8 @@ impl Tokens {
     /// The tokens as a set.
     #[tactic(auto, using(crate::proofs::TokenLaws::named_octet))]
     pub fn set(self) -> TokenSet
-        ensures named { named result.0 ≡ self }
-        ensures octet { result.0 ≡ token_octet self }
+        ensures named { named (bits_of result) ≡ self }
+        ensures octet { bits_of result ≡ token_octet self }
     {
         TokenSet::from_bits_retain(self.octet())
     }

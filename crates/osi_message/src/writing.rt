@@ -1,5 +1,6 @@
 //! The units in which a meaning is sent.
 
+ghost use Rattle.osi_spdu.specs.Fields.{unit_bits};
 ghost use Rattle.std.specs.Prelude.{◌≡◌, ◌<◌, true, false, length, None, option_map};
 ghost use Rattle.osi_spdu.specs.declared.kinds.Category.TheVariants.{Two};
 ghost use Rattle.osi_spdu.specs.Kinds.{category_of};
@@ -41,7 +42,7 @@ fn connect<'a>(
     called: Option<Selector<'a>>,
     user_data: &'a [u8],
 ) -> Spdu<'a>
-    ensures units { said_by result ≡ connect_unit requirements.0 (option_map (λ s. s.number) serial)
+    ensures units { said_by result ≡ connect_unit (unit_bits requirements) (option_map (λ s. s.number) serial)
         wishes (selector_octets calling.entry) (selector_octets called.entry) user_data.entry.now }
     ensures place { is_joined (said_by result).kind None ≡ true }
     ensures fits { length user_data.entry.now < 65000 → UnitFits (said_by result) }
@@ -60,7 +61,7 @@ fn accept<'a>(
     sides: TokenSetting,
     user_data: &'a [u8],
 ) -> Spdu<'a>
-    ensures units { said_by result ≡ unit_of (AC true requirements.0 (option_map (λ s. s.number) serial) sides user_data.entry.now) }
+    ensures units { said_by result ≡ unit_of (AC true (unit_bits requirements) (option_map (λ s. s.number) serial) sides user_data.entry.now) }
     ensures place { is_joined (said_by result).kind None ≡ true }
     ensures fits { length user_data.entry.now < 65000 → UnitFits (said_by result) }
 {

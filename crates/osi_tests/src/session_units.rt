@@ -50,23 +50,23 @@ fn connect_is_read(rt: HostRuntime) -> Result<(), Fail> {
 }
 
 fn has_first_parameters(params: &Params) -> bool {
-    params.connect_accept_item
-        && !params.connection_identifier
-        && params.protocol_options == Some(0)
-        && params.version == Some(2)
+    params.connect_accept_item()
+        && !params.connection_identifier()
+        && params.protocol_options() == Some(0)
+        && params.version() == Some(2)
 }
 
 fn has_units_and_serial(params: &Params, units: u16, serial: u32) -> bool {
     params
-        .user_requirements
+        .user_requirements()
         .is_some_and(|found| found.bits() == units)
         && params
-            .initial_number
+            .initial_number()
             .is_some_and(|found| found.number == serial)
 }
 
 fn has_wishes_of_the_asker(params: &Params) -> bool {
-    match params.token_setting {
+    match params.token_setting() {
         Some(setting) => setting.data_token == Wish::Asker && setting.release == Wish::Asker,
         None => false,
     }
@@ -405,7 +405,7 @@ fn a_minor_point_stands_behind_a_token_unit(rt: HostRuntime) -> Result<(), Fail>
 fn second_user_data(octets: &[u8]) -> Result<usize, Fail> {
     let group = read_tsdu(octets)?;
     let second = group.behind().next().ok_or("there is a second unit")?;
-    let user_data = second.params().user_data.ok_or("there is user data")?;
+    let user_data = second.params().user_data().ok_or("there is user data")?;
     Ok(user_data.len())
 }
 
@@ -461,18 +461,18 @@ fn listing(rt: HostRuntime) -> Result<(), Fail> {
 
 #[test]
 fn sets_of_tokens(rt: HostRuntime) {
-    let tokens = TokenSet::DATA | TokenSet::RELEASE;
+    let tokens = TokenSet::DATA.union(TokenSet::RELEASE);
     assert!(rt; tokens.bits() == 0x41);
     assert!(rt; tokens.contains(TokenSet::RELEASE) && !tokens.contains(TokenSet::MINOR));
-    assert!(rt; (tokens - TokenSet::DATA).bits() == 0x40);
-    assert!(rt; (tokens & TokenSet::DATA).bits() == 0x01);
+    assert!(rt; tokens.difference(TokenSet::DATA).bits() == 0x40);
+    assert!(rt; tokens.intersection(TokenSet::DATA).bits() == 0x01);
     assert!(rt; TokenSet::from_bits_truncate(0xFF).bits() == 0x55);
 }
 
 #[test]
 fn sets_of_units(rt: HostRuntime) {
-    let units = Requirements::HALF_DUPLEX | Requirements::MAJOR;
-    assert!(rt; units.intersects(Requirements::MAJOR | Requirements::MINOR));
+    let units = Requirements::HALF_DUPLEX.union(Requirements::MAJOR);
+    assert!(rt; units.intersects(Requirements::MAJOR.union(Requirements::MINOR)));
     assert!(rt; units.bits() == 0x0011);
     assert!(rt; Requirements::from_bits_retain(0xFFFF).bits() == 0xFFFF);
 }
