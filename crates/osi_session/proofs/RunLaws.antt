@@ -1,4 +1,5 @@
 -- What every run of a session keeps.
+use Rattle.osi_spdu.specs.Fields.{unit_bits}
 use Rattle.std.proofs.Common.{◌≡◌, refl, sym, subst, ℕ, true, false, ◌||◌, List, [], ◌∷◌, Err, arith}
 use Rattle.std.specs.List.{AllByRecursion}
 use Rattle.osi_session.specs.declared.phases.Phase.{Phase}
@@ -48,7 +49,7 @@ asking_fresh o = record {
   held = refl;
   base = refl;
   numbers = refl;
-  first = first_small (has_points (functional_units o.requirements.0)) o.serial.number o.serial.small;
+  first = first_small (has_points (functional_units (unit_bits o.requirements))) o.serial.number o.serial.small;
 }
 
 pub fresh_sound : (s : State) → IsFresh s → IsSound s

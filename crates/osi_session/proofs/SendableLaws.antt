@@ -1,4 +1,5 @@
 -- What an accepted call sends, and what a TSDU is answered by, can be sent.
+use Rattle.osi_spdu.specs.Fields.{unit_bits}
 use Rattle.std.proofs.Common.{◌≡◌, refl, sym, subst, ℕ, ◌<◌, Bool, true, false, not, ◌&&◌, nat_le, nat_lt, List, [], ◌∷◌, length, Option, Some, None, Ok, if◌then◌else◌, arith}
 use Rattle.std.proofs.lemmas.Bool.{leb-true, ltb-true, and_parts}
 use Rattle.osi_session.specs.declared.faults.UnitFault.{UnitFault}
@@ -105,7 +106,7 @@ pub asked_sendable : (o : Opening) → length o.user_data.now < 65000 → IsSend
 unfolding user_data_of
 asked_sendable o few = record {
   version = refl;
-  numbered = serial_small (has_points (functional_units o.requirements.0)) o.serial.number (let s = o.serial.small in omega arith);
+  numbered = serial_small (has_points (functional_units (unit_bits o.requirements))) o.serial.number (let s = o.serial.small in omega arith);
   addressed = (address o.calling_selector, address o.called_selector);
   short = few;
 }

@@ -1,4 +1,5 @@
 -- What is true of a session in memory.
+use Rattle.osi_spdu.specs.Fields.{unit_bits}
 use Rattle.std.proofs.Common.{◌≡◌, ◌∙◌, refl, sym, ap, subst, ℕ, if◌then◌else◌, ◌<◌, ◌≤◌, Bool, true, false, Some, Ok, arith}
 use Rattle.osi_session.specs.declared.requests.Request.{Request}
 use Rattle.osi_session.specs.declared.requests.Request.TheVariants as request
@@ -64,7 +65,7 @@ first_small true n h = omega arith
 first_small false n h = omega arith
 
 pub asking_sound : (o : Opening) → IsSound (asking o)
-asking_sound o = at_first (asking o) refl refl (first_small (has_points (functional_units o.requirements.0)) o.serial.number o.serial.small) refl refl refl
+asking_sound o = at_first (asking o) refl refl (first_small (has_points (functional_units (unit_bits o.requirements))) o.serial.number o.serial.small) refl refl refl
 
 -- a unit that is sent alone is read as it
 pub read_again : (m : Meaning) → is_second m ≡ false → tsdu_at (written m) ≡ Ok (spelled m) → said_by_units (spelled m) ≡ said_of m → unit_in (written m) ≡ Some m

@@ -1,4 +1,5 @@
 -- The calls of a user.
+use Rattle.osi_spdu.specs.Fields.{bits_of, unit_bits}
 use Rattle.std.specs.Prelude.{ℕ, ◌<◌, Bool, List}
 use Rattle.osi_spdu.specs.declared.settings.TokenSetting.{TokenSetting}
 use Rattle.osi_session.specs.declared.sides.Sides.{Sides}
@@ -26,11 +27,11 @@ pub data Call : Type 0 where
 
 -- a call in memory
 abbrev pub called_by : Request → Call
-called_by (request.Accept requirements serial sides data_octets) = Accept requirements.0 serial.number sides data_octets.now
+called_by (request.Accept requirements serial sides data_octets) = Accept (unit_bits requirements) serial.number sides data_octets.now
 called_by (request.Refuse data_octets) = Refuse data_octets.now
 called_by (request.Data data_octets) = Data data_octets.now
-called_by (request.Give tokens) = Give (named tokens.0)
-called_by (request.Please tokens data_octets) = Please (named tokens.0) data_octets.now
+called_by (request.Give tokens) = Give (named (bits_of tokens))
+called_by (request.Please tokens data_octets) = Please (named (bits_of tokens)) data_octets.now
 called_by (request.Minor confirm data_octets) = Minor confirm data_octets.now
 called_by (request.MinorConfirm number data_octets) = MinorConfirm number data_octets.now
 called_by (request.Major data_octets) = Major data_octets.now

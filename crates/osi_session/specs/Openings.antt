@@ -1,4 +1,5 @@
 -- The CN of a caller.
+use Rattle.osi_spdu.specs.Fields.{unit_bits}
 use Rattle.std.specs.Prelude.{ℕ, true, Option}
 use Rattle.osi_spdu.specs.declared.settings.TokenSetting.{TokenSetting}
 use Rattle.osi_message.specs.Meanings.{Meaning, CN, selector_octets}
@@ -9,12 +10,12 @@ use Rattle.osi_session.specs.Allowed.{serial_for}
 
 -- the number of the first point and the wishes that a caller offers
 abbrev pub offered_serial : Opening → Option ℕ
-offered_serial o = serial_for (functional_units o.requirements.0) o.serial.number
+offered_serial o = serial_for (functional_units (unit_bits o.requirements)) o.serial.number
 
 abbrev pub offered_wishes : Opening → TokenSetting
-offered_wishes o = offered (functional_units o.requirements.0) o.wishes
+offered_wishes o = offered (functional_units (unit_bits o.requirements)) o.wishes
 
 -- what the CN of a caller says
 abbrev pub asked_for : Opening → Meaning
-asked_for o = CN true o.requirements.0 (offered_serial o) (offered_wishes o)
+asked_for o = CN true (unit_bits o.requirements) (offered_serial o) (offered_wishes o)
     (selector_octets o.calling_selector) (selector_octets o.called_selector) o.user_data.now

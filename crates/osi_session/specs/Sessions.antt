@@ -1,4 +1,5 @@
 -- What a session begins with, and what its calls answer.
+use Rattle.osi_spdu.specs.Fields.{unit_bits}
 use Rattle.std.specs.Prelude.{◌≡◌, ℕ, Bool, true, false, not, List, [], ◌∷◌, ◌++◌, length, map, Option, Some, None, option_map, Result, Ok, Err, IfOk, OnOk, OnErr, if◌then◌else◌, nat_le, is_none, ◌&&◌}
 use Rattle.osi_spdu.specs.declared.settings.Wish.TheVariants.{Asker}
 use Rattle.osi_spdu.specs.declared.faults.SpduFault.{SpduFault}
@@ -64,10 +65,10 @@ abbrev pub asking : Opening → State
 asking o = record {
   phase = WaitTransport;
   is_caller = true;
-  units = functional_units o.requirements.0;
-  wishes = offered (functional_units o.requirements.0) o.wishes;
+  units = functional_units (unit_bits o.requirements);
+  wishes = offered (functional_units (unit_bits o.requirements)) o.wishes;
   held = no_token;
-  proposed = base_for (functional_units o.requirements.0) o.serial.number;
+  proposed = base_for (functional_units (unit_bits o.requirements)) o.serial.number;
   base = 0;
   numbers = from_base 0;
 }
@@ -75,7 +76,7 @@ asking o = record {
 -- the error of an opening: functional units that cannot be selected together, or long user data
 abbrev pub refusal_of : Opening → Option CallError
 refusal_of o =
-    if not (is_profile o.requirements.0) then Some error.NotSelected
+    if not (is_profile (unit_bits o.requirements)) then Some error.NotSelected
     else if not (nat_le (length o.user_data.now) most_user_data) then Some error.TooLong
     else None
 

@@ -1,4 +1,5 @@
 -- What the user is shown; tokens by their octet.
+use Rattle.osi_spdu.specs.Fields.{bits_of, unit_bits}
 use Rattle.std.specs.Prelude.{ℕ, Bool, List, Option}
 use Rattle.osi_spdu.specs.declared.settings.TokenSetting.{TokenSetting}
 use Rattle.osi_session.specs.declared.sides.Sides.{Sides}
@@ -37,13 +38,13 @@ abort_shown (cause.Unit fault) = BadUnit fault
 
 -- an indication in memory
 abbrev pub shown_by : Indication → Shown
-shown_by (indication.Connect requirements serial wishes octets) = Connect requirements.0 serial wishes octets
-shown_by (indication.Connected requirements serial sides octets) = Connected requirements.0 serial sides octets
+shown_by (indication.Connect requirements serial wishes octets) = Connect (unit_bits requirements) serial wishes octets
+shown_by (indication.Connected requirements serial sides octets) = Connected (unit_bits requirements) serial sides octets
 shown_by (indication.RefusedByTransport reason) = RefusedByTransport reason
 shown_by (indication.RefusedBySession reason octets) = RefusedBySession reason octets
 shown_by (indication.Data octets) = Data octets
-shown_by (indication.Given tokens) = Given tokens.0
-shown_by (indication.Asked tokens octets) = Asked tokens.0 octets
+shown_by (indication.Given tokens) = Given (bits_of tokens)
+shown_by (indication.Asked tokens octets) = Asked (bits_of tokens) octets
 shown_by (indication.Minor number confirm octets) = Minor number confirm octets
 shown_by (indication.MinorConfirmed number octets) = MinorConfirmed number octets
 shown_by (indication.Major number octets) = Major number octets

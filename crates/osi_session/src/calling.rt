@@ -1,5 +1,6 @@
 //! The table of calls.
 
+ghost use Rattle.osi_spdu.specs.Fields.{bits_of, unit_bits};
 ghost use Rattle.std.specs.Prelude.{◌≡◌, ◌<◌, ◌≤◌, ◌&&◌, true, length, nat_le, Ok, IfOk};
 ghost use Rattle.osi_session.specs.Allowed.{allowed, met, may_call, octets_of, most_of, has_right, point_needs, is_restartable};
 ghost use Rattle.osi_session.specs.Calls.{called_by, Accept, Data, Give, Please, Minor, MinorConfirm, Major, MajorConfirm, Restart, RestartConfirm, Release, ReleaseRefuse};
@@ -134,7 +135,7 @@ fn accept<'a>(
     sides: Sides,
     user_data: &'a [u8],
 ) -> Result<Step<'a>, CallError>
-    ensures { Answers result (met state.now (Accept requirements.0 serial.number sides user_data.entry.now)) }
+    ensures { Answers result (met state.now (Accept (unit_bits requirements) serial.number sides user_data.entry.now)) }
 {
     let units = FunctionalUnits::of(requirements);
     if !(units.is_within(state.units) && is_profile(requirements)) {
@@ -180,7 +181,7 @@ fn data<'a>(state: &State, user_data: &'a [u8]) -> Result<Step<'a>, CallError>
 
 #[tactic(auto, unfolding(crate::specs::Allowed::met))]
 fn give<'a>(state: &State, tokens: TokenSet) -> Result<Step<'a>, CallError>
-    ensures { Answers result (met state.now (Give (named tokens.0))) }
+    ensures { Answers result (met state.now (Give (named (bits_of tokens)))) }
 {
     let tokens = Tokens::of(tokens);
     if !tokens.is_within(state.units.available()) {
@@ -203,7 +204,7 @@ fn give<'a>(state: &State, tokens: TokenSet) -> Result<Step<'a>, CallError>
 
 #[tactic(auto, unfolding(crate::specs::Allowed::met))]
 fn please<'a>(state: &State, tokens: TokenSet, user_data: &'a [u8]) -> Result<Step<'a>, CallError>
-    ensures { Answers result (met state.now (Please (named tokens.0) user_data.entry.now)) }
+    ensures { Answers result (met state.now (Please (named (bits_of tokens)) user_data.entry.now)) }
 {
     let tokens = Tokens::of(tokens);
     if !tokens.is_within(state.units.available()) {

@@ -1,3 +1,4 @@
+ghost use Rattle.osi_spdu.specs.Fields.{unit_bits};
 ghost use Rattle.std.specs.Prelude.{◌≡◌, option_map};
 ghost use Rattle.osi_session.specs.Allowed.{base_for, serial_for};
 ghost use Rattle.osi_session.specs.Units.{functional_units, both_units, has_points, has_data, is_profile, units_within, available};
@@ -29,7 +30,7 @@ impl FunctionalUnits {
 
     /// The functional units that are named; other bits are ignored.
     pub(crate) fn of(requirements: Requirements) -> FunctionalUnits
-        ensures { result ≡ functional_units requirements.0 }
+        ensures { result ≡ functional_units (unit_bits requirements) }
     {
         FunctionalUnits {
             half_duplex: requirements.contains(Requirements::HALF_DUPLEX),
@@ -120,7 +121,7 @@ impl FunctionalUnits {
 /// and negotiated release; or duplex alone.
 #[tactic(auto, unfolding(crate::specs::Units::is_profile))]
 pub(crate) fn is_profile(requirements: Requirements) -> bool
-    ensures { result ≡ is_profile requirements.0 }
+    ensures { result ≡ is_profile (unit_bits requirements) }
 {
     let bits = requirements.bits();
     bits == 0x0002 || (bits & 0x00B9 == bits && bits & 0x0001 == 0x0001)

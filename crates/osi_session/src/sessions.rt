@@ -1,3 +1,4 @@
+ghost use Rattle.osi_spdu.specs.Fields.{bits_of};
 ghost use Rattle.std.specs.Prelude.{◌≡◌, ◌<◌, false, length, option_map, is_none, Some, IfOk, OnErr};
 ghost use Rattle.osi_session.specs.Openings.{asked_for};
 ghost use Rattle.osi_session.specs.Sessions.{unit_in};
@@ -311,8 +312,8 @@ impl Session {
 
     /// The tokens that this side holds.
     pub fn held(&self) -> TokenSet
-        ensures octet { result.0 ≡ token_octet self.now.state.held }
-        ensures set { named result.0 ≡ self.now.state.held }
+        ensures octet { bits_of result ≡ token_octet self.now.state.held }
+        ensures set { named (bits_of result) ≡ self.now.state.held }
     {
         self.state.held.set()
     }

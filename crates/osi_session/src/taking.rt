@@ -1,5 +1,6 @@
 //! The table of units.
 
+ghost use Rattle.osi_spdu.specs.Fields.{unit_bits};
 ghost use Rattle.osi_message.specs.Tokens as token;
 ghost use Rattle.std.specs.Prelude.{◌≡◌, ◌&&◌, ◌<◌, ◌≤◌, true, false, None, option_map, is_some};
 ghost use Rattle.osi_message.specs.Meanings.{meant_by, CN, AC, RF, DT, GT, PT, MIP, MIA, MAP, MAA, RS, RA, FN, DN, NF, AB, AA};
@@ -110,7 +111,7 @@ fn connect(
     user_data: &[u8],
 ) -> Result<Reaction, AllocError>
     ensures { Reacts result (take_expected state.now
-        (CN version_2 requirements.0 (option_map (λ s. s.number) serial) wishes None None user_data.now)) }
+        (CN version_2 (unit_bits requirements) (option_map (λ s. s.number) serial) wishes None None user_data.now)) }
 {
     let units = FunctionalUnits::of(requirements);
     if !version_2 {
@@ -164,7 +165,7 @@ fn accept(
     user_data: &[u8],
 ) -> Result<Reaction, AllocError>
     ensures { Reacts result (take_expected state.now
-        (AC version_2 requirements.0 (option_map (λ s. s.number) serial) answer user_data.now)) }
+        (AC version_2 (unit_bits requirements) (option_map (λ s. s.number) serial) answer user_data.now)) }
 {
     let units = state.units.both(FunctionalUnits::of(requirements));
     if !(version_2 && units.has_data()) {

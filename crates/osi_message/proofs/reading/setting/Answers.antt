@@ -1,9 +1,13 @@
-use Rattle.std.proofs.Common.{sym}
-use Rattle.osi_spdu.specs.Codes.{number_of}
-use Rattle.osi_spdu.specs.Params.{place_of, cells_of, slots_of, known_of}
+use Rattle.std.proofs.Common.{◌≡◌, ◌∙◌, Some, ap, option_map, sym}
+use Rattle.osi_spdu.specs.declared.codes.Code.TheVariants as code
+use Rattle.osi_spdu.specs.Fields.{setting_octets}
+use Rattle.osi_spdu.specs.Params.{known_of}
+use Rattle.osi_message.specs.Reading.{octet_in, setting_named}
 use Rattle.osi_message.proofs.ReadingLaws.{setting_again}
 use Rattle.osi_message.proofs.reading.setting.Goals as goal
 
 pub returns-in-Some : goal.returns-in-Some
-unfolding known_of slots_of cells_of place_of number_of
-returns-in-Some c = rw c.in-Some.is (sym (setting_again c.in-Some.setting))
+returns-in-Some c =
+    let there : known_of c.args.params.now code.TokenSetting ≡ Some (setting_octets c.in-Some.setting) =
+    sym c.token_setting.ensures ∙ ap (option_map setting_octets) c.in-Some.is in
+    sym (ap (λ o. setting_named (octet_in o)) there ∙ setting_again c.in-Some.setting)

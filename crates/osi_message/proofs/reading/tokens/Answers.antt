@@ -1,10 +1,14 @@
-use Rattle.osi_spdu.specs.Fields.{bits_of}
-use Rattle.std.proofs.Common.{◌∙◌, sym}
-use Rattle.osi_spdu.specs.Codes.{number_of}
-use Rattle.osi_spdu.specs.Params.{place_of, cells_of, slots_of, known_of}
+use Rattle.std.proofs.Common.{◌≡◌, ◌∙◌, Some, ap, option_map, sym}
+use Rattle.osi_spdu.specs.declared.codes.Code.TheVariants as code
+use Rattle.osi_spdu.specs.Fields.{bits_of, token_octets}
+use Rattle.osi_spdu.specs.Params.{known_of}
+use Rattle.osi_message.specs.Reading.{octet_in}
+use Rattle.osi_message.specs.Tokens.{named}
 use Rattle.osi_message.proofs.ReadingLaws.{named_again}
 use Rattle.osi_message.proofs.reading.tokens.Goals as goal
 
 pub returns-in-Some : goal.returns-in-Some
-unfolding known_of slots_of cells_of place_of number_of
-returns-in-Some c = rw c.in-Some.is (c.of.ensures ∙ sym (named_again (bits_of c.in-Some.tokens)))
+returns-in-Some c =
+    let there : known_of c.args.params.now code.TokenItem ≡ Some (token_octets c.in-Some.tokens) =
+    sym c.token_item.ensures ∙ ap (option_map token_octets) c.in-Some.is in
+    c.of.ensures ∙ sym (ap (λ o. named (octet_in o)) there ∙ named_again (bits_of c.in-Some.tokens))
