@@ -25,6 +25,16 @@ impl Model for Sent {
     ghost view = { λ s. s.octets.items };
 }
 
+/// The written form of the units in which a message is sent. It stands out of line: else the room for
+/// its units would be made on the way to each message that is written straight.
+#[inline(never)]
+fn by_units(alloc: Global, message: &Message) -> Result<Sent, AllocError>
+    requires { length (user_data_of (meant_by message.now)) < 65000 }
+    ensures { IfOk result (λ s. s ≡ written (meant_by message.now)) }
+{
+    Sent::written(alloc, &message.group())
+}
+
 impl Sent {
     /// The written form of the units of a TSDU.
     pub fn written(alloc: Global, group: &Group) -> Result<Sent, AllocError>
@@ -65,7 +75,7 @@ impl Sent {
                 let octets = plain::minor_ack(alloc, number)?;
                 Ok(Sent { octets })
             }
-            message => Sent::written(alloc, &message.group()),
+            _ => by_units(alloc, message),
         }
     }
 

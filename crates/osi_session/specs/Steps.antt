@@ -1,4 +1,4 @@
--- What calls and units in memory answer.
+-- The views of what calls and units give in memory, by which the tables say it.
 use Rattle.std.specs.Prelude.{◌≡◌, false, List, [], ◌∷◌, ◌++◌, Option, Some, None, map, option_map, Result, Ok, Err}
 use Rattle.osi_session.specs.declared.faults.CallError.{CallError}
 use Rattle.osi_session.specs.declared.calling.Step as memory

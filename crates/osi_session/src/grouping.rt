@@ -141,6 +141,21 @@ fn take_plain(alloc: Global, state: &State, unit: PlainUnit<'_>) -> Result<React
     Ok(Reactions::of(alloc, reaction))
 }
 
+/// What the octets of a TSDU do, read by the general reader. It stands out of line: else the room for
+/// its units would be made for each TSDU that is read straight.
+#[inline(never)]
+#[tactic(auto, unfolding(osi_message::specs::Reading::said_at))]
+fn take_read(alloc: Global, state: &State, tsdu: &[u8]) -> Result<Reactions, AllocError>
+    ensures outcome { IfOk result (λ r. outcome_of_all r ≡ respond_read state.now (said_at tsdu.now)) }
+    ensures ordered { IfOk result (λ r. r.first ≡ None → r.more.items ≡ []) }
+    ensures err { OnErr result (is_silent (respond_read state.now (said_at tsdu.now)) ≡ false) }
+{
+    match read_tsdu(tsdu) {
+        Ok(group) => take_all(alloc, state, &group),
+        Err(fault) => Ok(Reactions::of(alloc, unread(state, fault))),
+    }
+}
+
 /// What the octets of a TSDU do: its units, or that it is none.
 #[tactic(auto, unfolding(osi_message::specs::Reading::said_at))]
 pub(crate) fn take_octets(
@@ -155,8 +170,5 @@ pub(crate) fn take_octets(
     if let Some(unit) = PlainUnit::read(tsdu) {
         return take_plain(alloc, state, unit);
     }
-    match read_tsdu(tsdu) {
-        Ok(group) => take_all(alloc, state, &group),
-        Err(fault) => Ok(Reactions::of(alloc, unread(state, fault))),
-    }
+    take_read(alloc, state, tsdu)
 }
