@@ -435,12 +435,12 @@ fn over<'a>(state: &State, phase: Phase, sent: Message<'a>) -> Step<'a>
 
 /// What a call gives that its phase allows.
 #[tactic(auto, unfolding(crate::specs::Allowed::met))]
-fn decide_row<'a>(state: &State, request: Request<'a>) -> Result<Step<'a>, CallError>
+fn decide_row<'a>(state: &State, request: &Request<'a>) -> Result<Step<'a>, CallError>
     requires sound { IsSound state.now }
-    requires allowed { may_call state.now.phase (called_by request) ≡ true }
-    ensures { Answers result (met state.now (called_by request.entry)) }
+    requires allowed { may_call state.now.phase (called_by request.now) ≡ true }
+    ensures { Answers result (met state.now (called_by request.now)) }
 {
-    match request {
+    match *request {
         Request::Accept {
             requirements,
             serial,
@@ -484,18 +484,18 @@ fn decide_row<'a>(state: &State, request: Request<'a>) -> Result<Step<'a>, CallE
 
 /// The first error of a call, or the state after it and the unit that it sends.
 #[tactic(auto, unfolding(crate::specs::Allowed::allowed))]
-pub(crate) fn decide<'a>(state: &State, request: Request<'a>) -> Result<Step<'a>, CallError>
+pub(crate) fn decide<'a>(state: &State, request: &Request<'a>) -> Result<Step<'a>, CallError>
     requires { IsSound state.now }
-    ensures { Answers result (allowed state.now (called_by request.entry)) }
+    ensures { Answers result (allowed state.now (called_by request.now)) }
 {
     if state.phase.is_over() {
         return Err(CallError::Ended);
     }
-    if !may_call(state.phase, &request) {
+    if !may_call(state.phase, request) {
         return Err(CallError::BadState);
     }
     let step = decide_row(state, request)?;
-    if !fits(&request) {
+    if !fits(request) {
         return Err(CallError::TooLong);
     }
     Ok(step)

@@ -60,16 +60,16 @@ fn written_reply(alloc: Global, reply: Option<Reply>) -> Result<Option<Sent>, Al
     let Some(reply) = reply else {
         return Ok(None);
     };
-    let sent = written_message(alloc, reply.message())?;
+    let sent = written_message(alloc, &reply.message())?;
     Ok(Some(sent))
 }
 
 /// The octets in which a message is sent.
-fn written_message(alloc: Global, message: Message<'_>) -> Result<Sent, AllocError>
-    requires { length (user_data_of (meant_by message)) < 65000 }
-    ensures { IfOk result (λ s. s ≡ written (meant_by message.entry)) }
+fn written_message(alloc: Global, message: &Message<'_>) -> Result<Sent, AllocError>
+    requires { length (user_data_of (meant_by message.now)) < 65000 }
+    ensures { IfOk result (λ s. s ≡ written (meant_by message.now)) }
 {
-    Sent::of(alloc, &message)
+    Sent::of(alloc, message)
 }
 
 /// The CN of a caller, which is read as it.
@@ -79,7 +79,7 @@ fn written_connect(alloc: Global, opening: &Opening) -> Result<Sent, AllocError>
     ensures read { IfOk result (λ s. unit_in s ≡ Some (asked_for opening.now)) }
 {
     laws::what_is_sent_is_read();
-    let sent = written_message(alloc, opening.message())?;
+    let sent = written_message(alloc, &opening.message())?;
     Ok(sent)
 }
 
@@ -174,8 +174,8 @@ impl Session {
         ensures sendable { OnOk result (CanBeSent (react self.now (called (called_by request.entry))).reply) }
         ensures refused { IfErr result (λ e. Refused e (react self.now (called (called_by request.entry))).error) }
     {
-        let step = decide(&self.state, request)?;
-        match written_message(self.alloc, step.sent) {
+        let step = decide(&self.state, &request)?;
+        match written_message(self.alloc, &step.sent) {
             Ok(sent) => Ok(Plan {
                 was: self.state,
                 next: step.next,
@@ -213,8 +213,8 @@ impl Session {
         ensures refused { IfErr result (λ e. Refused e (react self.old (called (called_by request.entry))).error) }
         ensures err { OnErr result (self.new ≡ self.old) }
     {
-        let step = decide(&self.state, request)?;
-        match written_message(self.alloc, step.sent) {
+        let step = decide(&self.state, &request)?;
+        match written_message(self.alloc, &step.sent) {
             Ok(sent) => {
                 self.state = step.next;
                 Ok(sent)
