@@ -4,6 +4,9 @@ use Rattle.std.proofs.lemmas.List.{append-nil}
 use Rattle.osi_tpkt.specs.Packet.{packet_of}
 use Rattle.osi_tpdu.specs.Value.{Value, request, confirm, disconnect, disconnected, data0, data2, acknowledge, error, user_data}
 use Rattle.osi_tpdu.specs.Writing.{written, written_header, Fits}
+use Rattle.osi_class.specs.Link.{FitsAUnit, given, unit_of}
+use Rattle.osi_class.specs.declared.units.Out.{Out}
+use Rattle.osi_class.specs.declared.units.Out.TheVariants.{Data0, Data2, Ack}
 use Rattle.osi_carrier.specs.State.{packets}
 
 pub one_packet_of : (unit : Value) → packets (unit ∷ []) ≡ packet_of (written unit)
@@ -30,3 +33,9 @@ written_least unit =
     let least = header_least unit in
     let joined = length-append (written_header unit) (user_data unit) in
     omega arith
+
+-- what a link gives goes into a unit of 8,192 octets
+pub given_short : (peer : ℕ) (out : Out) → FitsAUnit out → length (user_data (unit_of peer (given out))) ≤ 8192
+given_short peer (Data0 end octets) fits = omega arith
+given_short peer (Data2 number end octets) fits = let short = fits.1 in omega arith
+given_short peer (Ack number credit) fits = omega arith

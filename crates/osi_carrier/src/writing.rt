@@ -3,7 +3,7 @@
 ghost use Rattle.std.specs.Prelude.{◌≡◌, ◌+◌, ◌≤◌, ◌<◌, ◌∷◌, ◌++◌, [], length, option_map, option_copied, IfSome, OnOk, OnErr};
 ghost use Rattle.osi_tpkt.specs.Octets.{IsOctets};
 ghost use Rattle.osi_tpdu.specs.Limits.{size_code, selector_octets};
-ghost use Rattle.osi_tpdu.specs.Value.{user_data, data0, data2, acknowledge, request, confirm, disconnect, disconnected, AreParameters, IsConnect, IsReference};
+ghost use Rattle.osi_tpdu.specs.Value.{user_data, request, confirm, disconnect, disconnected, AreParameters, IsConnect, IsReference};
 ghost use Rattle.osi_tpdu.specs.View.{value, parameter_values, request_content, confirm_content};
 ghost use Rattle.osi_tpdu.specs.Writing.{Fits, HasFewClasses};
 ghost use Rattle.osi_class.specs.Link.{FitsAUnit, given, unit_of};
@@ -13,8 +13,8 @@ use bytes::BytesMut;
 use osi_class::Out;
 use osi_tpdu::laws::written_form;
 use osi_tpdu::{
-    ConnectConfirm, ConnectParameters, ConnectRequest, DataAcknowledgement, DataClass0, DataClass2,
-    DisconnectConfirm, DisconnectRequest, Selector, SizeCode, Tpdu,
+    ConnectConfirm, ConnectParameters, ConnectRequest, DisconnectConfirm, DisconnectRequest,
+    Selector, SizeCode, Tpdu,
 };
 use osi_tpkt::{WriteError, write_in_packet};
 use std::alloc::AllocError;
@@ -162,65 +162,8 @@ pub fn put_confirm(out: &mut BytesMut, unit: &ConnectConfirm<'_>) -> Result<(), 
     put(out, &unit)
 }
 
-/// Appends a DT of class 0 (X.224 section 13.7) of at most 8,189 octets.
-fn put_data0(out: &mut BytesMut, end: bool, octets: &[u8]) -> Result<(), AllocError>
-    requires { length octets.now ≤ 8189 }
-    ensures ok { OnOk result (out.new.items ≡ out.old.items ++ packets (data0 end octets.now ∷ [])) }
-    ensures err { OnErr result (out.new.items ≡ out.old.items) }
-    ensures spare { OnOk result (out.old.spare ≤ out.new.spare + length (packets (data0 end octets.now ∷ []))) }
-    ensures full { OnErr result (out.old.spare < length (packets (data0 end octets.now ∷ []))) }
-{
-    let unit = Tpdu::Dt0(DataClass0 { end, user: octets });
-    put(out, &unit)
-}
-
-/// Appends a DT of class 2 (X.224 section 13.7) of at most 8,189 octets.
-fn put_data2(
-    out: &mut BytesMut,
-    destination: u16,
-    number: u8,
-    end: bool,
-    octets: &[u8],
-) -> Result<(), AllocError>
-    requires number { number < 128 }
-    requires short { length octets.now ≤ 8189 }
-    ensures ok { OnOk result (out.new.items ≡ out.old.items ++ packets (data2 destination number end octets.now ∷ [])) }
-    ensures err { OnErr result (out.new.items ≡ out.old.items) }
-    ensures spare { OnOk result (out.old.spare ≤ out.new.spare + length (packets (data2 destination number end octets.now ∷ []))) }
-    ensures full { OnErr result (out.old.spare < length (packets (data2 destination number end octets.now ∷ []))) }
-{
-    let unit = Tpdu::Dt2(DataClass2 {
-        destination,
-        number,
-        end,
-        user: octets,
-    });
-    put(out, &unit)
-}
-
-/// Appends an AK (X.224 section 13.9).
-fn put_acknowledge(
-    out: &mut BytesMut,
-    destination: u16,
-    number: u8,
-    credit: u8,
-) -> Result<(), AllocError>
-    requires number { number < 128 }
-    requires credit { credit < 16 }
-    ensures ok { OnOk result (out.new.items ≡ out.old.items ++ packets (acknowledge credit destination number ∷ [])) }
-    ensures err { OnErr result (out.new.items ≡ out.old.items) }
-    ensures spare { OnOk result (out.old.spare ≤ out.new.spare + length (packets (acknowledge credit destination number ∷ []))) }
-    ensures full { OnErr result (out.old.spare < length (packets (acknowledge credit destination number ∷ []))) }
-{
-    let unit = Tpdu::Ak(DataAcknowledgement {
-        credit,
-        destination,
-        number,
-    });
-    put(out, &unit)
-}
-
 /// Appends a unit that a link gave, to this reference of the peer.
+#[tactic(auto, using(crate::proofs::Units::given_short))]
 pub fn put_given(out: &mut BytesMut, peer: u16, unit: &Out<'_>) -> Result<(), AllocError>
     requires { FitsAUnit unit.now }
     ensures ok { OnOk result (out.new.items ≡ out.old.items ++ packets (unit_of peer (given unit.now) ∷ [])) }
@@ -228,13 +171,6 @@ pub fn put_given(out: &mut BytesMut, peer: u16, unit: &Out<'_>) -> Result<(), Al
     ensures spare { OnOk result (out.old.spare ≤ out.new.spare + length (packets (unit_of peer (given unit.now) ∷ []))) }
     ensures full { OnErr result (out.old.spare < length (packets (unit_of peer (given unit.now) ∷ []))) }
 {
-    match *unit {
-        Out::Data0 { end, octets } => put_data0(out, end, octets),
-        Out::Data2 {
-            number,
-            end,
-            octets,
-        } => put_data2(out, peer, number, end, octets),
-        Out::Ack { number, credit } => put_acknowledge(out, peer, number, credit),
-    }
+    let unit = unit.unit(peer);
+    put(out, &unit)
 }
