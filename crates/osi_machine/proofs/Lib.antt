@@ -43,4 +43,6 @@ pub mod TakeTokens
 pub mod TakeYielded
 pub mod Tokens
 pub mod Units
+pub mod ViewFold
 pub mod ViewLaws
+pub mod ViewRun

@@ -1,11 +1,11 @@
 -- What follows for two users from what is true of both sides.
 use Rattle.std.proofs.Common.{◌≡◌, refl, sym, ◌∙◌, ap, subst, ℕ, zero, suc, ◌+◌, ◌-◌, ◌≤◌, ◌<◌, Bool, true, false, not, ◌&&◌, if◌then◌else◌, List, [], ◌∷◌, ◌++◌, length, length-append, inl, inr, append_assoc, arith}
-use Rattle.osi_machine.specs.Floor.{State, Numbers, has, Meaning, DT, MIP, MAP, FunctionalUnits, is_restarting, functional_units}
+use Rattle.osi_machine.specs.Floor.{is_profile, State, Numbers, has, Meaning, DT, MIP, MAP, FunctionalUnits, is_restarting, functional_units}
 use Rattle.osi_machine.specs.Histories.{Item, Octets, Point, PointKind, points, upto, AreNumberedFrom, Begins, Agree}
 use Rattle.osi_machine.specs.Owners.{Owner, Own, Theirs, ToOwn, ToThem, Pool, Absent, turned_owner, is_own}
 use Rattle.osi_machine.specs.Taking.{is_acted_on, seen, cut_by}
 use Rattle.osi_machine.specs.Channels.{data_of}
-use Rattle.osi_machine.specs.Core.{Party, Core, taking, core_start}
+use Rattle.osi_machine.specs.Core.{Offer, Party, Core, taking, core_start}
 use Rattle.osi_machine.specs.Parties.{is_opening}
 use Rattle.osi_machine.specs.Promises.{IsReached, OneHolder, HoldsItsOwn, TakesNoFault, SeesTheHistory, ViewsAgree, GotWhatWasSaid, TakesTheNextItem, ConfirmedIsSeen}
 use Rattle.osi_machine.proofs.Records.{hearing, Views, Stands}
@@ -22,11 +22,13 @@ use Rattle.osi_machine.proofs.Dispatch.{taking_stands, run_stands}
 
 -- ---- it is true of each connection that came about
 
+pub offer_stands : (o : Offer) → o.serial < 1000000 → is_profile o.requirements ≡ true → Stands (core_start o)
+offer_stands o serial profile =
+    let p = profile_of o.requirements profile in
+    starts_stand o serial p (profile_data (functional_units o.requirements) p)
+
 pub reached_stands : SessionLaws → (w : Core) → IsReached w → Stands w
-reached_stands laws w r =
-    let p = profile_of r.offer.requirements r.profile in
-    subst Stands r.reached
-    (run_stands laws (core_start r.offer) r.steps r.numbered (starts_stand r.offer r.serial p (profile_data (functional_units r.offer.requirements) p)))
+reached_stands laws w r = subst Stands r.reached (run_stands laws (core_start r.offer) r.steps r.numbered (offer_stands r.offer r.serial r.profile))
 
 -- ---- tokens
 

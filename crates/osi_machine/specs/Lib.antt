@@ -8,4 +8,5 @@ pub mod Owners
 pub mod Parties
 pub mod Promises
 pub mod Taking
+pub mod Views
 pub mod Worlds

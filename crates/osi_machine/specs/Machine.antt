@@ -1,10 +1,10 @@
 -- The machine: any number of connections between two ends, their steps, and the journal of what the
 -- users do and see.
-use Rattle.std.specs.Prelude.{◌≡◌, ℕ, zero, suc, ◌+◌, Bool, true, false, not, ◌&&◌, ◌||◌, if◌then◌else◌, nat_le, List, [], ◌∷◌, ◌++◌, take, map, length, Option, Some, None, is_some, Ok, Err}
-use Rattle.std.specs.List.{list_any, slice_get}
+use Rattle.std.specs.Prelude.{◌≡◌, ◌<◌, ℕ, zero, suc, ◌+◌, Bool, true, false, not, ◌&&◌, ◌||◌, if◌then◌else◌, nat_le, List, [], ◌∷◌, ◌++◌, take, map, length, Option, Some, None, is_some, Ok, Err}
+use Rattle.std.specs.List.{AllByRecursion, list_any, slice_get}
 use Rattle.osi_session.specs.declared.faults.CallError.TheVariants as error
 use Rattle.osi_session.specs.Shown.{Shown}
-use Rattle.osi_machine.specs.Floor.{CallError, Answer, Call, allowed, is_profile}
+use Rattle.osi_machine.specs.Floor.{CallError, Answer, Call, HasSerial, allowed, is_profile}
 use Rattle.osi_machine.specs.Core.{Offer, Side, Left, Right}
 use Rattle.osi_machine.specs.Worlds.{Class, class_0, class_2, Message, agree, Transport, not_yet, waiting, gone, World, turned, session_of, asked_with, after_answer, Taking, Terms, accepts, message_taken, closed, ended_at, shown_at_end}
 
@@ -220,7 +220,14 @@ abbrev pub run : Machine → List Step → Machine
 run m [] = m
 run m (s ∷ steps) = run (step m s) steps
 
+-- the number in an offer or a call is one that a point may have
+abbrev pub HasNumber : Step → Type 0
+HasNumber (connects o) = o.serial < 1000000
+HasNumber (calls side r c) = HasSerial c
+HasNumber step = Unit {0}
+
 -- what two users may do and see
 pub record IsLegal (terms : Terms) (journal : List Entry) : Type 0 where
   pub steps : List Step
+  pub numbered : AllByRecursion HasNumber steps
   pub leads : (run (start terms) steps).journal ≡ journal

@@ -1,13 +1,15 @@
 //! Laws of the definitions. Each function does nothing: its clauses are the laws.
 
-ghost use Rattle.std.specs.Prelude.{◌≡◌, ◌<◌, List, []};
+ghost use Rattle.std.specs.Prelude.{◌≡◌, ◌<◌, List, [], true, false};
 ghost use Rattle.std.specs.List.{AllByRecursion};
 ghost use Rattle.osi_machine.specs.Core.{Core, CoreStep, Offer, Left, Right, core_run, core_start};
 ghost use Rattle.osi_machine.specs.Examples.{all_tokens, lost_give_seen, after_lost_give, crossing_seen, after_crossing, two_points_seen, restart_below_seen, after_restart_below, last_point, last_point_seen, lost_release_seen, after_lost_release, both_send, both_send_seen, to_right, held_in, stands_at, next_at, lowest_at, history_of, up_to_first_point};
-ghost use Rattle.osi_machine.specs.Floor.{no_token};
+ghost use Rattle.osi_machine.specs.Floor.{no_token, is_profile};
+ghost use Rattle.osi_machine.specs.Histories.{Agree};
 ghost use Rattle.osi_machine.specs.Machine.{run, start, step};
 ghost use Rattle.osi_machine.specs.Parties.{AreConsistent, IsNumberedStep};
 ghost use Rattle.osi_machine.specs.Promises.{IsReached, OfBoth, OneHolder, HoldsItsOwn, TakesNoFault, SeesTheHistory, ViewsAgree, GotWhatWasSaid, TakesTheNextItem, ConfirmedIsSeen};
+ghost use Rattle.osi_machine.specs.Views.{AreTold, left_told, right_told};
 ghost use Rattle.osi_machine.specs.Worlds.{accepts, class_2};
 
 use osi_session::laws as session;
@@ -74,6 +76,21 @@ pub fn next_item()
 /// the same items; unless the other has asked for a restart and awaits the answer.
 pub fn confirmed_is_seen()
     ensures { (w : Core) → IsReached w → OfBoth ConfirmedIsSeen w }
+{
+    session::numbers_stay_in_order();
+    session::what_is_sent_can_be_sent();
+    session::what_two_units_do();
+}
+
+/// The record of a side, which is what its user asked and was shown, tells what it has seen: data and
+/// points are added, and restarts cut them. So with half-duplex the views of both records agree. It tells
+/// too whether its side has asked for a restart of which it has seen no answer.
+pub fn what_a_record_tells()
+    ensures told { (o : Offer) (steps : List CoreStep) → o.serial < 1000000 → is_profile o.requirements ≡ true →
+        AllByRecursion IsNumberedStep steps → AreTold o steps }
+    ensures agreed { (o : Offer) (steps : List CoreStep) → o.serial < 1000000 → is_profile o.requirements ≡ true →
+        AllByRecursion IsNumberedStep steps → (core_run (core_start o) steps).own.session.units.duplex ≡ false →
+        (core_run (core_start o) steps).peer.session.units.duplex ≡ false → Agree (left_told o steps).view (right_told o steps).view }
 {
     session::numbers_stay_in_order();
     session::what_is_sent_can_be_sent();
