@@ -122,7 +122,7 @@ acts_good s u h =
     ∙ other (not (is_expected s.phase u)) _ _ (ap not h.good.expected)
     ∙ ap (judged s u) (no_fault_of (si u) (conditions s u) h.good.met)
 
-not_acted : (P : State → Type 0) (s : State) (u : Meaning) → is_acted_on s u ≡ false → P s → P (without_tokens Ended s) → P (without_tokens Aborting s)
+pub not_acted : (P : State → Type 0) (s : State) (u : Meaning) → is_acted_on s u ≡ false → P s → P (without_tokens Ended s) → P (without_tokens Aborting s)
     → P (respond_unit s u).next
 unfolding respond_unit take_expected
 not_acted P s u n same ended bare =

@@ -22,6 +22,10 @@ pub mod PleaseCall
 pub mod PointCall
 pub mod Profiles
 pub mod Promises
+pub mod ProjectCall
+pub mod ProjectLast
+pub mod ProjectTake
+pub mod Projects
 pub mod Records
 pub mod ReleaseCall
 pub mod RestartCall

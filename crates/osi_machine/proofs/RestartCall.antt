@@ -71,7 +71,7 @@ given_absent ToOwn h = h
 given_absent ToThem h = h
 given_absent Pool h = h
 
-given_theirs : (p : Owner) → is_own (turned_owner p) ≡ is_own (turned_owner (own_to_pool p))
+pub given_theirs : (p : Owner) → is_own (turned_owner p) ≡ is_own (turned_owner (own_to_pool p))
 given_theirs Own = refl
 given_theirs Theirs = refl
 given_theirs ToOwn = refl
@@ -186,7 +186,7 @@ peer_half w n t o q s = record {
 -- ---- what was seen
 
 -- what the restart leaves of the history is what it leaves of what was seen
-same_cut : (base n : ℕ) (v h : List Item) → Begins v h → n ≤ base + points v → cutat base v n ≡ cutat base h n
+pub same_cut : (base n : ℕ) (v h : List Item) → Begins v h → n ≤ base + points v → cutat base v n ≡ cutat base h n
 same_cut base n v h b le = sym (ap (λ (r : List Item). cutat base r n) (sym b.1) ∙ upto_append (n - base) v b.0 (omega arith))
 
 own_views : (w : Core) (n : ℕ) (t : TokenSetting) (o : List ℕ) → Restarts w n → Stands w → Views (w.history ++ []) (asker w.own n t o) w.peer
@@ -305,7 +305,7 @@ below_if : (b : Bool) (n next : ℕ) → (if b then nat_lt n next else nat_le n 
 below_if true n next h = let k = ltb-true n next h in omega arith
 below_if false n next h = leb-true n next h
 
-in_range : (s : State) (n : ℕ) → IsSound s → is_restartable s n ≡ true → (s.base ≤ n) × (n ≤ s.numbers.next)
+pub in_range : (s : State) (n : ℕ) → IsSound s → is_restartable s n ≡ true → (s.base ≤ n) × (n ≤ s.numbers.next)
 in_range s n sound h =
     let most = if in_major s.phase then nat_lt n s.numbers.next else nat_le n s.numbers.next in
     let a = and_parts (nat_le s.numbers.lowest n) (nat_le n last_number && most) h in

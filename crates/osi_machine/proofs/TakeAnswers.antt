@@ -97,7 +97,7 @@ abbrev called : State → ℕ → Option ℕ → TokenSetting → State
 called s u n x = record s { phase = Answering; units = functional_units u; wishes = x; proposed = unwrap_or n 0 }
 
 -- one that cannot be accepted would end the called side, and no two sides meet so
-acceptable : (w : Core) (v : Bool) (u : ℕ) (n : Option ℕ) (x : TokenSetting) (from to : Option (List ℕ)) (o : List ℕ) (us : List Meaning)
+pub acceptable : (w : Core) (v : Bool) (u : ℕ) (n : Option ℕ) (x : TokenSetting) (from to : Option (List ℕ)) (o : List ℕ) (us : List Meaning)
     → drops w.own.session (CN v u n x from to o) ≡ false → Stands (at w (CN v u n x from to o ∷ us)) → is_acceptable v u ≡ true
 acceptable w v u n x from to o us d h = by (is_acceptable v u) refl
   where

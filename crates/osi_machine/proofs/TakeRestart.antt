@@ -136,6 +136,10 @@ same_cut w k n t o us c = by (is_restarting w.own.session.phase) refl
         ap (λ (h : List Item). cutat w.own.session.base h n) (c.all.own_views.cut l)
         ∙ cut_twice w.own.session.base n w.own.session.numbers.next w.history (top w k n t o us c)
 
+pub cut_seen : (w : Core) (k : ResyncType) (n : ℕ) (t : TokenSetting) (o : List ℕ) (us : List Meaning) → Stands (at w (RS k n t o ∷ us)) → stands w.own.session n ≡ true
+    → cutat w.own.session.base w.own.view n ≡ cutat w.own.session.base w.history n
+cut_seen w k n t o us s st = same_cut w k n t o us (record { all = s; wins = st })
+
 -- ---- tokens
 
 pool_own : (p : Owner) → false ≡ is_own (all_to_pool p)

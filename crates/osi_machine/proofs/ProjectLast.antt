@@ -1,0 +1,220 @@
+-- The last unit of a side that is over is taken, and a side that is over takes a unit.
+use Rattle.std.proofs.Common.{◌≡◌, refl, sym, ◌∙◌, ap, subst, Bool, true, false, not, ◌&&◌, ◌||◌, if◌then◌else◌, List, [], ◌∷◌}
+use Rattle.std.specs.List.{list_any}
+use Rattle.osi_machine.specs.Floor.{State, Meaning, CN, AC, RF, DT, GT, PT, MIP, MIA, MAP, MAA, RS, RA, FN, DN, NF, AB, AA, Outcome, nothing, good, is_over, is_aborting, is_ended, in_aborting, in_ended, is_wait_cn, is_connecting, is_answering, is_ready, is_major_asked, is_releasing, is_release_due, is_restarting, may_ask, takes_data, takes_please, takes_minor_ack, is_expected, respond_unit, stands, next}
+use Rattle.osi_machine.specs.Histories.{Item}
+use Rattle.osi_machine.specs.Owners.{is_own, turned_owner}
+use Rattle.osi_machine.specs.Taking.{is_acted_on, cut_by, owners_after}
+use Rattle.osi_machine.specs.Channels.{is_plain, AllFit, flush, stops, heard}
+use Rattle.osi_machine.specs.Core.{Core, turned}
+use Rattle.osi_machine.specs.Worlds.{Message, unit, World, session_of, put, replied, after_unit, turned as turned_world}
+use Rattle.osi_machine.specs.Machine.{without_first}
+use Rattle.osi_machine.proofs.PhaseLaws.{excluded, implied_two}
+use Rattle.osi_machine.proofs.Records.{flushed, matched, Stands}
+use Rattle.osi_machine.proofs.Units.{fit_cases}
+use Rattle.osi_machine.proofs.Acting.{acts_good, not_acted, over_of}
+use Rattle.osi_machine.proofs.Alive.{alive}
+use Rattle.osi_machine.proofs.Deaf.{all_empty, empty_end}
+use Rattle.osi_machine.proofs.Opening.{none_answering}
+use Rattle.osi_machine.proofs.RestartMeet.{listener_stands}
+use Rattle.osi_machine.proofs.Projects.{stopped, parts, IsLast, Carried, OneSide, Projects, both_over, over_side}
+use Rattle.osi_machine.proofs.ProjectCall.{left_theirs}
+use Rattle.osi_machine.proofs.ProjectTake.{Last, took, put_nothing}
+
+-- ---- DN comes to a side that has asked for release, and RF to one that has asked for the connection
+
+-- a side that owes the answer to a release owes it until a restart stands
+none_acts : (s : State) (u : Meaning) → is_release_due s.phase ≡ true → is_plain u ≡ true → stops s u ≡ false → is_expected s.phase u ≡ false
+unfolding stands
+none_acts s (CN v u n w from to o) h k st = excluded is_release_due is_wait_cn refl s.phase h
+none_acts s (AC v u n w o) h k st = excluded is_release_due is_connecting refl s.phase h
+none_acts s (RF r o) h k st = absurd (cc)
+none_acts s (DT o) h k st = excluded is_release_due takes_data refl s.phase h
+none_acts s (GT t) h k st = excluded is_release_due may_ask refl s.phase h
+none_acts s (PT t o) h k st = excluded is_release_due takes_please refl s.phase h
+none_acts s (MIP c n o) h k st = excluded is_release_due is_ready refl s.phase h
+none_acts s (MIA n o) h k st = excluded is_release_due takes_minor_ack refl s.phase h
+none_acts s (MAP n o) h k st = excluded is_release_due is_ready refl s.phase h
+none_acts s (MAA n o) h k st = excluded is_release_due is_major_asked refl s.phase h
+none_acts s (RS j n w o) h k st = absurd (let t = listener_stands s n (excluded is_release_due is_restarting refl s.phase h) in cc)
+none_acts s (RA n w o) h k st = excluded is_release_due is_restarting refl s.phase h
+none_acts s (FN o) h k st = excluded is_release_due is_ready refl s.phase h
+none_acts s (DN o) h k st = absurd (cc)
+none_acts s (NF o) h k st = excluded is_release_due is_releasing refl s.phase h
+none_acts s (AB b o) h k st = absurd (cc)
+none_acts s AA h k st = absurd (cc)
+
+still_owes : (s : State) (us : List Meaning) → is_release_due s.phase ≡ true → AllFit s us → is_release_due (heard s us).phase ≡ true
+still_owes s [] h f = h
+still_owes s (u ∷ us) h f = by (stops s u) refl (λ e. still_owes (next s u) us (kept e) f.1)
+  where
+    kept : stops s u ≡ false → is_release_due (next s u).phase ≡ true
+    kept e = fit_cases (λ r. is_release_due r.phase ≡ true) s u f.0 h (λ d g. absurd (let n = none_acts s u h f.0.plain e in let x = g.expected in cc))
+
+    by : (b : Bool) → stops s u ≡ b → (stops s u ≡ false → is_release_due (heard (next s u) us).phase ≡ true) → is_release_due (if b then s else heard (next s u) us).phase ≡ true
+    by true e more = h
+    by false e more = more e
+
+releasing_now : (c : Core) → Stands c → is_release_due c.peer.session.phase ≡ true → is_releasing c.own.session.phase ≡ true
+releasing_now c s d = s.peer.meeting.released (still_owes c.peer.session c.own.sent d s.peer.fits)
+
+both : (a b : Bool) → a ≡ true → b ≡ true → (a && b) ≡ true
+both a b p q = rw (p, q) refl
+
+connecting_now : (c : Core) → Stands c → c.peer.sent ≡ [] → is_answering c.peer.session.phase ≡ true → is_connecting c.own.session.phase ≡ true
+connecting_now c s none a =
+    let here : flushed c.own c.peer ≡ c.own.session = ap (flush c.own.session) none in
+    let empty = all_empty c.peer.session c.own.sent (λ u p. none_answering c.peer.session.phase u a p) (excluded is_answering is_restarting refl c.peer.session.phase a) s.peer.fits in
+    let there : flushed c.peer c.own ≡ c.peer.session = empty_end c.peer.session c.own.sent empty in
+    let meets = ap (λ (r : State). matched r.phase (flushed c.peer c.own).phase) (sym here) ∙ s.own.meeting.meets in
+    let met = ap (λ (r : State). matched c.own.session.phase r.phase) (sym there) ∙ meets in
+    implied_two (λ p q. matched p q && is_answering q) (λ p q. is_connecting p) refl c.own.session.phase c.peer.session.phase
+    (both (matched c.own.session.phase c.peer.session.phase) (is_answering c.peer.session.phase) met a)
+
+-- ---- the last unit
+
+kept_aside : (b : Bool) → (b && false) ≡ false
+kept_aside true = refl
+kept_aside false = refl
+
+last_good : (c : Core) (u : Meaning) → Stands c → c.peer.sent ≡ [] → IsLast c.peer.session u → respond_unit c.own.session u ≡ good c.own.session u
+last_good c (AB b o) s none l =
+    acts_good c.own.session (AB b o) (record { lives = alive c.owner c.own c.peer s.own; heeds = kept_aside (is_restarting c.own.session.phase); good = record { expected = refl; met = tt } })
+last_good c (DN o) s none l =
+    let r = releasing_now c s l in
+    acts_good c.own.session (DN o) (record {
+      lives = alive c.owner c.own c.peer s.own;
+      heeds = ap (λ (b : Bool). b && true) (excluded is_releasing is_restarting refl c.own.session.phase r);
+      good = record { expected = r; met = tt };
+    })
+last_good c (RF x o) s none l =
+    let r = connecting_now c s none l in
+    acts_good c.own.session (RF x o) (record {
+      lives = alive c.owner c.own c.peer s.own;
+      heeds = ap (λ (b : Bool). b && true) (excluded is_connecting is_restarting refl c.own.session.phase r);
+      good = record { expected = r; met = tt };
+    })
+last_good c _ s none l = absurd (l)
+
+good_over : (s r : State) (u : Meaning) → IsLast r u → is_over (good s u).next.phase ≡ true
+good_over s r (AB b o) l = refl
+good_over s r (DN o) l = refl
+good_over s r (RF x o) l = refl
+good_over s r _ l = absurd (l)
+
+last_cuts : (s r : State) (u : Meaning) (h : List Item) → IsLast r u → cut_by s u h ≡ h
+last_cuts s r (AB b o) h l = refl
+last_cuts s r (DN o) h l = refl
+last_cuts s r (RF x o) h l = refl
+last_cuts s r _ h l = absurd (l)
+
+same_if : (b : Bool) (g h : List Item) → g ≡ h → (if b then g else h) ≡ h
+same_if true g h e = e
+same_if false g h e = refl
+
+-- both sides are over after it
+pub last_projects : (broken : Bool) (w : World) (c : Core) (u : Meaning) (ms : List Message) → Projects broken w c → Stands c
+    → Last (stopped w.peer) u ms c.peer.sent c.peer.session → (stopped (took broken w c u ms).own ≡ true) × Projects broken (took broken w c u ms) c
+last_projects broken w c u ms p s l =
+    let ends = ap (λ (o : Outcome). is_over o.next.phase) (last_good c u s l.none l.last) ∙ good_over c.own.session c.peer.session u l.last in (
+      ends,
+      both_over broken (took broken w c u ms) c
+          (same_if (is_acted_on c.own.session u) (cut_by c.own.session u w.history) w.history (last_cuts c.own.session c.peer.session u w.history l.last) ∙ p.history)
+          p.own.begun ends p.peer.begun l.ended,
+    )
+
+-- ---- a side that is over
+
+over_not_acted : (s : State) (u : Meaning) → is_over s.phase ≡ true → is_acted_on s u ≡ false
+over_not_acted s u o = gone (is_over s.phase) _ o
+  where
+    gone : (b rest : Bool) → b ≡ true → (not b && rest) ≡ false
+    gone true rest e = refl
+    gone false rest e = absurd (cc)
+
+over_next : (s : State) (u : Meaning) → is_over s.phase ≡ true → is_over (respond_unit s u).next.phase ≡ true
+over_next s u o = not_acted (λ r. is_over r.phase ≡ true) s u (over_not_acted s u o) o refl refl
+
+plain_aborting : (s : State) (u : Meaning) → is_plain u ≡ true → in_aborting s u ≡ nothing s
+plain_aborting s (AB b o) p = absurd (cc)
+plain_aborting s AA p = absurd (cc)
+plain_aborting s _ p = refl
+
+plain_ended : (s : State) (u : Meaning) → is_plain u ≡ true → in_ended s u ≡ nothing s
+plain_ended s (AB b o) p = absurd (cc)
+plain_ended s _ p = refl
+
+other : (b : Bool) (x y : Outcome) → b ≡ false → (if b then x else y) ≡ y
+other true x y h = absurd (cc)
+other false x y h = refl
+
+first : (b : Bool) (x y : Outcome) → b ≡ true → (if b then x else y) ≡ x
+first true x y h = refl
+first false x y h = absurd (cc)
+
+-- it discards what a side sends that is not
+over_nothing : (s : State) (u : Meaning) → is_over s.phase ≡ true → is_plain u ≡ true → respond_unit s u ≡ nothing s
+unfolding respond_unit
+over_nothing s u o p = by (is_aborting s.phase) refl (is_ended s.phase) refl
+  where
+    by : (a : Bool) → is_aborting s.phase ≡ a → (e : Bool) → is_ended s.phase ≡ e
+        → respond_unit s u ≡ nothing s
+    by true h e k = first (is_aborting s.phase) _ _ h ∙ plain_aborting s u p
+    by false h true k = other (is_aborting s.phase) _ _ h ∙ first (is_ended s.phase) _ _ k ∙ plain_ended s u p
+    by false h false k = absurd (let n = over_of false false s.phase h k in cc)
+
+not_true : (b : Bool) → not b ≡ false → b ≡ true
+not_true true h = refl
+not_true false h = absurd (cc)
+
+or_parts : (a b : Bool) → (a || b) ≡ false → (a ≡ false) × (b ≡ false)
+or_parts true b h = absurd (cc)
+or_parts false b h = (refl, h)
+
+-- what a side that is over makes of a unit
+abbrev pub ignored : Bool → World → Meaning → List Message → World
+ignored broken w u ms = after_unit broken (session_of (without_first w ms)) u (without_first w ms)
+
+over_history : (broken : Bool) (w : World) (u : Meaning) (ms : List Message) → stopped w.own ≡ true → (ignored broken w u ms).history ≡ w.history
+over_history broken w u ms o =
+    ap (λ (b : Bool). if b then cut_by (session_of (without_first w ms)) u w.history else w.history) (over_not_acted (session_of (without_first w ms)) u o)
+
+over_giver : (broken : Bool) (w : World) (c : Core) (u : Meaning) (ms : List Message) → Projects broken w c → stopped w.own ≡ true → w.peer.channel ≡ unit u ∷ ms
+    → stopped w.peer ≡ false → OneSide broken (turned_world (ignored broken w u ms)) (turned c)
+over_giver broken w c u ms p o e l =
+    let s = session_of (without_first w ms) in
+    let parted = or_parts (parts (unit u)) (list_any parts ms) (ap (list_any parts) (sym e) ∙ p.peer.parted l) in
+    let none = over_nothing s u o (not_true (is_plain u) parted.0) in
+    let channel : put broken (replied (respond_unit s u).reply) w.own.channel ≡ w.own.channel =
+    ap (λ (x : Outcome). put broken (replied x.reply) w.own.channel) none ∙ put_nothing broken w.own.channel in
+    let a = p.peer.alike l in
+    record {
+      begun = p.peer.begun;
+      alike = λ k. record {
+        transport = a.transport;
+        kept = a.kept;
+        mark = a.mark;
+        said = a.said;
+        got = a.got;
+        owns = λ t. left_theirs (respond_unit s u).next (if is_acted_on s u then owners_after s u w.owner else w.owner) t
+            ∙ ap (λ (b : Bool). is_own (turned_owner ((if b then owners_after s u w.owner else w.owner) t))) (over_not_acted s u o) ∙ a.owns t;
+      };
+      carried = λ k. subst (λ (ch : List Message). Carried broken (is_over (respond_unit s u).next.phase) ch c.own.sent c.own.session) (sym channel)
+          (subst (λ (b : Bool). Carried broken b w.own.channel c.own.sent c.own.session) (o ∙ sym (over_next s u o)) (p.peer.carried l));
+      parted = λ k. parted.1;
+    }
+
+pub over_projects : (broken : Bool) (w : World) (c : Core) (u : Meaning) (ms : List Message) → Projects broken w c → stopped w.own ≡ true → w.peer.channel ≡ unit u ∷ ms
+    → Projects broken (ignored broken w u ms) c
+over_projects broken w c u ms p o e = by (stopped w.peer) refl
+  where
+    ends : stopped (ignored broken w u ms).own ≡ true
+    ends = over_next (session_of (without_first w ms)) u o
+
+    by : (b : Bool) → stopped w.peer ≡ b → Projects broken (ignored broken w u ms) c
+    by true l = both_over broken (ignored broken w u ms) c (over_history broken w u ms o ∙ p.history) p.own.begun ends p.peer.begun l
+    by false l = record {
+      history = over_history broken w u ms o ∙ p.history;
+      own = over_side broken (ignored broken w u ms) c p.own.begun ends;
+      peer = over_giver broken w c u ms p o e l;
+    }

@@ -1,0 +1,322 @@
+-- A unit is taken at a whole connection, and in the core.
+use Rattle.std.proofs.Common.{◌≡◌, refl, sym, ◌∙◌, ap, subst, ℕ, ◌+◌, Bool, true, false, not, ◌&&◌, ◌||◌, if◌then◌else◌, List, [], ◌∷◌, ◌++◌, map, length, Option, Some, None, ◌⊎◌, inl, inr}
+use Rattle.std.proofs.lemmas.List.{length-append}
+use Rattle.std.specs.List.{list_any}
+use Rattle.osi_machine.specs.Floor.{TokenSetting, State, Meaning, CN, AC, RF, DT, GT, MIP, MAP, RS, RA, AB, Token, has, Outcome, nothing, good, is_over, is_acceptable, has_data, functional_units, respond_unit, becomes, stands, drops}
+use Rattle.osi_session.specs.Respond.{reply_for}
+use Rattle.osi_machine.specs.Histories.{Item, Octets, Point, minor_kind, major_point, cutat}
+use Rattle.osi_machine.specs.Owners.{Owner, Own, Theirs, ToOwn, ToThem, Pool, Absent, Owners, all_to_pool, is_own, turned_owner, pooled, left_by}
+use Rattle.osi_machine.specs.Taking.{is_acted_on, seen, got_in, cut_by, owners_after}
+use Rattle.osi_machine.specs.Channels.{is_plain, AllFit, Fits}
+use Rattle.osi_machine.specs.Core.{Core, turned, taking}
+use Rattle.osi_machine.specs.Worlds.{Message, unit, Kept, World, put, mark_after, replied, after_unit, turned as turned_world}
+use Rattle.osi_machine.specs.Machine.{without_first}
+use Rattle.osi_machine.proofs.Records.{Stands}
+use Rattle.osi_machine.proofs.Idle.{append_nil}
+use Rattle.osi_machine.proofs.Acting.{no_fault}
+use Rattle.osi_machine.proofs.Alive.{alive}
+use Rattle.osi_machine.proofs.TakeMoves.{at}
+use Rattle.osi_machine.proofs.TakeRestart.{cut_seen}
+use Rattle.osi_machine.proofs.TakeAnswers.{acceptable}
+use Rattle.osi_machine.proofs.Projects.{stopped, parts, Alike, IsLast, IsTail, Carried, OneSide, Projects}
+use Rattle.osi_machine.proofs.ProjectCall.{left_lives, left_theirs, none_last}
+
+-- ---- what a unit that is acted on does to the mark, what was got and the owners
+
+pool_own : (p : Owner) → is_own (all_to_pool p) ≡ false
+pool_own Own = refl
+pool_own Theirs = refl
+pool_own ToOwn = refl
+pool_own ToThem = refl
+pool_own Pool = refl
+pool_own Absent = refl
+
+pool_theirs : (p : Owner) → is_own (turned_owner (all_to_pool p)) ≡ false
+pool_theirs Own = refl
+pool_theirs Theirs = refl
+pool_theirs ToOwn = refl
+pool_theirs ToThem = refl
+pool_theirs Pool = refl
+pool_theirs Absent = refl
+
+-- a restart that stands leaves of the history what it leaves of what was seen
+abbrev CutsAlike : State → Meaning → List Item → List Item → Type 0
+CutsAlike s (RS k n x o) h v = stands s n ≡ true → cutat s.base v n ≡ cutat s.base h n
+CutsAlike s u h v = Unit {0}
+
+cuts_alike : (c : Core) (u : Meaning) (us : List Meaning) → Stands (at c (u ∷ us)) → CutsAlike c.own.session u c.history c.own.view
+cuts_alike c (RS k n x o) us s = cut_seen c k n x o us s
+cuts_alike c _ us s = tt
+
+seen_mark : (s : State) (u : Meaning) (h v : List Item) (mark : ℕ) → CutsAlike s u h v → mark ≡ length v → mark_after s u h mark ≡ length (seen s u v)
+seen_mark s (DT o) h v mark cut e = by s.units.duplex
+  where
+    by : (b : Bool) → (if b then mark else mark + 1) ≡ length (if b then v else v ++ Octets o ∷ [])
+    by true = e
+    by false = ap (λ (n : ℕ). n + 1) e ∙ sym (length-append v (Octets o ∷ []))
+seen_mark s (MIP c n o) h v mark cut e = ap (λ (n : ℕ). n + 1) e ∙ sym (length-append v (Point n (minor_kind c) o ∷ []))
+seen_mark s (MAP n o) h v mark cut e = ap (λ (n : ℕ). n + 1) e ∙ sym (length-append v (Point n major_point o ∷ []))
+seen_mark s (RS k n x o) h v mark cut e = by (stands s n) refl
+  where
+    by : (b : Bool) → stands s n ≡ b → (if b then length (cutat s.base h n) else mark) ≡ length (if b then cutat s.base v n else v)
+    by true st = ap length (sym (cut st))
+    by false st = e
+seen_mark s _ h v mark cut e = e
+
+owns_after : (s : State) (u : Meaning) (o p : Owners) (t : Token) → is_own (o t) ≡ is_own (p t) → is_own (owners_after s u o t) ≡ is_own (owners_after s u p t)
+owns_after s (GT k) o p t e = passed (has k t)
+  where
+    passed : (b : Bool) → is_own (if b then Own else o t) ≡ is_own (if b then Own else p t)
+    passed true = refl
+    passed false = e
+owns_after s (AC v r n x y) o p t e = passed (has (becomes s (AC v r n x y)).held t)
+  where
+    passed : (b : Bool) → is_own (if b then Own else o t) ≡ is_own (if b then Own else p t)
+    passed true = refl
+    passed false = e
+owns_after s (RA n x y) o p t e = passed (has (becomes s (RA n x y)).held t)
+  where
+    passed : (b : Bool) → is_own (if b then Own else o t) ≡ is_own (if b then Own else p t)
+    passed true = refl
+    passed false = e
+owns_after s (RS k n x y) o p t e = by (stands s n)
+  where
+    by : (b : Bool) → is_own ((if b then pooled o else o) t) ≡ is_own ((if b then pooled p else p) t)
+    by true = pool_own (o t) ∙ sym (pool_own (p t))
+    by false = e
+owns_after s _ o p t e = e
+
+theirs_after : (s : State) (u : Meaning) (o p : Owners) (t : Token) → is_own (turned_owner (o t)) ≡ is_own (turned_owner (p t))
+    → is_own (turned_owner (owners_after s u o t)) ≡ is_own (turned_owner (owners_after s u p t))
+theirs_after s (GT k) o p t e = passed (has k t)
+  where
+    passed : (b : Bool) → is_own (turned_owner (if b then Own else o t)) ≡ is_own (turned_owner (if b then Own else p t))
+    passed true = refl
+    passed false = e
+theirs_after s (AC v r n x y) o p t e = passed (has (becomes s (AC v r n x y)).held t)
+  where
+    passed : (b : Bool) → is_own (turned_owner (if b then Own else o t)) ≡ is_own (turned_owner (if b then Own else p t))
+    passed true = refl
+    passed false = e
+theirs_after s (RA n x y) o p t e = passed (has (becomes s (RA n x y)).held t)
+  where
+    passed : (b : Bool) → is_own (turned_owner (if b then Own else o t)) ≡ is_own (turned_owner (if b then Own else p t))
+    passed true = refl
+    passed false = e
+theirs_after s (RS k n x y) o p t e = by (stands s n)
+  where
+    by : (b : Bool) → is_own (turned_owner ((if b then pooled o else o) t)) ≡ is_own (turned_owner ((if b then pooled p else p) t))
+    by true = pool_theirs (o t) ∙ sym (pool_theirs (p t))
+    by false = e
+theirs_after s _ o p t e = e
+
+-- ---- a unit of the core is answered by none
+
+plain_reply : (s : State) (u : Meaning) → is_plain u ≡ true → ((v : Bool) (r : ℕ) (n : Option ℕ) (x : TokenSetting) (from to : Option (List ℕ)) (o : List ℕ)
+    → u ≡ CN v r n x from to o → is_acceptable v r ≡ true) → reply_for u ≡ None
+plain_reply s (CN v r n x from to o) p k = by v (has_data (functional_units r)) (k v r n x from to o refl)
+  where
+    by : (a b : Bool) → (a && b) ≡ true → (if not a then Some (RF 132 []) else (if not b then Some (RF 134 []) else None)) ≡ None
+    by true true e = refl
+    by true false e = absurd (cc)
+    by false b e = absurd (cc)
+plain_reply s (AB b o) p k = absurd (cc)
+plain_reply s _ p k = refl
+
+-- the channel of its taker stays
+pub put_nothing : (broken : Bool) (channel : List Message) → put broken [] channel ≡ channel
+put_nothing true channel = refl
+put_nothing false channel = append_nil channel
+
+-- ---- the first unit of the core's channel
+
+-- the connection, once it was taken
+abbrev pub took : Bool → World → Core → Meaning → List Message → World
+took broken w c u ms = after_unit broken c.own.session u (without_first w ms)
+
+record Takes (broken : Bool) (w : World) (c : Core) (u : Meaning) (us : List Meaning) (ms : List Message) : Type 0 where
+  old : Projects broken w c
+  all : Stands (at c (u ∷ us))
+  then_all : Stands (taking c (u ∷ us))
+  lives : stopped w.own ≡ false
+  channel : w.peer.channel ≡ unit u ∷ ms
+
+lives_in_core : (broken : Bool) (w : World) (c : Core) (u : Meaning) (us : List Meaning) (ms : List Message) → Takes broken w c u us ms → is_over c.own.session.phase ≡ false
+lives_in_core broken w c u us ms k = ap (λ (r : Kept). is_over r.phase) (sym (k.old.own.alike k.lives).kept) ∙ k.lives
+
+fits_first : (broken : Bool) (w : World) (c : Core) (u : Meaning) (us : List Meaning) (ms : List Message) → Takes broken w c u us ms → Fits c.own.session u
+fits_first broken w c u us ms k = f.0
+  where
+    f : AllFit c.own.session (u ∷ us)
+    f = k.all.own.fits
+
+lives_then : (broken : Bool) (w : World) (c : Core) (u : Meaning) (us : List Meaning) (ms : List Message) → Takes broken w c u us ms
+    → is_over (respond_unit c.own.session u).next.phase ≡ false
+lives_then broken w c u us ms k = alive (taking c (u ∷ us)).owner (taking c (u ∷ us)).own (taking c (u ∷ us)).peer k.then_all.own
+
+no_reply : (broken : Bool) (w : World) (c : Core) (u : Meaning) (us : List Meaning) (ms : List Message) → Takes broken w c u us ms → (respond_unit c.own.session u).reply ≡ None
+no_reply broken w c u us ms k =
+    let f = fits_first broken w c u us ms k in
+    ap (λ (o : Outcome). o.reply) (no_fault c.own.session u (lives_in_core broken w c u us ms k) f) ∙ by (drops c.own.session u) refl f.plain
+  where
+    accepts : (m : Meaning) → m ≡ u → drops c.own.session u ≡ false → (v : Bool) (r : ℕ) (n : Option ℕ) (x : TokenSetting) (from to : Option (List ℕ)) (o : List ℕ)
+        → m ≡ CN v r n x from to o → is_acceptable v r ≡ true
+    accepts m e d v r n x from to o same =
+        let path = sym e ∙ same in
+        acceptable c v r n x from to o us (subst (λ (z : Meaning). drops c.own.session z ≡ false) path d) (subst (λ (z : Meaning). Stands (at c (z ∷ us))) path k.all)
+
+    by : (b : Bool) → drops c.own.session u ≡ b → is_plain u ≡ true → (if b then nothing c.own.session else good c.own.session u).reply ≡ None
+    by true d p = refl
+    by false d p = plain_reply c.own.session u p (accepts u refl d)
+
+same_channel : (broken : Bool) (w : World) (c : Core) (u : Meaning) (us : List Meaning) (ms : List Message) → Takes broken w c u us ms
+    → put broken (replied (respond_unit c.own.session u).reply) w.own.channel ≡ w.own.channel
+same_channel broken w c u us ms k = ap (λ (r : Option Meaning). put broken (replied r) w.own.channel) (no_reply broken w c u us ms k) ∙ put_nothing broken w.own.channel
+
+was_alike : (broken : Bool) (w : World) (c : Core) (u : Meaning) (us : List Meaning) (ms : List Message) → Takes broken w c u us ms → Alike w c
+was_alike broken w c u us ms k = k.old.own.alike k.lives
+
+taker_mark : (broken : Bool) (w : World) (c : Core) (u : Meaning) (us : List Meaning) (ms : List Message) → Takes broken w c u us ms
+    → (if is_acted_on c.own.session u then mark_after c.own.session u w.history w.own.mark else w.own.mark)
+    ≡ length (if is_acted_on c.own.session u then seen c.own.session u c.own.view else c.own.view)
+taker_mark broken w c u us ms k = by (is_acted_on c.own.session u)
+  where
+    s : State
+    s = c.own.session
+
+    by : (b : Bool) → (if b then mark_after c.own.session u w.history w.own.mark else w.own.mark) ≡ length (if b then seen c.own.session u c.own.view else c.own.view)
+    by true = ap (λ (h : List Item). mark_after c.own.session u h w.own.mark) k.old.history
+        ∙ seen_mark c.own.session u c.history c.own.view w.own.mark (cuts_alike c u us k.all) (was_alike broken w c u us ms k).mark
+    by false = (was_alike broken w c u us ms k).mark
+
+taker_got : (broken : Bool) (w : World) (c : Core) (u : Meaning) (us : List Meaning) (ms : List Message) → Takes broken w c u us ms
+    → (if is_acted_on c.own.session u then w.own.got + length (got_in c.own.session u) else w.own.got)
+    ≡ length (if is_acted_on c.own.session u then c.own.got ++ got_in c.own.session u else c.own.got)
+taker_got broken w c u us ms k = by (is_acted_on c.own.session u)
+  where
+    by : (b : Bool) → (if b then w.own.got + length (got_in c.own.session u) else w.own.got) ≡ length (if b then c.own.got ++ got_in c.own.session u else c.own.got)
+    by true = ap (λ (n : ℕ). n + length (got_in c.own.session u)) (was_alike broken w c u us ms k).got ∙ sym (length-append c.own.got (got_in c.own.session u))
+    by false = (was_alike broken w c u us ms k).got
+
+taker_owns : (broken : Bool) (w : World) (c : Core) (u : Meaning) (us : List Meaning) (ms : List Message) → Takes broken w c u us ms → (t : Token)
+    → is_own (left_by (respond_unit c.own.session u).next (if is_acted_on c.own.session u then owners_after c.own.session u w.owner else w.owner) t)
+    ≡ is_own ((if is_acted_on c.own.session u then owners_after c.own.session u c.owner else c.owner) t)
+taker_owns broken w c u us ms k t =
+    ap (λ (o : Owners). is_own (o t))
+    (left_lives (respond_unit c.own.session u).next (if is_acted_on c.own.session u then owners_after c.own.session u w.owner else w.owner) (lives_then broken w c u us ms k))
+    ∙ by (is_acted_on c.own.session u)
+  where
+    by : (b : Bool) → is_own ((if b then owners_after c.own.session u w.owner else w.owner) t) ≡ is_own ((if b then owners_after c.own.session u c.owner else c.owner) t)
+    by true = owns_after c.own.session u w.owner c.owner t ((was_alike broken w c u us ms k).owns t)
+    by false = (was_alike broken w c u us ms k).owns t
+
+taker_side : (broken : Bool) (w : World) (c : Core) (u : Meaning) (us : List Meaning) (ms : List Message) → Takes broken w c u us ms
+    → Carried broken (stopped w.peer) ms us c.peer.session → OneSide broken (took broken w c u ms) (taking c (u ∷ us))
+taker_side broken w c u us ms k rest = record {
+  begun = k.old.own.begun;
+  alike = λ l. record {
+    transport = (was_alike broken w c u us ms k).transport;
+    kept = refl;
+    mark = taker_mark broken w c u us ms k;
+    said = (was_alike broken w c u us ms k).said;
+    got = taker_got broken w c u us ms k;
+    owns = taker_owns broken w c u us ms k;
+  };
+  carried = λ l. rest;
+  parted = λ l. ap (list_any parts) (same_channel broken w c u us ms k) ∙ k.old.own.parted k.lives;
+}
+
+-- its sender
+carried_on : (broken : Bool) (channel channel' : List Message) (sent : List Meaning) (s r : State) (b : Bool) → channel' ≡ channel → b ≡ false → Carried broken false channel sent s
+    → Carried broken b channel' sent r
+carried_on broken channel channel' sent s r b e f h = subst (λ (x : Bool). Carried broken x channel' sent r) (sym f) (record {
+  there = h.there;
+  lost = h.lost;
+  tail = [];
+  splits = h.splits;
+  carries = e ∙ h.carries ∙ ap (λ (us : List Meaning). map unit (h.there ++ us)) (none_last s h.lost h.tail h.last);
+  whole = h.whole;
+  last = tt;
+})
+
+or_second : (a b : Bool) → (a || b) ≡ false → b ≡ false
+or_second true b h = absurd (cc)
+or_second false b h = h
+
+giver_side : (broken : Bool) (w : World) (c : Core) (u : Meaning) (us : List Meaning) (ms : List Message) → Takes broken w c u us ms
+    → OneSide broken (turned_world (took broken w c u ms)) (turned (taking c (u ∷ us)))
+giver_side broken w c u us ms k = record {
+  begun = k.old.peer.begun;
+  alike = λ l.
+      let a = k.old.peer.alike l in
+      record {
+        transport = a.transport;
+        kept = a.kept;
+        mark = a.mark;
+        said = a.said;
+        got = a.got;
+        owns = λ t. left_theirs (respond_unit c.own.session u).next (if is_acted_on c.own.session u then owners_after c.own.session u w.owner else w.owner) t
+            ∙ theirs l t (is_acted_on c.own.session u);
+      };
+  carried = λ l. carried_on broken w.own.channel _ c.own.sent c.own.session (respond_unit c.own.session u).next _ (same_channel broken w c u us ms k) (lives_then broken w c u us ms k)
+      (subst (λ (b : Bool). Carried broken b w.own.channel c.own.sent c.own.session) k.lives (k.old.peer.carried l));
+  parted = λ l. or_second (parts (unit u)) (list_any parts ms) (ap (list_any parts) (sym k.channel) ∙ k.old.peer.parted l);
+}
+  where
+    theirs : stopped w.peer ≡ false → (t : Token) (b : Bool)
+        → is_own (turned_owner ((if b then owners_after c.own.session u w.owner else w.owner) t)) ≡ is_own (turned_owner ((if b then owners_after c.own.session u c.owner else c.owner) t))
+    theirs l t true = theirs_after c.own.session u w.owner c.owner t ((k.old.peer.alike l).owns t)
+    theirs l t false = (k.old.peer.alike l).owns t
+
+pub take_projects : (broken : Bool) (w : World) (c : Core) (u : Meaning) (us : List Meaning) (ms : List Message) → Projects broken w c → Stands (at c (u ∷ us)) → Stands (taking c (u ∷ us))
+    → stopped w.own ≡ false → w.peer.channel ≡ unit u ∷ ms → Carried broken (stopped w.peer) ms us c.peer.session
+    → Projects broken (took broken w c u ms) (taking c (u ∷ us))
+take_projects broken w c u us ms p all then_all lives e rest =
+    let k : Takes broken w c u us ms = record { old = p; all = all; then_all = then_all; lives = lives; channel = e } in
+    record {
+      history = by (is_acted_on c.own.session u);
+      own = taker_side broken w c u us ms k rest;
+      peer = giver_side broken w c u us ms k;
+    }
+  where
+    by : (b : Bool) → (if b then cut_by c.own.session u w.history else w.history) ≡ (if b then cut_by c.own.session u c.history else c.history)
+    by true = ap (cut_by c.own.session u) p.history
+    by false = p.history
+
+-- ---- the first unit under way is that of the core's channel, or the last of a side that is over
+
+pub record First (broken over_now : Bool) (u : Meaning) (ms : List Message) (sent : List Meaning) (s : State) : Type 0 where
+  pub rest : List Meaning
+  pub sent_is : sent ≡ u ∷ rest
+  pub carried : Carried broken over_now ms rest s
+
+pub record Last (over_now : Bool) (u : Meaning) (ms : List Message) (sent : List Meaning) (s : State) : Type 0 where
+  pub none : sent ≡ []
+  pub ended : over_now ≡ true
+  pub last : IsLast s u
+
+split_there : (broken over_now : Bool) (u : Meaning) (ms : List Message) (s : State) (v : Meaning) (vs lost tail : List Meaning)
+    → unit u ∷ ms ≡ map unit ((v ∷ vs) ++ tail) → (lost ≡ []) ⊎ ((over_now || broken) ≡ true) → IsTail over_now s lost tail → First broken over_now u ms ((v ∷ vs) ++ lost) s
+split_there broken over_now u ms s v vs lost tail e whole last =
+    let same : u ≡ v = cc in
+    let behind : ms ≡ map unit (vs ++ tail) = cc in
+    record {
+      rest = vs ++ lost;
+      sent_is = ap (λ (x : Meaning). x ∷ (vs ++ lost)) (sym same);
+      carried = record { there = vs; lost = lost; tail = tail; splits = refl; carries = behind; whole = whole; last = last };
+    }
+
+split_tail : (over_now : Bool) (u : Meaning) (ms : List Message) (s : State) (lost tail : List Meaning) → unit u ∷ ms ≡ map unit tail → IsTail over_now s lost tail → Last over_now u ms lost s
+split_tail over_now u ms s lost [] e last = absurd (cc)
+split_tail over_now u ms s lost (v ∷ []) e last =
+    let same : v ≡ u = cc in
+    record { none = last.1; ended = last.0; last = subst (IsLast s) same last.2 }
+split_tail over_now u ms s lost (v ∷ x ∷ us) e last = absurd (last)
+
+pub split_first : (broken over_now : Bool) (u : Meaning) (ms : List Message) (sent : List Meaning) (s : State) → Carried broken over_now (unit u ∷ ms) sent s
+    → First broken over_now u ms sent s ⊎ Last over_now u ms sent s
+split_first broken over_now u ms sent s h = by h.there h.splits h.carries
+  where
+    by : (there : List Meaning) → there ++ h.lost ≡ sent → unit u ∷ ms ≡ map unit (there ++ h.tail) → First broken over_now u ms sent s ⊎ Last over_now u ms sent s
+    by [] e f = inr (subst (λ (us : List Meaning). Last over_now u ms us s) e (split_tail over_now u ms s h.lost h.tail f h.last))
+    by (v ∷ vs) e f = inl (subst (λ (us : List Meaning). First broken over_now u ms us s) e (split_there broken over_now u ms s v vs h.lost h.tail f h.whole h.last))

@@ -1,0 +1,140 @@
+-- How a whole connection is repeated by one of which nothing is lost. A side that is over is left as it was;
+-- to the other, an abort, an end, a break or a loss is a side that has gone silent.
+use Rattle.std.proofs.Common.{◌≡◌, refl, sym, ◌∙◌, ap, subst, ℕ, ◌+◌, ◌-◌, zero, suc, Bool, true, false, not, ◌||◌, List, [], ◌∷◌, ◌++◌, map, length, take, ◌⊎◌}
+use Rattle.std.proofs.Math.Seq.{take-append_seam}
+use Rattle.std.specs.List.{list_any}
+use Rattle.osi_machine.specs.Floor.{State, Meaning, RF, DN, AB, Token, is_over, is_answering, is_release_due, is_restarting}
+use Rattle.osi_machine.specs.Histories.{Item, Octets, Point, points, upto, Begins}
+use Rattle.osi_machine.specs.Owners.{is_own, owned}
+use Rattle.osi_machine.specs.Channels.{is_plain}
+use Rattle.osi_machine.specs.Core.{Core, turned}
+use Rattle.osi_machine.specs.Worlds.{Message, unit, bye, over, Transport, not_yet, waiting, linked, Kept, kept_of, End, World, session_of, turned as turned_world}
+use Rattle.osi_machine.proofs.Records.{hearing, Stands}
+use Rattle.osi_machine.proofs.Tokens.{has_set}
+use Rattle.osi_machine.proofs.Fewer.{tokens_same}
+use Rattle.osi_machine.proofs.Heard.{listener_begins}
+
+-- ---- the lines
+
+-- a side that is aborted or ended
+abbrev pub stopped : End → Bool
+stopped x = is_over x.kept.phase
+
+-- a message that a side puts when it is over
+abbrev pub parts : Message → Bool
+parts (unit u) = not (is_plain u)
+parts (bye reason) = true
+parts over = true
+parts m = false
+
+-- the transport connection was agreed to, as this side sees it
+abbrev pub is_begun : Transport → Bool
+is_begun not_yet = false
+is_begun waiting = false
+is_begun _ = true
+
+-- a side that is not over is as in the core, and owns the same
+pub record Alike (w : World) (c : Core) : Type 0 where
+  pub transport : w.own.transport ≡ linked
+  pub kept : w.own.kept ≡ kept_of c.own.session
+  pub mark : w.own.mark ≡ length c.own.view
+  pub said : w.own.said ≡ c.own.said
+  pub got : w.own.got ≡ length c.own.got
+  pub owns : (t : Token) → is_own (w.owner t) ≡ is_own (c.owner t)
+
+-- the unit that is the last of a side
+abbrev pub IsLast : State → Meaning → Type 0
+IsLast s (AB bits octets) = bits ≡ 3
+IsLast s (DN octets) = is_release_due s.phase ≡ true
+IsLast s (RF reason octets) = is_answering s.phase ≡ true
+IsLast s u = ⊥
+
+-- nothing, or where the sender is over and nothing was lost, one such unit
+abbrev pub IsTail : Bool → State → List Meaning → List Meaning → Type 0
+IsTail over_now s lost [] = Unit {0}
+IsTail over_now s lost (u ∷ []) = (over_now ≡ true) × (lost ≡ []) × IsLast s u
+IsTail over_now s lost (u ∷ v ∷ us) = ⊥
+
+-- What is under way to a side is the first units of the core's channel, all of them unless the sender is
+-- over or the connection broken; and behind them perhaps the last unit of a sender that is over.
+pub record Carried (broken over_now : Bool) (channel : List Message) (sent : List Meaning) (s : State) : Type 0 where
+  pub there : List Meaning
+  pub lost : List Meaning
+  pub tail : List Meaning
+  pub splits : there ++ lost ≡ sent
+  pub carries : channel ≡ map unit (there ++ tail)
+  pub whole : (lost ≡ []) ⊎ ((over_now || broken) ≡ true)
+  pub last : IsTail over_now s lost tail
+
+pub record OneSide (broken : Bool) (w : World) (c : Core) : Type 0 where
+  pub begun : is_begun w.own.transport ≡ true
+  pub alike : stopped w.own ≡ false → Alike w c
+  pub carried : stopped w.own ≡ false → Carried broken (stopped w.peer) w.peer.channel c.peer.sent c.peer.session
+  pub parted : stopped w.own ≡ false → list_any parts w.own.channel ≡ false
+
+pub record Projects (broken : Bool) (w : World) (c : Core) : Type 0 where
+  pub history : w.history ≡ c.history
+  pub own : OneSide broken w c
+  pub peer : OneSide broken (turned_world w) (turned c)
+
+-- ---- where both sides are over, nothing is said but that
+
+not_both : {A : Type 0} (b : Bool) → b ≡ true → b ≡ false → A
+not_both b p q = absurd (cc)
+
+one_over : (broken : Bool) (w : World) (c : Core) → is_begun w.own.transport ≡ true → stopped w.own ≡ true → OneSide broken w c
+one_over broken w c b o = record { begun = b; alike = λ l. not_both _ o l; carried = λ l. not_both _ o l; parted = λ l. not_both _ o l }
+
+pub both_over : (broken : Bool) (w : World) (c : Core) → w.history ≡ c.history → is_begun w.own.transport ≡ true → stopped w.own ≡ true
+    → is_begun w.peer.transport ≡ true → stopped w.peer ≡ true → Projects broken w c
+both_over broken w c h b o d p = record { history = h; own = one_over broken w c b o; peer = one_over broken (turned_world w) (turned c) d p }
+
+pub over_side : (broken : Bool) (w : World) (c : Core) → is_begun w.own.transport ≡ true → stopped w.own ≡ true → OneSide broken w c
+over_side = one_over
+
+-- ---- the session of a side that is not over is that of the core
+
+upto_begins : (k : ℕ) (h : List Item) → Begins (upto k h) h
+upto_begins zero h = (h, refl)
+upto_begins (suc k) [] = ([], refl)
+upto_begins (suc k) (Octets o ∷ h) = let b = upto_begins (suc k) h in (b.0, ap (λ (r : List Item). Octets o ∷ r) b.1)
+upto_begins (suc k) (Point n kind o ∷ h) = let b = upto_begins k h in (b.0, ap (λ (r : List Item). Point n kind o ∷ r) b.1)
+
+-- what a side has seen begins the history
+pub view_begins : (c : Core) → Stands c → Begins c.own.view c.history
+view_begins c s = by (is_restarting (hearing c.own c.peer).phase) refl
+  where
+    by : (b : Bool) → is_restarting (hearing c.own c.peer).phase ≡ b → Begins c.own.view c.history
+    by true e = subst (λ (v : List Item). Begins v c.history) (sym (s.own_views.cut e)) (upto_begins (c.own.session.numbers.next - c.own.session.base) c.history)
+    by false e = listener_begins c.history c.own c.peer s.own_views (ap not e)
+
+taken_view : (v h : List Item) → Begins v h → take (length v) h ≡ v
+taken_view v h b = ap (take (length v)) (sym b.1) ∙ take-append_seam v b.0
+
+owned_is : (w : World) (c : Core) → Stands c → Alike w c → owned w.owner ≡ c.own.session.held
+owned_is w c s a = tokens_same (owned w.owner) c.own.session.held
+    (λ t. has_set (λ t. is_own (w.owner t)) t ∙ a.owns t ∙ sym (s.own.meeting.holds t))
+
+next_is : (w : World) (c : Core) → Stands c → w.history ≡ c.history → Alike w c
+    → w.own.kept.base + points (take w.own.mark w.history) ≡ c.own.session.numbers.next
+next_is w c s h a =
+    ap (λ (k : Kept). k.base + points (take w.own.mark w.history)) a.kept
+    ∙ ap (λ (m : ℕ). c.own.session.base + points (take m w.history)) a.mark
+    ∙ ap (λ (g : List Item). c.own.session.base + points (take (length c.own.view) g)) h
+    ∙ ap (λ (v : List Item). c.own.session.base + points v) (taken_view c.own.view c.history (view_begins c s))
+    ∙ sym s.consistent.own.count
+
+pub session_is : (w : World) (c : Core) → Stands c → w.history ≡ c.history → Alike w c → session_of w ≡ c.own.session
+session_is w c s h a =
+    let held = owned_is w c s a in
+    let next = next_is w c s h a in
+    λ i. record {
+      phase = (a.kept i).phase;
+      is_caller = (a.kept i).is_caller;
+      units = (a.kept i).units;
+      wishes = (a.kept i).wishes;
+      held = held i;
+      proposed = (a.kept i).proposed;
+      base = (a.kept i).base;
+      numbers = record { next = next i; confirmed = (a.kept i).confirmed; lowest = (a.kept i).lowest; answers = (a.kept i).answers };
+    }
