@@ -23,3 +23,5 @@ pub mod ToldOpen
 pub mod Openings
 pub mod Courses
 pub mod CourseOpening
+pub mod Addressing
+pub mod JoinedSteps

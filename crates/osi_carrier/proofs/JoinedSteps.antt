@@ -1,0 +1,112 @@
+-- Where one end of two joined carriers acts, each connection stands as it should.
+use Rattle.std.proofs.Common.{◌≡◌, ◌≢◌, ℕ, ◌+◌, ◌<◌, ◌≤◌, ◌==◌, Bool, true, false, not, List, [], ◌∷◌, ◌++◌, refl, sym, ap, subst, ◌∙◌, inl, inr, arith, append_assoc}
+use Rattle.std.proofs.lemmas.Bool.{eqb-true, eq-eqb}
+use Rattle.std.proofs.lemmas.List.{append-nil, append_cancel_left}
+use Rattle.osi_tpdu.specs.Value.{Value}
+use Rattle.osi_class.specs.Between.{LinkPair}
+use Rattle.osi_class.specs.declared.terms.Local.{Local}
+use Rattle.osi_tpdu.specs.Value.{Connect}
+use Rattle.osi_carrier.specs.Addresses.{units_of, AreFor}
+use Rattle.osi_carrier.specs.Course.{Course, unasked, asking, accepting, withdrawing, met, from_end, IsAskedBy, IsAccepted, HaveMet, Holds, HoldsAt, called_local, Acts, CourseMoves}
+use Rattle.osi_carrier.specs.Happenings.{Happening}
+use Rattle.osi_carrier.specs.Joined.{StandsBetween}
+use Rattle.osi_carrier.specs.State.{State}
+use Rattle.osi_carrier.proofs.Addressing.{units_join, units_same, units_other}
+use Rattle.osi_carrier.proofs.Openings.{caller_link}
+
+-- ---- what holds stays, where another connection acts
+
+asked_stays : (n : ℕ) (a b : Local) (c : Connect) → b ≡ a → IsAskedBy n a c → IsAskedBy n b c
+asked_stays n a b c same h = subst (λ (x : Local). IsAskedBy n x c) (sym same) h
+
+accepted_stays : (n m : ℕ) (s r t : State) (c : Connect) (p : LinkPair) (us : List Value) (es : List Happening) → Acts m s t us es → IsAccepted n s r c p → IsAccepted n t r c p
+accepted_stays n m s r t c p us es a h = record {
+  asked = asked_stays n s.local t.local c a.local h.asked;
+  class = h.class;
+  open_links = h.open_links;
+  rightward = h.rightward;
+  left = h.left ∙ ap (λ (x : Local). caller_link n x r.local c) (sym a.local);
+}
+
+accepted_there : (n m : ℕ) (s r t : State) (c : Connect) (p : LinkPair) (us : List Value) (es : List Happening) → Acts m r t us es → IsAccepted n s r c p → IsAccepted n s t c p
+accepted_there n m s r t c p us es a h = record {
+  asked = h.asked;
+  class = a.class h.class;
+  open_links = h.open_links;
+  rightward = h.rightward;
+  left = h.left ∙ ap (λ (x : Local). caller_link n s.local x c) (sym a.local);
+}
+
+holds_stays : (end : Bool) (n m : ℕ) (this other next : State) (g : Course) (us : List Value) (es : List Happening) → Acts m this next us es →
+    HoldsAt end n this other g → HoldsAt end n next other g
+holds_stays true n m s r t unasked us es a h = tt
+holds_stays true n m s r t (asking c) us es a h = asked_stays n s.local t.local c a.local h
+holds_stays true n m s r t (accepting c p) us es a h = accepted_stays n m s r t c p us es a h
+holds_stays true n m s r t (withdrawing c p reason) us es a h = accepted_stays n m s r t c p us es a h
+holds_stays true n m s r t (met x) us es a h = record { class = a.class h.class; class_called = h.class_called; stands = h.stands }
+holds_stays false n m r s t unasked us es a h = tt
+holds_stays false n m r s t (asking c) us es a h = h
+holds_stays false n m r s t (accepting c p) us es a h = accepted_there n m s r t c p us es a h
+holds_stays false n m r s t (withdrawing c p reason) us es a h = accepted_there n m s r t c p us es a h
+holds_stays false n m r s t (met x) us es a h = record { class = h.class; class_called = a.class h.class_called; stands = h.stands }
+
+called_stays : (end : Bool) (m : ℕ) (this other next : State) (us : List Value) (es : List Happening) → Acts m this next us es → called_local end this other ≡ called_local end next other
+called_stays true m this other next us es a = refl
+called_stays false m this other next us es a = sym a.local
+
+-- ---- the connection that acts, and the others
+
+stands_after : (end : Bool) (n asked : ℕ) (this other next : State) (going coming rest taken : List Value) (s : StandsBetween end n this other going coming) → coming ≡ taken ++ rest → AreFor n taken →
+    (mv : CourseMoves end n s.course this other next taken asked) → StandsBetween end n next other (going ++ mv.units) rest
+stands_after end n asked this other next going coming rest taken s cut all mv =
+    let local = called_stays end n this other next mv.units mv.events mv.acts in
+    record {
+      course = mv.new;
+      place = mv.place;
+      place_there = s.place_there ∙ sym mv.there;
+      out = units_join n going mv.units ∙ ap (λ (l : List Value). units_of n going ++ l) (units_same n mv.units mv.acts.all_for) ∙ ap (λ (l : List Value). l ++ mv.units) s.out
+          ∙ sym mv.out ∙ ap (λ (x : Local). from_end end n x mv.new) local;
+      back = append_cancel_left taken (units_of n rest) (from_end (not end) n (called_local end this other) mv.new)
+          (ap (λ (l : List Value). l ++ units_of n rest) (sym (units_same n taken all)) ∙ sym (units_join n taken rest) ∙ ap (units_of n) (sym cut) ∙ s.back ∙ mv.back)
+          ∙ ap (λ (x : Local). from_end (not end) n x mv.new) local;
+      holds = mv.holds;
+    }
+
+stands_still : (end : Bool) (q n : ℕ) (this other next : State) (going coming rest taken units : List Value) (told : List Happening) → q ≢ n → StandsBetween end q this other going coming → coming ≡ taken ++ rest →
+    AreFor n taken → Acts n this next units told → StandsBetween end q next other (going ++ units) rest
+stands_still end q n this other next going coming rest taken units told apart s cut all a =
+    let local = called_stays end n this other next units told a in
+    record {
+      course = s.course;
+      place = a.others q apart ∙ s.place;
+      place_there = s.place_there;
+      out = units_join q going units ∙ ap (λ (l : List Value). units_of q going ++ l) (units_other q n units apart a.all_for) ∙ append-nil (units_of q going)
+          ∙ s.out ∙ ap (λ (x : Local). from_end end q x s.course) local;
+      back = ap (λ (l : List Value). l ++ units_of q rest) (sym (units_other q n taken apart all)) ∙ sym (units_join q taken rest) ∙ ap (units_of q) (sym cut)
+          ∙ s.back ∙ ap (λ (x : Local). from_end (not end) q x s.course) local;
+      holds = holds_stays end q n this other next s.course units told a s.holds;
+    }
+
+stands_by : (end : Bool) (q n asked : ℕ) (this other next : State) (going coming rest taken : List Value) (b : Bool) → (q == n) ≡ b →
+    StandsBetween end q this other going coming → (s : StandsBetween end n this other going coming) → coming ≡ taken ++ rest → AreFor n taken →
+    (mv : CourseMoves end n s.course this other next taken asked) → StandsBetween end q next other (going ++ mv.units) rest
+stands_by end q n asked this other next going coming rest taken true e own s cut all mv =
+    subst (λ (m : ℕ). StandsBetween end m next other (going ++ mv.units) rest) (sym (eqb-true q n e))
+    (stands_after end n asked this other next going coming rest taken s cut all mv)
+stands_by end q n asked this other next going coming rest taken false e own s cut all mv =
+    stands_still end q n this other next going coming rest taken mv.units mv.events (λ same. let yes = eq-eqb q n same in cc) own cut all mv.acts
+
+-- after a move of one connection each stands as it should
+pub all_stand : (end : Bool) (n asked : ℕ) (this other next : State) (going coming rest taken : List Value) →
+    ((q : ℕ) → 0 < q → StandsBetween end q this other going coming) → (s : StandsBetween end n this other going coming) → coming ≡ taken ++ rest → AreFor n taken →
+    (mv : CourseMoves end n s.course this other next taken asked) → (q : ℕ) → 0 < q → StandsBetween end q next other (going ++ mv.units) rest
+all_stand end n asked this other next going coming rest taken every s cut all mv q some =
+    stands_by end q n asked this other next going coming rest taken (q == n) refl (every q some) s cut all mv
+
+-- ---- from the other end
+
+pub stands_flip : (n : ℕ) (s r : State) (going coming : List Value) → StandsBetween true n s r going coming → StandsBetween false n r s coming going
+stands_flip n s r going coming h = record { course = h.course; place = h.place_there; place_there = h.place; out = h.back; back = h.out; holds = h.holds }
+
+pub stands_flip_back : (n : ℕ) (s r : State) (going coming : List Value) → StandsBetween false n r s coming going → StandsBetween true n s r going coming
+stands_flip_back n s r going coming h = record { course = h.course; place = h.place_there; place_there = h.place; out = h.back; back = h.out; holds = h.holds }
