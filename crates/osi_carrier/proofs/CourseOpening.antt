@@ -58,7 +58,7 @@ push_place s t x orderly given live =
 -- ---- the CR
 
 pub asks_moves : (s r : State) (calling called : Option (List ℕ)) → IsOrderly s → s.local.class2 ≡ true →
-    CourseMoves true (s.given + 1) unasked s r (asks calling called s) [] 1
+    CourseMoves true (s.given + 1) unasked s r (asks calling called s) [] 1 (ask ∷ [])
 asks_moves s r calling called orderly supports =
     let c = request_of s.local s.class calling called (s.given + 1) in
     let t = asks calling called s in
@@ -66,7 +66,6 @@ asks_moves s r calling called orderly supports =
       new = asking c;
       units = request c ∷ [];
       events = [];
-      put = ask ∷ [];
       acts = record {
         others = λ q other. push_places s t asked q refl refl other;
         outgoing = ap (λ (b : Bool). s.outgoing ++ packets (request (proposal_by b s.local s.class calling called (s.given + 1)) ∷ [])) supports;
@@ -104,7 +103,7 @@ request_accepted c r free room selects = rw (free, room) (ap (λ (x : Selection)
 accepts_moves_by : (s r : State) (class : Option Class) (calling called : Option (List ℕ)) → IsOrderly r →
     CourseMoves false (r.given + 1) (asking (request_of s.local class calling called (r.given + 1))) r s
     (accepts Two (selected_size (request_of s.local class calling called (r.given + 1)) r.local) (request_of s.local class calling called (r.given + 1)) r)
-    (request (request_of s.local class calling called (r.given + 1)) ∷ []) 1
+    (request (request_of s.local class calling called (r.given + 1)) ∷ []) 1 (agree ∷ [])
 accepts_moves_by s r class calling called orderly =
     let n = r.given + 1 in
     let c = request_of s.local class calling called n in
@@ -114,7 +113,6 @@ accepts_moves_by s r class calling called orderly =
       new = accepting c p;
       units = confirm n (answer_of n r.local c) ∷ [];
       events = opened n ∷ [];
-      put = agree ∷ [];
       acts = record {
         others = λ q other. push_places r t (linked n (called_link r.local c)) q refl refl other;
         outgoing = refl;
@@ -144,7 +142,7 @@ accepts_moves_by s r class calling called orderly =
     }
 
 pub accepts_moves : (n : ℕ) (c : Connect) (s r : State) → n ≡ r.given + 1 → IsAskedBy n s.local c → IsOrderly r → r.ended ≡ None → r.is_caller ≡ false → MayTakeTwo r.class →
-    has_peer c.source r.live ≡ false → is_full r ≡ false → r.local.class2 ≡ true → CourseMoves false n (asking c) r s (react (request c) r) (request c ∷ []) 1
+    has_peer c.source r.live ≡ false → is_full r ≡ false → r.local.class2 ≡ true → CourseMoves false n (asking c) r s (react (request c) r) (request c ∷ []) 1 (agree ∷ [])
 accepts_moves n c s r next a orderly quiet called two free room supports =
     let d = request_of s.local a.class a.calling a.called (r.given + 1) in
     let same : c ≡ d = a.is ∙ ap (λ (m : ℕ). request_of s.local a.class a.calling a.called m) next in
@@ -152,9 +150,9 @@ accepts_moves n c s r next a orderly quiet called two free room supports =
     react_request c r quiet called two
     ∙ request_accepted c r free room (ap (λ (x : Connect). selected_by x r.local) same ∙ selects_two s.local r.local a.class a.calling a.called (r.given + 1) supports ∙ ap (λ (x : Connect). accept Two (selected_size x r.local)) (sym same))
     ∙ ap (λ (x : Connect). accepts Two (selected_size x r.local) x r) same in
-    subst (λ (t : State). CourseMoves false n (asking c) r s t (request c ∷ []) 1) (sym does)
-    (subst (λ (m : ℕ). CourseMoves false m (asking c) r s (accepts Two (selected_size d r.local) d r) (request c ∷ []) 1) (sym next)
-    (subst (λ (x : Connect). CourseMoves false (r.given + 1) (asking x) r s (accepts Two (selected_size d r.local) d r) (request x ∷ []) 1) (sym same)
+    subst (λ (t : State). CourseMoves false n (asking c) r s t (request c ∷ []) 1 (agree ∷ [])) (sym does)
+    (subst (λ (m : ℕ). CourseMoves false m (asking c) r s (accepts Two (selected_size d r.local) d r) (request c ∷ []) 1 (agree ∷ [])) (sym next)
+    (subst (λ (x : Connect). CourseMoves false (r.given + 1) (asking x) r s (accepts Two (selected_size d r.local) d r) (request x ∷ []) 1 (agree ∷ [])) (sym same)
     (accepts_moves_by s r a.class a.calling a.called orderly)))
 
 -- ---- the called end before the CC is taken
@@ -183,7 +181,7 @@ accepted_there n s r t c p q h local class a rightward left = record {
 }
 
 pub accepted_sends : (n : ℕ) (c : Connect) (p : LinkPair) (s r : State) (octets : List ℕ) → IsAccepted n s r c p → r.ended ≡ None → IsOrderly r → n ≤ r.given →
-    value_at n r.live ≡ Some (linked n p.right) → IsShortTsdu octets → CourseMoves false n (accepting c p) r s (sent n octets r) [] 0
+    value_at n r.live ≡ Some (linked n p.right) → IsShortTsdu octets → CourseMoves false n (accepting c p) r s (sent n octets r) [] 0 (message octets ∷ [])
 accepted_sends n c p s r octets h quiet orderly le at short =
     let q = after_send (swapped p) octets in
     let given = all_given (with_tsdu p.right octets) in
@@ -200,7 +198,6 @@ accepted_sends n c p s r octets h quiet orderly le at short =
       new = accepting c (swapped q);
       units = addressed n given;
       events = [];
-      put = message octets ∷ [];
       acts = acts_changed n r t (Some (linked n (swapped q).right)) (addressed n given) [] changes
           (addressed_for n given (class_end p.leftward given passes.stay_open.agree.agree.class));
       place = place_changed n r t (Some (linked n (swapped q).right)) (addressed n given) [] le changes;
@@ -223,7 +220,7 @@ accepted_sends n c p s r octets h quiet orderly le at short =
     }
 
 pub accepted_closes : (n : ℕ) (c : Connect) (p : LinkPair) (s r : State) (reason : ℕ) → 0 < n → IsAccepted n s r c p → r.ended ≡ None → IsOrderly r → n ≤ r.given →
-    value_at n r.live ≡ Some (linked n p.right) → CourseMoves false n (accepting c p) r s (closed_with n reason r) [] 0
+    value_at n r.live ≡ Some (linked n p.right) → CourseMoves false n (accepting c p) r s (closed_with n reason r) [] 0 (bye reason ∷ [])
 accepted_closes n c p s r reason some h quiet orderly le at =
     let t = closed_with n reason r in
     let changes = close_changes n r p.right reason quiet h.class orderly at in
@@ -233,7 +230,6 @@ accepted_closes n c p s r reason some h quiet orderly le at =
       new = withdrawing c p reason;
       units = leaving n reason ∷ [];
       events = [];
-      put = bye reason ∷ [];
       acts = acts_changed n r t (Some (closing n)) (leaving n reason ∷ []) [] changes (refl, tt);
       place = place_changed n r t (Some (closing n)) (leaving n reason ∷ []) [] le changes;
       there = refl;
@@ -291,15 +287,14 @@ confirm_place n c s called link le at is =
 
 pub confirm_moves : (n : ℕ) (c : Connect) (p : LinkPair) (s r : State) → IsAccepted n s r c p → s.ended ≡ None → s.is_caller ≡ true → MayTakeTwo s.class → s.local.class2 ≡ true →
     n ≤ s.given → value_at n s.live ≡ Some asked →
-    CourseMoves true n (accepting c p) s r (react (confirm n (answer_of n r.local c)) s) (confirm n (answer_of n r.local c) ∷ []) 0
+    CourseMoves true n (accepting c p) s r (react (confirm n (answer_of n r.local c)) s) (confirm n (answer_of n r.local c) ∷ []) 0 []
 confirm_moves n c p s r h quiet caller two supports le at =
     let unit = confirm n (answer_of n r.local c) in
     let us = addressed n p.leftward ++ uncut_units p.right.ends.unsent in
-    subst (λ (t : State). CourseMoves true n (accepting c p) s r t (unit ∷ []) 0) (sym (confirm_opens n c s r.local quiet caller two supports at)) (record {
+    subst (λ (t : State). CourseMoves true n (accepting c p) s r t (unit ∷ []) 0 []) (sym (confirm_opens n c s r.local quiet caller two supports at)) (record {
       new = met (talking p);
       units = [];
       events = opened n ∷ [];
-      put = [];
       acts = confirm_acts n c s r.local;
       place = confirm_place n c s r.local p.left le at h.left;
       there = refl;
@@ -323,15 +318,14 @@ confirm_moves n c p s r h quiet caller two supports le at =
 
 pub withdrawn_moves : (n : ℕ) (c : Connect) (p : LinkPair) (reason : ℕ) (s r : State) → IsAccepted n s r c p → s.ended ≡ None → s.is_caller ≡ true → MayTakeTwo s.class → s.local.class2 ≡ true →
     n ≤ s.given → value_at n s.live ≡ Some asked →
-    CourseMoves true n (withdrawing c p reason) s r (react (confirm n (answer_of n r.local c)) s) (confirm n (answer_of n r.local c) ∷ []) 0
+    CourseMoves true n (withdrawing c p reason) s r (react (confirm n (answer_of n r.local c)) s) (confirm n (answer_of n r.local c) ∷ []) 0 []
 withdrawn_moves n c p reason s r h quiet caller two supports le at =
     let unit = confirm n (answer_of n r.local c) in
     let us = (addressed n p.leftward ++ leaving n reason ∷ []) ++ [] in
-    subst (λ (t : State). CourseMoves true n (withdrawing c p reason) s r t (unit ∷ []) 0) (sym (confirm_opens n c s r.local quiet caller two supports at)) (record {
+    subst (λ (t : State). CourseMoves true n (withdrawing c p reason) s r t (unit ∷ []) 0 []) (sym (confirm_opens n c s r.local quiet caller two supports at)) (record {
       new = met (left_there p [] reason);
       units = [];
       events = opened n ∷ [];
-      put = [];
       acts = confirm_acts n c s r.local;
       place = confirm_place n c s r.local p.left le at h.left;
       there = refl;

@@ -198,12 +198,11 @@ carries_mirror n local m new es put c = record {
       (subst (λ (l : List Message). AreLike (here n (mirror (mirror m))) l (c.stays ++ put)) (out_mirror n new) c.after);
 }
 
-pub met_caller : (n : ℕ) (m : Meeting) (s r t : State) (taken : List Value) → HaveMet s r m → n ≤ s.given → Moves n m s t taken → CourseMoves true n (met m) s r t taken 0
-met_caller n m s r t taken h le mv = record {
+pub met_caller : (n : ℕ) (m : Meeting) (s r t : State) (taken : List Value) (put : List Message) → HaveMet s r m → n ≤ s.given → Moves n m s t taken put → CourseMoves true n (met m) s r t taken 0 put
+met_caller n m s r t taken put h le mv = record {
   new = met mv.new;
   units = mv.units;
   events = mv.events;
-  put = mv.put;
   acts = acts_changed n s t (here n mv.new) mv.units mv.events mv.changes mv.all_for;
   place = place_changed n s t (here n mv.new) mv.units mv.events le mv.changes;
   there = ap was_given mv.there;
@@ -213,15 +212,14 @@ met_caller n m s r t taken h le mv = record {
   given = mv.changes.given ∙ none_more s.given;
   numbers = plain_requests n mv.units (plain_back n (out n m) mv.units (subst (λ (l : List Value). AllByRecursion (IsPlain n) l) mv.out (plain_out n mv.new mv.stands)));
   places = tt;
-  carries = carries_caller n r.local m mv.new mv.events mv.put mv.carries;
+  carries = carries_caller n r.local m mv.new mv.events put mv.carries;
 }
 
-pub met_called : (n : ℕ) (m : Meeting) (r s t : State) (taken : List Value) → HaveMet s r m → n ≤ r.given → IsOneAtMost taken → Moves n (mirror m) r t taken → CourseMoves false n (met m) r s t taken 0
-met_called n m r s t taken h le one mv = record {
+pub met_called : (n : ℕ) (m : Meeting) (r s t : State) (taken : List Value) (put : List Message) → HaveMet s r m → n ≤ r.given → IsOneAtMost taken → Moves n (mirror m) r t taken put → CourseMoves false n (met m) r s t taken 0 put
+met_called n m r s t taken put h le one mv = record {
   new = met (mirror mv.new);
   units = mv.units;
   events = mv.events;
-  put = mv.put;
   acts = acts_changed n r t (here n mv.new) mv.units mv.events mv.changes mv.all_for;
   place = place_changed n r t (here n mv.new) mv.units mv.events le mv.changes ∙ ap (λ (x : Meeting). was_given (here n x)) (sym (mirror_twice mv.new));
   there = ap was_given (mv.there ∙ ap (here n) (mirror_twice m));
@@ -235,6 +233,6 @@ met_called n m r s t taken h le one mv = record {
       let taken_are : AllByRecursion (IsPlain n) taken =
       plain_front n taken (back n mv.new) (subst (λ (l : List Value). AllByRecursion (IsPlain n) l) (ap (out n) (sym (mirror_twice m)) ∙ mv.back) (plain_out n m h.stands)) in
       ap references mv.changes.live ∙ references_after n taken (here n mv.new) r.live one taken_are mv.goes;
-  carries = carries_mirror n r.local m (mirror mv.new) mv.events mv.put
-      (subst (λ (x : Meeting). Carries n (mirror m) x mv.events mv.put) (sym (mirror_twice mv.new)) mv.carries);
+  carries = carries_mirror n r.local m (mirror mv.new) mv.events put
+      (subst (λ (x : Meeting). Carries n (mirror m) x mv.events put) (sym (mirror_twice mv.new)) mv.carries);
 }

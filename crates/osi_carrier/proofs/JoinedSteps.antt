@@ -10,6 +10,7 @@ use Rattle.osi_carrier.specs.Addresses.{units_of, AreFor}
 use Rattle.osi_carrier.specs.Course.{Course, unasked, asking, accepting, withdrawing, met, from_end, IsAskedBy, IsAccepted, HaveMet, Holds, HoldsAt, called_local, Acts, CourseMoves}
 use Rattle.osi_carrier.specs.Happenings.{Happening}
 use Rattle.osi_carrier.specs.Joined.{StandsBetween}
+use Rattle.osi_carrier.specs.Messages.{Message}
 use Rattle.osi_carrier.specs.State.{State}
 use Rattle.osi_carrier.proofs.Addressing.{units_join, units_same, units_other}
 use Rattle.osi_carrier.proofs.Openings.{caller_link}
@@ -56,9 +57,9 @@ called_stays false m this other next us es a = sym a.local
 
 -- ---- the connection that acts, and the others
 
-stands_after : (end : Bool) (n asked : ℕ) (this other next : State) (going coming rest taken : List Value) (s : StandsBetween end n this other going coming) → coming ≡ taken ++ rest → AreFor n taken →
-    (mv : CourseMoves end n s.course this other next taken asked) → StandsBetween end n next other (going ++ mv.units) rest
-stands_after end n asked this other next going coming rest taken s cut all mv =
+stands_after : (end : Bool) (n asked : ℕ) (this other next : State) (going coming rest taken : List Value) (put : List Message) (s : StandsBetween end n this other going coming) → coming ≡ taken ++ rest → AreFor n taken →
+    (mv : CourseMoves end n s.course this other next taken asked put) → StandsBetween end n next other (going ++ mv.units) rest
+stands_after end n asked this other next going coming rest taken put s cut all mv =
     let local = called_stays end n this other next mv.units mv.events mv.acts in
     record {
       course = mv.new;
@@ -87,26 +88,26 @@ stands_still end q n this other next going coming rest taken units told apart s 
       holds = holds_stays end q n this other next s.course units told a s.holds;
     }
 
-stands_by : (end : Bool) (q n asked : ℕ) (this other next : State) (going coming rest taken : List Value) (b : Bool) → (q == n) ≡ b →
+stands_by : (end : Bool) (q n asked : ℕ) (this other next : State) (going coming rest taken : List Value) (put : List Message) (b : Bool) → (q == n) ≡ b →
     StandsBetween end q this other going coming → (s : StandsBetween end n this other going coming) → coming ≡ taken ++ rest → AreFor n taken →
-    (mv : CourseMoves end n s.course this other next taken asked) → StandsBetween end q next other (going ++ mv.units) rest
-stands_by end q n asked this other next going coming rest taken true e own s cut all mv =
+    (mv : CourseMoves end n s.course this other next taken asked put) → StandsBetween end q next other (going ++ mv.units) rest
+stands_by end q n asked this other next going coming rest taken put true e own s cut all mv =
     subst (λ (m : ℕ). StandsBetween end m next other (going ++ mv.units) rest) (sym (eqb-true q n e))
-    (stands_after end n asked this other next going coming rest taken s cut all mv)
-stands_by end q n asked this other next going coming rest taken false e own s cut all mv =
+    (stands_after end n asked this other next going coming rest taken put s cut all mv)
+stands_by end q n asked this other next going coming rest taken put false e own s cut all mv =
     stands_still end q n this other next going coming rest taken mv.units mv.events (λ same. let yes = eq-eqb q n same in cc) own cut all mv.acts
 
 -- after a move of one connection each stands as it should
-pub all_stand : (end : Bool) (n asked : ℕ) (this other next : State) (going coming rest taken : List Value) →
+pub all_stand : (end : Bool) (n asked : ℕ) (this other next : State) (going coming rest taken : List Value) (put : List Message) →
     ((q : ℕ) → 0 < q → StandsBetween end q this other going coming) → (s : StandsBetween end n this other going coming) → coming ≡ taken ++ rest → AreFor n taken →
-    (mv : CourseMoves end n s.course this other next taken asked) → (q : ℕ) → 0 < q → StandsBetween end q next other (going ++ mv.units) rest
-all_stand end n asked this other next going coming rest taken every s cut all mv q some =
-    stands_by end q n asked this other next going coming rest taken (q == n) refl (every q some) s cut all mv
+    (mv : CourseMoves end n s.course this other next taken asked put) → (q : ℕ) → 0 < q → StandsBetween end q next other (going ++ mv.units) rest
+all_stand end n asked this other next going coming rest taken put every s cut all mv q some =
+    stands_by end q n asked this other next going coming rest taken put (q == n) refl (every q some) s cut all mv
 
 -- ---- from the other end
 
-pub stands_flip : (n : ℕ) (s r : State) (going coming : List Value) → StandsBetween true n s r going coming → StandsBetween false n r s coming going
+abbrev pub stands_flip : (n : ℕ) (s r : State) (going coming : List Value) → StandsBetween true n s r going coming → StandsBetween false n r s coming going
 stands_flip n s r going coming h = record { course = h.course; place = h.place_there; place_there = h.place; out = h.back; back = h.out; holds = h.holds }
 
-pub stands_flip_back : (n : ℕ) (s r : State) (going coming : List Value) → StandsBetween false n r s coming going → StandsBetween true n s r going coming
+abbrev pub stands_flip_back : (n : ℕ) (s r : State) (going coming : List Value) → StandsBetween false n r s coming going → StandsBetween true n s r going coming
 stands_flip_back n s r going coming h = record { course = h.course; place = h.place_there; place_there = h.place; out = h.back; back = h.out; holds = h.holds }

@@ -9,13 +9,13 @@ use Rattle.osi_class.specs.declared.terms.Class.TheVariants.{Two}
 use Rattle.osi_carrier.specs.Addresses.{reference_of, AreFor, is_last}
 use Rattle.osi_carrier.specs.Calls.{sent, closed_with}
 use Rattle.osi_carrier.specs.Happenings.{tsdu, closed}
-use Rattle.osi_carrier.specs.Meeting.{Meeting, talking, left_here, left_there, left_both, waiting_here, waiting_there, parted, mirror, here, addressed, leaving, farewell, out, back, Stands, Moves}
+use Rattle.osi_carrier.specs.Meeting.{Meeting, talking, left_here, left_there, left_both, waiting_here, waiting_there, parted, mirror, here, addressed, leaving, farewell, out, back, Stands, answers_of, Moves}
 use Rattle.osi_carrier.specs.OpenLinks.{AgreeIn, AreOpen, after_take, after_send}
 use Rattle.osi_carrier.specs.React.{react, handed_out}
 use Rattle.osi_carrier.specs.Orderly.{IsOrderly}
 use Rattle.osi_carrier.specs.Rows.{value_at}
 use Rattle.osi_carrier.specs.State.{linked, State}
-use Rattle.osi_carrier.specs.Messages.{message, bye, over}
+use Rattle.osi_carrier.specs.Messages.{Message, message, bye, over}
 use Rattle.osi_carrier.proofs.MeetingMessages.{talking_takes, talking_sends, talking_closes, behind_takes, behind_sends, leaving_takes, behind_closes, left_ignores, both_ignores, waiting_ignores, both_takes, waiting_over, waiting_crossed}
 use Rattle.osi_carrier.proofs.Changes.{given_changes, given_ignored, leaving_changes, crossed_changes, over_changes, send_changes, close_changes}
 use Rattle.osi_carrier.proofs.Turned.{left_takes, sends_passes}
@@ -88,7 +88,7 @@ given_stays n (ack number credit) = refl
 -- ---- a unit is taken here
 
 take_talking : (n : ℕ) (s : State) (p : LinkPair) (g : Given) (gs : List Given) → 0 < n → s.ended ≡ None → s.class ≡ Some Two → IsOrderly s →
-    value_at n s.live ≡ Some (linked n p.left) → AreOpen true p → p.leftward ≡ g ∷ gs → Moves n (talking p) s (react (unit_of n g) s) (unit_of n g ∷ [])
+    value_at n s.live ≡ Some (linked n p.left) → AreOpen true p → p.leftward ≡ g ∷ gs → Moves n (talking p) s (react (unit_of n g) s) (unit_of n g ∷ []) []
 take_talking n s p g gs some quiet class orderly at a e =
     let t = left_takes true p g gs n a e in
     record {
@@ -102,13 +102,12 @@ take_talking n s p g gs some quiet class orderly at a e =
       back = ap (addressed n) e;
       goes = sym (ap (λ (b : Bool). b || false) (given_stays n g));
       stands = t.passes.stay_open;
-      put = [];
       carries = talking_takes n p (unit_of n g) gs a t;
     }
 
 take_behind : (n : ℕ) (s : State) (p : LinkPair) (hs : List Given) (reason : ℕ) (g : Given) (gs : List Given) → 0 < n → s.ended ≡ None → s.class ≡ Some Two → IsOrderly s →
     value_at n s.live ≡ Some (linked n p.left) → AreOpen true p → AreOfClass true hs → p.leftward ≡ g ∷ gs →
-    Moves n (left_there p hs reason) s (react (unit_of n g) s) (unit_of n g ∷ [])
+    Moves n (left_there p hs reason) s (react (unit_of n g) s) (unit_of n g ∷ []) []
 take_behind n s p hs reason g gs some quiet class orderly at a two e =
     let t = left_takes true p g gs n a e in
     let given = all_given (handed_out t.link) in
@@ -123,13 +122,12 @@ take_behind n s p hs reason g gs some quiet class orderly at a two e =
       back = ap (λ (us : List Given). addressed n us ++ leaving n reason ∷ []) e;
       goes = sym (ap (λ (b : Bool). b || false) (given_stays n g));
       stands = (t.passes.stay_open, class_join hs given two (class_end p.rightward given t.passes.stay_open.agree.agree.class));
-      put = [];
       carries = behind_takes n p hs reason g gs some a e t;
     }
 
 take_leaving : (n : ℕ) (s : State) (p : LinkPair) (hs : List Given) (reason : ℕ) → 0 < n → s.ended ≡ None → s.class ≡ Some Two → IsOrderly s →
     value_at n s.live ≡ Some (linked n p.left) → AreOfClass true hs → p.leftward ≡ [] →
-    Moves n (left_there p hs reason) s (react (leaving n reason) s) (leaving n reason ∷ [])
+    Moves n (left_there p hs reason) s (react (leaving n reason) s) (leaving n reason ∷ []) (over ∷ [])
 take_leaving n s p hs reason some quiet class orderly at two e = record {
   new = waiting_there hs None;
   units = disconnected n n ∷ [];
@@ -141,40 +139,45 @@ take_leaving n s p hs reason some quiet class orderly at two e = record {
   back = ap (λ (us : List Given). addressed n us ++ leaving n reason ∷ []) e;
   goes = refl;
   stands = two;
-  put = over ∷ [];
   carries = leaving_takes n p hs reason some e;
 }
 
 -- the unit that was taken is the oldest
-at_head : (n : ℕ) (m : Meeting) (s : State) (u unit : Value) (more rest : List Value) → back n m ≡ u ∷ more → back n m ≡ unit ∷ rest →
-    Moves n m s (react u s) (u ∷ []) → Moves n m s (react unit s) (unit ∷ [])
-at_head n m s u unit more rest a b h =
+at_head : (n : ℕ) (m : Meeting) (s : State) (u unit : Value) (more rest : List Value) (put : List Message) → back n m ≡ u ∷ more → back n m ≡ unit ∷ rest → put ≡ answers_of (here n m) u →
+    Moves n m s (react u s) (u ∷ []) put → Moves n m s (react unit s) (unit ∷ []) (answers_of (here n m) unit)
+at_head n m s u unit more rest put a b is h =
     let same : u ≡ unit = (let e = sym a ∙ b in cc) in
-    subst (λ (x : Value). Moves n m s (react x s) (x ∷ [])) same h
+    subst (λ (x : Value). Moves n m s (react x s) (x ∷ []) (answers_of (here n m) x)) same
+    (subst (λ (l : List Message). Moves n m s (react u s) (u ∷ []) l) is h)
+
+given_answers : (n : ℕ) (link : Standing) (g : Given) → [] ≡ answers_of (Some (linked n link)) (unit_of n g)
+given_answers n link (part0 end octets) = refl
+given_answers n link (part2 number end octets) = refl
+given_answers n link (ack number credit) = refl
 
 take_talking_by : (n : ℕ) (s : State) (p : LinkPair) (gs : List Given) (unit : Value) (rest : List Value) → 0 < n → s.ended ≡ None → s.class ≡ Some Two → IsOrderly s →
-    value_at n s.live ≡ Some (linked n p.left) → AreOpen true p → p.leftward ≡ gs → back n (talking p) ≡ unit ∷ rest → Moves n (talking p) s (react unit s) (unit ∷ [])
+    value_at n s.live ≡ Some (linked n p.left) → AreOpen true p → p.leftward ≡ gs → back n (talking p) ≡ unit ∷ rest → Moves n (talking p) s (react unit s) (unit ∷ []) (answers_of (here n (talking p)) unit)
 take_talking_by n s p [] unit rest some quiet class orderly at a e b = let none = sym (ap (addressed n) e) ∙ b in cc
 take_talking_by n s p (g ∷ gs) unit rest some quiet class orderly at a e b =
-    at_head n (talking p) s (unit_of n g) unit (addressed n gs) rest (ap (addressed n) e) b (take_talking n s p g gs some quiet class orderly at a e)
+    at_head n (talking p) s (unit_of n g) unit (addressed n gs) rest [] (ap (addressed n) e) b (given_answers n p.left g) (take_talking n s p g gs some quiet class orderly at a e)
 
 take_behind_by : (n : ℕ) (s : State) (p : LinkPair) (hs : List Given) (reason : ℕ) (gs : List Given) (unit : Value) (rest : List Value) → 0 < n → s.ended ≡ None → s.class ≡ Some Two → IsOrderly s →
     value_at n s.live ≡ Some (linked n p.left) → AreOpen true p → AreOfClass true hs → p.leftward ≡ gs → back n (left_there p hs reason) ≡ unit ∷ rest →
-    Moves n (left_there p hs reason) s (react unit s) (unit ∷ [])
+    Moves n (left_there p hs reason) s (react unit s) (unit ∷ []) (answers_of (here n (left_there p hs reason)) unit)
 take_behind_by n s p hs reason [] unit rest some quiet class orderly at a two e b =
-    at_head n (left_there p hs reason) s (leaving n reason) unit [] rest (ap (λ (us : List Given). addressed n us ++ leaving n reason ∷ []) e) b
+    at_head n (left_there p hs reason) s (leaving n reason) unit [] rest (over ∷ []) (ap (λ (us : List Given). addressed n us ++ leaving n reason ∷ []) e) b refl
     (take_leaving n s p hs reason some quiet class orderly at two e)
 take_behind_by n s p hs reason (g ∷ gs) unit rest some quiet class orderly at a two e b =
-    at_head n (left_there p hs reason) s (unit_of n g) unit (addressed n gs ++ leaving n reason ∷ []) rest
-    (ap (λ (us : List Given). addressed n us ++ leaving n reason ∷ []) e) b (take_behind n s p hs reason g gs some quiet class orderly at a two e)
+    at_head n (left_there p hs reason) s (unit_of n g) unit (addressed n gs ++ leaving n reason ∷ []) rest []
+    (ap (λ (us : List Given). addressed n us ++ leaving n reason ∷ []) e) b (given_answers n p.left g) (take_behind n s p hs reason g gs some quiet class orderly at a two e)
 
 pub take_here : (n : ℕ) (s : State) (m : Meeting) (unit : Value) (rest : List Value) → 0 < n → s.ended ≡ None → s.class ≡ Some Two → IsOrderly s →
-    value_at n s.live ≡ here n m → Stands m → back n m ≡ unit ∷ rest → Moves n m s (react unit s) (unit ∷ [])
+    value_at n s.live ≡ here n m → Stands m → back n m ≡ unit ∷ rest → Moves n m s (react unit s) (unit ∷ []) (answers_of (here n m) unit)
 take_here n s (talking p) unit rest some quiet class orderly at h b = take_talking_by n s p p.leftward unit rest some quiet class orderly at h refl b
 take_here n s (left_there p hs reason) unit rest some quiet class orderly at h b = take_behind_by n s p hs reason p.leftward unit rest some quiet class orderly at h.0 h.1 refl b
 take_here n s (left_here p [] reason) unit rest some quiet class orderly at h b = cc
 take_here n s (left_here p (g ∷ gs) reason) unit rest some quiet class orderly at h b =
-    at_head n (left_here p (g ∷ gs) reason) s (unit_of n g) unit (addressed n gs) rest refl b (record {
+    at_head n (left_here p (g ∷ gs) reason) s (unit_of n g) unit (addressed n gs) rest [] refl b refl (record {
       new = left_here p gs reason;
       units = [];
       events = [];
@@ -185,11 +188,10 @@ take_here n s (left_here p (g ∷ gs) reason) unit rest some quiet class orderly
       back = refl;
       goes = sym (ap (λ (b : Bool). b || false) (given_stays n g));
       stands = (h.0, h.1.1);
-      put = [];
       carries = left_ignores n p g gs reason;
     })
 take_here n s (left_both hs reason [] other) unit rest some quiet class orderly at h b =
-    at_head n (left_both hs reason [] other) s (leaving n other) unit [] rest refl b (record {
+    at_head n (left_both hs reason [] other) s (leaving n other) unit [] rest [] refl b refl (record {
       new = waiting_there hs (Some reason);
       units = [];
       events = [];
@@ -200,11 +202,10 @@ take_here n s (left_both hs reason [] other) unit rest some quiet class orderly 
       back = refl;
       goes = refl;
       stands = h.0;
-      put = [];
       carries = both_takes n hs reason other some;
     })
 take_here n s (left_both hs reason (g ∷ gs) other) unit rest some quiet class orderly at h b =
-    at_head n (left_both hs reason (g ∷ gs) other) s (unit_of n g) unit (addressed n gs ++ leaving n other ∷ []) rest refl b (record {
+    at_head n (left_both hs reason (g ∷ gs) other) s (unit_of n g) unit (addressed n gs ++ leaving n other ∷ []) rest [] refl b refl (record {
       new = left_both hs reason gs other;
       units = [];
       events = [];
@@ -215,11 +216,10 @@ take_here n s (left_both hs reason (g ∷ gs) other) unit rest some quiet class 
       back = refl;
       goes = sym (ap (λ (b : Bool). b || false) (given_stays n g));
       stands = (h.0, h.1.1);
-      put = [];
       carries = both_ignores n hs reason g gs other;
     })
 take_here n s (waiting_here [] None) unit rest some quiet class orderly at h b =
-    at_head n (waiting_here [] None) s (disconnected n n) unit [] rest refl b (record {
+    at_head n (waiting_here [] None) s (disconnected n n) unit [] rest [] refl b refl (record {
       new = parted;
       units = [];
       events = [];
@@ -230,11 +230,10 @@ take_here n s (waiting_here [] None) unit rest some quiet class orderly at h b =
       back = refl;
       goes = refl;
       stands = tt;
-      put = [];
       carries = waiting_over n;
     })
 take_here n s (waiting_here [] (Some reason)) unit rest some quiet class orderly at h b =
-    at_head n (waiting_here [] (Some reason)) s (leaving n reason) unit [] rest refl b (record {
+    at_head n (waiting_here [] (Some reason)) s (leaving n reason) unit [] rest [] refl b refl (record {
       new = parted;
       units = [];
       events = [];
@@ -245,11 +244,10 @@ take_here n s (waiting_here [] (Some reason)) unit rest some quiet class orderly
       back = refl;
       goes = refl;
       stands = tt;
-      put = [];
       carries = waiting_crossed n reason some;
     })
 take_here n s (waiting_here (g ∷ gs) last) unit rest some quiet class orderly at h b =
-    at_head n (waiting_here (g ∷ gs) last) s (unit_of n g) unit (addressed n gs ++ farewell n last ∷ []) rest refl b (record {
+    at_head n (waiting_here (g ∷ gs) last) s (unit_of n g) unit (addressed n gs ++ farewell n last ∷ []) rest [] refl b refl (record {
       new = waiting_here gs last;
       units = [];
       events = [];
@@ -260,7 +258,6 @@ take_here n s (waiting_here (g ∷ gs) last) unit rest some quiet class orderly 
       back = refl;
       goes = sym (ap (λ (b : Bool). b || false) (given_stays n g));
       stands = h.1;
-      put = [];
       carries = waiting_ignores n g gs last;
     })
 take_here n s (waiting_there hs last) unit rest some quiet class orderly at h b = cc
@@ -269,7 +266,7 @@ take_here n s parted unit rest some quiet class orderly at h b = cc
 -- ---- calls here
 
 pub send_here : (n : ℕ) (s : State) (m : Meeting) (link : Standing) (octets : List ℕ) → s.ended ≡ None → IsOrderly s →
-    value_at n s.live ≡ here n m → here n m ≡ Some (linked n link) → Stands m → IsShortTsdu octets → Moves n m s (sent n octets s) []
+    value_at n s.live ≡ here n m → here n m ≡ Some (linked n link) → Stands m → IsShortTsdu octets → Moves n m s (sent n octets s) [] (message octets ∷ [])
 send_here n s (talking p) link octets quiet orderly at is h short =
     let passes = sends_passes true p octets h short in
     record {
@@ -283,7 +280,6 @@ send_here n s (talking p) link octets quiet orderly at is h short =
       back = refl;
       goes = refl;
       stands = passes.stay_open;
-      put = message octets ∷ [];
       carries = talking_sends n p octets h passes.rightward passes.leftward passes.stay_open;
     }
 send_here n s (left_there p hs reason) link octets quiet orderly at is h short =
@@ -300,7 +296,6 @@ send_here n s (left_there p hs reason) link octets quiet orderly at is h short =
       back = refl;
       goes = refl;
       stands = (passes.stay_open, class_join hs given h.1 (class_end p.rightward given passes.stay_open.agree.agree.class));
-      put = message octets ∷ [];
       carries = behind_sends n p hs reason octets;
     }
 send_here n s (left_here p gs reason) link octets quiet orderly at is h short = cc
@@ -310,7 +305,7 @@ send_here n s (waiting_there gs last) link octets quiet orderly at is h short = 
 send_here n s parted link octets quiet orderly at is h short = cc
 
 pub close_here : (n : ℕ) (s : State) (m : Meeting) (link : Standing) (reason : ℕ) → 0 < n → s.ended ≡ None → s.class ≡ Some Two → IsOrderly s →
-    value_at n s.live ≡ here n m → here n m ≡ Some (linked n link) → Stands m → Moves n m s (closed_with n reason s) []
+    value_at n s.live ≡ here n m → here n m ≡ Some (linked n link) → Stands m → Moves n m s (closed_with n reason s) [] (bye reason ∷ [])
 close_here n s (talking p) link reason some quiet class orderly at is h = record {
   new = left_here p p.leftward reason;
   units = leaving n reason ∷ [];
@@ -322,7 +317,6 @@ close_here n s (talking p) link reason some quiet class orderly at is h = record
   back = refl;
   goes = refl;
   stands = (h, h.agree.agree_back.class);
-  put = bye reason ∷ [];
   carries = talking_closes n p reason some;
 }
 close_here n s (left_there p hs other) link reason some quiet class orderly at is h = record {
@@ -336,7 +330,6 @@ close_here n s (left_there p hs other) link reason some quiet class orderly at i
   back = refl;
   goes = refl;
   stands = (h.1, h.0.agree.agree_back.class);
-  put = bye reason ∷ [];
   carries = behind_closes n p hs reason other some;
 }
 close_here n s (left_here p gs other) link reason some quiet class orderly at is h = cc

@@ -10,7 +10,7 @@ use Rattle.osi_class.specs.declared.terms.Class.TheVariants.{Two}
 use Rattle.osi_class.specs.declared.terms.Local.{Local}
 use Rattle.osi_carrier.specs.Addresses.{AreFor, live_after, references, requests, behind}
 use Rattle.osi_carrier.specs.Happenings.{Happening, opened}
-use Rattle.osi_carrier.specs.Meeting.{Meeting, mirror, here, addressed, leaving, told_at, Stands}
+use Rattle.osi_carrier.specs.Meeting.{Meeting, mirror, here, addressed, leaving, told_at, answers_of, Stands}
 use Rattle.osi_carrier.specs.Meeting as meeting
 use Rattle.osi_carrier.specs.Messages.{Message, ask, agree, deny, message, bye, over, messages_to, AreLike}
 use Rattle.osi_carrier.specs.Negotiation.{proposal_by, acceptance, agreed_size, opened_link}
@@ -174,13 +174,17 @@ abbrev pub asked_in : Bool → List Value → List Value → List Value
 asked_in true written taken = written
 asked_in false written taken = taken
 
+-- what a unit is answered: a CR with a CC
+abbrev pub answers_at : Place → Value → List Message
+answers_at never unit = agree ∷ []
+answers_at (was_given connection) unit = answers_of connection unit
+
 -- One end (`this` and then `next`) acted: these units to it were taken (one, or none), and so many
 -- references were given.
-pub record CourseMoves (end : Bool) (n : ℕ) (old : Course) (this other next : State) (taken : List Value) (asked : ℕ) : Type 0 where
+pub record CourseMoves (end : Bool) (n : ℕ) (old : Course) (this other next : State) (taken : List Value) (asked : ℕ) (put : List Message) : Type 0 where
   pub new : Course
   pub units : List Value
   pub events : List Happening
-  pub put : List Message
   pub acts : Acts n this next units events
   pub place : place_at n next ≡ at_end end n new
   pub there : at_end (not end) n new ≡ at_end (not end) n old

@@ -1,8 +1,8 @@
 -- How one connection of class 2 stands at two carriers since both have had it open, and which units
 -- are under way for it. Both gave it the same reference. `here` is one of the two, `there` the other.
-use Rattle.std.specs.Prelude.{◌≡◌, ◌≢◌, ℕ, ◌<◌, ◌==◌, Bool, true, false, List, [], ◌∷◌, ◌++◌, map, Option, Some, None, is_none}
+use Rattle.std.specs.Prelude.{◌≡◌, ◌≢◌, ℕ, ◌<◌, ◌==◌, Bool, true, false, List, [], ◌∷◌, ◌++◌, map, Option, Some, None, is_none, if◌then◌else◌}
 use Rattle.std.specs.List.{flat_map, list_any}
-use Rattle.osi_tpdu.specs.Value.{Value, disconnect, disconnected}
+use Rattle.osi_tpdu.specs.Value.{Value, request, confirm, disconnect, disconnected, data0, data2, acknowledge, error}
 use Rattle.osi_class.specs.Between.{LinkPair, swapped, AreOfClass}
 use Rattle.osi_class.specs.Link.{Given, unit_of}
 use Rattle.osi_class.specs.declared.terms.Class.TheVariants.{Two}
@@ -154,8 +154,27 @@ pub record Carries (n : ℕ) (old new : Meeting) (events : List Happening) (put 
   pub before : AreLike (there n old) (messages_out n old) (stays ++ lost)
   pub after : AreLike (there n old) (messages_out n new) (stays ++ put)
 
--- One side acted: these units to it were taken (one, or none), and the connection stands so.
-pub record Moves (n : ℕ) (old : Meeting) (s t : State) (taken : List Value) : Type 0 where
+-- a DR
+abbrev pub is_leaving : Value → Bool
+is_leaving (request c) = false
+is_leaving (confirm destination c) = false
+is_leaving (disconnect destination source reason user) = true
+is_leaving (disconnected destination source) = false
+is_leaving (data0 end user) = false
+is_leaving (data2 destination number end user) = false
+is_leaving (acknowledge credit destination number) = false
+is_leaving (error destination cause) = false
+
+-- what a unit is answered: a DR to an open connection with a DC
+abbrev pub answers_of : Option Connection → Value → List Message
+answers_of None unit = []
+answers_of (Some asked) unit = []
+answers_of (Some (linked peer link)) unit = if is_leaving unit then over ∷ [] else []
+answers_of (Some (closing peer)) unit = []
+
+-- One side acted: these units to it were taken (one, or none), `put` was put behind what is under way
+-- from it, and the connection stands so.
+pub record Moves (n : ℕ) (old : Meeting) (s t : State) (taken : List Value) (put : List Message) : Type 0 where
   pub new : Meeting
   pub units : List Value
   pub events : List Happening
@@ -167,5 +186,4 @@ pub record Moves (n : ℕ) (old : Meeting) (s t : State) (taken : List Value) : 
   -- a DR or a DC, and nothing else, leaves none here
   pub goes : is_none (here n new) ≡ list_any is_last taken
   pub stands : Stands new
-  pub put : List Message
   pub carries : Carries n old new events put

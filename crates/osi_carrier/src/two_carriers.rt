@@ -9,7 +9,8 @@ ghost use Rattle.osi_class.specs.Between.{IsShortTsdu};
 ghost use Rattle.osi_class.specs.Link.{Standing};
 ghost use Rattle.osi_carrier.specs.Calls.{sent, closed_with};
 ghost use Rattle.osi_carrier.specs.Coming.{IsSendable, AreComing, TakesSome};
-ghost use Rattle.osi_carrier.specs.Meeting.{Meeting, mirror, here, there, out, back, Stands, IsAt, Moves};
+ghost use Rattle.osi_carrier.specs.Meeting.{Meeting, mirror, here, there, out, back, Stands, IsAt, answers_of, Moves};
+ghost use Rattle.osi_carrier.specs.Messages.{message, bye};
 ghost use Rattle.osi_carrier.specs.Packets.{Carrying, Feeds};
 ghost use Rattle.osi_carrier.specs.React.{react};
 ghost use Rattle.osi_carrier.specs.State.{State, linked, packets};
@@ -22,11 +23,11 @@ ghost use Rattle.osi_carrier.specs.State.{State, linked, packets};
 /// All other connections stay as they are. Seen from the other carrier it is the same.
 pub fn what_a_connection_carries()
     ensures taken { (n : ℕ) (s : State) (m : Meeting) (unit : Value) (rest : List Value) → IsAt n s m → back n m ≡ unit ∷ rest →
-        Moves n m s (react unit s) (unit ∷ []) }
+        Moves n m s (react unit s) (unit ∷ []) (answers_of (here n m) unit) }
     ensures sent { (n : ℕ) (s : State) (m : Meeting) (link : Standing) (tsdu : List ℕ) → IsAt n s m → here n m ≡ Some (linked n link) → IsShortTsdu tsdu →
-        Moves n m s (sent n tsdu s) [] }
+        Moves n m s (sent n tsdu s) [] (message tsdu ∷ []) }
     ensures closed { (n : ℕ) (s : State) (m : Meeting) (link : Standing) (reason : ℕ) → IsAt n s m → here n m ≡ Some (linked n link) →
-        Moves n m s (closed_with n reason s) [] }
+        Moves n m s (closed_with n reason s) [] (bye reason ∷ []) }
     ensures mirrored { (m : Meeting) → Stands m → Stands (mirror m) }
     ensures twice { (m : Meeting) → mirror (mirror m) ≡ m }
 {}
