@@ -1,5 +1,6 @@
 -- Where one end of two joined carriers acts, each connection stands as it should.
-use Rattle.std.proofs.Common.{◌≡◌, ◌≢◌, ℕ, ◌+◌, ◌<◌, ◌≤◌, ◌==◌, Bool, true, false, not, List, [], ◌∷◌, ◌++◌, refl, sym, ap, subst, ◌∙◌, inl, inr, arith, append_assoc}
+use Rattle.std.proofs.Common.{◌≡◌, ◌≢◌, ℕ, ◌+◌, ◌<◌, ◌≤◌, ◌==◌, Bool, true, false, not, List, [], ◌∷◌, ◌++◌, Option, refl, sym, ap, subst, ◌∙◌, inl, inr, arith, append_assoc}
+use Rattle.std.specs.List.{flat_map}
 use Rattle.std.proofs.lemmas.Bool.{eqb-true, eq-eqb}
 use Rattle.std.proofs.lemmas.List.{append-nil, append_cancel_left}
 use Rattle.osi_tpdu.specs.Value.{Value}
@@ -7,11 +8,11 @@ use Rattle.osi_class.specs.Between.{LinkPair}
 use Rattle.osi_class.specs.declared.terms.Local.{Local}
 use Rattle.osi_tpdu.specs.Value.{Connect}
 use Rattle.osi_carrier.specs.Addresses.{units_of, AreFor}
-use Rattle.osi_carrier.specs.Course.{Course, unasked, asking, accepting, withdrawing, met, from_end, IsAskedBy, IsAccepted, HaveMet, Holds, HoldsAt, called_local, Acts, CourseMoves}
+use Rattle.osi_carrier.specs.Course.{Place, place_at, connection_in, at_end, messages_from, told_opening, Course, unasked, asking, accepting, withdrawing, met, from_end, IsAskedBy, IsAccepted, HaveMet, Holds, HoldsAt, called_local, Acts, CourseMoves}
 use Rattle.osi_carrier.specs.Happenings.{Happening}
-use Rattle.osi_carrier.specs.Joined.{StandsBetween}
-use Rattle.osi_carrier.specs.Messages.{Message}
-use Rattle.osi_carrier.specs.State.{State}
+use Rattle.osi_carrier.specs.Joined.{StandsBetween, under_way_for, ActsFor}
+use Rattle.osi_carrier.specs.Messages.{Message, messages_to, AreLike}
+use Rattle.osi_carrier.specs.State.{Connection, State}
 use Rattle.osi_carrier.proofs.Addressing.{units_join, units_same, units_other}
 use Rattle.osi_carrier.proofs.Openings.{caller_link}
 
@@ -57,6 +58,17 @@ called_stays false m this other next us es a = sym a.local
 
 -- ---- the connection that acts, and the others
 
+pub out_after : (end : Bool) (n asked : ℕ) (this other next : State) (going coming taken : List Value) (put : List Message) (s : StandsBetween end n this other going coming) →
+    (mv : CourseMoves end n s.course this other next taken asked put) → units_of n (going ++ mv.units) ≡ from_end end n (called_local end this other) mv.new
+out_after end n asked this other next going coming taken put s mv =
+    units_join n going mv.units ∙ ap (λ (l : List Value). units_of n going ++ l) (units_same n mv.units mv.acts.all_for) ∙ ap (λ (l : List Value). l ++ mv.units) s.out ∙ sym mv.out
+
+pub back_after : (end : Bool) (n asked : ℕ) (this other next : State) (going coming rest taken : List Value) (put : List Message) (s : StandsBetween end n this other going coming) → coming ≡ taken ++ rest → AreFor n taken →
+    (mv : CourseMoves end n s.course this other next taken asked put) → units_of n rest ≡ from_end (not end) n (called_local end this other) mv.new
+back_after end n asked this other next going coming rest taken put s cut all mv =
+    append_cancel_left taken (units_of n rest) (from_end (not end) n (called_local end this other) mv.new)
+    (ap (λ (l : List Value). l ++ units_of n rest) (sym (units_same n taken all)) ∙ sym (units_join n taken rest) ∙ ap (units_of n) (sym cut) ∙ s.back ∙ mv.back)
+
 stands_after : (end : Bool) (n asked : ℕ) (this other next : State) (going coming rest taken : List Value) (put : List Message) (s : StandsBetween end n this other going coming) → coming ≡ taken ++ rest → AreFor n taken →
     (mv : CourseMoves end n s.course this other next taken asked put) → StandsBetween end n next other (going ++ mv.units) rest
 stands_after end n asked this other next going coming rest taken put s cut all mv =
@@ -65,11 +77,8 @@ stands_after end n asked this other next going coming rest taken put s cut all m
       course = mv.new;
       place = mv.place;
       place_there = s.place_there ∙ sym mv.there;
-      out = units_join n going mv.units ∙ ap (λ (l : List Value). units_of n going ++ l) (units_same n mv.units mv.acts.all_for) ∙ ap (λ (l : List Value). l ++ mv.units) s.out
-          ∙ sym mv.out ∙ ap (λ (x : Local). from_end end n x mv.new) local;
-      back = append_cancel_left taken (units_of n rest) (from_end (not end) n (called_local end this other) mv.new)
-          (ap (λ (l : List Value). l ++ units_of n rest) (sym (units_same n taken all)) ∙ sym (units_join n taken rest) ∙ ap (units_of n) (sym cut) ∙ s.back ∙ mv.back)
-          ∙ ap (λ (x : Local). from_end (not end) n x mv.new) local;
+      out = out_after end n asked this other next going coming taken put s mv ∙ ap (λ (x : Local). from_end end n x mv.new) local;
+      back = back_after end n asked this other next going coming rest taken put s cut all mv ∙ ap (λ (x : Local). from_end (not end) n x mv.new) local;
       holds = mv.holds;
     }
 
@@ -111,3 +120,61 @@ stands_flip n s r going coming h = record { course = h.course; place = h.place_t
 
 abbrev pub stands_flip_back : (n : ℕ) (s r : State) (going coming : List Value) → StandsBetween false n r s coming going → StandsBetween true n s r going coming
 stands_flip_back n s r going coming h = record { course = h.course; place = h.place_there; place_there = h.place; out = h.back; back = h.out; holds = h.holds }
+
+-- ---- what is under way
+
+same_way : (a b c d : Place) (us vs : List Value) → a ≡ b → us ≡ vs → c ≡ d → messages_to (connection_in a) us (connection_in c) ≡ messages_to (connection_in b) vs (connection_in d)
+same_way a b c d us vs x y z =
+    ap (λ (p : Place). messages_to (connection_in p) us (connection_in c)) x ∙ ap (λ (l : List Value). messages_to (connection_in b) l (connection_in c)) y
+    ∙ ap (λ (p : Place). messages_to (connection_in b) vs (connection_in p)) z
+
+like_over : (o p : Option Connection) (a b c d : List Message) → o ≡ p → a ≡ b → c ≡ d → AreLike p b d → AreLike o a c
+like_over o p a b c d x y z h =
+    subst (λ (q : Option Connection). AreLike q a c) (sym x) (subst (λ (l : List Message). AreLike p l c) (sym y) (subst (λ (l : List Message). AreLike p b l) (sym z) h))
+
+at_twice : (end : Bool) (n : ℕ) (g : Course) → at_end (not (not end)) n g ≡ at_end end n g
+at_twice true n g = refl
+at_twice false n g = refl
+
+pub acts_for : (end : Bool) (n asked : ℕ) (this other next : State) (going coming rest taken : List Value) (put : List Message) (s : StandsBetween end n this other going coming) → coming ≡ taken ++ rest → AreFor n taken →
+    (mv : CourseMoves end n s.course this other next taken asked put) → ActsFor n this other next going coming (going ++ mv.units) rest put
+acts_for end n asked this other next going coming rest taken put s cut all mv =
+    let c = mv.carries in
+    let local = called_local end this other in
+    let out = out_after end n asked this other next going coming taken put s mv in
+    let back = back_after end n asked this other next going coming rest taken put s cut all mv in
+    let there = s.place_there ∙ sym mv.there in
+    record {
+      units = mv.units;
+      events = mv.events;
+      arrived = c.arrived;
+      stays = c.stays;
+      lost = c.lost;
+      written = refl;
+      outgoing = mv.acts.outgoing;
+      told_events = mv.acts.events;
+      told = c.told ∙ ap (λ (p : Place). flat_map (told_opening n p) c.arrived) (sym s.place);
+      came = like_over (connection_in (place_at n next)) (connection_in (at_end end n mv.new)) (under_way_for n other this coming) (messages_from (not end) n local s.course)
+          (c.arrived ++ under_way_for n other next rest) (c.arrived ++ messages_from (not end) n local mv.new)
+          (ap connection_in mv.place)
+          (same_way (place_at n other) (at_end (not end) n s.course) (place_at n this) (at_end (not (not end)) n s.course) (units_of n coming) (from_end (not end) n local s.course) s.place_there s.back (s.place ∙ sym (at_twice end n s.course)))
+          (ap (λ (l : List Message). c.arrived ++ l)
+          (same_way (place_at n other) (at_end (not end) n mv.new) (place_at n next) (at_end (not (not end)) n mv.new) (units_of n rest) (from_end (not end) n local mv.new) there back (mv.place ∙ sym (at_twice end n mv.new))))
+          c.came;
+      before = like_over (connection_in (place_at n other)) (connection_in (at_end (not end) n s.course)) (under_way_for n this other going) (messages_from end n local s.course)
+          (c.stays ++ c.lost) (c.stays ++ c.lost) (ap connection_in s.place_there)
+          (same_way (place_at n this) (at_end end n s.course) (place_at n other) (at_end (not end) n s.course) (units_of n going) (from_end end n local s.course) s.place s.out s.place_there)
+          refl c.before;
+      after = like_over (connection_in (place_at n other)) (connection_in (at_end (not end) n s.course)) (under_way_for n next other (going ++ mv.units)) (messages_from end n local mv.new)
+          (c.stays ++ put) (c.stays ++ put) (ap connection_in s.place_there)
+          (same_way (place_at n next) (at_end end n mv.new) (place_at n other) (at_end (not end) n mv.new) (units_of n (going ++ mv.units)) (from_end end n local mv.new) mv.place out there)
+          refl c.after;
+      others = λ q apart. same_way (place_at q this) (place_at q next) (place_at q other) (place_at q other) (units_of q going) (units_of q (going ++ mv.units))
+          (sym (mv.acts.others q apart))
+          (sym (units_join q going mv.units ∙ ap (λ (l : List Value). units_of q going ++ l) (units_other q n mv.units apart mv.acts.all_for) ∙ append-nil (units_of q going)))
+          refl;
+      others_back = λ q apart. same_way (place_at q other) (place_at q other) (place_at q this) (place_at q next) (units_of q coming) (units_of q rest)
+          refl
+          (ap (units_of q) cut ∙ units_join q taken rest ∙ ap (λ (l : List Value). l ++ units_of q rest) (units_other q n taken apart all))
+          (sym (mv.acts.others q apart));
+    }

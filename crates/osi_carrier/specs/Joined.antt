@@ -1,11 +1,13 @@
 -- Two carriers that both support class 2, and the units between them: a caller's and a called end's.
-use Rattle.std.specs.Prelude.{◌≡◌, ℕ, ◌+◌, ◌<◌, Bool, true, false, not, List, [], ◌∷◌, length, None}
-use Rattle.std.specs.List.{AllByRecursion}
+use Rattle.std.specs.Prelude.{◌≡◌, ◌≢◌, ℕ, ◌+◌, ◌<◌, Bool, true, false, not, List, [], ◌∷◌, ◌++◌, length, None}
+use Rattle.std.specs.List.{flat_map, AllByRecursion}
 use Rattle.osi_tpdu.specs.Value.{Value, request, confirm, disconnect, disconnected, data0, data2, acknowledge, error}
 use Rattle.osi_carrier.specs.Addresses.{reference_of, units_of, live_behind, references, requests, behind}
-use Rattle.osi_carrier.specs.Course.{place_at, Course, at_end, from_end, MayTakeTwo, HoldsAt, called_local}
+use Rattle.osi_carrier.specs.Course.{place_at, connection_in, Course, at_end, from_end, MayTakeTwo, HoldsAt, called_local, told_opening}
+use Rattle.osi_carrier.specs.Happenings.{Happening}
+use Rattle.osi_carrier.specs.Messages.{Message, messages_to, AreLike}
 use Rattle.osi_carrier.specs.Orderly.{IsOrderly}
-use Rattle.osi_carrier.specs.State.{State}
+use Rattle.osi_carrier.specs.State.{State, packets}
 
 -- How a connection stands at an end (`this`) and the other, with these units on the way from this end
 -- and to it: the called end gives it the number that the caller gave.
@@ -51,3 +53,27 @@ pub record AreJoined (caller called : State) (going coming : List Value) : Type 
   pub given : caller.given ≡ called.given + ahead
   pub numbers : requests going ≡ behind called.given ahead
   pub places : HasPlaces (references called.live) going
+
+-- what is under way for a connection from one end to the other, with these units between them
+abbrev pub under_way_for : ℕ → State → State → List Value → List Message
+under_way_for n sender taker units = messages_to (connection_in (place_at n sender)) (units_of n units) (connection_in (place_at n taker))
+
+-- One end (`this`, and then `next`) acted for a connection: `going` are the units on the way from it
+-- and `coming` those to it, and then `behind` and `rest`. What was under way to it arrived or still
+-- is, and of what arrived its user was told; what was under way from it stays, but for what was
+-- `lost`, and `put` comes behind it. What is under way for all other connections is the same.
+pub record ActsFor (n : ℕ) (this other next : State) (going coming behind rest : List Value) (put : List Message) : Type 0 where
+  pub units : List Value
+  pub events : List Happening
+  pub arrived : List Message
+  pub stays : List Message
+  pub lost : List Message
+  pub written : behind ≡ going ++ units
+  pub outgoing : next.outgoing ≡ this.outgoing ++ packets units
+  pub told_events : next.events ≡ this.events ++ events
+  pub told : events ≡ flat_map (told_opening n (place_at n this)) arrived
+  pub came : AreLike (connection_in (place_at n next)) (under_way_for n other this coming) (arrived ++ under_way_for n other next rest)
+  pub before : AreLike (connection_in (place_at n other)) (under_way_for n this other going) (stays ++ lost)
+  pub after : AreLike (connection_in (place_at n other)) (under_way_for n next other behind) (stays ++ put)
+  pub others : (q : ℕ) → q ≢ n → under_way_for q this other going ≡ under_way_for q next other behind
+  pub others_back : (q : ℕ) → q ≢ n → under_way_for q other this coming ≡ under_way_for q other next rest
