@@ -276,14 +276,14 @@ whole_part false held piece used least some h =
     (λ long. let stated = stated_taken held piece used long in omega (arith, h.0, h.1), h.1)
 
 -- what part_of says of a length and of counts, said of the octets that they count
-pub part_front : (r : Result Fed HeaderFault) (held piece : List ℕ) → IsFront held → 0 < length held → IsOctets piece → 4 ≤ length (held ++ piece) →
+pub part_front : (r : Result Fed HeaderFault) (held piece : List ℕ) → IsFront held → get_or (held ++ piece) 0 0 ≡ 3 → IsOctets piece → 4 ≤ length (held ++ piece) →
     OnOk r (7 ≤ stated_length (held ++ piece)) → IfOk r (λ fed. fed.used ≤ length piece) →
     IfOk r (λ fed. MatchBool fed.whole (length held + fed.used ≡ stated_length (held ++ piece))
     ((length held + length piece < stated_length (held ++ piece)) × (fed.used ≡ length piece))) →
     IfOk r (λ fed. IsFront (held ++ take fed.used piece))
-part_front (Err e) held piece front some octets long least used part = tt
-part_front (Ok fed) held piece front some octets long least used part =
-    front_taken held piece fed.used front.octets octets (get_or_append_left held piece 0 0 some ∙ front.version some) least used
+part_front (Err e) held piece front version octets long least used part = tt
+part_front (Ok fed) held piece front version octets long least used part =
+    front_taken held piece fed.used front.octets octets version least used
     (counted fed.whole (length held) fed.used (stated_length (held ++ piece)) (length piece) part)
 
 pub part_whole : (r : Result Fed HeaderFault) (held piece : List ℕ) → IsFront held → 4 ≤ length (held ++ piece) →
@@ -316,3 +316,11 @@ belonging_some octets piece fed partial h whole = elim (cases_lt 0 fed.used) [
       absurd (partial_not_whole octets partial (subst IsOnePacket same
       (whole_where (IsOnePacket (octets ++ take fed.used piece)) (IsPartial (octets ++ take fed.used piece) × (fed.used ≡ length piece)) fed.whole whole h.whole)))
 ]
+
+-- of two octets lists, of which the first is a front that has the version
+pub version_of : (held piece : List ℕ) → IsFront held → 0 < length held → get_or (held ++ piece) 0 0 ≡ 3
+version_of held piece front some = get_or_append_left held piece 0 0 some ∙ front.version some
+
+-- nothing is a front
+pub empty_front : IsFront []
+empty_front = (partial_front [] empty_partial).0
