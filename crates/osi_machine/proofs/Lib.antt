@@ -14,6 +14,8 @@ pub mod GiveCall
 pub mod Heard
 pub mod HistoryLaws
 pub mod Idle
+pub mod Lines
+pub mod LinesRun
 pub mod NumberLaws
 pub mod Opening
 pub mod Passed

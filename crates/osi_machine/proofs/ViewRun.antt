@@ -22,7 +22,7 @@ use Rattle.osi_machine.proofs.ViewFold.{Tells, told_all, call_tells, unit_tells}
 
 -- ---- a record, entry by entry
 
-record_append : (side : Side) (r : ℕ) (es fs : List Entry) → record_of side r (es ++ fs) ≡ record_of side r es ++ record_of side r fs
+pub record_append : (side : Side) (r : ℕ) (es fs : List Entry) → record_of side r (es ++ fs) ≡ record_of side r es ++ record_of side r fs
 record_append side r [] fs = refl
 record_append side r (e ∷ es) fs = by (is_of side r e) (record_append side r es fs)
   where
@@ -31,7 +31,7 @@ record_append side r (e ∷ es) fs = by (is_of side r e) (record_append side r e
     by true h = ap (λ (x : List Entry). e ∷ x) h
     by false h = h
 
-told_append : (t : Told) (es fs : List Entry) → told_by t (es ++ fs) ≡ told_by (told_by t es) fs
+pub told_append : (t : Told) (es fs : List Entry) → told_by t (es ++ fs) ≡ told_by (told_by t es) fs
 told_append t [] fs = refl
 told_append t (e ∷ es) fs = told_append (told_entry t e) es fs
 
@@ -58,7 +58,7 @@ call_told side t s c = by (stays_in_core c) (error_of (allowed s c))
     by true e = one_answer side t c e
     by false e = refl
 
-abbrev other : Side → Side
+abbrev pub other : Side → Side
 other Left = Right
 other Right = Left
 

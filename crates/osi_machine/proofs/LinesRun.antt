@@ -1,0 +1,349 @@
+-- What the moves of one connection keep is true of each connection of a machine after every list of steps.
+use Rattle.std.proofs.Common.{◌≡◌, refl, sym, ◌∙◌, ap, subst, ℕ, zero, suc, ◌+◌, ◌==◌, ◌<◌, ◌≤◌, Bool, true, false, not, ◌&&◌, ◌||◌, nat_le, if◌then◌else◌, List, [], ◌∷◌, ◌++◌, map, length, length-append, Option, Some, None, is_some, append_assoc, arith}
+use Rattle.std.specs.List.{AllByRecursion, list_any, slice_get}
+use Rattle.osi_session.specs.declared.faults.CallError.TheVariants as error
+use Rattle.osi_session.specs.Shown.{Shown}
+use Rattle.osi_machine.specs.Floor.{CallError, Call, HasSerial, allowed, is_profile}
+use Rattle.osi_machine.specs.Core.{Offer, Side, Left, Right}
+use Rattle.osi_machine.specs.Worlds.{Class, class_0, class_2, Message, World, session_of, asked_with, after_answer, Terms, closed, ended_at, shown_at_end}
+use Rattle.osi_machine.specs.Machine.{Ending, closed_here, Refusal, Step, connects, calls, delivers, breaks, ends, Entry, connect_answered, call_answered, shown_at, ended, Machine, start, connection_at, replaced, seen_from, end_of, stays, noted, is_given, is_waiting, is_known, is_class_0, live_count, refusal, asked_in, error_of, call_in, side_of, ended_worlds, shown_in_order, marked_ended, after_end, closes_by, after_taking, learns, taken_in, delivered_to, cut_channels, is_told, step, run, HasNumber}
+use Rattle.osi_machine.specs.Views.{Told, told_by, is_side, record_of, untold, told_of}
+use Rattle.osi_machine.proofs.Idle.{append_nil}
+use Rattle.osi_machine.proofs.ViewFold.{told_all}
+use Rattle.osi_machine.proofs.ViewRun.{record_append, other}
+use Rattle.osi_machine.proofs.Lines.{told_of_call, taking_of, IsKept, IsBy, told_more, told_same, and_no, other_number, call_by, shown_by, other_side, call_own, shown_own, Lines, seen_told, change_line}
+
+-- ---- entries that tell nothing
+
+abbrev IsMute : List Entry → Type 0
+IsMute es = (d : Side) (n : ℕ) (t : Told) → told_by t (record_of d n es) ≡ t
+
+refused_mute : (side : Side) (r : ℕ) (c : Call) (e : CallError) → IsMute (call_answered side r c (Some e) ∷ [])
+refused_mute side r c e d n t = by (is_side d side && (r == n))
+  where
+    by : (b : Bool) → told_by t (if b then call_answered side r c (Some e) ∷ [] else []) ≡ t
+    by true = refl
+    by false = refl
+
+mute_lines : (P : Bool → World → Offer → Told → Told → Type 0) (b : Bool) (j es : List Entry) (k : ℕ) (ws : List World) (os : List Offer)
+    → IsMute es → Lines P b j k ws os → Lines P b (j ++ es) k ws os
+mute_lines P b j es k [] [] f h = tt
+mute_lines P b j es k (w ∷ ws) (o ∷ os) f h = (
+  seen_told P b w o _ _ _ _ (sym (told_more Left k o j es ∙ f Left k _)) (sym (told_more Right k o j es ∙ f Right k _)) h.0,
+  mute_lines P b j es (k + 1) ws os f h.1,
+)
+mute_lines P b j es k [] (o ∷ os) f h = absurd h
+mute_lines P b j es k (w ∷ ws) [] f h = absurd h
+
+-- ---- what is kept
+
+pub record IsGood (terms : Terms) (P : Bool → World → Offer → Told → Told → Type 0) (m : Machine) : Type 0 where
+  pub offers : List Offer
+  pub lines : Lines P m.broken m.journal 1 m.worlds offers
+  pub fresh : (d : Side) (n : ℕ) (o : Offer) → length m.worlds < n → told_of d n o m.journal ≡ untold d o
+  pub agreed : m.terms ≡ terms
+
+-- a note that tells nothing
+mute_good : (terms : Terms) (P : Bool → World → Offer → Told → Told → Type 0) (m : Machine) (es : List Entry) → IsMute es → IsGood terms P m → IsGood terms P (noted es m)
+mute_good terms P m es f g = record {
+  offers = g.offers;
+  lines = mute_lines P m.broken m.journal es 1 m.worlds g.offers f g.lines;
+  fresh = λ d n o l. told_more d n o m.journal es ∙ f d n _ ∙ g.fresh d n o l;
+  agreed = g.agreed;
+}
+
+replaced_length : (r : ℕ) (w : World) (ws : List World) → length (replaced r w ws) ≡ length ws
+replaced_length r w [] = refl
+replaced_length zero w (v ∷ ws) = refl
+replaced_length (suc r) w (v ∷ ws) = ap suc (replaced_length r w ws)
+
+get_below : (ws : List World) (r : ℕ) (w : World) → slice_get ws r ≡ Some w → r < length ws
+get_below [] r w e = absurd (cc)
+get_below (v ∷ ws) zero w e = omega arith
+get_below (v ∷ ws) (suc r) w e = let k = get_below ws r w e in omega arith
+
+-- ---- seen from one side
+
+to_side : (terms : Terms) (P : Bool → World → Offer → Told → Told → Type 0) → IsKept terms P → (b : Bool) (side : Side) (w : World) (o : Offer) (T : Side → Told)
+    → P b w o (T Left) (T Right) → P b (seen_from side w) o (T side) (T (other side))
+to_side terms P k b Left w o T h = h
+to_side terms P k b Right w o T h = k.turns b w o (T Left) (T Right) h
+
+from_side : (terms : Terms) (P : Bool → World → Offer → Told → Told → Type 0) → IsKept terms P → (b : Bool) (side : Side) (w : World) (o : Offer) (T : Side → Told)
+    → P b w o (T side) (T (other side)) → P b (seen_from side w) o (T Left) (T Right)
+from_side terms P k b Left w o T h = h
+from_side terms P k b Right w o T h = k.turns b w o (T Right) (T Left) h
+
+-- one connection moves, by one side, and what is noted of it is of that side alone
+move_good : (terms : Terms) (P : Bool → World → Offer → Told → Told → Type 0) → IsKept terms P → (m : Machine) (side : Side) (r : ℕ) (w v : World) (es : List Entry) (f : Told → Told)
+    → connection_at r m.worlds ≡ Some w → IsBy side r es → ((t : Told) → told_by t (record_of side r es) ≡ f t)
+    → ((o : Offer) (s t : Told) → P m.broken (seen_from side w) o s t → P m.broken v o (f s) t)
+    → IsGood terms P m → IsGood terms P (noted es (stays m side r v))
+move_good terms P k m side zero w v es f e by tells moves g = absurd (cc)
+move_good terms P k m side (suc r) w v es f e by tells moves g = record {
+  offers = g.offers;
+  lines = change_line P m.broken m.journal es 1 r m.worlds g.offers w (seen_from side v)
+      (λ d n q. by d n (and_no (is_side d side) (suc r == n) (other_number (suc r) n (λ y. q (omega arith))))) e
+      (λ o h. subst (λ (n : ℕ). P m.broken (seen_from side v) o (told_of Left n o (m.journal ++ es)) (told_of Right n o (m.journal ++ es))) (omega arith)
+      (line o (subst (λ (n : ℕ). P m.broken w o (told_of Left n o m.journal) (told_of Right n o m.journal)) (omega arith) h))) g.lines;
+  fresh = λ d n o l.
+      let q = replaced_length r (seen_from side v) m.worlds in
+      let z = get_below m.worlds r w e in
+      told_same d n o m.journal es (by d n (and_no (is_side d side) (suc r == n) (other_number (suc r) n (λ y. omega arith)))) ∙ g.fresh d n o (omega arith);
+  agreed = g.agreed;
+}
+  where
+    line : (o : Offer) → P m.broken w o (told_of Left (suc r) o m.journal) (told_of Right (suc r) o m.journal)
+        → P m.broken (seen_from side v) o (told_of Left (suc r) o (m.journal ++ es)) (told_of Right (suc r) o (m.journal ++ es))
+    line o h = from_side terms P k m.broken side v o (λ d. told_of d (suc r) o (m.journal ++ es))
+        (seen_told P m.broken v o _ _ _ _
+        (sym (told_more side (suc r) o m.journal es ∙ tells _))
+        (sym (told_same (other side) (suc r) o m.journal es (by (other side) (suc r) (ap (λ (b : Bool). b && (suc r == suc r)) (other_side side)))))
+        (moves o _ _ (to_side terms P k m.broken side w o (λ d. told_of d (suc r) o m.journal) h)))
+
+-- ---- a connection is asked for
+
+append_line : (P : Bool → World → Offer → Told → Told → Type 0) (b : Bool) (j : List Entry) (k : ℕ) (ws : List World) (os : List Offer) (w : World) (o : Offer)
+    → P b w o (told_of Left (k + length ws) o j) (told_of Right (k + length ws) o j) → Lines P b j k ws os → Lines P b j k (ws ++ w ∷ []) (os ++ o ∷ [])
+append_line P b j k [] [] w o h l = (subst (λ (n : ℕ). P b w o (told_of Left n o j) (told_of Right n o j)) (omega arith) h, tt)
+append_line P b j k (v ∷ ws) (p ∷ os) w o h l =
+    (l.0, append_line P b j (k + 1) ws os w o (subst (λ (n : ℕ). P b w o (told_of Left n o j) (told_of Right n o j)) (omega arith) h) l.1)
+append_line P b j k [] (p ∷ os) w o h l = absurd l
+append_line P b j k (v ∷ ws) [] w o h l = absurd l
+
+if_none : (b : Bool) (e : Refusal) (x : Option Refusal) → (if b then Some e else x) ≡ None → (b ≡ false) × (x ≡ None)
+if_none true e x h = absurd (cc)
+if_none false e x h = (refl, h)
+
+not_false : (b : Bool) → not b ≡ false → b ≡ true
+not_false true h = refl
+not_false false h = absurd (cc)
+
+asked_profile : (m : Machine) (o : Offer) → refusal m o ≡ None → is_profile o.requirements ≡ true
+asked_profile m o h =
+    let a = if_none (is_some m.left_end) _ _ h in
+    let b = if_none (not (is_known m.known) && list_any (λ (w : World). is_waiting w.own.transport) m.worlds) _ _ a.1 in
+    let c = if_none (is_class_0 m.known) _ _ b.1 in
+    let d = if_none (nat_le 64 (live_count m.worlds)) _ _ c.1 in
+    let e = if_none (nat_le 65535 (length m.worlds)) _ _ d.1 in
+    not_false (is_profile o.requirements) (if_none (not (is_profile o.requirements)) _ _ e.1).0
+
+asked_good : (terms : Terms) (P : Bool → World → Offer → Told → Told → Type 0) → IsKept terms P → (m : Machine) (o : Offer) → o.serial < 1000000 → IsGood terms P m
+    → (a : Option Refusal) → refusal m o ≡ a → IsGood terms P (asked_in m o a)
+asked_good terms P k m o small g (Some e) h = g
+asked_good terms P k m o small g None h = record {
+  offers = g.offers ++ o ∷ [];
+  lines = append_line P m.broken m.journal 1 m.worlds g.offers _ o
+      (seen_told P m.broken _ o _ _ _ _ (sym (g.fresh Left (1 + length m.worlds) o (omega arith))) (sym (g.fresh Right (1 + length m.worlds) o (omega arith))) (by m.broken)) g.lines;
+  fresh = λ d n p l. g.fresh d n p (let e = length-append m.worlds (new m.broken ∷ []) in omega arith);
+  agreed = g.agreed;
+}
+  where
+    new : Bool → World
+    new b = if b then record (asked_with o) { own = record (asked_with o).own { channel = [] } } else asked_with o
+
+    by : (b : Bool) → P b (if b then record (asked_with o) { own = record (asked_with o).own { channel = [] } } else asked_with o) o (untold Left o) (untold Right o)
+    by true = k.lost o small (asked_profile m o h)
+    by false = k.starts o small (asked_profile m o h)
+
+-- ---- a call
+
+call_good : (terms : Terms) (P : Bool → World → Offer → Told → Told → Type 0) → IsKept terms P → (m : Machine) (side : Side) (r : ℕ) (c : Call) → HasSerial c → IsGood terms P m
+    → (a : Option World) → connection_at r m.worlds ≡ a → IsGood terms P (call_in m side r c (side_of side a))
+call_good terms P k m side r c small g None e = mute_good terms P m (call_answered side r c (Some error.NoSuchConnection) ∷ []) (refused_mute side r c error.NoSuchConnection) g
+call_good terms P k m side r c small g (Some w) e = by (is_given (seen_from side w).own.transport) refl
+  where
+    v : World
+    v = seen_from side w
+
+    by : (b : Bool) → is_given (seen_from side w).own.transport ≡ b → IsGood terms P (if b
+        then noted (call_answered side r c (error_of (allowed (session_of (seen_from side w)) c)) ∷ [])
+        (stays m side r (after_answer m.broken c (seen_from side w) (allowed (session_of (seen_from side w)) c)))
+        else noted (call_answered side r c (Some error.NoSuchConnection) ∷ []) m)
+    by true given = move_good terms P k m side r w (after_answer m.broken c (seen_from side w) (allowed (session_of (seen_from side w)) c))
+        (call_answered side r c (error_of (allowed (session_of (seen_from side w)) c)) ∷ []) (λ t. told_of_call t c (error_of (allowed (session_of (seen_from side w)) c))) e
+        (call_by side r c (error_of (allowed (session_of (seen_from side w)) c))) (λ t. call_own side r t c (error_of (allowed (session_of (seen_from side w)) c)))
+        (λ o s t h. k.calls m.broken (seen_from side w) o s t c small given h) g
+    by false given = mute_good terms P m (call_answered side r c (Some error.NoSuchConnection) ∷ []) (refused_mute side r c error.NoSuchConnection) g
+
+-- ---- the end of a side
+
+ended_mute : (side : Side) (e : Ending) → IsMute (ended side e ∷ [])
+ended_mute side e d n t = refl
+
+-- references below are not among these
+late : (side d : Side) (n k : ℕ) (ws : List World) → n < k → record_of d n (shown_in_order side k ws) ≡ []
+late side d n k [] l = refl
+late side d n k (w ∷ ws) l =
+    record_append d n (map (shown_at side k) (shown_at_end (seen_from side w))) (shown_in_order side (k + 1) ws)
+    ∙ ap (λ (es : List Entry). es ++ record_of d n (shown_in_order side (k + 1) ws))
+    (shown_by side k (shown_at_end (seen_from side w)) d n (and_no (is_side d side) (k == n) (other_number k n (λ e. omega arith))))
+    ∙ late side d n (k + 1) ws (omega arith)
+
+early : (side d : Side) (n k : ℕ) (ws : List World) → k + length ws ≤ n → record_of d n (shown_in_order side k ws) ≡ []
+early side d n k [] l = refl
+early side d n k (w ∷ ws) l =
+    record_append d n (map (shown_at side k) (shown_at_end (seen_from side w))) (shown_in_order side (k + 1) ws)
+    ∙ ap (λ (es : List Entry). es ++ record_of d n (shown_in_order side (k + 1) ws))
+    (shown_by side k (shown_at_end (seen_from side w)) d n (and_no (is_side d side) (k == n) (other_number k n (λ e. omega arith))))
+    ∙ early side d n (k + 1) ws (omega arith)
+
+end_lines : (terms : Terms) (P : Bool → World → Offer → Told → Told → Type 0) → IsKept terms P → (b : Bool) (side : Side) (keep : ℕ → ℕ) (j es : List Entry) (k : ℕ) (ws : List World) (os : List Offer)
+    → ((d : Side) (n : ℕ) → k ≤ n → record_of d n es ≡ []) → Lines P b j k ws os
+    → Lines P b (j ++ (es ++ shown_in_order side k ws)) k (ended_worlds side keep k ws) os
+end_lines terms P q b side keep j es k [] [] f h = tt
+end_lines terms P q b side keep j es k (w ∷ ws) (o ∷ os) f h = (
+  from_side terms P q b side (ended_at (keep k) (seen_from side w)) o (λ d. told_of d k o (j ++ (es ++ (map (shown_at side k) shown ++ rest))))
+      (seen_told P b (ended_at (keep k) (seen_from side w)) o _ _ _ _
+      (sym (told_more side k o j (es ++ (map (shown_at side k) shown ++ rest)) ∙ ap (told_by (told_of side k o j)) (alone side) ∙ shown_own side k (told_of side k o j) shown))
+      (sym (told_same (other side) k o j (es ++ (map (shown_at side k) shown ++ rest))
+      (alone (other side) ∙ shown_by side k shown (other side) k (ap (λ (c : Bool). c && (k == k)) (other_side side)))))
+      (q.ends b (seen_from side w) o _ _ (keep k) (to_side terms P q b side w o (λ d. told_of d k o j) h.0))),
+  subst (λ (x : List Entry). Lines P b (j ++ x) (k + 1) (ended_worlds side keep (k + 1) ws) os) (append_assoc es (map (shown_at side k) shown) rest)
+      (end_lines terms P q b side keep j (es ++ map (shown_at side k) shown) (k + 1) ws os (λ d n l.
+      record_append d n es (map (shown_at side k) shown)
+      ∙ ap (λ (x : List Entry). x ++ record_of d n (map (shown_at side k) shown)) (f d n (omega arith))
+      ∙ shown_by side k shown d n (and_no (is_side d side) (k == n) (other_number k n (λ e. omega arith)))) h.1),
+)
+  where
+    shown : List Shown
+    shown = shown_at_end (seen_from side w)
+
+    rest : List Entry
+    rest = shown_in_order side (k + 1) ws
+
+    alone : (d : Side) → record_of d k (es ++ (map (shown_at side k) shown ++ rest)) ≡ record_of d k (map (shown_at side k) shown)
+    alone d =
+        record_append d k es (map (shown_at side k) shown ++ rest)
+        ∙ ap (λ (x : List Entry). x ++ record_of d k (map (shown_at side k) shown ++ rest)) (f d k (omega arith))
+        ∙ record_append d k (map (shown_at side k) shown) rest
+        ∙ ap (λ (x : List Entry). record_of d k (map (shown_at side k) shown) ++ x) (late side d k (k + 1) ws (omega arith))
+        ∙ append_nil (record_of d k (map (shown_at side k) shown))
+end_lines terms P q b side keep j es k [] (o ∷ os) f h = absurd h
+end_lines terms P q b side keep j es k (w ∷ ws) [] f h = absurd h
+
+ended_length : (side : Side) (keep : ℕ → ℕ) (k : ℕ) (ws : List World) → length (ended_worlds side keep k ws) ≡ length ws
+ended_length side keep k [] = refl
+ended_length side keep k (w ∷ ws) = ap suc (ended_length side keep (k + 1) ws)
+
+marked_good : (terms : Terms) (P : Bool → World → Offer → Told → Told → Type 0) (side : Side) (e : Ending) (m : Machine) → IsGood terms P m → IsGood terms P (marked_ended side e m)
+marked_good terms P Left e m g = record { offers = g.offers; lines = g.lines; fresh = g.fresh; agreed = g.agreed }
+marked_good terms P Right e m g = record { offers = g.offers; lines = g.lines; fresh = g.fresh; agreed = g.agreed }
+
+end_good : (terms : Terms) (P : Bool → World → Offer → Told → Told → Type 0) → IsKept terms P → (m : Machine) (side : Side) (e : Ending) (keep : ℕ → ℕ) → IsGood terms P m
+    → IsGood terms P (after_end side e keep m)
+end_good terms P q m side e keep g = marked_good terms P side e _ (record {
+  offers = g.offers;
+  lines = subst (λ (x : List Entry). Lines P m.broken x 1 (ended_worlds side keep 1 m.worlds) g.offers) (append_assoc m.journal (shown_in_order side 1 m.worlds) (ended side e ∷ []))
+      (mute_lines P m.broken (m.journal ++ shown_in_order side 1 m.worlds) (ended side e ∷ []) 1 (ended_worlds side keep 1 m.worlds) g.offers (ended_mute side e)
+      (end_lines terms P q m.broken side keep m.journal [] 1 m.worlds g.offers (λ d n l. refl) g.lines));
+  fresh = λ d n o l.
+      let z = ended_length side keep 1 m.worlds in
+      told_same d n o m.journal (shown_in_order side 1 m.worlds ++ ended side e ∷ [])
+      (record_append d n (shown_in_order side 1 m.worlds) (ended side e ∷ []) ∙ append_nil (record_of d n (shown_in_order side 1 m.worlds))
+      ∙ early side d n 1 m.worlds (omega arith)) ∙ g.fresh d n o (omega arith);
+  agreed = g.agreed;
+})
+
+-- ---- a delivery
+
+known_good : (terms : Terms) (P : Bool → World → Offer → Told → Told → Type 0) (m : Machine) (known : Option Class) → IsGood terms P m → IsGood terms P (record m { known = known })
+known_good terms P m known g = record { offers = g.offers; lines = g.lines; fresh = g.fresh; agreed = g.agreed }
+
+-- a side takes a message, with these terms
+taking_good : (terms : Terms) (P : Bool → World → Offer → Told → Told → Type 0) → IsKept terms P → (m : Machine) (side : Side) (r : ℕ) (keep : ℕ → ℕ) (w : World) (x : Message) (xs : List Message)
+    → connection_at r m.worlds ≡ Some w → (seen_from side w).peer.channel ≡ x ∷ xs → IsGood terms P m
+    → IsGood terms P (after_taking m side r keep (taking_of m.broken terms (keep r) (seen_from side w) x xs))
+taking_good terms P q m side r keep w x xs e c g = by (taking_of m.broken terms (keep r) (seen_from side w) x xs).closes refl
+  where
+    last : (known : Option Class) → (taking_of m.broken terms (keep r) (seen_from side w) x xs).closes ≡ true
+        → IsGood terms P (closes_by known (noted (map (shown_at side r) (taking_of m.broken terms (keep r) (seen_from side w) x xs).shown) m) side r keep (taking_of m.broken terms (keep r) (seen_from side w) x xs))
+    last (Some class_2) d = move_good terms P q m side r w (closed m.broken (keep r) (taking_of m.broken terms (keep r) (seen_from side w) x xs).world)
+        (map (shown_at side r) (taking_of m.broken terms (keep r) (seen_from side w) x xs).shown) (λ t. told_all t (taking_of m.broken terms (keep r) (seen_from side w) x xs).shown) e
+        (shown_by side r (taking_of m.broken terms (keep r) (seen_from side w) x xs).shown) (λ t. shown_own side r t (taking_of m.broken terms (keep r) (seen_from side w) x xs).shown)
+        (λ o s t h. q.closes m.broken (seen_from side w) o s t (keep r) x xs c h d) g
+    last (Some class_0) d = end_good terms P q _ side closed_here keep
+        (move_good terms P q m side r w (taking_of m.broken terms (keep r) (seen_from side w) x xs).world
+        (map (shown_at side r) (taking_of m.broken terms (keep r) (seen_from side w) x xs).shown) (λ t. told_all t (taking_of m.broken terms (keep r) (seen_from side w) x xs).shown) e
+        (shown_by side r (taking_of m.broken terms (keep r) (seen_from side w) x xs).shown) (λ t. shown_own side r t (taking_of m.broken terms (keep r) (seen_from side w) x xs).shown)
+        (λ o s t h. q.takes_last m.broken (seen_from side w) o s t (keep r) x xs c h d) g)
+    last None d = end_good terms P q _ side closed_here keep
+        (move_good terms P q m side r w (taking_of m.broken terms (keep r) (seen_from side w) x xs).world
+        (map (shown_at side r) (taking_of m.broken terms (keep r) (seen_from side w) x xs).shown) (λ t. told_all t (taking_of m.broken terms (keep r) (seen_from side w) x xs).shown) e
+        (shown_by side r (taking_of m.broken terms (keep r) (seen_from side w) x xs).shown) (λ t. shown_own side r t (taking_of m.broken terms (keep r) (seen_from side w) x xs).shown)
+        (λ o s t h. q.takes_last m.broken (seen_from side w) o s t (keep r) x xs c h d) g)
+
+    by : (b : Bool) → (taking_of m.broken terms (keep r) (seen_from side w) x xs).closes ≡ b → IsGood terms P (if b
+        then closes_by m.known (noted (map (shown_at side r) (taking_of m.broken terms (keep r) (seen_from side w) x xs).shown) m) side r keep (taking_of m.broken terms (keep r) (seen_from side w) x xs)
+        else noted (map (shown_at side r) (taking_of m.broken terms (keep r) (seen_from side w) x xs).shown) (stays m side r (taking_of m.broken terms (keep r) (seen_from side w) x xs).world))
+    by true d = last m.known d
+    by false d = move_good terms P q m side r w (taking_of m.broken terms (keep r) (seen_from side w) x xs).world
+        (map (shown_at side r) (taking_of m.broken terms (keep r) (seen_from side w) x xs).shown) (λ t. told_all t (taking_of m.broken terms (keep r) (seen_from side w) x xs).shown) e
+        (shown_by side r (taking_of m.broken terms (keep r) (seen_from side w) x xs).shown) (λ t. shown_own side r t (taking_of m.broken terms (keep r) (seen_from side w) x xs).shown)
+        (λ o s t h. q.takes m.broken (seen_from side w) o s t (keep r) x xs c h d) g
+
+taken_good : (terms : Terms) (P : Bool → World → Offer → Told → Told → Type 0) → IsKept terms P → (m : Machine) (side : Side) (r : ℕ) (keep : ℕ → ℕ) (w : World)
+    → connection_at r m.worlds ≡ Some w → IsGood terms P m → (ms : List Message) → (seen_from side w).peer.channel ≡ ms → IsGood terms P (taken_in m side r keep (seen_from side w) ms)
+taken_good terms P q m side r keep w e g [] c = g
+taken_good terms P q m side r keep w e g (x ∷ xs) c =
+    subst (λ (z : Terms). IsGood terms P (after_taking (record m { known = learns m.terms (seen_from side w).own.transport x m.known }) side r keep
+    (taking_of m.broken z (keep r) (seen_from side w) x xs))) (sym g.agreed)
+    (taking_good terms P q (record m { known = learns m.terms (seen_from side w).own.transport x m.known }) side r keep w x xs e c
+    (known_good terms P m (learns m.terms (seen_from side w).own.transport x m.known) g))
+
+delivery_good : (terms : Terms) (P : Bool → World → Offer → Told → Told → Type 0) → IsKept terms P → (m : Machine) (side : Side) (r : ℕ) (keep : ℕ → ℕ) → IsGood terms P m
+    → (a : Option World) → connection_at r m.worlds ≡ a → IsGood terms P (delivered_to m side r keep (side_of side a))
+delivery_good terms P q m side r keep g None e = g
+delivery_good terms P q m side r keep g (Some w) e = taken_good terms P q m side r keep w e g (seen_from side w).peer.channel refl
+
+-- ---- a break
+
+cut_lines : (terms : Terms) (P : Bool → World → Offer → Told → Told → Type 0) → IsKept terms P → (j : List Entry) (left right : ℕ → ℕ) (k : ℕ) (ws : List World) (os : List Offer)
+    → Lines P false j k ws os → Lines P true j k (cut_channels left right k ws) os
+cut_lines terms P q j left right k [] [] h = tt
+cut_lines terms P q j left right k (w ∷ ws) (o ∷ os) h = (q.breaks w o _ _ (left k) (right k) h.0, cut_lines terms P q j left right (k + 1) ws os h.1)
+cut_lines terms P q j left right k [] (o ∷ os) h = absurd h
+cut_lines terms P q j left right k (w ∷ ws) [] h = absurd h
+
+cut_length : (left right : ℕ → ℕ) (k : ℕ) (ws : List World) → length (cut_channels left right k ws) ≡ length ws
+cut_length left right k [] = refl
+cut_length left right k (w ∷ ws) = ap suc (cut_length left right (k + 1) ws)
+
+break_good : (terms : Terms) (P : Bool → World → Offer → Told → Told → Type 0) → IsKept terms P → (m : Machine) (left right : ℕ → ℕ) → IsGood terms P m
+    → IsGood terms P (if m.broken then m else record m { broken = true; worlds = cut_channels left right 1 m.worlds })
+break_good terms P q m left right g = by m.broken refl
+  where
+    by : (b : Bool) → m.broken ≡ b → IsGood terms P (if b then m else record m { broken = true; worlds = cut_channels left right 1 m.worlds })
+    by true e = g
+    by false e = record {
+      offers = g.offers;
+      lines = cut_lines terms P q m.journal left right 1 m.worlds g.offers (subst (λ (b : Bool). Lines P b m.journal 1 m.worlds g.offers) e g.lines);
+      fresh = λ d n o l. g.fresh d n o (let z = cut_length left right 1 m.worlds in omega arith);
+      agreed = g.agreed;
+    }
+
+-- ---- a step, and a list of steps
+
+pub step_good : (terms : Terms) (P : Bool → World → Offer → Told → Told → Type 0) → IsKept terms P → (m : Machine) (s : Step) → HasNumber s → IsGood terms P m → IsGood terms P (step m s)
+step_good terms P q m (connects o) small g =
+    mute_good terms P (asked_in m o (refusal m o)) (connect_answered o (refusal m o) ∷ []) (λ d n t. refl) (asked_good terms P q m o small g (refusal m o) refl)
+step_good terms P q m (calls side r c) small g = call_good terms P q m side r c small g (connection_at r m.worlds) refl
+step_good terms P q m (delivers side r keep) small g = by (is_some (end_of side m))
+  where
+    by : (b : Bool) → IsGood terms P (if b then m else delivered_to m side r keep (side_of side (connection_at r m.worlds)))
+    by true = g
+    by false = delivery_good terms P q m side r keep g (connection_at r m.worlds) refl
+step_good terms P q m (breaks left right) small g = break_good terms P q m left right g
+step_good terms P q m (ends side e keep) small g = by (is_some (end_of side m) || not (is_told e m.broken))
+  where
+    by : (b : Bool) → IsGood terms P (if b then m else after_end side e keep m)
+    by true = g
+    by false = end_good terms P q m side e keep g
+
+pub run_good : (terms : Terms) (P : Bool → World → Offer → Told → Told → Type 0) → IsKept terms P → (m : Machine) (steps : List Step) → AllByRecursion HasNumber steps → IsGood terms P m
+    → IsGood terms P (run m steps)
+run_good terms P q m [] small g = g
+run_good terms P q m (s ∷ steps) small g = run_good terms P q (step m s) steps small.1 (step_good terms P q m s small.0 g)
+
+pub all_good : (terms : Terms) (P : Bool → World → Offer → Told → Told → Type 0) → IsKept terms P → (steps : List Step) → AllByRecursion HasNumber steps → IsGood terms P (run (start terms) steps)
+all_good terms P q steps small = run_good terms P q (start terms) steps small (record { offers = []; lines = tt; fresh = λ d n o l. refl; agreed = refl })
