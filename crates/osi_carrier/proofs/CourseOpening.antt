@@ -44,20 +44,20 @@ next_test g q false false other x y = refl
 next_test g q true false other x y = let above = ltb-true (g + 1) q x in let below = ltb-false g q y in absurd (omega arith)
 next_test g q false true other x y = let below = ltb-false (g + 1) q x in let above = ltb-true g q y in absurd (other (omega arith))
 
-push_places : (s t : State) (x : Connection) (q : ℕ) → t.given ≡ s.given + 1 → t.live ≡ s.live ++ (s.given + 1, x) ∷ [] → q ≢ s.given + 1 → place_at q t ≡ place_at q s
+pub push_places : (s t : State) (x : Connection) (q : ℕ) → t.given ≡ s.given + 1 → t.live ≡ s.live ++ (s.given + 1, x) ∷ [] → q ≢ s.given + 1 → place_at q t ≡ place_at q s
 push_places s t x q given live other =
     ap (λ (g : ℕ). if◌then◌else◌ {A = Place} (nat_lt g q) never (was_given (value_at q t.live))) given
     ∙ ap (λ (b : Bool). if◌then◌else◌ {A = Place} b never (was_given (value_at q t.live))) (next_test s.given q (nat_lt (s.given + 1) q) (nat_lt s.given q) other refl refl)
     ∙ ap (λ (v : Option Connection). if◌then◌else◌ {A = Place} (nat_lt s.given q) never (was_given v)) (ap (value_at q) live ∙ push_other q (s.given + 1) x s.live other)
 
-push_place : (s t : State) (x : Connection) → IsOrderly s → t.given ≡ s.given + 1 → t.live ≡ s.live ++ (s.given + 1, x) ∷ [] → place_at (s.given + 1) t ≡ was_given (Some x)
+pub push_place : (s t : State) (x : Connection) → IsOrderly s → t.given ≡ s.given + 1 → t.live ≡ s.live ++ (s.given + 1, x) ∷ [] → place_at (s.given + 1) t ≡ was_given (Some x)
 push_place s t x orderly given live =
     given_place (s.given + 1) t (omega arith)
     ∙ ap was_given (ap (value_at (s.given + 1)) live ∙ push_here (s.given + 1) x s.live (beyond (s.given + 1) s.given s.live orderly.up_to (omega arith)))
 
 -- ---- the CR
 
-pub asks_moves : (s r : State) (calling called : Option (List ℕ)) → IsOrderly s → s.local.class2 ≡ true →
+abbrev pub asks_moves : (s r : State) (calling called : Option (List ℕ)) → IsOrderly s → s.local.class2 ≡ true →
     CourseMoves true (s.given + 1) unasked s r (asks calling called s) [] 1 (ask ∷ [])
 asks_moves s r calling called orderly supports =
     let c = request_of s.local s.class calling called (s.given + 1) in

@@ -25,3 +25,4 @@ pub mod Courses
 pub mod CourseOpening
 pub mod Addressing
 pub mod JoinedSteps
+pub mod JoinedMoves
