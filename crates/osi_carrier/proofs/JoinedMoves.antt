@@ -10,18 +10,18 @@ use Rattle.osi_class.specs.declared.terms.Local.{Local}
 use Rattle.osi_carrier.specs.Addresses.{reference_of, units_of, AreFor, requests, behind, live_after, references}
 use Rattle.osi_carrier.specs.Calls.{sent, closed_with}
 use Rattle.osi_carrier.specs.Course.{Place, never, was_given, place_at, Course, unasked, asking, accepting, withdrawing, met, answer_of, at_end, from_end, IsAskedBy, Holds, MayTakeTwo, answers_at, CourseMoves}
-use Rattle.osi_carrier.specs.Joined.{StandsBetween, HasPlaces, AreJoined, ActsFor}
+use Rattle.osi_carrier.specs.Joined.{StandsBetween, HasPlaces, AreJoined, ActsFor, CallerDid, CalledDid}
 use Rattle.osi_carrier.specs.Meeting.{Meeting, talking, left_here, left_there, left_both, waiting_here, waiting_there, parted, mirror, here, out, back}
 use Rattle.osi_carrier.specs.Messages.{Message, agree, message, bye}
 use Rattle.osi_carrier.specs.Orderly.{RiseFrom, IsOrderly}
 use Rattle.osi_carrier.specs.React.{react, is_of_peer, has_peer, is_full}
 use Rattle.osi_carrier.specs.Rows.{Rows, value_at}
 use Rattle.osi_carrier.specs.State.{Connection, asked, linked, closing, State}
-use Rattle.osi_carrier.proofs.Apart.{beyond}
+use Rattle.osi_carrier.proofs.Apart.{absent, beyond}
 use Rattle.osi_carrier.proofs.Addressing.{first_of_all, requests_join, behind_join, places_join, places_rest, places_for}
 use Rattle.osi_carrier.proofs.Courses.{given_place, is_given, met_caller, met_called}
 use Rattle.osi_carrier.proofs.CourseOpening.{accepts_moves, accepted_sends, accepted_closes, confirm_moves, withdrawn_moves}
-use Rattle.osi_carrier.proofs.Effects.{orderly_unit}
+use Rattle.osi_carrier.proofs.Effects.{orderly_unit, orderly_sent, orderly_closed}
 use Rattle.osi_carrier.proofs.JoinedSteps.{all_stand, acts_for, stands_flip, stands_flip_back}
 use Rattle.osi_carrier.proofs.Meetings.{take_here, send_here, close_here, mirror_twice, mirror_stands}
 use Rattle.osi_carrier.proofs.Selecting.{has_room}
@@ -134,12 +134,6 @@ caller_takes n s r going coming (met m) u more some j at h e =
     met_caller n m s r (react u s) (u ∷ []) (answers_at (was_given (here n m)) u) h place.within
     (take_here n s m u more some j.lasts h.class j.orderly place.is h.stands e)
 
--- what an end did, and that they are joined then
-pub record CallerDid (n : ℕ) (s r t : State) (going coming rest : List Value) (put : List Message) : Type 0 where
-  pub behind : List Value
-  pub acts : ActsFor n s r t going coming behind rest put
-  pub joined : AreJoined t r behind rest
-
 pub caller_takes_one : (s r : State) (going coming rest : List Value) (u : Value) → AreJoined s r going coming → coming ≡ u ∷ rest →
     CallerDid (reference_of u) s r (react u s) going coming rest (answers_at (place_at (reference_of u) s) u)
 caller_takes_one s r going coming rest u j cut =
@@ -221,3 +215,146 @@ request_moves n s r going coming rest c some j at a cut =
     own_number c.source q x st.course (λ same. let there : place_at n r ≡ was_given (Some x) = subst (λ (m : ℕ). place_at m r ≡ was_given (Some x)) (same ∙ source) (given_live q r x j.orderly_called live) in cc)
     (sym (given_live q r x j.orderly_called live) ∙ st.place_there)) in
     accepts_moves n c s r next a j.orderly_called j.lasts_called j.is_called j.class_called free (has_room r (omega arith) (omega arith)) j.supports_called
+
+record CalledMoves (n : ℕ) (g : Course) (s r : State) (u : Value) : Type 0 where
+  count : ℕ
+  moves : CourseMoves false n g r s (react u r) (u ∷ []) count (answers_at (at_end false n g) u)
+
+called_takes : (n : ℕ) (s r : State) (going coming rest : List Value) (g : Course) (u : Value) (more : List Value) → 0 < n → AreJoined s r going coming → place_at n r ≡ at_end false n g → Holds n s r g →
+    going ≡ u ∷ rest → from_end true n r.local g ≡ u ∷ more → CalledMoves n g s r u
+called_takes n s r going coming rest unasked u more some j at h cut e = cc
+called_takes n s r going coming rest (accepting c p) u more some j at h cut e = cc
+called_takes n s r going coming rest (withdrawing c p reason) u more some j at h cut e = cc
+called_takes n s r going coming rest (asking c) u more some j at h cut e =
+    let same : request c ≡ u = cc in
+    record {
+      count = 1;
+      moves = subst (λ (x : Value). CourseMoves false n (asking c) r s (react x r) (x ∷ []) 1 (agree ∷ [])) same
+          (request_moves n s r going coming rest c some j at h (cut ∙ ap (λ (x : Value). x ∷ rest) (sym same)));
+    }
+called_takes n s r going coming rest (met m) u more some j at h cut e =
+    let place = is_given n r (here n (mirror m)) at in
+    record {
+      count = 0;
+      moves = met_called n m r s (react u r) (u ∷ []) (answers_at (was_given (here n (mirror m))) u) h place.within tt
+          (take_here n r (mirror m) u more some j.lasts_called h.class_called j.orderly_called place.is (mirror_stands m h.stands) (ap (out n) (mirror_twice m) ∙ e));
+    }
+
+pub called_takes_one : (s r : State) (going coming rest : List Value) (u : Value) → AreJoined s r going coming → going ≡ u ∷ rest →
+    CalledDid (reference_of u) s r (react u r) going coming rest (answers_at (place_at (reference_of u) r) u)
+called_takes_one s r going coming rest u j cut =
+    let n = reference_of u in
+    let some : 0 < n = (subst (λ (l : List Value). AreNamed l) cut j.named).0 in
+    let st = j.stands n some in
+    let head : from_end true n r.local st.course ≡ u ∷ units_of n rest = sym st.out ∙ ap (units_of n) cut ∙ first_of_all u rest in
+    let mv = called_takes n s r going coming rest st.course u (units_of n rest) some j st.place_there st.holds cut head in
+    record {
+      behind = coming ++ mv.moves.units;
+      acts = subst (λ (p : Place). ActsFor n r s (react u r) coming going (coming ++ mv.moves.units) rest (answers_at p u)) (sym st.place_there)
+          (acts_for false n mv.count r s (react u r) coming going rest (u ∷ []) (answers_at (at_end false n st.course) u) (stands_flip n s r going coming st) cut (refl, tt) mv.moves);
+      joined = joined_called s r (react u r) going coming rest (u ∷ []) (answers_at (at_end false n st.course) u) n mv.count some j cut (refl, tt) (orderly_unit u r j.orderly_called) mv.moves;
+    }
+
+-- ---- calls
+
+caller_sends_by : (n : ℕ) (s r : State) (g : Course) (link : Standing) (octets : List ℕ) → s.ended ≡ None → IsOrderly s → place_at n s ≡ at_end true n g → Holds n s r g → value_at n s.live ≡ Some (linked n link) →
+    n ≤ s.given → IsShortTsdu octets → CourseMoves true n g s r (sent n octets s) [] 0 (message octets ∷ [])
+caller_sends_by n s r unasked link octets quiet orderly at h live le short = let e = given_place n s le ∙ ap was_given live in cc
+caller_sends_by n s r (asking c) link octets quiet orderly at h live le short = let e = given_place n s le ∙ ap was_given live in cc
+caller_sends_by n s r (accepting c p) link octets quiet orderly at h live le short = let e = given_place n s le ∙ ap was_given live in cc
+caller_sends_by n s r (withdrawing c p reason) link octets quiet orderly at h live le short = let e = given_place n s le ∙ ap was_given live in cc
+caller_sends_by n s r (met m) link octets quiet orderly at h live le short =
+    let place = is_given n s (here n m) at in
+    met_caller n m s r (sent n octets s) [] (message octets ∷ []) h le (send_here n s m link octets quiet orderly place.is (sym place.is ∙ live) h.stands short)
+
+caller_closes_by : (n : ℕ) (s r : State) (g : Course) (link : Standing) (reason : ℕ) → 0 < n → s.ended ≡ None → IsOrderly s → place_at n s ≡ at_end true n g → Holds n s r g → value_at n s.live ≡ Some (linked n link) →
+    n ≤ s.given → CourseMoves true n g s r (closed_with n reason s) [] 0 (bye reason ∷ [])
+caller_closes_by n s r unasked link reason some quiet orderly at h live le = let e = given_place n s le ∙ ap was_given live in cc
+caller_closes_by n s r (asking c) link reason some quiet orderly at h live le = let e = given_place n s le ∙ ap was_given live in cc
+caller_closes_by n s r (accepting c p) link reason some quiet orderly at h live le = let e = given_place n s le ∙ ap was_given live in cc
+caller_closes_by n s r (withdrawing c p last) link reason some quiet orderly at h live le = let e = given_place n s le ∙ ap was_given live in cc
+caller_closes_by n s r (met m) link reason some quiet orderly at h live le =
+    let place = is_given n s (here n m) at in
+    met_caller n m s r (closed_with n reason s) [] (bye reason ∷ []) h le (close_here n s m link reason some quiet h.class orderly place.is (sym place.is ∙ live) h.stands)
+
+called_sends_by : (n : ℕ) (s r : State) (g : Course) (link : Standing) (octets : List ℕ) → r.ended ≡ None → IsOrderly r → place_at n r ≡ at_end false n g → Holds n s r g → value_at n r.live ≡ Some (linked n link) →
+    n ≤ r.given → IsShortTsdu octets → CourseMoves false n g r s (sent n octets r) [] 0 (message octets ∷ [])
+called_sends_by n s r unasked link octets quiet orderly at h live le short = let e = given_place n r le ∙ ap was_given live in cc
+called_sends_by n s r (asking c) link octets quiet orderly at h live le short = let e = given_place n r le ∙ ap was_given live in cc
+called_sends_by n s r (accepting c p) link octets quiet orderly at h live le short =
+    accepted_sends n c p s r octets h quiet orderly le (is_given n r (Some (linked n p.right)) at).is short
+called_sends_by n s r (withdrawing c p reason) link octets quiet orderly at h live le short = let e = given_place n r le ∙ ap was_given live in cc
+called_sends_by n s r (met m) link octets quiet orderly at h live le short =
+    let place = is_given n r (here n (mirror m)) at in
+    met_called n m r s (sent n octets r) [] (message octets ∷ []) h le tt
+    (send_here n r (mirror m) link octets quiet orderly place.is (sym place.is ∙ live) (mirror_stands m h.stands) short)
+
+called_closes_by : (n : ℕ) (s r : State) (g : Course) (link : Standing) (reason : ℕ) → 0 < n → r.ended ≡ None → IsOrderly r → place_at n r ≡ at_end false n g → Holds n s r g → value_at n r.live ≡ Some (linked n link) →
+    n ≤ r.given → CourseMoves false n g r s (closed_with n reason r) [] 0 (bye reason ∷ [])
+called_closes_by n s r unasked link reason some quiet orderly at h live le = let e = given_place n r le ∙ ap was_given live in cc
+called_closes_by n s r (asking c) link reason some quiet orderly at h live le = let e = given_place n r le ∙ ap was_given live in cc
+called_closes_by n s r (accepting c p) link reason some quiet orderly at h live le =
+    accepted_closes n c p s r reason some h quiet orderly le (is_given n r (Some (linked n p.right)) at).is
+called_closes_by n s r (withdrawing c p last) link reason some quiet orderly at h live le = let e = given_place n r le ∙ ap was_given live in cc
+called_closes_by n s r (met m) link reason some quiet orderly at h live le =
+    let place = is_given n r (here n (mirror m)) at in
+    met_called n m r s (closed_with n reason r) [] (bye reason ∷ []) h le tt
+    (close_here n r (mirror m) link reason some quiet h.class_called orderly place.is (sym place.is ∙ live) (mirror_stands m h.stands))
+
+-- a live connection has a reference that was given, and its peer's number is that one
+above_zero : (n : ℕ) (s : State) (x : Connection) (b : Bool) → nat_lt 0 n ≡ b → IsOrderly s → value_at n s.live ≡ Some x → 0 < n
+above_zero n s x true e orderly at = ltb-true 0 n e
+above_zero n s x false e orderly at = let none = absent n 0 s.live (ltb-false 0 n e) orderly.rise in cc
+
+within_given : (n : ℕ) (s : State) (x : Connection) → IsOrderly s → value_at n s.live ≡ Some x → (0 < n) × (n ≤ s.given)
+within_given n s x orderly at = (above_zero n s x (nat_lt 0 n) refl orderly at, (is_given n s (Some x) (given_live n s x orderly at)).within)
+
+pub caller_sends : (s r : State) (going coming : List Value) (n : ℕ) (link : Standing) (octets : List ℕ) → AreJoined s r going coming → value_at n s.live ≡ Some (linked n link) → IsShortTsdu octets →
+    CallerDid n s r (sent n octets s) going coming coming (message octets ∷ [])
+caller_sends s r going coming n link octets j live short =
+    let within = within_given n s (linked n link) j.orderly live in
+    let st = j.stands n within.0 in
+    let mv = caller_sends_by n s r st.course link octets j.lasts j.orderly st.place st.holds live within.1 short in
+    record {
+      behind = going ++ mv.units;
+      acts = acts_for true n 0 s r (sent n octets s) going coming coming [] (message octets ∷ []) st refl tt mv;
+      joined = joined_caller s r (sent n octets s) going coming coming [] (message octets ∷ []) n 0 within.0 j refl tt (orderly_sent n octets s j.orderly) mv
+          (places_for (live_after (references r.live) going) mv.units mv.numbers);
+    }
+
+pub caller_closes : (s r : State) (going coming : List Value) (n : ℕ) (link : Standing) (reason : ℕ) → AreJoined s r going coming → value_at n s.live ≡ Some (linked n link) →
+    CallerDid n s r (closed_with n reason s) going coming coming (bye reason ∷ [])
+caller_closes s r going coming n link reason j live =
+    let within = within_given n s (linked n link) j.orderly live in
+    let st = j.stands n within.0 in
+    let mv = caller_closes_by n s r st.course link reason within.0 j.lasts j.orderly st.place st.holds live within.1 in
+    record {
+      behind = going ++ mv.units;
+      acts = acts_for true n 0 s r (closed_with n reason s) going coming coming [] (bye reason ∷ []) st refl tt mv;
+      joined = joined_caller s r (closed_with n reason s) going coming coming [] (bye reason ∷ []) n 0 within.0 j refl tt (orderly_closed n reason s j.orderly) mv
+          (places_for (live_after (references r.live) going) mv.units mv.numbers);
+    }
+
+pub called_sends : (s r : State) (going coming : List Value) (n : ℕ) (link : Standing) (octets : List ℕ) → AreJoined s r going coming → value_at n r.live ≡ Some (linked n link) → IsShortTsdu octets →
+    CalledDid n s r (sent n octets r) going coming going (message octets ∷ [])
+called_sends s r going coming n link octets j live short =
+    let within = within_given n r (linked n link) j.orderly_called live in
+    let st = j.stands n within.0 in
+    let mv = called_sends_by n s r st.course link octets j.lasts_called j.orderly_called st.place_there st.holds live within.1 short in
+    record {
+      behind = coming ++ mv.units;
+      acts = acts_for false n 0 r s (sent n octets r) coming going going [] (message octets ∷ []) (stands_flip n s r going coming st) refl tt mv;
+      joined = joined_called s r (sent n octets r) going coming going [] (message octets ∷ []) n 0 within.0 j refl tt (orderly_sent n octets r j.orderly_called) mv;
+    }
+
+pub called_closes : (s r : State) (going coming : List Value) (n : ℕ) (link : Standing) (reason : ℕ) → AreJoined s r going coming → value_at n r.live ≡ Some (linked n link) →
+    CalledDid n s r (closed_with n reason r) going coming going (bye reason ∷ [])
+called_closes s r going coming n link reason j live =
+    let within = within_given n r (linked n link) j.orderly_called live in
+    let st = j.stands n within.0 in
+    let mv = called_closes_by n s r st.course link reason within.0 j.lasts_called j.orderly_called st.place_there st.holds live within.1 in
+    record {
+      behind = coming ++ mv.units;
+      acts = acts_for false n 0 r s (closed_with n reason r) coming going going [] (bye reason ∷ []) (stands_flip n s r going coming st) refl tt mv;
+      joined = joined_called s r (closed_with n reason r) going coming going [] (bye reason ∷ []) n 0 within.0 j refl tt (orderly_closed n reason r j.orderly_called) mv;
+    }

@@ -77,3 +77,15 @@ pub record ActsFor (n : ℕ) (this other next : State) (going coming behind rest
   pub after : AreLike (connection_in (place_at n other)) (under_way_for n next other behind) (stays ++ put)
   pub others : (q : ℕ) → q ≢ n → under_way_for q this other going ≡ under_way_for q next other behind
   pub others_back : (q : ℕ) → q ≢ n → under_way_for q other this coming ≡ under_way_for q other next rest
+
+-- what the caller did (it was `caller` and is `next`), and that the two are joined then
+pub record CallerDid (n : ℕ) (caller called next : State) (going coming rest : List Value) (put : List Message) : Type 0 where
+  pub behind : List Value
+  pub acts : ActsFor n caller called next going coming behind rest put
+  pub joined : AreJoined next called behind rest
+
+-- what the called end did (it was `called` and is `next`)
+pub record CalledDid (n : ℕ) (caller called next : State) (going coming rest : List Value) (put : List Message) : Type 0 where
+  pub behind : List Value
+  pub acts : ActsFor n called caller next coming going behind rest put
+  pub joined : AreJoined caller next rest behind
