@@ -1,5 +1,5 @@
 -- A unit that the link refused has changed nothing yet.
-use Rattle.std.proofs.Common.{◌≡◌, ℕ, List, [], ◌∷◌, ◌++◌, map, Option, Some, None, Result, Ok, Err, OnOk, refl, sym, ap, subst, ◌∙◌}
+use Rattle.std.proofs.Common.{◌≡◌, ℕ, List, [], ◌∷◌, ◌++◌, map, Some, Result, Ok, Err, OnOk, sym, ap, ◌∙◌}
 use Rattle.std.proofs.lemmas.List.{append-nil, map-append}
 use Rattle.osi_tpdu.specs.Value.{disconnect}
 use Rattle.osi_class.specs.Link.{Standing}
@@ -11,9 +11,7 @@ use Rattle.osi_carrier.specs.React.{breaks, taking}
 use Rattle.osi_carrier.specs.Rows.{Rows, value_at, put}
 use Rattle.osi_carrier.specs.Stages.{stage_of, link_in}
 use Rattle.osi_carrier.specs.State.{Connection, linked, closing, State, packets}
-use Rattle.osi_carrier.specs.Steps.{StepsTo, link_after, units_after}
-use Rattle.osi_carrier.specs.declared.links.Step.{Step}
-use Rattle.osi_carrier.specs.declared.links.Step.TheVariants.{Broke}
+use Rattle.osi_carrier.specs.Steps.{link_after, units_after}
 use Rattle.osi_carrier.specs.declared.stages.Stage.TheVariants.{Open}
 use Rattle.osi_carrier.proofs.ByStage.{open_is}
 use Rattle.osi_carrier.proofs.Places.{put_same}

@@ -1,5 +1,5 @@
 -- What the cutter answered, as the carrier's look at the stream.
-use Rattle.std.proofs.Common.{◌≡◌, ℕ, ◌+◌, ◌<◌, ◌≤◌, Bool, true, false, List, [], ◌++◌, length, take, Option, None, Result, Ok, Err, MatchBool, refl, sym, ap, subst, ◌∙◌, inl, inr, arith}
+use Rattle.std.proofs.Common.{◌≡◌, ℕ, ◌+◌, ◌<◌, Bool, true, false, List, [], ◌++◌, length, take, None, Ok, Err, MatchBool, refl, sym, ap, subst, ◌∙◌, inl, inr, arith}
 use Rattle.std.proofs.lemmas.List.{take_all}
 use Rattle.osi_tpkt.specs.Cutter.{TakesPiece}
 use Rattle.osi_tpkt.specs.Held.{Held, IsHolding}

@@ -1,6 +1,6 @@
 -- What a carrier keeps of what came is bounded.
-use Rattle.std.proofs.Common.{◌≡◌, ℕ, ◌+◌, ◌≤◌, List, ◌++◌, length, ap, ◌∙◌, arith, length-append}
-use Rattle.osi_tpkt.specs.Packet.{IsPacket, IsPartial}
+use Rattle.std.proofs.Common.{ℕ, ◌≤◌, List, length, ap, arith, length-append}
+use Rattle.osi_tpkt.specs.Packet.{IsPartial}
 
 -- a proper prefix of a packet has at most as many octets as a packet
 pub partial_short : (r : List ℕ) → IsPartial r → length r ≤ 65535

@@ -1,8 +1,8 @@
 -- Units one after the other, and units after the end.
-use Rattle.std.proofs.Common.{◌≡◌, ℕ, List, [], ◌∷◌, ◌++◌, Option, Some, None, refl, sym, ap, subst, ◌∙◌, true, false, Bool, is_some, IsSome, inl, inr, append_assoc}
+use Rattle.std.proofs.Common.{◌≡◌, List, [], ◌∷◌, ◌++◌, Option, Some, None, refl, sym, ap, subst, ◌∙◌, true, false, is_some, inl, inr, append_assoc}
 use Rattle.std.proofs.lemmas.List.{append-nil}
 use Rattle.osi_tpdu.specs.Value.{Value}
-use Rattle.osi_carrier.specs.Packets.{Act, RunsOut}
+use Rattle.osi_carrier.specs.Packets.{Act}
 use Rattle.osi_carrier.specs.React.{react, react_by, reacts, in_class}
 use Rattle.osi_carrier.specs.State.{State, ends}
 use Rattle.osi_carrier.specs.declared.ends.EndReason.TheVariants.{NoMemory}

@@ -1,16 +1,14 @@
 -- A piece of the stream, read packet by packet.
-use Rattle.std.proofs.Common.{◌≡◌, ℕ, ◌+◌, ◌-◌, ◌^◌, ◌<◌, ◌≤◌, ◌||◌, true, false, Bool, List, [], ◌∷◌, ◌++◌, length, take, drop, min, Option, Some, None, Result, Ok, Err, is_some, refl, sym, ap, subst, ◌∙◌, inl, inr, ◌⊎◌, arith, length-append, length-drop, length-take, append_assoc, if◌then◌else◌}
+use Rattle.std.proofs.Common.{◌≡◌, ℕ, ◌+◌, ◌-◌, ◌<◌, ◌≤◌, ◌||◌, true, false, Bool, List, [], ◌∷◌, ◌++◌, length, take, drop, Option, Some, None, Result, Ok, Err, is_some, refl, sym, ap, subst, ◌∙◌, inl, inr, ◌⊎◌, arith, length-append, length-take, append_assoc, if◌then◌else◌}
 use Rattle.std.proofs.lemmas.List.{append-nil, take-append-drop, take_at}
-use Rattle.osi_tpkt.specs.Held.{Held}
-use Rattle.osi_tpkt.specs.Packet.{IsPacket, IsPartial, IsFaultOf}
+use Rattle.osi_tpkt.specs.Packet.{IsPacket, IsFaultOf}
 use Rattle.osi_tpkt.specs.Stream.{ArePackets, offset_of}
 use Rattle.osi_tpdu.specs.Packet.{units_of}
 use Rattle.osi_tpdu.specs.Value.{Value}
 use Rattle.osi_tpdu.specs.declared.faults.TpduFault.{TpduFault}
-use Rattle.osi_carrier.specs.Feeding.{TakesAll}
 use Rattle.osi_carrier.specs.Fetching.{PacketActs, PartHeld, Faults, EndsOver}
-use Rattle.osi_carrier.specs.Packets.{Carrying, IsReading, Acts, ActsBy, acts_by, after_packet, stops, waits, is_spoilt, TakesPackets, RunsDry, StopsBehind, Refuses, Starves, FindsNoMemory, Goes, RunsOut}
-use Rattle.osi_carrier.specs.State.{State, ends, fails}
+use Rattle.osi_carrier.specs.Packets.{Carrying, IsReading, Acts, ActsBy, acts_by, after_packet, stops, waits, is_spoilt, TakesPackets, StopsBehind, Starves, FindsNoMemory, Goes, RunsOut}
+use Rattle.osi_carrier.specs.State.{State, ends}
 use Rattle.osi_carrier.specs.declared.ends.EndReason.{EndReason}
 use Rattle.osi_carrier.specs.declared.ends.EndReason.TheVariants.{NoMemory}
 

@@ -1,5 +1,5 @@
 -- Which rule a CR falls under.
-use Rattle.std.proofs.Common.{◌≡◌, ℕ, ◌<◌, ◌≤◌, ◌||◌, Bool, true, false, length, Option, Some, None, option_map, Result, Ok, Err, OnOk, refl, sym, ap, ◌∙◌, arith, nat_le, if◌then◌else◌}
+use Rattle.std.proofs.Common.{◌≡◌, ◌<◌, false, length, Result, Ok, Err, OnOk, ap, ◌∙◌, arith}
 use Rattle.std.proofs.lemmas.Bool.Decides.{nat_tests}
 use Rattle.osi_tpdu.specs.Value.{Connect}
 use Rattle.osi_class.specs.Negotiation.{Selection, selected_by}

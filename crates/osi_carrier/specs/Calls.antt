@@ -1,5 +1,5 @@
 -- What the calls of a carrier's user answer and do.
-use Rattle.std.specs.Prelude.{◌≡◌, ℕ, ◌+◌, Bool, true, false, List, [], ◌∷◌, ◌++◌, length, nat_le, nat_lt, Option, Some, None, is_some, is_none, not, if◌then◌else◌}
+use Rattle.std.specs.Prelude.{◌≡◌, ℕ, ◌+◌, Bool, List, [], ◌∷◌, length, nat_le, nat_lt, Option, Some, None, is_some, not, if◌then◌else◌}
 use Rattle.std.specs.List.{sum_by}
 use Rattle.osi_tpdu.specs.Value.{request, disconnect}
 use Rattle.osi_class.specs.Link.{Standing, with_tsdu}

@@ -1,6 +1,6 @@
 -- Feeding a stream of octets, in whatever pieces it comes, to something that takes one packet at a
 -- time and stops behind some of them.
-use Rattle.std.specs.Prelude.{◌≡◌, ℕ, ◌≤◌, Bool, true, false, List, [], ◌∷◌}
+use Rattle.std.specs.Prelude.{◌≡◌, ℕ, Bool, false, List, [], ◌∷◌}
 
 -- The units of packets taken one after the other: each but the first is taken only where the ones
 -- before it did not stop.

@@ -1,5 +1,5 @@
 -- What one look at the stream does: up to the end of the first packet that stands whole.
-use Rattle.std.specs.Prelude.{◌≡◌, ℕ, ◌+◌, ◌<◌, ◌≤◌, List, [], ◌++◌, length, take, None, ◌⊎◌}
+use Rattle.std.specs.Prelude.{◌≡◌, ℕ, ◌+◌, ◌<◌, ◌≤◌, List, [], ◌++◌, length, take, ◌⊎◌}
 use Rattle.osi_tpkt.specs.Packet.{IsPacket, IsPartial, IsFaultOf}
 use Rattle.osi_tpkt.specs.Stream.{offset_of}
 use Rattle.osi_tpkt.specs.declared.faults.TpktFault.{TpktFault}

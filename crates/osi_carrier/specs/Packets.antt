@@ -3,7 +3,7 @@ use Rattle.std.specs.Prelude.{◌≡◌, ℕ, ◌+◌, ◌-◌, ◌<◌, ◌≤�
 use Rattle.osi_tpkt.specs.Held.{Held, IsHolding}
 use Rattle.osi_tpkt.specs.Packet.{IsPartial}
 use Rattle.osi_tpkt.specs.Stream.{ArePackets, CutsFrom, offset_of}
-use Rattle.osi_tpkt.specs.Stream.Ending.{Faulty, Rest}
+use Rattle.osi_tpkt.specs.Stream.Ending.{Faulty}
 use Rattle.osi_tpkt.specs.declared.faults.TpktFault.{TpktFault}
 use Rattle.osi_tpkt.specs.declared.cutting.Fed.{Fed}
 use Rattle.osi_tpkt.specs.declared.faults.TpktFault.TheVariants.{BadVersion, BadLength, OutOfMemory}

@@ -1,5 +1,5 @@
 -- How far a connection is, without its link.
-use Rattle.std.specs.Prelude.{ℕ, Option, Some, None}
+use Rattle.std.specs.Prelude.{Option, Some, None}
 use Rattle.osi_class.specs.Ends.{fresh_ends}
 use Rattle.osi_class.specs.Link.{Standing, zero_standing}
 use Rattle.osi_carrier.specs.State.{Connection, asked, linked, closing}

@@ -1,5 +1,5 @@
 -- What a unit does to the link that takes it.
-use Rattle.std.specs.Prelude.{◌≡◌, ℕ, List, [], take, Result, Ok, Err, IsOk, Option, option_map, option_to_list}
+use Rattle.std.specs.Prelude.{◌≡◌, ℕ, List, [], take, Result, Ok, Err, IsOk, option_map, option_to_list}
 use Rattle.osi_tpdu.specs.Value.{Value}
 use Rattle.osi_class.specs.Link.{Standing}
 use Rattle.osi_class.specs.declared.faults.LinkFault.{LinkFault}

@@ -1,6 +1,3 @@
-use Rattle.osi_carrier.specs.Packets.{Carrying}
-use Rattle.osi_carrier.specs.Runs.{Call}
-use Rattle.std.proofs.Common.{List}
 use Rattle.osi_carrier.proofs.Pieces.{calls_read, pieces_alike}
 use Rattle.osi_carrier.proofs.laws.the_pieces_do_not_matter.Goals as goal
 

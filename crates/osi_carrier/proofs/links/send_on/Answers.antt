@@ -1,6 +1,6 @@
-use Rattle.std.proofs.Common.{◌≡◌, ◌+◌, ◌*◌, ◌≤◌, length, sym, subst, arith}
+use Rattle.std.proofs.Common.{◌≤◌, length, sym, subst, arith}
 use Rattle.osi_class.specs.AnyLink.{any_standing}
-use Rattle.osi_class.specs.Giving.{all_given, octets_in}
+use Rattle.osi_class.specs.Giving.{all_given}
 use Rattle.osi_class.specs.Link.{Standing, with_tsdu}
 use Rattle.osi_carrier.specs.Pump.{written_by}
 use Rattle.osi_carrier.specs.State.{packets}

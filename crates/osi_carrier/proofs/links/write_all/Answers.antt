@@ -1,4 +1,4 @@
-use Rattle.std.proofs.Common.{◌≡◌, ◌<◌, Some, subst, arith}
+use Rattle.std.proofs.Common.{◌<◌, subst, arith}
 use Rattle.osi_class.specs.AnyLink.{any_standing}
 use Rattle.osi_class.specs.Link.{next, given, Gives}
 use Rattle.osi_carrier.proofs.Pumping.{pumping_next, pumping_room}

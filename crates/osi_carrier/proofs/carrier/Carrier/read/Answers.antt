@@ -1,4 +1,4 @@
-use Rattle.std.proofs.Common.{◌≡◌, ℕ, ◌≤◌, ◌-◌, List, length, ap, sym, subst, ◌∙◌, inl, inr, arith}
+use Rattle.std.proofs.Common.{ℕ, ◌-◌, List, length, ap, sym, subst, ◌∙◌, inl, inr, arith}
 use Rattle.osi_carrier.specs.Fetching.{Fetches}
 use Rattle.osi_carrier.specs.Packets.{Carrying, IsReading, Goes, stops, is_spoilt}
 use Rattle.osi_carrier.specs.declared.carrier.feeding.Fetched.{Fetched}

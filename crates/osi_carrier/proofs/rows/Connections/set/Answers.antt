@@ -1,4 +1,4 @@
-use Rattle.std.proofs.Common.{◌≡◌, ℕ, get_or, set, ap, sym, ◌∙◌}
+use Rattle.std.proofs.Common.{ℕ, get_or, set, ap, sym, ◌∙◌}
 use Rattle.osi_carrier.specs.Live.{connection}
 use Rattle.osi_carrier.specs.State.{Connection}
 use Rattle.osi_carrier.proofs.Places.{placed}

@@ -1,4 +1,4 @@
-use Rattle.std.proofs.Common.{◌≡◌, ℕ, Some, get_or, ap, sym, ◌∙◌}
+use Rattle.std.proofs.Common.{ℕ, Some, get_or, ap, sym, ◌∙◌}
 use Rattle.osi_carrier.specs.Stages.{stage_of}
 use Rattle.osi_carrier.proofs.Places.{placed}
 use Rattle.osi_carrier.proofs.rows.Connections.stage.Goals as goal

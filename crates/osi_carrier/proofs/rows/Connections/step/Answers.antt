@@ -1,12 +1,11 @@
-use Rattle.std.proofs.Common.{◌≡◌, ℕ, ◌++◌, Some, Option, IfOk, OnOk, get_or, set, ap, sym, subst, ◌∙◌}
+use Rattle.std.proofs.Common.{◌≡◌, ◌++◌, Option, IfOk, OnOk, get_or, ap, sym, subst, ◌∙◌}
 use Rattle.osi_tpdu.specs.View.{value}
 use Rattle.osi_class.specs.Link.{taken}
 use Rattle.osi_carrier.specs.Stages.{stage_of, link_in}
 use Rattle.osi_carrier.specs.State.{Connection, linked, packets}
 use Rattle.osi_carrier.specs.Steps.{StepsTo, link_after, units_after}
-use Rattle.osi_carrier.specs.Rows.{value_at, put}
-use Rattle.osi_carrier.specs.declared.stages.Stage.TheVariants.{Open}
-use Rattle.osi_carrier.proofs.Places.{placed, here_is, stepped_rows}
+use Rattle.osi_carrier.specs.Rows.{value_at}
+use Rattle.osi_carrier.proofs.Places.{here_is, stepped_rows}
 use Rattle.osi_carrier.proofs.rows.Connections.step.Goals as goal
 
 pub step-requires : goal.step-requires

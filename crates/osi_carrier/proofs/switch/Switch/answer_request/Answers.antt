@@ -1,4 +1,4 @@
-use Rattle.std.proofs.Common.{◌≡◌, ◌<◌, false, length, sym, ap, ◌∙◌, arith}
+use Rattle.std.proofs.Common.{◌<◌, length, sym, ap, ◌∙◌, arith}
 use Rattle.osi_tpdu.specs.View.{request_content}
 use Rattle.osi_class.specs.Negotiation.{selection, selected_by}
 use Rattle.osi_carrier.specs.React.{has_peer, is_full}

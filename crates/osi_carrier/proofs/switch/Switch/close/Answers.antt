@@ -1,4 +1,4 @@
-use Rattle.std.proofs.Common.{◌≡◌, ap, sym, ◌∙◌}
+use Rattle.std.proofs.Common.{ap, sym, ◌∙◌}
 use Rattle.osi_carrier.specs.Calls.{close_error}
 use Rattle.osi_carrier.specs.Rows.{value_at}
 use Rattle.osi_carrier.specs.State.{State}

@@ -1,4 +1,4 @@
-use Rattle.std.proofs.Common.{◌≡◌, OnOk, Err, Some, [], map, ap, sym, subst, ◌∙◌}
+use Rattle.std.proofs.Common.{◌≡◌, OnOk, map, ap, subst, ◌∙◌}
 use Rattle.osi_tpdu.specs.View.{value}
 use Rattle.osi_class.specs.Link.{taken}
 use Rattle.osi_carrier.specs.Happenings.{happening}
@@ -9,7 +9,6 @@ use Rattle.osi_carrier.specs.State.{State}
 use Rattle.osi_carrier.specs.Steps.{StepsTo}
 use Rattle.osi_carrier.specs.contracts.switch.Switch.{the_view}
 use Rattle.osi_carrier.specs.declared.links.Step.{Step}
-use Rattle.osi_carrier.specs.declared.links.Step.TheVariants.{Broke}
 use Rattle.osi_carrier.proofs.Breaking.{broke_rows, broke_octets, broke_taking, changed}
 use Rattle.osi_carrier.proofs.switch.Switch.take.Goals as goal
 

@@ -1,4 +1,4 @@
-use Rattle.std.proofs.Common.{◌≡◌, ap, sym, ◌∙◌, is_some}
+use Rattle.std.proofs.Common.{ap, sym, ◌∙◌, is_some}
 use Rattle.osi_tpdu.specs.Units.{units_left}
 use Rattle.osi_tpdu.specs.View.{value}
 use Rattle.osi_carrier.specs.State.{State}

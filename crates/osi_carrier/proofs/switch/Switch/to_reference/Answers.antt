@@ -1,4 +1,4 @@
-use Rattle.std.proofs.Common.{◌≡◌, Option, None, OnOk, ap, sym, subst, ◌∙◌}
+use Rattle.std.proofs.Common.{◌≡◌, Option, OnOk, ap, sym, subst, ◌∙◌}
 use Rattle.osi_tpdu.specs.View.{value}
 use Rattle.osi_carrier.specs.React.{to_connection}
 use Rattle.osi_carrier.specs.Rows.{value_at}
