@@ -6,19 +6,29 @@ use osi_tpdu::{SizeCode, Window};
 use osi_tpkt::Fed;
 use std::test::Fail;
 
-/// What an end supports, with size 0A and window 4.
-pub fn local(class0: bool, class2: bool) -> Result<Local, Fail> {
-    local_of(class0, class2, 4)
-}
-
 /// What an end supports, with size 0A and this window.
-pub fn local_of(class0: bool, class2: bool, window: u8) -> Result<Local, Fail> {
+fn local_of(class0: bool, class2: bool, window: u8) -> Result<Local, Fail> {
     Ok(Local {
         class0,
         class2,
         size: SizeCode::new(10).ok_or("size")?,
         window: Window::new(window).ok_or("window")?,
     })
+}
+
+/// A calling end with size 0A and window 4.
+pub fn caller(rt: &HostRuntime, class0: bool, class2: bool) -> Result<Carrier, Fail> {
+    Ok(Carrier::caller(rt.alloc(), local_of(class0, class2, 4)?))
+}
+
+/// A called end with size 0A and window 4.
+pub fn called(rt: &HostRuntime, class0: bool, class2: bool) -> Result<Carrier, Fail> {
+    Ok(Carrier::called(rt.alloc(), local_of(class0, class2, 4)?))
+}
+
+/// A calling end with both classes, size 0A and window 3.
+pub fn caller_of_both(rt: &HostRuntime) -> Result<Carrier, Fail> {
+    Ok(Carrier::caller(rt.alloc(), local_of(true, true, 3)?))
 }
 
 /// A connection is asked for, and is given this reference.

@@ -25,31 +25,36 @@ fn opens(carrier: &mut Carrier) -> Result<(), Fail> {
 }
 
 /// The CR comes as two pieces, the first of so many octets.
-fn opens_at(carrier: &mut Carrier, at: usize) -> Result<(), Fail> {
+fn opens_at(rt: &HostRuntime, at: usize) -> Result<(), Fail> {
     let (first, last) = REQUEST.split_at_checked(at).ok_or("a place")?;
-    takes(carrier, first)?;
-    keeps(carrier, at)?;
-    is_told(carrier, last)?;
-    opens(carrier)
+    let mut carrier = called(rt, true, false)?;
+    takes(&mut carrier, first)?;
+    keeps(&carrier, at)?;
+    is_told(&mut carrier, last)?;
+    opens(&mut carrier)
 }
 
 #[test]
 fn a_request_is_answered_wherever_it_is_cut(rt: HostRuntime) -> Result<(), Fail> {
     for at in 0..22usize {
-        let mut carrier = Carrier::called(rt.alloc(), local(true, false)?);
-        opens_at(&mut carrier, at)?;
+        opens_at(&rt, at)?;
+    }
+    Ok(())
+}
+
+/// All octets of a piece are used one by one, and no event waits.
+fn takes_each(carrier: &mut Carrier, octets: &[u8]) -> Result<(), Fail> {
+    for octet in octets {
+        takes(carrier, &[*octet])?;
     }
     Ok(())
 }
 
 #[test]
 fn a_request_comes_octet_by_octet(rt: HostRuntime) -> Result<(), Fail> {
-    let mut carrier = Carrier::called(rt.alloc(), local(true, false)?);
-    let (last, first) = REQUEST.split_last().ok_or("a packet")?;
-    for octet in first {
-        takes(&mut carrier, &[*octet])?;
-    }
-    is_told(&mut carrier, &[*last])?;
+    let mut carrier = called(&rt, true, false)?;
+    takes_each(&mut carrier, &REQUEST[..21])?;
+    is_told(&mut carrier, &REQUEST[21..])?;
     opens(&mut carrier)
 }
 
@@ -83,26 +88,36 @@ const ANSWERS: [(bool, bool, &[u8]); 4] = [
     (false, false, &NO_CLASS),
 ];
 
-fn is_answered_by(carrier: &mut Carrier, told: bool, answer: &[u8]) -> Result<(), Fail> {
-    uses(carrier, &BOTH_CLASSES, BOTH_CLASSES.len(), told)?;
-    writes(carrier, answer)
+#[test]
+fn a_request_proposes_both_classes(rt: HostRuntime) -> Result<(), Fail> {
+    let mut caller = caller_of_both(&rt)?;
+    connects(&mut caller, 1)?;
+    writes(&mut caller, &BOTH_CLASSES)
+}
+
+/// A called end answers the CR of both classes so, and has something to tell where it accepts.
+fn is_answered(rt: &HostRuntime, class0: bool, class2: bool, answer: &[u8]) -> Result<(), Fail> {
+    let mut called = called(rt, class0, class2)?;
+    uses(
+        &mut called,
+        &BOTH_CLASSES,
+        BOTH_CLASSES.len(),
+        class0 || class2,
+    )?;
+    writes(&mut called, answer)
 }
 
 #[test]
 fn a_request_of_both_classes_and_its_answers(rt: HostRuntime) -> Result<(), Fail> {
-    let mut caller = Carrier::caller(rt.alloc(), local_of(true, true, 3)?);
-    connects(&mut caller, 1)?;
-    writes(&mut caller, &BOTH_CLASSES)?;
     for (class0, class2, answer) in ANSWERS {
-        let mut called = Carrier::called(rt.alloc(), local(class0, class2)?);
-        is_answered_by(&mut called, class0 || class2, answer)?;
+        is_answered(&rt, class0, class2, answer)?;
     }
     Ok(())
 }
 
 #[test]
 fn a_refused_connection_is_told_with_its_reason(rt: HostRuntime) -> Result<(), Fail> {
-    let mut caller = Carrier::caller(rt.alloc(), local_of(true, true, 3)?);
+    let mut caller = caller_of_both(&rt)?;
     connects(&mut caller, 1)?;
     is_told(&mut caller, &NO_CLASS)?;
     tells_refused(&mut caller, 1, 130)?;
@@ -163,7 +178,7 @@ fn it_is_gone(carrier: &mut Carrier) -> Result<(), Fail> {
 
 #[test]
 fn a_fault_of_one_connection_leaves_the_other(rt: HostRuntime) -> Result<(), Fail> {
-    let mut caller = Carrier::caller(rt.alloc(), local(true, true)?);
+    let mut caller = caller(&rt, true, true)?;
     opens_two(&mut caller)?;
     one_is_faulted(&mut caller)?;
     it_is_gone(&mut caller)
@@ -176,13 +191,13 @@ const DATA: [u8; 13] = [
 
 #[test]
 fn before_the_class_is_known_data_is_unexpected(rt: HostRuntime) -> Result<(), Fail> {
-    let mut called = Carrier::called(rt.alloc(), local(true, true)?);
+    let mut called = called(&rt, true, true)?;
     faults(&mut called, &DATA, CarrierFault::UnexpectedUnit)
 }
 
 #[test]
 fn in_class_0_a_second_request_is_of_the_wrong_form(rt: HostRuntime) -> Result<(), Fail> {
-    let mut called = Carrier::called(rt.alloc(), local(true, false)?);
+    let mut called = called(&rt, true, false)?;
     is_told(&mut called, &REQUEST)?;
     opens(&mut called)?;
     faults(
@@ -194,14 +209,14 @@ fn in_class_0_a_second_request_is_of_the_wrong_form(rt: HostRuntime) -> Result<(
 
 #[test]
 fn a_class_that_was_not_proposed_is_a_bad_answer(rt: HostRuntime) -> Result<(), Fail> {
-    let mut caller = Carrier::caller(rt.alloc(), local(true, false)?);
+    let mut caller = caller(&rt, true, false)?;
     connects(&mut caller, 1)?;
     faults(&mut caller, &CLASS_2, CarrierFault::BadAnswer)
 }
 
 #[test]
 fn data_for_reference_9_that_was_never_given(rt: HostRuntime) -> Result<(), Fail> {
-    let mut caller = Carrier::caller(rt.alloc(), local(true, true)?);
+    let mut caller = caller(&rt, true, true)?;
     opens_one(&mut caller)?;
     let unit = [3, 0, 0, 0x0A, 4, 0xF0, 0, 9, 0x80, 0x41];
     faults(&mut caller, &unit, CarrierFault::UnknownReference)
@@ -209,7 +224,7 @@ fn data_for_reference_9_that_was_never_given(rt: HostRuntime) -> Result<(), Fail
 
 #[test]
 fn the_first_answer_is_awaited_and_class_0_has_one_connection(rt: HostRuntime) -> Result<(), Fail> {
-    let mut caller = Carrier::caller(rt.alloc(), local(true, true)?);
+    let mut caller = caller(&rt, true, true)?;
     connects(&mut caller, 1)?;
     refuses_to_connect(&mut caller, OpenError::Negotiating)?;
     is_told(&mut caller, &CLASS_0)?;
@@ -219,7 +234,7 @@ fn the_first_answer_is_awaited_and_class_0_has_one_connection(rt: HostRuntime) -
 
 #[test]
 fn at_most_64_connections_are_live(rt: HostRuntime) -> Result<(), Fail> {
-    let mut caller = Carrier::caller(rt.alloc(), local(true, true)?);
+    let mut caller = caller(&rt, true, true)?;
     opens_one(&mut caller)?;
     for reference in 2..65u16 {
         connects(&mut caller, reference)?;
@@ -238,7 +253,7 @@ fn is_refused(carrier: &mut Carrier, reference: u16) -> Result<(), Fail> {
 
 #[test]
 fn references_1_to_65535_are_given_once(rt: HostRuntime) -> Result<(), Fail> {
-    let mut caller = Carrier::caller(rt.alloc(), local(true, true)?);
+    let mut caller = caller(&rt, true, true)?;
     for reference in 1..65_535u16 {
         is_refused(&mut caller, reference)?;
     }
@@ -248,7 +263,7 @@ fn references_1_to_65535_are_given_once(rt: HostRuntime) -> Result<(), Fail> {
 
 #[test]
 fn no_connection_is_asked_for_after_a_break(rt: HostRuntime) -> Result<(), Fail> {
-    let mut caller = Carrier::caller(rt.alloc(), local(true, true)?);
+    let mut caller = caller(&rt, true, true)?;
     caller.broken();
     has_ended(&caller, EndReason::Broken)?;
     refuses_to_connect(&mut caller, OpenError::Ended)?;
@@ -258,13 +273,13 @@ fn no_connection_is_asked_for_after_a_break(rt: HostRuntime) -> Result<(), Fail>
 
 #[test]
 fn a_called_end_asks_for_nothing(rt: HostRuntime) -> Result<(), Fail> {
-    let mut called = Carrier::called(rt.alloc(), local(true, true)?);
+    let mut called = called(&rt, true, true)?;
     refuses_to_connect(&mut called, OpenError::NotCaller)
 }
 
 #[test]
 fn with_neither_class_class_0_is_proposed(rt: HostRuntime) -> Result<(), Fail> {
-    let mut caller = Carrier::caller(rt.alloc(), local(false, false)?);
+    let mut caller = caller(&rt, false, false)?;
     connects(&mut caller, 1)?;
     writes(
         &mut caller,
@@ -274,7 +289,7 @@ fn with_neither_class_class_0_is_proposed(rt: HostRuntime) -> Result<(), Fail> {
 
 #[test]
 fn a_tsdu_is_sent_on_an_open_connection_alone(rt: HostRuntime) -> Result<(), Fail> {
-    let mut caller = Carrier::caller(rt.alloc(), local(true, true)?);
+    let mut caller = caller(&rt, true, true)?;
     refuses_to_send(&mut caller, 1, b"A", SendError::NotOpen)?;
     connects(&mut caller, 1)?;
     refuses_to_send(&mut caller, 1, b"A", SendError::NotOpen)
@@ -283,14 +298,14 @@ fn a_tsdu_is_sent_on_an_open_connection_alone(rt: HostRuntime) -> Result<(), Fai
 #[test]
 fn a_sent_tsdu_has_at_most_1048576_octets(rt: HostRuntime) -> Result<(), Fail> {
     let tsdu = vec![in rt.alloc(); 0x5A; 1_048_577]?;
-    let mut caller = Carrier::caller(rt.alloc(), local(true, true)?);
+    let mut caller = caller(&rt, true, true)?;
     opens_one(&mut caller)?;
     refuses_to_send(&mut caller, 1, tsdu.as_slice(), SendError::TooLong)
 }
 
 #[test]
 fn data_is_written_in_class_0(rt: HostRuntime) -> Result<(), Fail> {
-    let mut called = Carrier::called(rt.alloc(), local(true, false)?);
+    let mut called = called(&rt, true, false)?;
     is_told(&mut called, &REQUEST)?;
     opens(&mut called)?;
     sends(&mut called, 1, &[1, 0, 1, 0, 0x41, 0x42])?;
@@ -305,7 +320,7 @@ fn is_closed(carrier: &mut Carrier) -> Result<(), Fail> {
 
 #[test]
 fn a_connection_of_class_2_is_closed(rt: HostRuntime) -> Result<(), Fail> {
-    let mut caller = Carrier::caller(rt.alloc(), local(true, true)?);
+    let mut caller = caller(&rt, true, true)?;
     opens_one(&mut caller)?;
     is_closed(&mut caller)
 }
@@ -317,7 +332,7 @@ const HALF_BAD: [u8; 13] = [
 
 #[test]
 fn a_packet_with_a_bad_unit_ends_the_carrier(rt: HostRuntime) -> Result<(), Fail> {
-    let mut caller = Carrier::caller(rt.alloc(), local(true, true)?);
+    let mut caller = caller(&rt, true, true)?;
     opens_one(&mut caller)?;
     let fault = CarrierFault::Tpdu(osi_tpdu::TpduFault::UnknownCode(6));
     faults(&mut caller, &HALF_BAD, fault)
@@ -369,8 +384,8 @@ fn an_order_goes_on(left: &mut Carrier, right: &mut Carrier, order: &[u16]) -> R
 
 #[test]
 fn sends_on_64_connections_come_in_their_order(rt: HostRuntime) -> Result<(), Fail> {
-    let mut left = Carrier::caller(rt.alloc(), local(true, true)?);
-    let mut right = Carrier::called(rt.alloc(), local(true, true)?);
+    let mut left = caller(&rt, true, true)?;
+    let mut right = called(&rt, true, true)?;
     for reference in 1..65u16 {
         opens_between(&mut left, &mut right, reference)?;
     }
