@@ -26,3 +26,4 @@ pub mod CourseOpening
 pub mod Addressing
 pub mod JoinedSteps
 pub mod JoinedMoves
+pub mod JoinedAsks

@@ -1,0 +1,169 @@
+-- A caller that may ask for a connection finds a place at the called end: behind the units that are
+-- under way no more connections are live there than at the caller.
+use Rattle.std.proofs.Common.{◌≡◌, ◌≢◌, ℕ, zero, suc, ◌+◌, ◌<◌, ◌≤◌, ◌==◌, Bool, true, false, not, List, [], ◌∷◌, ◌++◌, length, map, Option, Some, None, refl, sym, ap, subst, ◌∙◌, arith, nat_lt, nat_le, is_some, length-append, if◌then◌else◌}
+use Rattle.std.specs.List.{AllByRecursion}
+use Rattle.std.proofs.lemmas.Bool.{eq-eqb, eqb-true, eqb-false, ne_eqb, lt-ltb, ltb-true, ltb-false}
+use Rattle.std.proofs.lemmas.List.{map-append}
+use Rattle.osi_tpdu.specs.Value.{Value, request, confirm, disconnect, disconnected, data0, data2, acknowledge, error}
+use Rattle.osi_class.specs.declared.terms.Local.{Local}
+use Rattle.osi_carrier.specs.Addresses.{reference_of, units_of, asked_by, requests, behind, dropped, live_behind, live_after, references, is_last}
+use Rattle.osi_carrier.specs.Course.{Place, never, was_given, place_at, Course, unasked, asking, accepting, withdrawing, met, at_end, from_end}
+use Rattle.osi_carrier.specs.Joined.{StandsBetween, AreJoined}
+use Rattle.osi_carrier.specs.Meeting.{Meeting, talking, left_here, left_there, left_both, waiting_here, waiting_there, parted, mirror, here, addressed, farewell}
+use Rattle.osi_carrier.specs.Orderly.{RiseFrom, AreUpTo, IsOrderly}
+use Rattle.osi_carrier.specs.Rows.{Rows, value_at, without}
+use Rattle.osi_carrier.specs.State.{Connection, State}
+use Rattle.osi_carrier.proofs.Apart.{absent, beyond, push_here, without_here}
+use Rattle.osi_carrier.proofs.AtReferences.{push_other, without_other, push_rise, push_up, without_rise, without_up}
+use Rattle.osi_carrier.proofs.Courses.{is_given}
+
+-- ---- references as a table
+
+abbrev Marks : Type 0
+Marks = Rows (Unit {0})
+
+abbrev marked : List ℕ → Marks
+marked refs = map (λ r. (r, tt)) refs
+
+found : {X : Type 0} (m q : ℕ) (y : X) (rows : Rows X) (b : Bool) → (q == m) ≡ b → value_at m ((q, y) ∷ rows) ≡ (if b then Some y else value_at m rows)
+found {X} m q y rows b e = ap (λ (c : Bool). if◌then◌else◌ {A = Option X} c (Some y) (value_at m rows)) e
+
+marked_dropped_by : (r q : ℕ) (refs : List ℕ) (b : Bool) → (q == r) ≡ b → marked (dropped r refs) ≡ without r (marked refs) → marked (dropped r (q ∷ refs)) ≡ without r (marked (q ∷ refs))
+marked_dropped_by r q refs true e more =
+    ap marked (ap (λ (c : Bool). if◌then◌else◌ {A = List ℕ} c refs (q ∷ dropped r refs)) e)
+    ∙ sym (ap (λ (c : Bool). if◌then◌else◌ {A = Marks} c (marked refs) ((q, tt) ∷ without r (marked refs))) e)
+marked_dropped_by r q refs false e more =
+    ap marked (ap (λ (c : Bool). if◌then◌else◌ {A = List ℕ} c refs (q ∷ dropped r refs)) e) ∙ ap (λ (l : Marks). (q, tt) ∷ l) more
+    ∙ sym (ap (λ (c : Bool). if◌then◌else◌ {A = Marks} c (marked refs) ((q, tt) ∷ without r (marked refs))) e)
+
+marked_dropped : (r : ℕ) (refs : List ℕ) → marked (dropped r refs) ≡ without r (marked refs)
+marked_dropped r [] = refl
+marked_dropped r (q ∷ refs) = marked_dropped_by r q refs (q == r) refl (marked_dropped r refs)
+
+marked_rise : (n : ℕ) (rows : Rows Connection) → RiseFrom n rows → RiseFrom n (marked (references rows))
+marked_rise n [] h = tt
+marked_rise n ((r, x) ∷ rows) h = (h.0, marked_rise r rows h.1)
+
+marked_up : (n : ℕ) (rows : Rows Connection) → AreUpTo n rows → AreUpTo n (marked (references rows))
+marked_up n [] h = tt
+marked_up n ((r, x) ∷ rows) h = (h.0, marked_up n rows h.1)
+
+marked_none_by : (q r : ℕ) (x : Connection) (rows : Rows Connection) (b : Bool) → (r == q) ≡ b → (value_at q rows ≡ None → value_at q (marked (references rows)) ≡ None) →
+    value_at q ((r, x) ∷ rows) ≡ None → value_at q ((r, tt) ∷ marked (references rows)) ≡ None
+marked_none_by q r x rows true e more h = let there = sym (found q r x rows true e) ∙ h in cc
+marked_none_by q r x rows false e more h = found q r tt (marked (references rows)) false e ∙ more (sym (found q r x rows false e) ∙ h)
+
+marked_none : (q : ℕ) (rows : Rows Connection) → value_at q rows ≡ None → value_at q (marked (references rows)) ≡ None
+marked_none q [] h = refl
+marked_none q ((r, x) ∷ rows) h = marked_none_by q r x rows (r == q) refl (marked_none q rows) h
+
+-- ---- a unit
+
+-- whether a reference is live behind a unit for it
+abbrev stays_behind : Option (Unit {0}) → Value → Option (Unit {0})
+stays_behind o (request c) = Some tt
+stays_behind o (confirm destination c) = o
+stays_behind o (disconnect destination source reason user) = None
+stays_behind o (disconnected destination source) = None
+stays_behind o (data0 end user) = o
+stays_behind o (data2 destination number end user) = o
+stays_behind o (acknowledge credit destination number) = o
+stays_behind o (error destination cause) = o
+
+abbrev stays_after : Option (Unit {0}) → List Value → Option (Unit {0})
+stays_after o [] = o
+stays_after o (unit ∷ units) = stays_after (stays_behind o unit) units
+
+record Behind (g : ℕ) (refs : List ℕ) (u : Value) : Type 0 where
+  next : ℕ
+  rise : RiseFrom 0 (marked (live_behind refs u))
+  up : AreUpTo next (marked (live_behind refs u))
+  own : value_at (reference_of u) (marked (live_behind refs u)) ≡ stays_behind (value_at (reference_of u) (marked refs)) u
+  other : (q : ℕ) → q ≢ reference_of u → value_at q (marked (live_behind refs u)) ≡ value_at q (marked refs)
+  numbers : (k : ℕ) (more : List ℕ) → asked_by u ++ more ≡ behind g k → (j : ℕ) × (more ≡ behind next j)
+
+same_behind : (g : ℕ) (refs : List ℕ) (u : Value) → RiseFrom 0 (marked refs) → AreUpTo g (marked refs) → live_behind refs u ≡ refs → asked_by u ≡ [] →
+    stays_behind (value_at (reference_of u) (marked refs)) u ≡ value_at (reference_of u) (marked refs) → Behind g refs u
+same_behind g refs u rise up same none stays = record {
+  next = g;
+  rise = subst (λ (l : List ℕ). RiseFrom 0 (marked l)) (sym same) rise;
+  up = subst (λ (l : List ℕ). AreUpTo g (marked l)) (sym same) up;
+  own = ap (λ (l : List ℕ). value_at (reference_of u) (marked l)) same ∙ sym stays;
+  other = λ q apart. ap (λ (l : List ℕ). value_at q (marked l)) same;
+  numbers = λ k more e. (k, ap (λ (l : List ℕ). l ++ more) (sym none) ∙ e);
+}
+
+dropped_behind : (g d : ℕ) (refs : List ℕ) (u : Value) → RiseFrom 0 (marked refs) → AreUpTo g (marked refs) → live_behind refs u ≡ dropped d refs → asked_by u ≡ [] → reference_of u ≡ d →
+    stays_behind (value_at (reference_of u) (marked refs)) u ≡ None → Behind g refs u
+dropped_behind g d refs u rise up same none is stays =
+    let rows : marked (live_behind refs u) ≡ without d (marked refs) = ap marked same ∙ marked_dropped d refs in
+    record {
+      next = g;
+      rise = subst (λ (l : Marks). RiseFrom 0 l) (sym rows) (without_rise 0 d (marked refs) rise);
+      up = subst (λ (l : Marks). AreUpTo g l) (sym rows) (without_up g d (marked refs) up);
+      own = ap (λ (l : Marks). value_at (reference_of u) l) rows ∙ ap (λ (q : ℕ). value_at q (without d (marked refs))) is ∙ without_here d (marked refs) rise ∙ sym stays;
+      other = λ q apart. ap (λ (l : Marks). value_at q l) rows ∙ without_other q d (marked refs) (λ e. apart (e ∙ sym is));
+      numbers = λ k more e. (k, ap (λ (l : List ℕ). l ++ more) (sym none) ∙ e);
+    }
+
+behind_numbers : (g k n : ℕ) (more : List ℕ) → n ∷ more ≡ behind g k → n ≡ g + 1 → (j : ℕ) × (more ≡ behind (g + 1) j)
+behind_numbers g zero n more e is = cc
+behind_numbers g (suc k) n more e is = (k, let same : more ≡ behind (g + 1) k = cc in same)
+
+asked_behind : (g n : ℕ) (refs : List ℕ) (u : Value) → RiseFrom 0 (marked refs) → AreUpTo g (marked refs) → live_behind refs u ≡ refs ++ n ∷ [] → asked_by u ≡ n ∷ [] → reference_of u ≡ n → n ≡ g + 1 →
+    stays_behind (value_at (reference_of u) (marked refs)) u ≡ Some tt → Behind g refs u
+asked_behind g n refs u rise up same asks is next stays =
+    let rows : marked (live_behind refs u) ≡ marked refs ++ (g + 1, tt) ∷ [] =
+    ap marked same ∙ map-append (λ (r : ℕ). (r, tt)) refs (n ∷ []) ∙ ap (λ (m : ℕ). marked refs ++ (m, tt) ∷ []) next in
+    record {
+      next = g + 1;
+      rise = subst (λ (l : Marks). RiseFrom 0 l) (sym rows) (push_rise 0 g tt (marked refs) (omega arith) rise up);
+      up = subst (λ (l : Marks). AreUpTo (g + 1) l) (sym rows) (push_up g tt (marked refs) up);
+      own = ap (λ (l : Marks). value_at (reference_of u) l) rows ∙ ap (λ (q : ℕ). value_at q (marked refs ++ (g + 1, tt) ∷ [])) (is ∙ next)
+          ∙ push_here (g + 1) tt (marked refs) (beyond (g + 1) g (marked refs) up (omega arith)) ∙ sym stays;
+      other = λ q apart. ap (λ (l : Marks). value_at q l) rows ∙ push_other q (g + 1) tt (marked refs) (λ e. apart (e ∙ sym next ∙ sym is));
+      numbers = λ k more e. behind_numbers g k n more (ap (λ (l : List ℕ). l ++ more) (sym asks) ∙ e) next;
+    }
+
+first_is : (g k n : ℕ) (more : List ℕ) → n ∷ more ≡ behind g k → n ≡ g + 1
+first_is g zero n more e = cc
+first_is g (suc k) n more e = let same : n ≡ g + 1 = cc in same
+
+one_behind : (g k : ℕ) (refs : List ℕ) (u : Value) (more : List ℕ) → RiseFrom 0 (marked refs) → AreUpTo g (marked refs) → asked_by u ++ more ≡ behind g k → Behind g refs u
+one_behind g k refs (request c) more rise up e = asked_behind g c.source refs (request c) rise up refl refl refl (first_is g k c.source more e) refl
+one_behind g k refs (confirm destination c) more rise up e = same_behind g refs (confirm destination c) rise up refl refl refl
+one_behind g k refs (disconnect destination source reason user) more rise up e = dropped_behind g destination refs (disconnect destination source reason user) rise up refl refl refl refl
+one_behind g k refs (disconnected destination source) more rise up e = dropped_behind g destination refs (disconnected destination source) rise up refl refl refl refl
+one_behind g k refs (data0 end user) more rise up e = same_behind g refs (data0 end user) rise up refl refl refl
+one_behind g k refs (data2 destination number end user) more rise up e = same_behind g refs (data2 destination number end user) rise up refl refl refl
+one_behind g k refs (acknowledge credit destination number) more rise up e = same_behind g refs (acknowledge credit destination number) rise up refl refl refl
+one_behind g k refs (error destination cause) more rise up e = same_behind g refs (error destination cause) rise up refl refl refl
+
+-- ---- units one after the other
+
+record After (refs : List ℕ) (us : List Value) : Type 0 where
+  rise : RiseFrom 0 (marked (live_after refs us))
+  each : (q : ℕ) → value_at q (marked (live_after refs us)) ≡ stays_after (value_at q (marked refs)) (units_of q us)
+
+units_of_by : (n : ℕ) (u : Value) (us : List Value) (b : Bool) → (reference_of u == n) ≡ b → units_of n (u ∷ us) ≡ (if b then u ∷ units_of n us else units_of n us)
+units_of_by n u us b e = ap (λ (c : Bool). if◌then◌else◌ {A = List Value} c (u ∷ units_of n us) (units_of n us)) e
+
+each_by : (g : ℕ) (refs : List ℕ) (u : Value) (us : List Value) (q : ℕ) (b : Bool) → (reference_of u == q) ≡ b → Behind g refs u →
+    value_at q (marked (live_after (live_behind refs u) us)) ≡ stays_after (value_at q (marked (live_behind refs u))) (units_of q us) →
+    value_at q (marked (live_after (live_behind refs u) us)) ≡ stays_after (value_at q (marked refs)) (units_of q (u ∷ us))
+each_by g refs u us q true e h more =
+    let same = eqb-true (reference_of u) q e in
+    let own : value_at q (marked (live_behind refs u)) ≡ stays_behind (value_at q (marked refs)) u =
+    subst (λ (m : ℕ). value_at m (marked (live_behind refs u)) ≡ stays_behind (value_at m (marked refs)) u) same h.own in
+    more ∙ ap (λ (o : Option (Unit {0})). stays_after o (units_of q us)) own ∙ ap (stays_after (value_at q (marked refs))) (sym (units_of_by q u us true e))
+each_by g refs u us q false e h more =
+    more ∙ ap (λ (o : Option (Unit {0})). stays_after o (units_of q us)) (h.other q (λ same. let yes = eq-eqb (reference_of u) q (sym same) in cc))
+    ∙ ap (stays_after (value_at q (marked refs))) (sym (units_of_by q u us false e))
+
+after_all : (us : List Value) (g k : ℕ) (refs : List ℕ) → RiseFrom 0 (marked refs) → AreUpTo g (marked refs) → requests us ≡ behind g k → After refs us
+after_all [] g k refs rise up e = record { rise = rise; each = λ q. refl }
+after_all (u ∷ us) g k refs rise up e =
+    let h = one_behind g k refs u (requests us) rise up e in
+    let n = h.numbers k (requests us) e in
+    let more = after_all us h.next n.0 (live_behind refs u) h.rise h.up n.1 in
+    record { rise = more.rise; each = λ q. each_by g refs u us q (reference_of u == q) refl h (more.each q) }
