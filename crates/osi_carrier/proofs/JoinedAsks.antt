@@ -12,10 +12,10 @@ use Rattle.osi_carrier.specs.Joined.{StandsBetween, AreJoined}
 use Rattle.osi_carrier.specs.Meeting.{Meeting, talking, left_here, left_there, left_both, waiting_here, waiting_there, parted, mirror, here, addressed, farewell}
 use Rattle.osi_carrier.specs.Orderly.{RiseFrom, AreUpTo, IsOrderly}
 use Rattle.osi_carrier.specs.Rows.{Rows, value_at, without}
-use Rattle.osi_carrier.specs.State.{Connection, State}
+use Rattle.osi_carrier.specs.State.{Connection, asked, linked, closing, State}
 use Rattle.osi_carrier.proofs.Apart.{absent, beyond, push_here, without_here}
 use Rattle.osi_carrier.proofs.AtReferences.{push_other, without_other, push_rise, push_up, without_rise, without_up}
-use Rattle.osi_carrier.proofs.Courses.{is_given}
+use Rattle.osi_carrier.proofs.Courses.{given_place, is_given}
 
 -- ---- references as a table
 
@@ -167,3 +167,103 @@ after_all (u ∷ us) g k refs rise up e =
     let n = h.numbers k (requests us) e in
     let more = after_all us h.next n.0 (live_behind refs u) h.rise h.up n.1 in
     record { rise = more.rise; each = λ q. each_by g refs u us q (reference_of u == q) refl h (more.each q) }
+
+-- ---- two tables in the order of references
+
+-- a reference of a table is above what all its rows are above
+above_first : (x y : ℕ) (ys : Rows Connection) (b : Bool) → nat_lt y x ≡ b → RiseFrom y ys → is_some (value_at x ys) ≡ true → y < x
+above_first x y ys true e rise there = ltb-true y x e
+above_first x y ys false e rise there = let none = absent x y ys (ltb-false y x e) rise in let gone = sym (ap is_some none) ∙ there in cc
+
+sub_by : (ys : Rows Connection) (y : ℕ) (c : Connection) (m x : ℕ) (xs : Marks) (b : Bool) → (x == y) ≡ b → RiseFrom x xs → RiseFrom y ys →
+    ((q : ℕ) → is_some (value_at q ((x, tt) ∷ xs)) ≡ true → is_some (value_at q ((y, c) ∷ ys)) ≡ true) →
+    ((n : ℕ) (zs : Marks) → RiseFrom n zs → RiseFrom n ys → ((q : ℕ) → is_some (value_at q zs) ≡ true → is_some (value_at q ys) ≡ true) → length zs ≤ length ys) →
+    length ((x, tt) ∷ xs) ≤ length ((y, c) ∷ ys)
+sub_by ys y c m x xs true e rx ry h more =
+    let same = eqb-true x y e in
+    let rest = more x xs rx (subst (λ (n : ℕ). RiseFrom n ys) (sym same) ry)
+    (λ q there.
+    let apart : (x == q) ≡ false = ne_eqb x q (λ is. let none = absent x x xs (omega arith) rx in let here = ap (λ (n : ℕ). is_some (value_at n xs)) is ∙ there in let gone = sym (ap is_some none) ∙ here in cc) in
+    let other : (y == q) ≡ false = ap (λ (n : ℕ). n == q) (sym same) ∙ apart in
+    sym (ap is_some (found q y c ys false other)) ∙ h q (ap is_some (found q x tt xs false apart) ∙ there)) in
+    omega arith
+sub_by ys y c m x xs false e rx ry h more =
+    let apart : (y == x) ≡ false = ne_eqb y x (λ is. let yes = eq-eqb x y (sym is) in cc) in
+    let there : is_some (value_at x ys) ≡ true = sym (ap is_some (found x y c ys false apart)) ∙ h x (ap is_some (found x x tt xs true (eq-eqb x x refl))) in
+    let above : y < x = above_first x y ys (nat_lt y x) refl ry there in
+    let rest = more y ((x, tt) ∷ xs) (above, rx) ry
+    (λ q in_xs.
+    let other : (y == q) ≡ false = ne_eqb y q (λ is. let none = absent y y ((x, tt) ∷ xs) (omega arith) (above, rx) in let here = ap (λ (n : ℕ). is_some (value_at n ((x, tt) ∷ xs))) is ∙ in_xs in let gone = sym (ap is_some none) ∙ here in cc) in
+    sym (ap is_some (found q y c ys false other)) ∙ h q in_xs) in
+    omega arith
+
+sub_length : (ys : Rows Connection) (m : ℕ) (xs : Marks) → RiseFrom m xs → RiseFrom m ys → ((q : ℕ) → is_some (value_at q xs) ≡ true → is_some (value_at q ys) ≡ true) → length xs ≤ length ys
+sub_length [] m [] rx ry h = omega arith
+sub_length [] m ((x, tt) ∷ xs) rx ry h = let there = h x (ap is_some (found x x tt xs true (eq-eqb x x refl))) in cc
+sub_length ((y, c) ∷ ys) m [] rx ry h = omega arith
+sub_length ((y, c) ∷ ys) m ((x, tt) ∷ xs) rx ry h = sub_by ys y c m x xs (x == y) refl rx.1 ry.1 h (sub_length ys)
+
+-- ---- a connection that is live behind the units is live at the caller
+
+last_behind : (o : Option (Unit {0})) (u : Value) → is_last u ≡ true → stays_behind o u ≡ None
+last_behind o (disconnect destination source reason user) e = refl
+last_behind o (disconnected destination source) e = refl
+last_behind o (request c) e = cc
+last_behind o (confirm destination c) e = cc
+last_behind o (data0 end user) e = cc
+last_behind o (data2 destination number end user) e = cc
+last_behind o (acknowledge credit destination number) e = cc
+last_behind o (error destination cause) e = cc
+
+last_after : (us : List Value) (u : Value) (o : Option (Unit {0})) → is_last u ≡ true → stays_after o (us ++ u ∷ []) ≡ None
+last_after [] u o e = last_behind o u e
+last_after (v ∷ us) u o e = last_after us u (stays_behind o v) e
+
+farewell_last : (n : ℕ) (last : Option ℕ) → is_last (farewell n last) ≡ true
+farewell_last n None = refl
+farewell_last n (Some reason) = refl
+
+live_at : (q : ℕ) (s : State) (x : Connection) → place_at q s ≡ was_given (Some x) → is_some (value_at q s.live) ≡ true
+live_at q s x at = ap is_some (is_given q s (Some x) at).is
+
+live_by : (q : ℕ) (s : State) (called : Local) (g : Course) (o : Option (Unit {0})) → place_at q s ≡ at_end true q g → (at_end false q g ≡ never → o ≡ None) → (at_end false q g ≡ was_given None → o ≡ None) →
+    is_some (stays_after o (from_end true q called g)) ≡ true → is_some (value_at q s.live) ≡ true
+live_by q s called unasked o at unmade gone h = let none = unmade refl in let here = sym (ap is_some none) ∙ h in cc
+live_by q s called (asking c) o at unmade gone h = live_at q s asked at
+live_by q s called (accepting c p) o at unmade gone h = live_at q s asked at
+live_by q s called (withdrawing c p reason) o at unmade gone h = live_at q s asked at
+live_by q s called (met (talking p)) o at unmade gone h = live_at q s (linked q p.left) at
+live_by q s called (met (left_here p us reason)) o at unmade gone h = live_at q s (closing q) at
+live_by q s called (met (left_there p us reason)) o at unmade gone h = live_at q s (linked q p.left) at
+live_by q s called (met (left_both us reason vs last)) o at unmade gone h = live_at q s (closing q) at
+live_by q s called (met (waiting_here us last)) o at unmade gone h = live_at q s (closing q) at
+live_by q s called (met (waiting_there us last)) o at unmade gone h =
+    let none = last_after (addressed q us) (farewell q last) o (farewell_last q last) in let here = sym (ap is_some none) ∙ h in cc
+live_by q s called (met parted) o at unmade gone h = let none = gone refl in let here = sym (ap is_some none) ∙ h in cc
+
+never_live_by : (q : ℕ) (r : State) (b : Bool) → nat_lt r.given q ≡ b → IsOrderly r → place_at q r ≡ never → value_at q r.live ≡ None
+never_live_by q r true e orderly at = beyond q r.given r.live orderly.up_to (ltb-true r.given q e)
+never_live_by q r false e orderly at = let given = sym at ∙ given_place q r (ltb-false r.given q e) in cc
+
+live_behind_one : (q : ℕ) (b : Bool) (s r : State) (going coming : List Value) → nat_lt 0 q ≡ b → AreJoined s r going coming → After (references r.live) going →
+    is_some (value_at q (marked (live_after (references r.live) going))) ≡ true → is_some (value_at q s.live) ≡ true
+live_behind_one q false s r going coming e j a there =
+    let none = absent q 0 (marked (live_after (references r.live) going)) (ltb-false 0 q e) a.rise in let here = sym (ap is_some none) ∙ there in cc
+live_behind_one q true s r going coming e j a there =
+    let st = j.stands q (ltb-true 0 q e) in
+    let refs = marked (references r.live) in
+    live_by q s r.local st.course (value_at q refs) st.place
+    (λ unmade. marked_none q r.live (never_live_by q r (nat_lt r.given q) refl j.orderly_called (st.place_there ∙ unmade)))
+    (λ gone. marked_none q r.live (is_given q r None (st.place_there ∙ gone)).is)
+    (sym (ap is_some (a.each q ∙ ap (stays_after (value_at q refs)) st.out)) ∙ there)
+
+marked_length : (refs : List ℕ) → length (marked refs) ≡ length refs
+marked_length [] = refl
+marked_length (r ∷ refs) = let more = marked_length refs in omega arith
+
+pub no_more_live : (s r : State) (going coming : List Value) → AreJoined s r going coming → length (live_after (references r.live) going) ≤ length s.live
+no_more_live s r going coming j =
+    let a = after_all going r.given j.ahead (references r.live) (marked_rise 0 r.live j.orderly_called.rise) (marked_up r.given r.live j.orderly_called.up_to) j.numbers in
+    let few = sub_length s.live 0 (marked (live_after (references r.live) going)) a.rise j.orderly.rise (λ q there. live_behind_one q (nat_lt 0 q) s r going coming refl j a there) in
+    let same = marked_length (live_after (references r.live) going) in
+    omega arith

@@ -49,9 +49,9 @@ length_behind g (suc k) = let more = length_behind (g + 1) k in omega arith
 
 -- ---- the caller acts
 
-pub joined_caller : (s r t : State) (going coming rest taken : List Value) (put : List Message) (n count : ℕ) (some : 0 < n) (j : AreJoined s r going coming) → coming ≡ taken ++ rest → AreFor n taken → IsOrderly t →
-    (mv : CourseMoves true n (j.stands n some).course s r t taken count put) → HasPlaces (live_after (references r.live) going) mv.units → AreJoined t r (going ++ mv.units) rest
-joined_caller s r t going coming rest taken put n count some j cut all orderly mv fits =
+pub joined_caller : (s r t : State) (going coming rest taken : List Value) (put : List Message) (n count : ℕ) (some : 0 < n) (j : AreJoined s r going coming) (st : StandsBetween true n s r going coming) → coming ≡ taken ++ rest → AreFor n taken → IsOrderly t →
+    (mv : CourseMoves true n st.course s r t taken count put) → HasPlaces (live_after (references r.live) going) mv.units → AreJoined t r (going ++ mv.units) rest
+joined_caller s r t going coming rest taken put n count some j st cut all orderly mv fits =
     let before = j.given in
     let after = mv.given in
     record {
@@ -67,7 +67,7 @@ joined_caller s r t going coming rest taken put n count some j cut all orderly m
       class_called = j.class_called;
       named = named_join going mv.units j.named (named_for n mv.units some mv.acts.all_for);
       named_back = named_rest taken rest (subst (λ (l : List Value). AreNamed l) cut j.named_back);
-      stands = all_stand true n count s r t going coming rest taken put j.stands (j.stands n some) cut all mv;
+      stands = all_stand true n count s r t going coming rest taken put j.stands st cut all mv;
       ahead = j.ahead + count;
       given = omega arith;
       numbers = requests_join going mv.units ∙ ap (λ (l : List ℕ). l ++ requests mv.units) j.numbers
@@ -146,7 +146,7 @@ caller_takes_one s r going coming rest u j cut =
       behind = going ++ mv.units;
       acts = subst (λ (p : Place). ActsFor n s r (react u s) going coming (going ++ mv.units) rest (answers_at p u)) (sym st.place)
           (acts_for true n 0 s r (react u s) going coming rest (u ∷ []) (answers_at (at_end true n st.course) u) st cut (refl, tt) mv);
-      joined = joined_caller s r (react u s) going coming rest (u ∷ []) (answers_at (at_end true n st.course) u) n 0 some j cut (refl, tt) (orderly_unit u s j.orderly) mv
+      joined = joined_caller s r (react u s) going coming rest (u ∷ []) (answers_at (at_end true n st.course) u) n 0 some j st cut (refl, tt) (orderly_unit u s j.orderly) mv
           (places_for (live_after (references r.live) going) mv.units mv.numbers);
     }
 
@@ -318,7 +318,7 @@ caller_sends s r going coming n link octets j live short =
     record {
       behind = going ++ mv.units;
       acts = acts_for true n 0 s r (sent n octets s) going coming coming [] (message octets ∷ []) st refl tt mv;
-      joined = joined_caller s r (sent n octets s) going coming coming [] (message octets ∷ []) n 0 within.0 j refl tt (orderly_sent n octets s j.orderly) mv
+      joined = joined_caller s r (sent n octets s) going coming coming [] (message octets ∷ []) n 0 within.0 j st refl tt (orderly_sent n octets s j.orderly) mv
           (places_for (live_after (references r.live) going) mv.units mv.numbers);
     }
 
@@ -331,7 +331,7 @@ caller_closes s r going coming n link reason j live =
     record {
       behind = going ++ mv.units;
       acts = acts_for true n 0 s r (closed_with n reason s) going coming coming [] (bye reason ∷ []) st refl tt mv;
-      joined = joined_caller s r (closed_with n reason s) going coming coming [] (bye reason ∷ []) n 0 within.0 j refl tt (orderly_closed n reason s j.orderly) mv
+      joined = joined_caller s r (closed_with n reason s) going coming coming [] (bye reason ∷ []) n 0 within.0 j st refl tt (orderly_closed n reason s j.orderly) mv
           (places_for (live_after (references r.live) going) mv.units mv.numbers);
     }
 

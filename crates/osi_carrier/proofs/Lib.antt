@@ -27,3 +27,4 @@ pub mod Addressing
 pub mod JoinedSteps
 pub mod JoinedMoves
 pub mod JoinedAsks
+pub mod JoinedCalls
