@@ -10,10 +10,10 @@ use Rattle.osi_class.specs.declared.terms.Local.{Local}
 use Rattle.osi_class.proofs.Arrival.{nothing_between, quiet_unsent, nothing_begun}
 use Rattle.osi_carrier.specs.Addresses.{live_after, references}
 use Rattle.osi_carrier.specs.Calls.{fresh_state, may_connect, asks}
-use Rattle.osi_carrier.specs.Course.{Place, never, was_given, place_at, Course, unasked, asking, accepting, withdrawing, met, at_end, from_end, Holds}
-use Rattle.osi_carrier.specs.Joined.{StandsBetween, AreJoined, CallerDid, under_way_for}
+use Rattle.osi_carrier.specs.Course.{Place, never, was_given, place_at, connection_in, Course, unasked, asking, accepting, withdrawing, met, at_end, from_end, Holds}
+use Rattle.osi_carrier.specs.Joined.{StandsBetween, AreJoined, CallerDid, under_way_for, IsEmpty}
 use Rattle.osi_carrier.specs.Meeting.{Meeting, talking, left_here, left_there, left_both, waiting_here, waiting_there, parted, mirror, here, addressed}
-use Rattle.osi_carrier.specs.Messages.{Message, ask, message, messages_to}
+use Rattle.osi_carrier.specs.Messages.{Message, ask, message, messages_to, messages_after, uncut_units}
 use Rattle.osi_carrier.specs.OpenLinks.{AreOpen}
 use Rattle.osi_carrier.specs.Orderly.{IsOrderly}
 use Rattle.osi_carrier.specs.Rows.{value_at}
@@ -21,7 +21,8 @@ use Rattle.osi_carrier.specs.State.{Connection, linked, State}
 use Rattle.osi_carrier.proofs.CourseOpening.{asks_moves}
 use Rattle.osi_carrier.proofs.Effects.{free_of, orderly_asks, orderly_fresh}
 use Rattle.osi_carrier.proofs.JoinedAsks.{no_more_live}
-use Rattle.osi_carrier.proofs.JoinedMoves.{joined_caller}
+use Rattle.osi_carrier.proofs.JoinedMoves.{joined_caller, within_given, given_live}
+use Rattle.osi_carrier.proofs.Meetings.{open_mirror}
 use Rattle.osi_carrier.proofs.JoinedSteps.{acts_for}
 
 -- ---- a connection is asked for
@@ -97,3 +98,64 @@ fresh_joined caller called a b = record {
   numbers = refl;
   places = tt;
 }
+
+-- ---- nothing is on the way
+
+none_addressed : (n : ℕ) (gs : List Given) → addressed n gs ≡ [] → gs ≡ []
+none_addressed n [] e = refl
+none_addressed n (g ∷ gs) e = cc
+
+still_pair : (p : LinkPair) → AreOpen true p → p.rightward ≡ [] → p.leftward ≡ [] → IsQuiet p
+still_pair p a rightward leftward = record { rightward = rightward; leftward = leftward; left = a.left.given; right = a.right.given; handed_out = a.right.handed }
+
+still_unsent : (p : LinkPair) → AreOpen true p → p.rightward ≡ [] → p.leftward ≡ [] → p.left.ends.unsent ≡ []
+still_unsent p a rightward leftward = quiet_unsent p (inr (a.agree.window, a.agree.some, a.agree.agree)) (still_pair p a rightward leftward)
+
+still_links : (p : LinkPair) → AreOpen true p → p.rightward ≡ [] → p.leftward ≡ [] → IsEmpty p.left p.right
+still_links p a rightward leftward =
+    let unsent = still_unsent p a rightward leftward in
+    let unsent_there = still_unsent (swapped p) (open_mirror true p a) leftward rightward in
+    record {
+      unsent = unsent;
+      unsent_there = unsent_there;
+      begun = nothing_begun (swapped p) a.whole_back leftward unsent_there;
+      begun_there = nothing_begun p a.whole rightward unsent;
+    }
+
+still_by : (n : ℕ) (s r : State) (called : Local) (g : Course) (x y : Standing) → at_end true n g ≡ was_given (Some (linked n x)) → at_end false n g ≡ was_given (Some (linked n y)) →
+    from_end true n called g ≡ [] → from_end false n called g ≡ [] → Holds n s r g → IsEmpty x y
+still_by n s r called unasked x y a b out back h = cc
+still_by n s r called (asking c) x y a b out back h = cc
+still_by n s r called (accepting c p) x y a b out back h = cc
+still_by n s r called (withdrawing c p reason) x y a b out back h = cc
+still_by n s r called (met (talking p)) x y a b out back h =
+    let left : p.left ≡ x = cc in
+    let right : p.right ≡ y = cc in
+    subst (λ (l : Standing). IsEmpty l y) left (subst (λ (l : Standing). IsEmpty p.left l) right
+    (still_links p h.stands (none_addressed n p.rightward out) (none_addressed n p.leftward back)))
+still_by n s r called (met (left_here p us reason)) x y a b out back h = cc
+still_by n s r called (met (left_there p us reason)) x y a b out back h = cc
+still_by n s r called (met (left_both us reason vs last)) x y a b out back h = cc
+still_by n s r called (met (waiting_here us last)) x y a b out back h = cc
+still_by n s r called (met (waiting_there us last)) x y a b out back h = cc
+still_by n s r called (met parted) x y a b out back h = cc
+
+pub still : (s r : State) (n : ℕ) (x y : Standing) → AreJoined s r [] [] → value_at n s.live ≡ Some (linked n x) → value_at n r.live ≡ Some (linked n y) → IsEmpty x y
+still s r n x y j at at_there =
+    let within = within_given n s (linked n x) j.orderly at in
+    let st = j.stands n within.0 in
+    still_by n s r r.local st.course x y (sym st.place ∙ given_live n s (linked n x) j.orderly at) (sym st.place_there ∙ given_live n r (linked n y) j.orderly_called at_there)
+    (sym st.out) (sym st.back) st.holds
+
+-- then nothing is under way either
+pub still_messages : (s r : State) (n : ℕ) (x y : Standing) → AreJoined s r [] [] → value_at n s.live ≡ Some (linked n x) → value_at n r.live ≡ Some (linked n y) →
+    (under_way_for n s r [] ≡ []) × (under_way_for n r s [] ≡ [])
+still_messages s r n x y j at at_there =
+    let e = still s r n x y j at at_there in
+    let p = given_live n s (linked n x) j.orderly at in
+    let q = given_live n r (linked n y) j.orderly_called at_there in (
+      ap (λ (a : Place). messages_to (connection_in a) [] (connection_in (place_at n r))) p ∙ ap (λ (a : Place). messages_to (Some (linked n x)) [] (connection_in a)) q
+          ∙ ap (λ (ts : List (List ℕ)). messages_after y.ends.joining.begun (uncut_units ts)) e.unsent,
+      ap (λ (a : Place). messages_to (connection_in a) [] (connection_in (place_at n s))) q ∙ ap (λ (a : Place). messages_to (Some (linked n y)) [] (connection_in a)) p
+          ∙ ap (λ (ts : List (List ℕ)). messages_after x.ends.joining.begun (uncut_units ts)) e.unsent_there,
+    )

@@ -169,7 +169,7 @@ given_live_by : (q : ℕ) (r : State) (x : Connection) (b : Bool) → nat_lt r.g
 given_live_by q r x true e orderly at = let none = beyond q r.given r.live orderly.up_to (ltb-true r.given q e) in cc
 given_live_by q r x false e orderly at = given_place q r (ltb-false r.given q e) ∙ ap was_given at
 
-given_live : (q : ℕ) (r : State) (x : Connection) → IsOrderly r → value_at q r.live ≡ Some x → place_at q r ≡ was_given (Some x)
+pub given_live : (q : ℕ) (r : State) (x : Connection) → IsOrderly r → value_at q r.live ≡ Some x → place_at q r ≡ was_given (Some x)
 given_live q r x orderly at = given_live_by q r x (nat_lt r.given q) refl orderly at
 
 own_here : (n q : ℕ) (x : Connection) (m : Meeting) → q ≢ n → Some x ≡ here q m → is_of_peer n x ≡ false
@@ -306,7 +306,7 @@ above_zero : (n : ℕ) (s : State) (x : Connection) (b : Bool) → nat_lt 0 n �
 above_zero n s x true e orderly at = ltb-true 0 n e
 above_zero n s x false e orderly at = let none = absent n 0 s.live (ltb-false 0 n e) orderly.rise in cc
 
-within_given : (n : ℕ) (s : State) (x : Connection) → IsOrderly s → value_at n s.live ≡ Some x → (0 < n) × (n ≤ s.given)
+pub within_given : (n : ℕ) (s : State) (x : Connection) → IsOrderly s → value_at n s.live ≡ Some x → (0 < n) × (n ≤ s.given)
 within_given n s x orderly at = (above_zero n s x (nat_lt 0 n) refl orderly at, (is_given n s (Some x) (given_live n s x orderly at)).within)
 
 pub caller_sends : (s r : State) (going coming : List Value) (n : ℕ) (link : Standing) (octets : List ℕ) → AreJoined s r going coming → value_at n s.live ≡ Some (linked n link) → IsShortTsdu octets →

@@ -2,6 +2,7 @@
 use Rattle.std.specs.Prelude.{◌≡◌, ◌≢◌, ℕ, ◌+◌, ◌<◌, Bool, true, false, not, List, [], ◌∷◌, ◌++◌, length, None}
 use Rattle.std.specs.List.{flat_map, AllByRecursion}
 use Rattle.osi_tpdu.specs.Value.{Value, request, confirm, disconnect, disconnected, data0, data2, acknowledge, error}
+use Rattle.osi_class.specs.Link.{Standing}
 use Rattle.osi_carrier.specs.Addresses.{reference_of, units_of, live_behind, references, requests, behind}
 use Rattle.osi_carrier.specs.Course.{place_at, connection_in, Course, at_end, from_end, MayTakeTwo, HoldsAt, called_local, told_opening}
 use Rattle.osi_carrier.specs.Happenings.{Happening}
@@ -89,3 +90,10 @@ pub record CalledDid (n : ℕ) (caller called next : State) (going coming rest :
   pub behind : List Value
   pub acts : ActsFor n called caller next coming going behind rest put
   pub joined : AreJoined caller next rest behind
+
+-- nothing of a connection that is open at both ends is left behind at either
+pub record IsEmpty (here there : Standing) : Type 0 where
+  pub unsent : here.ends.unsent ≡ []
+  pub unsent_there : there.ends.unsent ≡ []
+  pub begun : here.ends.joining.begun ≡ []
+  pub begun_there : there.ends.joining.begun ≡ []

@@ -1,18 +1,23 @@
 //! Laws of two carriers and the units between them. Each function does nothing: its clauses are the
 //! laws.
 
-ghost use Rattle.std.specs.Prelude.{◌≡◌, ◌≤◌, ◌++◌, ℕ, List, [], ◌∷◌, Some, None, length, take};
+ghost use Rattle.std.specs.Prelude.{◌≡◌, ◌≤◌, ◌++◌, ◌+◌, ℕ, true, false, List, [], ◌∷◌, Option, Some, None, length, take};
 ghost use Rattle.std.specs.List.{AllByRecursion};
 ghost use Rattle.osi_tpkt.specs.declared.cutting.Fed.{Fed};
 ghost use Rattle.osi_tpdu.specs.Value.{Value};
 ghost use Rattle.osi_class.specs.Between.{IsShortTsdu};
 ghost use Rattle.osi_class.specs.Link.{Standing};
-ghost use Rattle.osi_carrier.specs.Calls.{sent, closed_with};
+ghost use Rattle.osi_class.specs.declared.terms.Local.{Local};
+ghost use Rattle.osi_carrier.specs.Addresses.{reference_of};
+ghost use Rattle.osi_carrier.specs.Calls.{fresh_state, may_connect, asks, sent, closed_with};
 ghost use Rattle.osi_carrier.specs.Coming.{IsSendable, AreComing, TakesSome};
+ghost use Rattle.osi_carrier.specs.Course.{place_at, answers_at};
+ghost use Rattle.osi_carrier.specs.Joined.{AreJoined, CallerDid, CalledDid, IsEmpty, under_way_for};
 ghost use Rattle.osi_carrier.specs.Meeting.{Meeting, mirror, here, there, out, back, Stands, IsAt, answers_of, Moves};
-ghost use Rattle.osi_carrier.specs.Messages.{message, bye};
+ghost use Rattle.osi_carrier.specs.Messages.{ask, message, bye};
 ghost use Rattle.osi_carrier.specs.Packets.{Carrying, Feeds};
 ghost use Rattle.osi_carrier.specs.React.{react};
+ghost use Rattle.osi_carrier.specs.Rows.{value_at};
 ghost use Rattle.osi_carrier.specs.State.{State, linked, packets};
 
 /// A connection of class 2 that both carriers have had open, seen from one of them. The oldest unit
@@ -43,4 +48,40 @@ pub fn what_was_written_is_taken()
     ensures fed { (old new : Carrying) (outgoing : List ℕ) (coming : List Value) (k : ℕ) (fed : Fed) → k ≤ length outgoing →
         AreComing old.held.octets outgoing coming → old.state.ended ≡ None → Feeds old (take k outgoing) fed new →
         TakesSome old outgoing coming fed.used new }
+{}
+
+/// Two carriers that both support class 2, from the beginning on, and the units on the way between
+/// them (`going` to the called end, `coming` to the caller): whatever unit is taken, the oldest first,
+/// and whatever is called, they stay joined. So neither ends by what the other wrote: no fault of a
+/// link, no unknown reference, no bad answer, no unexpected unit; each CR is accepted, with the number
+/// that the caller gave; and what is under way for each connection is what `ActsFor` says. Where
+/// nothing is on the way, nothing of a connection that is open at both is under way or left behind.
+pub fn two_carriers_stay_joined()
+    ensures begins { (caller called : Local) → caller.class2 ≡ true → called.class2 ≡ true →
+        AreJoined (fresh_state true caller) (fresh_state false called) [] [] }
+    ensures caller_takes { (caller called : State) (going coming rest : List Value) (unit : Value) → AreJoined caller called going coming →
+        coming ≡ unit ∷ rest →
+        CallerDid (reference_of unit) caller called (react unit caller) going coming rest (answers_at (place_at (reference_of unit) caller) unit) }
+    ensures called_takes { (caller called : State) (going coming rest : List Value) (unit : Value) → AreJoined caller called going coming →
+        going ≡ unit ∷ rest →
+        CalledDid (reference_of unit) caller called (react unit called) going coming rest (answers_at (place_at (reference_of unit) called) unit) }
+    ensures caller_asks { (caller called : State) (going coming : List Value) (calling to : Option (List ℕ)) → AreJoined caller called going coming →
+        may_connect caller ≡ None → CallerDid (caller.given + 1) caller called (asks calling to caller) going coming coming (ask ∷ []) }
+    ensures caller_sends { (caller called : State) (going coming : List Value) (n : ℕ) (link : Standing) (tsdu : List ℕ) →
+        AreJoined caller called going coming → value_at n caller.live ≡ Some (linked n link) → IsShortTsdu tsdu →
+        CallerDid n caller called (sent n tsdu caller) going coming coming (message tsdu ∷ []) }
+    ensures caller_closes { (caller called : State) (going coming : List Value) (n : ℕ) (link : Standing) (reason : ℕ) →
+        AreJoined caller called going coming → value_at n caller.live ≡ Some (linked n link) →
+        CallerDid n caller called (closed_with n reason caller) going coming coming (bye reason ∷ []) }
+    ensures called_sends { (caller called : State) (going coming : List Value) (n : ℕ) (link : Standing) (tsdu : List ℕ) →
+        AreJoined caller called going coming → value_at n called.live ≡ Some (linked n link) → IsShortTsdu tsdu →
+        CalledDid n caller called (sent n tsdu called) going coming going (message tsdu ∷ []) }
+    ensures called_closes { (caller called : State) (going coming : List Value) (n : ℕ) (link : Standing) (reason : ℕ) →
+        AreJoined caller called going coming → value_at n called.live ≡ Some (linked n link) →
+        CalledDid n caller called (closed_with n reason called) going coming going (bye reason ∷ []) }
+    ensures empty { (caller called : State) (n : ℕ) (here there : Standing) → AreJoined caller called [] [] →
+        value_at n caller.live ≡ Some (linked n here) → value_at n called.live ≡ Some (linked n there) → IsEmpty here there }
+    ensures nothing_under_way { (caller called : State) (n : ℕ) (here there : Standing) → AreJoined caller called [] [] →
+        value_at n caller.live ≡ Some (linked n here) → value_at n called.live ≡ Some (linked n there) →
+        (under_way_for n caller called [] ≡ []) × (under_way_for n called caller [] ≡ []) }
 {}
