@@ -23,6 +23,10 @@ pub mod PhaseLaws
 pub mod PleaseCall
 pub mod PointCall
 pub mod Profiles
+pub mod ProjectCall
+pub mod ProjectLast
+pub mod ProjectTake
+pub mod Projects
 pub mod Promises
 pub mod ProjectCall
 pub mod ProjectLast
