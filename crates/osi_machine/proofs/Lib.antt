@@ -24,6 +24,7 @@ pub mod PleaseCall
 pub mod PointCall
 pub mod Profiles
 pub mod ProjectCall
+pub mod ProjectEnd
 pub mod ProjectLast
 pub mod ProjectTake
 pub mod Projects
