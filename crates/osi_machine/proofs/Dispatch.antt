@@ -104,7 +104,7 @@ twice ToThem = refl
 twice Pool = refl
 twice Absent = refl
 
-turned_twice : (o : Owners) → turned_owners (turned_owners o) ≡ o
+pub turned_twice : (o : Owners) → turned_owners (turned_owners o) ≡ o
 turned_twice o = λ i t. twice (o t) i
 
 turned_pair : (w : Core) → Stands w → Pair w.history w.peer w.own

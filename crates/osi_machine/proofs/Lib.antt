@@ -26,7 +26,11 @@ pub mod Profiles
 pub mod ProjectCall
 pub mod ProjectEnd
 pub mod ProjectLast
+pub mod ProjectOpen
+pub mod ProjectStart
+pub mod ProjectSteps
 pub mod ProjectTake
+pub mod ProjectWorld
 pub mod Projects
 pub mod Promises
 pub mod ProjectCall
@@ -57,3 +61,4 @@ pub mod Units
 pub mod ViewFold
 pub mod ViewLaws
 pub mod ViewRun
+pub mod Whole

@@ -77,7 +77,7 @@ kept_aside : (b : Bool) → (b && false) ≡ false
 kept_aside true = refl
 kept_aside false = refl
 
-last_good : (c : Core) (u : Meaning) → Stands c → c.peer.sent ≡ [] → IsLast c.peer.session u → respond_unit c.own.session u ≡ good c.own.session u
+pub last_good : (c : Core) (u : Meaning) → Stands c → c.peer.sent ≡ [] → IsLast c.peer.session u → respond_unit c.own.session u ≡ good c.own.session u
 last_good c (AB b o) s none l =
     acts_good c.own.session (AB b o) (record { lives = alive c.owner c.own c.peer s.own; heeds = kept_aside (is_restarting c.own.session.phase); good = record { expected = refl; met = tt } })
 last_good c (DN o) s none l =
@@ -132,7 +132,7 @@ over_not_acted s u o = gone (is_over s.phase) _ o
     gone true rest e = refl
     gone false rest e = absurd (cc)
 
-over_next : (s : State) (u : Meaning) → is_over s.phase ≡ true → is_over (respond_unit s u).next.phase ≡ true
+pub over_next : (s : State) (u : Meaning) → is_over s.phase ≡ true → is_over (respond_unit s u).next.phase ≡ true
 over_next s u o = not_acted (λ r. is_over r.phase ≡ true) s u (over_not_acted s u o) o refl refl
 
 plain_aborting : (s : State) (u : Meaning) → is_plain u ≡ true → in_aborting s u ≡ nothing s
@@ -153,7 +153,7 @@ first true x y h = refl
 first false x y h = absurd (cc)
 
 -- it discards what a side sends that is not
-over_nothing : (s : State) (u : Meaning) → is_over s.phase ≡ true → is_plain u ≡ true → respond_unit s u ≡ nothing s
+pub over_nothing : (s : State) (u : Meaning) → is_over s.phase ≡ true → is_plain u ≡ true → respond_unit s u ≡ nothing s
 unfolding respond_unit
 over_nothing s u o p = by (is_aborting s.phase) refl (is_ended s.phase) refl
   where
@@ -163,7 +163,7 @@ over_nothing s u o p = by (is_aborting s.phase) refl (is_ended s.phase) refl
     by false h true k = other (is_aborting s.phase) _ _ h ∙ first (is_ended s.phase) _ _ k ∙ plain_ended s u p
     by false h false k = absurd (let n = over_of false false s.phase h k in cc)
 
-not_true : (b : Bool) → not b ≡ false → b ≡ true
+pub not_true : (b : Bool) → not b ≡ false → b ≡ true
 not_true true h = refl
 not_true false h = absurd (cc)
 

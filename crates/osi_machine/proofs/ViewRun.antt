@@ -83,7 +83,7 @@ shown_untold Right t (i ∷ shown) = shown_untold Right t shown
 
 -- ---- a call
 
-answer_tells : (w : Core) (c : Call) (a : Answer) (t : Told) → stays_in_core c ≡ true → allowed w.own.session c ≡ a → Stands w → Tells t w.own.session w.own.view
+pub answer_tells : (w : Core) (c : Call) (a : Answer) (t : Told) → stays_in_core c ≡ true → allowed w.own.session c ≡ a → Stands w → Tells t w.own.session w.own.view
     → Tells (told_answer t c true (error_of a)) (answered w c a).own.session (answered w c a).own.view
 answer_tells w c (Ok g) t k e s h =
     let q = passed w.own.session c g e in
@@ -118,7 +118,7 @@ shown_of w (u ∷ us) = (respond_unit w.own.session u).shown
 abbrev Wanted : Core → Meaning → Told → Outcome → Bool → Type 0
 Wanted w u t o a = Tells (told_all t o.shown) o.next (if a then seen w.own.session u w.own.view else w.own.view)
 
-taken_tells : (w : Core) (us : List Meaning) (t : Told) → w.peer.sent ≡ us → Stands w → Tells t w.own.session w.own.view
+pub taken_tells : (w : Core) (us : List Meaning) (t : Told) → w.peer.sent ≡ us → Stands w → Tells t w.own.session w.own.view
     → (shown : List Shown) → shown_of w us ≡ shown → Tells (told_all t shown) (taking w us).own.session (taking w us).own.view
 taken_tells w [] t e s h shown k = subst (λ (i : List Shown). Tells (told_all t i) w.own.session w.own.view) k h
 taken_tells w (u ∷ us) t e s h shown k =

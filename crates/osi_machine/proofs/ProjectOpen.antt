@@ -1,0 +1,294 @@
+-- A message is taken where a connection was asked for and not yet agreed to; the first that a caller takes
+-- agrees to it, and the core begins.
+use Rattle.std.proofs.Common.{◌≡◌, refl, sym, ◌∙◌, ap, subst, ℕ, Bool, true, false, not, ◌&&◌, ◌||◌, if◌then◌else◌, List, [], ◌∷◌, ◌++◌, length, map, ◌⊎◌, inl, inr}
+use Rattle.std.specs.List.{list_any}
+use Rattle.osi_session.specs.Shown.{Shown, RefusedByTransport}
+use Rattle.osi_machine.specs.Floor.{State, Ended, Meaning, Token, is_over, awaiting, without_tokens}
+use Rattle.osi_machine.specs.Histories.{Item}
+use Rattle.osi_machine.specs.Owners.{Owner, Absent, Owners, is_own, turned_owner, no_owner, left_by}
+use Rattle.osi_machine.specs.Core.{Offer, Left, Right, offering, offer_sent, Core, core_start, turned}
+use Rattle.osi_machine.specs.Worlds.{Message, unit, ask, agree, deny, Transport, not_yet, waiting, linked, closing, gone, Kept, kept_of, End, World, session_of, put, moved, moves, Taking, unchanged, Terms, accepts, denies, asked_at, message_taken, turned as turned_world}
+use Rattle.osi_machine.specs.Machine.{without_first}
+use Rattle.osi_machine.specs.Views.{Told, untold}
+use Rattle.osi_machine.proofs.Promises.{offer_stands}
+use Rattle.osi_machine.proofs.ViewFold.{Tells, told_all}
+use Rattle.osi_machine.proofs.Projects.{stopped, parts, is_begun, Alike, Carried, OneSide, Projects}
+use Rattle.osi_machine.proofs.ProjectTake.{put_nothing}
+use Rattle.osi_machine.proofs.ProjectWorld.{Repeats}
+use Rattle.osi_machine.proofs.ProjectStart.{Waits, Idle, Left_it, Way, nothing_sent, asked, agreed, denied, asks, replies, suits, Opens, absent_left, absent_back}
+
+not_both : {A : Type 0} (b : Bool) → b ≡ true → b ≡ false → A
+not_both b p q = absurd (cc)
+
+-- ---- the start
+
+-- the connection once the caller has taken the agreement
+abbrev started : Bool → World → World
+started broken w = moved broken linked (offering w.offer) (unit (offer_sent w.offer) ∷ []) (without_first w [])
+
+absent_own : (p : Owner) → p ≡ Absent → is_own p ≡ false
+absent_own p e = ap is_own e
+
+absent_theirs : (p : Owner) → p ≡ Absent → is_own (turned_owner p) ≡ false
+absent_theirs p e = ap (λ (o : Owner). is_own (turned_owner o)) e
+
+first_carried : (broken : Bool) (channel : List Message) (m : Meaning) (s : State) → channel ≡ [] → Carried broken false (put broken (unit m ∷ []) channel) (m ∷ []) s
+first_carried true channel m s e = record { there = []; lost = m ∷ []; tail = []; splits = refl; carries = e; whole = inr refl; last = tt }
+first_carried false channel m s e =
+    record { there = m ∷ []; lost = []; tail = []; splits = refl; carries = ap (λ (ms : List Message). ms ++ unit m ∷ []) e; whole = inl refl; last = tt }
+
+first_parted : (broken : Bool) (o : Offer) (channel : List Message) → channel ≡ [] → list_any parts (put broken (unit (offer_sent o) ∷ []) channel) ≡ false
+first_parted true o channel e = ap (list_any parts) e
+first_parted false o channel e = ap (λ (ms : List Message). list_any parts (ms ++ unit (offer_sent o) ∷ [])) e
+
+started_own : (broken : Bool) (w : World) (t u : Told) → Opens w t u → Waits w.own → w.own.channel ≡ [] → OneSide broken (started broken w) (core_start w.offer)
+started_own broken w t u h k e = record {
+  begun = refl;
+  alike = λ l. record {
+    transport = refl;
+    kept = refl;
+    mark = k.mark;
+    said = k.said;
+    got = k.got;
+    owns = λ x. absent_own (left_by (offering w.offer) w.owner x) (absent_left (offering w.offer) w.owner x (h.owner x));
+  };
+  carried = λ l. record { there = []; lost = []; tail = []; splits = refl; carries = refl; whole = inl refl; last = tt };
+  parted = λ l. first_parted broken w.offer w.own.channel e;
+}
+
+started_alike : (broken : Bool) (w : World) (t u : Told) → Opens w t u → is_begun w.peer.transport ≡ true → stopped w.peer ≡ false
+    → Alike (turned_world (started broken w)) (turned (core_start w.offer))
+started_alike broken w t u h b l = elim h.called [
+  | inl k ↦ not_both (is_begun w.peer.transport) b (ap is_begun k.transport)
+  | inr r ↦ elim r [
+      | inl k ↦ record {
+          transport = k.transport;
+          kept = k.kept;
+          mark = k.mark;
+          said = k.said;
+          got = k.got;
+          owns = λ x. absent_theirs (left_by (offering w.offer) w.owner x) (absent_left (offering w.offer) w.owner x (h.owner x));
+        }
+      | inr k ↦ not_both (stopped w.peer) k.over_now l
+    ]
+]
+
+started_peer : (broken : Bool) (w : World) (t u : Told) → Opens w t u → is_begun w.peer.transport ≡ true → w.own.channel ≡ []
+    → OneSide broken (turned_world (started broken w)) (turned (core_start w.offer))
+started_peer broken w t u h b e = record {
+  begun = b;
+  alike = started_alike broken w t u h b;
+  carried = λ l. first_carried broken w.own.channel (offer_sent w.offer) (offering w.offer) e;
+  parted = λ l. refl;
+}
+
+start_repeats : (broken : Bool) (w : World) (t u : Told) → Opens w t u → Waits w.own → w.own.channel ≡ [] → is_begun w.peer.transport ≡ true → Repeats broken (started broken w) t u
+start_repeats broken w t u h k e b = record {
+  core = core_start w.offer;
+  stands = offer_stands w.offer h.small h.profile;
+  projects = record { history = h.history; own = started_own broken w t u h k e; peer = started_peer broken w t u h b e };
+  own = subst (λ (d : Told). Tells d (offering w.offer) []) (sym h.own_told) (record { asked = λ c. (refl, refl); fresh = λ o. refl; base = refl; view = λ d. refl; asking = refl });
+  peer = subst (λ (d : Told). Tells d awaiting []) (sym h.peer_told) (record { asked = λ c. absurd (cc); fresh = λ o. refl; base = refl; view = λ d. refl; asking = refl });
+}
+
+-- ---- what the caller takes
+
+-- nothing is closed, and the connection is still to be agreed to, or is
+pub record OpenTaken (broken : Bool) (t u : Told) (k : Taking) : Type 0 where
+  pub stays_open : k.closes ≡ false
+  pub leads : Opens k.world (told_all t k.shown) u ⊎ Repeats broken k.world (told_all t k.shown) u
+
+-- what was under way is gone
+answered : (w : World) (t u : Told) → Opens w t u → w.own.channel ≡ [] → Opens (without_first w []) t u
+answered w t u h e = record {
+  small = h.small;
+  profile = h.profile;
+  history = h.history;
+  owner = h.owner;
+  caller = h.caller;
+  called = elim h.called [
+    | inl k ↦ inl (record { transport = k.transport; kept = k.kept; mark = k.mark; said = k.said; got = k.got })
+    | inr r ↦ elim r [
+        | inl k ↦ inr (inl (record { transport = k.transport; kept = k.kept; mark = k.mark; said = k.said; got = k.got }))
+        | inr k ↦ inr (inr (record { transport = k.transport; over_now = k.over_now }))
+      ]
+  ];
+  way = nothing_sent;
+  own_channel = e;
+  peer_channel = refl;
+  suited = refl;
+  own_told = h.own_told;
+  peer_told = h.peer_told;
+}
+
+refused_now : (broken : Bool) (w : World) (t u : Told) (reason : ℕ) → Opens w t u → w.own.channel ≡ []
+    → Opens (moved broken gone (without_tokens Ended (session_of (without_first w []))) [] (without_first w [])) t u
+refused_now broken w t u reason h e =
+    let a = answered w t u h e in
+    record {
+      small = h.small;
+      profile = h.profile;
+      history = h.history;
+      owner = λ x. absent_left (without_tokens Ended (session_of (without_first w []))) w.owner x (h.owner x);
+      caller = inr (record { transport = refl; over_now = refl });
+      called = a.called;
+      way = nothing_sent;
+      own_channel = put_nothing broken w.own.channel ∙ e;
+      peer_channel = refl;
+      suited = refl;
+      own_told = h.own_told;
+      peer_told = h.peer_told;
+    }
+
+asks_none : (way : Way) (m : Message) (ms : List Message) → m ∷ ms ≡ replies way → asks way ≡ []
+asks_none nothing_sent m ms e = refl
+asks_none asked m ms e = absurd (cc)
+asks_none agreed m ms e = refl
+asks_none (denied r) m ms e = refl
+
+caller_agreed : (broken : Bool) (terms : Terms) (k : ℕ) (w : World) (t u : Told) → Opens w t u → w.own.channel ≡ [] → is_begun w.peer.transport ≡ true
+    → OpenTaken broken t u (message_taken broken terms k w.own.transport (without_first w []) agree)
+caller_agreed broken terms k w t u h e b = elim h.caller [
+  | inl c ↦ subst (λ (tr : Transport). OpenTaken broken t u (message_taken broken terms k tr (without_first w []) agree)) (sym c.transport)
+      (record { stays_open = refl; leads = inr (start_repeats broken w t u h c e b) })
+  | inr c ↦ subst (λ (tr : Transport). OpenTaken broken t u (message_taken broken terms k tr (without_first w []) agree)) (sym c.transport)
+      (record { stays_open = refl; leads = inl (answered w t u h e) })
+]
+
+caller_denied : (broken : Bool) (terms : Terms) (k : ℕ) (w : World) (t u : Told) (reason : ℕ) → Opens w t u → w.own.channel ≡ []
+    → OpenTaken broken t u (message_taken broken terms k w.own.transport (without_first w []) (deny reason))
+caller_denied broken terms k w t u reason h e = elim h.caller [
+  | inl c ↦ subst (λ (tr : Transport). OpenTaken broken t u (message_taken broken terms k tr (without_first w []) (deny reason))) (sym c.transport)
+      (record { stays_open = refl; leads = inl (refused_now broken w t u reason h e) })
+  | inr c ↦ subst (λ (tr : Transport). OpenTaken broken t u (message_taken broken terms k tr (without_first w []) (deny reason))) (sym c.transport)
+      (record { stays_open = refl; leads = inl (answered w t u h e) })
+]
+
+by_way : (broken : Bool) (terms : Terms) (k : ℕ) (w : World) (t u : Told) (m : Message) (ms : List Message) → Opens w t u → w.own.channel ≡ []
+    → (way : Way) → m ∷ ms ≡ replies way → suits way w.peer.transport ≡ true → OpenTaken broken t u (message_taken broken terms k w.own.transport (without_first w ms) m)
+by_way broken terms k w t u m ms h e nothing_sent f b = absurd (cc)
+by_way broken terms k w t u m ms h e asked f b = absurd (cc)
+by_way broken terms k w t u m ms h e agreed f b =
+    let same : agree ≡ m = cc in
+    let none : [] ≡ ms = cc in
+    subst (λ (x : Message). OpenTaken broken t u (message_taken broken terms k w.own.transport (without_first w ms) x)) same
+    (subst (λ (xs : List Message). OpenTaken broken t u (message_taken broken terms k w.own.transport (without_first w xs) agree)) none (caller_agreed broken terms k w t u h e b))
+by_way broken terms k w t u m ms h e (denied r) f b =
+    let same : deny r ≡ m = cc in
+    let none : [] ≡ ms = cc in
+    subst (λ (x : Message). OpenTaken broken t u (message_taken broken terms k w.own.transport (without_first w ms) x)) same
+    (subst (λ (xs : List Message). OpenTaken broken t u (message_taken broken terms k w.own.transport (without_first w xs) (deny r))) none (caller_denied broken terms k w t u r h e))
+
+pub caller_takes : (broken : Bool) (terms : Terms) (k : ℕ) (w : World) (t u : Told) (m : Message) (ms : List Message) → Opens w t u → w.peer.channel ≡ m ∷ ms
+    → OpenTaken broken t u (message_taken broken terms k w.own.transport (without_first w ms) m)
+caller_takes broken terms k w t u m ms h e =
+    let f = sym e ∙ h.peer_channel in
+    by_way broken terms k w t u m ms h (h.own_channel ∙ asks_none h.way m ms f) h.way f h.suited
+
+-- ---- what the called side takes
+
+pub record CalledTaken (t u : Told) (k : Taking) : Type 0 where
+  pub stays_open : k.closes ≡ false
+  pub leads : Opens (turned_world k.world) t (told_all u k.shown)
+
+-- the request is taken by a side that has ended
+asked_late : (w : World) (t u : Told) → Opens (turned_world w) t u → w.own.channel ≡ [] → Opens (turned_world (without_first w [])) t u
+asked_late w t u h e = record {
+  small = h.small;
+  profile = h.profile;
+  history = h.history;
+  owner = h.owner;
+  caller = elim h.caller [
+    | inl k ↦ inl (record { transport = k.transport; phase = k.phase; mark = k.mark; said = k.said; got = k.got })
+    | inr k ↦ inr (record { transport = k.transport; over_now = k.over_now })
+  ];
+  called = h.called;
+  way = nothing_sent;
+  own_channel = refl;
+  peer_channel = e;
+  suited = refl;
+  own_told = h.own_told;
+  peer_told = h.peer_told;
+}
+
+-- what a called side answers
+answer_of : Bool → Terms → Way
+answer_of true terms = nothing_sent
+answer_of false (accepts class) = agreed
+answer_of false (denies reason) = denied reason
+
+accepted_now : (broken : Bool) (w : World) (t u : Told) → Opens (turned_world w) t u → w.own.channel ≡ [] → Idle not_yet w.own
+    → (way : Way) → put broken (agree ∷ []) w.own.channel ≡ replies way → asks way ≡ [] → suits way linked ≡ true
+    → Opens (turned_world (moved broken linked awaiting (agree ∷ []) (without_first w []))) t u
+accepted_now broken w t u h e k way f none s =
+    let a = asked_late w t u h e in
+    record {
+      small = h.small;
+      profile = h.profile;
+      history = h.history;
+      owner = λ x. ap turned_owner (absent_left awaiting w.owner x (absent_back (w.owner x) (h.owner x)));
+      caller = a.caller;
+      called = inr (inl (record { transport = refl; kept = refl; mark = k.mark; said = k.said; got = k.got }));
+      way = way;
+      own_channel = sym none;
+      peer_channel = f;
+      suited = s;
+      own_told = h.own_told;
+      peer_told = h.peer_told;
+    }
+
+denied_now : (broken : Bool) (w : World) (t u : Told) (reason : ℕ) → Opens (turned_world w) t u → w.own.channel ≡ [] → Idle not_yet w.own
+    → (way : Way) → put broken (deny reason ∷ []) w.own.channel ≡ replies way → asks way ≡ [] → suits way w.own.transport ≡ true
+    → Opens (turned_world (record (without_first w []) { own = record w.own { channel = put broken (deny reason ∷ []) w.own.channel } })) t u
+denied_now broken w t u reason h e k way f none s =
+    let a = asked_late w t u h e in
+    record {
+      small = h.small;
+      profile = h.profile;
+      history = h.history;
+      owner = h.owner;
+      caller = a.caller;
+      called = inl (record { transport = k.transport; kept = k.kept; mark = k.mark; said = k.said; got = k.got });
+      way = way;
+      own_channel = sym none;
+      peer_channel = f;
+      suited = s;
+      own_told = h.own_told;
+      peer_told = h.peer_told;
+    }
+
+asked_now : (broken : Bool) (terms : Terms) (w : World) (t u : Told) → Opens (turned_world w) t u → w.own.channel ≡ [] → Idle not_yet w.own
+    → CalledTaken t u (unchanged (asked_at broken terms (without_first w [])))
+asked_now true (accepts class) w t u h e k = record { stays_open = refl; leads = accepted_now true w t u h e k nothing_sent e refl refl }
+asked_now false (accepts class) w t u h e k =
+    record { stays_open = refl; leads = accepted_now false w t u h e k agreed (ap (λ (ms : List Message). ms ++ agree ∷ []) e) refl refl }
+asked_now true (denies reason) w t u h e k = record { stays_open = refl; leads = denied_now true w t u reason h e k nothing_sent e refl refl }
+asked_now false (denies reason) w t u h e k =
+    record { stays_open = refl; leads = denied_now false w t u reason h e k (denied reason) (ap (λ (ms : List Message). ms ++ deny reason ∷ []) e) refl refl }
+
+asked_message : (broken : Bool) (terms : Terms) (k : ℕ) (w : World) (t u : Told) → Opens (turned_world w) t u → w.own.channel ≡ []
+    → CalledTaken t u (message_taken broken terms k w.own.transport (without_first w []) ask)
+asked_message broken terms k w t u h e = elim h.called [
+  | inl c ↦ subst (λ (tr : Transport). CalledTaken t u (message_taken broken terms k tr (without_first w []) ask)) (sym c.transport) (asked_now broken terms w t u h e c)
+  | inr r ↦ elim r [
+      | inl c ↦ subst (λ (tr : Transport). CalledTaken t u (message_taken broken terms k tr (without_first w []) ask)) (sym c.transport)
+          (record { stays_open = refl; leads = asked_late w t u h e })
+      | inr c ↦ subst (λ (tr : Transport). CalledTaken t u (message_taken broken terms k tr (without_first w []) ask)) (sym c.transport)
+          (record { stays_open = refl; leads = asked_late w t u h e })
+    ]
+]
+
+called_way : (broken : Bool) (terms : Terms) (k : ℕ) (w : World) (t u : Told) (m : Message) (ms : List Message) → Opens (turned_world w) t u
+    → (way : Way) → m ∷ ms ≡ asks way → w.own.channel ≡ replies way → CalledTaken t u (message_taken broken terms k w.own.transport (without_first w ms) m)
+called_way broken terms k w t u m ms h nothing_sent f e = absurd (cc)
+called_way broken terms k w t u m ms h agreed f e = absurd (cc)
+called_way broken terms k w t u m ms h (denied r) f e = absurd (cc)
+called_way broken terms k w t u m ms h asked f e =
+    let same : ask ≡ m = cc in
+    let none : [] ≡ ms = cc in
+    subst (λ (x : Message). CalledTaken t u (message_taken broken terms k w.own.transport (without_first w ms) x)) same
+    (subst (λ (xs : List Message). CalledTaken t u (message_taken broken terms k w.own.transport (without_first w xs) ask)) none (asked_message broken terms k w t u h e))
+
+pub called_takes : (broken : Bool) (terms : Terms) (k : ℕ) (w : World) (t u : Told) (m : Message) (ms : List Message) → Opens (turned_world w) t u → w.peer.channel ≡ m ∷ ms
+    → CalledTaken t u (message_taken broken terms k w.own.transport (without_first w ms) m)
+called_takes broken terms k w t u m ms h e = called_way broken terms k w t u m ms h h.way (sym e ∙ h.own_channel) h.peer_channel

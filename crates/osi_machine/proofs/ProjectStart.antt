@@ -1,0 +1,323 @@
+-- A whole connection that was asked for and not yet agreed to: nobody owns, sees or sends anything.
+use Rattle.std.proofs.Common.{◌≡◌, refl, sym, ◌∙◌, ap, subst, ℕ, ◌<◌, zero, suc, Bool, true, false, not, ◌&&◌, ◌||◌, if◌then◌else◌, List, [], ◌∷◌, ◌++◌, length, take, ◌⊎◌, inl, inr, Ok, Err, arith}
+use Rattle.std.proofs.Math.Seq.{take-nil}
+use Rattle.std.specs.List.{list_any}
+use Rattle.osi_session.specs.declared.faults.CallError.TheVariants as error
+use Rattle.osi_session.specs.Shown.{Shown}
+use Rattle.osi_session.specs.Phases.{may_abort}
+use Rattle.osi_machine.specs.Floor.{State, Phase, Ended, Token, Call, Accept, Refuse, Data, Give, Please, Minor, MinorConfirm, Major, MajorConfirm, Restart, RestartConfirm, Release, ReleaseAccept, ReleaseRefuse, Abort, Answer, CallError, allowed, may_call, is_over, is_wait_transport, is_wait_cn, is_answering, is_ready, is_major_due, is_release_due, is_restart_due, may_give, may_ask, may_confirm_minor, may_restart, is_profile, awaiting, lost, without_tokens}
+use Rattle.osi_machine.specs.Histories.{Item}
+use Rattle.osi_machine.specs.Owners.{Owner, Own, Theirs, ToOwn, ToThem, Pool, Absent, Owners, own_to_pool, given_up, is_own, turned_owner, turned_owners, no_owner, left_by}
+use Rattle.osi_machine.specs.Core.{Offer, Left, Right, offering, offer_sent, party_of, Core, core_start, turned}
+use Rattle.osi_machine.specs.Worlds.{Message, unit, ask, agree, deny, bye, over, Transport, not_yet, waiting, linked, closing, gone, Kept, kept_of, End, World, session_of, after_answer, put, moved, moves, shortened, Taking, unchanged, Terms, accepts, denies, asked_at, asked_with, message_taken, ended_at, shown_at_end, turned as turned_world}
+use Rattle.osi_machine.specs.Machine.{without_first}
+use Rattle.osi_machine.specs.Views.{Told, untold}
+use Rattle.osi_machine.proofs.PhaseLaws.{excluded}
+use Rattle.osi_machine.proofs.Promises.{offer_stands}
+use Rattle.osi_machine.proofs.ViewFold.{Tells, told_all}
+use Rattle.osi_machine.proofs.Projects.{stopped, parts, is_begun, Alike, Carried, OneSide, Projects}
+use Rattle.osi_machine.proofs.ProjectTake.{put_nothing}
+use Rattle.osi_machine.proofs.ProjectWorld.{Repeats, told_answer, refused}
+use Rattle.osi_machine.proofs.ProjectSteps.{loss_told}
+
+-- ---- the lines
+
+-- a side that has taken nothing yet
+pub record Waits (x : End) : Type 0 where
+  pub transport : x.transport ≡ waiting
+  pub phase : is_wait_transport x.kept.phase ≡ true
+  pub mark : x.mark ≡ 0
+  pub said : x.said ≡ []
+  pub got : x.got ≡ 0
+
+pub record Idle (tr : Transport) (x : End) : Type 0 where
+  pub transport : x.transport ≡ tr
+  pub kept : x.kept ≡ kept_of awaiting
+  pub mark : x.mark ≡ 0
+  pub said : x.said ≡ []
+  pub got : x.got ≡ 0
+
+-- a side that was denied, or has ended
+pub record Left_it (x : End) : Type 0 where
+  pub transport : x.transport ≡ gone
+  pub over_now : stopped x ≡ true
+
+-- what is under way
+pub data Way : Type 0 where
+  nothing_sent : Way
+  asked : Way
+  agreed : Way
+  denied : ℕ → Way
+
+abbrev pub asks : Way → List Message
+asks asked = ask ∷ []
+asks _ = []
+
+abbrev pub replies : Way → List Message
+replies agreed = agree ∷ []
+replies (denied reason) = deny reason ∷ []
+replies _ = []
+
+abbrev pub suits : Way → Transport → Bool
+suits agreed tr = is_begun tr
+suits _ tr = true
+
+-- seen from the caller; t and u are what the records of both sides tell
+pub record Opens (w : World) (t u : Told) : Type 0 where
+  pub small : w.offer.serial < 1000000
+  pub profile : is_profile w.offer.requirements ≡ true
+  pub history : w.history ≡ []
+  pub owner : (k : Token) → w.owner k ≡ Absent
+  pub caller : Waits w.own ⊎ Left_it w.own
+  pub called : Idle not_yet w.peer ⊎ (Idle linked w.peer ⊎ Left_it w.peer)
+  pub way : Way
+  pub own_channel : w.own.channel ≡ asks way
+  pub peer_channel : w.peer.channel ≡ replies way
+  pub suited : suits way w.peer.transport ≡ true
+  pub own_told : t ≡ untold Left w.offer
+  pub peer_told : u ≡ untold Right w.offer
+
+pub asked_opens : (o : Offer) → o.serial < 1000000 → is_profile o.requirements ≡ true → Opens (asked_with o) (untold Left o) (untold Right o)
+asked_opens o small profile = record {
+  small = small;
+  profile = profile;
+  history = refl;
+  owner = λ k. refl;
+  caller = inl (record { transport = refl; phase = refl; mark = refl; said = refl; got = refl });
+  called = inl (record { transport = refl; kept = refl; mark = refl; said = refl; got = refl });
+  way = asked;
+  own_channel = refl;
+  peer_channel = refl;
+  suited = refl;
+  own_told = refl;
+  peer_told = refl;
+}
+
+-- ---- every call is refused
+
+abbrev is_early : Phase → Bool
+is_early p = is_wait_transport p || is_wait_cn p
+
+no_call : (p : Phase) (x : Call) → is_early p ≡ true → may_call p x ≡ false
+no_call p (Accept u n a o) h = excluded is_early is_answering refl p h
+no_call p (Refuse o) h = excluded is_early is_answering refl p h
+no_call p (Data o) h = excluded is_early is_ready refl p h
+no_call p (Give k) h = excluded is_early may_give refl p h
+no_call p (Please k o) h = excluded is_early may_ask refl p h
+no_call p (Minor c o) h = excluded is_early is_ready refl p h
+no_call p (MinorConfirm n o) h = excluded is_early may_confirm_minor refl p h
+no_call p (Major o) h = excluded is_early is_ready refl p h
+no_call p (MajorConfirm o) h = excluded is_early is_major_due refl p h
+no_call p (Restart n x o) h = excluded is_early may_restart refl p h
+no_call p (RestartConfirm a o) h = excluded is_early is_restart_due refl p h
+no_call p (Release o) h = excluded is_early is_ready refl p h
+no_call p (ReleaseAccept o) h = excluded is_early is_release_due refl p h
+no_call p (ReleaseRefuse o) h = excluded is_early is_release_due refl p h
+no_call p (Abort o) h = excluded is_early may_abort refl p h
+
+refused_early : (s : State) (x : Call) → is_early s.phase ≡ true → allowed s x ≡ Err error.BadState
+unfolding allowed
+refused_early s x h =
+    other (is_over s.phase) _ _ (excluded is_early is_over refl s.phase h) ∙ first (not (may_call s.phase x)) _ _ (ap not (no_call s.phase x h))
+  where
+    first : (b : Bool) (a c : Answer) → b ≡ true → (if b then a else c) ≡ a
+    first true a c e = refl
+    first false a c e = absurd (cc)
+
+    other : (b : Bool) (a c : Answer) → b ≡ false → (if b then a else c) ≡ c
+    other true a c e = absurd (cc)
+    other false a c e = refl
+
+or_first : (a b : Bool) → a ≡ true → (a || b) ≡ true
+or_first a b e = rw e refl
+
+or_second : (a b : Bool) → b ≡ true → (a || b) ≡ true
+or_second true b e = refl
+or_second false b e = e
+
+-- a call that is refused changes nothing
+pub record Refuses (s : State) (x : Call) : Type 0 where
+  pub fault : CallError
+  pub refused : allowed s x ≡ Err fault
+
+pub caller_refuses : (w : World) (t u : Told) (x : Call) → Opens w t u → Refuses (session_of w) x
+caller_refuses w t u x h = elim h.caller [
+  | inl k ↦ record { fault = error.BadState; refused = refused_early (session_of w) x (or_first (is_wait_transport w.own.kept.phase) (is_wait_cn w.own.kept.phase) k.phase) }
+  | inr k ↦ record { fault = error.Ended; refused = refused (session_of w) x k.over_now }
+]
+
+waits_cn : (tr : Transport) (w : World) (x : Call) → Idle tr w.own → Refuses (session_of w) x
+waits_cn tr w x k = record {
+  fault = error.BadState;
+  refused = refused_early (session_of w) x (or_second (is_wait_transport w.own.kept.phase) (is_wait_cn w.own.kept.phase) (ap (λ (y : Kept). is_wait_cn y.phase) k.kept));
+}
+
+pub called_refuses : (w : World) (t u : Told) (x : Call) → Opens w t u → Refuses (session_of (turned_world w)) x
+called_refuses w t u x h = elim h.called [
+  | inl k ↦ waits_cn not_yet (turned_world w) x k
+  | inr k ↦ elim k [
+      | inl i ↦ waits_cn linked (turned_world w) x i
+      | inr g ↦ record { fault = error.Ended; refused = refused (session_of (turned_world w)) x g.over_now }
+    ]
+]
+
+-- ---- an end
+
+pub absent_left : (s : State) (o : Owners) (k : Token) → o k ≡ Absent → left_by s o k ≡ Absent
+absent_left s o k e = by (is_over s.phase)
+  where
+    by : (b : Bool) → (if b then given_up o else o) k ≡ Absent
+    by true = ap own_to_pool e
+    by false = e
+
+pub absent_back : (p : Owner) → turned_owner p ≡ Absent → p ≡ Absent
+absent_back Absent e = refl
+absent_back Own e = absurd (cc)
+absent_back Theirs e = absurd (cc)
+absent_back ToOwn e = absurd (cc)
+absent_back ToThem e = absurd (cc)
+absent_back Pool e = absurd (cc)
+
+-- what is left of what is under way
+abbrev cut_asks : ℕ → Way → Way
+cut_asks zero asked = nothing_sent
+cut_asks k way = way
+
+abbrev cut_replies : ℕ → Way → Way
+cut_replies zero agreed = nothing_sent
+cut_replies zero (denied reason) = nothing_sent
+cut_replies k way = way
+
+take_asks : (k : ℕ) (way : Way) → take k (asks way) ≡ asks (cut_asks k way)
+take_asks zero asked = refl
+take_asks zero nothing_sent = refl
+take_asks zero agreed = refl
+take_asks zero (denied r) = refl
+take_asks (suc k) asked = ap (λ (ms : List Message). ask ∷ ms) (take-nil k)
+take_asks (suc k) nothing_sent = refl
+take_asks (suc k) agreed = refl
+take_asks (suc k) (denied r) = refl
+
+take_replies : (k : ℕ) (way : Way) → take k (replies way) ≡ replies (cut_replies k way)
+take_replies zero asked = refl
+take_replies zero nothing_sent = refl
+take_replies zero agreed = refl
+take_replies zero (denied r) = refl
+take_replies (suc k) asked = refl
+take_replies (suc k) nothing_sent = refl
+take_replies (suc k) agreed = ap (λ (ms : List Message). agree ∷ ms) (take-nil k)
+take_replies (suc k) (denied r) = ap (λ (ms : List Message). deny r ∷ ms) (take-nil k)
+
+-- only one of both sides has something under way
+replies_kept : (k : ℕ) (way : Way) → replies (cut_asks k way) ≡ replies way
+replies_kept zero asked = refl
+replies_kept zero nothing_sent = refl
+replies_kept zero agreed = refl
+replies_kept zero (denied r) = refl
+replies_kept (suc k) asked = refl
+replies_kept (suc k) nothing_sent = refl
+replies_kept (suc k) agreed = refl
+replies_kept (suc k) (denied r) = refl
+
+asks_kept : (k : ℕ) (way : Way) → asks (cut_replies k way) ≡ asks way
+asks_kept zero asked = refl
+asks_kept zero nothing_sent = refl
+asks_kept zero agreed = refl
+asks_kept zero (denied r) = refl
+asks_kept (suc k) asked = refl
+asks_kept (suc k) nothing_sent = refl
+asks_kept (suc k) agreed = refl
+asks_kept (suc k) (denied r) = refl
+
+suits_asks : (k : ℕ) (way : Way) (tr : Transport) → suits way tr ≡ true → suits (cut_asks k way) tr ≡ true
+suits_asks zero asked tr h = refl
+suits_asks zero nothing_sent tr h = refl
+suits_asks zero agreed tr h = h
+suits_asks zero (denied r) tr h = refl
+suits_asks (suc k) asked tr h = refl
+suits_asks (suc k) nothing_sent tr h = refl
+suits_asks (suc k) agreed tr h = h
+suits_asks (suc k) (denied r) tr h = refl
+
+suits_replies : (k : ℕ) (way : Way) (tr : Transport) → suits way tr ≡ true → suits (cut_replies k way) tr ≡ true
+suits_replies zero asked tr h = refl
+suits_replies zero nothing_sent tr h = refl
+suits_replies zero agreed tr h = refl
+suits_replies zero (denied r) tr h = refl
+suits_replies (suc k) asked tr h = refl
+suits_replies (suc k) nothing_sent tr h = refl
+suits_replies (suc k) agreed tr h = h
+suits_replies (suc k) (denied r) tr h = refl
+
+suits_gone : (way : Way) → suits way gone ≡ true
+suits_gone asked = refl
+suits_gone nothing_sent = refl
+suits_gone agreed = refl
+suits_gone (denied r) = refl
+
+-- the caller ends, and the called side
+pub caller_ends : (k : ℕ) (w : World) (t u : Told) → Opens w t u → Opens (ended_at k w) (told_all t (shown_at_end w)) u
+caller_ends k w t u h = record {
+  small = h.small;
+  profile = h.profile;
+  history = h.history;
+  owner = λ x. absent_left (lost (session_of (shortened k w))).next w.owner x (h.owner x);
+  caller = inr (record { transport = refl; over_now = refl });
+  called = h.called;
+  way = cut_asks k h.way;
+  own_channel = ap (take k) h.own_channel ∙ take_asks k h.way;
+  peer_channel = h.peer_channel ∙ sym (replies_kept k h.way);
+  suited = suits_asks k h.way w.peer.transport h.suited;
+  own_told = loss_told t (session_of w) ∙ h.own_told;
+  peer_told = h.peer_told;
+}
+
+pub called_ends : (k : ℕ) (w : World) (t u : Told) → Opens (turned_world w) t u → Opens (turned_world (ended_at k w)) t (told_all u (shown_at_end w))
+called_ends k w t u h = record {
+  small = h.small;
+  profile = h.profile;
+  history = h.history;
+  owner = λ x. ap turned_owner (absent_left (lost (session_of (shortened k w))).next w.owner x (absent_back (w.owner x) (h.owner x)));
+  caller = h.caller;
+  called = inr (inr (record { transport = refl; over_now = refl }));
+  way = cut_replies k h.way;
+  own_channel = h.own_channel ∙ sym (asks_kept k h.way);
+  peer_channel = ap (take k) h.peer_channel ∙ take_replies k h.way;
+  suited = suits_gone (cut_replies k h.way);
+  own_told = h.own_told;
+  peer_told = loss_told u (session_of w) ∙ h.peer_told;
+}
+
+-- ---- a break
+
+abbrev pub cut_both : ℕ → ℕ → World → World
+cut_both k j w = record w { own = record w.own { channel = take k w.own.channel }; peer = record w.peer { channel = take j w.peer.channel } }
+
+caller_kept : (x : End) (ch : List Message) → Waits x ⊎ Left_it x → Waits (record x { channel = ch }) ⊎ Left_it (record x { channel = ch })
+caller_kept x ch (inl h) = inl (record { transport = h.transport; phase = h.phase; mark = h.mark; said = h.said; got = h.got })
+caller_kept x ch (inr h) = inr (record { transport = h.transport; over_now = h.over_now })
+
+idle_kept : (tr : Transport) (x : End) (ch : List Message) → Idle tr x → Idle tr (record x { channel = ch })
+idle_kept tr x ch h = record { transport = h.transport; kept = h.kept; mark = h.mark; said = h.said; got = h.got }
+
+called_kept : (x : End) (ch : List Message) → Idle not_yet x ⊎ (Idle linked x ⊎ Left_it x)
+    → Idle not_yet (record x { channel = ch }) ⊎ (Idle linked (record x { channel = ch }) ⊎ Left_it (record x { channel = ch }))
+called_kept x ch (inl h) = inl (idle_kept not_yet x ch h)
+called_kept x ch (inr (inl h)) = inr (inl (idle_kept linked x ch h))
+called_kept x ch (inr (inr h)) = inr (inr (record { transport = h.transport; over_now = h.over_now }))
+
+pub break_opens : (k j : ℕ) (w : World) (t u : Told) → Opens w t u → Opens (cut_both k j w) t u
+break_opens k j w t u h = record {
+  small = h.small;
+  profile = h.profile;
+  history = h.history;
+  owner = h.owner;
+  caller = caller_kept w.own (take k w.own.channel) h.caller;
+  called = called_kept w.peer (take j w.peer.channel) h.called;
+  way = cut_replies j (cut_asks k h.way);
+  own_channel = ap (take k) h.own_channel ∙ take_asks k h.way ∙ sym (asks_kept j (cut_asks k h.way));
+  peer_channel = ap (take j) (h.peer_channel ∙ sym (replies_kept k h.way)) ∙ take_replies j (cut_asks k h.way);
+  suited = suits_replies j (cut_asks k h.way) w.peer.transport (suits_asks k h.way w.peer.transport h.suited);
+  own_told = h.own_told;
+  peer_told = h.peer_told;
+}

@@ -1,0 +1,244 @@
+-- A whole connection at every step: one of which nothing is lost repeats it, and the records of both sides
+-- tell what that one has seen.
+use Rattle.std.proofs.Common.{◌≡◌, refl, sym, ◌∙◌, ap, subst, ℕ, Bool, true, false, not, ◌&&◌, ◌||◌, if◌then◌else◌, List, [], ◌∷◌, ◌++◌, take, Option, Some, None, ◌⊎◌, inl, inr, Ok, Err}
+use Rattle.std.specs.List.{list_any}
+use Rattle.osi_session.specs.declared.faults.CallError.TheVariants as error
+use Rattle.osi_session.specs.Shown.{Shown, Aborted, PeerAbort, Lost}
+use Rattle.osi_message.specs.Reading.{names}
+use Rattle.osi_session.specs.Respond.{shown_for, closes_for}
+use Rattle.osi_machine.specs.Floor.{State, Meaning, RF, DN, AB, AA, Call, Accept, Refuse, ReleaseAccept, Abort, CallError, Granted, Answer, HasSerial, Outcome, nothing, good, allowed, is_over, is_aborting, is_ended, is_wait_cn, shows_loss, in_aborting, in_ended, respond_unit, drops, lost}
+use Rattle.osi_machine.specs.Owners.{Owners}
+use Rattle.osi_machine.specs.Channels.{is_plain}
+use Rattle.osi_machine.specs.Core.{Core, turned, stays_in_core, answered, taking}
+use Rattle.osi_machine.specs.Worlds.{Message, unit, ask, agree, deny, bye, over, Transport, not_yet, waiting, linked, closing, gone, End, World, session_of, after_call, after_answer, after_unit, Taking, unit_taken, unchanged, Terms, message_taken, closed, ended_at, shown_at_end, turned as turned_world}
+use Rattle.osi_machine.specs.Machine.{Entry, call_answered, error_of, without_first}
+use Rattle.osi_machine.specs.Views.{Told, told_call, told_shown}
+use Rattle.osi_machine.proofs.CoreLaws.{SessionLaws}
+use Rattle.osi_machine.proofs.Records.{Stands}
+use Rattle.osi_machine.proofs.Acting.{no_fault, over_of}
+use Rattle.osi_machine.proofs.Alive.{alive}
+use Rattle.osi_machine.proofs.TakeMoves.{at, stands_at}
+use Rattle.osi_machine.proofs.Dispatch.{called_stands, taking_stands, turned_stands, turned_twice}
+use Rattle.osi_machine.proofs.ViewFold.{Tells, told_all}
+use Rattle.osi_machine.proofs.ViewRun.{answer_tells, taken_tells}
+use Rattle.osi_machine.proofs.Projects.{stopped, parts, is_begun, IsLast, Carried, OneSide, Projects, both_over, session_is}
+use Rattle.osi_machine.proofs.ProjectCall.{call_projects, stop_projects}
+use Rattle.osi_machine.proofs.ProjectTake.{First, Last, took, split_first, take_projects}
+use Rattle.osi_machine.proofs.ProjectLast.{last_projects, last_good, over_projects, over_next, over_nothing, not_true}
+use Rattle.osi_machine.proofs.ProjectEnd.{break_projects, end_projects, comes_unit, parting_over, unlinked_over, is_linked, is_unit, popped_projects, closed_projects, bye_projects}
+
+-- t and u are what the records of this side and of the other tell
+pub record Repeats (broken : Bool) (w : World) (t u : Told) : Type 0 where
+  pub core : Core
+  pub stands : Stands core
+  pub projects : Projects broken w core
+  pub own : Tells t core.own.session core.own.view
+  pub peer : Tells u core.peer.session core.peer.view
+
+-- the same, as the other side sees it
+pub turned_repeats : (broken : Bool) (w : World) (t u : Told) → Repeats broken w t u → Repeats broken (turned_world w) u t
+turned_repeats broken w t u h = record {
+  core = turned h.core;
+  stands = turned_stands h.core h.stands;
+  projects = record {
+    history = h.projects.history;
+    own = h.projects.peer;
+    peer = subst (λ (o : Owners). OneSide broken (record w { owner = o }) (turned (turned h.core))) (sym (turned_twice w.owner))
+        (subst (λ (o : Owners). OneSide broken w (record { history = h.core.history; owner = o; own = h.core.own; peer = h.core.peer })) (sym (turned_twice h.core.owner)) h.projects.own);
+  };
+  own = h.peer;
+  peer = h.own;
+}
+
+-- ---- a call
+
+-- what a call does to a connection, where this is the session
+abbrev answered_by : Bool → State → Call → World → Answer → World
+answered_by broken s x w (Ok g) = after_call broken s x g w
+answered_by broken s x w (Err e) = w
+
+abbrev pub told_answer : Told → Call → Answer → Told
+told_answer t x (Ok g) = told_call t x
+told_answer t x (Err e) = t
+
+stop_told : (t : Told) (x : Call) → stays_in_core x ≡ false → told_call t x ≡ t
+stop_told t (Refuse o) k = refl
+stop_told t (ReleaseAccept o) k = refl
+stop_told t (Abort o) k = refl
+stop_told t _ k = absurd (cc)
+
+core_answer : SessionLaws → (broken : Bool) (w : World) (t u : Told) (x : Call) → HasSerial x → (h : Repeats broken w t u) → stopped w.own ≡ false
+    → (k : Bool) → stays_in_core x ≡ k → (a : Answer) → allowed h.core.own.session x ≡ a → Repeats broken (answered_by broken h.core.own.session x w a) (told_answer t x a) u
+core_answer laws broken w t u x small h l k q (Err d) e = h
+core_answer laws broken w t u x small h l true q (Ok g) e = record {
+  core = answered h.core x (Ok g);
+  stands = subst (λ (a : Answer). Stands (answered h.core x a)) e
+      (subst (λ (b : Bool). Stands (if b then answered h.core x (allowed h.core.own.session x) else h.core)) q (called_stands laws h.core x small h.stands));
+  projects = call_projects broken w h.core x g q l h.projects h.stands e;
+  own = answer_tells h.core x (Ok g) t q e h.stands h.own;
+  peer = h.peer;
+}
+core_answer laws broken w t u x small h l false q (Ok g) e = record {
+  core = h.core;
+  stands = h.stands;
+  projects = stop_projects broken w h.core x g q l h.projects e;
+  own = subst (λ (d : Told). Tells d h.core.own.session h.core.own.view) (sym (stop_told t x q)) h.own;
+  peer = h.peer;
+}
+
+answers_as : (broken : Bool) (w : World) (x : Call) (a : Answer) → answered_by broken (session_of w) x w a ≡ after_answer broken x w a
+answers_as broken w x (Ok g) = refl
+answers_as broken w x (Err e) = refl
+
+pub refused : (s : State) (x : Call) → is_over s.phase ≡ true → allowed s x ≡ Err error.Ended
+unfolding allowed
+refused s x o = first (is_over s.phase) _ _ o
+  where
+    first : (b : Bool) (a c : Answer) → b ≡ true → (if b then a else c) ≡ a
+    first true a c e = refl
+    first false a c e = absurd (cc)
+
+pub call_repeats : SessionLaws → (broken : Bool) (w : World) (t u : Told) (x : Call) → HasSerial x → Repeats broken w t u
+    → Repeats broken (after_answer broken x w (allowed (session_of w) x)) (told_answer t x (allowed (session_of w) x)) u
+call_repeats laws broken w t u x small h = by (stopped w.own) refl
+  where
+    by : (b : Bool) → stopped w.own ≡ b → Repeats broken (after_answer broken x w (allowed (session_of w) x)) (told_answer t x (allowed (session_of w) x)) u
+    by true o = subst (λ (a : Answer). Repeats broken (after_answer broken x w a) (told_answer t x a) u) (sym (refused (session_of w) x o)) h
+    by false l =
+        let e = session_is w h.core h.stands h.projects.history (h.projects.own.alike l) in
+        subst (λ (v : World). Repeats broken v (told_answer t x (allowed (session_of w) x)) u) (answers_as broken w x (allowed (session_of w) x))
+        (subst (λ (s : State). Repeats broken (answered_by broken s x w (allowed s x)) (told_answer t x (allowed s x)) u) (sym e)
+        (core_answer laws broken w t u x small h l (stays_in_core x) refl (allowed h.core.own.session x) refl))
+
+-- ---- a message that is taken
+
+-- the connection after it, what the record then tells, and that a side that closes is over, and so is the other
+pub record Taken (broken : Bool) (t u : Told) (k : Taking) : Type 0 where
+  pub repeats : Repeats broken k.world (told_all t k.shown) u
+  pub over_now : k.closes ≡ true → (stopped k.world.own ≡ true) × (stopped k.world.peer ≡ true)
+
+unit_as : Bool → World → Meaning → List Message → State → Taking
+unit_as broken w m ms s = record { world = after_unit broken s m (without_first w ms); shown = (respond_unit s m).shown; closes = (respond_unit s m).closes }
+
+-- the first unit of the core's channel
+plain_open : (u : Meaning) → is_plain u ≡ true → closes_for u ≡ false
+plain_open (RF x o) p = absurd (cc)
+plain_open (DN o) p = absurd (cc)
+plain_open _ p = refl
+
+first_open : (c : Core) (m : Meaning) (us : List Meaning) → Stands (at c (m ∷ us)) → (respond_unit c.own.session m).closes ≡ false
+first_open c m us s = ap (λ (o : Outcome). o.closes) (no_fault c.own.session m (alive c.owner c.own (at c (m ∷ us)).peer s.own) s.own.fits.0) ∙ by (drops c.own.session m) s.own.fits.0.plain
+  where
+    by : (b : Bool) → is_plain m ≡ true → (if b then nothing c.own.session else good c.own.session m).closes ≡ false
+    by true p = refl
+    by false p = plain_open m p
+
+not_both : {A : Type 0} (b : Bool) → b ≡ true → b ≡ false → A
+not_both b p q = absurd (cc)
+
+take_first : SessionLaws → (broken : Bool) (w : World) (t u : Told) (m : Meaning) (ms : List Message) (h : Repeats broken w t u) → stopped w.own ≡ false → w.peer.channel ≡ unit m ∷ ms
+    → First broken (stopped w.peer) m ms h.core.peer.sent h.core.peer.session → Taken broken t u (unit_as broken w m ms h.core.own.session)
+unfolding unit_as
+take_first laws broken w t u m ms h l e f =
+    let all = stands_at h.core (m ∷ f.rest) f.sent_is h.stands in
+    let then_all = taking_stands laws h.core (m ∷ f.rest) f.sent_is h.stands in
+    record {
+      repeats = record {
+        core = taking h.core (m ∷ f.rest);
+        stands = then_all;
+        projects = take_projects broken w h.core m f.rest ms h.projects all then_all l e f.carried;
+        own = taken_tells h.core (m ∷ f.rest) t f.sent_is h.stands h.own (respond_unit h.core.own.session m).shown refl;
+        peer = h.peer;
+      };
+      over_now = λ k. not_both (respond_unit h.core.own.session m).closes k (first_open h.core m f.rest all);
+    }
+
+-- the last of a side that is over
+last_told : (t : Told) (s r : State) (m : Meaning) → IsLast r m → told_all t (shown_for s m) ≡ t
+last_told t s r (RF x o) l = refl
+last_told t s r (DN o) l = refl
+last_told t s r (AB b o) l =
+    subst (λ (n : ℕ). told_all t (if is_wait_cn s.phase then [] else (if names n 2 then Aborted o else PeerAbort n) ∷ []) ≡ t) (sym l) (by (is_wait_cn s.phase))
+  where
+    by : (a : Bool) → told_all t (if a then [] else Aborted o ∷ []) ≡ t
+    by true = refl
+    by false = refl
+last_told t s r _ l = absurd (l)
+
+take_last : (broken : Bool) (w : World) (t u : Told) (m : Meaning) (ms : List Message) (h : Repeats broken w t u)
+    → Last (stopped w.peer) m ms h.core.peer.sent h.core.peer.session → Taken broken t u (unit_as broken w m ms h.core.own.session)
+unfolding unit_as
+take_last broken w t u m ms h l =
+    let p = last_projects broken w h.core m ms h.projects h.stands l in
+    record {
+      repeats = record {
+        core = h.core;
+        stands = h.stands;
+        projects = p.1;
+        own = subst (λ (d : Told). Tells d h.core.own.session h.core.own.view)
+            (sym (ap (λ (o : Outcome). told_all t o.shown) (last_good h.core m h.stands l.none l.last) ∙ last_told t h.core.own.session h.core.peer.session m l.last)) h.own;
+        peer = h.peer;
+      };
+      over_now = λ k. (p.0, l.ended);
+    }
+
+-- any, at a side that is over
+over_silent : (s : State) (m : Meaning) → is_over s.phase ≡ true → (respond_unit s m).shown ≡ []
+unfolding respond_unit
+over_silent s m o = by (is_aborting s.phase) refl (is_ended s.phase) refl
+  where
+    aborting : (m : Meaning) → (in_aborting s m).shown ≡ []
+    aborting (AB b o) = refl
+    aborting AA = refl
+    aborting _ = refl
+
+    ended : (m : Meaning) → (in_ended s m).shown ≡ []
+    ended (AB b o) = refl
+    ended _ = refl
+
+    other : (b : Bool) (x y : Outcome) → b ≡ false → (if b then x else y) ≡ y
+    other true x y h = absurd (cc)
+    other false x y h = refl
+
+    first : (b : Bool) (x y : Outcome) → b ≡ true → (if b then x else y) ≡ x
+    first true x y h = refl
+    first false x y h = absurd (cc)
+
+    by : (a : Bool) → is_aborting s.phase ≡ a → (e : Bool) → is_ended s.phase ≡ e → (respond_unit s m).shown ≡ []
+    by true h e k = ap (λ (x : Outcome). x.shown) (first (is_aborting s.phase) _ _ h) ∙ aborting m
+    by false h true k = ap (λ (x : Outcome). x.shown) (other (is_aborting s.phase) _ _ h ∙ first (is_ended s.phase) _ _ k) ∙ ended m
+    by false h false k = absurd (let n = over_of false false s.phase h k in cc)
+
+take_over : (broken : Bool) (w : World) (t u : Told) (m : Meaning) (ms : List Message) → Repeats broken w t u → stopped w.own ≡ true → w.peer.channel ≡ unit m ∷ ms
+    → Taken broken t u (unit_as broken w m ms (session_of w))
+unfolding unit_as
+take_over broken w t u m ms h o e = record {
+  repeats = record {
+    core = h.core;
+    stands = h.stands;
+    projects = over_projects broken w h.core m ms h.projects o e;
+    own = subst (λ (i : List Shown). Tells (told_all t i) h.core.own.session h.core.own.view) (sym (over_silent (session_of w) m o)) h.own;
+    peer = h.peer;
+  };
+  over_now = λ k. (over_next (session_of w) m o, parting_over broken w h.core (unit m) ms h.projects e (by (is_plain m) refl k));
+}
+  where
+    by : (b : Bool) → is_plain m ≡ b → (respond_unit (session_of w) m).closes ≡ true → not b ≡ true
+    by false p k = refl
+    by true p k = not_both (respond_unit (session_of w) m).closes k (ap (λ (x : Outcome). x.closes) (over_nothing (session_of w) m o p))
+
+pub unit_repeats : SessionLaws → (broken : Bool) (w : World) (t u : Told) (m : Meaning) (ms : List Message) → Repeats broken w t u → w.peer.channel ≡ unit m ∷ ms
+    → Taken broken t u (unit_taken broken (without_first w ms) m)
+unfolding unit_as
+unit_repeats laws broken w t u m ms h e = by (stopped w.own) refl
+  where
+    by : (b : Bool) → stopped w.own ≡ b → Taken broken t u (unit_as broken w m ms (session_of w))
+    by true o = take_over broken w t u m ms h o e
+    by false l =
+        let same = session_is w h.core h.stands h.projects.history (h.projects.own.alike l) in
+        let way = subst (λ (ch : List Message). Carried broken (stopped w.peer) ch h.core.peer.sent h.core.peer.session) e (h.projects.own.carried l) in
+        subst (λ (s : State). Taken broken t u (unit_as broken w m ms s)) (sym same)
+        (elim (split_first broken (stopped w.peer) m ms h.core.peer.sent h.core.peer.session way) [
+          | inl f ↦ take_first laws broken w t u m ms h l e f
+          | inr z ↦ take_last broken w t u m ms h z
+        ])

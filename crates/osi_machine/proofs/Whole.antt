@@ -1,0 +1,170 @@
+-- A connection of the machine, at every step: it was asked for and not yet agreed to, or one of which nothing
+-- is lost repeats it; and what the records of both sides tell.
+use Rattle.std.proofs.Common.{◌≡◌, refl, sym, ◌∙◌, ap, subst, ℕ, ◌<◌, Bool, true, false, not, if◌then◌else◌, List, [], ◌∷◌, ◌⊎◌, inl, inr, Ok, Err}
+use Rattle.osi_machine.specs.Floor.{State, Call, HasSerial, Answer, CallError, allowed, is_profile}
+use Rattle.osi_machine.specs.Owners.{Owners, turned_owners}
+use Rattle.osi_machine.specs.Core.{Offer, Left, Right}
+use Rattle.osi_machine.specs.Worlds.{Message, unit, ask, agree, deny, bye, over, Transport, not_yet, waiting, linked, closing, gone, World, session_of, asked_with, after_answer, Taking, Terms, accepts, denies, message_taken, closed, ended_at, shown_at_end, turned}
+use Rattle.osi_machine.specs.Machine.{error_of, without_first}
+use Rattle.osi_machine.specs.Views.{Told, untold}
+use Rattle.osi_machine.proofs.CoreLaws.{SessionLaws}
+use Rattle.osi_machine.proofs.Dispatch.{turned_twice}
+use Rattle.osi_machine.proofs.ViewFold.{told_all}
+use Rattle.osi_machine.proofs.Lines.{told_of_call, taking_of, cut_to, IsKept}
+use Rattle.osi_machine.proofs.ProjectWorld.{Repeats, Taken, told_answer, turned_repeats, call_repeats}
+use Rattle.osi_machine.proofs.ProjectSteps.{message_repeats, close_repeats, break_repeats, end_repeats}
+use Rattle.osi_machine.proofs.ProjectStart.{Opens, Way, nothing_sent, Refuses, asked_opens, caller_refuses, called_refuses, caller_ends, called_ends, break_opens}
+use Rattle.osi_machine.proofs.ProjectOpen.{OpenTaken, CalledTaken, caller_takes, called_takes}
+
+-- seen from the caller, from the called side, or once it was agreed to from either
+abbrev pub Stage : Bool → World → Told → Told → Type 0
+Stage b w s t = Opens w s t ⊎ (Opens (turned w) t s ⊎ Repeats b w s t)
+
+pub record Whole (b : Bool) (w : World) (o : Offer) (s t : Told) : Type 0 where
+  pub offer : w.offer ≡ o
+  pub stage : Stage b w s t
+
+-- ---- the other side
+
+turned_back : (w : World) → turned (turned w) ≡ w
+turned_back w = λ i. record { offer = w.offer; history = w.history; owner = turned_twice w.owner i; own = w.own; peer = w.peer }
+
+turned_stage : (b : Bool) (w : World) (s t : Told) → Stage b w s t → Stage b (turned w) t s
+turned_stage b w s t (inl h) = inr (inl (subst (λ (v : World). Opens v s t) (sym (turned_back w)) h))
+turned_stage b w s t (inr (inl h)) = inl h
+turned_stage b w s t (inr (inr h)) = inr (inr (turned_repeats b w s t h))
+
+-- ---- a call
+
+same_told : (s : Told) (c : Call) (a : Answer) → told_answer s c a ≡ told_of_call s c (error_of a)
+same_told s c (Ok g) = refl
+same_told s c (Err e) = refl
+
+call_offer : (b : Bool) (c : Call) (w : World) (a : Answer) → (after_answer b c w a).offer ≡ w.offer
+call_offer b c w (Ok g) = refl
+call_offer b c w (Err e) = refl
+
+refused_stage : (b : Bool) (w : World) (s t : Told) (c : Call) → Refuses (session_of w) c → Stage b w s t
+    → Stage b (after_answer b c w (allowed (session_of w) c)) (told_of_call s c (error_of (allowed (session_of w) c))) t
+refused_stage b w s t c r h = subst (λ (a : Answer). Stage b (after_answer b c w a) (told_of_call s c (error_of a)) t) (sym r.refused) h
+
+called_stage : SessionLaws → (b : Bool) (w : World) (s t : Told) (c : Call) → HasSerial c → Stage b w s t
+    → Stage b (after_answer b c w (allowed (session_of w) c)) (told_of_call s c (error_of (allowed (session_of w) c))) t
+called_stage laws b w s t c small (inl h) = refused_stage b w s t c (caller_refuses w s t c h) (inl h)
+called_stage laws b w s t c small (inr (inl h)) =
+    refused_stage b w s t c (subst (λ (v : World). Refuses (session_of v) c) (turned_back w) (called_refuses (turned w) t s c h)) (inr (inl h))
+called_stage laws b w s t c small (inr (inr h)) =
+    inr (inr (subst (λ (d : Told). Repeats b (after_answer b c w (allowed (session_of w) c)) d t) (same_told s c (allowed (session_of w) c)) (call_repeats laws b w s t c small h)))
+
+-- ---- a message
+
+message_offer : (b : Bool) (terms : Terms) (k : ℕ) (tr : Transport) (w : World) (m : Message) → (message_taken b terms k tr w m).world.offer ≡ w.offer
+message_offer b (accepts class) k not_yet w ask = refl
+message_offer b (denies reason) k not_yet w ask = refl
+message_offer b terms k not_yet w (unit u) = refl
+message_offer b terms k not_yet w agree = refl
+message_offer b terms k not_yet w (deny r) = refl
+message_offer b terms k not_yet w (bye r) = refl
+message_offer b terms k not_yet w over = refl
+message_offer b terms k waiting w (unit u) = refl
+message_offer b terms k waiting w ask = refl
+message_offer b terms k waiting w agree = refl
+message_offer b terms k waiting w (deny r) = refl
+message_offer b terms k waiting w (bye r) = refl
+message_offer b terms k waiting w over = refl
+message_offer b terms k linked w (unit u) = refl
+message_offer b terms k linked w ask = refl
+message_offer b terms k linked w agree = refl
+message_offer b terms k linked w (deny r) = refl
+message_offer b terms k linked w (bye r) = refl
+message_offer b terms k linked w over = refl
+message_offer b terms k closing w (unit u) = refl
+message_offer b terms k closing w ask = refl
+message_offer b terms k closing w agree = refl
+message_offer b terms k closing w (deny r) = refl
+message_offer b terms k closing w (bye r) = refl
+message_offer b terms k closing w over = refl
+message_offer b terms k gone w (unit u) = refl
+message_offer b terms k gone w ask = refl
+message_offer b terms k gone w agree = refl
+message_offer b terms k gone w (deny r) = refl
+message_offer b terms k gone w (bye r) = refl
+message_offer b terms k gone w over = refl
+
+apart : {A : Type 0} (b : Bool) → b ≡ true → b ≡ false → A
+apart b p q = absurd (cc)
+
+taken_stage : SessionLaws → (terms : Terms) (b : Bool) (w : World) (s t : Told) (k : ℕ) (x : Message) (xs : List Message) → w.peer.channel ≡ x ∷ xs → Stage b w s t
+    → Stage b (taking_of b terms k w x xs).world (told_all s (taking_of b terms k w x xs).shown) t
+taken_stage laws terms b w s t k x xs e (inl h) = by (caller_takes b terms k w s t x xs h e).leads
+  where
+    by : Opens (taking_of b terms k w x xs).world (told_all s (taking_of b terms k w x xs).shown) t ⊎ Repeats b (taking_of b terms k w x xs).world (told_all s (taking_of b terms k w x xs).shown) t
+        → Stage b (taking_of b terms k w x xs).world (told_all s (taking_of b terms k w x xs).shown) t
+    by (inl y) = inl y
+    by (inr y) = inr (inr y)
+taken_stage laws terms b w s t k x xs e (inr (inl h)) = inr (inl (called_takes b terms k w t s x xs h e).leads)
+taken_stage laws terms b w s t k x xs e (inr (inr h)) = inr (inr (message_repeats laws b terms k w s t x xs h e).repeats)
+
+closed_stage : SessionLaws → (terms : Terms) (b : Bool) (w : World) (s t : Told) (k : ℕ) (x : Message) (xs : List Message) → w.peer.channel ≡ x ∷ xs → Stage b w s t
+    → (taking_of b terms k w x xs).closes ≡ true → Stage b (closed b k (taking_of b terms k w x xs).world) (told_all s (taking_of b terms k w x xs).shown) t
+closed_stage laws terms b w s t k x xs e (inl h) c = apart (taking_of b terms k w x xs).closes c (caller_takes b terms k w s t x xs h e).stays_open
+closed_stage laws terms b w s t k x xs e (inr (inl h)) c = apart (taking_of b terms k w x xs).closes c (called_takes b terms k w t s x xs h e).stays_open
+closed_stage laws terms b w s t k x xs e (inr (inr h)) c =
+    let y = message_repeats laws b terms k w s t x xs h e in
+    let both = y.over_now c in
+    inr (inr (close_repeats b k (taking_of b terms k w x xs).world (told_all s (taking_of b terms k w x xs).shown) t y.repeats both.0 both.1))
+
+-- ---- an end, and a break
+
+ended_stage : (b : Bool) (w : World) (s t : Told) (k : ℕ) → Stage b w s t → Stage b (ended_at k w) (told_all s (shown_at_end w)) t
+ended_stage b w s t k (inl h) = inl (caller_ends k w s t h)
+ended_stage b w s t k (inr (inl h)) = inr (inl (called_ends k w t s h))
+ended_stage b w s t k (inr (inr h)) = inr (inr (end_repeats b k w s t h))
+
+broken_stage : (w : World) (s t : Told) (k j : ℕ) → Stage false w s t → Stage true (cut_to k j w) s t
+broken_stage w s t k j (inl h) = inl (break_opens k j w s t h)
+broken_stage w s t k j (inr (inl h)) = inr (inl (break_opens j k (turned w) t s h))
+broken_stage w s t k j (inr (inr h)) = inr (inr (break_repeats k j false w s t h))
+
+-- ---- how it begins
+
+lost_opens : (o : Offer) → o.serial < 1000000 → is_profile o.requirements ≡ true
+    → Opens (record (asked_with o) { own = record (asked_with o).own { channel = [] } }) (untold Left o) (untold Right o)
+lost_opens o small profile =
+    let h = asked_opens o small profile in
+    record {
+      small = small;
+      profile = profile;
+      history = refl;
+      owner = h.owner;
+      caller = inl (record { transport = refl; phase = refl; mark = refl; said = refl; got = refl });
+      called = h.called;
+      way = nothing_sent;
+      own_channel = refl;
+      peer_channel = refl;
+      suited = refl;
+      own_told = refl;
+      peer_told = refl;
+    }
+
+pub whole_kept : SessionLaws → (terms : Terms) → IsKept terms Whole
+whole_kept laws terms = record {
+  starts = λ o small profile. record { offer = refl; stage = inl (asked_opens o small profile) };
+  lost = λ o small profile. record { offer = refl; stage = inl (lost_opens o small profile) };
+  turns = λ b w o s t h. record { offer = h.offer; stage = turned_stage b w s t h.stage };
+  calls = λ b w o s t c small given h. record { offer = call_offer b c w (allowed (session_of w) c) ∙ h.offer; stage = called_stage laws b w s t c small h.stage };
+  takes = λ b w o s t k x xs e h c. record {
+    offer = message_offer b terms k w.own.transport (without_first w xs) x ∙ h.offer;
+    stage = taken_stage laws terms b w s t k x xs e h.stage;
+  };
+  closes = λ b w o s t k x xs e h c. record {
+    offer = message_offer b terms k w.own.transport (without_first w xs) x ∙ h.offer;
+    stage = closed_stage laws terms b w s t k x xs e h.stage c;
+  };
+  takes_last = λ b w o s t k x xs e h c. record {
+    offer = message_offer b terms k w.own.transport (without_first w xs) x ∙ h.offer;
+    stage = taken_stage laws terms b w s t k x xs e h.stage;
+  };
+  ends = λ b w o s t k h. record { offer = h.offer; stage = ended_stage b w s t k h.stage };
+  breaks = λ w o s t k j h. record { offer = h.offer; stage = broken_stage w s t k j h.stage };
+}
