@@ -33,10 +33,6 @@ pub mod ProjectTake
 pub mod ProjectWorld
 pub mod Projects
 pub mod Promises
-pub mod ProjectCall
-pub mod ProjectLast
-pub mod ProjectTake
-pub mod Projects
 pub mod Records
 pub mod ReleaseCall
 pub mod RestartCall

@@ -1,12 +1,11 @@
 -- A close, a break and the end of a side at a whole connection: to the core nothing has happened.
-use Rattle.std.proofs.Common.{◌≡◌, refl, sym, ◌∙◌, ap, subst, ℕ, zero, suc, Bool, true, false, not, ◌&&◌, ◌||◌, if◌then◌else◌, List, [], ◌∷◌, ◌++◌, map, take, ◌⊎◌, inl, inr}
+use Rattle.std.proofs.Common.{◌≡◌, refl, sym, ◌∙◌, ap, ℕ, zero, suc, Bool, true, false, ◌||◌, List, [], ◌∷◌, ◌++◌, map, take, inr}
 use Rattle.std.specs.List.{list_any}
-use Rattle.osi_machine.specs.Floor.{State, Meaning, Token, is_over, lost}
-use Rattle.osi_machine.specs.Owners.{Owners, is_own, turned_owner}
+use Rattle.osi_machine.specs.Floor.{State, Meaning, lost}
 use Rattle.osi_machine.specs.Core.{Core, turned}
-use Rattle.osi_machine.specs.Worlds.{Message, unit, ask, agree, deny, bye, over, Transport, linked, closing, gone, World, session_of, put, moved, shortened, closed, ended_at, turned as turned_world}
+use Rattle.osi_machine.specs.Worlds.{Message, unit, bye, over, Transport, linked, gone, World, session_of, moved, shortened, closed, ended_at, turned as turned_world}
 use Rattle.osi_machine.specs.Machine.{without_first}
-use Rattle.osi_machine.proofs.Projects.{stopped, parts, is_begun, Alike, IsLast, IsTail, Carried, OneSide, Projects, both_over, over_side}
+use Rattle.osi_machine.proofs.Projects.{stopped, parts, IsTail, Carried, OneSide, Projects, both_over, over_side}
 use Rattle.osi_machine.proofs.ProjectCall.{left_theirs}
 
 -- ---- a suffix of a channel is lost

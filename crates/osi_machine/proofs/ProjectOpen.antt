@@ -1,21 +1,19 @@
 -- A message is taken where a connection was asked for and not yet agreed to; the first that a caller takes
 -- agrees to it, and the core begins.
-use Rattle.std.proofs.Common.{◌≡◌, refl, sym, ◌∙◌, ap, subst, ℕ, Bool, true, false, not, ◌&&◌, ◌||◌, if◌then◌else◌, List, [], ◌∷◌, ◌++◌, length, map, ◌⊎◌, inl, inr}
+use Rattle.std.proofs.Common.{◌≡◌, refl, sym, ◌∙◌, ap, subst, ℕ, Bool, true, false, List, [], ◌∷◌, ◌++◌, ◌⊎◌, inl, inr}
 use Rattle.std.specs.List.{list_any}
-use Rattle.osi_session.specs.Shown.{Shown, RefusedByTransport}
-use Rattle.osi_machine.specs.Floor.{State, Ended, Meaning, Token, is_over, awaiting, without_tokens}
-use Rattle.osi_machine.specs.Histories.{Item}
-use Rattle.osi_machine.specs.Owners.{Owner, Absent, Owners, is_own, turned_owner, no_owner, left_by}
-use Rattle.osi_machine.specs.Core.{Offer, Left, Right, offering, offer_sent, Core, core_start, turned}
-use Rattle.osi_machine.specs.Worlds.{Message, unit, ask, agree, deny, Transport, not_yet, waiting, linked, closing, gone, Kept, kept_of, End, World, session_of, put, moved, moves, Taking, unchanged, Terms, accepts, denies, asked_at, message_taken, turned as turned_world}
+use Rattle.osi_machine.specs.Floor.{State, Ended, Meaning, awaiting, without_tokens}
+use Rattle.osi_machine.specs.Owners.{Owner, Absent, is_own, turned_owner, left_by}
+use Rattle.osi_machine.specs.Core.{Offer, offering, offer_sent, core_start, turned}
+use Rattle.osi_machine.specs.Worlds.{Message, unit, ask, agree, deny, Transport, not_yet, linked, gone, World, session_of, put, moved, Taking, unchanged, Terms, accepts, denies, asked_at, message_taken, turned as turned_world}
 use Rattle.osi_machine.specs.Machine.{without_first}
-use Rattle.osi_machine.specs.Views.{Told, untold}
+use Rattle.osi_machine.specs.Views.{Told}
 use Rattle.osi_machine.proofs.Promises.{offer_stands}
 use Rattle.osi_machine.proofs.ViewFold.{Tells, told_all}
-use Rattle.osi_machine.proofs.Projects.{stopped, parts, is_begun, Alike, Carried, OneSide, Projects}
+use Rattle.osi_machine.proofs.Projects.{stopped, parts, is_begun, Alike, Carried, OneSide}
 use Rattle.osi_machine.proofs.ProjectTake.{put_nothing}
 use Rattle.osi_machine.proofs.ProjectWorld.{Repeats}
-use Rattle.osi_machine.proofs.ProjectStart.{Waits, Idle, Left_it, Way, nothing_sent, asked, agreed, denied, asks, replies, suits, Opens, absent_left, absent_back}
+use Rattle.osi_machine.proofs.ProjectStart.{Waits, Idle, Way, nothing_sent, asked, agreed, denied, asks, replies, suits, Opens, absent_left, absent_back}
 
 not_both : {A : Type 0} (b : Bool) → b ≡ true → b ≡ false → A
 not_both b p q = absurd (cc)
@@ -61,16 +59,16 @@ started_alike : (broken : Bool) (w : World) (t u : Told) → Opens w t u → is_
 started_alike broken w t u h b l = elim h.called [
   | inl k ↦ not_both (is_begun w.peer.transport) b (ap is_begun k.transport)
   | inr r ↦ elim r [
-      | inl k ↦ record {
-          transport = k.transport;
-          kept = k.kept;
-          mark = k.mark;
-          said = k.said;
-          got = k.got;
-          owns = λ x. absent_theirs (left_by (offering w.offer) w.owner x) (absent_left (offering w.offer) w.owner x (h.owner x));
-        }
-      | inr k ↦ not_both (stopped w.peer) k.over_now l
-    ]
+    | inl k ↦ record {
+      transport = k.transport;
+      kept = k.kept;
+      mark = k.mark;
+      said = k.said;
+      got = k.got;
+      owns = λ x. absent_theirs (left_by (offering w.offer) w.owner x) (absent_left (offering w.offer) w.owner x (h.owner x));
+    }
+    | inr k ↦ not_both (stopped w.peer) k.over_now l
+  ]
 ]
 
 started_peer : (broken : Bool) (w : World) (t u : Told) → Opens w t u → is_begun w.peer.transport ≡ true → w.own.channel ≡ []
@@ -109,9 +107,9 @@ answered w t u h e = record {
   called = elim h.called [
     | inl k ↦ inl (record { transport = k.transport; kept = k.kept; mark = k.mark; said = k.said; got = k.got })
     | inr r ↦ elim r [
-        | inl k ↦ inr (inl (record { transport = k.transport; kept = k.kept; mark = k.mark; said = k.said; got = k.got }))
-        | inr k ↦ inr (inr (record { transport = k.transport; over_now = k.over_now }))
-      ]
+      | inl k ↦ inr (inl (record { transport = k.transport; kept = k.kept; mark = k.mark; said = k.said; got = k.got }))
+      | inr k ↦ inr (inr (record { transport = k.transport; over_now = k.over_now }))
+    ]
   ];
   way = nothing_sent;
   own_channel = e;
@@ -271,11 +269,11 @@ asked_message : (broken : Bool) (terms : Terms) (k : ℕ) (w : World) (t u : Tol
 asked_message broken terms k w t u h e = elim h.called [
   | inl c ↦ subst (λ (tr : Transport). CalledTaken t u (message_taken broken terms k tr (without_first w []) ask)) (sym c.transport) (asked_now broken terms w t u h e c)
   | inr r ↦ elim r [
-      | inl c ↦ subst (λ (tr : Transport). CalledTaken t u (message_taken broken terms k tr (without_first w []) ask)) (sym c.transport)
-          (record { stays_open = refl; leads = asked_late w t u h e })
-      | inr c ↦ subst (λ (tr : Transport). CalledTaken t u (message_taken broken terms k tr (without_first w []) ask)) (sym c.transport)
-          (record { stays_open = refl; leads = asked_late w t u h e })
-    ]
+    | inl c ↦ subst (λ (tr : Transport). CalledTaken t u (message_taken broken terms k tr (without_first w []) ask)) (sym c.transport)
+        (record { stays_open = refl; leads = asked_late w t u h e })
+    | inr c ↦ subst (λ (tr : Transport). CalledTaken t u (message_taken broken terms k tr (without_first w []) ask)) (sym c.transport)
+        (record { stays_open = refl; leads = asked_late w t u h e })
+  ]
 ]
 
 called_way : (broken : Bool) (terms : Terms) (k : ℕ) (w : World) (t u : Told) (m : Message) (ms : List Message) → Opens (turned_world w) t u

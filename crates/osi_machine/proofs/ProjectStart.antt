@@ -1,23 +1,17 @@
 -- A whole connection that was asked for and not yet agreed to: nobody owns, sees or sends anything.
-use Rattle.std.proofs.Common.{◌≡◌, refl, sym, ◌∙◌, ap, subst, ℕ, ◌<◌, zero, suc, Bool, true, false, not, ◌&&◌, ◌||◌, if◌then◌else◌, List, [], ◌∷◌, ◌++◌, length, take, ◌⊎◌, inl, inr, Ok, Err, arith}
+use Rattle.std.proofs.Common.{◌≡◌, refl, sym, ◌∙◌, ap, ℕ, ◌<◌, zero, suc, Bool, true, false, not, ◌||◌, if◌then◌else◌, List, [], ◌∷◌, take, ◌⊎◌, inl, inr, Err}
 use Rattle.std.proofs.Math.Seq.{take-nil}
-use Rattle.std.specs.List.{list_any}
 use Rattle.osi_session.specs.declared.faults.CallError.TheVariants as error
-use Rattle.osi_session.specs.Shown.{Shown}
 use Rattle.osi_session.specs.Phases.{may_abort}
-use Rattle.osi_machine.specs.Floor.{State, Phase, Ended, Token, Call, Accept, Refuse, Data, Give, Please, Minor, MinorConfirm, Major, MajorConfirm, Restart, RestartConfirm, Release, ReleaseAccept, ReleaseRefuse, Abort, Answer, CallError, allowed, may_call, is_over, is_wait_transport, is_wait_cn, is_answering, is_ready, is_major_due, is_release_due, is_restart_due, may_give, may_ask, may_confirm_minor, may_restart, is_profile, awaiting, lost, without_tokens}
-use Rattle.osi_machine.specs.Histories.{Item}
-use Rattle.osi_machine.specs.Owners.{Owner, Own, Theirs, ToOwn, ToThem, Pool, Absent, Owners, own_to_pool, given_up, is_own, turned_owner, turned_owners, no_owner, left_by}
-use Rattle.osi_machine.specs.Core.{Offer, Left, Right, offering, offer_sent, party_of, Core, core_start, turned}
-use Rattle.osi_machine.specs.Worlds.{Message, unit, ask, agree, deny, bye, over, Transport, not_yet, waiting, linked, closing, gone, Kept, kept_of, End, World, session_of, after_answer, put, moved, moves, shortened, Taking, unchanged, Terms, accepts, denies, asked_at, asked_with, message_taken, ended_at, shown_at_end, turned as turned_world}
-use Rattle.osi_machine.specs.Machine.{without_first}
+use Rattle.osi_machine.specs.Floor.{State, Phase, Token, Call, Accept, Refuse, Data, Give, Please, Minor, MinorConfirm, Major, MajorConfirm, Restart, RestartConfirm, Release, ReleaseAccept, ReleaseRefuse, Abort, Answer, CallError, allowed, may_call, is_over, is_wait_transport, is_wait_cn, is_answering, is_ready, is_major_due, is_release_due, is_restart_due, may_give, may_ask, may_confirm_minor, may_restart, is_profile, awaiting, lost}
+use Rattle.osi_machine.specs.Owners.{Owner, Own, Theirs, ToOwn, ToThem, Pool, Absent, Owners, own_to_pool, given_up, turned_owner, left_by}
+use Rattle.osi_machine.specs.Core.{Offer, Left, Right}
+use Rattle.osi_machine.specs.Worlds.{Message, ask, agree, deny, Transport, not_yet, waiting, linked, gone, Kept, kept_of, End, World, session_of, shortened, asked_with, ended_at, shown_at_end, turned as turned_world}
 use Rattle.osi_machine.specs.Views.{Told, untold}
 use Rattle.osi_machine.proofs.PhaseLaws.{excluded}
-use Rattle.osi_machine.proofs.Promises.{offer_stands}
-use Rattle.osi_machine.proofs.ViewFold.{Tells, told_all}
-use Rattle.osi_machine.proofs.Projects.{stopped, parts, is_begun, Alike, Carried, OneSide, Projects}
-use Rattle.osi_machine.proofs.ProjectTake.{put_nothing}
-use Rattle.osi_machine.proofs.ProjectWorld.{Repeats, told_answer, refused}
+use Rattle.osi_machine.proofs.ViewFold.{told_all}
+use Rattle.osi_machine.proofs.Projects.{stopped, is_begun}
+use Rattle.osi_machine.proofs.ProjectWorld.{refused}
 use Rattle.osi_machine.proofs.ProjectSteps.{loss_told}
 
 -- ---- the lines
@@ -156,9 +150,9 @@ pub called_refuses : (w : World) (t u : Told) (x : Call) → Opens w t u → Ref
 called_refuses w t u x h = elim h.called [
   | inl k ↦ waits_cn not_yet (turned_world w) x k
   | inr k ↦ elim k [
-      | inl i ↦ waits_cn linked (turned_world w) x i
-      | inr g ↦ record { fault = error.Ended; refused = refused (session_of (turned_world w)) x g.over_now }
-    ]
+    | inl i ↦ waits_cn linked (turned_world w) x i
+    | inr g ↦ record { fault = error.Ended; refused = refused (session_of (turned_world w)) x g.over_now }
+  ]
 ]
 
 -- ---- an end

@@ -1,18 +1,17 @@
 -- A whole connection at every step: one of which nothing is lost repeats it, and the records of both sides
 -- tell what that one has seen.
-use Rattle.std.proofs.Common.{◌≡◌, refl, sym, ◌∙◌, ap, subst, ℕ, Bool, true, false, not, ◌&&◌, ◌||◌, if◌then◌else◌, List, [], ◌∷◌, ◌++◌, take, Option, Some, None, ◌⊎◌, inl, inr, Ok, Err}
-use Rattle.std.specs.List.{list_any}
+use Rattle.std.proofs.Common.{◌≡◌, refl, sym, ◌∙◌, ap, subst, ℕ, Bool, true, false, not, if◌then◌else◌, List, [], ◌∷◌, inl, inr, Ok, Err}
 use Rattle.osi_session.specs.declared.faults.CallError.TheVariants as error
-use Rattle.osi_session.specs.Shown.{Shown, Aborted, PeerAbort, Lost}
+use Rattle.osi_session.specs.Shown.{Shown, Aborted, PeerAbort}
 use Rattle.osi_message.specs.Reading.{names}
 use Rattle.osi_session.specs.Respond.{shown_for, closes_for}
-use Rattle.osi_machine.specs.Floor.{State, Meaning, RF, DN, AB, AA, Call, Accept, Refuse, ReleaseAccept, Abort, CallError, Granted, Answer, HasSerial, Outcome, nothing, good, allowed, is_over, is_aborting, is_ended, is_wait_cn, shows_loss, in_aborting, in_ended, respond_unit, drops, lost}
+use Rattle.osi_machine.specs.Floor.{State, Meaning, RF, DN, AB, AA, Call, Refuse, ReleaseAccept, Abort, Answer, HasSerial, Outcome, nothing, good, allowed, is_over, is_aborting, is_ended, is_wait_cn, in_aborting, in_ended, respond_unit, drops}
 use Rattle.osi_machine.specs.Owners.{Owners}
 use Rattle.osi_machine.specs.Channels.{is_plain}
 use Rattle.osi_machine.specs.Core.{Core, turned, stays_in_core, answered, taking}
-use Rattle.osi_machine.specs.Worlds.{Message, unit, ask, agree, deny, bye, over, Transport, not_yet, waiting, linked, closing, gone, End, World, session_of, after_call, after_answer, after_unit, Taking, unit_taken, unchanged, Terms, message_taken, closed, ended_at, shown_at_end, turned as turned_world}
-use Rattle.osi_machine.specs.Machine.{Entry, call_answered, error_of, without_first}
-use Rattle.osi_machine.specs.Views.{Told, told_call, told_shown}
+use Rattle.osi_machine.specs.Worlds.{Message, unit, World, session_of, after_call, after_answer, after_unit, Taking, unit_taken, turned as turned_world}
+use Rattle.osi_machine.specs.Machine.{without_first}
+use Rattle.osi_machine.specs.Views.{Told, told_call}
 use Rattle.osi_machine.proofs.CoreLaws.{SessionLaws}
 use Rattle.osi_machine.proofs.Records.{Stands}
 use Rattle.osi_machine.proofs.Acting.{no_fault, over_of}
@@ -21,11 +20,11 @@ use Rattle.osi_machine.proofs.TakeMoves.{at, stands_at}
 use Rattle.osi_machine.proofs.Dispatch.{called_stands, taking_stands, turned_stands, turned_twice}
 use Rattle.osi_machine.proofs.ViewFold.{Tells, told_all}
 use Rattle.osi_machine.proofs.ViewRun.{answer_tells, taken_tells}
-use Rattle.osi_machine.proofs.Projects.{stopped, parts, is_begun, IsLast, Carried, OneSide, Projects, both_over, session_is}
+use Rattle.osi_machine.proofs.Projects.{stopped, IsLast, Carried, OneSide, Projects, session_is}
 use Rattle.osi_machine.proofs.ProjectCall.{call_projects, stop_projects}
-use Rattle.osi_machine.proofs.ProjectTake.{First, Last, took, split_first, take_projects}
-use Rattle.osi_machine.proofs.ProjectLast.{last_projects, last_good, over_projects, over_next, over_nothing, not_true}
-use Rattle.osi_machine.proofs.ProjectEnd.{break_projects, end_projects, comes_unit, parting_over, unlinked_over, is_linked, is_unit, popped_projects, closed_projects, bye_projects}
+use Rattle.osi_machine.proofs.ProjectTake.{First, Last, split_first, take_projects}
+use Rattle.osi_machine.proofs.ProjectLast.{last_projects, last_good, over_projects, over_next, over_nothing}
+use Rattle.osi_machine.proofs.ProjectEnd.{parting_over}
 
 -- t and u are what the records of this side and of the other tell
 pub record Repeats (broken : Bool) (w : World) (t u : Told) : Type 0 where

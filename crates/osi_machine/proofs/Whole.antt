@@ -1,20 +1,19 @@
 -- A connection of the machine, at every step: it was asked for and not yet agreed to, or one of which nothing
 -- is lost repeats it; and what the records of both sides tell.
-use Rattle.std.proofs.Common.{◌≡◌, refl, sym, ◌∙◌, ap, subst, ℕ, ◌<◌, Bool, true, false, not, if◌then◌else◌, List, [], ◌∷◌, ◌⊎◌, inl, inr, Ok, Err}
-use Rattle.osi_machine.specs.Floor.{State, Call, HasSerial, Answer, CallError, allowed, is_profile}
-use Rattle.osi_machine.specs.Owners.{Owners, turned_owners}
+use Rattle.std.proofs.Common.{◌≡◌, refl, sym, ◌∙◌, subst, ℕ, ◌<◌, Bool, true, false, List, [], ◌∷◌, ◌⊎◌, inl, inr, Ok, Err}
+use Rattle.osi_machine.specs.Floor.{Call, HasSerial, Answer, allowed, is_profile}
 use Rattle.osi_machine.specs.Core.{Offer, Left, Right}
-use Rattle.osi_machine.specs.Worlds.{Message, unit, ask, agree, deny, bye, over, Transport, not_yet, waiting, linked, closing, gone, World, session_of, asked_with, after_answer, Taking, Terms, accepts, denies, message_taken, closed, ended_at, shown_at_end, turned}
+use Rattle.osi_machine.specs.Worlds.{Message, unit, ask, agree, deny, bye, over, Transport, not_yet, waiting, linked, closing, gone, World, session_of, asked_with, after_answer, Terms, accepts, denies, message_taken, closed, ended_at, shown_at_end, turned}
 use Rattle.osi_machine.specs.Machine.{error_of, without_first}
 use Rattle.osi_machine.specs.Views.{Told, untold}
 use Rattle.osi_machine.proofs.CoreLaws.{SessionLaws}
 use Rattle.osi_machine.proofs.Dispatch.{turned_twice}
 use Rattle.osi_machine.proofs.ViewFold.{told_all}
 use Rattle.osi_machine.proofs.Lines.{told_of_call, taking_of, cut_to, IsKept}
-use Rattle.osi_machine.proofs.ProjectWorld.{Repeats, Taken, told_answer, turned_repeats, call_repeats}
+use Rattle.osi_machine.proofs.ProjectWorld.{Repeats, told_answer, turned_repeats, call_repeats}
 use Rattle.osi_machine.proofs.ProjectSteps.{message_repeats, close_repeats, break_repeats, end_repeats}
-use Rattle.osi_machine.proofs.ProjectStart.{Opens, Way, nothing_sent, Refuses, asked_opens, caller_refuses, called_refuses, caller_ends, called_ends, break_opens}
-use Rattle.osi_machine.proofs.ProjectOpen.{OpenTaken, CalledTaken, caller_takes, called_takes}
+use Rattle.osi_machine.proofs.ProjectStart.{Opens, nothing_sent, Refuses, asked_opens, caller_refuses, called_refuses, caller_ends, called_ends, break_opens}
+use Rattle.osi_machine.proofs.ProjectOpen.{caller_takes, called_takes}
 
 -- seen from the caller, from the called side, or once it was agreed to from either
 abbrev pub Stage : Bool → World → Told → Told → Type 0
