@@ -1,17 +1,18 @@
--- What a side will have seen when it has heard all before a restart that stands, and how it is counted.
+-- What a side will have seen when it has heard all before a restart that stands, and what is confirmed then.
 use Rattle.std.proofs.Common.{◌≡◌, refl, sym, ◌∙◌, ap, subst, ℕ, ◌+◌, ◌≤◌, ◌<◌, Bool, true, false, not, nat_le, nat_lt, if◌then◌else◌, List, [], ◌∷◌, ◌++◌, append_assoc, arith}
 use Rattle.std.proofs.lemmas.Bool.{leb-true, ltb-true, and_parts}
-use Rattle.osi_machine.specs.Floor.{State, Meaning, CN, AC, RF, DT, GT, PT, MIP, MIA, MAP, MAA, RS, RA, FN, DN, NF, AB, AA, is_ready, is_major_asked, takes_data, is_wait_cn, is_connecting, is_acceptable, is_acknowledgeable, point_taken, minor_confirmed, major_confirmed, becomes, drops, Good, next}
+use Rattle.osi_machine.specs.Floor.{State, Meaning, CN, AC, RF, DT, GT, PT, MIP, MIA, MAP, MAA, RS, RA, FN, DN, NF, AB, AA, is_major_asked, is_wait_cn, is_connecting, is_acknowledgeable, point_taken, minor_confirmed, major_confirmed, becomes, drops, Good, next}
 use Rattle.osi_machine.specs.Histories.{Item, Octets, Point, minor_kind, major_point, points, Begins}
 use Rattle.osi_machine.specs.Taking.{seen}
 use Rattle.osi_machine.specs.Channels.{is_plain, Fits, AllFit, stops, heard, hears, view_next, heard_view}
 use Rattle.osi_machine.specs.Core.{Party}
 use Rattle.osi_machine.specs.Parties.{is_opening, IsConsistent}
 use Rattle.osi_machine.proofs.Records.{hearing, Views}
-use Rattle.osi_machine.proofs.PhaseLaws.{implied, excluded}
+use Rattle.osi_machine.proofs.PhaseLaws.{implied}
 use Rattle.osi_machine.proofs.Units.{fit_cases}
 use Rattle.osi_machine.proofs.HistoryLaws.{points_append}
 use Rattle.osi_machine.proofs.Idle.{append_nil}
+use Rattle.osi_machine.proofs.ViewLaws.{heard_counted}
 
 -- ---- what was seen stays
 
@@ -47,77 +48,6 @@ heard_more s (u ∷ us) v = by (stops s u) refl (heard_more (next s u) us (view_
 
 pub begins_points : (v w : List Item) → Begins v w → points v ≤ points w
 begins_points v w b = let e = points_append v b.0 in let f = ap points b.1 in omega arith
-
--- ---- V(M) counts it
-
--- V(M) is the base and the points that were seen; before an AC nothing was seen
-pub record Counted (s : State) (v : List Item) : Type 0 where
-  pub count : s.numbers.next ≡ s.base + points v
-  pub fresh : is_opening s.phase ≡ true → v ≡ []
-
-one_point : (n base : ℕ) (v : List Item) (i : Item) → points (i ∷ []) ≡ 1 → n ≡ base + points v → n + 1 ≡ base + points (v ++ i ∷ [])
-one_point n base v i one h = let e = points_append v (i ∷ []) in omega arith
-
-data_point : (n base : ℕ) (b : Bool) (o : List ℕ) (v : List Item) → n ≡ base + points v → n ≡ base + points (if b then v else v ++ Octets o ∷ [])
-data_point n base true o v h = h
-data_point n base false o v h = let e = points_append v (Octets o ∷ []) in omega arith
-
-from_none : (base : ℕ) (v : List Item) → v ≡ [] → base ≡ base + points v
-from_none base v e = rw e (omega arith)
-
-chosen : (P : State → Type 0) (b : Bool) (x y : State) → P x → P y → P (if b then x else y)
-chosen P true x y h k = h
-chosen P false x y h k = k
-
-begun : {v : List Item} (b : Bool) → b ≡ false → b ≡ true → v ≡ []
-begun b e h = absurd (cc)
-
-becomes_counted : (s : State) (u : Meaning) (v : List Item) → is_plain u ≡ true → Good s u → stops s u ≡ false → Counted s v → Counted (becomes s u) (seen s u v)
-unfolding point_taken minor_confirmed major_confirmed
-becomes_counted s (CN w r n x from to o) v p g st h =
-    let none = h.fresh (implied is_wait_cn is_opening refl s.phase g.expected) in
-    chosen (λ r. Counted r v) (is_acceptable w r) _ _ (record { count = h.count; fresh = λ k. none }) (record { count = h.count; fresh = λ k. none })
-becomes_counted s (AC w r n x o) v p g st h =
-    let none = h.fresh (implied is_connecting is_opening refl s.phase g.expected) in
-    record { count = from_none _ v none; fresh = λ k. none }
-becomes_counted s (RF r o) v p g st h = absurd (cc)
-becomes_counted s (DT o) v p g st h = record {
-  count = data_point _ _ s.units.duplex o v h.count;
-  fresh = λ k. begun (is_opening s.phase) (excluded takes_data is_opening refl s.phase g.expected) k;
-}
-becomes_counted s (GT k) v p g st h = record { count = h.count; fresh = h.fresh }
-becomes_counted s (PT k o) v p g st h = h
-becomes_counted s (MIP c n o) v p g st h = record {
-  count = one_point _ _ v (Point n (minor_kind c) o) refl h.count;
-  fresh = λ k. begun (is_opening s.phase) (excluded is_ready is_opening refl s.phase g.expected) k;
-}
-becomes_counted s (MIA n o) v p g st h = record { count = h.count; fresh = h.fresh }
-becomes_counted s (MAP n o) v p g st h = record { count = one_point _ _ v (Point n major_point o) refl h.count; fresh = λ k. absurd (cc) }
-becomes_counted s (MAA n o) v p g st h = record { count = h.count; fresh = λ k. absurd (cc) }
-becomes_counted s (RS k n w o) v p g st h = rw st h
-becomes_counted s (RA n w o) v p g st h = record { count = h.count; fresh = λ k. absurd (cc) }
-becomes_counted s (FN o) v p g st h = record { count = h.count; fresh = λ k. absurd (cc) }
-becomes_counted s (DN o) v p g st h = absurd (cc)
-becomes_counted s (NF o) v p g st h = record { count = h.count; fresh = λ k. absurd (cc) }
-becomes_counted s (AB x o) v p g st h = absurd (cc)
-becomes_counted s AA v p g st h = absurd (cc)
-
-next_counted : (s : State) (u : Meaning) (v : List Item) → Fits s u → stops s u ≡ false → Counted s v → Counted (next s u) (view_next s u v)
-next_counted s u v f st h = by (drops s u) refl
-  where
-    by : (b : Bool) → drops s u ≡ b → Counted (if b then s else becomes s u) (if b then v else seen s u v)
-    by true d = h
-    by false d = becomes_counted s u v f.plain (f.good d) st h
-
-pub heard_counted : (s : State) (us : List Meaning) (v : List Item) → Counted s v → AllFit s us → Counted (heard s us) (heard_view s us v)
-heard_counted s [] v h f = h
-heard_counted s (u ∷ us) v h f =
-    by (stops s u) refl (λ e. heard_counted (next s u) us (view_next s u v) (next_counted s u v f.0 e h) f.1)
-  where
-    by : (b : Bool) → stops s u ≡ b → (stops s u ≡ false → Counted (heard (next s u) us) (heard_view (next s u) us (view_next s u v)))
-        → Counted (if b then s else heard (next s u) us) (if b then v else heard_view (next s u) us (view_next s u v))
-    by true e more = h
-    by false e more = more e
 
 -- ---- V(A) does not fall
 

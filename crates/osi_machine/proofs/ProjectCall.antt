@@ -11,8 +11,9 @@ use Rattle.osi_machine.specs.Worlds.{Message, unit, Kept, World, put, mark_calle
 use Rattle.osi_machine.proofs.Passed.{Passed, passed}
 use Rattle.osi_machine.proofs.Records.{Stands}
 use Rattle.osi_machine.proofs.Idle.{append_nil}
+use Rattle.osi_machine.proofs.Promises.{sees_the_history}
 use Rattle.osi_machine.proofs.RestartCall.{same_cut, in_range, given_theirs}
-use Rattle.osi_machine.proofs.Projects.{stopped, parts, IsLast, IsTail, Carried, OneSide, Projects, over_side, view_begins}
+use Rattle.osi_machine.proofs.Projects.{stopped, parts, IsLast, IsTail, Carried, OneSide, Projects, over_side}
 
 -- ---- channels
 
@@ -158,7 +159,7 @@ marked c (Restart n x o) h mark s p e m =
     let range = in_range c.own.session n s.consistent.own.sound p.needed.1.0 in
     let le = subst (λ (k : ℕ). n ≤ k) s.consistent.own.count range.1 in
     ap (λ (g : List Item). length (cutat c.own.session.base g n)) e
-    ∙ ap length (sym (same_cut c.own.session.base n c.own.view c.history (view_begins c s) le))
+    ∙ ap length (sym (same_cut c.own.session.base n c.own.view c.history (sees_the_history c s) le))
 marked c x h mark s p e m = mark_more mark c.own.view (says c.own.session x) m
 
 abbrev granted : State → Call → Granted

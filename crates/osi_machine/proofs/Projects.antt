@@ -1,18 +1,18 @@
 -- How a whole connection is repeated by one of which nothing is lost. A side that is over is left as it was;
 -- to the other, an abort, an end, a break or a loss is a side that has gone silent.
-use Rattle.std.proofs.Common.{◌≡◌, refl, sym, ◌∙◌, ap, subst, ℕ, ◌+◌, ◌-◌, zero, suc, Bool, true, false, not, ◌||◌, List, [], ◌∷◌, ◌++◌, map, length, take, ◌⊎◌}
+use Rattle.std.proofs.Common.{◌≡◌, sym, ◌∙◌, ap, ℕ, ◌+◌, Bool, true, false, not, ◌||◌, List, [], ◌∷◌, ◌++◌, map, length, take, ◌⊎◌}
 use Rattle.std.proofs.Math.Seq.{take-append_seam}
 use Rattle.std.specs.List.{list_any}
-use Rattle.osi_machine.specs.Floor.{State, Meaning, RF, DN, AB, Token, is_over, is_answering, is_release_due, is_restarting}
-use Rattle.osi_machine.specs.Histories.{Item, Octets, Point, points, upto, Begins}
+use Rattle.osi_machine.specs.Floor.{State, Meaning, RF, DN, AB, Token, is_over, is_answering, is_release_due}
+use Rattle.osi_machine.specs.Histories.{Item, points, Begins}
 use Rattle.osi_machine.specs.Owners.{is_own, owned}
 use Rattle.osi_machine.specs.Channels.{is_plain}
 use Rattle.osi_machine.specs.Core.{Core, turned}
 use Rattle.osi_machine.specs.Worlds.{Message, unit, bye, over, Transport, not_yet, waiting, linked, Kept, kept_of, End, World, session_of, turned as turned_world}
-use Rattle.osi_machine.proofs.Records.{hearing, Stands}
+use Rattle.osi_machine.proofs.Records.{Stands}
 use Rattle.osi_machine.proofs.Tokens.{has_set}
 use Rattle.osi_machine.proofs.Fewer.{tokens_same}
-use Rattle.osi_machine.proofs.Heard.{listener_begins}
+use Rattle.osi_machine.proofs.Promises.{sees_the_history}
 
 -- ---- the lines
 
@@ -94,20 +94,6 @@ over_side = one_over
 
 -- ---- the session of a side that is not over is that of the core
 
-upto_begins : (k : ℕ) (h : List Item) → Begins (upto k h) h
-upto_begins zero h = (h, refl)
-upto_begins (suc k) [] = ([], refl)
-upto_begins (suc k) (Octets o ∷ h) = let b = upto_begins (suc k) h in (b.0, ap (λ (r : List Item). Octets o ∷ r) b.1)
-upto_begins (suc k) (Point n kind o ∷ h) = let b = upto_begins k h in (b.0, ap (λ (r : List Item). Point n kind o ∷ r) b.1)
-
--- what a side has seen begins the history
-pub view_begins : (c : Core) → Stands c → Begins c.own.view c.history
-view_begins c s = by (is_restarting (hearing c.own c.peer).phase) refl
-  where
-    by : (b : Bool) → is_restarting (hearing c.own c.peer).phase ≡ b → Begins c.own.view c.history
-    by true e = subst (λ (v : List Item). Begins v c.history) (sym (s.own_views.cut e)) (upto_begins (c.own.session.numbers.next - c.own.session.base) c.history)
-    by false e = listener_begins c.history c.own c.peer s.own_views (ap not e)
-
 taken_view : (v h : List Item) → Begins v h → take (length v) h ≡ v
 taken_view v h b = ap (take (length v)) (sym b.1) ∙ take-append_seam v b.0
 
@@ -121,7 +107,7 @@ next_is w c s h a =
     ap (λ (k : Kept). k.base + points (take w.own.mark w.history)) a.kept
     ∙ ap (λ (m : ℕ). c.own.session.base + points (take m w.history)) a.mark
     ∙ ap (λ (g : List Item). c.own.session.base + points (take (length c.own.view) g)) h
-    ∙ ap (λ (v : List Item). c.own.session.base + points v) (taken_view c.own.view c.history (view_begins c s))
+    ∙ ap (λ (v : List Item). c.own.session.base + points v) (taken_view c.own.view c.history (sees_the_history c s))
     ∙ sym s.consistent.own.count
 
 pub session_is : (w : World) (c : Core) → Stands c → w.history ≡ c.history → Alike w c → session_of w ≡ c.own.session
