@@ -1,7 +1,9 @@
 //! The work that the benchmarks time, as C functions over octets and numbers.
 #![tactic(auto)]
 
+mod carriers;
 mod links;
+mod moved;
 mod sessions;
 mod tsdus;
 mod units;
@@ -108,4 +110,21 @@ pub extern "C" fn osi_bench_sessions(
     part: usize,
 ) -> u64 {
     sessions::over_a_connection(alloc, data, rounds, part)
+}
+
+/// Moves a TSDU so many times over a pair of carriers with so many connections, whose octets go in
+/// pieces of at most so many, in class 2 or in class 0, and answers a number of what was handed out.
+#[unsafe(no_mangle)]
+pub extern "C" fn osi_bench_carriers(
+    alloc: Global,
+    tsdu: &[u8],
+    rounds: usize,
+    connections: u16,
+    piece: usize,
+    class_two: bool,
+) -> u64 {
+    match carriers::over_carriers(alloc, tsdu, rounds, connections, piece, class_two) {
+        Some(moved) => moved.number(),
+        None => 0,
+    }
 }

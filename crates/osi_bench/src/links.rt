@@ -1,41 +1,12 @@
 //! TSDUs that go over a pair of links, of which one sends and one receives.
 
+use crate::moved::Moved;
 use osi_class::{Class0, Class2, Credit, Link};
 use osi_tpdu::{SizeCode, Window};
 use std::alloc::Global;
 
 /// The reference that each unit of class 2 is for.
 const REFERENCE: u16 = 1;
-
-/// What was handed out: TSDUs and their octets, each modulo 2^64.
-#[derive(Clone, Copy)]
-pub(crate) struct Moved {
-    tsdus: u64,
-    octets: u64,
-}
-
-impl Moved {
-    /// Nothing was handed out.
-    fn nothing() -> Self {
-        Moved {
-            tsdus: 0,
-            octets: 0,
-        }
-    }
-
-    /// The number of what was handed out.
-    pub(crate) fn number(self) -> u64 {
-        self.tsdus.wrapping_mul(1_000_003).wrapping_add(self.octets)
-    }
-
-    // With one more TSDU.
-    fn with(self, tsdu: &[u8]) -> Self {
-        Moved {
-            tsdus: self.tsdus.wrapping_add(1),
-            octets: self.octets.wrapping_add(tsdu.len() as u64),
-        }
-    }
-}
 
 /// Hands the next unit of one end to the other; false where there is none, or it is refused.
 fn pass(from: &mut impl Link, to: &mut impl Link) -> bool {
