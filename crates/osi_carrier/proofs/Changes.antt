@@ -13,7 +13,7 @@ use Rattle.osi_carrier.specs.Meeting.{Changes, addressed, leaving}
 use Rattle.osi_carrier.specs.Pump.{pumped}
 use Rattle.osi_carrier.specs.React.{react, in_class, in_two, to_reference, to_connection, to_linked, to_closing, taking, handed_out, leaves}
 use Rattle.osi_carrier.specs.Orderly.{IsOrderly}
-use Rattle.osi_carrier.specs.Rows.{Rows, value_at, put, without}
+use Rattle.osi_carrier.specs.Rows.{value_at, put, without}
 use Rattle.osi_carrier.specs.State.{Connection, linked, closing, State, packets}
 use Rattle.osi_carrier.proofs.Apart.{put_here, without_here}
 use Rattle.osi_carrier.proofs.AtReferences.{put_other, without_other}

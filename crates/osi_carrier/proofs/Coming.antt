@@ -1,8 +1,8 @@
 -- Octets that a carrier wrote are read as the units that it wrote.
-use Rattle.std.proofs.Common.{◌≡◌, ℕ, ◌+◌, ◌-◌, ◌<◌, ◌≤◌, Bool, true, false, ◌||◌, is_some, List, [], ◌∷◌, ◌++◌, length, map, take, drop, Option, Some, None, Result, Ok, Err, refl, sym, ap, subst, ◌∙◌, inl, inr, ◌⊎◌, arith, append_assoc, length-append, if◌then◌else◌}
+use Rattle.std.proofs.Common.{◌≡◌, ℕ, ◌+◌, ◌-◌, ◌<◌, ◌≤◌, Bool, true, false, ◌||◌, is_some, List, [], ◌∷◌, ◌++◌, length, map, take, drop, Option, None, Result, Ok, refl, sym, ap, subst, ◌∙◌, inl, inr, arith, append_assoc, length-append, if◌then◌else◌}
 use Rattle.std.specs.List.{AllByRecursion}
 use Rattle.std.proofs.lemmas.List.{append-nil, append_cancel_left, get_or_append_left, take-append-drop, length-take-le, take-take}
-use Rattle.osi_tpkt.specs.Packet.{IsPacket, IsUnit, IsFaultOf, IsBadVersion, IsBadLength, packet_of}
+use Rattle.osi_tpkt.specs.Packet.{IsPacket, IsFaultOf, IsBadVersion, IsBadLength, packet_of}
 use Rattle.osi_tpkt.specs.PacketLaws.{one_packet, packet_front, written_packet, stated_length-append}
 use Rattle.osi_tpkt.specs.Stream.{ArePackets, offset_of}
 use Rattle.osi_tpkt.specs.declared.faults.TpktFault.{TpktFault}
@@ -16,7 +16,7 @@ use Rattle.osi_tpdu.specs.declared.faults.TpduFault.{TpduFault}
 use Rattle.osi_tpdu.proofs.PacketLaws.{units_only}
 use Rattle.osi_carrier.specs.Coming.{IsSendable, AreComing, TakesUnits, TakesSome}
 use Rattle.osi_tpkt.specs.declared.cutting.Fed.{Fed}
-use Rattle.osi_carrier.specs.Packets.{Carrying, Feeds, waits, acts_by, after_packet, stops, is_spoilt, TakesPackets, RunsDry, StopsBehind, Refuses, Starves, FindsNoMemory, Goes, RunsOut}
+use Rattle.osi_carrier.specs.Packets.{Carrying, Feeds, waits, acts_by, after_packet, is_spoilt, TakesPackets, RunsDry, StopsBehind, Refuses, Starves, FindsNoMemory, Goes}
 use Rattle.osi_carrier.specs.React.{react, reacts}
 use Rattle.osi_carrier.specs.State.{State, packets, ends}
 use Rattle.osi_carrier.specs.declared.ends.EndReason.{EndReason}

@@ -1,8 +1,7 @@
 -- How a connection of class 2 is opened: the CR, the CC, and what the called end sends before the
 -- caller has it open.
-use Rattle.std.proofs.Common.{◌≡◌, ◌≢◌, ℕ, ◌+◌, ◌<◌, ◌≤◌, Bool, true, false, List, [], ◌∷◌, ◌++◌, map, length, Option, Some, None, refl, sym, ap, subst, ◌∙◌, inl, inr, ◌⊎◌, arith, nat_lt, if◌then◌else◌}
-use Rattle.std.specs.List.{flat_map}
-use Rattle.std.proofs.lemmas.Bool.{le-ltb, lt-ltb, ltb-false, ltb-true}
+use Rattle.std.proofs.Common.{◌≡◌, ◌≢◌, ℕ, ◌+◌, ◌<◌, ◌≤◌, Bool, true, false, List, [], ◌∷◌, ◌++◌, map, Option, Some, None, refl, sym, ap, subst, ◌∙◌, inl, inr, arith, nat_lt, if◌then◌else◌}
+use Rattle.std.proofs.lemmas.Bool.{ltb-false, ltb-true}
 use Rattle.std.proofs.lemmas.List.{append-nil, map-append}
 use Rattle.osi_tpdu.specs.Value.{Value, Connect, request, confirm}
 use Rattle.osi_class.specs.Between.{LinkPair, swapped, opened_pair, under_way, IsShortTsdu}
@@ -14,14 +13,13 @@ use Rattle.osi_class.specs.declared.terms.Class.TheVariants.{Two}
 use Rattle.osi_class.specs.declared.terms.Local.{Local}
 use Rattle.osi_carrier.specs.Addresses.{references}
 use Rattle.osi_carrier.specs.Calls.{asks, sent, closed_with}
-use Rattle.osi_carrier.specs.Course.{Place, never, was_given, place_at, connection_in, Course, unasked, asking, accepting, withdrawing, met, answer_of, at_end, from_end, IsAskedBy, MayTakeTwo, IsAccepted, HaveMet, messages_from, CourseCarries, Acts, CourseMoves}
-use Rattle.osi_carrier.specs.Happenings.{Happening, opened}
+use Rattle.osi_carrier.specs.Course.{Place, never, was_given, place_at, unasked, asking, accepting, withdrawing, met, answer_of, IsAskedBy, MayTakeTwo, IsAccepted, Acts, CourseMoves}
+use Rattle.osi_carrier.specs.Happenings.{opened}
 use Rattle.osi_carrier.specs.Meeting.{talking, left_there, addressed, leaving}
 use Rattle.osi_carrier.specs.Messages.{Message, ask, agree, message, bye, messages_after, uncut_units, kind_of}
-use Rattle.osi_carrier.specs.Negotiation.{proposal_by, confirmed}
+use Rattle.osi_carrier.specs.Negotiation.{proposal_by}
 use Rattle.osi_carrier.specs.OpenLinks.{AreOpen, after_send}
 use Rattle.osi_carrier.specs.Orderly.{IsOrderly}
-use Rattle.osi_carrier.specs.Pump.{pumped}
 use Rattle.osi_carrier.specs.React.{react, in_class, before_class, in_two, answers_request, answers, accepts, has_peer, is_full, opens, to_reference, to_connection}
 use Rattle.osi_carrier.specs.Rows.{value_at}
 use Rattle.osi_carrier.specs.State.{Connection, asked, linked, closing, State, packets}

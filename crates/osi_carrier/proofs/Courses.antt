@@ -1,18 +1,16 @@
 -- How the course of a connection goes on at each end.
-use Rattle.std.proofs.Common.{◌≡◌, ◌≢◌, ℕ, ◌+◌, ◌<◌, ◌≤◌, ◌==◌, is_none, Bool, true, false, List, [], ◌∷◌, ◌++◌, map, take, Option, Some, None, refl, sym, ap, subst, ◌∙◌, inl, inr, ◌⊎◌, arith, nat_lt, if◌then◌else◌}
+use Rattle.std.proofs.Common.{◌≡◌, ℕ, ◌+◌, ◌≤◌, ◌==◌, is_none, Bool, true, false, List, [], ◌∷◌, ◌++◌, Option, Some, None, refl, sym, ap, subst, ◌∙◌, arith, nat_lt, if◌then◌else◌}
 use Rattle.std.specs.List.{flat_map, list_any, AllByRecursion}
-use Rattle.std.proofs.lemmas.Bool.{le-ltb, ltb-false, ltb-true}
-use Rattle.std.proofs.lemmas.List.{append-nil, map-append}
+use Rattle.std.proofs.lemmas.Bool.{le-ltb, ltb-false}
 use Rattle.osi_tpdu.specs.Value.{Value, request, confirm, disconnect, disconnected, data0, data2, acknowledge, error}
 use Rattle.osi_class.specs.Between.{AreOfClass}
 use Rattle.osi_class.specs.Link.{Given, part0, part2, ack}
 use Rattle.osi_class.specs.declared.terms.Class.{Class}
-use Rattle.osi_class.specs.declared.terms.Class.TheVariants.{Two}
 use Rattle.osi_class.specs.declared.terms.Local.{Local}
 use Rattle.osi_carrier.specs.Addresses.{AreFor, reference_of, asked_by, is_last, dropped, live_behind, live_after, references, requests}
-use Rattle.osi_carrier.specs.Course.{Place, never, was_given, place_at, connection_in, Course, met, at_end, from_end, MayTakeTwo, HaveMet, messages_from, told_opening, CourseCarries, Acts, CourseMoves}
+use Rattle.osi_carrier.specs.Course.{Place, never, was_given, place_at, met, MayTakeTwo, HaveMet, told_opening, CourseCarries, Acts, CourseMoves}
 use Rattle.osi_carrier.specs.Happenings.{Happening}
-use Rattle.osi_carrier.specs.Meeting.{Meeting, talking, left_here, left_there, left_both, waiting_here, waiting_there, parted, mirror, here, there, addressed, leaving, farewell, rows_with, out, back, Stands, Changes, told_at, messages_back, messages_out, Carries, Moves}
+use Rattle.osi_carrier.specs.Meeting.{Meeting, talking, left_here, left_there, left_both, waiting_here, waiting_there, parted, mirror, here, addressed, leaving, farewell, rows_with, out, back, Stands, Changes, told_at, messages_back, messages_out, Carries, Moves}
 use Rattle.osi_carrier.specs.Messages.{Message, messages_to, AreLike}
 use Rattle.osi_carrier.specs.Rows.{Rows, value_at, put, without}
 use Rattle.osi_carrier.specs.State.{Connection, State}

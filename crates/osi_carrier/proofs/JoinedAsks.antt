@@ -1,15 +1,14 @@
 -- A caller that may ask for a connection finds a place at the called end: behind the units that are
 -- under way no more connections are live there than at the caller.
-use Rattle.std.proofs.Common.{◌≡◌, ◌≢◌, ℕ, zero, suc, ◌+◌, ◌<◌, ◌≤◌, ◌==◌, Bool, true, false, not, List, [], ◌∷◌, ◌++◌, length, map, Option, Some, None, refl, sym, ap, subst, ◌∙◌, arith, nat_lt, nat_le, is_some, length-append, if◌then◌else◌}
-use Rattle.std.specs.List.{AllByRecursion}
-use Rattle.std.proofs.lemmas.Bool.{eq-eqb, eqb-true, eqb-false, ne_eqb, lt-ltb, ltb-true, ltb-false}
+use Rattle.std.proofs.Common.{◌≡◌, ◌≢◌, ℕ, zero, suc, ◌+◌, ◌<◌, ◌≤◌, ◌==◌, Bool, true, false, List, [], ◌∷◌, ◌++◌, length, map, Option, Some, None, refl, sym, ap, subst, ◌∙◌, arith, nat_lt, is_some, if◌then◌else◌}
+use Rattle.std.proofs.lemmas.Bool.{eq-eqb, eqb-true, ne_eqb, ltb-true, ltb-false}
 use Rattle.std.proofs.lemmas.List.{map-append}
 use Rattle.osi_tpdu.specs.Value.{Value, request, confirm, disconnect, disconnected, data0, data2, acknowledge, error}
 use Rattle.osi_class.specs.declared.terms.Local.{Local}
 use Rattle.osi_carrier.specs.Addresses.{reference_of, units_of, asked_by, requests, behind, dropped, live_behind, live_after, references, is_last}
-use Rattle.osi_carrier.specs.Course.{Place, never, was_given, place_at, Course, unasked, asking, accepting, withdrawing, met, at_end, from_end}
-use Rattle.osi_carrier.specs.Joined.{StandsBetween, AreJoined}
-use Rattle.osi_carrier.specs.Meeting.{Meeting, talking, left_here, left_there, left_both, waiting_here, waiting_there, parted, mirror, here, addressed, farewell}
+use Rattle.osi_carrier.specs.Course.{never, was_given, place_at, Course, unasked, asking, accepting, withdrawing, met, at_end, from_end}
+use Rattle.osi_carrier.specs.Joined.{AreJoined}
+use Rattle.osi_carrier.specs.Meeting.{talking, left_here, left_there, left_both, waiting_here, waiting_there, parted, addressed, farewell}
 use Rattle.osi_carrier.specs.Orderly.{RiseFrom, AreUpTo, IsOrderly}
 use Rattle.osi_carrier.specs.Rows.{Rows, value_at, without}
 use Rattle.osi_carrier.specs.State.{Connection, asked, linked, closing, State}

@@ -1,23 +1,21 @@
 -- The caller asks for a connection; two new carriers are joined; and where nothing is on the way
 -- nothing is under way.
-use Rattle.std.proofs.Common.{◌≡◌, ℕ, ◌+◌, ◌<◌, ◌≤◌, Bool, true, false, List, [], ◌∷◌, ◌++◌, length, map, Option, Some, None, refl, sym, ap, subst, ◌∙◌, inl, inr, arith, nat_lt, if◌then◌else◌}
+use Rattle.std.proofs.Common.{◌≡◌, ℕ, ◌+◌, ◌<◌, Bool, true, false, List, [], ◌∷◌, ◌++◌, length, Option, Some, None, refl, sym, ap, subst, ◌∙◌, inl, inr, arith, if◌then◌else◌}
 use Rattle.std.proofs.lemmas.Bool.{lt-ltb}
-use Rattle.std.proofs.lemmas.List.{append-nil}
 use Rattle.osi_tpdu.specs.Value.{Value}
-use Rattle.osi_class.specs.Between.{LinkPair, swapped, under_way, IsQuiet}
+use Rattle.osi_class.specs.Between.{LinkPair, swapped, IsQuiet}
 use Rattle.osi_class.specs.Link.{Standing, Given}
 use Rattle.osi_class.specs.declared.terms.Local.{Local}
-use Rattle.osi_class.proofs.Arrival.{nothing_between, quiet_unsent, nothing_begun}
+use Rattle.osi_class.proofs.Arrival.{quiet_unsent, nothing_begun}
 use Rattle.osi_carrier.specs.Addresses.{live_after, references}
 use Rattle.osi_carrier.specs.Calls.{fresh_state, may_connect, asks}
 use Rattle.osi_carrier.specs.Course.{Place, never, was_given, place_at, connection_in, Course, unasked, asking, accepting, withdrawing, met, at_end, from_end, Holds}
 use Rattle.osi_carrier.specs.Joined.{StandsBetween, AreJoined, CallerDid, under_way_for, IsEmpty}
-use Rattle.osi_carrier.specs.Meeting.{Meeting, talking, left_here, left_there, left_both, waiting_here, waiting_there, parted, mirror, here, addressed}
-use Rattle.osi_carrier.specs.Messages.{Message, ask, message, messages_to, messages_after, uncut_units}
+use Rattle.osi_carrier.specs.Meeting.{talking, left_here, left_there, left_both, waiting_here, waiting_there, parted, addressed}
+use Rattle.osi_carrier.specs.Messages.{ask, messages_to, messages_after, uncut_units}
 use Rattle.osi_carrier.specs.OpenLinks.{AreOpen}
-use Rattle.osi_carrier.specs.Orderly.{IsOrderly}
 use Rattle.osi_carrier.specs.Rows.{value_at}
-use Rattle.osi_carrier.specs.State.{Connection, linked, State}
+use Rattle.osi_carrier.specs.State.{linked, State}
 use Rattle.osi_carrier.proofs.CourseOpening.{asks_moves}
 use Rattle.osi_carrier.proofs.Effects.{free_of, orderly_asks, orderly_fresh}
 use Rattle.osi_carrier.proofs.JoinedAsks.{no_more_live}

@@ -1,5 +1,5 @@
 -- Where one end of two joined carriers acts, each connection stands as it should.
-use Rattle.std.proofs.Common.{◌≡◌, ◌≢◌, ℕ, ◌+◌, ◌<◌, ◌≤◌, ◌==◌, Bool, true, false, not, List, [], ◌∷◌, ◌++◌, Option, refl, sym, ap, subst, ◌∙◌, inl, inr, arith, append_assoc}
+use Rattle.std.proofs.Common.{◌≡◌, ◌≢◌, ℕ, ◌<◌, ◌==◌, Bool, true, false, not, List, ◌++◌, Option, refl, sym, ap, subst, ◌∙◌}
 use Rattle.std.specs.List.{flat_map}
 use Rattle.std.proofs.lemmas.Bool.{eqb-true, eq-eqb}
 use Rattle.std.proofs.lemmas.List.{append-nil, append_cancel_left}
@@ -8,7 +8,7 @@ use Rattle.osi_class.specs.Between.{LinkPair}
 use Rattle.osi_class.specs.declared.terms.Local.{Local}
 use Rattle.osi_tpdu.specs.Value.{Connect}
 use Rattle.osi_carrier.specs.Addresses.{units_of, AreFor}
-use Rattle.osi_carrier.specs.Course.{Place, place_at, connection_in, at_end, messages_from, told_opening, Course, unasked, asking, accepting, withdrawing, met, from_end, IsAskedBy, IsAccepted, HaveMet, Holds, HoldsAt, called_local, Acts, CourseMoves}
+use Rattle.osi_carrier.specs.Course.{Place, place_at, connection_in, at_end, messages_from, told_opening, Course, unasked, asking, accepting, withdrawing, met, from_end, IsAskedBy, IsAccepted, HoldsAt, called_local, Acts, CourseMoves}
 use Rattle.osi_carrier.specs.Happenings.{Happening}
 use Rattle.osi_carrier.specs.Joined.{StandsBetween, under_way_for, ActsFor}
 use Rattle.osi_carrier.specs.Messages.{Message, messages_to, AreLike}

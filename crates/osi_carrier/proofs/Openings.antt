@@ -1,12 +1,12 @@
 -- Two links of class 2 as a CR and its CC open them.
-use Rattle.std.proofs.Common.{◌≡◌, ℕ, ◌-◌, ◌^◌, ◌<◌, ◌≤◌, ◌+◌, ◌&&◌, Bool, true, false, List, [], ◌∷◌, min, Option, Some, None, refl, sym, ap, subst, ◌∙◌, inl, inr, arith, if◌then◌else◌}
+use Rattle.std.proofs.Common.{◌≡◌, ℕ, ◌^◌, ◌≤◌, true, List, [], min, Option, Some, refl, sym, subst, inl, arith}
 use Rattle.std.specs.List.{AllByRecursion}
 use Rattle.std.proofs.Math.Nat.{pow-le-pow_right}
 use Rattle.osi_tpdu.specs.Limits.{size_code, window_units}
 use Rattle.osi_tpdu.specs.Value.{Connect}
-use Rattle.osi_class.specs.Between.{LinkPair, opened_pair, swapped, under_way, IsShortTsdu}
+use Rattle.osi_class.specs.Between.{opened_pair, under_way, IsShortTsdu}
 use Rattle.osi_class.specs.Link.{Standing, two_standing, fresh_two}
-use Rattle.osi_class.specs.Negotiation.{Selection, accept, selected_by, selected_size}
+use Rattle.osi_class.specs.Negotiation.{accept, selected_by, selected_size}
 use Rattle.osi_class.specs.declared.terms.Class.{Class}
 use Rattle.osi_class.specs.declared.terms.Class.TheVariants.{Two}
 use Rattle.osi_class.specs.declared.terms.Local.{Local}

@@ -1,6 +1,6 @@
 -- The units that come from a carrier's peer, where the octets between them are read as packets, and
 -- what feeding some of these octets does.
-use Rattle.std.specs.Prelude.{◌≡◌, ◌≤◌, ℕ, Bool, true, false, List, [], ◌∷◌, ◌++◌, length, map, drop, Some, None, ◌⊎◌}
+use Rattle.std.specs.Prelude.{◌≡◌, ◌≤◌, ℕ, false, List, [], ◌∷◌, ◌++◌, length, drop, ◌⊎◌}
 use Rattle.std.specs.List.{AllByRecursion}
 use Rattle.osi_tpdu.specs.Value.{Value}
 use Rattle.osi_tpdu.specs.Writing.{written, Fits}

@@ -1,6 +1,6 @@
 -- How one connection of class 2 stands at two carriers since both have had it open, and which units
 -- are under way for it. Both gave it the same reference. `here` is one of the two, `there` the other.
-use Rattle.std.specs.Prelude.{◌≡◌, ◌≢◌, ℕ, ◌<◌, ◌==◌, Bool, true, false, List, [], ◌∷◌, ◌++◌, map, Option, Some, None, is_none, if◌then◌else◌}
+use Rattle.std.specs.Prelude.{◌≡◌, ◌≢◌, ℕ, ◌<◌, Bool, true, false, List, [], ◌∷◌, ◌++◌, map, Option, Some, None, is_none, if◌then◌else◌}
 use Rattle.std.specs.List.{flat_map, list_any}
 use Rattle.osi_tpdu.specs.Value.{Value, request, confirm, disconnect, disconnected, data0, data2, acknowledge, error}
 use Rattle.osi_class.specs.Between.{LinkPair, swapped, AreOfClass}
