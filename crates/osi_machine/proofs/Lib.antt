@@ -16,6 +16,7 @@ pub mod HistoryLaws
 pub mod Idle
 pub mod Lines
 pub mod LinesRun
+pub mod MachineLaws
 pub mod NumberLaws
 pub mod Opening
 pub mod Passed

@@ -32,7 +32,7 @@ reached_stands laws w r = subst Stands r.reached (run_stands laws (core_start r.
 
 -- ---- tokens
 
-one_owner : (o : Owner) → (is_own o && is_own (turned_owner o)) ≡ false
+pub one_owner : (o : Owner) → (is_own o && is_own (turned_owner o)) ≡ false
 one_owner Own = refl
 one_owner Theirs = refl
 one_owner ToOwn = refl
@@ -179,7 +179,7 @@ seen_there b n before kind octets v h a p q l = elim (begins_agree (before ++ Po
 begins_through : (v w z : List Item) → Begins v w → Begins w z → Begins v z
 begins_through v w z a b = (a.0 ++ b.0, sym (append_assoc v a.0 b.0) ∙ ap (λ (r : List Item). r ++ b.0) a.1 ∙ b.1)
 
-none_in_nil : (before : List Item) (i : Item) → Begins (before ++ i ∷ []) [] → ⊥
+pub none_in_nil : (before : List Item) (i : Item) → Begins (before ++ i ∷ []) [] → ⊥
 none_in_nil [] i b = let e = ap length b.1 in omega arith
 none_in_nil (j ∷ before) i b = let e = ap length b.1 in omega arith
 

@@ -1,7 +1,7 @@
 -- What the record of a side tells is what the side has seen, and whether it awaits the answer to a restart.
 use Rattle.std.proofs.Common.{◌≡◌, refl, sym, ◌∙◌, ap, ℕ, ◌+◌, Bool, true, false, not, ◌||◌, if◌then◌else◌, List, [], ◌∷◌, ◌++◌, arith}
 use Rattle.osi_session.specs.Shown.{Shown}
-use Rattle.osi_machine.specs.Floor.{State, FunctionalUnits, Call, Accept, Refuse, Data, Give, Please, Minor, MinorConfirm, Major, MajorConfirm, Restart, RestartConfirm, Release, ReleaseAccept, ReleaseRefuse, Abort, Meaning, CN, AC, RF, DT, GT, PT, MIP, MIA, MAP, MAA, RS, RA, FN, DN, NF, AB, AA, Phase, is_wait_cn, is_connecting, is_answering, is_ready, is_major_asked, is_major_due, is_releasing, is_release_due, is_restarting, is_restart_due, takes_data, stands, is_acceptable, becomes, shown_for, after, may_call, agreed_base, both_units, functional_units, Good}
+use Rattle.osi_machine.specs.Floor.{State, FunctionalUnits, Call, Accept, Refuse, Data, Give, Please, Minor, MinorConfirm, Major, MajorConfirm, Restart, RestartConfirm, Release, ReleaseAccept, ReleaseRefuse, Abort, Meaning, CN, AC, RF, DT, GT, PT, MIP, MIA, MAP, MAA, RS, RA, FN, DN, NF, AB, AA, Phase, is_over, is_wait_cn, is_connecting, is_answering, is_ready, is_major_asked, is_major_due, is_releasing, is_release_due, is_restarting, is_restart_due, may_restart, takes_restart, takes_data, stands, is_acceptable, becomes, shown_for, after, may_call, agreed_base, both_units, functional_units, Good}
 use Rattle.osi_machine.specs.Histories.{Item, Octets, Point, PointKind, points, cutat, minor_kind, major_point}
 use Rattle.osi_machine.specs.Taking.{seen}
 use Rattle.osi_machine.specs.Channels.{is_plain}
@@ -11,6 +11,10 @@ use Rattle.osi_machine.specs.Views.{Told, told_call, told_shown}
 use Rattle.osi_machine.proofs.PhaseLaws.{implied, excluded}
 use Rattle.osi_machine.proofs.Idle.{append_nil}
 
+-- a connection that is open
+abbrev pub is_open : Phase → Bool
+is_open p = not (is_opening p || is_over p)
+
 -- what a record tells of a side
 pub record Tells (t : Told) (s : State) (v : List Item) : Type 0 where
   pub asked : is_connecting s.phase ≡ true → (t.asked_for ≡ s.units) × (t.proposed ≡ s.proposed)
@@ -18,6 +22,8 @@ pub record Tells (t : Told) (s : State) (v : List Item) : Type 0 where
   pub base : t.base ≡ s.base
   pub view : s.units.duplex ≡ false → t.view ≡ v
   pub asking : t.asking ≡ is_restarting s.phase
+  pub duplex : is_open s.phase ≡ true → t.duplex ≡ s.units.duplex
+  pub fine : t.faulted ≡ false
 
 -- ---- where little changes
 
@@ -29,6 +35,8 @@ same_tells t s r v w p u n b e h = record {
   base = h.base ∙ sym b;
   view = λ d. h.view (ap (λ (f : FunctionalUnits). f.duplex) (sym u) ∙ d) ∙ sym e;
   asking = h.asking ∙ ap is_restarting (sym p);
+  duplex = λ o. h.duplex (ap is_open (sym p) ∙ o) ∙ ap (λ (f : FunctionalUnits). f.duplex) (sym u);
+  fine = h.fine;
 }
 
 -- from an open phase to one in which nothing is opened
@@ -44,8 +52,9 @@ calm_parts p h = by (is_opening p) (is_restarting p) h
     by true b e = absurd (cc)
     by false true e = absurd (cc)
 
-calm_tells : (t : Told) (s : State) (v : List Item) → calm s.phase ≡ true → t.base ≡ s.base → (s.units.duplex ≡ false → t.view ≡ v) → t.asking ≡ false → Tells t s v
-calm_tells t s v c b e a =
+calm_tells : (t : Told) (s : State) (v : List Item) → calm s.phase ≡ true → t.base ≡ s.base → (s.units.duplex ≡ false → t.view ≡ v) → t.asking ≡ false
+    → (is_open s.phase ≡ true → t.duplex ≡ s.units.duplex) → t.faulted ≡ false → Tells t s v
+calm_tells t s v c b e a d f =
     let p = calm_parts s.phase c in
     let no = p.0 in
     record {
@@ -54,6 +63,8 @@ calm_tells t s v c b e a =
       base = b;
       view = e;
       asking = a ∙ sym p.1;
+      duplex = d;
+      fine = f;
     }
 
 none_more : (t : Told) (v : List Item) (b : Bool) → (b ≡ false → t.view ≡ v) → b ≡ false → t.view ≡ v ++ []
@@ -80,22 +91,22 @@ pub call_tells : (t : Told) (s : State) (c : Call) (v : List Item) → stays_in_
 unfolding calm
 call_tells t s (Accept requirements serial sides octets) v k p n f h =
     let o = implied is_answering is_opening refl s.phase p in
-    calm_tells _ _ _ refl refl (λ d. h.fresh o ∙ sym (append_nil v ∙ f o)) (not_asking t s v h (excluded is_answering is_restarting refl s.phase p))
+    calm_tells _ _ _ refl refl (λ d. h.fresh o ∙ sym (append_nil v ∙ f o)) (not_asking t s v h (excluded is_answering is_restarting refl s.phase p)) (λ o. refl) h.fine
 call_tells t s (Refuse octets) v k p n f h = absurd (cc)
 call_tells t s (Data octets) v k p n f h =
     calm_tells _ _ _ (implied is_ready calm refl s.phase p) h.base
-    (λ d. data_added s.units.duplex t.view v octets (h.view d) d) (not_asking t s v h (excluded is_ready is_restarting refl s.phase p))
+    (λ d. data_added s.units.duplex t.view v octets (h.view d) d) (not_asking t s v h (excluded is_ready is_restarting refl s.phase p)) (λ o. h.duplex (implied is_ready is_open refl s.phase p)) h.fine
 call_tells t s (Give tokens) v k p n f h = same_tells t s _ v _ refl refl refl refl (append_nil v) h
 call_tells t s (Please tokens octets) v k p n f h = same_tells t s _ v _ refl refl refl refl (append_nil v) h
 call_tells t s (Minor confirm octets) v k p n f h =
     calm_tells _ _ _ (implied is_ready calm refl s.phase p) h.base
-    (λ d. point_added s.numbers.next t.base t.view v (minor_kind confirm) octets (next_point t s v h n d) (h.view d)) (not_asking t s v h (excluded is_ready is_restarting refl s.phase p))
+    (λ d. point_added s.numbers.next t.base t.view v (minor_kind confirm) octets (next_point t s v h n d) (h.view d)) (not_asking t s v h (excluded is_ready is_restarting refl s.phase p)) (λ o. h.duplex (implied is_ready is_open refl s.phase p)) h.fine
 call_tells t s (MinorConfirm m octets) v k p n f h = same_tells t s _ v _ refl refl refl refl (append_nil v) h
 call_tells t s (Major octets) v k p n f h =
     calm_tells _ _ _ refl h.base
-    (λ d. point_added s.numbers.next t.base t.view v major_point octets (next_point t s v h n d) (h.view d)) (not_asking t s v h (excluded is_ready is_restarting refl s.phase p))
+    (λ d. point_added s.numbers.next t.base t.view v major_point octets (next_point t s v h n d) (h.view d)) (not_asking t s v h (excluded is_ready is_restarting refl s.phase p)) (λ o. h.duplex (implied is_ready is_open refl s.phase p)) h.fine
 call_tells t s (MajorConfirm octets) v k p n f h =
-    calm_tells _ _ _ refl h.base (none_more t v s.units.duplex h.view) (not_asking t s v h (excluded is_major_due is_restarting refl s.phase p))
+    calm_tells _ _ _ refl h.base (none_more t v s.units.duplex h.view) (not_asking t s v h (excluded is_major_due is_restarting refl s.phase p)) (λ o. h.duplex (implied is_major_due is_open refl s.phase p)) h.fine
 call_tells t s (Restart m wishes octets) v k p n f h =
     record {
       asked = λ c. absurd (cc);
@@ -103,14 +114,16 @@ call_tells t s (Restart m wishes octets) v k p n f h =
       base = h.base;
       view = λ d. ap (λ (b : ℕ). cutat b t.view m) h.base ∙ ap (λ (r : List Item). cutat s.base r m) (h.view d);
       asking = refl;
+      duplex = λ o. h.duplex (implied may_restart is_open refl s.phase p);
+      fine = h.fine;
     }
 call_tells t s (RestartConfirm sides octets) v k p n f h =
-    calm_tells _ _ _ refl h.base (none_more t v s.units.duplex h.view) (not_asking t s v h (excluded is_restart_due is_restarting refl s.phase p))
+    calm_tells _ _ _ refl h.base (none_more t v s.units.duplex h.view) (not_asking t s v h (excluded is_restart_due is_restarting refl s.phase p)) (λ o. h.duplex (implied is_restart_due is_open refl s.phase p)) h.fine
 call_tells t s (Release octets) v k p n f h =
-    calm_tells _ _ _ refl h.base (none_more t v s.units.duplex h.view) (not_asking t s v h (excluded is_ready is_restarting refl s.phase p))
+    calm_tells _ _ _ refl h.base (none_more t v s.units.duplex h.view) (not_asking t s v h (excluded is_ready is_restarting refl s.phase p)) (λ o. h.duplex (implied is_ready is_open refl s.phase p)) h.fine
 call_tells t s (ReleaseAccept octets) v k p n f h = absurd (cc)
 call_tells t s (ReleaseRefuse octets) v k p n f h =
-    calm_tells _ _ _ refl h.base (none_more t v s.units.duplex h.view) (not_asking t s v h (excluded is_release_due is_restarting refl s.phase p))
+    calm_tells _ _ _ refl h.base (none_more t v s.units.duplex h.view) (not_asking t s v h (excluded is_release_due is_restarting refl s.phase p)) (λ o. h.duplex (implied is_release_due is_open refl s.phase p)) h.fine
 call_tells t s (Abort octets) v k p n f h = absurd (cc)
 
 -- ---- a unit that is acted on
@@ -144,37 +157,39 @@ unit_tells t s (CN w r n x from to o) v p g f h =
       base = h.base;
       view = λ d. fresh ∙ sym (f open_now);
       asking = not_asking t s v h (excluded is_wait_cn is_restarting refl s.phase g.expected);
+      duplex = λ c. absurd (cc);
+      fine = h.fine;
     })
-    (calm_tells _ _ _ refl h.base (λ d. fresh ∙ sym (f open_now)) (not_asking t s v h (excluded is_wait_cn is_restarting refl s.phase g.expected)))
+    (calm_tells _ _ _ refl h.base (λ d. fresh ∙ sym (f open_now)) (not_asking t s v h (excluded is_wait_cn is_restarting refl s.phase g.expected)) (λ o. absurd (cc)) h.fine)
 unit_tells t s (AC w r n x o) v p g f h =
     let open_now = implied is_connecting is_opening refl s.phase g.expected in
     let k = h.asked g.expected in
     calm_tells _ _ _ refl (ap (λ (a : FunctionalUnits). agreed_base (both_units a (functional_units r)) n t.proposed) k.0 ∙ ap (agreed_base (both_units s.units (functional_units r)) n) k.1)
-    (λ d. h.fresh open_now ∙ sym (f open_now)) (not_asking t s v h (excluded is_connecting is_restarting refl s.phase g.expected))
+    (λ d. h.fresh open_now ∙ sym (f open_now)) (not_asking t s v h (excluded is_connecting is_restarting refl s.phase g.expected)) (λ o. ap (λ (a : FunctionalUnits). (both_units a (functional_units r)).duplex) k.0) h.fine
 unit_tells t s (RF r o) v p g f h = absurd (cc)
 unit_tells t s (DT o) v p g f h =
     calm_tells _ _ _ (implied takes_data calm refl s.phase g.expected) h.base
-    (λ d. data_taken s.units.duplex t.view v o (h.view d) d) (not_asking t s v h (excluded takes_data is_restarting refl s.phase g.expected))
+    (λ d. data_taken s.units.duplex t.view v o (h.view d) d) (not_asking t s v h (excluded takes_data is_restarting refl s.phase g.expected)) (λ o. h.duplex (implied takes_data is_open refl s.phase g.expected)) h.fine
 unit_tells t s (GT k) v p g f h = same_tells t s _ v v refl refl refl refl refl h
 unit_tells t s (PT k o) v p g f h = same_tells t s _ v v refl refl refl refl refl h
 unit_tells t s (MIP c n o) v p g f h =
     calm_tells _ _ _ (implied is_ready calm refl s.phase g.expected) h.base
-    (λ d. ap (λ (r : List Item). r ++ Point n (minor_kind c) o ∷ []) (h.view d)) (not_asking t s v h (excluded is_ready is_restarting refl s.phase g.expected))
+    (λ d. ap (λ (r : List Item). r ++ Point n (minor_kind c) o ∷ []) (h.view d)) (not_asking t s v h (excluded is_ready is_restarting refl s.phase g.expected)) (λ o. h.duplex (implied is_ready is_open refl s.phase g.expected)) h.fine
 unit_tells t s (MIA n o) v p g f h = same_tells t s _ v v refl refl refl refl refl h
 unit_tells t s (MAP n o) v p g f h =
     calm_tells _ _ _ refl h.base
-    (λ d. ap (λ (r : List Item). r ++ Point n major_point o ∷ []) (h.view d)) (not_asking t s v h (excluded is_ready is_restarting refl s.phase g.expected))
+    (λ d. ap (λ (r : List Item). r ++ Point n major_point o ∷ []) (h.view d)) (not_asking t s v h (excluded is_ready is_restarting refl s.phase g.expected)) (λ o. h.duplex (implied is_ready is_open refl s.phase g.expected)) h.fine
 unit_tells t s (MAA n o) v p g f h =
-    calm_tells _ _ _ refl h.base h.view (not_asking t s v h (excluded is_major_asked is_restarting refl s.phase g.expected))
+    calm_tells _ _ _ refl h.base h.view (not_asking t s v h (excluded is_major_asked is_restarting refl s.phase g.expected)) (λ o. h.duplex (implied is_major_asked is_open refl s.phase g.expected)) h.fine
 unit_tells t s (RS j n w o) v p g f h =
     either (λ a q z. Tells (told_all t a) q z) (stands s n) _ _ _ s (cutat s.base v n) v
-    (λ e. calm_tells _ _ _ refl h.base (λ d. ap (λ (b : ℕ). cutat b t.view n) h.base ∙ ap (λ (r : List Item). cutat s.base r n) (h.view d)) refl)
+    (λ e. calm_tells _ _ _ refl h.base (λ d. ap (λ (b : ℕ). cutat b t.view n) h.base ∙ ap (λ (r : List Item). cutat s.base r n) (h.view d)) refl (λ o. h.duplex (implied takes_restart is_open refl s.phase g.expected)) h.fine)
     (λ e. h)
-unit_tells t s (RA n w o) v p g f h = calm_tells _ _ _ refl h.base h.view refl
+unit_tells t s (RA n w o) v p g f h = calm_tells _ _ _ refl h.base h.view refl (λ o. h.duplex (implied is_restarting is_open refl s.phase g.expected)) h.fine
 unit_tells t s (FN o) v p g f h =
-    calm_tells _ _ _ refl h.base h.view (not_asking t s v h (excluded is_ready is_restarting refl s.phase g.expected))
+    calm_tells _ _ _ refl h.base h.view (not_asking t s v h (excluded is_ready is_restarting refl s.phase g.expected)) (λ o. h.duplex (implied is_ready is_open refl s.phase g.expected)) h.fine
 unit_tells t s (DN o) v p g f h = absurd (cc)
 unit_tells t s (NF o) v p g f h =
-    calm_tells _ _ _ refl h.base h.view (not_asking t s v h (excluded is_releasing is_restarting refl s.phase g.expected))
+    calm_tells _ _ _ refl h.base h.view (not_asking t s v h (excluded is_releasing is_restarting refl s.phase g.expected)) (λ o. h.duplex (implied is_releasing is_open refl s.phase g.expected)) h.fine
 unit_tells t s (AB b o) v p g f h = absurd (cc)
 unit_tells t s AA v p g f h = absurd (cc)

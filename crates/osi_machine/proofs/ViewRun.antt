@@ -202,8 +202,8 @@ run_tells laws w (step ∷ steps) left right small s h =
 
 starts_told : (o : Offer) → TellBoth (core_start o) (untold Left o) (untold Right o)
 starts_told o = record {
-  left = record { asked = λ c. (refl, refl); fresh = λ k. refl; base = refl; view = λ d. refl; asking = refl };
-  right = record { asked = λ c. absurd (cc); fresh = λ k. refl; base = refl; view = λ d. refl; asking = refl };
+  left = record { asked = λ c. (refl, refl); fresh = λ k. refl; base = refl; view = λ d. refl; asking = refl; duplex = λ o. absurd (cc); fine = refl };
+  right = record { asked = λ c. absurd (cc); fresh = λ k. refl; base = refl; view = λ d. refl; asking = refl; duplex = λ o. absurd (cc); fine = refl };
 }
 
 pub are_told : SessionLaws → (o : Offer) (steps : List CoreStep) → AllByRecursion IsNumberedStep steps → Stands (core_start o) → AreTold o steps

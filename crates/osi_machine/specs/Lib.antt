@@ -7,6 +7,7 @@ pub mod Machine
 pub mod Owners
 pub mod Parties
 pub mod Promises
+pub mod Runs
 pub mod Taking
 pub mod Views
 pub mod Worlds

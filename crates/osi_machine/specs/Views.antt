@@ -1,20 +1,23 @@
 -- The record of one side of a connection, which is what its user asked and was shown, and what it tells.
 use Rattle.std.specs.Prelude.{◌≡◌, ℕ, ◌+◌, ◌==◌, Bool, true, false, ◌&&◌, if◌then◌else◌, List, [], ◌∷◌, ◌++◌, map, None}
-use Rattle.osi_session.specs.Shown.{Shown, Connected, Data as data_shown, Minor as minor_shown, Major as major_shown, Restart as restart_shown, Restarted}
+use Rattle.osi_session.specs.Shown.{Shown, Connected, Data as data_shown, Minor as minor_shown, Major as major_shown, Restart as restart_shown, Restarted, PeerAbort, BadUnit}
 use Rattle.osi_machine.specs.Floor.{FunctionalUnits, State, Call, Accept, Data, Minor, Major, Restart, Meaning, allowed, respond_unit, functional_units, no_units, both_units, base_for, agreed_base, is_restarting}
 use Rattle.osi_machine.specs.Histories.{Item, Octets, Point, PointKind, minor_kind, major_point, points, cutat}
 use Rattle.osi_machine.specs.Core.{Core, CoreStep, call_at, take_at, Side, Left, Right, Offer, stays_in_core, core_step, core_run, core_start}
 use Rattle.osi_machine.specs.Machine.{Entry, call_answered, shown_at, error_of}
 
 -- What a record has told so far: the units that were asked for and the number that was proposed, where
--- its side asked for the connection; the first number; what of the history was seen; and whether the
--- answer to a restart is awaited.
+-- its side asked for the connection; whether duplex is selected; the first number; what of the history
+-- was seen; whether the answer to a restart is awaited; and whether a fault was shown, of this side or of
+-- the other.
 pub record Told : Type 0 where
   pub asked_for : FunctionalUnits
   pub proposed : ℕ
+  pub duplex : Bool
   pub base : ℕ
   pub view : List Item
   pub asking : Bool
+  pub faulted : Bool
 
 -- data is added
 abbrev pub with_data : Told → List ℕ → Told
@@ -25,7 +28,8 @@ with_point t n kind octets = record t { view = t.view ++ Point n kind octets ∷
 
 -- an accepted call: a point that is asked for has the base and the number of points before it
 abbrev pub told_call : Told → Call → Told
-told_call t (Accept requirements serial sides octets) = record t { base = base_for (functional_units requirements) serial }
+told_call t (Accept requirements serial sides octets) =
+    record t { duplex = (functional_units requirements).duplex; base = base_for (functional_units requirements) serial }
 told_call t (Data octets) = with_data t octets
 told_call t (Minor confirm octets) = with_point t (t.base + points t.view) (minor_kind confirm) octets
 told_call t (Major octets) = with_point t (t.base + points t.view) major_point octets
@@ -34,13 +38,17 @@ told_call t c = t
 
 -- what is shown: a point has the number that is shown
 abbrev pub told_shown : Told → Shown → Told
-told_shown t (Connected requirements serial sides octets) =
-    record t { base = agreed_base (both_units t.asked_for (functional_units requirements)) serial t.proposed }
+told_shown t (Connected requirements serial sides octets) = record t {
+  duplex = (both_units t.asked_for (functional_units requirements)).duplex;
+  base = agreed_base (both_units t.asked_for (functional_units requirements)) serial t.proposed;
+}
 told_shown t (data_shown octets) = with_data t octets
 told_shown t (minor_shown n confirm octets) = with_point t n (minor_kind confirm) octets
 told_shown t (major_shown n octets) = with_point t n major_point octets
 told_shown t (restart_shown n wishes octets) = record t { view = cutat t.base t.view n; asking = false }
 told_shown t (Restarted n sides octets) = record t { asking = false }
+told_shown t (PeerAbort bits) = record t { faulted = true }
+told_shown t (BadUnit fault) = record t { faulted = true }
 told_shown t i = t
 
 abbrev pub told_entry : Told → Entry → Told
@@ -73,11 +81,13 @@ abbrev pub untold : Side → Offer → Told
 untold Left o = record {
   asked_for = functional_units o.requirements;
   proposed = base_for (functional_units o.requirements) o.serial;
+  duplex = false;
   base = 0;
   view = [];
   asking = false;
+  faulted = false;
 }
-untold Right o = record { asked_for = no_units; proposed = 0; base = 0; view = []; asking = false }
+untold Right o = record { asked_for = no_units; proposed = 0; duplex = false; base = 0; view = []; asking = false; faulted = false }
 
 -- the view of a side, and whether it has asked for a restart of which it has seen no answer, by the journal
 abbrev pub told_of : Side → ℕ → Offer → List Entry → Told

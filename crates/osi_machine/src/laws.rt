@@ -6,9 +6,10 @@ ghost use Rattle.osi_machine.specs.Core.{Core, CoreStep, Offer, Left, Right, cor
 ghost use Rattle.osi_machine.specs.Examples.{all_tokens, lost_give_seen, after_lost_give, crossing_seen, after_crossing, two_points_seen, restart_below_seen, after_restart_below, last_point, last_point_seen, lost_release_seen, after_lost_release, both_send, both_send_seen, to_right, held_in, stands_at, next_at, lowest_at, history_of, up_to_first_point};
 ghost use Rattle.osi_machine.specs.Floor.{no_token, is_profile};
 ghost use Rattle.osi_machine.specs.Histories.{Agree};
-ghost use Rattle.osi_machine.specs.Machine.{run, start, step};
+ghost use Rattle.osi_machine.specs.Machine.{Machine, run, start, step};
 ghost use Rattle.osi_machine.specs.Parties.{AreConsistent, IsNumberedStep};
 ghost use Rattle.osi_machine.specs.Promises.{IsReached, OfBoth, OneHolder, HoldsItsOwn, TakesNoFault, SeesTheHistory, ViewsAgree, GotWhatWasSaid, TakesTheNextItem, ConfirmedIsSeen};
+ghost use Rattle.osi_machine.specs.Runs.{IsRun, OfEach, HasOneHolder, ShowNoFault, RecordsAgree, ConfirmedInBoth};
 ghost use Rattle.osi_machine.specs.Views.{AreTold, left_told, right_told};
 ghost use Rattle.osi_machine.specs.Worlds.{accepts, class_2};
 
@@ -91,6 +92,23 @@ pub fn what_a_record_tells()
     ensures agreed { (o : Offer) (steps : List CoreStep) → o.serial < 1000000 → is_profile o.requirements ≡ true →
         AllByRecursion IsNumberedStep steps → (core_run (core_start o) steps).own.session.units.duplex ≡ false →
         (core_run (core_start o) steps).peer.session.units.duplex ≡ false → Agree (left_told o steps).view (right_told o steps).view }
+{
+    session::numbers_stay_in_order();
+    session::what_is_sent_can_be_sent();
+    session::what_two_units_do();
+}
+
+/// After every list of steps of the machine, with any number of connections, with closes, breaks and
+/// ends, and whatever is lost: of each connection no token is held by both sides; neither user is shown
+/// a fault of its own side or of the other; unless duplex is selected, one of both views begins with the
+/// other; and each point in the view of a side that is not over, with a number below its V(A), is in the
+/// view of the other, behind the same items, unless the other awaits the answer to a restart. All this
+/// is read from the journal alone, but for V(A).
+pub fn what_two_records_tell()
+    ensures holder { (m : Machine) → IsRun m → OfEach HasOneHolder m }
+    ensures fault { (m : Machine) → IsRun m → OfEach ShowNoFault m }
+    ensures agreement { (m : Machine) → IsRun m → OfEach RecordsAgree m }
+    ensures confirmed { (m : Machine) → IsRun m → OfEach ConfirmedInBoth m }
 {
     session::numbers_stay_in_order();
     session::what_is_sent_can_be_sent();

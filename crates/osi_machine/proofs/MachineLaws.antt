@@ -1,0 +1,134 @@
+-- What the records of both sides tell after every list of steps of the machine.
+use Rattle.std.proofs.Common.{◌≡◌, refl, sym, ◌∙◌, ap, subst, ℕ, zero, suc, ◌+◌, ◌<◌, Bool, true, false, not, ◌&&◌, ◌||◌, List, [], ◌∷◌, ◌++◌, Option, Some, None, inl, inr, arith}
+use Rattle.std.specs.List.{slice_get}
+use Rattle.osi_machine.specs.Floor.{has, is_over}
+use Rattle.osi_machine.specs.Histories.{Item, Point, Begins, Agree}
+use Rattle.osi_machine.specs.Owners.{turned_owner, is_own}
+use Rattle.osi_machine.specs.Core.{Offer, Left, Right, Core, turned as turned_core}
+use Rattle.osi_machine.specs.Parties.{is_opening}
+use Rattle.osi_machine.specs.Worlds.{World, Kept, turned, session_of}
+use Rattle.osi_machine.specs.Machine.{Machine, Entry, connection_at}
+use Rattle.osi_machine.specs.Views.{Told, told_of}
+use Rattle.osi_machine.specs.Runs.{IsRun, OfEach, HasOneHolder, ShowNoFault, RecordsAgree, ConfirmedThere, ConfirmedInBoth}
+use Rattle.osi_machine.proofs.CoreLaws.{SessionLaws}
+use Rattle.osi_machine.proofs.Records.{Stands}
+use Rattle.osi_machine.proofs.Tokens.{has_set}
+use Rattle.osi_machine.proofs.Alive.{alive}
+use Rattle.osi_machine.proofs.Promises.{one_owner, views_agree, confirmed_is_seen, none_in_nil}
+use Rattle.osi_machine.proofs.ViewFold.{Tells}
+use Rattle.osi_machine.proofs.Dispatch.{turned_stands}
+use Rattle.osi_machine.proofs.Lines.{Lines}
+use Rattle.osi_machine.proofs.LinesRun.{IsGood, all_good}
+use Rattle.osi_machine.proofs.ProjectWorld.{turned_repeats}
+use Rattle.osi_machine.proofs.Whole.{Stage, Whole, whole_kept}
+
+-- ---- one connection of a run
+
+line_at : (b : Bool) (j : List Entry) (k r : ℕ) (ws : List World) (os : List Offer) (w : World) → slice_get ws r ≡ Some w → Lines Whole b j k ws os
+    → Stage b w (told_of Left (k + r) w.offer j) (told_of Right (k + r) w.offer j)
+line_at b j k r [] os w e h = absurd (cc)
+line_at b j k zero (v ∷ ws) (o ∷ os) w e h =
+    subst (λ (x : World). Stage b x (told_of Left (k + 0) x.offer j) (told_of Right (k + 0) x.offer j)) (inner v e)
+    (subst (λ (p : Offer). Stage b v (told_of Left (k + 0) p j) (told_of Right (k + 0) p j)) (sym h.0.offer)
+    (subst (λ (n : ℕ). Stage b v (told_of Left n o j) (told_of Right n o j)) (omega arith) h.0.stage))
+  where
+    or_else : Option World → World
+    or_else None = v
+    or_else (Some x) = x
+
+    inner : (x : World) → Some x ≡ Some w → x ≡ w
+    inner x q = ap or_else q
+line_at b j k (suc r) (v ∷ ws) (o ∷ os) w e h =
+    subst (λ (n : ℕ). Stage b w (told_of Left n w.offer j) (told_of Right n w.offer j)) (omega arith) (line_at b j (k + 1) r ws os w e h.1)
+line_at b j k zero (v ∷ ws) [] w e h = absurd h
+line_at b j k (suc r) (v ∷ ws) [] w e h = absurd h
+
+stage_at : SessionLaws → (m : Machine) → IsRun m → (r : ℕ) (w : World) → connection_at r m.worlds ≡ Some w
+    → Stage m.broken w (told_of Left r w.offer m.journal) (told_of Right r w.offer m.journal)
+stage_at laws m h zero w e = absurd (cc)
+stage_at laws m h (suc r) w e =
+    let g = subst (IsGood h.agreed Whole) h.reached (all_good h.agreed Whole (whole_kept laws h.agreed) h.steps h.numbered) in
+    subst (λ (n : ℕ). Stage m.broken w (told_of Left n w.offer m.journal) (told_of Right n w.offer m.journal)) (omega arith)
+    (line_at m.broken m.journal 1 r m.worlds g.offers w e g.lines)
+
+-- ---- one holder
+
+pub one_holder_there : (w : World) (s t : Told) → HasOneHolder w s t
+one_holder_there w s t k =
+    ap (λ (b : Bool). b && has (session_of (turned w)).held k) (has_set (λ k. is_own (w.owner k)) k)
+    ∙ ap (λ (b : Bool). is_own (w.owner k) && b) (has_set (λ k. is_own (turned_owner (w.owner k))) k) ∙ one_owner (w.owner k)
+
+-- ---- no fault
+
+pub show_no_fault : (b : Bool) (w : World) (s t : Told) → Stage b w s t → ShowNoFault w s t
+show_no_fault b w s t (inl h) = (ap (λ (d : Told). d.faulted) h.own_told, ap (λ (d : Told). d.faulted) h.peer_told)
+show_no_fault b w s t (inr (inl h)) = (ap (λ (d : Told). d.faulted) h.peer_told, ap (λ (d : Told). d.faulted) h.own_told)
+show_no_fault b w s t (inr (inr h)) = (h.own.fine, h.peer.fine)
+
+-- ---- the views
+
+-- a record without duplex tells what its side has seen
+told_view : (t : Told) (c : Core) → Stands c → Tells t c.own.session c.own.view → t.duplex ≡ false → t.view ≡ c.own.view
+told_view t c s h d = by (is_opening c.own.session.phase) refl
+  where
+    lives : is_over c.own.session.phase ≡ false
+    lives = alive c.owner c.own c.peer s.own
+
+    begun : (a e : Bool) → a ≡ false → e ≡ false → not (a || e) ≡ true
+    begun a e p q = rw (p, q) refl
+
+    by : (b : Bool) → is_opening c.own.session.phase ≡ b → t.view ≡ c.own.view
+    by true e = h.fresh e ∙ sym (s.consistent.own.fresh e).view
+    by false e = h.view (sym (h.duplex (begun (is_opening c.own.session.phase) (is_over c.own.session.phase) e lives)) ∙ d)
+
+turned_view : (t : Told) (c : Core) → Stands (turned_core c) → Tells t c.peer.session c.peer.view → t.duplex ≡ false → t.view ≡ c.peer.view
+turned_view t c s h d = told_view t (turned_core c) s h d
+
+nil_agree : {A : Type 0} → (xs ys : List A) → xs ≡ [] → Agree xs ys
+nil_agree xs ys e = inl (subst (λ r. Begins r ys) (sym e) (ys, refl))
+
+pub records_agree : (b : Bool) (w : World) (s t : Told) → Stage b w s t → RecordsAgree w s t
+records_agree b w s t (inl h) d e = nil_agree s.view t.view (ap (λ (x : Told). x.view) h.own_told)
+records_agree b w s t (inr (inl h)) d e = nil_agree s.view t.view (ap (λ (x : Told). x.view) h.peer_told)
+records_agree b w s t (inr (inr h)) d e =
+    subst (λ (v : List Item). Agree v t.view) (sym (told_view s h.core h.stands h.own d))
+    (subst (Agree h.core.own.view) (sym (turned_view t h.core (turned_stands h.core h.stands) h.peer e)) (views_agree h.core h.stands))
+
+-- ---- what is confirmed
+
+pub confirmed_there : (b : Bool) (w : World) (s t : Told) → Stage b w s t → ConfirmedThere w s t
+confirmed_there b w s t (inl h) l d e before n kind octets p q r =
+    absurd (none_in_nil before (Point n kind octets) (subst (Begins (before ++ Point n kind octets ∷ [])) (ap (λ (x : Told). x.view) h.own_told) p))
+confirmed_there b w s t (inr (inl h)) l d e before n kind octets p q r =
+    absurd (none_in_nil before (Point n kind octets) (subst (Begins (before ++ Point n kind octets ∷ [])) (ap (λ (x : Told). x.view) h.peer_told) p))
+confirmed_there b w s t (inr (inr h)) l d e before n kind octets p q r =
+    subst (Begins (before ++ Point n kind octets ∷ [])) (sym (turned_view t h.core (turned_stands h.core h.stands) h.peer e))
+    (confirmed_is_seen h.core h.stands before n kind octets
+    (subst (Begins (before ++ Point n kind octets ∷ [])) (told_view s h.core h.stands h.own d) p)
+    (subst (λ (k : Kept). n < k.confirmed) (h.projects.own.alike l).kept q)
+    (sym h.peer.asking ∙ r))
+
+turned_stage_of : (b : Bool) (w : World) (s t : Told) → Stage b w s t → ConfirmedThere (turned w) t s
+turned_stage_of b w s t (inl h) l d e before n kind octets p q r =
+    absurd (none_in_nil before (Point n kind octets) (subst (Begins (before ++ Point n kind octets ∷ [])) (ap (λ (x : Told). x.view) h.peer_told) p))
+turned_stage_of b w s t (inr (inl h)) l d e before n kind octets p q r =
+    absurd (none_in_nil before (Point n kind octets) (subst (Begins (before ++ Point n kind octets ∷ [])) (ap (λ (x : Told). x.view) h.own_told) p))
+turned_stage_of b w s t (inr (inr h)) l d e before n kind octets p q r = confirmed_there b (turned w) t s (inr (inr (turned_repeats b w s t h))) l d e before n kind octets p q r
+
+-- ---- of each connection of each run
+
+pub holders : SessionLaws → (m : Machine) → IsRun m → OfEach HasOneHolder m
+holders laws m h r w e = one_holder_there w (told_of Left r w.offer m.journal) (told_of Right r w.offer m.journal)
+
+pub no_faults : SessionLaws → (m : Machine) → IsRun m → OfEach ShowNoFault m
+no_faults laws m h r w e = show_no_fault m.broken w (told_of Left r w.offer m.journal) (told_of Right r w.offer m.journal) (stage_at laws m h r w e)
+
+pub agreements : SessionLaws → (m : Machine) → IsRun m → OfEach RecordsAgree m
+agreements laws m h r w e = records_agree m.broken w (told_of Left r w.offer m.journal) (told_of Right r w.offer m.journal) (stage_at laws m h r w e)
+
+pub confirmations : SessionLaws → (m : Machine) → IsRun m → OfEach ConfirmedInBoth m
+confirmations laws m h r w e =
+    let k = stage_at laws m h r w e in (
+      confirmed_there m.broken w (told_of Left r w.offer m.journal) (told_of Right r w.offer m.journal) k,
+      turned_stage_of m.broken w (told_of Left r w.offer m.journal) (told_of Right r w.offer m.journal) k,
+    )

@@ -1,0 +1,18 @@
+use Rattle.osi_machine.proofs.MachineLaws.{holders, no_faults, agreements, confirmations}
+use Rattle.osi_machine.proofs.laws.what_two_records_tell.Goals as goal
+
+pub returns-clause-holder : goal.returns-clause-holder
+returns-clause-holder c =
+    holders (record { sound = c.numbers_stay_in_order.ensures.kept; sendable = c.what_is_sent_can_be_sent.ensures.called; one_unit = c.what_two_units_do.ensures.alone })
+
+pub returns-clause-fault : goal.returns-clause-fault
+returns-clause-fault c =
+    no_faults (record { sound = c.numbers_stay_in_order.ensures.kept; sendable = c.what_is_sent_can_be_sent.ensures.called; one_unit = c.what_two_units_do.ensures.alone })
+
+pub returns-clause-agreement : goal.returns-clause-agreement
+returns-clause-agreement c =
+    agreements (record { sound = c.numbers_stay_in_order.ensures.kept; sendable = c.what_is_sent_can_be_sent.ensures.called; one_unit = c.what_two_units_do.ensures.alone })
+
+pub returns-clause-confirmed : goal.returns-clause-confirmed
+returns-clause-confirmed c =
+    confirmations (record { sound = c.numbers_stay_in_order.ensures.kept; sendable = c.what_is_sent_can_be_sent.ensures.called; one_unit = c.what_two_units_do.ensures.alone })
