@@ -3,7 +3,7 @@ use Rattle.std.proofs.Common.{◌≡◌, ℕ, zero, suc, ◌+◌, ◌-◌, ◌*�
 use Rattle.std.specs.Prelude.{is_ok, MatchOption, IfOk}
 use Rattle.std.specs.List.{AllByRecursion}
 use Rattle.std.specs.Result.{result_unwrap_or}
-use Rattle.std.proofs.lemmas.Bool.{and_parts, or_right}
+use Rattle.std.proofs.lemmas.Bool.{and_parts, or_right, eq-eqb}
 use Rattle.std.proofs.lemmas.List.{length-append, nil_from_length}
 use Rattle.osi_spdu.specs.declared.faults.SpduFault.{SpduFault}
 use Rattle.osi_spdu.specs.declared.kinds.Kind.{Kind}
@@ -131,6 +131,10 @@ leads_next whole start octets room at rest n leads one some e formed = record {
 pub one_stands : (kind : Kind) → category_of kind ≡ Two → is_behind (Some kind) [] ≡ true
 unfolding is_behind may_stand
 one_stands kind two = rw two (or_right (not (takes_rest kind)) true refl)
+
+pub nothing_stands : (octets : List ℕ) → length octets ≡ 0 → is_behind None octets ≡ true
+unfolding is_behind
+nothing_stands octets e = eq-eqb (length octets) 0 e
 
 pub none_stands : is_behind None [] ≡ true
 unfolding is_behind

@@ -12,6 +12,7 @@ use Rattle.osi_spdu.specs.declared.reading.Found.{Found}
 use Rattle.osi_spdu.specs.declared.behind.Behind.{Behind}
 use Rattle.osi_spdu.specs.declared.groups.Group.{Group}
 use Rattle.osi_spdu.specs.Known.{Contents, Units}
+use Rattle.osi_spdu.specs.declared.params.Params.{Params}
 use Rattle.osi_spdu.specs.Params.{known_of}
 use Rattle.osi_spdu.specs.Writing.{is_formed, is_joined, IsFormedTsdu, TsduFits}
 use Rattle.osi_spdu.specs.Reading.{Gives, Placed, unit_at, contents_of, takes_rest, Next, next_if, next_at, behind_at, ended, continued, tsdu_at}
@@ -24,16 +25,12 @@ use Rattle.osi_spdu.proofs.CanonicalLaws.{group_formed}
 use Rattle.osi_spdu.proofs.FitsLaws.{tsdu_fits}
 use Rattle.osi_spdu.specs.Laws.Tsdus.{tsdu_found, tsdu_only}
 
-pub found_formed : (r : Result Found SpduFault) (second : Bool) (at : ℕ) (octets : List ℕ) → IsOctets octets → Gives placed_of r (unit_at second at octets) → IfOk r (λ f. is_formed f.kind (known_of f.params) ≡ true)
-found_formed (Ok f) second at octets fits e = placed_formed second at octets (placed_of f) fits e
-found_formed (Err d) second at octets fits e = tt
+pub found_formed : (params : Params) (r : Result Found SpduFault) (second : Bool) (at : ℕ) (octets : List ℕ) → IsOctets octets → Gives (placed_of params) r (unit_at second at octets)
+    → IfOk r (λ f. is_formed f.kind (known_of params) ≡ true)
+found_formed params (Ok f) second at octets fits e = placed_formed second at octets (placed_of params f) fits e
+found_formed params (Err d) second at octets fits e = tt
 
 -- ---- behind the first unit
-
-later_ok : (r : Result Found SpduFault) (n : Next) (at : ℕ) (octets : List ℕ) → Gives placed_of r (unit_at true at octets) → IfOk r (λ f. next_if (takes_rest f.kind) (placed_of f) ≡ n) → IfOk r (λ f. next_at at octets ≡ Ok n)
-unfolding next_at
-later_ok (Ok f) n at octets e h = rw e (ap (λ (x : Next). Ok x) h)
-later_ok (Err d) n at octets e h = tt
 
 pub tsdu_goes : (octets : List ℕ) (p : Placed) → unit_at false 0 octets ≡ Ok p → tsdu_at octets ≡ continued (category_of p.kind) p
 unfolding tsdu_at

@@ -91,7 +91,7 @@ impl<'a> Iterator for Behind<'a> {
     fn next(&mut self) -> Option<Spdu<'a>> {
         let unit = self.next?;
         if self.rest.is_empty() {
-            *self = Behind::none();
+            self.next = None;
             return Some(unit);
         }
         let Ok(later) = next_at(self.at, self.rest) else {

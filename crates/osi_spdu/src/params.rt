@@ -106,17 +106,15 @@ impl<'a> Params<'a> {
         Params::NONE
     }
 
-    /// The parameters as a unit keeps them: a token item has no bit that names no token, and empty
-    /// user data is none.
-    pub(crate) fn settled(self) -> Params<'a>
-        ensures value { known_of result ≡ known_of self.entry }
-        ensures settled { is_settled result ≡ true }
+    /// Makes the parameters as a unit keeps them: a token item has no bit that names no token, and
+    /// empty user data is none.
+    #[inline(always)]
+    pub(crate) fn settle(&mut self)
+        ensures value { known_of self.new ≡ known_of self.old }
+        ensures settled { is_settled self.new ≡ true }
     {
-        Params {
-            token_item: tokens_alone(self.token_item),
-            user_data: some_octets(self.user_data),
-            ..self
-        }
+        self.token_item = tokens_alone(self.token_item);
+        self.user_data = some_octets(self.user_data);
     }
 
     /// The value of a parameter as it is written, empty user data included. A group that is there

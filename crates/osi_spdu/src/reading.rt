@@ -1,7 +1,7 @@
 ghost use Rattle.std.specs.Prelude.{◌≡◌, ◌<◌, ◌+◌, ◌^◌, true, length, Some, IfOk, IsOkAnd};
 ghost use Rattle.osi_spdu.specs.Kinds.{category_of, kind_named, may_stand};
-ghost use Rattle.osi_spdu.specs.Known.{Units};
-ghost use Rattle.osi_spdu.specs.Params.{known_of};
+ghost use Rattle.osi_spdu.specs.Known.{Units, nothing};
+ghost use Rattle.osi_spdu.specs.Params.{known_of, slots_of};
 ghost use Rattle.osi_spdu.specs.Units.{said_by};
 ghost use Rattle.osi_spdu.specs.Writing.{is_formed, IsFormedTsdu, TsduFits};
 ghost use Rattle.osi_spdu.specs.Reading.{Gives, placed_kind, unit_at, next_at, tsdu_at};
@@ -18,11 +18,10 @@ use crate::levels::{check_there, measured_at, take_parameters};
 use crate::params::Params;
 use crate::units::Spdu;
 
-/// A unit, where it ends, and the octets behind it.
+/// A unit apart from its parameters: where it ends, and the octets behind it.
 #[derive(Clone, Copy)]
 struct Found<'a> {
     kind: Kind,
-    params: Params<'a>,
     end: usize,
     rest: &'a [u8],
 }
@@ -53,9 +52,15 @@ fn placed_kind(second: bool, at: usize, si: u8) -> Result<Kind, SpduFault>
 // on the way out.
 #[inline(always)]
 #[tactic(auto, unfolding(crate::specs::Reading::unit_at, crate::specs::Params::known_of))]
-fn unit_at<'a>(second: bool, at: usize, octets: &'a [u8]) -> Result<Found<'a>, SpduFault>
-    requires { at + length octets.now < 2 ^ 64 }
-    ensures value { Gives placed_of result (unit_at second at octets.now) }
+fn unit_at<'a>(
+    second: bool,
+    at: usize,
+    octets: &'a [u8],
+    params: &mut Params<'a>,
+) -> Result<Found<'a>, SpduFault>
+    requires empty { slots_of params.old ≡ nothing }
+    requires offset { at + length octets.now < 2 ^ 64 }
+    ensures value { Gives (placed_of params.new) result (unit_at second at octets.now) }
     ensures whole { IfOk result (λ f. f.end + length f.rest.now ≡ at + length octets.now) }
     ensures stands { IfOk result (λ f. may_stand second (category_of f.kind) ≡ true) }
 {
@@ -64,13 +69,11 @@ fn unit_at<'a>(second: bool, at: usize, octets: &'a [u8]) -> Result<Found<'a>, S
     };
     let kind = placed_kind(second, at, *si)?;
     let counted = measured_at(at, after)?;
-    let mut params = Params::none();
-    take_parameters(kind, at + (1 + counted.used), counted.value, &mut params)?;
-    check_there(at, kind.required(), &params)?;
+    take_parameters(kind, at + (1 + counted.used), counted.value, params)?;
+    check_there(at, kind.required(), params)?;
     let end = at + (1 + counted.used + counted.value.len());
     Ok(Found {
         kind,
-        params,
         end,
         rest: counted.rest,
     })
@@ -78,14 +81,20 @@ fn unit_at<'a>(second: bool, at: usize, octets: &'a [u8]) -> Result<Found<'a>, S
 
 /// A unit that was found has a written form.
 #[inline(always)]
-fn found_at<'a>(second: bool, at: usize, octets: &'a [u8]) -> Result<Found<'a>, SpduFault>
-    requires { at + length octets.now < 2 ^ 64 }
-    ensures value { Gives placed_of result (unit_at second at octets.now) }
+fn found_at<'a>(
+    second: bool,
+    at: usize,
+    octets: &'a [u8],
+    params: &mut Params<'a>,
+) -> Result<Found<'a>, SpduFault>
+    requires empty { slots_of params.old ≡ nothing }
+    requires offset { at + length octets.now < 2 ^ 64 }
+    ensures value { Gives (placed_of params.new) result (unit_at second at octets.now) }
     ensures whole { IfOk result (λ f. f.end + length f.rest.now ≡ at + length octets.now) }
     ensures stands { IfOk result (λ f. may_stand second (category_of f.kind) ≡ true) }
-    ensures formed { IfOk result (λ f. is_formed f.kind (known_of f.params) ≡ true) }
+    ensures formed { IfOk result (λ f. is_formed f.kind (known_of params.new) ≡ true) }
 {
-    unit_at(second, at, octets)
+    unit_at(second, at, octets, params)
 }
 
 /// A unit behind another, with the user information of a DT.
@@ -97,16 +106,17 @@ pub(crate) fn next_at<'a>(at: usize, octets: &'a [u8]) -> Result<Later<'a>, Spdu
     ensures whole { IfOk result (λ l. l.end + length l.rest.now ≡ at + length octets.now) }
     ensures stands { IfOk result (λ l. is_behind (Some l.unit.kind) l.rest.now ≡ true) }
 {
-    let found = found_at(true, at, octets)?;
+    let mut params = Params::none();
+    let found = found_at(true, at, octets, &mut params)?;
     if found.kind.takes_rest() {
         return Ok(Later {
-            unit: Spdu::with(found.kind, found.params, found.rest),
+            unit: Spdu::with(found.kind, params, found.rest),
             end: found.end + found.rest.len(),
             rest: &[],
         });
     }
     Ok(Later {
-        unit: Spdu::new(found.kind, found.params),
+        unit: Spdu::new(found.kind, params),
         end: found.end,
         rest: found.rest,
     })
@@ -117,8 +127,9 @@ pub(crate) fn next_at<'a>(at: usize, octets: &'a [u8]) -> Result<Later<'a>, Spdu
 fn read_all(octets: &[u8]) -> Result<Group<'_>, SpduFault>
     ensures { Gives units_of result (tsdu_at octets.now) }
 {
-    let found = found_at(false, 0, octets)?;
-    let first = Spdu::new(found.kind, found.params);
+    let mut params = Params::none();
+    let found = found_at(false, 0, octets, &mut params)?;
+    let first = Spdu::new(found.kind, params);
     match found.kind.category() {
         Category::Zero => {
             let behind = Behind::read(found.end, found.rest)?;

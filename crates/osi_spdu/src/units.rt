@@ -27,6 +27,7 @@ impl<'a> Spdu<'a> {
     ghost use Rattle.osi_spdu.specs.Units.{said_by};
 
     /// A unit with these parameters.
+    #[inline(always)]
     pub(crate) fn new(kind: Kind, params: Params<'a>) -> Spdu<'a>
         requires { is_formed kind (known_of params) ≡ true }
         ensures value { said_by result
@@ -35,14 +36,17 @@ impl<'a> Spdu<'a> {
         // Octets of any number that are not too many leave room for the length.
         ensures fits { lent_len params.entry ≤ 65000 → UnitFits (said_by result) }
     {
+        let mut params = params;
+        params.settle();
         Spdu {
             kind,
-            params: params.settled(),
+            params,
             information: &[],
         }
     }
 
     /// A unit with these parameters, and the user information of a DT.
+    #[inline(always)]
     pub(crate) fn with(kind: Kind, params: Params<'a>, information: &'a [u8]) -> Spdu<'a>
         requires formed { is_formed kind (known_of params) ≡ true }
         requires informed { is_informed kind information.now ≡ true }
@@ -52,9 +56,11 @@ impl<'a> Spdu<'a> {
         // Octets of any number that are not too many leave room for the length.
         ensures fits { lent_len params.entry ≤ 65000 → UnitFits (said_by result) }
     {
+        let mut params = params;
+        params.settle();
         Spdu {
             kind,
-            params: params.settled(),
+            params,
             information,
         }
     }

@@ -17,6 +17,6 @@ with-requires c =
 
 pub returns-then-not-is_empty : goal.returns-then-not-is_empty
 returns-then-not-is_empty c =
-    let p = placed_of c.in_ok-found.found in
+    let p = placed_of c.found_at.new.params c.in_ok-found.found in
     let some : length p.rest ≡ 0 → ⊥ = search rules in
     tsdu_goes c.args.octets.now p c.in_ok-found.ensures.value ∙ continued_trailing (category_of p.kind) p (λ z. c.in_default.not-Zero (c.category.ensures ∙ z)) some

@@ -3,7 +3,7 @@ use Rattle.osi_spdu.specs.Found.{later_of}
 use Rattle.osi_spdu.specs.Units.{said_by}
 use Rattle.osi_spdu.specs.Behind.{left_at}
 use Rattle.osi_spdu.specs.Groups.{units_from}
-use Rattle.osi_spdu.proofs.BehindLaws.{left_empty, left_goes, left_never_bad}
+use Rattle.osi_spdu.proofs.BehindLaws.{left_empty, left_goes, left_never_bad, nothing_stands}
 use Rattle.osi_spdu.proofs.behind.BehindIterator.next.Goals as goal
 
 pub returns-then-is_empty-clause-steps : goal.returns-then-is_empty-clause-steps
@@ -11,7 +11,7 @@ returns-then-is_empty-clause-steps c =
     let s = c.args.self.now in
     let none : length s.rest.now ≡ 0 = search rules in
     ap (λ o. units_from o (left_at s.room s.at s.rest.now)) c.in_ok-unit.was
-    ∙ ap (λ us. said_by c.in_ok-unit.unit ∷ us) (left_empty s.room s.at s.rest.now none ∙ sym c.none.ensures.units)
+    ∙ ap (λ us. said_by c.in_ok-unit.unit ∷ us) (left_empty s.room s.at s.rest.now none)
 
 pub unreachable-requires : goal.unreachable-requires
 unreachable-requires c =
@@ -26,8 +26,16 @@ overflow_sub-self c =
     let g = left_goes s.room s.at s.rest.now (later_of c.in-Ok.later) some s.left c.in-Ok.ensures.value in
     omega (arith, g.some)
 
+pub invariant_of-self-clause-stands : goal.invariant_of-self-clause-stands
+invariant_of-self-clause-stands c =
+    let none : length c.args.self.now.rest.now ≡ 0 = search rules in
+    nothing_stands c.args.self.now.rest.now none
+
 pub invariant_of-self-clause-left : goal.invariant_of-self-clause-left
-invariant_of-self-clause-left c =
+invariant_of-self-clause-left c = c.args.self.now.left
+
+pub invariant_of-self-2-clause-left : goal.invariant_of-self-2-clause-left
+invariant_of-self-2-clause-left c =
     let s = c.args.self.now in
     let some : 1 ≤ length s.rest.now = search rules in
     (left_goes s.room s.at s.rest.now (later_of c.in-Ok.later) some s.left c.in-Ok.ensures.value).left

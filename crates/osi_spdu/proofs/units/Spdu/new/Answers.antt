@@ -6,12 +6,12 @@ use Rattle.osi_spdu.proofs.MadeLaws.{made_fits}
 use Rattle.osi_spdu.proofs.units.Spdu.new.Goals as goal
 
 pub invariant_of-result-clause-formed : goal.invariant_of-result-clause-formed
-invariant_of-result-clause-formed c = subst (λ (k : Known). is_formed c.args.kind k ≡ true) (sym c.settled.ensures.value) c.requires
+invariant_of-result-clause-formed c = subst (λ (k : Known). is_formed c.args.kind k ≡ true) (sym c.settle.ensures.value) c.requires
 
 pub returns-clause-value : goal.returns-clause-value
-returns-clause-value c = λ i. (let unit : Contents = record { kind = c.args.kind; known = c.settled.ensures.value i; information = [] } in unit)
+returns-clause-value c = λ i. (let unit : Contents = record { kind = c.args.kind; known = c.settle.ensures.value i; information = [] } in unit)
 
 pub returns-clause-fits : goal.returns-clause-fits
 returns-clause-fits c =
-    let unit : Contents = record { kind = c.args.kind; known = known_of c.settled.result; information = [] } in
-    λ few. made_fits unit c.args.params c.settled.ensures.value few
+    let unit : Contents = record { kind = c.args.kind; known = known_of c.settle.new.self; information = [] } in
+    λ few. made_fits unit c.args.params c.settle.ensures.value few
