@@ -3,6 +3,7 @@
 use Rattle.std.proofs.Common.{◌≡◌, ◌≢◌, ℕ, ◌+◌, ◌<◌, ◌≤◌, Bool, true, false, List, [], ◌∷◌, ◌++◌, map, Option, Some, None, refl, sym, ap, subst, ◌∙◌, inl, inr, arith, nat_lt, if◌then◌else◌}
 use Rattle.std.proofs.lemmas.Bool.{ltb-false, ltb-true}
 use Rattle.std.proofs.lemmas.List.{append-nil, map-append}
+use Rattle.osi_tpkt.specs.Octets.{IsOctets}
 use Rattle.osi_tpdu.specs.Value.{Value, Connect, request, confirm}
 use Rattle.osi_class.specs.Between.{LinkPair, swapped, opened_pair, under_way, IsShortTsdu}
 use Rattle.osi_class.specs.Giving.{all_given}
@@ -179,12 +180,12 @@ accepted_there n s r t c p q h local class a rightward left = record {
 }
 
 pub accepted_sends : (n : ℕ) (c : Connect) (p : LinkPair) (s r : State) (octets : List ℕ) → IsAccepted n s r c p → r.ended ≡ None → IsOrderly r → n ≤ r.given →
-    value_at n r.live ≡ Some (linked n p.right) → IsShortTsdu octets → CourseMoves false n (accepting c p) r s (sent n octets r) [] 0 (message octets ∷ [])
-accepted_sends n c p s r octets h quiet orderly le at short =
+    value_at n r.live ≡ Some (linked n p.right) → IsShortTsdu octets → IsOctets octets → CourseMoves false n (accepting c p) r s (sent n octets r) [] 0 (message octets ∷ [])
+accepted_sends n c p s r octets h quiet orderly le at short are =
     let q = after_send (swapped p) octets in
     let given = all_given (with_tsdu p.right octets) in
     let t = sent n octets r in
-    let passes = sends_passes true (swapped p) octets (open_mirror true p h.open_links) short in
+    let passes = sends_passes true (swapped p) octets (open_mirror true p h.open_links) short are in
     let changes = send_changes n r p.right octets quiet orderly at in
     let none = nothing_begun n s r c p h in
     let new_open = open_mirror true q passes.stay_open in

@@ -3,6 +3,7 @@ use Rattle.std.proofs.Common.{◌≡◌, ◌≢◌, ℕ, zero, suc, ◌+◌, ◌
 use Rattle.std.specs.List.{AllByRecursion}
 use Rattle.std.proofs.lemmas.Bool.{eq-eqb, ne_eqb, ltb-true, ltb-false}
 use Rattle.std.proofs.lemmas.List.{append_cancel_left}
+use Rattle.osi_tpkt.specs.Octets.{IsOctets}
 use Rattle.osi_tpdu.specs.Value.{Value, Connect, request, confirm}
 use Rattle.osi_class.specs.Between.{IsShortTsdu}
 use Rattle.osi_class.specs.Link.{Standing}
@@ -132,7 +133,7 @@ caller_takes n s r going coming (withdrawing c p reason) u more some j at h e =
 caller_takes n s r going coming (met m) u more some j at h e =
     let place = is_given n s (here n m) at in
     met_caller n m s r (react u s) (u ∷ []) (answers_at (was_given (here n m)) u) h place.within
-    (take_here n s m u more some j.lasts h.class j.orderly place.is h.stands e)
+    (take_here n s m u more some (let most = j.orderly.given in let le = place.within in omega arith) j.lasts h.class j.orderly place.is h.stands e)
 
 pub caller_takes_one : (s r : State) (going coming rest : List Value) (u : Value) → AreJoined s r going coming → coming ≡ u ∷ rest →
     CallerDid (reference_of u) s r (react u s) going coming rest (answers_at (place_at (reference_of u) s) u)
@@ -237,7 +238,7 @@ called_takes n s r going coming rest (met m) u more some j at h cut e =
     record {
       count = 0;
       moves = met_called n m r s (react u r) (u ∷ []) (answers_at (was_given (here n (mirror m))) u) h place.within tt
-          (take_here n r (mirror m) u more some j.lasts_called h.class_called j.orderly_called place.is (mirror_stands m h.stands) (ap (out n) (mirror_twice m) ∙ e));
+          (take_here n r (mirror m) u more some (let most = j.orderly_called.given in let le = place.within in omega arith) j.lasts_called h.class_called j.orderly_called place.is (mirror_stands m h.stands) (ap (out n) (mirror_twice m) ∙ e));
     }
 
 pub called_takes_one : (s r : State) (going coming rest : List Value) (u : Value) → AreJoined s r going coming → going ≡ u ∷ rest →
@@ -258,14 +259,14 @@ called_takes_one s r going coming rest u j cut =
 -- ---- calls
 
 caller_sends_by : (n : ℕ) (s r : State) (g : Course) (link : Standing) (octets : List ℕ) → s.ended ≡ None → IsOrderly s → place_at n s ≡ at_end true n g → Holds n s r g → value_at n s.live ≡ Some (linked n link) →
-    n ≤ s.given → IsShortTsdu octets → CourseMoves true n g s r (sent n octets s) [] 0 (message octets ∷ [])
-caller_sends_by n s r unasked link octets quiet orderly at h live le short = let e = given_place n s le ∙ ap was_given live in cc
-caller_sends_by n s r (asking c) link octets quiet orderly at h live le short = let e = given_place n s le ∙ ap was_given live in cc
-caller_sends_by n s r (accepting c p) link octets quiet orderly at h live le short = let e = given_place n s le ∙ ap was_given live in cc
-caller_sends_by n s r (withdrawing c p reason) link octets quiet orderly at h live le short = let e = given_place n s le ∙ ap was_given live in cc
-caller_sends_by n s r (met m) link octets quiet orderly at h live le short =
+    n ≤ s.given → IsShortTsdu octets → IsOctets octets → CourseMoves true n g s r (sent n octets s) [] 0 (message octets ∷ [])
+caller_sends_by n s r unasked link octets quiet orderly at h live le short are = let e = given_place n s le ∙ ap was_given live in cc
+caller_sends_by n s r (asking c) link octets quiet orderly at h live le short are = let e = given_place n s le ∙ ap was_given live in cc
+caller_sends_by n s r (accepting c p) link octets quiet orderly at h live le short are = let e = given_place n s le ∙ ap was_given live in cc
+caller_sends_by n s r (withdrawing c p reason) link octets quiet orderly at h live le short are = let e = given_place n s le ∙ ap was_given live in cc
+caller_sends_by n s r (met m) link octets quiet orderly at h live le short are =
     let place = is_given n s (here n m) at in
-    met_caller n m s r (sent n octets s) [] (message octets ∷ []) h le (send_here n s m link octets quiet orderly place.is (sym place.is ∙ live) h.stands short)
+    met_caller n m s r (sent n octets s) [] (message octets ∷ []) h le (send_here n s m link octets quiet orderly place.is (sym place.is ∙ live) h.stands short are)
 
 caller_closes_by : (n : ℕ) (s r : State) (g : Course) (link : Standing) (reason : ℕ) → 0 < n → s.ended ≡ None → IsOrderly s → place_at n s ≡ at_end true n g → Holds n s r g → value_at n s.live ≡ Some (linked n link) →
     n ≤ s.given → CourseMoves true n g s r (closed_with n reason s) [] 0 (bye reason ∷ [])
@@ -278,16 +279,16 @@ caller_closes_by n s r (met m) link reason some quiet orderly at h live le =
     met_caller n m s r (closed_with n reason s) [] (bye reason ∷ []) h le (close_here n s m link reason some quiet h.class orderly place.is (sym place.is ∙ live) h.stands)
 
 called_sends_by : (n : ℕ) (s r : State) (g : Course) (link : Standing) (octets : List ℕ) → r.ended ≡ None → IsOrderly r → place_at n r ≡ at_end false n g → Holds n s r g → value_at n r.live ≡ Some (linked n link) →
-    n ≤ r.given → IsShortTsdu octets → CourseMoves false n g r s (sent n octets r) [] 0 (message octets ∷ [])
-called_sends_by n s r unasked link octets quiet orderly at h live le short = let e = given_place n r le ∙ ap was_given live in cc
-called_sends_by n s r (asking c) link octets quiet orderly at h live le short = let e = given_place n r le ∙ ap was_given live in cc
-called_sends_by n s r (accepting c p) link octets quiet orderly at h live le short =
-    accepted_sends n c p s r octets h quiet orderly le (is_given n r (Some (linked n p.right)) at).is short
-called_sends_by n s r (withdrawing c p reason) link octets quiet orderly at h live le short = let e = given_place n r le ∙ ap was_given live in cc
-called_sends_by n s r (met m) link octets quiet orderly at h live le short =
+    n ≤ r.given → IsShortTsdu octets → IsOctets octets → CourseMoves false n g r s (sent n octets r) [] 0 (message octets ∷ [])
+called_sends_by n s r unasked link octets quiet orderly at h live le short are = let e = given_place n r le ∙ ap was_given live in cc
+called_sends_by n s r (asking c) link octets quiet orderly at h live le short are = let e = given_place n r le ∙ ap was_given live in cc
+called_sends_by n s r (accepting c p) link octets quiet orderly at h live le short are =
+    accepted_sends n c p s r octets h quiet orderly le (is_given n r (Some (linked n p.right)) at).is short are
+called_sends_by n s r (withdrawing c p reason) link octets quiet orderly at h live le short are = let e = given_place n r le ∙ ap was_given live in cc
+called_sends_by n s r (met m) link octets quiet orderly at h live le short are =
     let place = is_given n r (here n (mirror m)) at in
     met_called n m r s (sent n octets r) [] (message octets ∷ []) h le tt
-    (send_here n r (mirror m) link octets quiet orderly place.is (sym place.is ∙ live) (mirror_stands m h.stands) short)
+    (send_here n r (mirror m) link octets quiet orderly place.is (sym place.is ∙ live) (mirror_stands m h.stands) short are)
 
 called_closes_by : (n : ℕ) (s r : State) (g : Course) (link : Standing) (reason : ℕ) → 0 < n → r.ended ≡ None → IsOrderly r → place_at n r ≡ at_end false n g → Holds n s r g → value_at n r.live ≡ Some (linked n link) →
     n ≤ r.given → CourseMoves false n g r s (closed_with n reason r) [] 0 (bye reason ∷ [])
@@ -309,12 +310,12 @@ above_zero n s x false e orderly at = let none = absent n 0 s.live (ltb-false 0 
 pub within_given : (n : ℕ) (s : State) (x : Connection) → IsOrderly s → value_at n s.live ≡ Some x → (0 < n) × (n ≤ s.given)
 within_given n s x orderly at = (above_zero n s x (nat_lt 0 n) refl orderly at, (is_given n s (Some x) (given_live n s x orderly at)).within)
 
-pub caller_sends : (s r : State) (going coming : List Value) (n : ℕ) (link : Standing) (octets : List ℕ) → AreJoined s r going coming → value_at n s.live ≡ Some (linked n link) → IsShortTsdu octets →
+pub caller_sends : (s r : State) (going coming : List Value) (n : ℕ) (link : Standing) (octets : List ℕ) → AreJoined s r going coming → value_at n s.live ≡ Some (linked n link) → IsShortTsdu octets → IsOctets octets →
     CallerDid n s r (sent n octets s) going coming coming (message octets ∷ [])
-caller_sends s r going coming n link octets j live short =
+caller_sends s r going coming n link octets j live short are =
     let within = within_given n s (linked n link) j.orderly live in
     let st = j.stands n within.0 in
-    let mv = caller_sends_by n s r st.course link octets j.lasts j.orderly st.place st.holds live within.1 short in
+    let mv = caller_sends_by n s r st.course link octets j.lasts j.orderly st.place st.holds live within.1 short are in
     record {
       behind = going ++ mv.units;
       acts = acts_for true n 0 s r (sent n octets s) going coming coming [] (message octets ∷ []) st refl tt mv;
@@ -335,12 +336,12 @@ caller_closes s r going coming n link reason j live =
           (places_for (live_after (references r.live) going) mv.units mv.numbers);
     }
 
-pub called_sends : (s r : State) (going coming : List Value) (n : ℕ) (link : Standing) (octets : List ℕ) → AreJoined s r going coming → value_at n r.live ≡ Some (linked n link) → IsShortTsdu octets →
+pub called_sends : (s r : State) (going coming : List Value) (n : ℕ) (link : Standing) (octets : List ℕ) → AreJoined s r going coming → value_at n r.live ≡ Some (linked n link) → IsShortTsdu octets → IsOctets octets →
     CalledDid n s r (sent n octets r) going coming going (message octets ∷ [])
-called_sends s r going coming n link octets j live short =
+called_sends s r going coming n link octets j live short are =
     let within = within_given n r (linked n link) j.orderly_called live in
     let st = j.stands n within.0 in
-    let mv = called_sends_by n s r st.course link octets j.lasts_called j.orderly_called st.place_there st.holds live within.1 short in
+    let mv = called_sends_by n s r st.course link octets j.lasts_called j.orderly_called st.place_there st.holds live within.1 short are in
     record {
       behind = coming ++ mv.units;
       acts = acts_for false n 0 r s (sent n octets r) coming going going [] (message octets ∷ []) (stands_flip n s r going coming st) refl tt mv;

@@ -1,6 +1,7 @@
 -- How a connection stands after each unit that one of its two carriers takes, and after each call.
 use Rattle.std.proofs.Common.{◌≡◌, ℕ, ◌<◌, ◌||◌, Bool, true, false, List, [], ◌∷◌, ◌++◌, map, take, Some, None, refl, sym, ap, subst, ◌∙◌}
 use Rattle.std.proofs.lemmas.List.{append-nil, map-append}
+use Rattle.osi_tpkt.specs.Octets.{IsOctets}
 use Rattle.osi_tpdu.specs.Value.{Value, disconnected}
 use Rattle.osi_class.specs.Between.{LinkPair, swapped, AreOfClass, IsShortTsdu}
 use Rattle.osi_class.specs.Giving.{all_given}
@@ -33,6 +34,8 @@ open_mirror two p a = record {
   whole_back = a.whole;
   short = a.short_back;
   short_back = a.short;
+  range = a.range_back;
+  range_back = a.range;
   left = a.right;
   right = a.left;
 }
@@ -87,10 +90,10 @@ given_stays n (ack number credit) = refl
 
 -- ---- a unit is taken here
 
-take_talking : (n : ℕ) (s : State) (p : LinkPair) (g : Given) (gs : List Given) → 0 < n → s.ended ≡ None → s.class ≡ Some Two → IsOrderly s →
+take_talking : (n : ℕ) (s : State) (p : LinkPair) (g : Given) (gs : List Given) → 0 < n → n < 65536 → s.ended ≡ None → s.class ≡ Some Two → IsOrderly s →
     value_at n s.live ≡ Some (linked n p.left) → AreOpen true p → p.leftward ≡ g ∷ gs → Moves n (talking p) s (react (unit_of n g) s) (unit_of n g ∷ []) []
-take_talking n s p g gs some quiet class orderly at a e =
-    let t = left_takes true p g gs n a e in
+take_talking n s p g gs some few quiet class orderly at a e =
+    let t = left_takes true p g gs n few a e in
     record {
       new = talking (after_take p t.link gs);
       units = addressed n (all_given (handed_out t.link));
@@ -105,11 +108,11 @@ take_talking n s p g gs some quiet class orderly at a e =
       carries = talking_takes n p (unit_of n g) gs a t;
     }
 
-take_behind : (n : ℕ) (s : State) (p : LinkPair) (hs : List Given) (reason : ℕ) (g : Given) (gs : List Given) → 0 < n → s.ended ≡ None → s.class ≡ Some Two → IsOrderly s →
+take_behind : (n : ℕ) (s : State) (p : LinkPair) (hs : List Given) (reason : ℕ) (g : Given) (gs : List Given) → 0 < n → n < 65536 → s.ended ≡ None → s.class ≡ Some Two → IsOrderly s →
     value_at n s.live ≡ Some (linked n p.left) → AreOpen true p → AreOfClass true hs → p.leftward ≡ g ∷ gs →
     Moves n (left_there p hs reason) s (react (unit_of n g) s) (unit_of n g ∷ []) []
-take_behind n s p hs reason g gs some quiet class orderly at a two e =
-    let t = left_takes true p g gs n a e in
+take_behind n s p hs reason g gs some few quiet class orderly at a two e =
+    let t = left_takes true p g gs n few a e in
     let given = all_given (handed_out t.link) in
     record {
       new = left_there (after_take p t.link gs) (hs ++ given) reason;
@@ -125,10 +128,10 @@ take_behind n s p hs reason g gs some quiet class orderly at a two e =
       carries = behind_takes n p hs reason g gs some a e t;
     }
 
-take_leaving : (n : ℕ) (s : State) (p : LinkPair) (hs : List Given) (reason : ℕ) → 0 < n → s.ended ≡ None → s.class ≡ Some Two → IsOrderly s →
+take_leaving : (n : ℕ) (s : State) (p : LinkPair) (hs : List Given) (reason : ℕ) → 0 < n → n < 65536 → s.ended ≡ None → s.class ≡ Some Two → IsOrderly s →
     value_at n s.live ≡ Some (linked n p.left) → AreOfClass true hs → p.leftward ≡ [] →
     Moves n (left_there p hs reason) s (react (leaving n reason) s) (leaving n reason ∷ []) (over ∷ [])
-take_leaving n s p hs reason some quiet class orderly at two e = record {
+take_leaving n s p hs reason some few quiet class orderly at two e = record {
   new = waiting_there hs None;
   units = disconnected n n ∷ [];
   events = closed n reason ∷ [];
@@ -155,28 +158,28 @@ given_answers n link (part0 end octets) = refl
 given_answers n link (part2 number end octets) = refl
 given_answers n link (ack number credit) = refl
 
-take_talking_by : (n : ℕ) (s : State) (p : LinkPair) (gs : List Given) (unit : Value) (rest : List Value) → 0 < n → s.ended ≡ None → s.class ≡ Some Two → IsOrderly s →
+take_talking_by : (n : ℕ) (s : State) (p : LinkPair) (gs : List Given) (unit : Value) (rest : List Value) → 0 < n → n < 65536 → s.ended ≡ None → s.class ≡ Some Two → IsOrderly s →
     value_at n s.live ≡ Some (linked n p.left) → AreOpen true p → p.leftward ≡ gs → back n (talking p) ≡ unit ∷ rest → Moves n (talking p) s (react unit s) (unit ∷ []) (answers_of (here n (talking p)) unit)
-take_talking_by n s p [] unit rest some quiet class orderly at a e b = let none = sym (ap (addressed n) e) ∙ b in cc
-take_talking_by n s p (g ∷ gs) unit rest some quiet class orderly at a e b =
-    at_head n (talking p) s (unit_of n g) unit (addressed n gs) rest [] (ap (addressed n) e) b (given_answers n p.left g) (take_talking n s p g gs some quiet class orderly at a e)
+take_talking_by n s p [] unit rest some few quiet class orderly at a e b = let none = sym (ap (addressed n) e) ∙ b in cc
+take_talking_by n s p (g ∷ gs) unit rest some few quiet class orderly at a e b =
+    at_head n (talking p) s (unit_of n g) unit (addressed n gs) rest [] (ap (addressed n) e) b (given_answers n p.left g) (take_talking n s p g gs some few quiet class orderly at a e)
 
-take_behind_by : (n : ℕ) (s : State) (p : LinkPair) (hs : List Given) (reason : ℕ) (gs : List Given) (unit : Value) (rest : List Value) → 0 < n → s.ended ≡ None → s.class ≡ Some Two → IsOrderly s →
+take_behind_by : (n : ℕ) (s : State) (p : LinkPair) (hs : List Given) (reason : ℕ) (gs : List Given) (unit : Value) (rest : List Value) → 0 < n → n < 65536 → s.ended ≡ None → s.class ≡ Some Two → IsOrderly s →
     value_at n s.live ≡ Some (linked n p.left) → AreOpen true p → AreOfClass true hs → p.leftward ≡ gs → back n (left_there p hs reason) ≡ unit ∷ rest →
     Moves n (left_there p hs reason) s (react unit s) (unit ∷ []) (answers_of (here n (left_there p hs reason)) unit)
-take_behind_by n s p hs reason [] unit rest some quiet class orderly at a two e b =
+take_behind_by n s p hs reason [] unit rest some few quiet class orderly at a two e b =
     at_head n (left_there p hs reason) s (leaving n reason) unit [] rest (over ∷ []) (ap (λ (us : List Given). addressed n us ++ leaving n reason ∷ []) e) b refl
-    (take_leaving n s p hs reason some quiet class orderly at two e)
-take_behind_by n s p hs reason (g ∷ gs) unit rest some quiet class orderly at a two e b =
+    (take_leaving n s p hs reason some few quiet class orderly at two e)
+take_behind_by n s p hs reason (g ∷ gs) unit rest some few quiet class orderly at a two e b =
     at_head n (left_there p hs reason) s (unit_of n g) unit (addressed n gs ++ leaving n reason ∷ []) rest []
-    (ap (λ (us : List Given). addressed n us ++ leaving n reason ∷ []) e) b (given_answers n p.left g) (take_behind n s p hs reason g gs some quiet class orderly at a two e)
+    (ap (λ (us : List Given). addressed n us ++ leaving n reason ∷ []) e) b (given_answers n p.left g) (take_behind n s p hs reason g gs some few quiet class orderly at a two e)
 
-pub take_here : (n : ℕ) (s : State) (m : Meeting) (unit : Value) (rest : List Value) → 0 < n → s.ended ≡ None → s.class ≡ Some Two → IsOrderly s →
+pub take_here : (n : ℕ) (s : State) (m : Meeting) (unit : Value) (rest : List Value) → 0 < n → n < 65536 → s.ended ≡ None → s.class ≡ Some Two → IsOrderly s →
     value_at n s.live ≡ here n m → Stands m → back n m ≡ unit ∷ rest → Moves n m s (react unit s) (unit ∷ []) (answers_of (here n m) unit)
-take_here n s (talking p) unit rest some quiet class orderly at h b = take_talking_by n s p p.leftward unit rest some quiet class orderly at h refl b
-take_here n s (left_there p hs reason) unit rest some quiet class orderly at h b = take_behind_by n s p hs reason p.leftward unit rest some quiet class orderly at h.0 h.1 refl b
-take_here n s (left_here p [] reason) unit rest some quiet class orderly at h b = cc
-take_here n s (left_here p (g ∷ gs) reason) unit rest some quiet class orderly at h b =
+take_here n s (talking p) unit rest some few quiet class orderly at h b = take_talking_by n s p p.leftward unit rest some few quiet class orderly at h refl b
+take_here n s (left_there p hs reason) unit rest some few quiet class orderly at h b = take_behind_by n s p hs reason p.leftward unit rest some few quiet class orderly at h.0 h.1 refl b
+take_here n s (left_here p [] reason) unit rest some few quiet class orderly at h b = cc
+take_here n s (left_here p (g ∷ gs) reason) unit rest some few quiet class orderly at h b =
     at_head n (left_here p (g ∷ gs) reason) s (unit_of n g) unit (addressed n gs) rest [] refl b refl (record {
       new = left_here p gs reason;
       units = [];
@@ -190,7 +193,7 @@ take_here n s (left_here p (g ∷ gs) reason) unit rest some quiet class orderly
       stands = (h.0, h.1.1);
       carries = left_ignores n p g gs reason;
     })
-take_here n s (left_both hs reason [] other) unit rest some quiet class orderly at h b =
+take_here n s (left_both hs reason [] other) unit rest some few quiet class orderly at h b =
     at_head n (left_both hs reason [] other) s (leaving n other) unit [] rest [] refl b refl (record {
       new = waiting_there hs (Some reason);
       units = [];
@@ -204,7 +207,7 @@ take_here n s (left_both hs reason [] other) unit rest some quiet class orderly 
       stands = h.0;
       carries = both_takes n hs reason other some;
     })
-take_here n s (left_both hs reason (g ∷ gs) other) unit rest some quiet class orderly at h b =
+take_here n s (left_both hs reason (g ∷ gs) other) unit rest some few quiet class orderly at h b =
     at_head n (left_both hs reason (g ∷ gs) other) s (unit_of n g) unit (addressed n gs ++ leaving n other ∷ []) rest [] refl b refl (record {
       new = left_both hs reason gs other;
       units = [];
@@ -218,7 +221,7 @@ take_here n s (left_both hs reason (g ∷ gs) other) unit rest some quiet class 
       stands = (h.0, h.1.1);
       carries = both_ignores n hs reason g gs other;
     })
-take_here n s (waiting_here [] None) unit rest some quiet class orderly at h b =
+take_here n s (waiting_here [] None) unit rest some few quiet class orderly at h b =
     at_head n (waiting_here [] None) s (disconnected n n) unit [] rest [] refl b refl (record {
       new = parted;
       units = [];
@@ -232,7 +235,7 @@ take_here n s (waiting_here [] None) unit rest some quiet class orderly at h b =
       stands = tt;
       carries = waiting_over n;
     })
-take_here n s (waiting_here [] (Some reason)) unit rest some quiet class orderly at h b =
+take_here n s (waiting_here [] (Some reason)) unit rest some few quiet class orderly at h b =
     at_head n (waiting_here [] (Some reason)) s (leaving n reason) unit [] rest [] refl b refl (record {
       new = parted;
       units = [];
@@ -246,7 +249,7 @@ take_here n s (waiting_here [] (Some reason)) unit rest some quiet class orderly
       stands = tt;
       carries = waiting_crossed n reason some;
     })
-take_here n s (waiting_here (g ∷ gs) last) unit rest some quiet class orderly at h b =
+take_here n s (waiting_here (g ∷ gs) last) unit rest some few quiet class orderly at h b =
     at_head n (waiting_here (g ∷ gs) last) s (unit_of n g) unit (addressed n gs ++ farewell n last ∷ []) rest [] refl b refl (record {
       new = waiting_here gs last;
       units = [];
@@ -260,15 +263,15 @@ take_here n s (waiting_here (g ∷ gs) last) unit rest some quiet class orderly 
       stands = h.1;
       carries = waiting_ignores n g gs last;
     })
-take_here n s (waiting_there hs last) unit rest some quiet class orderly at h b = cc
-take_here n s parted unit rest some quiet class orderly at h b = cc
+take_here n s (waiting_there hs last) unit rest some few quiet class orderly at h b = cc
+take_here n s parted unit rest some few quiet class orderly at h b = cc
 
 -- ---- calls here
 
 pub send_here : (n : ℕ) (s : State) (m : Meeting) (link : Standing) (octets : List ℕ) → s.ended ≡ None → IsOrderly s →
-    value_at n s.live ≡ here n m → here n m ≡ Some (linked n link) → Stands m → IsShortTsdu octets → Moves n m s (sent n octets s) [] (message octets ∷ [])
-send_here n s (talking p) link octets quiet orderly at is h short =
-    let passes = sends_passes true p octets h short in
+    value_at n s.live ≡ here n m → here n m ≡ Some (linked n link) → Stands m → IsShortTsdu octets → IsOctets octets → Moves n m s (sent n octets s) [] (message octets ∷ [])
+send_here n s (talking p) link octets quiet orderly at is h short are =
+    let passes = sends_passes true p octets h short are in
     record {
       new = talking (after_send p octets);
       units = addressed n (all_given (with_tsdu p.left octets));
@@ -282,8 +285,8 @@ send_here n s (talking p) link octets quiet orderly at is h short =
       stands = passes.stay_open;
       carries = talking_sends n p octets h passes.rightward passes.leftward passes.stay_open;
     }
-send_here n s (left_there p hs reason) link octets quiet orderly at is h short =
-    let passes = sends_passes true p octets h.0 short in
+send_here n s (left_there p hs reason) link octets quiet orderly at is h short are =
+    let passes = sends_passes true p octets h.0 short are in
     let given = all_given (with_tsdu p.left octets) in
     record {
       new = left_there (after_send p octets) (hs ++ given) reason;
@@ -298,11 +301,11 @@ send_here n s (left_there p hs reason) link octets quiet orderly at is h short =
       stands = (passes.stay_open, class_join hs given h.1 (class_end p.rightward given passes.stay_open.agree.agree.class));
       carries = behind_sends n p hs reason octets;
     }
-send_here n s (left_here p gs reason) link octets quiet orderly at is h short = cc
-send_here n s (left_both hs reason gs other) link octets quiet orderly at is h short = cc
-send_here n s (waiting_here gs last) link octets quiet orderly at is h short = cc
-send_here n s (waiting_there gs last) link octets quiet orderly at is h short = cc
-send_here n s parted link octets quiet orderly at is h short = cc
+send_here n s (left_here p gs reason) link octets quiet orderly at is h short are = cc
+send_here n s (left_both hs reason gs other) link octets quiet orderly at is h short are = cc
+send_here n s (waiting_here gs last) link octets quiet orderly at is h short are = cc
+send_here n s (waiting_there gs last) link octets quiet orderly at is h short are = cc
+send_here n s parted link octets quiet orderly at is h short are = cc
 
 pub close_here : (n : ℕ) (s : State) (m : Meeting) (link : Standing) (reason : ℕ) → 0 < n → s.ended ≡ None → s.class ≡ Some Two → IsOrderly s →
     value_at n s.live ≡ here n m → here n m ≡ Some (linked n link) → Stands m → Moves n m s (closed_with n reason s) [] (bye reason ∷ [])

@@ -23,20 +23,30 @@ use Rattle.osi_carrier.specs.OpenLinks.{AreOpen, IsSettled}
 abbrev new_link : ℕ → ℕ → ℕ → Standing
 new_link code window credit = two_standing (fresh_two (2 ^ code) window credit).ends (fresh_two (2 ^ code) window credit).flow
 
-new_settled : (code window credit : ℕ) → 7 ≤ code → IsSettled (new_link code window credit)
-new_settled code window credit least =
+new_settled : (code window credit : ℕ) → 7 ≤ code → code ≤ 13 → 1 ≤ window → window ≤ 15 → credit ≤ 15 → IsSettled (new_link code window credit)
+new_settled code window credit least most some few small =
+    let largest : 2 ^ code ≤ 8192 = pow-le-pow_right {n = 2} (omega arith) most in
     let size : 128 ≤ 2 ^ code = pow-le-pow_right {n = 2} (omega arith) least in
     record {
       limit = omega arith;
       handed = refl;
       given = (nothing.class_2 (new_link code window credit).ends (fresh_two (2 ^ code) window credit).flow).1 (refl, inl refl);
+      well = record {
+        sound = record {
+          least = omega arith;
+          most = omega arith;
+          begun = omega arith;
+          flow = record { next = omega arith; credit = omega arith; window_least = some; window_most = few; expected = omega arith; waiting = omega arith };
+        };
+        octets = tt;
+      };
     }
 
 none_short : (ts : List (List ℕ)) → ts ≡ [] → AllByRecursion IsShortTsdu ts
 none_short ts e = subst (λ (l : List (List ℕ)). AllByRecursion IsShortTsdu l) (sym e) tt
 
-new_open : (i j a b : ℕ) → 7 ≤ i → 7 ≤ j → 1 ≤ a → a ≤ 15 → 1 ≤ b → b ≤ 15 → AreOpen true (opened_pair (new_link i a b) (new_link j b a))
-new_open i j a b least least_j some few some_b few_b =
+new_open : (i j a b : ℕ) → 7 ≤ i → i ≤ 13 → 7 ≤ j → j ≤ 13 → 1 ≤ a → a ≤ 15 → 1 ≤ b → b ≤ 15 → AreOpen true (opened_pair (new_link i a b) (new_link j b a))
+new_open i j a b least most least_j most_j some few some_b few_b =
     let left = new_link i a b in
     let right = new_link j b a in
     let there = begins left right (refl, refl, refl) (refl, refl, refl) in
@@ -54,8 +64,10 @@ new_open i j a b least least_j some few some_b few_b =
       whole_back = back.0;
       short = none_short (under_way (opened_pair left right)) there.1;
       short_back = none_short (under_way (opened_pair right left)) back.1;
-      left = new_settled i a b least;
-      right = new_settled j b a least_j;
+      range = tt;
+      range_back = tt;
+      left = new_settled i a b least most some few few_b;
+      right = new_settled j b a least_j most_j some_b few_b few;
     }
 
 -- ---- the CR and its CC
@@ -83,9 +95,11 @@ pub opens_links : (caller called : Local) (class : Option Class) (calling to : O
 opens_links caller called class calling to n =
     let x = caller.size.at_least in
     let y = called.size.at_least in
+    let v = caller.size.at_most in
+    let w = called.size.at_most in
     let a = caller.window.at_least in
     let b = called.window.at_least in
     let p = caller.window.at_most in
     let q = called.window.at_most in
     new_open (min (min (size_code caller.size) (size_code called.size)) (size_code caller.size)) (min (size_code caller.size) (size_code called.size))
-    (window_units caller.window) (window_units called.window) (omega arith) (omega arith) a p b q
+    (window_units caller.window) (window_units called.window) (omega arith) (omega arith) (omega arith) (omega arith) a p b q

@@ -3,26 +3,29 @@ use Rattle.std.proofs.Common.{◌≡◌, ℕ, ◌<◌, Bool, true, false, List, 
 use Rattle.std.specs.List.{flat_map, AllByRecursion}
 use Rattle.std.proofs.lemmas.List.{append-nil, map-append}
 use Rattle.std.proofs.lemmas.Grind.{flat_map-append}
+use Rattle.osi_tpkt.specs.Octets.{IsOctets}
 use Rattle.osi_tpdu.specs.Value.{Value, request, confirm, disconnect, disconnected, data0, data2, acknowledge, error}
 use Rattle.osi_class.specs.Between.{LeftMoves, LinkPair, swapped, Turn, at_left, TurnsAlong, opposite, left_in, right_out, under_way_before, under_way, HasWholeTsdus, IsShortTsdu, TakesOldest}
 use Rattle.osi_class.specs.Ends.{Ends}
 use Rattle.osi_class.specs.Flow.{Flow, Sender, is_awaited, acknowledged}
 use Rattle.osi_class.specs.Giving.{all_given}
 use Rattle.osi_class.specs.Joining.{Joining, joined, with_part}
-use Rattle.osi_class.specs.Link.{Standing, Given, taken, taken_by, taken_flow, unit_of, with_tsdu, with_joined, with_sender}
+use Rattle.osi_class.specs.Link.{Standing, Given, part0, part2, ack, taken, taken_by, taken_flow, unit_of, with_tsdu, with_joined, with_sender}
 use Rattle.osi_class.specs.Runs.{hand_in, give_out, take_in, hand_out, MovesAlong}
+use Rattle.osi_class.specs.Sound.{IsSound, HasGivenInRange}
 use Rattle.osi_class.specs.declared.faults.LinkFault.{LinkFault}
 use Rattle.osi_class.specs.declared.faults.LinkFault.TheVariants.{TsduTooLong, OutOfSequence}
 use Rattle.osi_class.specs.declared.limits.TheConstants.{LONGEST_TSDU}
 use Rattle.osi_class.proofs.Classes.{zero_turns}
+use Rattle.osi_class.proofs.FitLaws.{in_range, stays_octets, unit_fits}
 use Rattle.osi_class.proofs.Flows.{agree_turns}
 use Rattle.osi_class.proofs.Giving.{drained_moves, drained_ends, drained_leaves}
 use Rattle.osi_class.proofs.Oldest.{said, oldest_in_class_0, oldest_in_class_2}
 use Rattle.osi_class.proofs.Order.{choose_ok, at_ok}
 use Rattle.osi_class.proofs.Short.{stays_short}
-use Rattle.osi_class.proofs.SoundLaws.{move_same}
+use Rattle.osi_class.proofs.SoundLaws.{move_sound, move_same}
 use Rattle.osi_class.proofs.Ways.{turns_keep, whole_kept, stays_whole, other_way}
-use Rattle.osi_carrier.specs.OpenLinks.{IsSettled, AgreeIn, AreOpen, links, Passes, after_send, after_take, LeftTakes}
+use Rattle.osi_carrier.specs.OpenLinks.{IsWell, IsSettled, AgreeIn, AreOpen, links, Passes, after_send, after_take, LeftTakes}
 use Rattle.osi_carrier.specs.Pump.{pumped}
 use Rattle.osi_carrier.specs.React.{handed_out}
 
@@ -182,8 +185,8 @@ turned_left old new i o t whole =
 -- links that are open stay so where the one that turned is settled again
 pub turned_passes : (two : Bool) (old new : LinkPair) (i o : List (List ℕ)) → Turned old new i o → AllByRecursion IsShortTsdu i → AgreeIn two old →
     HasWholeTsdus old → HasWholeTsdus (swapped old) → AllByRecursion IsShortTsdu (under_way old) → AllByRecursion IsShortTsdu (under_way (swapped old)) →
-    IsSettled new.left → IsSettled new.right → Passes two old new i o
-turned_passes two old new i o t short agree whole whole_back s s_back left right =
+    AllByRecursion HasGivenInRange new.rightward → AllByRecursion HasGivenInRange new.leftward → IsSettled new.left → IsSettled new.right → Passes two old new i o
+turned_passes two old new i o t short agree whole whole_back s s_back range range_back left right =
     let back = other_way old new t.turns t.along in
     record {
       rightward = turned_right old new i o t whole;
@@ -195,6 +198,8 @@ turned_passes two old new i o t short agree whole whole_back s s_back left right
         short = stays_short old new t.turns whole s (subst (λ (l : List (List ℕ)). AllByRecursion IsShortTsdu l) (sym t.sent) short) t.along;
         short_back = stays_short (swapped old) (swapped new) (map opposite t.turns) whole_back s_back
             (subst (λ (l : List (List ℕ)). AllByRecursion IsShortTsdu l) (sym t.sent_back) tt) back;
+        range = range;
+        range_back = range_back;
         left = left;
         right = right;
       };
@@ -202,15 +207,44 @@ turned_passes two old new i o t short agree whole whole_back s s_back left right
 
 -- ---- a link between calls
 
-pub pumped_settled : (s : Standing) → 0 < s.ends.limit → s.ends.joining.whole ≡ [] → IsSettled (pumped s)
-pumped_settled s limit handed =
+-- what a link in its bounds gives is in the range of its fields
+gives_well : (gs : List Given) (s t : Standing) → IsWell s → MovesAlong s (map give_out gs) t → IsWell t × AllByRecursion HasGivenInRange gs
+gives_well [] s t h e = (subst (λ (l : Standing). IsWell l) (sym e) h, tt)
+gives_well (g ∷ gs) s t h (mid, first, rest) =
+    let well : IsWell mid = record { sound = move_sound (give_out g) s mid h.sound tt first; octets = stays_octets s mid g h.sound h.octets first } in
+    let more = gives_well gs mid t well rest in
+    (more.0, (in_range s mid g h.sound h.octets first, more.1))
+
+pub pumped_well : (s : Standing) → IsWell s → IsWell (pumped s) × AllByRecursion HasGivenInRange (all_given s)
+pumped_well s h = gives_well (all_given s) s (pumped s) h (drained_moves s)
+
+pub pumped_settled : (s : Standing) → 0 < s.ends.limit → s.ends.joining.whole ≡ [] → IsWell s → IsSettled (pumped s)
+pumped_settled s limit handed well =
     let leaves = drained_leaves s in
     let same = leaves.0 in
     record {
       limit = omega arith;
       handed = ap (λ (j : Joining). j.whole) leaves.1 ∙ handed;
       given = drained_ends s limit;
+      well = (pumped_well s well).0;
     }
+
+octets_behind : (ts : List (List ℕ)) (t : List ℕ) → AllByRecursion IsOctets ts → IsOctets t → AllByRecursion IsOctets (ts ++ t ∷ [])
+octets_behind [] t h is = (is, tt)
+octets_behind (u ∷ ts) t h is = (h.0, octets_behind ts t h.1 is)
+
+pub range_behind : (us vs : List Given) → AllByRecursion HasGivenInRange us → AllByRecursion HasGivenInRange vs → AllByRecursion HasGivenInRange (us ++ vs)
+range_behind [] vs a b = b
+range_behind (u ∷ us) vs a b = (a.0, range_behind us vs a.1 b)
+
+with_well : (s : Standing) (tsdu : List ℕ) → IsWell s → IsOctets tsdu → IsWell (with_tsdu s tsdu)
+with_well s tsdu h is = record { sound = move_sound (hand_in tsdu) s (with_tsdu s tsdu) h.sound tt refl; octets = octets_behind s.ends.unsent tsdu h.octets is }
+
+out_well : (s : Standing) → IsWell s → IsWell (handed_out s)
+out_well s h = record {
+  sound = record { least = h.sound.least; most = h.sound.most; begun = h.sound.begun; flow = h.sound.flow };
+  octets = h.octets;
+}
 
 -- at most one TSDU becomes whole with a unit
 abbrev HasOne : Standing → Type 0
@@ -254,6 +288,35 @@ taken_one_by e (Some f) (error destination cause) none = tt
 taken_one : (s t : Standing) (unit : Value) → s.ends.joining.whole ≡ [] → taken s unit ≡ Ok t → HasOne t
 taken_one s t unit none e = at_ok HasOne (taken s unit) t (taken_one_by s.ends s.flow unit none) e
 
+-- what is to be sent does not change with a unit
+abbrev Unsent : List (List ℕ) → Standing → Type 0
+Unsent unsent s = s.ends.unsent ≡ unsent
+
+joined_unsent : (e : Ends) (flow : Option Flow) (r : Result Joining LinkFault) → IfOk (with_joined e flow r) (Unsent e.unsent)
+joined_unsent e flow (Ok j) = refl
+joined_unsent e flow (Err fault) = tt
+
+sender_unsent : (e : Ends) (f : Flow) (r : Result Sender LinkFault) → IfOk (with_sender e f r) (Unsent e.unsent)
+sender_unsent e f (Ok sender) = refl
+sender_unsent e f (Err fault) = tt
+
+taken_unsent_by : (e : Ends) (flow : Option Flow) (destination : ℕ) (g : Given) → IfOk (taken_by e flow (unit_of destination g)) (Unsent e.unsent)
+taken_unsent_by e None destination (part0 end octets) = joined_unsent e None (joined e.joining end octets)
+taken_unsent_by e None destination (part2 number end octets) = tt
+taken_unsent_by e None destination (ack number credit) = tt
+taken_unsent_by e (Some f) destination (part0 end octets) = tt
+taken_unsent_by e (Some f) destination (part2 number end octets) =
+    choose_ok (Unsent e.unsent) (is_awaited f.receiver number) (with_joined e (Some (taken_flow f)) (joined e.joining end octets)) (Err OutOfSequence)
+    (λ _. joined_unsent e (Some (taken_flow f)) (joined e.joining end octets)) (λ _. tt)
+taken_unsent_by e (Some f) destination (ack number credit) = sender_unsent e f (acknowledged f.sender number credit)
+
+taken_well : (s t : Standing) (destination : ℕ) (g : Given) → destination < 65536 → HasGivenInRange g → IsWell s → taken s (unit_of destination g) ≡ Ok t → IsWell t
+taken_well s t destination g few range h e = record {
+  sound = move_sound (take_in (unit_of destination g)) s t h.sound (unit_fits destination g few range).in_range e;
+  octets = subst (λ (l : List (List ℕ)). AllByRecursion IsOctets l)
+      (sym (at_ok (Unsent s.ends.unsent) (taken s (unit_of destination g)) t (taken_unsent_by s.ends s.flow destination g) e)) h.octets;
+}
+
 -- ---- the two calls at the left, whatever the peer
 
 -- a unit that the left link takes, whatever its peer
@@ -282,12 +345,14 @@ turned_send l r out back tsdu =
 -- ---- the two calls at the left of open links
 
 -- a TSDU is handed in, and all that may be sent now is given
-pub sends_passes : (two : Bool) (p : LinkPair) (tsdu : List ℕ) → AreOpen two p → IsShortTsdu tsdu →
+pub sends_passes : (two : Bool) (p : LinkPair) (tsdu : List ℕ) → AreOpen two p → IsShortTsdu tsdu → IsOctets tsdu →
     Passes two p (after_send p tsdu) (tsdu ∷ []) []
-sends_passes two p tsdu a short =
+sends_passes two p tsdu a short octets =
+    let well = with_well p.left tsdu a.left.well octets in
     turned_passes two p (after_send p tsdu) (tsdu ∷ []) [] (turned_send p.left p.right p.rightward p.leftward tsdu)
     (short, tt) a.agree a.whole a.whole_back a.short a.short_back
-    (pumped_settled (with_tsdu p.left tsdu) a.left.limit a.left.handed) a.right
+    (range_behind p.rightward (all_given (with_tsdu p.left tsdu)) a.range (pumped_well (with_tsdu p.left tsdu) well).1) a.range_back
+    (pumped_settled (with_tsdu p.left tsdu) a.left.limit a.left.handed well) a.right
 
 oldest_taken : (two : Bool) (p : LinkPair) (unit : Given) (rest : List Given) (destination : ℕ) → AreOpen two p → AgreeIn two p → p.leftward ≡ unit ∷ rest →
     TakesOldest (swapped p) (unit_of destination unit) rest
@@ -295,9 +360,11 @@ oldest_taken false p unit rest destination a z e = oldest_in_class_0 (swapped p)
 oldest_taken true p unit rest destination a t e =
     oldest_in_class_2 (swapped p) t.back t.window unit rest destination t.agree_back t.agree a.whole_back a.short_back e
 
-left_takes_by : (two : Bool) (p : LinkPair) (g : Given) (rest : List Given) (destination : ℕ) → AreOpen two p → p.leftward ≡ g ∷ rest →
+left_takes_by : (two : Bool) (p : LinkPair) (g : Given) (rest : List Given) (destination : ℕ) → destination < 65536 → AreOpen two p → p.leftward ≡ g ∷ rest →
     TakesOldest (swapped p) (unit_of destination g) rest → LeftTakes two p (unit_of destination g) rest
-left_takes_by two p g rest destination a e t =
+left_takes_by two p g rest destination few a e t =
+    let range = subst (λ (us : List Given). AllByRecursion HasGivenInRange us) e a.range_back in
+    let well = out_well t.new (taken_well p.left t.new destination g few range.0 a.left.well t.taken) in
     let same = (move_same (take_in (unit_of destination g)) p.left t.new t.taken).0 in
     let limit : 0 < t.new.ends.limit = (let before = a.left.limit in omega arith) in
     let got = take 1 t.new.ends.joining.whole in
@@ -308,9 +375,10 @@ left_takes_by two p g rest destination a e t =
           (subst (λ (us : List Given). Turned (links p.left p.rightward p.right us) (after_take p t.new rest) [] got) (sym e)
           (turned_take p.left t.new p.right p.rightward g rest destination t.taken))
           tt a.agree a.whole a.whole_back a.short a.short_back
-          (pumped_settled (handed_out t.new) limit (taken_one p.left t.new (unit_of destination g) a.left.handed t.taken)) a.right;
+          (range_behind p.rightward (all_given (handed_out t.new)) a.range (pumped_well (handed_out t.new) well).1) range.1
+          (pumped_settled (handed_out t.new) limit (taken_one p.left t.new (unit_of destination g) a.left.handed t.taken) well) a.right;
     }
 
-pub left_takes : (two : Bool) (p : LinkPair) (unit : Given) (rest : List Given) (destination : ℕ) → AreOpen two p → p.leftward ≡ unit ∷ rest →
+pub left_takes : (two : Bool) (p : LinkPair) (unit : Given) (rest : List Given) (destination : ℕ) → destination < 65536 → AreOpen two p → p.leftward ≡ unit ∷ rest →
     LeftTakes two p (unit_of destination unit) rest
-left_takes two p unit rest destination a e = left_takes_by two p unit rest destination a e (oldest_taken two p unit rest destination a a.agree e)
+left_takes two p unit rest destination few a e = left_takes_by two p unit rest destination few a e (oldest_taken two p unit rest destination a a.agree e)

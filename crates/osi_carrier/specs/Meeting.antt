@@ -95,6 +95,7 @@ Stands parted = Unit {0}
 -- a carrier of class 2 at which the connection stands as it does here
 pub record IsAt (n : ℕ) (s : State) (m : Meeting) : Type 0 where
   pub some : 0 < n
+  pub few : n < 65536
   pub lasts : s.ended ≡ None
   pub class : s.class ≡ Some Two
   pub orderly : IsOrderly s

@@ -2,19 +2,27 @@
 -- what a call at one end does to both.
 use Rattle.std.specs.Prelude.{◌≡◌, ℕ, ◌<◌, Bool, true, false, List, [], ◌++◌, take, None, Ok}
 use Rattle.std.specs.List.{AllByRecursion}
+use Rattle.osi_tpkt.specs.Octets.{IsOctets}
 use Rattle.osi_tpdu.specs.Value.{Value}
 use Rattle.osi_class.specs.Between.{LinkPair, swapped, under_way, HasWholeTsdus, IsShortTsdu}
 use Rattle.osi_class.specs.Directions.{Agree, AgreeZero}
 use Rattle.osi_class.specs.Giving.{all_given}
 use Rattle.osi_class.specs.Link.{Standing, Given, next, taken, with_tsdu}
+use Rattle.osi_class.specs.Sound.{IsSound, HasGivenInRange}
 use Rattle.osi_carrier.specs.Pump.{pumped}
 use Rattle.osi_carrier.specs.React.{handed_out}
+
+-- a link that keeps its bounds, with octets to send
+pub record IsWell (link : Standing) : Type 0 where
+  pub sound : IsSound link
+  pub octets : AllByRecursion IsOctets link.ends.unsent
 
 -- a link between calls: all that it may send now was given, and each whole TSDU was handed out
 pub record IsSettled (link : Standing) : Type 0 where
   pub limit : 0 < link.ends.limit
   pub handed : link.ends.joining.whole ≡ []
   pub given : next link ≡ None
+  pub well : IsWell link
 
 -- two links of class 2 that agree, each way for a window of some units
 pub record AgreeTwo (p : LinkPair) : Type 0 where
@@ -42,6 +50,8 @@ pub record AreOpen (two : Bool) (p : LinkPair) : Type 0 where
   pub whole_back : HasWholeTsdus (swapped p)
   pub short : AllByRecursion IsShortTsdu (under_way p)
   pub short_back : AllByRecursion IsShortTsdu (under_way (swapped p))
+  pub range : AllByRecursion HasGivenInRange p.rightward
+  pub range_back : AllByRecursion HasGivenInRange p.leftward
   pub left : IsSettled p.left
   pub right : IsSettled p.right
 

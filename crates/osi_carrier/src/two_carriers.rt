@@ -4,6 +4,7 @@
 ghost use Rattle.std.specs.Prelude.{◌≡◌, ◌≤◌, ◌++◌, ◌+◌, ℕ, true, false, List, [], ◌∷◌, Option, Some, None, length, take};
 ghost use Rattle.std.specs.List.{AllByRecursion};
 ghost use Rattle.osi_tpkt.specs.declared.cutting.Fed.{Fed};
+ghost use Rattle.osi_tpkt.specs.Octets.{IsOctets};
 ghost use Rattle.osi_tpdu.specs.Value.{Value};
 ghost use Rattle.osi_class.specs.Between.{IsShortTsdu};
 ghost use Rattle.osi_class.specs.Link.{Standing};
@@ -29,7 +30,7 @@ ghost use Rattle.osi_carrier.specs.State.{State, linked, packets};
 pub fn what_a_connection_carries()
     ensures taken { (n : ℕ) (s : State) (m : Meeting) (unit : Value) (rest : List Value) → IsAt n s m → back n m ≡ unit ∷ rest →
         Moves n m s (react unit s) (unit ∷ []) (answers_of (here n m) unit) }
-    ensures sent { (n : ℕ) (s : State) (m : Meeting) (link : Standing) (tsdu : List ℕ) → IsAt n s m → here n m ≡ Some (linked n link) → IsShortTsdu tsdu →
+    ensures sent { (n : ℕ) (s : State) (m : Meeting) (link : Standing) (tsdu : List ℕ) → IsAt n s m → here n m ≡ Some (linked n link) → IsShortTsdu tsdu → IsOctets tsdu →
         Moves n m s (sent n tsdu s) [] (message tsdu ∷ []) }
     ensures closed { (n : ℕ) (s : State) (m : Meeting) (link : Standing) (reason : ℕ) → IsAt n s m → here n m ≡ Some (linked n link) →
         Moves n m s (closed_with n reason s) [] (bye reason ∷ []) }
@@ -68,13 +69,13 @@ pub fn two_carriers_stay_joined()
     ensures caller_asks { (caller called : State) (going coming : List Value) (calling to : Option (List ℕ)) → AreJoined caller called going coming →
         may_connect caller ≡ None → CallerDid (caller.given + 1) caller called (asks calling to caller) going coming coming (ask ∷ []) }
     ensures caller_sends { (caller called : State) (going coming : List Value) (n : ℕ) (link : Standing) (tsdu : List ℕ) →
-        AreJoined caller called going coming → value_at n caller.live ≡ Some (linked n link) → IsShortTsdu tsdu →
+        AreJoined caller called going coming → value_at n caller.live ≡ Some (linked n link) → IsShortTsdu tsdu → IsOctets tsdu →
         CallerDid n caller called (sent n tsdu caller) going coming coming (message tsdu ∷ []) }
     ensures caller_closes { (caller called : State) (going coming : List Value) (n : ℕ) (link : Standing) (reason : ℕ) →
         AreJoined caller called going coming → value_at n caller.live ≡ Some (linked n link) →
         CallerDid n caller called (closed_with n reason caller) going coming coming (bye reason ∷ []) }
     ensures called_sends { (caller called : State) (going coming : List Value) (n : ℕ) (link : Standing) (tsdu : List ℕ) →
-        AreJoined caller called going coming → value_at n called.live ≡ Some (linked n link) → IsShortTsdu tsdu →
+        AreJoined caller called going coming → value_at n called.live ≡ Some (linked n link) → IsShortTsdu tsdu → IsOctets tsdu →
         CalledDid n caller called (sent n tsdu called) going coming going (message tsdu ∷ []) }
     ensures called_closes { (caller called : State) (going coming : List Value) (n : ℕ) (link : Standing) (reason : ℕ) →
         AreJoined caller called going coming → value_at n called.live ≡ Some (linked n link) →

@@ -2,10 +2,10 @@ use Rattle.osi_carrier.proofs.Meetings.{take_here, send_here, close_here, mirror
 use Rattle.osi_carrier.proofs.two_carriers.what_a_connection_carries.Goals as goal
 
 pub returns-clause-taken : goal.returns-clause-taken
-returns-clause-taken c = λ n s m unit rest a b. take_here n s m unit rest a.some a.lasts a.class a.orderly a.is a.stands b
+returns-clause-taken c = λ n s m unit rest a b. take_here n s m unit rest a.some a.few a.lasts a.class a.orderly a.is a.stands b
 
 pub returns-clause-sent : goal.returns-clause-sent
-returns-clause-sent c = λ n s m link tsdu a is short. send_here n s m link tsdu a.lasts a.orderly a.is is a.stands short
+returns-clause-sent c = λ n s m link tsdu a is short octets. send_here n s m link tsdu a.lasts a.orderly a.is is a.stands short octets
 
 pub returns-clause-closed : goal.returns-clause-closed
 returns-clause-closed c = λ n s m link reason a is. close_here n s m link reason a.some a.lasts a.class a.orderly a.is is a.stands
