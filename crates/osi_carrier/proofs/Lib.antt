@@ -28,3 +28,4 @@ pub mod JoinedSteps
 pub mod JoinedMoves
 pub mod JoinedAsks
 pub mod JoinedCalls
+pub mod Lasting

@@ -74,13 +74,13 @@ calls_last old (call ∷ calls) new h lasts = call_lasts old call h.0 h.1 (calls
 -- ---- one call
 
 -- what one call did
-record ReadsOne (old : Carrying) (call : Call) (new : Carrying) : Type 0 where
-  acts : List Act
-  called : flat_map call_in acts ≡ called_in call
-  packets : ArePackets (flat_map packet_in acts) (old.held.octets ++ used_in call) new.held.octets
-  state : put_back (told_in call) (carried_in call) new.state ≡ all_done acts old.state
-  partial : IsPartial old.held.octets → IsPartial new.held.octets
-  offset : old.held.offset < 2 ^ 64 → new.held.offset ≡ offset_of (old.held.offset + (length (old.held.octets ++ used_in call) - length new.held.octets))
+pub record ReadsOne (old : Carrying) (call : Call) (new : Carrying) : Type 0 where
+  pub acts : List Act
+  pub called : flat_map call_in acts ≡ called_in call
+  pub packets : ArePackets (flat_map packet_in acts) (old.held.octets ++ used_in call) new.held.octets
+  pub state : put_back (told_in call) (carried_in call) new.state ≡ all_done acts old.state
+  pub partial : IsPartial old.held.octets → IsPartial new.held.octets
+  pub offset : old.held.offset < 2 ^ 64 → new.held.offset ≡ offset_of (old.held.offset + (length (old.held.octets ++ used_in call) - length new.held.octets))
 
 packets_of : (units : List (List ℕ)) → flat_map packet_in (map packet units) ≡ units
 packets_of [] = refl
@@ -90,7 +90,7 @@ no_calls : (units : List (List ℕ)) → flat_map call_in (map packet units) ≡
 no_calls [] = refl
 no_calls (unit ∷ units) = no_calls units
 
-packets_done : (units : List (List ℕ)) (old new : State) → TakesPackets old units new → new ≡ all_done (map packet units) old
+pub packets_done : (units : List (List ℕ)) (old new : State) → TakesPackets old units new → new ≡ all_done (map packet units) old
 packets_done [] old new h = h
 packets_done (unit ∷ units) old new h = packets_done units (after_packet old unit) new h.1
 
@@ -170,7 +170,7 @@ reads_told : (old : Carrying) (event : Option Happening) (new : Carrying) → Te
 reads_told old None new h held = reads_still old (telling None) new [] refl refl refl held h.1
 reads_told old (Some event) new h held = reads_still old (telling (Some event)) new [] refl refl refl held (sym h)
 
-reads_one : IsPartial [] → (old : Carrying) (call : Call) (new : Carrying) → Calls old call new → new.state.ended ≡ None → ReadsOne old call new
+pub reads_one : IsPartial [] → (old : Carrying) (call : Call) (new : Carrying) → Calls old call new → new.state.ended ≡ None → ReadsOne old call new
 reads_one nothing old (feeding piece fed) new h lasts =
     reads_feed nothing old piece fed new (waits old.state) refl (call_lasts old (feeding piece fed) new h lasts) h lasts
 reads_one nothing old (telling event) new h lasts = reads_told old event new h.0 h.1
@@ -186,7 +186,7 @@ packets_joined [] vs s m t r h k = subst (λ x. ArePackets vs (x ++ t) r) (sym h
 packets_joined (u ∷ us) vs s m t r h k =
     (h.0, h.1 ++ t, h.2, ap (λ x. x ++ t) h.3 ∙ append_assoc h.0 h.1 t, packets_joined us vs h.1 m t r h.4 k)
 
-all_joined : (xs ys : List Act) (s : State) → all_done (xs ++ ys) s ≡ all_done ys (all_done xs s)
+pub all_joined : (xs ys : List Act) (s : State) → all_done (xs ++ ys) s ≡ all_done ys (all_done xs s)
 all_joined [] ys s = refl
 all_joined (x ∷ xs) ys s = all_joined xs ys (does x s)
 
@@ -247,7 +247,7 @@ calls_read nothing old (call ∷ calls) new h lasts =
 abbrev pub OneCut : Type 0
 OneCut = (s r q : List ℕ) (us vs : List (List ℕ)) → IsPartial r → IsPartial q → ArePackets us s r → ArePackets vs s q → (us ≡ vs) × (r ≡ q)
 
-only_packets : (acts : List Act) → flat_map call_in acts ≡ [] → acts ≡ map packet (flat_map packet_in acts)
+pub only_packets : (acts : List Act) → flat_map call_in acts ≡ [] → acts ≡ map packet (flat_map packet_in acts)
 only_packets [] none = refl
 only_packets (packet unit ∷ acts) none = ap (λ l. packet unit ∷ l) (only_packets acts none)
 only_packets (user call ∷ acts) none = absurd cc

@@ -1,6 +1,6 @@
 //! Laws of carriers. Each function does nothing: its clauses are the laws.
 
-ghost use Rattle.std.specs.Prelude.{◌≡◌, ◌<◌, ◌≤◌, ◌^◌, ◌==◌, ◌&&◌, not, ℕ, Bool, List, [], Option, None};
+ghost use Rattle.std.specs.Prelude.{◌≡◌, ◌<◌, ◌≤◌, ◌^◌, ◌==◌, ◌&&◌, not, ◌⊎◌, ℕ, Bool, List, [], Option, Some, None};
 ghost use Rattle.std.specs.List.{flat_map};
 ghost use Rattle.osi_tpkt.specs.Packet.{IsPartial};
 ghost use Rattle.osi_tpdu.specs.Value.{Value};
@@ -15,8 +15,9 @@ ghost use Rattle.osi_carrier.specs.Runs.{Call, CallsAlong, Reads, AreAlike, call
 ghost use Rattle.osi_carrier.specs.State.{State, ends};
 ghost use Rattle.osi_carrier.specs.Told.{TellsOpen, is_open};
 ghost use Rattle.osi_carrier.specs.declared.ends.EndReason.{EndReason};
+ghost use Rattle.osi_carrier.specs.declared.ends.EndReason.TheVariants.{NoMemory};
 
-use osi_tpkt::laws::{a_prefix_of_a_packet, a_stream_has_one_cut};
+use osi_tpkt::laws::{a_prefix_of_a_packet, a_stream_has_one_cut, no_packet_begins_another};
 
 /// A unit is for one connection: that of the reference that it names, and in class 0 the only one. All
 /// others stand as they did, unless it ends the carrier; and at most one event is told, of this one.
@@ -50,15 +51,21 @@ pub fn no_reference_is_given_twice()
 
 /// Over every list of calls after which the carrier has not ended, the packets of the octets that it
 /// held and used acted, each whole and in order, with the user's calls between them, and nothing else
-/// did. So where the user only takes events and octets away, the pieces in which the octets came do not matter.
+/// did. So where the user only takes events and octets away, the pieces in which the octets came do not
+/// matter; and where they did not end the carrier in one list of pieces, they do in no other, but for
+/// want of memory.
 pub fn the_pieces_do_not_matter()
     ensures calls { (old new : Carrying) (calls : List Call) → CallsAlong old calls new → new.state.ended ≡ None → Reads old calls new }
     ensures pieces { (old a b : Carrying) (xs ys : List Call) → IsPartial old.held.octets → old.held.offset < 2 ^ 64 →
         CallsAlong old xs a → CallsAlong old ys b → flat_map called_in xs ≡ [] → flat_map called_in ys ≡ [] →
         flat_map used_in xs ≡ flat_map used_in ys → a.state.ended ≡ None → b.state.ended ≡ None → AreAlike a xs b ys }
+    ensures lasts { (old a b : Carrying) (xs ys : List Call) → IsPartial old.held.octets → old.state.ended ≡ None →
+        CallsAlong old xs a → CallsAlong old ys b → flat_map called_in xs ≡ [] → flat_map called_in ys ≡ [] →
+        flat_map used_in xs ≡ flat_map used_in ys → a.state.ended ≡ None → (b.state.ended ≡ None) ⊎ (b.state.ended ≡ Some NoMemory) }
 {
     a_prefix_of_a_packet();
     a_stream_has_one_cut();
+    no_packet_begins_another();
 }
 
 /// The events tell which connections are open, one by one: where the carrier has not ended, a connection

@@ -1,3 +1,4 @@
+use Rattle.osi_carrier.proofs.Lasting.{pieces_last}
 use Rattle.osi_carrier.proofs.Pieces.{calls_read, pieces_alike}
 use Rattle.osi_carrier.proofs.laws.the_pieces_do_not_matter.Goals as goal
 
@@ -6,5 +7,6 @@ returns c =
     let nothing = c.a_prefix_of_a_packet.ensures.nothing in
     record {
       calls = λ old new calls. calls_read nothing old calls new;
+      lasts = pieces_last (record { one = c.no_packet_begins_another.ensures; front = c.a_prefix_of_a_packet.ensures.front; proper = c.a_prefix_of_a_packet.ensures.proper }) nothing;
       pieces = pieces_alike nothing c.a_stream_has_one_cut.ensures.packets;
     }
