@@ -14,7 +14,7 @@ use Rattle.osi_class.specs.declared.terms.Class.TheVariants.{Two}
 use Rattle.osi_class.specs.declared.terms.Local.{Local}
 use Rattle.osi_carrier.specs.Addresses.{references}
 use Rattle.osi_carrier.specs.Calls.{asks, sent, closed_with}
-use Rattle.osi_carrier.specs.Course.{Place, never, was_given, place_at, unasked, asking, accepting, withdrawing, met, answer_of, IsAskedBy, MayTakeTwo, IsAccepted, Acts, CourseMoves}
+use Rattle.osi_carrier.specs.Course.{Place, never, was_given, place_at, unasked, asking, accepting, withdrawing, met, answer_of, IsTsap, IsAskedBy, MayTakeTwo, IsAccepted, Acts, CourseMoves}
 use Rattle.osi_carrier.specs.Happenings.{opened}
 use Rattle.osi_carrier.specs.Meeting.{talking, left_there, addressed, leaving}
 use Rattle.osi_carrier.specs.Messages.{Message, ask, agree, message, bye, messages_after, uncut_units, kind_of}
@@ -31,8 +31,9 @@ use Rattle.osi_carrier.proofs.Courses.{given_place, acts_changed, place_changed,
 use Rattle.osi_carrier.proofs.Meetings.{open_mirror, class_end, addressed_join, addressed_for}
 use Rattle.osi_carrier.proofs.MeetingMessages.{pair_messages, behind_leaving}
 use Rattle.osi_carrier.proofs.MessageLaws.{messages_front}
-use Rattle.osi_carrier.proofs.Openings.{request_of, selects_two, confirms_two, caller_link, called_link, opens_links}
+use Rattle.osi_carrier.proofs.Openings.{request_of, selects_two, confirms_two, caller_link, called_link, opens_links, asked_sendable, answer_sendable}
 use Rattle.osi_carrier.proofs.Reacts.{react_quiet}
+use Rattle.osi_carrier.proofs.Sendables.{all_sendable, range_end, leaving_sendable}
 use Rattle.osi_carrier.proofs.Turned.{sends_passes}
 
 -- ---- a new reference
@@ -56,9 +57,9 @@ push_place s t x orderly given live =
 
 -- ---- the CR
 
-abbrev pub asks_moves : (s r : State) (calling called : Option (List ℕ)) → IsOrderly s → s.local.class2 ≡ true →
+abbrev pub asks_moves : (s r : State) (calling called : Option (List ℕ)) → IsOrderly s → s.given < 65535 → s.local.class2 ≡ true → IsTsap calling → IsTsap called →
     CourseMoves true (s.given + 1) unasked s r (asks calling called s) [] 1 (ask ∷ [])
-asks_moves s r calling called orderly supports =
+asks_moves s r calling called orderly left supports fits fits_called =
     let c = request_of s.local s.class calling called (s.given + 1) in
     let t = asks calling called s in
     record {
@@ -76,11 +77,12 @@ asks_moves s r calling called orderly supports =
         may = λ h. h;
         all_for = (refl, tt);
       };
+      sendable = (asked_sendable s.local s.class calling called (s.given + 1) (omega arith) fits fits_called, tt);
       place = push_place s t asked orderly refl refl;
       there = refl;
       out = refl;
       back = refl;
-      holds = record { class = s.class; calling = calling; called = called; is = refl };
+      holds = record { class = s.class; calling = calling; called = called; is = refl; calling_fits = fits; called_fits = fits_called };
       given = refl;
       numbers = refl;
       places = tt;
@@ -99,11 +101,11 @@ request_accepted : (c : Connect) (r : State) → has_peer c.source r.live ≡ fa
     answers_request c r ≡ accepts Two (selected_size c r.local) c r
 request_accepted c r free room selects = rw (free, room) (ap (λ (x : Selection). answers c x r.class r) selects)
 
-accepts_moves_by : (s r : State) (class : Option Class) (calling called : Option (List ℕ)) → IsOrderly r →
+accepts_moves_by : (s r : State) (class : Option Class) (calling called : Option (List ℕ)) → IsOrderly r → r.given < 65535 → IsTsap calling → IsTsap called →
     CourseMoves false (r.given + 1) (asking (request_of s.local class calling called (r.given + 1))) r s
     (accepts Two (selected_size (request_of s.local class calling called (r.given + 1)) r.local) (request_of s.local class calling called (r.given + 1)) r)
     (request (request_of s.local class calling called (r.given + 1)) ∷ []) 1 (agree ∷ [])
-accepts_moves_by s r class calling called orderly =
+accepts_moves_by s r class calling called orderly left fits fits_called =
     let n = r.given + 1 in
     let c = request_of s.local class calling called n in
     let p = opened_pair (caller_link n s.local r.local c) (called_link r.local c) in
@@ -123,12 +125,13 @@ accepts_moves_by s r class calling called orderly =
         may = λ h. inr refl;
         all_for = (refl, tt);
       };
+      sendable = (answer_sendable s.local r.local class calling called n (omega arith) fits fits_called, tt);
       place = push_place r t (linked n (called_link r.local c)) orderly refl refl;
       there = refl;
       out = refl;
       back = refl;
       holds = record {
-        asked = record { class = class; calling = calling; called = called; is = refl };
+        asked = record { class = class; calling = calling; called = called; is = refl; calling_fits = fits; called_fits = fits_called };
         class = refl;
         open_links = opens_links s.local r.local class calling called n;
         rightward = refl;
@@ -141,8 +144,8 @@ accepts_moves_by s r class calling called orderly =
     }
 
 pub accepts_moves : (n : ℕ) (c : Connect) (s r : State) → n ≡ r.given + 1 → IsAskedBy n s.local c → IsOrderly r → r.ended ≡ None → r.is_caller ≡ false → MayTakeTwo r.class →
-    has_peer c.source r.live ≡ false → is_full r ≡ false → r.local.class2 ≡ true → CourseMoves false n (asking c) r s (react (request c) r) (request c ∷ []) 1 (agree ∷ [])
-accepts_moves n c s r next a orderly quiet called two free room supports =
+    has_peer c.source r.live ≡ false → is_full r ≡ false → r.given < 65535 → r.local.class2 ≡ true → CourseMoves false n (asking c) r s (react (request c) r) (request c ∷ []) 1 (agree ∷ [])
+accepts_moves n c s r next a orderly quiet called two free room left supports =
     let d = request_of s.local a.class a.calling a.called (r.given + 1) in
     let same : c ≡ d = a.is ∙ ap (λ (m : ℕ). request_of s.local a.class a.calling a.called m) next in
     let does : react (request c) r ≡ accepts Two (selected_size d r.local) d r =
@@ -152,7 +155,7 @@ accepts_moves n c s r next a orderly quiet called two free room supports =
     subst (λ (t : State). CourseMoves false n (asking c) r s t (request c ∷ []) 1 (agree ∷ [])) (sym does)
     (subst (λ (m : ℕ). CourseMoves false m (asking c) r s (accepts Two (selected_size d r.local) d r) (request c ∷ []) 1 (agree ∷ [])) (sym next)
     (subst (λ (x : Connect). CourseMoves false (r.given + 1) (asking x) r s (accepts Two (selected_size d r.local) d r) (request x ∷ []) 1 (agree ∷ [])) (sym same)
-    (accepts_moves_by s r a.class a.calling a.called orderly)))
+    (accepts_moves_by s r a.class a.calling a.called orderly left a.calling_fits a.called_fits)))
 
 -- ---- the called end before the CC is taken
 
@@ -185,6 +188,7 @@ accepted_sends n c p s r octets h quiet orderly le at short are =
     let q = after_send (swapped p) octets in
     let given = all_given (with_tsdu p.right octets) in
     let t = sent n octets r in
+    let few : n < 65536 = (let most = orderly.given in omega arith) in
     let passes = sends_passes true (swapped p) octets (open_mirror true p h.open_links) short are in
     let changes = send_changes n r p.right octets quiet orderly at in
     let none = nothing_begun n s r c p h in
@@ -199,6 +203,7 @@ accepted_sends n c p s r octets h quiet orderly le at short are =
       events = [];
       acts = acts_changed n r t (Some (linked n (swapped q).right)) (addressed n given) [] changes
           (addressed_for n given (class_end p.leftward given passes.stay_open.agree.agree.class));
+      sendable = all_sendable n given few (range_end p.leftward given passes.stay_open.range);
       place = place_changed n r t (Some (linked n (swapped q).right)) (addressed n given) [] le changes;
       there = refl;
       out = ap (λ (l : List Value). confirm n (answer_of n r.local c) ∷ l) (addressed_join n p.leftward given);
@@ -218,9 +223,10 @@ accepted_sends n c p s r octets h quiet orderly le at short are =
       };
     }
 
-pub accepted_closes : (n : ℕ) (c : Connect) (p : LinkPair) (s r : State) (reason : ℕ) → 0 < n → IsAccepted n s r c p → r.ended ≡ None → IsOrderly r → n ≤ r.given →
+pub accepted_closes : (n : ℕ) (c : Connect) (p : LinkPair) (s r : State) (reason : ℕ) → 0 < n → reason < 256 → IsAccepted n s r c p → r.ended ≡ None → IsOrderly r → n ≤ r.given →
     value_at n r.live ≡ Some (linked n p.right) → CourseMoves false n (accepting c p) r s (closed_with n reason r) [] 0 (bye reason ∷ [])
-accepted_closes n c p s r reason some h quiet orderly le at =
+accepted_closes n c p s r reason some small h quiet orderly le at =
+    let few : n < 65536 = (let most = orderly.given in omega arith) in
     let t = closed_with n reason r in
     let changes = close_changes n r p.right reason quiet h.class orderly at in
     let us = addressed n p.leftward in
@@ -230,6 +236,7 @@ accepted_closes n c p s r reason some h quiet orderly le at =
       units = leaving n reason ∷ [];
       events = [];
       acts = acts_changed n r t (Some (closing n)) (leaving n reason ∷ []) [] changes (refl, tt);
+      sendable = (leaving_sendable n reason few small, tt);
       place = place_changed n r t (Some (closing n)) (leaving n reason ∷ []) [] le changes;
       there = refl;
       out = refl;
@@ -295,6 +302,7 @@ confirm_moves n c p s r h quiet caller two supports le at =
       units = [];
       events = opened n ∷ [];
       acts = confirm_acts n c s r.local;
+      sendable = tt;
       place = confirm_place n c s r.local p.left le at h.left;
       there = refl;
       out = ap (addressed n) h.rightward;
@@ -326,6 +334,7 @@ withdrawn_moves n c p reason s r h quiet caller two supports le at =
       units = [];
       events = opened n ∷ [];
       acts = confirm_acts n c s r.local;
+      sendable = tt;
       place = confirm_place n c s r.local p.left le at h.left;
       there = refl;
       out = refl;

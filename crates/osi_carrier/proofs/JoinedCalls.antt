@@ -9,7 +9,7 @@ use Rattle.osi_class.specs.declared.terms.Local.{Local}
 use Rattle.osi_class.proofs.Arrival.{quiet_unsent, nothing_begun}
 use Rattle.osi_carrier.specs.Addresses.{live_after, references}
 use Rattle.osi_carrier.specs.Calls.{fresh_state, may_connect, asks}
-use Rattle.osi_carrier.specs.Course.{Place, never, was_given, place_at, connection_in, Course, unasked, asking, accepting, withdrawing, met, at_end, from_end, Holds}
+use Rattle.osi_carrier.specs.Course.{Place, never, was_given, place_at, connection_in, Course, unasked, asking, accepting, withdrawing, met, at_end, from_end, IsTsap, Holds}
 use Rattle.osi_carrier.specs.Joined.{StandsBetween, AreJoined, CallerDid, under_way_for, IsEmpty}
 use Rattle.osi_carrier.specs.Meeting.{talking, left_here, left_there, left_both, waiting_here, waiting_there, parted, addressed}
 use Rattle.osi_carrier.specs.Messages.{ask, messages_to, messages_after, uncut_units}
@@ -45,16 +45,16 @@ fresh_course n s r going coming at h e = record {
   holds = tt;
 }
 
-pub caller_asks : (s r : State) (going coming : List Value) (calling called : Option (List ℕ)) → AreJoined s r going coming → may_connect s ≡ None →
+pub caller_asks : (s r : State) (going coming : List Value) (calling called : Option (List ℕ)) → AreJoined s r going coming → may_connect s ≡ None → IsTsap calling → IsTsap called →
     CallerDid (s.given + 1) s r (asks calling called s) going coming coming (ask ∷ [])
-caller_asks s r going coming calling called j may =
+caller_asks s r going coming calling called j may fits fits_called =
     let n = s.given + 1 in
     let some : 0 < n = omega arith in
     let at : place_at n s ≡ never = next_never s n (omega arith) in
     let old = j.stands n some in
     let st = fresh_course n s r going coming at old (not_asked n old.course (sym old.place ∙ at)) in
-    let mv = asks_moves s r calling called j.orderly j.supports in
     let free = free_of s may in
+    let mv = asks_moves s r calling called j.orderly free.left j.supports fits fits_called in
     let few = free.room in
     let less = no_more_live s r going coming j in
     let room : length (live_after (references r.live) going) < 64 = omega arith in

@@ -215,7 +215,7 @@ request_moves n s r going coming rest c some j at a cut =
     let st = j.stands q above in
     own_number c.source q x st.course (λ same. let there : place_at n r ≡ was_given (Some x) = subst (λ (m : ℕ). place_at m r ≡ was_given (Some x)) (same ∙ source) (given_live q r x j.orderly_called live) in cc)
     (sym (given_live q r x j.orderly_called live) ∙ st.place_there)) in
-    accepts_moves n c s r next a j.orderly_called j.lasts_called j.is_called j.class_called free (has_room r (omega arith) (omega arith)) j.supports_called
+    accepts_moves n c s r next a j.orderly_called j.lasts_called j.is_called j.class_called free (has_room r (omega arith) (omega arith)) (omega arith) j.supports_called
 
 record CalledMoves (n : ℕ) (g : Course) (s r : State) (u : Value) : Type 0 where
   count : ℕ
@@ -266,17 +266,17 @@ caller_sends_by n s r (accepting c p) link octets quiet orderly at h live le sho
 caller_sends_by n s r (withdrawing c p reason) link octets quiet orderly at h live le short are = let e = given_place n s le ∙ ap was_given live in cc
 caller_sends_by n s r (met m) link octets quiet orderly at h live le short are =
     let place = is_given n s (here n m) at in
-    met_caller n m s r (sent n octets s) [] (message octets ∷ []) h le (send_here n s m link octets quiet orderly place.is (sym place.is ∙ live) h.stands short are)
+    met_caller n m s r (sent n octets s) [] (message octets ∷ []) h le (send_here n s m link octets (let most = orderly.given in omega arith) quiet orderly place.is (sym place.is ∙ live) h.stands short are)
 
-caller_closes_by : (n : ℕ) (s r : State) (g : Course) (link : Standing) (reason : ℕ) → 0 < n → s.ended ≡ None → IsOrderly s → place_at n s ≡ at_end true n g → Holds n s r g → value_at n s.live ≡ Some (linked n link) →
+caller_closes_by : (n : ℕ) (s r : State) (g : Course) (link : Standing) (reason : ℕ) → 0 < n → reason < 256 → s.ended ≡ None → IsOrderly s → place_at n s ≡ at_end true n g → Holds n s r g → value_at n s.live ≡ Some (linked n link) →
     n ≤ s.given → CourseMoves true n g s r (closed_with n reason s) [] 0 (bye reason ∷ [])
-caller_closes_by n s r unasked link reason some quiet orderly at h live le = let e = given_place n s le ∙ ap was_given live in cc
-caller_closes_by n s r (asking c) link reason some quiet orderly at h live le = let e = given_place n s le ∙ ap was_given live in cc
-caller_closes_by n s r (accepting c p) link reason some quiet orderly at h live le = let e = given_place n s le ∙ ap was_given live in cc
-caller_closes_by n s r (withdrawing c p last) link reason some quiet orderly at h live le = let e = given_place n s le ∙ ap was_given live in cc
-caller_closes_by n s r (met m) link reason some quiet orderly at h live le =
+caller_closes_by n s r unasked link reason some small quiet orderly at h live le = let e = given_place n s le ∙ ap was_given live in cc
+caller_closes_by n s r (asking c) link reason some small quiet orderly at h live le = let e = given_place n s le ∙ ap was_given live in cc
+caller_closes_by n s r (accepting c p) link reason some small quiet orderly at h live le = let e = given_place n s le ∙ ap was_given live in cc
+caller_closes_by n s r (withdrawing c p last) link reason some small quiet orderly at h live le = let e = given_place n s le ∙ ap was_given live in cc
+caller_closes_by n s r (met m) link reason some small quiet orderly at h live le =
     let place = is_given n s (here n m) at in
-    met_caller n m s r (closed_with n reason s) [] (bye reason ∷ []) h le (close_here n s m link reason some quiet h.class orderly place.is (sym place.is ∙ live) h.stands)
+    met_caller n m s r (closed_with n reason s) [] (bye reason ∷ []) h le (close_here n s m link reason some (let most = orderly.given in omega arith) small quiet h.class orderly place.is (sym place.is ∙ live) h.stands)
 
 called_sends_by : (n : ℕ) (s r : State) (g : Course) (link : Standing) (octets : List ℕ) → r.ended ≡ None → IsOrderly r → place_at n r ≡ at_end false n g → Holds n s r g → value_at n r.live ≡ Some (linked n link) →
     n ≤ r.given → IsShortTsdu octets → IsOctets octets → CourseMoves false n g r s (sent n octets r) [] 0 (message octets ∷ [])
@@ -288,19 +288,19 @@ called_sends_by n s r (withdrawing c p reason) link octets quiet orderly at h li
 called_sends_by n s r (met m) link octets quiet orderly at h live le short are =
     let place = is_given n r (here n (mirror m)) at in
     met_called n m r s (sent n octets r) [] (message octets ∷ []) h le tt
-    (send_here n r (mirror m) link octets quiet orderly place.is (sym place.is ∙ live) (mirror_stands m h.stands) short are)
+    (send_here n r (mirror m) link octets (let most = orderly.given in omega arith) quiet orderly place.is (sym place.is ∙ live) (mirror_stands m h.stands) short are)
 
-called_closes_by : (n : ℕ) (s r : State) (g : Course) (link : Standing) (reason : ℕ) → 0 < n → r.ended ≡ None → IsOrderly r → place_at n r ≡ at_end false n g → Holds n s r g → value_at n r.live ≡ Some (linked n link) →
+called_closes_by : (n : ℕ) (s r : State) (g : Course) (link : Standing) (reason : ℕ) → 0 < n → reason < 256 → r.ended ≡ None → IsOrderly r → place_at n r ≡ at_end false n g → Holds n s r g → value_at n r.live ≡ Some (linked n link) →
     n ≤ r.given → CourseMoves false n g r s (closed_with n reason r) [] 0 (bye reason ∷ [])
-called_closes_by n s r unasked link reason some quiet orderly at h live le = let e = given_place n r le ∙ ap was_given live in cc
-called_closes_by n s r (asking c) link reason some quiet orderly at h live le = let e = given_place n r le ∙ ap was_given live in cc
-called_closes_by n s r (accepting c p) link reason some quiet orderly at h live le =
-    accepted_closes n c p s r reason some h quiet orderly le (is_given n r (Some (linked n p.right)) at).is
-called_closes_by n s r (withdrawing c p last) link reason some quiet orderly at h live le = let e = given_place n r le ∙ ap was_given live in cc
-called_closes_by n s r (met m) link reason some quiet orderly at h live le =
+called_closes_by n s r unasked link reason some small quiet orderly at h live le = let e = given_place n r le ∙ ap was_given live in cc
+called_closes_by n s r (asking c) link reason some small quiet orderly at h live le = let e = given_place n r le ∙ ap was_given live in cc
+called_closes_by n s r (accepting c p) link reason some small quiet orderly at h live le =
+    accepted_closes n c p s r reason some small h quiet orderly le (is_given n r (Some (linked n p.right)) at).is
+called_closes_by n s r (withdrawing c p last) link reason some small quiet orderly at h live le = let e = given_place n r le ∙ ap was_given live in cc
+called_closes_by n s r (met m) link reason some small quiet orderly at h live le =
     let place = is_given n r (here n (mirror m)) at in
     met_called n m r s (closed_with n reason r) [] (bye reason ∷ []) h le tt
-    (close_here n r (mirror m) link reason some quiet h.class_called orderly place.is (sym place.is ∙ live) (mirror_stands m h.stands))
+    (close_here n r (mirror m) link reason some (let most = orderly.given in omega arith) small quiet h.class_called orderly place.is (sym place.is ∙ live) (mirror_stands m h.stands))
 
 -- a live connection has a reference that was given, and its peer's number is that one
 above_zero : (n : ℕ) (s : State) (x : Connection) (b : Bool) → nat_lt 0 n ≡ b → IsOrderly s → value_at n s.live ≡ Some x → 0 < n
@@ -323,12 +323,12 @@ caller_sends s r going coming n link octets j live short are =
           (places_for (live_after (references r.live) going) mv.units mv.numbers);
     }
 
-pub caller_closes : (s r : State) (going coming : List Value) (n : ℕ) (link : Standing) (reason : ℕ) → AreJoined s r going coming → value_at n s.live ≡ Some (linked n link) →
+pub caller_closes : (s r : State) (going coming : List Value) (n : ℕ) (link : Standing) (reason : ℕ) → AreJoined s r going coming → value_at n s.live ≡ Some (linked n link) → reason < 256 →
     CallerDid n s r (closed_with n reason s) going coming coming (bye reason ∷ [])
-caller_closes s r going coming n link reason j live =
+caller_closes s r going coming n link reason j live small =
     let within = within_given n s (linked n link) j.orderly live in
     let st = j.stands n within.0 in
-    let mv = caller_closes_by n s r st.course link reason within.0 j.lasts j.orderly st.place st.holds live within.1 in
+    let mv = caller_closes_by n s r st.course link reason within.0 small j.lasts j.orderly st.place st.holds live within.1 in
     record {
       behind = going ++ mv.units;
       acts = acts_for true n 0 s r (closed_with n reason s) going coming coming [] (bye reason ∷ []) st refl tt mv;
@@ -348,12 +348,12 @@ called_sends s r going coming n link octets j live short are =
       joined = joined_called s r (sent n octets r) going coming going [] (message octets ∷ []) n 0 within.0 j refl tt (orderly_sent n octets r j.orderly_called) mv;
     }
 
-pub called_closes : (s r : State) (going coming : List Value) (n : ℕ) (link : Standing) (reason : ℕ) → AreJoined s r going coming → value_at n r.live ≡ Some (linked n link) →
+pub called_closes : (s r : State) (going coming : List Value) (n : ℕ) (link : Standing) (reason : ℕ) → AreJoined s r going coming → value_at n r.live ≡ Some (linked n link) → reason < 256 →
     CalledDid n s r (closed_with n reason r) going coming going (bye reason ∷ [])
-called_closes s r going coming n link reason j live =
+called_closes s r going coming n link reason j live small =
     let within = within_given n r (linked n link) j.orderly_called live in
     let st = j.stands n within.0 in
-    let mv = called_closes_by n s r st.course link reason within.0 j.lasts_called j.orderly_called st.place_there st.holds live within.1 in
+    let mv = called_closes_by n s r st.course link reason within.0 small j.lasts_called j.orderly_called st.place_there st.holds live within.1 in
     record {
       behind = coming ++ mv.units;
       acts = acts_for false n 0 r s (closed_with n reason r) coming going going [] (bye reason ∷ []) (stands_flip n s r going coming st) refl tt mv;

@@ -151,6 +151,7 @@ acts_for end n asked this other next going coming rest taken put s cut all mv =
       stays = c.stays;
       lost = c.lost;
       written = refl;
+      sendable = mv.sendable;
       outgoing = mv.acts.outgoing;
       told_events = mv.acts.events;
       told = c.told ∙ ap (λ (p : Place). flat_map (told_opening n p) c.arrived) (sym s.place);

@@ -20,6 +20,7 @@ pub mod Coming
 pub mod InFront
 pub mod Pieces
 pub mod ToldOpen
+pub mod Sendables
 pub mod Openings
 pub mod Courses
 pub mod CourseOpening

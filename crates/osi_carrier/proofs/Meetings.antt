@@ -19,6 +19,7 @@ use Rattle.osi_carrier.specs.State.{linked, State}
 use Rattle.osi_carrier.specs.Messages.{Message, message, bye, over}
 use Rattle.osi_carrier.proofs.MeetingMessages.{talking_takes, talking_sends, talking_closes, behind_takes, behind_sends, leaving_takes, behind_closes, left_ignores, both_ignores, waiting_ignores, both_takes, waiting_over, waiting_crossed}
 use Rattle.osi_carrier.proofs.Changes.{given_changes, given_ignored, leaving_changes, crossed_changes, over_changes, send_changes, close_changes}
+use Rattle.osi_carrier.proofs.Sendables.{all_sendable, range_end, leaving_sendable, over_sendable}
 use Rattle.osi_carrier.proofs.Turned.{left_takes, sends_passes}
 
 -- ---- from the other side
@@ -100,6 +101,7 @@ take_talking n s p g gs some few quiet class orderly at a e =
       events = map (tsdu n) (take 1 t.link.ends.joining.whole);
       changes = given_changes n s p.left t.link g quiet class orderly (first_two p g gs a e) at t.taken;
       all_for = addressed_for n (all_given (handed_out t.link)) (class_end p.rightward (all_given (handed_out t.link)) t.passes.stay_open.agree.agree.class);
+      sendable = all_sendable n (all_given (handed_out t.link)) few (range_end p.rightward (all_given (handed_out t.link)) t.passes.stay_open.range);
       there = refl;
       out = addressed_join n p.rightward (all_given (handed_out t.link));
       back = ap (addressed n) e;
@@ -120,6 +122,7 @@ take_behind n s p hs reason g gs some few quiet class orderly at a two e =
       events = map (tsdu n) (take 1 t.link.ends.joining.whole);
       changes = given_changes n s p.left t.link g quiet class orderly (first_two p g gs a e) at t.taken;
       all_for = addressed_for n (all_given (handed_out t.link)) (class_end p.rightward (all_given (handed_out t.link)) t.passes.stay_open.agree.agree.class);
+      sendable = all_sendable n (all_given (handed_out t.link)) few (range_end p.rightward (all_given (handed_out t.link)) t.passes.stay_open.range);
       there = refl;
       out = addressed_join n hs given;
       back = ap (λ (us : List Given). addressed n us ++ leaving n reason ∷ []) e;
@@ -137,6 +140,7 @@ take_leaving n s p hs reason some few quiet class orderly at two e = record {
   events = closed n reason ∷ [];
   changes = leaving_changes n s p.left reason quiet class orderly at;
   all_for = (refl, tt);
+  sendable = (over_sendable n few, tt);
   there = refl;
   out = refl;
   back = ap (λ (us : List Given). addressed n us ++ leaving n reason ∷ []) e;
@@ -186,6 +190,7 @@ take_here n s (left_here p (g ∷ gs) reason) unit rest some few quiet class ord
       events = [];
       changes = given_ignored n s g quiet class orderly h.1.0 at;
       all_for = tt;
+      sendable = tt;
       there = refl;
       out = sym (append-nil (out n (left_here p gs reason)));
       back = refl;
@@ -200,6 +205,7 @@ take_here n s (left_both hs reason [] other) unit rest some few quiet class orde
       events = [];
       changes = crossed_changes n s other quiet class orderly at;
       all_for = tt;
+      sendable = tt;
       there = refl;
       out = sym (append-nil (addressed n hs ++ leaving n reason ∷ []));
       back = refl;
@@ -214,6 +220,7 @@ take_here n s (left_both hs reason (g ∷ gs) other) unit rest some few quiet cl
       events = [];
       changes = given_ignored n s g quiet class orderly h.1.0 at;
       all_for = tt;
+      sendable = tt;
       there = refl;
       out = sym (append-nil (addressed n hs ++ leaving n reason ∷ []));
       back = refl;
@@ -228,6 +235,7 @@ take_here n s (waiting_here [] None) unit rest some few quiet class orderly at h
       events = [];
       changes = over_changes n s quiet class orderly at;
       all_for = tt;
+      sendable = tt;
       there = refl;
       out = refl;
       back = refl;
@@ -242,6 +250,7 @@ take_here n s (waiting_here [] (Some reason)) unit rest some few quiet class ord
       events = [];
       changes = crossed_changes n s reason quiet class orderly at;
       all_for = tt;
+      sendable = tt;
       there = refl;
       out = refl;
       back = refl;
@@ -256,6 +265,7 @@ take_here n s (waiting_here (g ∷ gs) last) unit rest some few quiet class orde
       events = [];
       changes = given_ignored n s g quiet class orderly h.0 at;
       all_for = tt;
+      sendable = tt;
       there = refl;
       out = refl;
       back = refl;
@@ -268,9 +278,9 @@ take_here n s parted unit rest some few quiet class orderly at h b = cc
 
 -- ---- calls here
 
-pub send_here : (n : ℕ) (s : State) (m : Meeting) (link : Standing) (octets : List ℕ) → s.ended ≡ None → IsOrderly s →
+pub send_here : (n : ℕ) (s : State) (m : Meeting) (link : Standing) (octets : List ℕ) → n < 65536 → s.ended ≡ None → IsOrderly s →
     value_at n s.live ≡ here n m → here n m ≡ Some (linked n link) → Stands m → IsShortTsdu octets → IsOctets octets → Moves n m s (sent n octets s) [] (message octets ∷ [])
-send_here n s (talking p) link octets quiet orderly at is h short are =
+send_here n s (talking p) link octets few quiet orderly at is h short are =
     let passes = sends_passes true p octets h short are in
     record {
       new = talking (after_send p octets);
@@ -278,6 +288,7 @@ send_here n s (talking p) link octets quiet orderly at is h short are =
       events = [];
       changes = send_changes n s p.left octets quiet orderly at;
       all_for = addressed_for n (all_given (with_tsdu p.left octets)) (class_end p.rightward (all_given (with_tsdu p.left octets)) passes.stay_open.agree.agree.class);
+      sendable = all_sendable n (all_given (with_tsdu p.left octets)) few (range_end p.rightward (all_given (with_tsdu p.left octets)) passes.stay_open.range);
       there = refl;
       out = addressed_join n p.rightward (all_given (with_tsdu p.left octets));
       back = refl;
@@ -285,7 +296,7 @@ send_here n s (talking p) link octets quiet orderly at is h short are =
       stands = passes.stay_open;
       carries = talking_sends n p octets h passes.rightward passes.leftward passes.stay_open;
     }
-send_here n s (left_there p hs reason) link octets quiet orderly at is h short are =
+send_here n s (left_there p hs reason) link octets few quiet orderly at is h short are =
     let passes = sends_passes true p octets h.0 short are in
     let given = all_given (with_tsdu p.left octets) in
     record {
@@ -294,6 +305,7 @@ send_here n s (left_there p hs reason) link octets quiet orderly at is h short a
       events = [];
       changes = send_changes n s p.left octets quiet orderly at;
       all_for = addressed_for n (all_given (with_tsdu p.left octets)) (class_end p.rightward (all_given (with_tsdu p.left octets)) passes.stay_open.agree.agree.class);
+      sendable = all_sendable n (all_given (with_tsdu p.left octets)) few (range_end p.rightward (all_given (with_tsdu p.left octets)) passes.stay_open.range);
       there = refl;
       out = addressed_join n hs given;
       back = refl;
@@ -301,20 +313,21 @@ send_here n s (left_there p hs reason) link octets quiet orderly at is h short a
       stands = (passes.stay_open, class_join hs given h.1 (class_end p.rightward given passes.stay_open.agree.agree.class));
       carries = behind_sends n p hs reason octets;
     }
-send_here n s (left_here p gs reason) link octets quiet orderly at is h short are = cc
-send_here n s (left_both hs reason gs other) link octets quiet orderly at is h short are = cc
-send_here n s (waiting_here gs last) link octets quiet orderly at is h short are = cc
-send_here n s (waiting_there gs last) link octets quiet orderly at is h short are = cc
-send_here n s parted link octets quiet orderly at is h short are = cc
+send_here n s (left_here p gs reason) link octets few quiet orderly at is h short are = cc
+send_here n s (left_both hs reason gs other) link octets few quiet orderly at is h short are = cc
+send_here n s (waiting_here gs last) link octets few quiet orderly at is h short are = cc
+send_here n s (waiting_there gs last) link octets few quiet orderly at is h short are = cc
+send_here n s parted link octets few quiet orderly at is h short are = cc
 
-pub close_here : (n : ℕ) (s : State) (m : Meeting) (link : Standing) (reason : ℕ) → 0 < n → s.ended ≡ None → s.class ≡ Some Two → IsOrderly s →
+pub close_here : (n : ℕ) (s : State) (m : Meeting) (link : Standing) (reason : ℕ) → 0 < n → n < 65536 → reason < 256 → s.ended ≡ None → s.class ≡ Some Two → IsOrderly s →
     value_at n s.live ≡ here n m → here n m ≡ Some (linked n link) → Stands m → Moves n m s (closed_with n reason s) [] (bye reason ∷ [])
-close_here n s (talking p) link reason some quiet class orderly at is h = record {
+close_here n s (talking p) link reason some few small quiet class orderly at is h = record {
   new = left_here p p.leftward reason;
   units = leaving n reason ∷ [];
   events = [];
   changes = close_changes n s p.left reason quiet class orderly at;
   all_for = (refl, tt);
+  sendable = (leaving_sendable n reason few small, tt);
   there = refl;
   out = refl;
   back = refl;
@@ -322,12 +335,13 @@ close_here n s (talking p) link reason some quiet class orderly at is h = record
   stands = (h, h.agree.agree_back.class);
   carries = talking_closes n p reason some;
 }
-close_here n s (left_there p hs other) link reason some quiet class orderly at is h = record {
+close_here n s (left_there p hs other) link reason some few small quiet class orderly at is h = record {
   new = left_both hs reason p.leftward other;
   units = leaving n reason ∷ [];
   events = [];
   changes = close_changes n s p.left reason quiet class orderly at;
   all_for = (refl, tt);
+  sendable = (leaving_sendable n reason few small, tt);
   there = refl;
   out = refl;
   back = refl;
@@ -335,8 +349,8 @@ close_here n s (left_there p hs other) link reason some quiet class orderly at i
   stands = (h.1, h.0.agree.agree_back.class);
   carries = behind_closes n p hs reason other some;
 }
-close_here n s (left_here p gs other) link reason some quiet class orderly at is h = cc
-close_here n s (left_both hs own gs other) link reason some quiet class orderly at is h = cc
-close_here n s (waiting_here gs last) link reason some quiet class orderly at is h = cc
-close_here n s (waiting_there gs last) link reason some quiet class orderly at is h = cc
-close_here n s parted link reason some quiet class orderly at is h = cc
+close_here n s (left_here p gs other) link reason some few small quiet class orderly at is h = cc
+close_here n s (left_both hs own gs other) link reason some few small quiet class orderly at is h = cc
+close_here n s (waiting_here gs last) link reason some few small quiet class orderly at is h = cc
+close_here n s (waiting_there gs last) link reason some few small quiet class orderly at is h = cc
+close_here n s parted link reason some few small quiet class orderly at is h = cc

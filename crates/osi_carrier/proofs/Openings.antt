@@ -1,9 +1,11 @@
 -- Two links of class 2 as a CR and its CC open them.
-use Rattle.std.proofs.Common.{◌≡◌, ℕ, ◌^◌, ◌≤◌, true, List, [], min, Option, Some, refl, sym, subst, inl, arith}
+use Rattle.std.proofs.Common.{◌≡◌, ℕ, ◌<◌, Bool, false, ◌^◌, ◌≤◌, true, List, [], ◌∷◌, length, IfSome, min, Option, Some, refl, sym, subst, inl, arith}
 use Rattle.std.specs.List.{AllByRecursion}
 use Rattle.std.proofs.Math.Nat.{pow-le-pow_right}
+use Rattle.osi_tpkt.specs.Octets.{IsOctets}
+use Rattle.osi_tpdu.specs.Laws.Steps.{IsOctets-cons}
 use Rattle.osi_tpdu.specs.Limits.{size_code, window_units}
-use Rattle.osi_tpdu.specs.Value.{Connect}
+use Rattle.osi_tpdu.specs.Value.{Connect, IsConnect, request, confirm}
 use Rattle.osi_class.specs.Between.{opened_pair, under_way, IsShortTsdu}
 use Rattle.osi_class.specs.Link.{Standing, two_standing, fresh_two}
 use Rattle.osi_class.specs.Negotiation.{accept, selected_by, selected_size}
@@ -13,8 +15,10 @@ use Rattle.osi_class.specs.declared.terms.Local.{Local}
 use Rattle.osi_class.proofs.Flows.{agree_begins}
 use Rattle.osi_class.proofs.Nothing as nothing
 use Rattle.osi_class.proofs.Ways.{begins}
-use Rattle.osi_carrier.specs.Course.{answer_of}
-use Rattle.osi_carrier.specs.Negotiation.{proposal_by, confirmed, agreed_size, opened_link}
+use Rattle.osi_carrier.specs.Coming.{IsSendable}
+use Rattle.osi_carrier.specs.Course.{answer_of, IsTsap}
+use Rattle.osi_carrier.specs.Negotiation.{proposal_by, proposes_zero, alternatives, confirmed, agreed_size, opened_link}
+use Rattle.osi_carrier.proofs.Sendables.{request_sendable, confirm_sendable}
 use Rattle.osi_carrier.specs.OpenLinks.{AreOpen, IsSettled}
 
 -- ---- links
@@ -103,3 +107,66 @@ opens_links caller called class calling to n =
     let q = called.window.at_most in
     new_open (min (min (size_code caller.size) (size_code called.size)) (size_code caller.size)) (min (size_code caller.size) (size_code called.size))
     (window_units caller.window) (window_units called.window) (omega arith) (omega arith) (omega arith) (omega arith) a p b q
+
+-- ---- they can be written
+
+no_octets : IsOctets []
+no_octets i = omega arith
+
+alternatives_fit : (b : Bool) → IfSome (alternatives b) (λ s. length s ≤ 1)
+alternatives_fit true = omega arith
+alternatives_fit false = tt
+
+alternatives_octets : (b : Bool) → IfSome (alternatives b) IsOctets
+alternatives_octets true = IsOctets-cons 0 [] (omega arith) no_octets
+alternatives_octets false = tt
+
+asked_connect : (caller : Local) (class : Option Class) (calling called : Option (List ℕ)) (n : ℕ) → n < 65536 → IsTsap calling → IsTsap called → IsConnect (request_of caller class calling called n)
+asked_connect caller class calling called n few fits fits_called =
+    let w = caller.window.at_most in
+    record {
+      credit = omega arith;
+      source = few;
+      class = omega arith;
+      options = omega arith;
+      parameters = record {
+        size = (caller.size.at_least, caller.size.at_most);
+        calling = fits;
+        called = fits_called;
+        additional = omega arith;
+        alternative = alternatives_octets (proposes_zero caller class);
+      };
+      user = no_octets;
+    }
+
+pub asked_sendable : (caller : Local) (class : Option Class) (calling called : Option (List ℕ)) (n : ℕ) → n < 65536 → IsTsap calling → IsTsap called →
+    IsSendable (request (request_of caller class calling called n))
+asked_sendable caller class calling called n few fits fits_called =
+    request_sendable (request_of caller class calling called n) (asked_connect caller class calling called n few fits fits_called) (alternatives_fit (proposes_zero caller class)) refl
+
+answer_connect : (caller local : Local) (class : Option Class) (calling called : Option (List ℕ)) (n : ℕ) → n < 65536 → IsTsap calling → IsTsap called →
+    IsConnect (answer_of n local (request_of caller class calling called n))
+answer_connect caller local class calling called n few fits fits_called =
+    let w = local.window.at_most in
+    let x = caller.size.at_least in
+    let y = local.size.at_least in
+    let v = caller.size.at_most in
+    record {
+      credit = omega arith;
+      source = few;
+      class = omega arith;
+      options = omega arith;
+      parameters = record {
+        size = (omega arith, omega arith);
+        calling = fits;
+        called = fits_called;
+        additional = omega arith;
+        alternative = tt;
+      };
+      user = no_octets;
+    }
+
+pub answer_sendable : (caller local : Local) (class : Option Class) (calling called : Option (List ℕ)) (n : ℕ) → n < 65536 → IsTsap calling → IsTsap called →
+    IsSendable (confirm n (answer_of n local (request_of caller class calling called n)))
+answer_sendable caller local class calling called n few fits fits_called =
+    confirm_sendable n (answer_of n local (request_of caller class calling called n)) few (answer_connect caller local class calling called n few fits fits_called) tt refl

@@ -1,7 +1,8 @@
 -- How one connection of class 2 stands at a caller's and a called end's carrier, from before it is
 -- asked for until it is gone at both, and which units are under way for it.
-use Rattle.std.specs.Prelude.{◌≡◌, ◌≢◌, ℕ, ◌+◌, Bool, true, false, not, List, [], ◌∷◌, ◌++◌, Option, Some, None, nat_lt, if◌then◌else◌, ◌⊎◌}
-use Rattle.std.specs.List.{flat_map}
+use Rattle.std.specs.Prelude.{◌≡◌, ◌≢◌, ℕ, ◌+◌, Bool, true, false, not, List, [], ◌∷◌, ◌++◌, Option, Some, None, nat_lt, if◌then◌else◌, ◌⊎◌, ◌≤◌, length, IfSome}
+use Rattle.std.specs.List.{flat_map, AllByRecursion}
+use Rattle.osi_tpkt.specs.Octets.{IsOctets}
 use Rattle.osi_tpdu.specs.Value.{Value, Connect, request, confirm}
 use Rattle.osi_class.specs.Between.{LinkPair}
 use Rattle.osi_class.specs.Negotiation.{selected_size}
@@ -9,6 +10,7 @@ use Rattle.osi_class.specs.declared.terms.Class.{Class}
 use Rattle.osi_class.specs.declared.terms.Class.TheVariants.{Two}
 use Rattle.osi_class.specs.declared.terms.Local.{Local}
 use Rattle.osi_carrier.specs.Addresses.{AreFor, live_after, references, requests, behind}
+use Rattle.osi_carrier.specs.Coming.{IsSendable}
 use Rattle.osi_carrier.specs.Happenings.{Happening, opened}
 use Rattle.osi_carrier.specs.Meeting.{Meeting, mirror, here, addressed, leaving, told_at, answers_of, Stands}
 use Rattle.osi_carrier.specs.Meeting as meeting
@@ -75,12 +77,18 @@ from_end false n called (met m) = meeting.out n (mirror m)
 abbrev pub MayTakeTwo : Option Class → Type 0
 MayTakeTwo class = (class ≡ None) ⊎ (class ≡ Some Two)
 
+-- a transport selector, if any: at most 32 octets
+abbrev pub IsTsap : Option (List ℕ) → Type 0
+IsTsap selector = IfSome selector (λ s. (length s ≤ 32) × IsOctets s)
+
 -- a CR that the caller wrote
 pub record IsAskedBy (n : ℕ) (caller : Local) (c : Connect) : Type 0 where
   pub class : Option Class
   pub calling : Option (List ℕ)
   pub called : Option (List ℕ)
   pub is : c ≡ proposal_by true caller class calling called n
+  pub calling_fits : IsTsap calling
+  pub called_fits : IsTsap called
 
 -- open at the called end: the caller's link is the one that the CC opens
 pub record IsAccepted (n : ℕ) (caller called : State) (c : Connect) (p : LinkPair) : Type 0 where
@@ -186,6 +194,7 @@ pub record CourseMoves (end : Bool) (n : ℕ) (old : Course) (this other next : 
   pub units : List Value
   pub events : List Happening
   pub acts : Acts n this next units events
+  pub sendable : AllByRecursion IsSendable units
   pub place : place_at n next ≡ at_end end n new
   pub there : at_end (not end) n new ≡ at_end (not end) n old
   pub out : from_end end n (called_local end this other) new ≡ from_end end n (called_local end this other) old ++ units

@@ -4,6 +4,7 @@ use Rattle.std.specs.List.{flat_map, AllByRecursion}
 use Rattle.osi_tpdu.specs.Value.{Value, request, confirm, disconnect, disconnected, data0, data2, acknowledge, error}
 use Rattle.osi_class.specs.Link.{Standing}
 use Rattle.osi_carrier.specs.Addresses.{reference_of, units_of, live_behind, references, requests, behind}
+use Rattle.osi_carrier.specs.Coming.{IsSendable}
 use Rattle.osi_carrier.specs.Course.{place_at, connection_in, Course, at_end, from_end, MayTakeTwo, HoldsAt, called_local, told_opening}
 use Rattle.osi_carrier.specs.Happenings.{Happening}
 use Rattle.osi_carrier.specs.Messages.{Message, messages_to, AreLike}
@@ -70,6 +71,7 @@ pub record ActsFor (n : ℕ) (this other next : State) (going coming behind rest
   pub stays : List Message
   pub lost : List Message
   pub written : behind ≡ going ++ units
+  pub sendable : AllByRecursion IsSendable units
   pub outgoing : next.outgoing ≡ this.outgoing ++ packets units
   pub told_events : next.events ≡ this.events ++ events
   pub told : events ≡ flat_map (told_opening n (place_at n this)) arrived

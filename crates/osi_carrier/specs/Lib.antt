@@ -14,6 +14,7 @@ pub mod Fetching
 pub mod Orderly
 pub mod OpenLinks
 pub mod Messages
+pub mod Coming
 pub mod Addresses
 pub mod Meeting
 pub mod Coming

@@ -1,12 +1,13 @@
 -- How one connection of class 2 stands at two carriers since both have had it open, and which units
 -- are under way for it. Both gave it the same reference. `here` is one of the two, `there` the other.
 use Rattle.std.specs.Prelude.{◌≡◌, ◌≢◌, ℕ, ◌<◌, Bool, true, false, List, [], ◌∷◌, ◌++◌, map, Option, Some, None, is_none, if◌then◌else◌}
-use Rattle.std.specs.List.{flat_map, list_any}
+use Rattle.std.specs.List.{flat_map, list_any, AllByRecursion}
 use Rattle.osi_tpdu.specs.Value.{Value, request, confirm, disconnect, disconnected, data0, data2, acknowledge, error}
 use Rattle.osi_class.specs.Between.{LinkPair, swapped, AreOfClass}
 use Rattle.osi_class.specs.Link.{Given, unit_of}
 use Rattle.osi_class.specs.declared.terms.Class.TheVariants.{Two}
 use Rattle.osi_carrier.specs.Addresses.{AreFor, is_last}
+use Rattle.osi_carrier.specs.Coming.{IsSendable}
 use Rattle.osi_carrier.specs.Happenings.{Happening, tsdu, closed}
 use Rattle.osi_carrier.specs.Messages.{Message, ask, agree, deny, message, bye, over, messages_to, AreLike}
 use Rattle.osi_carrier.specs.OpenLinks.{AreOpen}
@@ -181,6 +182,7 @@ pub record Moves (n : ℕ) (old : Meeting) (s t : State) (taken : List Value) (p
   pub events : List Happening
   pub changes : Changes n s t (here n new) units events
   pub all_for : AreFor n units
+  pub sendable : AllByRecursion IsSendable units
   pub there : there n new ≡ there n old
   pub out : out n new ≡ out n old ++ units
   pub back : back n old ≡ taken ++ back n new

@@ -1,7 +1,7 @@
 //! Laws of two carriers and the units between them. Each function does nothing: its clauses are the
 //! laws.
 
-ghost use Rattle.std.specs.Prelude.{◌≡◌, ◌≤◌, ◌++◌, ◌+◌, ℕ, true, false, List, [], ◌∷◌, Option, Some, None, length, take};
+ghost use Rattle.std.specs.Prelude.{◌≡◌, ◌<◌, ◌≤◌, ◌++◌, ◌+◌, ℕ, true, false, List, [], ◌∷◌, Option, Some, None, length, take};
 ghost use Rattle.std.specs.List.{AllByRecursion};
 ghost use Rattle.osi_tpkt.specs.declared.cutting.Fed.{Fed};
 ghost use Rattle.osi_tpkt.specs.Octets.{IsOctets};
@@ -12,7 +12,7 @@ ghost use Rattle.osi_class.specs.declared.terms.Local.{Local};
 ghost use Rattle.osi_carrier.specs.Addresses.{reference_of};
 ghost use Rattle.osi_carrier.specs.Calls.{fresh_state, may_connect, asks, sent, closed_with};
 ghost use Rattle.osi_carrier.specs.Coming.{IsSendable, AreComing, TakesSome};
-ghost use Rattle.osi_carrier.specs.Course.{place_at, answers_at};
+ghost use Rattle.osi_carrier.specs.Course.{place_at, answers_at, IsTsap};
 ghost use Rattle.osi_carrier.specs.Joined.{AreJoined, CallerDid, CalledDid, IsEmpty, under_way_for};
 ghost use Rattle.osi_carrier.specs.Meeting.{Meeting, mirror, here, there, out, back, Stands, IsAt, answers_of, Moves};
 ghost use Rattle.osi_carrier.specs.Messages.{ask, message, bye};
@@ -32,7 +32,7 @@ pub fn what_a_connection_carries()
         Moves n m s (react unit s) (unit ∷ []) (answers_of (here n m) unit) }
     ensures sent { (n : ℕ) (s : State) (m : Meeting) (link : Standing) (tsdu : List ℕ) → IsAt n s m → here n m ≡ Some (linked n link) → IsShortTsdu tsdu → IsOctets tsdu →
         Moves n m s (sent n tsdu s) [] (message tsdu ∷ []) }
-    ensures closed { (n : ℕ) (s : State) (m : Meeting) (link : Standing) (reason : ℕ) → IsAt n s m → here n m ≡ Some (linked n link) →
+    ensures closed { (n : ℕ) (s : State) (m : Meeting) (link : Standing) (reason : ℕ) → IsAt n s m → here n m ≡ Some (linked n link) → reason < 256 →
         Moves n m s (closed_with n reason s) [] (bye reason ∷ []) }
     ensures mirrored { (m : Meeting) → Stands m → Stands (mirror m) }
     ensures twice { (m : Meeting) → mirror (mirror m) ≡ m }
@@ -67,18 +67,19 @@ pub fn two_carriers_stay_joined()
         going ≡ unit ∷ rest →
         CalledDid (reference_of unit) caller called (react unit called) going coming rest (answers_at (place_at (reference_of unit) called) unit) }
     ensures caller_asks { (caller called : State) (going coming : List Value) (calling to : Option (List ℕ)) → AreJoined caller called going coming →
-        may_connect caller ≡ None → CallerDid (caller.given + 1) caller called (asks calling to caller) going coming coming (ask ∷ []) }
+        may_connect caller ≡ None → IsTsap calling → IsTsap to →
+        CallerDid (caller.given + 1) caller called (asks calling to caller) going coming coming (ask ∷ []) }
     ensures caller_sends { (caller called : State) (going coming : List Value) (n : ℕ) (link : Standing) (tsdu : List ℕ) →
         AreJoined caller called going coming → value_at n caller.live ≡ Some (linked n link) → IsShortTsdu tsdu → IsOctets tsdu →
         CallerDid n caller called (sent n tsdu caller) going coming coming (message tsdu ∷ []) }
     ensures caller_closes { (caller called : State) (going coming : List Value) (n : ℕ) (link : Standing) (reason : ℕ) →
-        AreJoined caller called going coming → value_at n caller.live ≡ Some (linked n link) →
+        AreJoined caller called going coming → value_at n caller.live ≡ Some (linked n link) → reason < 256 →
         CallerDid n caller called (closed_with n reason caller) going coming coming (bye reason ∷ []) }
     ensures called_sends { (caller called : State) (going coming : List Value) (n : ℕ) (link : Standing) (tsdu : List ℕ) →
         AreJoined caller called going coming → value_at n called.live ≡ Some (linked n link) → IsShortTsdu tsdu → IsOctets tsdu →
         CalledDid n caller called (sent n tsdu called) going coming going (message tsdu ∷ []) }
     ensures called_closes { (caller called : State) (going coming : List Value) (n : ℕ) (link : Standing) (reason : ℕ) →
-        AreJoined caller called going coming → value_at n called.live ≡ Some (linked n link) →
+        AreJoined caller called going coming → value_at n called.live ≡ Some (linked n link) → reason < 256 →
         CalledDid n caller called (closed_with n reason called) going coming going (bye reason ∷ []) }
     ensures empty { (caller called : State) (n : ℕ) (here there : Standing) → AreJoined caller called [] [] →
         value_at n caller.live ≡ Some (linked n here) → value_at n called.live ≡ Some (linked n there) → IsEmpty here there }
