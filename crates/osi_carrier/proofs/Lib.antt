@@ -30,3 +30,4 @@ pub mod JoinedMoves
 pub mod JoinedAsks
 pub mod JoinedCalls
 pub mod Lasting
+pub mod Linked

@@ -22,3 +22,4 @@ pub mod Runs
 pub mod Told
 pub mod Course
 pub mod Joined
+pub mod Linked

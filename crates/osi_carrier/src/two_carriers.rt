@@ -14,8 +14,10 @@ ghost use Rattle.osi_carrier.specs.Calls.{fresh_state, may_connect, asks, sent, 
 ghost use Rattle.osi_carrier.specs.Coming.{IsSendable, AreComing, TakesSome};
 ghost use Rattle.osi_carrier.specs.Course.{place_at, answers_at, IsTsap};
 ghost use Rattle.osi_carrier.specs.Joined.{AreJoined, CallerDid, CalledDid, IsEmpty, under_way_for};
+ghost use Rattle.osi_carrier.specs.Happenings.{Happening};
+ghost use Rattle.osi_carrier.specs.Linked.{AreLinked, CalledFed, CallerFed, with_state, with_events};
 ghost use Rattle.osi_carrier.specs.Meeting.{Meeting, mirror, here, there, out, back, Stands, IsAt, answers_of, Moves};
-ghost use Rattle.osi_carrier.specs.Messages.{ask, message, bye};
+ghost use Rattle.osi_carrier.specs.Messages.{Message, ask, message, bye};
 ghost use Rattle.osi_carrier.specs.Packets.{Carrying, Feeds};
 ghost use Rattle.osi_carrier.specs.React.{react};
 ghost use Rattle.osi_carrier.specs.Rows.{value_at};
@@ -86,4 +88,27 @@ pub fn two_carriers_stay_joined()
     ensures nothing_under_way { (caller called : State) (n : ℕ) (here there : Standing) → AreJoined caller called [] [] →
         value_at n caller.live ≡ Some (linked n here) → value_at n called.live ≡ Some (linked n there) →
         (under_way_for n caller called [] ≡ []) × (under_way_for n called caller [] ≡ []) }
+{}
+
+/// Two carriers that both support class 2, with the octets between them: new ones are linked, and stay
+/// so however many of the octets that one has to hand over are fed to the other, wherever they are
+/// cut, unless that one finds no memory; in each call of [`two_carriers_stay_joined`], and where an
+/// event is told. What each feeding does is to take units, one after the other.
+pub fn two_carriers_stay_linked()
+    ensures begins { (caller called : Carrying) (a b : Local) → a.class2 ≡ true → b.class2 ≡ true → caller.state ≡ fresh_state true a →
+        called.state ≡ fresh_state false b → caller.held.octets ≡ [] → called.held.octets ≡ [] → AreLinked caller called [] [] }
+    ensures called_fed { (caller called next : Carrying) (going coming : List Value) (k : ℕ) (fed : Fed) → AreLinked caller called going coming →
+        k ≤ length caller.state.outgoing → Feeds called (take k caller.state.outgoing) fed next → CalledFed caller called next going coming fed.used }
+    ensures caller_fed { (caller called next : Carrying) (going coming : List Value) (k : ℕ) (fed : Fed) → AreLinked caller called going coming →
+        k ≤ length called.state.outgoing → Feeds caller (take k called.state.outgoing) fed next → CallerFed caller called next going coming fed.used }
+    ensures caller_calls { (caller called : Carrying) (next : State) (n : ℕ) (going coming : List Value) (put : List Message) →
+        AreLinked caller called going coming → (did : CallerDid n caller.state called.state next going coming coming put) →
+        AreLinked (with_state next caller) called did.behind coming }
+    ensures called_calls { (caller called : Carrying) (next : State) (n : ℕ) (going coming : List Value) (put : List Message) →
+        AreLinked caller called going coming → (did : CalledDid n caller.state called.state next going coming going put) →
+        AreLinked caller (with_state next called) going did.behind }
+    ensures caller_tells { (caller called : Carrying) (events : List Happening) (going coming : List Value) → AreLinked caller called going coming →
+        AreLinked (with_events events caller) called going coming }
+    ensures called_tells { (caller called : Carrying) (events : List Happening) (going coming : List Value) → AreLinked caller called going coming →
+        AreLinked caller (with_events events called) going coming }
 {}
