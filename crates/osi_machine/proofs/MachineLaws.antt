@@ -1,7 +1,7 @@
 -- What the records of both sides tell after every list of steps of the machine.
 use Rattle.std.proofs.Common.{◌≡◌, refl, sym, ◌∙◌, ap, subst, ℕ, zero, suc, ◌+◌, ◌<◌, Bool, true, false, not, ◌&&◌, ◌||◌, List, [], ◌∷◌, ◌++◌, Option, Some, None, inl, inr, arith}
 use Rattle.std.specs.List.{slice_get}
-use Rattle.osi_machine.specs.Floor.{has, is_over}
+use Rattle.osi_machine.specs.Floor.{has, is_over, FunctionalUnits}
 use Rattle.osi_machine.specs.Histories.{Item, Point, Begins, Agree}
 use Rattle.osi_machine.specs.Owners.{turned_owner, is_own}
 use Rattle.osi_machine.specs.Core.{Offer, Left, Right, Core, turned as turned_core}
@@ -9,12 +9,13 @@ use Rattle.osi_machine.specs.Parties.{is_opening}
 use Rattle.osi_machine.specs.Worlds.{World, Kept, turned, session_of}
 use Rattle.osi_machine.specs.Machine.{Machine, Entry, connection_at}
 use Rattle.osi_machine.specs.Views.{Told, told_of}
-use Rattle.osi_machine.specs.Runs.{IsRun, OfEach, HasOneHolder, ShowNoFault, RecordsAgree, ConfirmedThere, ConfirmedInBoth}
+use Rattle.osi_machine.specs.Runs.{IsRun, OfEach, HasOneHolder, ShowNoFault, RecordsAgree, ShownAsAsked, ConfirmedThere, ConfirmedInBoth}
 use Rattle.osi_machine.proofs.CoreLaws.{SessionLaws}
 use Rattle.osi_machine.proofs.Records.{Stands}
 use Rattle.osi_machine.proofs.Tokens.{has_set}
 use Rattle.osi_machine.proofs.Alive.{alive}
-use Rattle.osi_machine.proofs.Promises.{one_owner, views_agree, confirmed_is_seen, none_in_nil}
+use Rattle.osi_machine.proofs.Begun.{flush_open}
+use Rattle.osi_machine.proofs.Promises.{one_owner, views_agree, got_what_was_said, confirmed_is_seen, none_in_nil}
 use Rattle.osi_machine.proofs.ViewFold.{Tells}
 use Rattle.osi_machine.proofs.Dispatch.{turned_stands}
 use Rattle.osi_machine.proofs.Lines.{Lines}
@@ -68,7 +69,7 @@ show_no_fault b w s t (inr (inr h)) = (h.own.fine, h.peer.fine)
 -- ---- the views
 
 -- a record without duplex tells what its side has seen
-told_view : (t : Told) (c : Core) → Stands c → Tells t c.own.session c.own.view → t.duplex ≡ false → t.view ≡ c.own.view
+told_view : (t : Told) (c : Core) → Stands c → Tells t c.own.session c.own.view c.own.said c.own.got → t.duplex ≡ false → t.view ≡ c.own.view
 told_view t c s h d = by (is_opening c.own.session.phase) refl
   where
     lives : is_over c.own.session.phase ≡ false
@@ -81,7 +82,7 @@ told_view t c s h d = by (is_opening c.own.session.phase) refl
     by true e = h.fresh e ∙ sym (s.consistent.own.fresh e).view
     by false e = h.view (sym (h.duplex (begun (is_opening c.own.session.phase) (is_over c.own.session.phase) e lives)) ∙ d)
 
-turned_view : (t : Told) (c : Core) → Stands (turned_core c) → Tells t c.peer.session c.peer.view → t.duplex ≡ false → t.view ≡ c.peer.view
+turned_view : (t : Told) (c : Core) → Stands (turned_core c) → Tells t c.peer.session c.peer.view c.peer.said c.peer.got → t.duplex ≡ false → t.view ≡ c.peer.view
 turned_view t c s h d = told_view t (turned_core c) s h d
 
 nil_agree : {A : Type 0} → (xs ys : List A) → xs ≡ [] → Agree xs ys
@@ -93,6 +94,48 @@ records_agree b w s t (inr (inl h)) d e = nil_agree s.view t.view (ap (λ (x : T
 records_agree b w s t (inr (inr h)) d e =
     subst (λ (v : List Item). Agree v t.view) (sym (told_view s h.core h.stands h.own d))
     (subst (Agree h.core.own.view) (sym (turned_view t h.core (turned_stands h.core h.stands) h.peer e)) (views_agree h.core h.stands))
+
+-- ---- with duplex
+
+begins_nil : {A : Type 0} → (xs ys : List A) → xs ≡ [] → Begins xs ys
+begins_nil xs ys e = subst (λ r. Begins r ys) (sym e) (ys, refl)
+
+-- what one side is shown
+shown_there : (s t : Told) (c : Core) → Stands c → Tells s c.own.session c.own.view c.own.said c.own.got → Tells t c.peer.session c.peer.view c.peer.said c.peer.got
+    → s.duplex ≡ true → Begins s.indicated t.requested
+shown_there s t c k h j d = by (is_opening c.own.session.phase) refl
+  where
+    begun : (a e : Bool) → a ≡ false → e ≡ false → not (a || e) ≡ true
+    begun a e p q = rw (p, q) refl
+
+    own_duplex : is_opening c.own.session.phase ≡ false → c.own.session.units.duplex ≡ true
+    own_duplex e = sym (h.duplex (begun (is_opening c.own.session.phase) (is_over c.own.session.phase) e (alive c.owner c.own c.peer k.own))) ∙ d
+
+    asked : is_opening c.own.session.phase ≡ false → (b : Bool) → is_opening c.peer.session.phase ≡ b → t.requested ≡ c.peer.said
+    asked e true f = (j.silent f).0 ∙ sym (k.consistent.peer.fresh f).said
+    asked e false f =
+        let units = sym (flush_open c.peer.session c.own.sent f k.peer.fits).units ∙ sym k.own.meeting.units ∙ (flush_open c.own.session c.peer.sent e k.own.fits).units in
+        j.said (ap (λ (u : FunctionalUnits). u.duplex) units ∙ own_duplex e)
+
+    by : (b : Bool) → is_opening c.own.session.phase ≡ b → Begins s.indicated t.requested
+    by true e = begins_nil s.indicated t.requested (h.silent e).1
+    by false e =
+        subst (λ (x : List (List ℕ)). Begins x t.requested) (sym (h.got (own_duplex e)))
+        (subst (Begins c.own.got) (sym (asked e (is_opening c.peer.session.phase) refl)) (got_what_was_said c k (own_duplex e)))
+
+pub shown_as_asked : (b : Bool) (w : World) (s t : Told) → Stage b w s t → ShownAsAsked w s t
+shown_as_asked b w s t (inl h) = (
+  λ d. begins_nil s.indicated t.requested (ap (λ (x : Told). x.indicated) h.own_told),
+  λ d. begins_nil t.indicated s.requested (ap (λ (x : Told). x.indicated) h.peer_told),
+)
+shown_as_asked b w s t (inr (inl h)) = (
+  λ d. begins_nil s.indicated t.requested (ap (λ (x : Told). x.indicated) h.peer_told),
+  λ d. begins_nil t.indicated s.requested (ap (λ (x : Told). x.indicated) h.own_told),
+)
+shown_as_asked b w s t (inr (inr h)) = (
+  λ d. shown_there s t h.core h.stands h.own h.peer d,
+  λ d. shown_there t s (turned_core h.core) (turned_stands h.core h.stands) h.peer h.own d,
+)
 
 -- ---- what is confirmed
 
@@ -125,6 +168,9 @@ no_faults laws m h r w e = show_no_fault m.broken w (told_of Left r w.offer m.jo
 
 pub agreements : SessionLaws → (m : Machine) → IsRun m → OfEach RecordsAgree m
 agreements laws m h r w e = records_agree m.broken w (told_of Left r w.offer m.journal) (told_of Right r w.offer m.journal) (stage_at laws m h r w e)
+
+pub duplex_agreements : SessionLaws → (m : Machine) → IsRun m → OfEach ShownAsAsked m
+duplex_agreements laws m h r w e = shown_as_asked m.broken w (told_of Left r w.offer m.journal) (told_of Right r w.offer m.journal) (stage_at laws m h r w e)
 
 pub confirmations : SessionLaws → (m : Machine) → IsRun m → OfEach ConfirmedInBoth m
 confirmations laws m h r w e =

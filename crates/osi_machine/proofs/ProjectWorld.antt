@@ -31,8 +31,8 @@ pub record Repeats (broken : Bool) (w : World) (t u : Told) : Type 0 where
   pub core : Core
   pub stands : Stands core
   pub projects : Projects broken w core
-  pub own : Tells t core.own.session core.own.view
-  pub peer : Tells u core.peer.session core.peer.view
+  pub own : Tells t core.own.session core.own.view core.own.said core.own.got
+  pub peer : Tells u core.peer.session core.peer.view core.peer.said core.peer.got
 
 -- the same, as the other side sees it
 pub turned_repeats : (broken : Bool) (w : World) (t u : Told) → Repeats broken w t u → Repeats broken (turned_world w) u t
@@ -81,7 +81,7 @@ core_answer laws broken w t u x small h l false q (Ok g) e = record {
   core = h.core;
   stands = h.stands;
   projects = stop_projects broken w h.core x g q l h.projects e;
-  own = subst (λ (d : Told). Tells d h.core.own.session h.core.own.view) (sym (stop_told t x q)) h.own;
+  own = subst (λ (d : Told). Tells d h.core.own.session h.core.own.view h.core.own.said h.core.own.got) (sym (stop_told t x q)) h.own;
   peer = h.peer;
 }
 
@@ -174,7 +174,7 @@ take_last broken w t u m ms h l =
         core = h.core;
         stands = h.stands;
         projects = p.1;
-        own = subst (λ (d : Told). Tells d h.core.own.session h.core.own.view)
+        own = subst (λ (d : Told). Tells d h.core.own.session h.core.own.view h.core.own.said h.core.own.got)
             (sym (ap (λ (o : Outcome). told_all t o.shown) (last_good h.core m h.stands l.none l.last) ∙ last_told t h.core.own.session h.core.peer.session m l.last)) h.own;
         peer = h.peer;
       };
@@ -216,7 +216,7 @@ take_over broken w t u m ms h o e = record {
     core = h.core;
     stands = h.stands;
     projects = over_projects broken w h.core m ms h.projects o e;
-    own = subst (λ (i : List Shown). Tells (told_all t i) h.core.own.session h.core.own.view) (sym (over_silent (session_of w) m o)) h.own;
+    own = subst (λ (i : List Shown). Tells (told_all t i) h.core.own.session h.core.own.view h.core.own.said h.core.own.got) (sym (over_silent (session_of w) m o)) h.own;
     peer = h.peer;
   };
   over_now = λ k. (over_next (session_of w) m o, parting_over broken w h.core (unit m) ms h.projects e (by (is_plain m) refl k));

@@ -3,9 +3,9 @@ use Rattle.std.proofs.Common.{◌≡◌, refl, sym, ◌∙◌, ap, ℕ, ◌+◌,
 use Rattle.osi_session.specs.Shown.{Shown}
 use Rattle.osi_machine.specs.Floor.{State, FunctionalUnits, Call, Accept, Refuse, Data, Give, Please, Minor, MinorConfirm, Major, MajorConfirm, Restart, RestartConfirm, Release, ReleaseAccept, ReleaseRefuse, Abort, Meaning, CN, AC, RF, DT, GT, PT, MIP, MIA, MAP, MAA, RS, RA, FN, DN, NF, AB, AA, Phase, is_over, is_wait_cn, is_connecting, is_answering, is_ready, is_major_asked, is_major_due, is_releasing, is_release_due, is_restarting, is_restart_due, may_restart, takes_restart, takes_data, stands, is_acceptable, becomes, shown_for, after, may_call, agreed_base, both_units, functional_units, Good}
 use Rattle.osi_machine.specs.Histories.{Item, Octets, Point, PointKind, points, cutat, minor_kind, major_point}
-use Rattle.osi_machine.specs.Taking.{seen}
+use Rattle.osi_machine.specs.Taking.{seen, got_in}
 use Rattle.osi_machine.specs.Channels.{is_plain}
-use Rattle.osi_machine.specs.Core.{view_called, stays_in_core}
+use Rattle.osi_machine.specs.Core.{view_called, speaks, stays_in_core}
 use Rattle.osi_machine.specs.Parties.{is_opening}
 use Rattle.osi_machine.specs.Views.{Told, told_call, told_shown}
 use Rattle.osi_machine.proofs.PhaseLaws.{implied, excluded}
@@ -16,7 +16,7 @@ abbrev pub is_open : Phase → Bool
 is_open p = not (is_opening p || is_over p)
 
 -- what a record tells of a side
-pub record Tells (t : Told) (s : State) (v : List Item) : Type 0 where
+pub record Tells (t : Told) (s : State) (v : List Item) (spoken heard : List (List ℕ)) : Type 0 where
   pub asked : is_connecting s.phase ≡ true → (t.asked_for ≡ s.units) × (t.proposed ≡ s.proposed)
   pub fresh : is_opening s.phase ≡ true → t.view ≡ []
   pub base : t.base ≡ s.base
@@ -24,19 +24,27 @@ pub record Tells (t : Told) (s : State) (v : List Item) : Type 0 where
   pub asking : t.asking ≡ is_restarting s.phase
   pub duplex : is_open s.phase ≡ true → t.duplex ≡ s.units.duplex
   pub fine : t.faulted ≡ false
+  -- with duplex, the data of both directions
+  pub silent : is_opening s.phase ≡ true → (t.requested ≡ []) × (t.indicated ≡ [])
+  pub said : s.units.duplex ≡ true → t.requested ≡ spoken
+  pub got : s.units.duplex ≡ true → t.indicated ≡ heard
 
 -- ---- where little changes
 
 -- phase, units and base stay, and nothing is seen
-same_tells : (t : Told) (s r : State) (v w : List Item) → r.phase ≡ s.phase → r.units ≡ s.units → r.proposed ≡ s.proposed → r.base ≡ s.base → w ≡ v → Tells t s v → Tells t r w
-same_tells t s r v w p u n b e h = record {
+same_tells : (t : Told) (s r : State) (v w : List Item) (a a' b b' : List (List ℕ)) → r.phase ≡ s.phase → r.units ≡ s.units → r.proposed ≡ s.proposed → r.base ≡ s.base
+    → w ≡ v → a' ≡ a → b' ≡ b → Tells t s v a b → Tells t r w a' b'
+same_tells t s r v w x x' y y' p u n b e f g h = record {
   asked = λ c. let k = h.asked (ap is_connecting (sym p) ∙ c) in (k.0 ∙ sym u, k.1 ∙ sym n);
   fresh = λ o. h.fresh (ap is_opening (sym p) ∙ o);
   base = h.base ∙ sym b;
-  view = λ d. h.view (ap (λ (f : FunctionalUnits). f.duplex) (sym u) ∙ d) ∙ sym e;
+  view = λ d. h.view (ap (λ (z : FunctionalUnits). z.duplex) (sym u) ∙ d) ∙ sym e;
   asking = h.asking ∙ ap is_restarting (sym p);
-  duplex = λ o. h.duplex (ap is_open (sym p) ∙ o) ∙ ap (λ (f : FunctionalUnits). f.duplex) (sym u);
+  duplex = λ o. h.duplex (ap is_open (sym p) ∙ o) ∙ ap (λ (z : FunctionalUnits). z.duplex) (sym u);
   fine = h.fine;
+  silent = λ o. h.silent (ap is_opening (sym p) ∙ o);
+  said = λ d. h.said (ap (λ (z : FunctionalUnits). z.duplex) (sym u) ∙ d) ∙ sym f;
+  got = λ d. h.got (ap (λ (z : FunctionalUnits). z.duplex) (sym u) ∙ d) ∙ sym g;
 }
 
 -- from an open phase to one in which nothing is opened
@@ -52,9 +60,10 @@ calm_parts p h = by (is_opening p) (is_restarting p) h
     by true b e = absurd (cc)
     by false true e = absurd (cc)
 
-calm_tells : (t : Told) (s : State) (v : List Item) → calm s.phase ≡ true → t.base ≡ s.base → (s.units.duplex ≡ false → t.view ≡ v) → t.asking ≡ false
-    → (is_open s.phase ≡ true → t.duplex ≡ s.units.duplex) → t.faulted ≡ false → Tells t s v
-calm_tells t s v c b e a d f =
+calm_tells : (t : Told) (s : State) (v : List Item) (said got : List (List ℕ)) → calm s.phase ≡ true → t.base ≡ s.base → (s.units.duplex ≡ false → t.view ≡ v) → t.asking ≡ false
+    → (is_open s.phase ≡ true → t.duplex ≡ s.units.duplex) → t.faulted ≡ false → (s.units.duplex ≡ true → t.requested ≡ said) → (s.units.duplex ≡ true → t.indicated ≡ got)
+    → Tells t s v said got
+calm_tells t s v said got c b e a d f x y =
     let p = calm_parts s.phase c in
     let no = p.0 in
     record {
@@ -65,6 +74,9 @@ calm_tells t s v c b e a d f =
       asking = a ∙ sym p.1;
       duplex = d;
       fine = f;
+      silent = λ k. absurd (cc);
+      said = x;
+      got = y;
     }
 
 none_more : (t : Told) (v : List Item) (b : Bool) → (b ≡ false → t.view ≡ v) → b ≡ false → t.view ≡ v ++ []
@@ -72,8 +84,8 @@ none_more t v b f d = f d ∙ sym (append_nil v)
 
 -- ---- an accepted call
 
-not_asking : (t : Told) (s : State) (v : List Item) → Tells t s v → is_restarting s.phase ≡ false → t.asking ≡ false
-not_asking t s v h e = h.asking ∙ e
+not_asking : (t : Told) (s : State) (v : List Item) (said got : List (List ℕ)) → Tells t s v said got → is_restarting s.phase ≡ false → t.asking ≡ false
+not_asking t s v said got h e = h.asking ∙ e
 
 data_added : (b : Bool) (t v : List Item) (octets : List ℕ) → t ≡ v → b ≡ false → t ++ Octets octets ∷ [] ≡ v ++ (if b then [] else Octets octets ∷ [])
 data_added b t v octets e d = rw (e, d) refl
@@ -82,32 +94,36 @@ point_added : (n base : ℕ) (t v : List Item) (k : PointKind) (octets : List �
 point_added n base t v k octets e f = ap (λ (m : ℕ). t ++ Point m k octets ∷ []) e ∙ ap (λ (r : List Item). r ++ Point n k octets ∷ []) f
 
 -- the number of the next point
-next_point : (t : Told) (s : State) (v : List Item) → Tells t s v → s.numbers.next ≡ s.base + points v → s.units.duplex ≡ false
+next_point : (t : Told) (s : State) (v : List Item) (said got : List (List ℕ)) → Tells t s v said got → s.numbers.next ≡ s.base + points v → s.units.duplex ≡ false
     → t.base + points t.view ≡ s.numbers.next
-next_point t s v h c d = let a = h.base in let b = ap points (h.view d) in omega arith
+next_point t s v said got h c d = let a = h.base in let b = ap points (h.view d) in omega arith
 
-pub call_tells : (t : Told) (s : State) (c : Call) (v : List Item) → stays_in_core c ≡ true → may_call s.phase c ≡ true → s.numbers.next ≡ s.base + points v
-    → (is_opening s.phase ≡ true → v ≡ []) → Tells t s v → Tells (told_call t c) (after s c) (view_called s c v)
+octets_said : (b : Bool) (t v : List (List ℕ)) (octets : List ℕ) → t ≡ v → b ≡ true → t ++ octets ∷ [] ≡ v ++ (if b then octets ∷ [] else [])
+octets_said b t v octets e d = rw (e, d) refl
+
+pub call_tells : (t : Told) (s : State) (c : Call) (v : List Item) (said got : List (List ℕ)) → stays_in_core c ≡ true → may_call s.phase c ≡ true → s.numbers.next ≡ s.base + points v
+    → (is_opening s.phase ≡ true → (v ≡ []) × (said ≡ []) × (got ≡ [])) → Tells t s v said got
+    → Tells (told_call t c) (after s c) (view_called s c v) (said ++ speaks s c) got
 unfolding calm
-call_tells t s (Accept requirements serial sides octets) v k p n f h =
+call_tells t s (Accept requirements serial sides octets) v said got k p n f h =
     let o = implied is_answering is_opening refl s.phase p in
-    calm_tells _ _ _ refl refl (λ d. h.fresh o ∙ sym (append_nil v ∙ f o)) (not_asking t s v h (excluded is_answering is_restarting refl s.phase p)) (λ o. refl) h.fine
-call_tells t s (Refuse octets) v k p n f h = absurd (cc)
-call_tells t s (Data octets) v k p n f h =
-    calm_tells _ _ _ (implied is_ready calm refl s.phase p) h.base
-    (λ d. data_added s.units.duplex t.view v octets (h.view d) d) (not_asking t s v h (excluded is_ready is_restarting refl s.phase p)) (λ o. h.duplex (implied is_ready is_open refl s.phase p)) h.fine
-call_tells t s (Give tokens) v k p n f h = same_tells t s _ v _ refl refl refl refl (append_nil v) h
-call_tells t s (Please tokens octets) v k p n f h = same_tells t s _ v _ refl refl refl refl (append_nil v) h
-call_tells t s (Minor confirm octets) v k p n f h =
-    calm_tells _ _ _ (implied is_ready calm refl s.phase p) h.base
-    (λ d. point_added s.numbers.next t.base t.view v (minor_kind confirm) octets (next_point t s v h n d) (h.view d)) (not_asking t s v h (excluded is_ready is_restarting refl s.phase p)) (λ o. h.duplex (implied is_ready is_open refl s.phase p)) h.fine
-call_tells t s (MinorConfirm m octets) v k p n f h = same_tells t s _ v _ refl refl refl refl (append_nil v) h
-call_tells t s (Major octets) v k p n f h =
-    calm_tells _ _ _ refl h.base
-    (λ d. point_added s.numbers.next t.base t.view v major_point octets (next_point t s v h n d) (h.view d)) (not_asking t s v h (excluded is_ready is_restarting refl s.phase p)) (λ o. h.duplex (implied is_ready is_open refl s.phase p)) h.fine
-call_tells t s (MajorConfirm octets) v k p n f h =
-    calm_tells _ _ _ refl h.base (none_more t v s.units.duplex h.view) (not_asking t s v h (excluded is_major_due is_restarting refl s.phase p)) (λ o. h.duplex (implied is_major_due is_open refl s.phase p)) h.fine
-call_tells t s (Restart m wishes octets) v k p n f h =
+    calm_tells _ _ _ _ _ refl refl (λ d. h.fresh o ∙ sym (append_nil v ∙ (f o).0)) (not_asking t s v said got h (excluded is_answering is_restarting refl s.phase p)) (λ o. refl) h.fine (λ d. (h.silent o).0 ∙ sym (append_nil said ∙ (f o).1)) (λ d. (h.silent o).1 ∙ sym (f o).2)
+call_tells t s (Refuse octets) v said got k p n f h = absurd (cc)
+call_tells t s (Data octets) v said got k p n f h =
+    calm_tells _ _ _ _ _ (implied is_ready calm refl s.phase p) h.base
+    (λ d. data_added s.units.duplex t.view v octets (h.view d) d) (not_asking t s v said got h (excluded is_ready is_restarting refl s.phase p)) (λ o. h.duplex (implied is_ready is_open refl s.phase p)) h.fine (λ d. octets_said s.units.duplex t.requested said octets (h.said d) d) h.got
+call_tells t s (Give tokens) v said got k p n f h = same_tells t s _ v _ said _ got got refl refl refl refl (append_nil v) (append_nil said) refl h
+call_tells t s (Please tokens octets) v said got k p n f h = same_tells t s _ v _ said _ got got refl refl refl refl (append_nil v) (append_nil said) refl h
+call_tells t s (Minor confirm octets) v said got k p n f h =
+    calm_tells _ _ _ _ _ (implied is_ready calm refl s.phase p) h.base
+    (λ d. point_added s.numbers.next t.base t.view v (minor_kind confirm) octets (next_point t s v said got h n d) (h.view d)) (not_asking t s v said got h (excluded is_ready is_restarting refl s.phase p)) (λ o. h.duplex (implied is_ready is_open refl s.phase p)) h.fine (λ d. h.said d ∙ sym (append_nil said)) h.got
+call_tells t s (MinorConfirm m octets) v said got k p n f h = same_tells t s _ v _ said _ got got refl refl refl refl (append_nil v) (append_nil said) refl h
+call_tells t s (Major octets) v said got k p n f h =
+    calm_tells _ _ _ _ _ refl h.base
+    (λ d. point_added s.numbers.next t.base t.view v major_point octets (next_point t s v said got h n d) (h.view d)) (not_asking t s v said got h (excluded is_ready is_restarting refl s.phase p)) (λ o. h.duplex (implied is_ready is_open refl s.phase p)) h.fine (λ d. h.said d ∙ sym (append_nil said)) h.got
+call_tells t s (MajorConfirm octets) v said got k p n f h =
+    calm_tells _ _ _ _ _ refl h.base (none_more t v s.units.duplex h.view) (not_asking t s v said got h (excluded is_major_due is_restarting refl s.phase p)) (λ o. h.duplex (implied is_major_due is_open refl s.phase p)) h.fine (λ d. h.said d ∙ sym (append_nil said)) h.got
+call_tells t s (Restart m wishes octets) v said got k p n f h =
     record {
       asked = λ c. absurd (cc);
       fresh = λ c. absurd (cc);
@@ -116,15 +132,18 @@ call_tells t s (Restart m wishes octets) v k p n f h =
       asking = refl;
       duplex = λ o. h.duplex (implied may_restart is_open refl s.phase p);
       fine = h.fine;
+      silent = λ c. absurd (cc);
+      said = λ d. h.said d ∙ sym (append_nil said);
+      got = h.got;
     }
-call_tells t s (RestartConfirm sides octets) v k p n f h =
-    calm_tells _ _ _ refl h.base (none_more t v s.units.duplex h.view) (not_asking t s v h (excluded is_restart_due is_restarting refl s.phase p)) (λ o. h.duplex (implied is_restart_due is_open refl s.phase p)) h.fine
-call_tells t s (Release octets) v k p n f h =
-    calm_tells _ _ _ refl h.base (none_more t v s.units.duplex h.view) (not_asking t s v h (excluded is_ready is_restarting refl s.phase p)) (λ o. h.duplex (implied is_ready is_open refl s.phase p)) h.fine
-call_tells t s (ReleaseAccept octets) v k p n f h = absurd (cc)
-call_tells t s (ReleaseRefuse octets) v k p n f h =
-    calm_tells _ _ _ refl h.base (none_more t v s.units.duplex h.view) (not_asking t s v h (excluded is_release_due is_restarting refl s.phase p)) (λ o. h.duplex (implied is_release_due is_open refl s.phase p)) h.fine
-call_tells t s (Abort octets) v k p n f h = absurd (cc)
+call_tells t s (RestartConfirm sides octets) v said got k p n f h =
+    calm_tells _ _ _ _ _ refl h.base (none_more t v s.units.duplex h.view) (not_asking t s v said got h (excluded is_restart_due is_restarting refl s.phase p)) (λ o. h.duplex (implied is_restart_due is_open refl s.phase p)) h.fine (λ d. h.said d ∙ sym (append_nil said)) h.got
+call_tells t s (Release octets) v said got k p n f h =
+    calm_tells _ _ _ _ _ refl h.base (none_more t v s.units.duplex h.view) (not_asking t s v said got h (excluded is_ready is_restarting refl s.phase p)) (λ o. h.duplex (implied is_ready is_open refl s.phase p)) h.fine (λ d. h.said d ∙ sym (append_nil said)) h.got
+call_tells t s (ReleaseAccept octets) v said got k p n f h = absurd (cc)
+call_tells t s (ReleaseRefuse octets) v said got k p n f h =
+    calm_tells _ _ _ _ _ refl h.base (none_more t v s.units.duplex h.view) (not_asking t s v said got h (excluded is_release_due is_restarting refl s.phase p)) (λ o. h.duplex (implied is_release_due is_open refl s.phase p)) h.fine (λ d. h.said d ∙ sym (append_nil said)) h.got
+call_tells t s (Abort octets) v said got k p n f h = absurd (cc)
 
 -- ---- a unit that is acted on
 
@@ -144,52 +163,55 @@ either_state : (P : List Shown → State → Type 0) (b : Bool) (a c : List Show
 either_state P true a c x y h k = h
 either_state P false a c x y h k = k
 
-pub unit_tells : (t : Told) (s : State) (u : Meaning) (v : List Item) → is_plain u ≡ true → Good s u → (is_opening s.phase ≡ true → v ≡ []) → Tells t s v
-    → Tells (told_all t (shown_for s u)) (becomes s u) (seen s u v)
+pub unit_tells : (t : Told) (s : State) (u : Meaning) (v : List Item) (said got : List (List ℕ)) → is_plain u ≡ true → Good s u → (is_opening s.phase ≡ true → (v ≡ []) × (said ≡ []) × (got ≡ [])) → Tells t s v said got
+    → Tells (told_all t (shown_for s u)) (becomes s u) (seen s u v) said (got ++ got_in s u)
 unfolding calm
-unit_tells t s (CN w r n x from to o) v p g f h =
+unit_tells t s (CN w r n x from to o) v said got p g f h =
     let open_now = implied is_wait_cn is_opening refl s.phase g.expected in
     let fresh = h.fresh open_now in
-    either_state (λ a q. Tells (told_all t a) q v) (is_acceptable w r) _ _ _ _
+    either_state (λ a q. Tells (told_all t a) q v said (got ++ [])) (is_acceptable w r) _ _ _ _
     (record {
       asked = λ c. absurd (cc);
       fresh = λ c. fresh;
       base = h.base;
-      view = λ d. fresh ∙ sym (f open_now);
-      asking = not_asking t s v h (excluded is_wait_cn is_restarting refl s.phase g.expected);
+      view = λ d. fresh ∙ sym (f open_now).0;
+      asking = not_asking t s v said got h (excluded is_wait_cn is_restarting refl s.phase g.expected);
       duplex = λ c. absurd (cc);
       fine = h.fine;
+      silent = λ c. h.silent open_now;
+      said = λ d. (h.silent open_now).0 ∙ sym (f open_now).1;
+      got = λ d. (h.silent open_now).1 ∙ sym (append_nil got ∙ (f open_now).2);
     })
-    (calm_tells _ _ _ refl h.base (λ d. fresh ∙ sym (f open_now)) (not_asking t s v h (excluded is_wait_cn is_restarting refl s.phase g.expected)) (λ o. absurd (cc)) h.fine)
-unit_tells t s (AC w r n x o) v p g f h =
+    (calm_tells _ _ _ _ _ refl h.base (λ d. fresh ∙ sym (f open_now).0) (not_asking t s v said got h (excluded is_wait_cn is_restarting refl s.phase g.expected)) (λ o. absurd (cc)) h.fine (λ d. (h.silent open_now).0 ∙ sym (f open_now).1) (λ d. (h.silent open_now).1 ∙ sym (append_nil got ∙ (f open_now).2)))
+unit_tells t s (AC w r n x o) v said got p g f h =
     let open_now = implied is_connecting is_opening refl s.phase g.expected in
     let k = h.asked g.expected in
-    calm_tells _ _ _ refl (ap (λ (a : FunctionalUnits). agreed_base (both_units a (functional_units r)) n t.proposed) k.0 ∙ ap (agreed_base (both_units s.units (functional_units r)) n) k.1)
-    (λ d. h.fresh open_now ∙ sym (f open_now)) (not_asking t s v h (excluded is_connecting is_restarting refl s.phase g.expected)) (λ o. ap (λ (a : FunctionalUnits). (both_units a (functional_units r)).duplex) k.0) h.fine
-unit_tells t s (RF r o) v p g f h = absurd (cc)
-unit_tells t s (DT o) v p g f h =
-    calm_tells _ _ _ (implied takes_data calm refl s.phase g.expected) h.base
-    (λ d. data_taken s.units.duplex t.view v o (h.view d) d) (not_asking t s v h (excluded takes_data is_restarting refl s.phase g.expected)) (λ o. h.duplex (implied takes_data is_open refl s.phase g.expected)) h.fine
-unit_tells t s (GT k) v p g f h = same_tells t s _ v v refl refl refl refl refl h
-unit_tells t s (PT k o) v p g f h = same_tells t s _ v v refl refl refl refl refl h
-unit_tells t s (MIP c n o) v p g f h =
-    calm_tells _ _ _ (implied is_ready calm refl s.phase g.expected) h.base
-    (λ d. ap (λ (r : List Item). r ++ Point n (minor_kind c) o ∷ []) (h.view d)) (not_asking t s v h (excluded is_ready is_restarting refl s.phase g.expected)) (λ o. h.duplex (implied is_ready is_open refl s.phase g.expected)) h.fine
-unit_tells t s (MIA n o) v p g f h = same_tells t s _ v v refl refl refl refl refl h
-unit_tells t s (MAP n o) v p g f h =
-    calm_tells _ _ _ refl h.base
-    (λ d. ap (λ (r : List Item). r ++ Point n major_point o ∷ []) (h.view d)) (not_asking t s v h (excluded is_ready is_restarting refl s.phase g.expected)) (λ o. h.duplex (implied is_ready is_open refl s.phase g.expected)) h.fine
-unit_tells t s (MAA n o) v p g f h =
-    calm_tells _ _ _ refl h.base h.view (not_asking t s v h (excluded is_major_asked is_restarting refl s.phase g.expected)) (λ o. h.duplex (implied is_major_asked is_open refl s.phase g.expected)) h.fine
-unit_tells t s (RS j n w o) v p g f h =
-    either (λ a q z. Tells (told_all t a) q z) (stands s n) _ _ _ s (cutat s.base v n) v
-    (λ e. calm_tells _ _ _ refl h.base (λ d. ap (λ (b : ℕ). cutat b t.view n) h.base ∙ ap (λ (r : List Item). cutat s.base r n) (h.view d)) refl (λ o. h.duplex (implied takes_restart is_open refl s.phase g.expected)) h.fine)
-    (λ e. h)
-unit_tells t s (RA n w o) v p g f h = calm_tells _ _ _ refl h.base h.view refl (λ o. h.duplex (implied is_restarting is_open refl s.phase g.expected)) h.fine
-unit_tells t s (FN o) v p g f h =
-    calm_tells _ _ _ refl h.base h.view (not_asking t s v h (excluded is_ready is_restarting refl s.phase g.expected)) (λ o. h.duplex (implied is_ready is_open refl s.phase g.expected)) h.fine
-unit_tells t s (DN o) v p g f h = absurd (cc)
-unit_tells t s (NF o) v p g f h =
-    calm_tells _ _ _ refl h.base h.view (not_asking t s v h (excluded is_releasing is_restarting refl s.phase g.expected)) (λ o. h.duplex (implied is_releasing is_open refl s.phase g.expected)) h.fine
-unit_tells t s (AB b o) v p g f h = absurd (cc)
-unit_tells t s AA v p g f h = absurd (cc)
+    calm_tells _ _ _ _ _ refl (ap (λ (a : FunctionalUnits). agreed_base (both_units a (functional_units r)) n t.proposed) k.0 ∙ ap (agreed_base (both_units s.units (functional_units r)) n) k.1)
+    (λ d. h.fresh open_now ∙ sym (f open_now).0) (not_asking t s v said got h (excluded is_connecting is_restarting refl s.phase g.expected)) (λ o. ap (λ (a : FunctionalUnits). (both_units a (functional_units r)).duplex) k.0) h.fine (λ d. (h.silent open_now).0 ∙ sym (f open_now).1) (λ d. (h.silent open_now).1 ∙ sym (append_nil got ∙ (f open_now).2))
+unit_tells t s (RF r o) v said got p g f h = absurd (cc)
+unit_tells t s (DT o) v said got p g f h =
+    calm_tells _ _ _ _ _ (implied takes_data calm refl s.phase g.expected) h.base
+    (λ d. data_taken s.units.duplex t.view v o (h.view d) d) (not_asking t s v said got h (excluded takes_data is_restarting refl s.phase g.expected)) (λ o. h.duplex (implied takes_data is_open refl s.phase g.expected)) h.fine h.said (λ d. octets_said s.units.duplex t.indicated got o (h.got d) d)
+unit_tells t s (GT k) v said got p g f h = same_tells t s _ v v said said got _ refl refl refl refl refl refl (append_nil got) h
+unit_tells t s (PT k o) v said got p g f h = same_tells t s _ v v said said got _ refl refl refl refl refl refl (append_nil got) h
+unit_tells t s (MIP c n o) v said got p g f h =
+    calm_tells _ _ _ _ _ (implied is_ready calm refl s.phase g.expected) h.base
+    (λ d. ap (λ (r : List Item). r ++ Point n (minor_kind c) o ∷ []) (h.view d)) (not_asking t s v said got h (excluded is_ready is_restarting refl s.phase g.expected)) (λ o. h.duplex (implied is_ready is_open refl s.phase g.expected)) h.fine h.said (λ d. h.got d ∙ sym (append_nil got))
+unit_tells t s (MIA n o) v said got p g f h = same_tells t s _ v v said said got _ refl refl refl refl refl refl (append_nil got) h
+unit_tells t s (MAP n o) v said got p g f h =
+    calm_tells _ _ _ _ _ refl h.base
+    (λ d. ap (λ (r : List Item). r ++ Point n major_point o ∷ []) (h.view d)) (not_asking t s v said got h (excluded is_ready is_restarting refl s.phase g.expected)) (λ o. h.duplex (implied is_ready is_open refl s.phase g.expected)) h.fine h.said (λ d. h.got d ∙ sym (append_nil got))
+unit_tells t s (MAA n o) v said got p g f h =
+    calm_tells _ _ _ _ _ refl h.base h.view (not_asking t s v said got h (excluded is_major_asked is_restarting refl s.phase g.expected)) (λ o. h.duplex (implied is_major_asked is_open refl s.phase g.expected)) h.fine h.said (λ d. h.got d ∙ sym (append_nil got))
+unit_tells t s (RS j n w o) v said got p g f h =
+    either (λ a q z. Tells (told_all t a) q z said (got ++ [])) (stands s n) _ _ _ s (cutat s.base v n) v
+    (λ e. calm_tells _ _ _ _ _ refl h.base (λ d. ap (λ (b : ℕ). cutat b t.view n) h.base ∙ ap (λ (r : List Item). cutat s.base r n) (h.view d)) refl (λ o. h.duplex (implied takes_restart is_open refl s.phase g.expected)) h.fine h.said (λ d. h.got d ∙ sym (append_nil got)))
+    (λ e. same_tells t s s v v said said got _ refl refl refl refl refl refl (append_nil got) h)
+unit_tells t s (RA n w o) v said got p g f h = calm_tells _ _ _ _ _ refl h.base h.view refl (λ o. h.duplex (implied is_restarting is_open refl s.phase g.expected)) h.fine h.said (λ d. h.got d ∙ sym (append_nil got))
+unit_tells t s (FN o) v said got p g f h =
+    calm_tells _ _ _ _ _ refl h.base h.view (not_asking t s v said got h (excluded is_ready is_restarting refl s.phase g.expected)) (λ o. h.duplex (implied is_ready is_open refl s.phase g.expected)) h.fine h.said (λ d. h.got d ∙ sym (append_nil got))
+unit_tells t s (DN o) v said got p g f h = absurd (cc)
+unit_tells t s (NF o) v said got p g f h =
+    calm_tells _ _ _ _ _ refl h.base h.view (not_asking t s v said got h (excluded is_releasing is_restarting refl s.phase g.expected)) (λ o. h.duplex (implied is_releasing is_open refl s.phase g.expected)) h.fine h.said (λ d. h.got d ∙ sym (append_nil got))
+unit_tells t s (AB b o) v said got p g f h = absurd (cc)
+unit_tells t s AA v said got p g f h = absurd (cc)

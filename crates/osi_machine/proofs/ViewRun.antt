@@ -4,9 +4,9 @@ use Rattle.std.specs.List.{AllByRecursion}
 use Rattle.osi_session.specs.Shown.{Shown}
 use Rattle.osi_machine.specs.Floor.{CallError, State, Call, Granted, Answer, Outcome, Meaning, is_over, nothing, good, drops, allowed, respond_unit}
 use Rattle.osi_machine.specs.Histories.{Item, Agree}
-use Rattle.osi_machine.specs.Taking.{is_acted_on, seen}
+use Rattle.osi_machine.specs.Taking.{is_acted_on, seen, got_in}
 use Rattle.osi_machine.specs.Channels.{AllFit}
-use Rattle.osi_machine.specs.Core.{Core, CoreStep, call_at, take_at, Side, Left, Right, Offer, turned, stays_in_core, view_called, answered, called, taking, takes, core_step, core_run, core_start}
+use Rattle.osi_machine.specs.Core.{Core, CoreStep, call_at, take_at, Side, Left, Right, Offer, turned, stays_in_core, view_called, speaks, answered, called, taking, takes, core_step, core_run, core_start}
 use Rattle.osi_machine.specs.Parties.{IsNumberedStep}
 use Rattle.osi_machine.specs.Machine.{Entry, call_answered, shown_at, error_of}
 use Rattle.osi_machine.specs.Views.{Told, told_call, told_shown, told_entry, told_by, is_of, record_of, untold, call_entries, take_entries, core_entries, core_journal, left_told, right_told, AreTold}
@@ -83,27 +83,28 @@ shown_untold Right t (i ∷ shown) = shown_untold Right t shown
 
 -- ---- a call
 
-pub answer_tells : (w : Core) (c : Call) (a : Answer) (t : Told) → stays_in_core c ≡ true → allowed w.own.session c ≡ a → Stands w → Tells t w.own.session w.own.view
-    → Tells (told_answer t c true (error_of a)) (answered w c a).own.session (answered w c a).own.view
+pub answer_tells : (w : Core) (c : Call) (a : Answer) (t : Told) → stays_in_core c ≡ true → allowed w.own.session c ≡ a → Stands w → Tells t w.own.session w.own.view w.own.said w.own.got
+    → Tells (told_answer t c true (error_of a)) (answered w c a).own.session (answered w c a).own.view (answered w c a).own.said (answered w c a).own.got
 answer_tells w c (Ok g) t k e s h =
     let q = passed w.own.session c g e in
-    subst (λ (r : Granted). Tells (told_call t c) r.next (view_called w.own.session c w.own.view)) (sym q.gives)
-    (call_tells t w.own.session c w.own.view k q.phase s.consistent.own.count (λ o. (s.consistent.own.fresh o).view) h)
+    subst (λ (r : Granted). Tells (told_call t c) r.next (view_called w.own.session c w.own.view) (w.own.said ++ speaks w.own.session c) w.own.got) (sym q.gives)
+    (call_tells t w.own.session c w.own.view w.own.said w.own.got k q.phase s.consistent.own.count (λ o. let z = s.consistent.own.fresh o in (z.view, z.said, z.got)) h)
 answer_tells w c (Err d) t k e s h = h
 
-called_tells : (w : Core) (c : Call) (t : Told) → Stands w → Tells t w.own.session w.own.view
-    → Tells (told_answer t c (stays_in_core c) (error_of (allowed w.own.session c))) (called w c).own.session (called w c).own.view
+called_tells : (w : Core) (c : Call) (t : Told) → Stands w → Tells t w.own.session w.own.view w.own.said w.own.got
+    → Tells (told_answer t c (stays_in_core c) (error_of (allowed w.own.session c))) (called w c).own.session (called w c).own.view (called w c).own.said (called w c).own.got
 called_tells w c t s h = by (stays_in_core c) refl
   where
     by : (b : Bool) → stays_in_core c ≡ b → Tells (told_answer t c b (error_of (allowed w.own.session c)))
         (if b then answered w c (allowed w.own.session c) else w).own.session (if b then answered w c (allowed w.own.session c) else w).own.view
+        (if b then answered w c (allowed w.own.session c) else w).own.said (if b then answered w c (allowed w.own.session c) else w).own.got
     by true k = answer_tells w c (allowed w.own.session c) t k refl s h
     by false k = h
 
-called_peer : (w : Core) (c : Call) (t : Told) → Tells t w.peer.session w.peer.view → Tells t (called w c).peer.session (called w c).peer.view
+called_peer : (w : Core) (c : Call) (t : Told) → Tells t w.peer.session w.peer.view w.peer.said w.peer.got → Tells t (called w c).peer.session (called w c).peer.view (called w c).peer.said (called w c).peer.got
 called_peer w c t h = by (stays_in_core c) (allowed w.own.session c)
   where
-    by : (b : Bool) (a : Answer) → Tells t (if b then answered w c a else w).peer.session (if b then answered w c a else w).peer.view
+    by : (b : Bool) (a : Answer) → Tells t (if b then answered w c a else w).peer.session (if b then answered w c a else w).peer.view (if b then answered w c a else w).peer.said (if b then answered w c a else w).peer.got
     by true (Ok g) = h
     by true (Err e) = h
     by false a = h
@@ -116,13 +117,14 @@ shown_of w [] = []
 shown_of w (u ∷ us) = (respond_unit w.own.session u).shown
 
 abbrev Wanted : Core → Meaning → Told → Outcome → Bool → Type 0
-Wanted w u t o a = Tells (told_all t o.shown) o.next (if a then seen w.own.session u w.own.view else w.own.view)
+Wanted w u t o a = Tells (told_all t o.shown) o.next (if a then seen w.own.session u w.own.view else w.own.view) w.own.said
+    (if a then w.own.got ++ got_in w.own.session u else w.own.got)
 
-pub taken_tells : (w : Core) (us : List Meaning) (t : Told) → w.peer.sent ≡ us → Stands w → Tells t w.own.session w.own.view
-    → (shown : List Shown) → shown_of w us ≡ shown → Tells (told_all t shown) (taking w us).own.session (taking w us).own.view
-taken_tells w [] t e s h shown k = subst (λ (i : List Shown). Tells (told_all t i) w.own.session w.own.view) k h
+pub taken_tells : (w : Core) (us : List Meaning) (t : Told) → w.peer.sent ≡ us → Stands w → Tells t w.own.session w.own.view w.own.said w.own.got
+    → (shown : List Shown) → shown_of w us ≡ shown → Tells (told_all t shown) (taking w us).own.session (taking w us).own.view (taking w us).own.said (taking w us).own.got
+taken_tells w [] t e s h shown k = subst (λ (i : List Shown). Tells (told_all t i) w.own.session w.own.view w.own.said w.own.got) k h
 taken_tells w (u ∷ us) t e s h shown k =
-    subst (λ (i : List Shown). Tells (told_all t i) (taking w (u ∷ us)).own.session (taking w (u ∷ us)).own.view) k (by (drops w.own.session u) refl)
+    subst (λ (i : List Shown). Tells (told_all t i) (taking w (u ∷ us)).own.session (taking w (u ∷ us)).own.view (taking w (u ∷ us)).own.said (taking w (u ∷ us)).own.got) k (by (drops w.own.session u) refl)
   where
     f : AllFit w.own.session (u ∷ us)
     f = (stands_at w (u ∷ us) e s).own.fits
@@ -141,17 +143,17 @@ taken_tells w (u ∷ us) t e s h shown k =
         (subst (λ (o : Outcome). Wanted w u t o false) (sym (same ∙ ap (λ (b : Bool). if b then nothing w.own.session else good w.own.session u) d)) h)
     by false d = subst (Wanted w u t (respond_unit w.own.session u)) (sym (acts ∙ ap not d))
         (subst (λ (o : Outcome). Wanted w u t o true) (sym (same ∙ ap (λ (b : Bool). if b then nothing w.own.session else good w.own.session u) d))
-        (unit_tells t w.own.session u w.own.view f.0.plain (f.0.good d) (λ o. (s.consistent.own.fresh o).view) h))
+        (unit_tells t w.own.session u w.own.view w.own.said w.own.got f.0.plain (f.0.good d) (λ o. let z = s.consistent.own.fresh o in (z.view, z.said, z.got)) h))
 
-taken_peer : (w : Core) (us : List Meaning) (t : Told) → Tells t w.peer.session w.peer.view → Tells t (taking w us).peer.session (taking w us).peer.view
+taken_peer : (w : Core) (us : List Meaning) (t : Told) → Tells t w.peer.session w.peer.view w.peer.said w.peer.got → Tells t (taking w us).peer.session (taking w us).peer.view (taking w us).peer.said (taking w us).peer.got
 taken_peer w [] t h = h
 taken_peer w (u ∷ us) t h = h
 
 -- ---- a step
 
 record TellBoth (w : Core) (at_left at_right : Told) : Type 0 where
-  left : Tells at_left w.own.session w.own.view
-  right : Tells at_right w.peer.session w.peer.view
+  left : Tells at_left w.own.session w.own.view w.own.said w.own.got
+  right : Tells at_right w.peer.session w.peer.view w.peer.said w.peer.got
 
 take_told : (side : Side) (t : Told) (w : Core) (us : List Meaning) → told_by t (record_of side 1 (take_entries side w.own.session us)) ≡ told_all t (shown_of w us)
 take_told side t w [] = refl
@@ -164,23 +166,23 @@ take_untold side t s (u ∷ us) = shown_untold side t (respond_unit s u).shown
 step_tells : (w : Core) (step : CoreStep) (left right : Told) → Stands w → TellBoth w left right
     → TellBoth (core_step w step) (told_by left (record_of Left 1 (core_entries w step))) (told_by right (record_of Right 1 (core_entries w step)))
 step_tells w (call_at Left c) left right s h = record {
-  left = subst (λ (t : Told). Tells t (called w c).own.session (called w c).own.view) (sym (call_told Left left w.own.session c)) (called_tells w c left s h.left);
-  right = subst (λ (t : Told). Tells t (called w c).peer.session (called w c).peer.view) (sym (call_untold Left right w.own.session c)) (called_peer w c right h.right);
+  left = subst (λ (t : Told). Tells t (called w c).own.session (called w c).own.view (called w c).own.said (called w c).own.got) (sym (call_told Left left w.own.session c)) (called_tells w c left s h.left);
+  right = subst (λ (t : Told). Tells t (called w c).peer.session (called w c).peer.view (called w c).peer.said (called w c).peer.got) (sym (call_untold Left right w.own.session c)) (called_peer w c right h.right);
 }
 step_tells w (call_at Right c) left right s h =
     record {
-      left = subst (λ (t : Told). Tells t (called (turned w) c).peer.session (called (turned w) c).peer.view) (sym (call_untold Right left w.peer.session c)) (called_peer (turned w) c left h.left);
-      right = subst (λ (t : Told). Tells t (called (turned w) c).own.session (called (turned w) c).own.view) (sym (call_told Right right w.peer.session c))
+      left = subst (λ (t : Told). Tells t (called (turned w) c).peer.session (called (turned w) c).peer.view (called (turned w) c).peer.said (called (turned w) c).peer.got) (sym (call_untold Right left w.peer.session c)) (called_peer (turned w) c left h.left);
+      right = subst (λ (t : Told). Tells t (called (turned w) c).own.session (called (turned w) c).own.view (called (turned w) c).own.said (called (turned w) c).own.got) (sym (call_told Right right w.peer.session c))
           (called_tells (turned w) c right (turned_stands w s) h.right);
     }
 step_tells w (take_at Left) left right s h = record {
-  left = subst (λ (t : Told). Tells t (takes w).own.session (takes w).own.view) (sym (take_told Left left w w.peer.sent))
+  left = subst (λ (t : Told). Tells t (takes w).own.session (takes w).own.view (takes w).own.said (takes w).own.got) (sym (take_told Left left w w.peer.sent))
       (taken_tells w w.peer.sent left refl s h.left (shown_of w w.peer.sent) refl);
-  right = subst (λ (t : Told). Tells t (takes w).peer.session (takes w).peer.view) (sym (take_untold Left right w.own.session w.peer.sent)) (taken_peer w w.peer.sent right h.right);
+  right = subst (λ (t : Told). Tells t (takes w).peer.session (takes w).peer.view (takes w).peer.said (takes w).peer.got) (sym (take_untold Left right w.own.session w.peer.sent)) (taken_peer w w.peer.sent right h.right);
 }
 step_tells w (take_at Right) left right s h = record {
-  left = subst (λ (t : Told). Tells t (takes (turned w)).peer.session (takes (turned w)).peer.view) (sym (take_untold Right left w.peer.session w.own.sent)) (taken_peer (turned w) w.own.sent left h.left);
-  right = subst (λ (t : Told). Tells t (takes (turned w)).own.session (takes (turned w)).own.view) (sym (take_told Right right (turned w) w.own.sent))
+  left = subst (λ (t : Told). Tells t (takes (turned w)).peer.session (takes (turned w)).peer.view (takes (turned w)).peer.said (takes (turned w)).peer.got) (sym (take_untold Right left w.peer.session w.own.sent)) (taken_peer (turned w) w.own.sent left h.left);
+  right = subst (λ (t : Told). Tells t (takes (turned w)).own.session (takes (turned w)).own.view (takes (turned w)).own.said (takes (turned w)).own.got) (sym (take_told Right right (turned w) w.own.sent))
       (taken_tells (turned w) w.own.sent right refl (turned_stands w s) h.right (shown_of (turned w) w.own.sent) refl);
 }
 
@@ -194,16 +196,16 @@ run_tells laws w (step ∷ steps) left right small s h =
     let more = run_tells laws (core_step w step) steps (told_by left (record_of Left 1 (core_entries w step))) (told_by right (record_of Right 1 (core_entries w step)))
     small.1 (step_stands laws w step small.0 s) one in
     record {
-      left = subst (λ (t : Told). Tells t (core_run (core_step w step) steps).own.session (core_run (core_step w step) steps).own.view)
+      left = subst (λ (t : Told). Tells t (core_run (core_step w step) steps).own.session (core_run (core_step w step) steps).own.view (core_run (core_step w step) steps).own.said (core_run (core_step w step) steps).own.got)
           (sym (told_more Left left (core_entries w step) (core_journal (core_step w step) steps))) more.left;
-      right = subst (λ (t : Told). Tells t (core_run (core_step w step) steps).peer.session (core_run (core_step w step) steps).peer.view)
+      right = subst (λ (t : Told). Tells t (core_run (core_step w step) steps).peer.session (core_run (core_step w step) steps).peer.view (core_run (core_step w step) steps).peer.said (core_run (core_step w step) steps).peer.got)
           (sym (told_more Right right (core_entries w step) (core_journal (core_step w step) steps))) more.right;
     }
 
 starts_told : (o : Offer) → TellBoth (core_start o) (untold Left o) (untold Right o)
 starts_told o = record {
-  left = record { asked = λ c. (refl, refl); fresh = λ k. refl; base = refl; view = λ d. refl; asking = refl; duplex = λ o. absurd (cc); fine = refl };
-  right = record { asked = λ c. absurd (cc); fresh = λ k. refl; base = refl; view = λ d. refl; asking = refl; duplex = λ o. absurd (cc); fine = refl };
+  left = record { asked = λ c. (refl, refl); fresh = λ k. refl; base = refl; view = λ d. refl; asking = refl; duplex = λ o. absurd (cc); fine = refl; silent = λ k. (refl, refl); said = λ d. refl; got = λ d. refl };
+  right = record { asked = λ c. absurd (cc); fresh = λ k. refl; base = refl; view = λ d. refl; asking = refl; duplex = λ o. absurd (cc); fine = refl; silent = λ k. (refl, refl); said = λ d. refl; got = λ d. refl };
 }
 
 pub are_told : SessionLaws → (o : Offer) (steps : List CoreStep) → AllByRecursion IsNumberedStep steps → Stands (core_start o) → AreTold o steps

@@ -1,5 +1,5 @@
 -- What two users may rely on after every list of steps of the machine, by what their records tell.
-use Rattle.std.specs.Prelude.{◌≡◌, ℕ, ◌<◌, false, ◌&&◌, List, [], ◌∷◌, ◌++◌, Some}
+use Rattle.std.specs.Prelude.{◌≡◌, ℕ, ◌<◌, true, false, ◌&&◌, List, [], ◌∷◌, ◌++◌, Some}
 use Rattle.std.specs.List.{AllByRecursion}
 use Rattle.osi_machine.specs.Floor.{Token, has, is_over}
 use Rattle.osi_machine.specs.Histories.{Item, Point, PointKind, Begins, Agree}
@@ -30,6 +30,11 @@ ShowNoFault w left right = (left.faulted ≡ false) × (right.faulted ≡ false)
 -- one of the two views begins with the other, unless duplex is selected
 abbrev pub RecordsAgree : World → Told → Told → Type 0
 RecordsAgree w left right = left.duplex ≡ false → right.duplex ≡ false → Agree left.view right.view
+
+-- with duplex, the data that a side is shown is how the data that the other asked to send begins
+abbrev pub ShownAsAsked : World → Told → Told → Type 0
+ShownAsAsked w left right =
+    (left.duplex ≡ true → Begins left.indicated right.requested) × (right.duplex ≡ true → Begins right.indicated left.requested)
 
 -- each point in the view of a side that is neither aborted nor ended, with a number below its V(A), is in
 -- the view of the other, behind the same items; unless the other has asked for a restart and has seen no

@@ -8,14 +8,16 @@ use Rattle.osi_machine.specs.Machine.{Entry, call_answered, shown_at, error_of}
 
 -- What a record has told so far: the units that were asked for and the number that was proposed, where
 -- its side asked for the connection; whether duplex is selected; the first number; what of the history
--- was seen; whether the answer to a restart is awaited; and whether a fault was shown, of this side or of
--- the other.
+-- was seen; the data that was asked to be sent, and that was shown; whether the answer to a restart is
+-- awaited; and whether a fault was shown, of this side or of the other.
 pub record Told : Type 0 where
   pub asked_for : FunctionalUnits
   pub proposed : ℕ
   pub duplex : Bool
   pub base : ℕ
   pub view : List Item
+  pub requested : List (List ℕ)
+  pub indicated : List (List ℕ)
   pub asking : Bool
   pub faulted : Bool
 
@@ -30,7 +32,7 @@ with_point t n kind octets = record t { view = t.view ++ Point n kind octets ∷
 abbrev pub told_call : Told → Call → Told
 told_call t (Accept requirements serial sides octets) =
     record t { duplex = (functional_units requirements).duplex; base = base_for (functional_units requirements) serial }
-told_call t (Data octets) = with_data t octets
+told_call t (Data octets) = record (with_data t octets) { requested = t.requested ++ octets ∷ [] }
 told_call t (Minor confirm octets) = with_point t (t.base + points t.view) (minor_kind confirm) octets
 told_call t (Major octets) = with_point t (t.base + points t.view) major_point octets
 told_call t (Restart n wishes octets) = record t { view = cutat t.base t.view n; asking = true }
@@ -42,7 +44,7 @@ told_shown t (Connected requirements serial sides octets) = record t {
   duplex = (both_units t.asked_for (functional_units requirements)).duplex;
   base = agreed_base (both_units t.asked_for (functional_units requirements)) serial t.proposed;
 }
-told_shown t (data_shown octets) = with_data t octets
+told_shown t (data_shown octets) = record (with_data t octets) { indicated = t.indicated ++ octets ∷ [] }
 told_shown t (minor_shown n confirm octets) = with_point t n (minor_kind confirm) octets
 told_shown t (major_shown n octets) = with_point t n major_point octets
 told_shown t (restart_shown n wishes octets) = record t { view = cutat t.base t.view n; asking = false }
@@ -84,10 +86,12 @@ untold Left o = record {
   duplex = false;
   base = 0;
   view = [];
+  requested = [];
+  indicated = [];
   asking = false;
   faulted = false;
 }
-untold Right o = record { asked_for = no_units; proposed = 0; duplex = false; base = 0; view = []; asking = false; faulted = false }
+untold Right o = record { asked_for = no_units; proposed = 0; duplex = false; base = 0; view = []; requested = []; indicated = []; asking = false; faulted = false }
 
 -- the view of a side, and whether it has asked for a restart of which it has seen no answer, by the journal
 abbrev pub told_of : Side → ℕ → Offer → List Entry → Told

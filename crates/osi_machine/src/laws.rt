@@ -9,7 +9,7 @@ ghost use Rattle.osi_machine.specs.Histories.{Agree};
 ghost use Rattle.osi_machine.specs.Machine.{Machine, run, start, step};
 ghost use Rattle.osi_machine.specs.Parties.{AreConsistent, IsNumberedStep};
 ghost use Rattle.osi_machine.specs.Promises.{IsReached, OfBoth, OneHolder, HoldsItsOwn, TakesNoFault, SeesTheHistory, ViewsAgree, GotWhatWasSaid, TakesTheNextItem, ConfirmedIsSeen};
-ghost use Rattle.osi_machine.specs.Runs.{IsRun, OfEach, HasOneHolder, ShowNoFault, RecordsAgree, ConfirmedInBoth};
+ghost use Rattle.osi_machine.specs.Runs.{IsRun, OfEach, HasOneHolder, ShowNoFault, RecordsAgree, ShownAsAsked, ConfirmedInBoth};
 ghost use Rattle.osi_machine.specs.Views.{AreTold, left_told, right_told};
 ghost use Rattle.osi_machine.specs.Worlds.{accepts, class_2};
 
@@ -101,13 +101,15 @@ pub fn what_a_record_tells()
 /// After every list of steps of the machine, with any number of connections, with closes, breaks and
 /// ends, and whatever is lost: of each connection no token is held by both sides; neither user is shown
 /// a fault of its own side or of the other; unless duplex is selected, one of both views begins with the
-/// other; and each point in the view of a side that is not over, with a number below its V(A), is in the
+/// other, and with duplex the data that a side is shown is how the data that the other asked to send
+/// begins; and each point in the view of a side that is not over, with a number below its V(A), is in the
 /// view of the other, behind the same items, unless the other awaits the answer to a restart. All this
 /// is read from the journal alone, but for V(A).
 pub fn what_two_records_tell()
     ensures holder { (m : Machine) → IsRun m → OfEach HasOneHolder m }
     ensures fault { (m : Machine) → IsRun m → OfEach ShowNoFault m }
     ensures agreement { (m : Machine) → IsRun m → OfEach RecordsAgree m }
+    ensures duplex { (m : Machine) → IsRun m → OfEach ShownAsAsked m }
     ensures confirmed { (m : Machine) → IsRun m → OfEach ConfirmedInBoth m }
 {
     session::numbers_stay_in_order();

@@ -1,4 +1,4 @@
-use Rattle.osi_machine.proofs.MachineLaws.{holders, no_faults, agreements, confirmations}
+use Rattle.osi_machine.proofs.MachineLaws.{holders, no_faults, agreements, duplex_agreements, confirmations}
 use Rattle.osi_machine.proofs.laws.what_two_records_tell.Goals as goal
 
 pub returns-clause-holder : goal.returns-clause-holder
@@ -16,3 +16,7 @@ returns-clause-agreement c =
 pub returns-clause-confirmed : goal.returns-clause-confirmed
 returns-clause-confirmed c =
     confirmations (record { sound = c.numbers_stay_in_order.ensures.kept; sendable = c.what_is_sent_can_be_sent.ensures.called; one_unit = c.what_two_units_do.ensures.alone })
+
+pub returns-clause-duplex : goal.returns-clause-duplex
+returns-clause-duplex c =
+    duplex_agreements (record { sound = c.numbers_stay_in_order.ensures.kept; sendable = c.what_is_sent_can_be_sent.ensures.called; one_unit = c.what_two_units_do.ensures.alone })
