@@ -17,7 +17,6 @@ pub mod Messages
 pub mod Coming
 pub mod Addresses
 pub mod Meeting
-pub mod Coming
 pub mod Runs
 pub mod Told
 pub mod Course
