@@ -39,7 +39,7 @@ impl Carrier {
     ghost use Rattle.osi_carrier.specs.Rows.{value_at};
     ghost use Rattle.osi_carrier.specs.Happenings.{happening};
     ghost use Rattle.osi_carrier.specs.Packets.{Feeds};
-    ghost use Rattle.osi_carrier.specs.declared.ends.EndReason.TheVariants.{Broken};
+    ghost use Rattle.osi_carrier.specs.declared.ends.EndReason.TheVariants.{Broken, NoMemory};
 
     /// The calling end of a byte connection. Nothing is written yet.
     pub fn caller(alloc: Global, local: Local) -> Self
@@ -166,6 +166,13 @@ impl Carrier {
         self.switch.end_by(EndReason::Broken);
     }
 
+    /// There was no memory for what the carrier told. Nothing changes where it has ended.
+    pub fn starved(&mut self)
+        ensures { self.new ≡ record self.old { state = ended_by NoMemory self.old.state } }
+    {
+        self.switch.end_by(EndReason::NoMemory);
+    }
+
     /// Why the carrier ended; none before it has.
     pub fn ended(&self) -> Option<EndReason>
         ensures { result ≡ self.now.state.ended }
@@ -188,5 +195,12 @@ impl Carrier {
         ensures { result ≡ is_some (value_at reference.0 self.now.state.live) }
     {
         self.switch.is_live(reference.0)
+    }
+
+    /// How many references were given: they are the numbers from 1 up to this one. Takes no memory.
+    pub fn given(&self) -> u16
+        ensures { result ≡ self.now.state.given }
+    {
+        self.switch.given()
     }
 }

@@ -53,6 +53,13 @@ impl Switch {
         }
     }
 
+    /// How many references were given.
+    pub fn given(&self) -> u16
+        ensures { result ≡ self.now.given }
+    {
+        self.given
+    }
+
     /// Why the carrier ended.
     pub fn ended(&self) -> Option<EndReason>
         ensures { result ≡ self.now.ended }
