@@ -27,6 +27,7 @@ pub use opening::Opening;
 pub use phases::Phase;
 pub use plans::Plan;
 pub use requests::Request;
+pub use selected::is_profile;
 pub use sessions::Session;
 pub use sides::Sides;
 pub use taken::Taken;

@@ -120,7 +120,7 @@ impl FunctionalUnits {
 /// These functional units can be selected together: half-duplex, with or without points, restart
 /// and negotiated release; or duplex alone.
 #[tactic(auto, unfolding(crate::specs::Units::is_profile))]
-pub(crate) fn is_profile(requirements: Requirements) -> bool
+pub fn is_profile(requirements: Requirements) -> bool
     ensures { result ≡ is_profile (unit_bits requirements) }
 {
     let bits = requirements.bits();
