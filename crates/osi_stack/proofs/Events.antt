@@ -1,0 +1,154 @@
+-- The events that wait, heard one after the other.
+use Rattle.std.proofs.Common.{◌≡◌, ℕ, ◌+◌, ◌==◌, zero, suc, Bool, true, false, not, List, [], ◌∷◌, length, Option, Some, None, is_some, refl, sym, ap, subst, ◌∙◌, inl, inr, ◌⊎◌, arith, if◌then◌else◌}
+use Rattle.std.proofs.lemmas.Bool.{eqb-true}
+use Rattle.osi_carrier.specs.Calls.{ended_by, Tells}
+use Rattle.osi_carrier.specs.Happenings.{Happening}
+use Rattle.osi_carrier.specs.Packets.{is_spoilt}
+use Rattle.osi_carrier.specs.State.{State as Carrier}
+use Rattle.osi_carrier.specs.declared.ends.EndReason.{EndReason}
+use Rattle.osi_carrier.specs.declared.ends.EndReason.TheVariants.{NoMemory}
+use Rattle.osi_stack.specs.Fetching.{Interrupted, LeftOff}
+use Rattle.osi_stack.specs.Hearing.{hears, hears_first, hears_next, hears_times, hears_all, with_events, with_carrier, all_lost, concludes, starves, RunsOut}
+use Rattle.osi_stack.specs.State.{Line, End, Holding, IsAttended}
+use Rattle.osi_stack.proofs.Found.{same_end}
+use Rattle.osi_stack.proofs.Keeping.{Keeps, hears_keep}
+
+-- ---- one more
+
+one_later : (n : ℕ) (e : End) → hears_times (suc n) e ≡ hears_next (hears_times n e)
+one_later zero e = refl
+one_later (suc n) e = one_later n (hears_next e)
+
+-- an event that was told waits no longer
+record IsTaken (now : End) (event : Happening) (mid : Carrier) : Type 0 where
+  first : now.carrier.events ≡ event ∷ mid.events
+  rest : with_events mid.events now ≡ with_carrier mid now
+
+taken_is : (now : End) (event : Happening) (mid : Carrier) → now.carrier ≡ record mid { events = event ∷ mid.events } → IsTaken now event mid
+taken_is now event mid h = record {
+  first = ap (λ (c : Carrier). c.events) h;
+  rest = ap (λ (c : Carrier). with_carrier (record c { events = mid.events }) now) h;
+}
+
+-- so many events were heard
+pub record HasHeard (old now : Holding) : Type 0 where
+  pub count : ℕ
+  pub is : now.end ≡ hears_times count old.end
+  pub left : count + length now.end.carrier.events ≡ length old.end.carrier.events
+  pub held : now.held ≡ old.held
+
+pub heard_first : (old : Holding) → HasHeard old old
+heard_first old = record { count = 0; is = refl; left = omega arith; held = refl }
+
+pub heard_fewer : (now : End) (event : Happening) (mid : Carrier) → now.carrier ≡ record mid { events = event ∷ mid.events } →
+    length now.carrier.events ≡ suc (length (hears event (with_carrier mid now)).carrier.events)
+heard_fewer now event mid h =
+    let t = taken_is now event mid h in
+    let kept = ap length (hears_keep event (with_carrier mid now)).events in
+    let first = ap length t.first in
+    omega arith
+
+pub heard_next : (old now : Holding) (event : Happening) (mid : Carrier) (new : Holding) → HasHeard old now → now.end.carrier ≡ record mid { events = event ∷ mid.events } →
+    new.end ≡ hears event (with_carrier mid now.end) → new.held ≡ now.held → HasHeard old new
+heard_next old now event mid new so_far h is held =
+    let t = taken_is now.end event mid h in
+    let fewer = heard_fewer now.end event mid h in
+    let same = ap (λ (e : End). length e.carrier.events) is in
+    let before = so_far.left in
+    record {
+      count = suc so_far.count;
+      is = is ∙ ap (hears event) (sym t.rest) ∙ sym (ap (λ l. hears_first l now.end) t.first) ∙ ap hears_next so_far.is ∙ sym (one_later so_far.count old.end);
+      left = omega arith;
+      held = held ∙ so_far.held;
+    }
+
+pub heard_all : (old now : Holding) → HasHeard old now → now.end.carrier.events ≡ [] → now.end ≡ hears_all old.end
+heard_all old now so_far none =
+    let left = so_far.left in
+    let no = ap length none in
+    let count : so_far.count ≡ length old.end.carrier.events = omega arith in
+    so_far.is ∙ ap (λ n. hears_times n old.end) count
+
+pub heard_left : (old now : Holding) (event : Happening) (mid : Carrier) (new : End) → HasHeard old now → now.end.carrier ≡ record mid { events = event ∷ mid.events } →
+    Interrupted (with_carrier mid now.end) new → LeftOff old.end new
+heard_left old now event mid new so_far h stopped =
+    let t = taken_is now.end event mid h in
+    record {
+      heard = so_far.count;
+      event = event;
+      more = mid.events;
+      waits = ap (λ (e : End). e.carrier.events) (sym so_far.is) ∙ t.first;
+      stopped = subst (λ (e : End). Interrupted e new) (sym t.rest ∙ ap (with_events mid.events) so_far.is) stopped;
+    }
+
+-- ---- want of memory
+
+pub starved_is : (old mid : End) → LeftOff old mid → RunsOut old (starves mid)
+starved_is old mid left = record {
+  heard = left.heard;
+  event = left.event;
+  more = left.more;
+  waits = left.waits;
+  starved = same_end _ _ _ _ (ap (ended_by NoMemory) left.stopped.carrier) left.stopped.lines;
+}
+
+-- ---- no event waits
+
+not_false : (b : Bool) → not b ≡ false → b ≡ true
+not_false true h = refl
+not_false false h = cc
+
+pub no_events : (events : List Happening) → not (length events == 0) ≡ false → events ≡ []
+no_events [] h = refl
+no_events (x ∷ l) h = let none : suc (length l) ≡ 0 = eqb-true (length (x ∷ l)) 0 (not_false (length (x ∷ l) == 0) h) in absurd (omega arith)
+
+times_quiet : (n : ℕ) (e : End) → e.carrier.events ≡ [] → hears_times n e ≡ e
+times_quiet zero e none = refl
+times_quiet (suc n) e none =
+    let next : hears_next e ≡ e = ap (λ l. hears_first l e) none in
+    ap (hears_times n) next ∙ times_quiet n e none
+
+pub all_quiet : (e : End) → e.carrier.events ≡ [] → hears_all e ≡ e
+all_quiet e none = times_quiet (length e.carrier.events) e none
+
+-- where none waits there is memory
+pub never_starved : {A : Type 0} (old new : End) → old.carrier.events ≡ [] → RunsOut old new → A
+never_starved old new none out =
+    let none_left : (hears_times out.heard old).carrier.events ≡ [] = ap (λ (e : End). e.carrier.events) (times_quiet out.heard old none) ∙ none in
+    let some = out.waits in
+    cc
+
+-- ---- what stays
+
+pub all_keep_by : (n : ℕ) (e : End) → is_spoilt (hears_times n e).carrier.ended ≡ is_spoilt e.carrier.ended
+all_keep_by zero e = refl
+all_keep_by (suc n) e = all_keep_by n (hears_next e) ∙ first_keeps e.carrier.events e
+  where
+    first_keeps : (l : List Happening) (e : End) → is_spoilt (hears_first l e).carrier.ended ≡ is_spoilt e.carrier.ended
+    first_keeps [] e = refl
+    first_keeps (event ∷ events) e = (hears_keep event (with_events events e)).spoilt
+
+-- ---- attended
+
+over_by : (o : Option EndReason) (x y : Carrier) → is_some x.ended ≡ is_some o → is_some y.ended ≡ true → is_some (if is_some o then x else y).ended ≡ true
+over_by None x y h k = k
+over_by (Some reason) x y h k = h
+
+pub starved_over : (e : End) → is_some (starves e).carrier.ended ≡ true
+starved_over e = over_by e.carrier.ended e.carrier (record e.carrier { live = []; ended = Some NoMemory }) refl refl
+
+pub starved_attended : (e new : End) → new ≡ starves e → IsAttended new
+starved_attended e new h none =
+    let over = ap (λ (x : End). is_some x.carrier.ended) h ∙ starved_over e in
+    let lasts : is_some new.carrier.ended ≡ false = ap is_some none in
+    cc
+
+concluded_by : (b : Bool) (e : End) → (if b then record e { lines = all_lost e.lines } else e).carrier ≡ e.carrier
+concluded_by true e = refl
+concluded_by false e = refl
+
+pub concluded_carrier : (e : End) → (concludes e).carrier ≡ e.carrier
+concluded_carrier e = concluded_by (is_some e.carrier.ended) e
+
+pub concluded_attended : (e new : End) → new ≡ concludes e → e.carrier.events ≡ [] → IsAttended new
+concluded_attended e new h none over = ap (λ (x : End). x.carrier.events) h ∙ ap (λ (c : Carrier). c.events) (concluded_carrier e) ∙ none

@@ -1,0 +1,9 @@
+pub mod Sessions
+pub mod Found
+pub mod Losing
+pub mod FirstShown
+pub mod Calling
+pub mod Keeping
+pub mod Events
+pub mod Lifting
+pub mod Pieces

@@ -1,0 +1,83 @@
+-- Sessions that are lost.
+use Rattle.std.proofs.Common.{◌≡◌, ℕ, ◌+◌, ◌<◌, ◌==◌, zero, suc, Bool, true, false, List, [], ◌∷◌, ◌++◌, length, take, drop, map, get_or, set, arith, Option, Some, None, Result, Ok, Err, OnErr, refl, sym, ap, subst, ◌∙◌, if◌then◌else◌}
+use Rattle.std.proofs.lemmas.List.{append-nil, map-append}
+use Rattle.osi_carrier.proofs.Places.{placed, here_is}
+use Rattle.osi_carrier.specs.Rows.{Rows, value_at, place_of, put}
+use Rattle.osi_session.specs.Moves.{Standing, broken, react}
+use Rattle.osi_session.specs.Phases.{shows_loss}
+use Rattle.osi_session.specs.Shown.{Shown, Lost, shown_by}
+use Rattle.osi_session.specs.declared.indications.Indication.{Indication}
+use Rattle.osi_stack.specs.Hearing.{shown_at_loss, loses, all_lost}
+use Rattle.osi_stack.specs.State.{Line}
+
+-- what a session shows when it is lost
+lost_shown : (s : Standing) → (react s broken).shown ≡ (if shows_loss s.state.phase then Lost ∷ [] else [])
+unfolding react
+lost_shown s = refl
+
+pub lost_line : (s : Standing) (l : Line) (b : Bool) (waiting : List Shown) → l.session ≡ Some s → b ≡ shows_loss s.state.phase →
+    waiting ≡ l.waiting ++ (if b then Lost ∷ [] else []) → record { session = None; waiting = waiting } ≡ loses l
+lost_line s l b waiting e shows h =
+    ap (λ (w : List Shown). record { session = None; waiting = w }) (h ∙ ap (λ (v : Bool). l.waiting ++ (if v then Lost ∷ [] else [])) shows
+    ∙ ap (λ v. l.waiting ++ v) (sym (lost_shown s)) ∙ ap (λ o. l.waiting ++ shown_at_loss o) (sym e))
+
+-- one indication more
+pub one_more : (items new : List Indication) (i : Indication) (shown : Shown) → new ≡ items ++ i ∷ [] → shown_by i ≡ shown →
+    map shown_by new ≡ map shown_by items ++ shown ∷ []
+one_more items new i shown h e = ap (map shown_by) h ∙ map-append shown_by items (i ∷ []) ∙ ap (λ x. map shown_by items ++ x ∷ []) e
+
+pub none_more : (l : List Shown) → l ≡ l ++ []
+none_more l = sym (append-nil l)
+
+-- ---- all of them
+
+lost_twice : (l : Line) → loses (loses l) ≡ loses l
+lost_twice l = ap (λ (w : List Shown). record { session = None; waiting = w }) (append-nil (l.waiting ++ shown_at_loss l.session))
+
+lost_put_by : (r q : ℕ) (y l : Line) (rows : Rows Line) (b : Bool) → (q == r) ≡ b → (value_at r rows ≡ Some l → all_lost (put r (loses l) rows) ≡ all_lost rows) →
+    value_at r ((q, y) ∷ rows) ≡ Some l → all_lost (put r (loses l) ((q, y) ∷ rows)) ≡ all_lost ((q, y) ∷ rows)
+lost_put_by r q y l rows true t more h =
+    let same : Some y ≡ Some l = rw t at h in
+    let is : y ≡ l = cc in
+    rw t (ap (λ (x : Line). (q, x) ∷ all_lost rows) (lost_twice l ∙ ap loses (sym is)))
+lost_put_by r q y l rows false t more h =
+    let behind : value_at r rows ≡ Some l = rw t at h in
+    rw t (ap (λ k. (q, loses y) ∷ k) (more behind))
+
+-- a session that is lost already
+pub lost_put : (r : ℕ) (l : Line) (rows : Rows Line) → value_at r rows ≡ Some l → all_lost (put r (loses l) rows) ≡ all_lost rows
+lost_put r l [] h = refl
+lost_put r l ((q, y) ∷ rows) h = lost_put_by r q y l rows (q == r) refl (lost_put r l rows) h
+
+pub stopped_rows : {A E : Type 0} (result : Result A E) (r : ℕ) (rows items : Rows Line) (i : ℕ) (row new : ℕ × Line) → place_of r rows ≡ Some i →
+    row ≡ get_or rows i row → items ≡ rows → OnErr result (new ≡ (row.0, loses row.1)) → OnErr result (all_lost (set items i new) ≡ all_lost rows)
+stopped_rows (Ok a) r rows items i row new e here same h = tt
+stopped_rows (Err f) r rows items i row new e here same h =
+    let p = placed r rows i row e in
+    let named = ap (λ (x : ℕ × Line). x.0) here ∙ p.named in
+    ap all_lost (ap (λ l. set l i new) same ∙ ap (λ x. set rows i x) (h ∙ ap (λ n. (n, loses row.1)) named) ∙ sym (p.put_is (loses row.1)))
+    ∙ lost_put r row.1 rows (here_is r rows i row e here)
+
+-- ---- one after the other
+
+record IsStep (xs : Rows Line) (i : ℕ) (d : ℕ × Line) : Type 0 where
+  here : get_or (all_lost (take i xs) ++ drop i xs) i d ≡ get_or xs i d
+  next : set (all_lost (take i xs) ++ drop i xs) i ((get_or xs i d).0, loses (get_or xs i d).1) ≡ all_lost (take (suc i) xs) ++ drop (suc i) xs
+
+step_at : (xs : Rows Line) (i : ℕ) (d : ℕ × Line) → i < length xs → IsStep xs i d
+step_at [] i d h = absurd (omega arith)
+step_at (x ∷ xs) zero d h = record { here = refl; next = refl }
+step_at (x ∷ xs) (suc i) d h =
+    let more = step_at xs i d (omega arith) in
+    record { here = more.here; next = ap (λ l. (x.0, loses x.1) ∷ l) more.next }
+
+-- those in front are lost, the next is lost
+pub lost_step : (xs items : Rows Line) (i : ℕ) (row new : ℕ × Line) → i < length xs → items ≡ all_lost (take i xs) ++ drop i xs →
+    row ≡ get_or items i row → new ≡ (row.0, loses row.1) → set items i new ≡ all_lost (take (i + 1) xs) ++ drop (i + 1) xs
+lost_step xs items i row new within before here h =
+    let step = step_at xs i row within in
+    let is : row ≡ get_or xs i row = here ∙ ap (λ l. get_or l i row) before ∙ step.here in
+    let next : suc i ≡ i + 1 = omega arith in
+    ap (λ l. set l i new) before
+    ∙ ap (λ x. set (all_lost (take i xs) ++ drop i xs) i x) (h ∙ ap (λ (x : ℕ × Line). (x.0, loses x.1)) is)
+    ∙ step.next ∙ ap (λ n. all_lost (take n xs) ++ drop n xs) next

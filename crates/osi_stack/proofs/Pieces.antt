@@ -1,0 +1,506 @@
+-- A piece of the stream, read by looks that each take packets up to one that tells something.
+use Rattle.std.proofs.Common.{◌≡◌, ℕ, zero, suc, ◌+◌, ◌-◌, ◌^◌, ◌<◌, ◌≤◌, ◌||◌, ◌==◌, not, true, false, Bool, List, [], ◌∷◌, ◌++◌, length, take, drop, min, Option, Some, None, Result, Ok, Err, is_some, refl, sym, ap, subst, ◌∙◌, inl, inr, ◌⊎◌, arith, length-append, length-drop, length-take, append_assoc, if◌then◌else◌}
+use Rattle.std.proofs.lemmas.List.{append-nil, take-append-drop, take_at}
+use Rattle.osi_tpkt.specs.Packet.{IsPartial, IsFaultOf}
+use Rattle.osi_tpkt.specs.Stream.{ArePackets, CutsFrom, offset_of}
+use Rattle.osi_tpkt.specs.Stream.Ending.{Faulty}
+use Rattle.osi_tpkt.specs.declared.faults.TpktFault.{TpktFault}
+use Rattle.osi_tpdu.specs.Packet.{units_of}
+use Rattle.osi_tpdu.specs.Value.{Value}
+use Rattle.osi_tpdu.specs.declared.faults.TpduFault.{TpduFault}
+use Rattle.osi_carrier.proofs.Reading.{packets_more, packets_leave}
+use Rattle.osi_carrier.specs.Packets.{Carrying, is_spoilt, ActsBy, acts_by}
+use Rattle.osi_carrier.specs.Packets as carriers
+use Rattle.osi_carrier.specs.Rows.{Rows}
+use Rattle.osi_carrier.specs.State.{State as Carrier}
+use Rattle.osi_carrier.specs.State as states
+use Rattle.osi_carrier.specs.declared.ends.CarrierFault.TheVariants.{Tpkt}
+use Rattle.osi_carrier.specs.declared.ends.EndReason.{EndReason}
+use Rattle.osi_carrier.specs.declared.ends.EndReason.TheVariants.{Fault, NoMemory}
+use Rattle.osi_stack.specs.Feeding.{stops, uses_all, TakesPackets, RunsDry, StopsBehind, Refuses, FindsNoMemory, Goes}
+use Rattle.osi_stack.specs.Fetching.{Fetches, Attends, RunsOutAt}
+use Rattle.osi_stack.specs.Hearing.{attends, with_carrier, ends, hears_all, concludes, RunsOut, Starves}
+use Rattle.osi_stack.specs.State.{Line, End, Holding, IsAttended, waits}
+use Rattle.osi_stack.proofs.Events.{all_quiet, never_starved, concluded_carrier, all_keep_by}
+use Rattle.osi_stack.proofs.Lifting.{both, or_first, or_second, IsQuiet, quiet_is, quiet_attends, quiet_stops, lift_dry, last_is, takes_append, packets_append, packets_part, lift_last}
+
+-- ---- where reading a piece is
+
+-- the packets in front of `rest` have acted, and none of them stopped
+pub record IsRead (old : Holding) (piece : List ℕ) (now : Holding) (rest : List ℕ) : Type 0 where
+  pub front : List ℕ
+  pub units : List (List ℕ)
+  pub cut : piece ≡ front ++ rest
+  pub packets : ArePackets units (old.held.octets ++ front) now.held.octets
+  pub taken : TakesPackets old.end units now.end
+  pub quiet : stops now.end ≡ false
+  pub attended : IsAttended now.end
+  pub offset : (n : ℕ) → offset_of (now.held.offset + n) ≡ offset_of (old.held.offset + ((length (old.held.octets ++ front) - length now.held.octets) + n))
+
+pub read_first : (old : Holding) (piece : List ℕ) → stops old.end ≡ false → IsAttended old.end → IsRead old piece old piece
+read_first old piece quiet attended =
+    let none = length-append old.held.octets [] in
+    record {
+      front = [];
+      units = [];
+      cut = refl;
+      packets = append-nil old.held.octets;
+      taken = refl;
+      quiet = quiet;
+      attended = attended;
+      offset = λ n. (let same : (length (old.held.octets ++ []) - length old.held.octets) + n ≡ n = omega arith in ap (λ k. offset_of (old.held.offset + k)) (sym same));
+    }
+
+-- ---- a carrier on which nothing waits
+
+none_of : (o : Option EndReason) → is_some o ≡ false → o ≡ None
+none_of None e = refl
+none_of (Some reason) e = cc
+
+quiet_end : (e : End) → stops e ≡ false → IsAttended e → carriers.stops e.carrier ≡ false
+quiet_end e quiet attended =
+    let lasts = or_first (is_some e.carrier.ended) (waits e.lines) quiet in
+    let none = attended (none_of e.carrier.ended lasts) in
+    ap (λ b. b || carriers.waits e.carrier) lasts ∙ ap (λ l. not (length l == 0)) none
+
+-- ---- what was heard
+
+-- the carrier ended with nothing told
+ended_attends : (c d : Carrier) (lines : Rows Line) (reason : EndReason) → d ≡ states.ends reason c → IsQuiet c →
+    attends (record { carrier = d; lines = lines }) ≡ ends reason (record { carrier = c; lines = lines })
+ended_attends c d lines reason h q =
+    let over : End = record { carrier = states.ends reason c; lines = lines } in
+    ap (λ (x : Carrier). attends (record { carrier = x; lines = lines })) h ∙ ap concludes (all_quiet over q.events)
+
+attends_spoilt : (e new : End) → new ≡ attends e → is_spoilt new.carrier.ended ≡ is_spoilt e.carrier.ended
+attends_spoilt e new h =
+    ap (λ (x : End). is_spoilt x.carrier.ended) h ∙ ap (λ (c : Carrier). is_spoilt c.ended) (concluded_carrier (hears_all e)) ∙ all_keep_by (length e.carrier.events) e
+
+-- what a packet did is one way for it to act
+acts_of : (units : Result (List Value) TpduFault) (old new : Carrier) → new ≡ acts_by units old → ActsBy units old new
+acts_of (Ok us) old new h = inl h
+acts_of (Err f) old new h = h
+
+acts_is : (old new : Carrier) (packet : List ℕ) → new ≡ carriers.after_packet old packet → carriers.Acts old packet new
+unfolding carriers.after_packet
+acts_is old new packet h = acts_of (units_of packet) old new h
+
+acts_starved : (old new : Carrier) (packet : List ℕ) → carriers.Starves old packet new → carriers.Acts old packet new
+acts_starved old new packet h = subst (λ (u : Result (List Value) TpduFault). ActsBy u old new) (sym h.1) (inr h.2)
+
+-- ---- lists
+
+record Looked (piece front rest : List ℕ) (within : ℕ) : Type 0 where
+  cut : piece ≡ (front ++ take within rest) ++ drop within rest
+  seen : take (length (front ++ take within rest)) piece ≡ front ++ take within rest
+  bound : length (front ++ take within rest) ≤ length piece
+
+looked : (piece front rest : List ℕ) (within : ℕ) → piece ≡ front ++ rest → Looked piece front rest within
+looked piece front rest within cut =
+    let parts : piece ≡ (front ++ take within rest) ++ drop within rest =
+    cut ∙ ap (λ l. front ++ l) (sym (take-append-drop within rest)) ∙ sym (append_assoc front (take within rest) (drop within rest)) in
+    let sizes = ap length parts ∙ length-append (front ++ take within rest) (drop within rest) in
+    record {
+      cut = parts;
+      seen = ap (take (length (front ++ take within rest))) parts ∙ take_at (front ++ take within rest) (drop within rest) (length (front ++ take within rest)) refl;
+      bound = omega arith;
+    }
+
+-- the packets so far, with more octets behind them
+more_packets : (old : Holding) (piece : List ℕ) (now : Holding) (rest more : List ℕ) (read : IsRead old piece now rest) →
+    ArePackets read.units (old.held.octets ++ (read.front ++ more)) (now.held.octets ++ more)
+more_packets old piece now rest more read =
+    subst (λ l. ArePackets read.units l (now.held.octets ++ more)) (append_assoc old.held.octets read.front more)
+    (packets_more read.units (old.held.octets ++ read.front) now.held.octets more read.packets)
+
+-- the place of octets of which so many are left
+place_of_rest : (old : Holding) (piece : List ℕ) (now : Holding) (rest more : List ℕ) (left : ℕ) (read : IsRead old piece now rest) → left ≤ length (now.held.octets ++ more) →
+    offset_of (now.held.offset + (length (now.held.octets ++ more) - left)) ≡ offset_of (old.held.offset + (length (old.held.octets ++ (read.front ++ more)) - left))
+place_of_rest old piece now rest more left read within =
+    let before = packets_leave read.units (old.held.octets ++ read.front) now.held.octets read.packets in
+    let a = length-append now.held.octets more in
+    let b = length-append old.held.octets read.front in
+    let c = length-append old.held.octets (read.front ++ more) in
+    let d = length-append read.front more in
+    let same : (length (old.held.octets ++ read.front) - length now.held.octets) + (length (now.held.octets ++ more) - left) ≡ length (old.held.octets ++ (read.front ++ more)) - left = omega arith in
+    read.offset (length (now.held.octets ++ more) - left) ∙ ap (λ n. offset_of (old.held.offset + n)) same
+
+-- ---- one look
+
+-- all was looked at, and nothing stopped
+record IsDry (old : Holding) (piece rest : List ℕ) (used : ℕ) (new : Holding) : Type 0 where
+  all : used ≡ length rest
+  runs : RunsDry old piece (length piece) new
+
+-- the last packet told something
+record IsBehind (old : Holding) (piece rest : List ℕ) (used : ℕ) (new : Holding) : Type 0 where
+  within : ℕ
+  front : List ℕ
+  units : List (List ℕ)
+  bound : within ≤ length rest
+  uses : used ≡ (if is_spoilt new.end.carrier.ended then length rest else within)
+  cut : piece ≡ front ++ drop within rest
+  seen : take (length front) piece ≡ front
+  at_most : length front ≤ length piece
+  packets : ArePackets units (old.held.octets ++ front) []
+  taken : TakesPackets old.end units new.end
+  held : new.held.octets ≡ []
+  offset : (n : ℕ) → offset_of (new.held.offset + n) ≡ offset_of (old.held.offset + (length (old.held.octets ++ front) + n))
+  place : new.held.offset ≡ offset_of (old.held.offset + length (old.held.octets ++ front))
+
+-- it ended by a fault or for want of memory
+record IsFinal (old : Holding) (piece rest : List ℕ) (used : ℕ) (new : Holding) : Type 0 where
+  all : used ≡ length rest
+  goes : Goes old piece (length piece) new
+
+abbrev Look : Holding → List ℕ → List ℕ → ℕ → Holding → Type 0
+Look old piece rest used new = (IsDry old piece rest used new ⊎ IsBehind old piece rest used new) ⊎ IsFinal old piece rest used new
+
+dry_is : (old : Holding) (piece : List ℕ) (now : Holding) (rest : List ℕ) (fed : ℕ) (told : Carrying) (new : Holding) (read : IsRead old piece now rest) →
+    carriers.RunsDry (record { state = now.end.carrier; held = now.held }) rest fed told → new.held ≡ told.held → new.end ≡ with_carrier told.state now.end →
+    RunsDry old piece (length piece) new
+dry_is old piece now rest fed told new read g held is =
+    let none = or_second (is_some now.end.carrier.ended) (waits now.end.lines) read.quiet in
+    let there = with_carrier told.state now.end in
+    let whole = more_packets old piece now rest rest read in
+    let left = packets_leave g.units (now.held.octets ++ rest) told.held.octets g.packets in
+    record {
+      units = read.units ++ g.units;
+      all = refl;
+      packets = subst (λ h. ArePackets (read.units ++ g.units) (old.held.octets ++ piece) h) (ap (λ h. h.octets) (sym held))
+          (subst (λ l. ArePackets (read.units ++ g.units) (old.held.octets ++ l) told.held.octets) (sym read.cut)
+          (packets_append read.units g.units (old.held.octets ++ (read.front ++ rest)) (now.held.octets ++ rest) told.held.octets whole g.packets));
+      partial = subst (λ h. IsPartial h) (ap (λ h. h.octets) (sym held)) g.partial;
+      taken = subst (λ (x : End). TakesPackets old.end (read.units ++ g.units) x) (sym is)
+          (takes_append old.end now.end there read.units g.units read.taken (lift_dry now.end.lines now.end.carrier told.state g.units none g.taken g.quiet));
+      quiet = ap stops is ∙ quiet_stops there (quiet_is told.state g.quiet).lasts none;
+      offset = ap (λ h. h.offset) held ∙ g.offset ∙ place_of_rest old piece now rest rest (length told.held.octets) read left
+          ∙ ap (λ l. offset_of (old.held.offset + (length (old.held.octets ++ l) - length told.held.octets))) (sym read.cut)
+          ∙ ap (λ h. offset_of (old.held.offset + (length (old.held.octets ++ piece) - length h.octets))) (sym held);
+    }
+
+behind_is : (old : Holding) (piece : List ℕ) (now : Holding) (rest : List ℕ) (used fed : ℕ) (told : Carrying) (new : Holding) (read : IsRead old piece now rest) →
+    carriers.StopsBehind (record { state = now.end.carrier; held = now.held }) rest fed told → new.held ≡ told.held → new.end ≡ attends (with_carrier told.state now.end) →
+    used ≡ fed → IsBehind old piece rest used new
+behind_is old piece now rest used fed told new read g held is same =
+    let none = or_second (is_some now.end.carrier.ended) (waits now.end.lines) read.quiet in
+    let look = looked piece read.front rest g.within read.cut in
+    let before = packets_leave read.units (old.held.octets ++ read.front) now.held.octets read.packets in
+    let a = length-append now.held.octets (take g.within rest) in
+    let b = length-append old.held.octets read.front in
+    let c = length-append old.held.octets (read.front ++ take g.within rest) in
+    let d = length-append read.front (take g.within rest) in
+    record {
+      within = g.within;
+      front = read.front ++ take g.within rest;
+      units = read.units ++ g.units;
+      bound = g.bound;
+      uses = same ∙ g.uses ∙ ap (λ (s : Bool). if s then length rest else g.within) (sym (attends_spoilt (with_carrier told.state now.end) new.end is));
+      cut = look.cut;
+      seen = look.seen;
+      at_most = look.bound;
+      packets = packets_append read.units g.units (old.held.octets ++ (read.front ++ take g.within rest)) (now.held.octets ++ take g.within rest) []
+          (more_packets old piece now rest (take g.within rest) read) g.packets;
+      taken = takes_append old.end now.end new.end read.units g.units read.taken
+          (lift_last now.end.lines now.end.carrier told.state g.units new.end none g.taken (quiet_end now.end read.quiet read.attended) g.stopped is);
+      held = ap (λ h. h.octets) held ∙ g.held;
+      offset = λ n. (
+          let here = ap (λ h. h.offset) held ∙ g.offset in
+          let far = read.offset (length (now.held.octets ++ take g.within rest) + n) in
+          let sum : (length (old.held.octets ++ read.front) - length now.held.octets) + (length (now.held.octets ++ take g.within rest) + n)
+          ≡ length (old.held.octets ++ (read.front ++ take g.within rest)) + n = omega arith in
+          let moved : offset_of (new.held.offset + n) ≡ offset_of (now.held.offset + (length (now.held.octets ++ take g.within rest) + n)) = omega arith in
+          moved ∙ far ∙ ap (λ k. offset_of (old.held.offset + k)) sum
+          );
+      place = (
+          let sum : (length (old.held.octets ++ read.front) - length now.held.octets) + length (now.held.octets ++ take g.within rest)
+          ≡ length (old.held.octets ++ (read.front ++ take g.within rest)) = omega arith in
+          ap (λ h. h.offset) held ∙ g.offset ∙ read.offset (length (now.held.octets ++ take g.within rest)) ∙ ap (λ k. offset_of (old.held.offset + k)) sum
+          );
+    }
+
+-- for what the last packet led to there was no memory
+stopped_is : (old : Holding) (piece : List ℕ) (now : Holding) (rest : List ℕ) (fed : ℕ) (told : Carrying) (new : Holding) (read : IsRead old piece now rest) →
+    carriers.StopsBehind (record { state = now.end.carrier; held = now.held }) rest fed told → RunsOut (with_carrier told.state now.end) new.end → new.held ≡ told.held →
+    FindsNoMemory old piece (length piece) new
+stopped_is old piece now rest fed told new read g out held =
+    let none = or_second (is_some now.end.carrier.ended) (waits now.end.lines) read.quiet in
+    let look = looked piece read.front rest g.within read.cut in
+    let l = last_is now.end.carrier told.state g.units g.taken (quiet_end now.end read.quiet read.attended) g.stopped in
+    let parts = packets_part l.first (l.last ∷ []) (now.held.octets ++ take g.within rest) [] (subst (λ us. ArePackets us (now.held.octets ++ take g.within rest) []) l.all g.packets) in
+    let before = with_carrier l.before now.end in
+    record {
+      within = length (read.front ++ take g.within rest);
+      units = read.units ++ l.first;
+      rest = parts.between;
+      before = before;
+      all = refl;
+      bound = look.bound;
+      packets = subst (λ k. ArePackets (read.units ++ l.first) (old.held.octets ++ k) parts.between) (sym look.seen)
+          (packets_append read.units l.first (old.held.octets ++ (read.front ++ take g.within rest)) (now.held.octets ++ take g.within rest) parts.between
+          (more_packets old piece now rest (take g.within rest) read) parts.front);
+      taken = takes_append old.end now.end before read.units l.first read.taken (lift_dry now.end.lines now.end.carrier l.before l.first none l.taken l.quiet);
+      quiet = quiet_stops before (quiet_is l.before l.quiet).lasts none;
+      how = inr (l.last, parts.back, inr (told.state, acts_is l.before told.state l.last l.acts, out));
+    }
+
+refuses_is : (old : Holding) (piece : List ℕ) (now : Holding) (rest : List ℕ) (fed : ℕ) (told : Carrying) (new : Holding) (read : IsRead old piece now rest) →
+    carriers.Refuses (record { state = now.end.carrier; held = now.held }) rest fed told → new.end ≡ attends (with_carrier told.state now.end) → Refuses old piece (length piece) new
+refuses_is old piece now rest fed told new read g is =
+    let none = or_second (is_some now.end.carrier.ended) (waits now.end.lines) read.quiet in
+    let before = with_carrier g.before now.end in
+    let q = quiet_is g.before g.quiet in
+    let r = g.cut.0 in
+    let left = packets_leave g.units (now.held.octets ++ rest) r g.cut.1 in
+    let place = place_of_rest old piece now rest rest (length r) read left
+    ∙ ap (λ l. offset_of (old.held.offset + (length (old.held.octets ++ l) - length r))) (sym read.cut) in
+    record {
+      units = read.units ++ g.units;
+      fault = g.fault;
+      before = before;
+      all = refl;
+      cut = (
+        r,
+        subst (λ l. ArePackets (read.units ++ g.units) (old.held.octets ++ l) r) (sym read.cut)
+            (packets_append read.units g.units (old.held.octets ++ (read.front ++ rest)) (now.held.octets ++ rest) r (more_packets old piece now rest rest read) g.cut.1),
+        subst (λ n. IsFaultOf n r g.fault) place g.cut.2,
+      );
+      taken = takes_append old.end now.end before read.units g.units read.taken (lift_dry now.end.lines now.end.carrier g.before g.units none g.taken g.quiet);
+      quiet = quiet_stops before q.lasts none;
+      ended = is ∙ ended_attends g.before told.state now.end.lines (Fault (Tpkt g.fault)) g.ended q;
+    }
+
+starved_with : (old : Holding) (piece : List ℕ) (now : Holding) (rest : List ℕ) (fed : ℕ) (told : Carrying) (new : Holding) (read : IsRead old piece now rest) →
+    (g : carriers.FindsNoMemory (record { state = now.end.carrier; held = now.held }) rest fed told) →
+    ((new.end ≡ ends NoMemory (with_carrier g.before now.end)) ⊎ ((packet : List ℕ) × ArePackets (packet ∷ []) g.rest [] × Starves (with_carrier g.before now.end) packet new.end)) →
+    FindsNoMemory old piece (length piece) new
+starved_with old piece now rest fed told new read g how =
+    let none = or_second (is_some now.end.carrier.ended) (waits now.end.lines) read.quiet in
+    let look = looked piece read.front rest g.within read.cut in
+    let before = with_carrier g.before now.end in
+    record {
+      within = length (read.front ++ take g.within rest);
+      units = read.units ++ g.units;
+      rest = g.rest;
+      before = before;
+      all = refl;
+      bound = look.bound;
+      packets = subst (λ k. ArePackets (read.units ++ g.units) (old.held.octets ++ k) g.rest) (sym look.seen)
+          (packets_append read.units g.units (old.held.octets ++ (read.front ++ take g.within rest)) (now.held.octets ++ take g.within rest) g.rest
+          (more_packets old piece now rest (take g.within rest) read) g.packets);
+      taken = takes_append old.end now.end before read.units g.units read.taken (lift_dry now.end.lines now.end.carrier g.before g.units none g.taken g.quiet);
+      quiet = quiet_stops before (quiet_is g.before g.quiet).lasts none;
+      how = how;
+    }
+
+starved_how : (now : Holding) (rest : List ℕ) (fed : ℕ) (told : Carrying) (new : Holding) (g : carriers.FindsNoMemory (record { state = now.end.carrier; held = now.held }) rest fed told) →
+    ((new.end ≡ attends (with_carrier told.state now.end)) ⊎ RunsOut (with_carrier told.state now.end) new.end) →
+    ((new.end ≡ ends NoMemory (with_carrier g.before now.end)) ⊎ ((packet : List ℕ) × ArePackets (packet ∷ []) g.rest [] × Starves (with_carrier g.before now.end) packet new.end))
+starved_how now rest fed told new g heard =
+    let q = quiet_is g.before g.quiet in
+    elim (g.how) [
+      | inl over ↦ elim heard [
+        | inl is ↦ inl (is ∙ ended_attends g.before told.state now.end.lines NoMemory over q)
+        | inr out ↦ never_starved (with_carrier told.state now.end) new.end (ap (λ (c : Carrier). c.events) over ∙ q.events) out
+      ]
+      | inr starved ↦ elim heard [
+        | inl is ↦ inr (starved.0, starved.1, inl (told.state, starved.2, is))
+        | inr out ↦ inr (starved.0, starved.1, inr (told.state, acts_starved g.before told.state starved.0 starved.2, out))
+      ]
+    ]
+
+looks : (old : Holding) (piece : List ℕ) (now : Holding) (rest : List ℕ) (used : ℕ) (new : Holding) → IsRead old piece now rest → Fetches now rest used new → Look old piece rest used new
+looks old piece now rest used new read fetch =
+    let there = with_carrier fetch.told.state now.end in
+    elim (fetch.feeds.goes (quiet_end now.end read.quiet read.attended)) [
+      | inl (inl g) ↦ (
+          let q = quiet_is fetch.told.state g.quiet in
+          elim (fetch.heard) [
+            | inl h ↦ inl (inl (record { all = h.1 ∙ g.all; runs = dry_is old piece now rest fetch.fed.used fetch.told new read g fetch.held (h.0 ∙ quiet_attends there q) }))
+            | inr h ↦ never_starved there new.end q.events h.0
+          ]
+          )
+      | inl (inr g) ↦ elim (fetch.heard) [
+        | inl h ↦ inl (inr (behind_is old piece now rest used fetch.fed.used fetch.told new read g fetch.held h.0 h.1))
+        | inr h ↦ inr (record { all = h.1; goes = inr (inr (stopped_is old piece now rest fetch.fed.used fetch.told new read g h.0 fetch.held)) })
+      ]
+      | inr (inl g) ↦ elim (fetch.heard) [
+        | inl h ↦ inr (record { all = h.1 ∙ g.all; goes = inr (inl (refuses_is old piece now rest fetch.fed.used fetch.told new read g h.0)) })
+        | inr h ↦ never_starved there new.end (ap (λ (c : Carrier). c.events) g.ended ∙ (quiet_is g.before g.quiet).events) h.0
+      ]
+      | inr (inr g) ↦ elim (fetch.heard) [
+        | inl h ↦ inr (record { all = h.1 ∙ g.all; goes = inr (inr (starved_with old piece now rest fetch.fed.used fetch.told new read g (starved_how now rest fetch.fed.used fetch.told new g (inl h.0)))) })
+        | inr h ↦ inr (record { all = h.1; goes = inr (inr (starved_with old piece now rest fetch.fed.used fetch.told new read g (starved_how now rest fetch.fed.used fetch.told new g (inr h.0)))) })
+      ]
+    ]
+
+-- ---- where reading goes on, and where it ends
+
+pub record IsMeasured (piece rest : List ℕ) (used : ℕ) : Type 0 where
+  pub bound : used ≤ length rest
+  pub some : 0 < length rest → 0 < used
+  pub parts : length (drop used rest) + used ≡ length rest
+  pub within : length rest ≤ length piece
+
+pub measured : (old : Holding) (piece : List ℕ) (now : Holding) (rest : List ℕ) (used : ℕ) (new : Holding) → IsRead old piece now rest → Fetches now rest used new →
+    IsMeasured piece rest used
+measured old piece now rest used new read fetch =
+    let quiet = or_second (is_some now.end.carrier.ended) (carriers.waits now.end.carrier) (quiet_end now.end read.quiet read.attended) in
+    let sizes = ap length read.cut ∙ length-append read.front rest in
+    let dropped = length-drop used rest in
+    let within : used ≤ length rest = elim (fetch.heard) [
+      | inl h ↦ (let fed = fetch.feeds.bound in let same = h.1 in omega arith)
+      | inr h ↦ (let same = h.1 in omega arith)
+    ] in
+    let positive : 0 < length rest → 0 < used = λ some. elim (fetch.heard) [
+      | inl h ↦ (let fed = fetch.feeds.progress quiet some in let same = h.1 in omega arith)
+      | inr h ↦ (let same = h.1 in omega arith)
+    ] in
+    record { bound = within; some = positive; parts = omega arith; within = omega arith }
+
+-- nothing is left of the piece
+all_used : (rest : List ℕ) (used : ℕ) → used ≡ length rest → length (drop used rest) ≡ 0
+all_used rest used e = let dropped = length-drop used rest in omega arith
+
+-- of a quiet end nothing waits, and it lasts
+quiet_waits : (e : End) → stops e ≡ false → waits e.lines ≡ false
+quiet_waits e quiet = or_second (is_some e.carrier.ended) (waits e.lines) quiet
+
+spoilt_ended : (o : Option EndReason) → is_some o ≡ false → is_spoilt o ≡ false
+spoilt_ended None e = refl
+spoilt_ended (Some reason) e = cc
+
+-- how much is used where an indication waits
+uses_waiting : (b w : Bool) (piece front rest : List ℕ) (used within : ℕ) → w ≡ true → piece ≡ front ++ drop within rest → within ≤ length rest →
+    used ≡ (if b then length rest else within) → length piece - length (drop used rest) ≡ (if b || not w then length piece else length front)
+uses_waiting b false piece front rest used within w cut bound uses = cc
+uses_waiting true true piece front rest used within w cut bound uses =
+    let none = all_used rest used uses in
+    omega arith
+uses_waiting false true piece front rest used within w cut bound uses =
+    let sizes = ap length cut ∙ length-append front (drop within rest) in
+    let same = ap (λ n. length (drop n rest)) uses in
+    omega arith
+
+uses_ended : (b w : Bool) (all within : ℕ) → w ≡ false → all ≡ (if b || not w then all else within)
+uses_ended true w all within e = refl
+uses_ended false true all within e = cc
+uses_ended false false all within e = refl
+
+behind_stops : (old : Holding) (piece rest : List ℕ) (used uses : ℕ) (new : Holding) (b : IsBehind old piece rest used new) → stops new.end ≡ true →
+    uses ≡ (if uses_all new.end then length piece else length b.front) → StopsBehind old piece uses new
+behind_stops old piece rest used uses new b stopped e = record {
+  within = length b.front;
+  units = b.units;
+  bound = b.at_most;
+  packets = subst (λ l. ArePackets b.units (old.held.octets ++ l) []) (sym b.seen) b.packets;
+  taken = b.taken;
+  stopped = stopped;
+  uses = e;
+  held = b.held;
+  offset = b.place ∙ ap (λ l. offset_of (old.held.offset + length (old.held.octets ++ l))) (sym b.seen);
+}
+
+or_true : (a b : Bool) → b ≡ true → (a || b) ≡ true
+or_true true b e = refl
+or_true false b e = e
+
+or_left : (a b : Bool) → a ≡ true → (a || b) ≡ true
+or_left true b e = refl
+or_left false b e = cc
+
+waits_by : (old : Holding) (piece rest : List ℕ) (used : ℕ) (new : Holding) → waits new.end.lines ≡ true → Look old piece rest used new →
+    Goes old piece (length piece - length (drop used rest)) new
+waits_by old piece rest used new waiting (inl (inl dry)) = both (waits new.end.lines) waiting (quiet_waits new.end dry.runs.quiet)
+waits_by old piece rest used new waiting (inl (inr b)) =
+    inl (inr (behind_stops old piece rest used (length piece - length (drop used rest)) new b (or_true (is_some new.end.carrier.ended) (waits new.end.lines) waiting)
+    (uses_waiting (is_spoilt new.end.carrier.ended) (waits new.end.lines) piece b.front rest used b.within waiting b.cut b.bound b.uses)))
+waits_by old piece rest used new waiting (inr f) =
+    let none = all_used rest used f.all in
+    let same : length piece ≡ length piece - length (drop used rest) = omega arith in
+    subst (λ n. Goes old piece n new) same f.goes
+
+pub read_waits : (old : Holding) (piece : List ℕ) (now : Holding) (rest : List ℕ) (used : ℕ) (new : Holding) → IsRead old piece now rest → Fetches now rest used new →
+    waits new.end.lines ≡ true → Goes old piece (length piece - length (drop used rest)) new
+read_waits old piece now rest used new read fetch waiting = waits_by old piece rest used new waiting (looks old piece now rest used new read fetch)
+
+ended_by_look : (old : Holding) (piece rest : List ℕ) (used : ℕ) (new : Holding) → waits new.end.lines ≡ false → is_some new.end.carrier.ended ≡ true →
+    Look old piece rest used new → Goes old piece (length piece) new
+ended_by_look old piece rest used new none over (inl (inl dry)) = inl (inl dry.runs)
+ended_by_look old piece rest used new none over (inl (inr b)) =
+    inl (inr (behind_stops old piece rest used (length piece) new b (or_left (is_some new.end.carrier.ended) (waits new.end.lines) over)
+    (uses_ended (is_spoilt new.end.carrier.ended) (waits new.end.lines) (length piece) (length b.front) none)))
+ended_by_look old piece rest used new none over (inr f) = f.goes
+
+pub read_ended : (old : Holding) (piece : List ℕ) (now : Holding) (rest : List ℕ) (used : ℕ) (new : Holding) → IsRead old piece now rest → Fetches now rest used new →
+    waits new.end.lines ≡ false → is_some new.end.carrier.ended ≡ true → Goes old piece (length piece) new
+read_ended old piece now rest used new read fetch none over = ended_by_look old piece rest used new none over (looks old piece now rest used new read fetch)
+
+-- it went on behind what told something
+uses_on : (b : Bool) (used all within : ℕ) → b ≡ false → used ≡ (if b then all else within) → used ≡ within
+uses_on false used all within e h = h
+uses_on true used all within e h = cc
+
+abbrev behind_on : (old : Holding) (piece rest : List ℕ) (used : ℕ) (new : Holding) → waits new.end.lines ≡ false → is_some new.end.carrier.ended ≡ false → IsAttended new.end →
+    IsBehind old piece rest used new → IsRead old piece new (drop used rest)
+behind_on old piece rest used new none lasts attended b =
+    let on = uses_on (is_spoilt new.end.carrier.ended) used (length rest) b.within (spoilt_ended new.end.carrier.ended lasts) b.uses in
+    let left = ap length b.held in
+    record {
+      front = b.front;
+      units = b.units;
+      cut = b.cut ∙ ap (λ n. b.front ++ drop n rest) (sym on);
+      packets = subst (ArePackets b.units (old.held.octets ++ b.front)) (sym b.held) b.packets;
+      taken = b.taken;
+      quiet = quiet_stops new.end lasts none;
+      attended = attended;
+      offset = λ n. (
+          let same : length (old.held.octets ++ b.front) + n ≡ (length (old.held.octets ++ b.front) - length new.held.octets) + n = omega arith in
+          b.offset n ∙ ap (λ k. offset_of (old.held.offset + k)) same
+          );
+    }
+
+on_by : (old : Holding) (piece rest : List ℕ) (used : ℕ) (new : Holding) → waits new.end.lines ≡ false → is_some new.end.carrier.ended ≡ false → IsAttended new.end →
+    0 < length (drop used rest) → Look old piece rest used new → IsRead old piece new (drop used rest)
+on_by old piece rest used new none lasts attended some (inl (inl dry)) = let no = all_used rest used dry.all in absurd (omega arith)
+on_by old piece rest used new none lasts attended some (inl (inr b)) = behind_on old piece rest used new none lasts attended b
+on_by old piece rest used new none lasts attended some (inr f) = let no = all_used rest used f.all in absurd (omega arith)
+
+pub read_on : (old : Holding) (piece : List ℕ) (now : Holding) (rest : List ℕ) (used : ℕ) (new : Holding) → IsRead old piece now rest → Fetches now rest used new →
+    waits new.end.lines ≡ false → is_some new.end.carrier.ended ≡ false → 0 < length (drop used rest) → IsRead old piece new (drop used rest)
+read_on old piece now rest used new read fetch none lasts some =
+    on_by old piece rest used new none lasts fetch.attended some (looks old piece now rest used new read fetch)
+
+-- all was read
+end_of_read : (old : Holding) (piece : List ℕ) (new : Holding) (rest : List ℕ) → IsPartial [] → new.held.octets ≡ [] → length rest ≡ 0 → (read : IsRead old piece new rest) →
+    new.held.offset ≡ offset_of (old.held.offset + length (old.held.octets ++ read.front)) → RunsDry old piece (length piece) new
+end_of_read old piece new [] nothing held e read place =
+    let all : piece ≡ read.front = read.cut ∙ append-nil read.front in
+    let sizes = ap (λ l. length (old.held.octets ++ l)) all in
+    let left = ap length held in
+    let same : length (old.held.octets ++ read.front) ≡ length (old.held.octets ++ piece) - length new.held.octets = omega arith in
+    record {
+      units = read.units;
+      all = refl;
+      packets = subst (λ l. ArePackets read.units (old.held.octets ++ l) new.held.octets) (sym all) read.packets;
+      partial = subst IsPartial (sym held) nothing;
+      taken = read.taken;
+      quiet = read.quiet;
+      offset = place ∙ ap (λ n. offset_of (old.held.offset + n)) same;
+    }
+end_of_read old piece new (x ∷ rest) nothing held e read place = absurd (omega arith)
+
+dry_by : (old : Holding) (piece rest : List ℕ) (used : ℕ) (new : Holding) → IsPartial [] → waits new.end.lines ≡ false → is_some new.end.carrier.ended ≡ false → IsAttended new.end →
+    length (drop used rest) ≡ 0 → Look old piece rest used new → Goes old piece (length piece) new
+dry_by old piece rest used new nothing none lasts attended e (inl (inl dry)) = inl (inl dry.runs)
+dry_by old piece rest used new nothing none lasts attended e (inl (inr b)) =
+    inl (inl (end_of_read old piece new (drop used rest) nothing b.held e (behind_on old piece rest used new none lasts attended b) b.place))
+dry_by old piece rest used new nothing none lasts attended e (inr f) = f.goes
+
+pub read_dry : (old : Holding) (piece : List ℕ) (now : Holding) (rest : List ℕ) (used : ℕ) (new : Holding) → IsPartial [] → IsRead old piece now rest → Fetches now rest used new →
+    waits new.end.lines ≡ false → is_some new.end.carrier.ended ≡ false → length (drop used rest) ≡ 0 → Goes old piece (length piece) new
+read_dry old piece now rest used new nothing read fetch none lasts e = dry_by old piece rest used new nothing none lasts fetch.attended e (looks old piece now rest used new read fetch)
+
+pub nonzero : (n : ℕ) → (n == 0) ≡ false → 0 < n
+nonzero zero e = cc
+nonzero (suc n) e = omega arith

@@ -1,0 +1,60 @@
+-- What happens to a session beside calls and TSDUs.
+use Rattle.std.proofs.Common.{◌≡◌, ℕ, Bool, true, false, List, [], ◌++◌, map, Option, None, option_map, Result, Ok, refl, sym, ap, subst, ◌∙◌, if◌then◌else◌}
+use Rattle.std.proofs.lemmas.List.{append-nil}
+use Rattle.osi_message.specs.Written.{written}
+use Rattle.osi_session.specs.Moves.{Input, Standing, Move, opened, refused, broken, react}
+use Rattle.osi_session.specs.Phases.{is_wait_transport}
+use Rattle.osi_session.specs.Sessions.{Takes}
+use Rattle.osi_session.specs.Shown.{Shown, shown_by}
+use Rattle.osi_session.specs.Steps.{shown_list}
+use Rattle.osi_session.specs.declared.indications.Indication.{Indication}
+use Rattle.osi_session.specs.declared.taken.Taken.{Taken}
+
+-- nothing is sent, and nothing closed
+pub record IsQuiet (move : Move) : Type 0 where
+  pub reply : move.reply ≡ None
+  pub closes : move.closes ≡ false
+
+-- nothing is shown, and nothing closed
+pub record IsUnseen (move : Move) : Type 0 where
+  pub shown : move.shown ≡ []
+  pub closes : move.closes ≡ false
+
+quiet_if : (b : Bool) (x y : Move) → IsQuiet x → IsQuiet y → IsQuiet (if b then x else y)
+quiet_if true x y h k = h
+quiet_if false x y h k = k
+
+unseen_if : (b : Bool) (x y : Move) → IsUnseen x → IsUnseen y → IsUnseen (if b then x else y)
+unseen_if true x y h k = h
+unseen_if false x y h k = k
+
+pub opened_is_unseen : (s : Standing) → IsUnseen (react s opened)
+unfolding react
+opened_is_unseen s = unseen_if (is_wait_transport s.state.phase) _ _ (record { shown = refl; closes = refl }) (record { shown = refl; closes = refl })
+
+pub refused_is_quiet : (s : Standing) (reason : ℕ) → IsQuiet (react s (refused reason))
+unfolding react
+refused_is_quiet s reason = quiet_if (is_wait_transport s.state.phase) _ _ (record { reply = refl; closes = refl }) (record { reply = refl; closes = refl })
+
+pub broken_is_quiet : (s : Standing) → IsQuiet (react s broken)
+unfolding react
+broken_is_quiet s = record { reply = refl; closes = refl }
+
+-- ---- what is taken
+
+-- one thing is shown at most, with this answer
+pub quiet_takes : {E : Type 0} (t : Taken) (shown : Option Indication) (move : Move) (old new : Standing) → t.first ≡ shown → t.more.items ≡ [] →
+    t.reply ≡ option_map written move.reply → t.closes ≡ move.closes → new ≡ move.next → shown_list shown ≡ move.shown → Takes {E = E} (Ok t) move old new
+quiet_takes t shown move old new first more reply closes next is = record {
+  state = next;
+  shown = ap (λ l. shown_list t.first ++ map shown_by l) more ∙ append-nil (shown_list t.first) ∙ ap shown_list first ∙ is;
+  first = λ h. more;
+  reply = reply;
+  closes = closes;
+  err = tt;
+  memory = tt;
+}
+
+pub takes_if : {E : Type 0} (result : Result Taken E) (s : Standing) (i j : Input) (old new : Standing) → j ≡ i →
+    Takes result (react s i) old new → Takes result (react s j) old new
+takes_if result s i j old new e h = subst (λ (k : Input). Takes result (react s k) old new) (sym e) h

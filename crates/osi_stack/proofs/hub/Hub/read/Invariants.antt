@@ -1,0 +1,9 @@
+use Rattle.std.proofs.Common.{length}
+use Rattle.osi_stack.proofs.Pieces.{IsRead}
+use Rattle.osi_stack.proofs.hub.Hub.read.Given as goal
+
+abbrev pub invariant-packets : goal.invariant-packets
+invariant-packets l = IsRead l.fn.self l.fn.piece l.self l.rest
+
+abbrev pub decreases-packets : goal.decreases-packets
+decreases-packets l = length l.rest

@@ -1,0 +1,30 @@
+use Rattle.std.proofs.Common.{◌≡◌, ℕ, Some, None, get_or, sym, ap, ◌∙◌}
+use Rattle.osi_carrier.specs.Rows.{Rows, place_of}
+use Rattle.osi_stack.specs.State.{Line}
+use Rattle.osi_stack.specs.Telling.{told_input}
+use Rattle.osi_stack.proofs.Found.{unheard, heard_rows}
+use Rattle.osi_stack.proofs.Losing.{stopped_rows}
+use Rattle.osi_stack.proofs.lines.Lines.hear.Goals as goal
+
+pub returns-in_default-clause-ok : goal.returns-in_default-clause-ok
+returns-in_default-clause-ok c =
+    let none : place_of c.args.reference c.args.self.now ≡ None =
+    ap (λ (l : Rows Line). place_of c.args.reference l) (sym (c.as_slice.ensures.value ∙ c.self.view_is)) ∙ sym c.place_in.ensures ∙ c.in_default.is in
+    unheard c.args.reference c.args.self.now (told_input c.args.told) c.args.carrier.now.state none
+
+pub returns-clause-ok : goal.returns-clause-ok
+returns-clause-ok c =
+    let row = c.index_mut.result.now in
+    let some : place_of c.args.reference c.args.self.now ≡ Some c.in-Some.place =
+    ap (λ (l : Rows Line). place_of c.args.reference l) (sym (c.as_slice.ensures.value ∙ c.self.view_is)) ∙ sym c.place_in.ensures ∙ c.in-Some.is in
+    let here = c.index_mut.ensures.value ∙ ap (λ (l : Rows Line). get_or l c.in-Some.place row) c.self.view_is in
+    heard_rows c.hear.result c.args.reference c.args.self.now c.self.inside.rows.items c.in-Some.place row c.hear.new.self c.args.carrier.now c.hear.new.carrier
+    (told_input c.args.told) some here c.self.view_is c.hear.ensures.ok c.hear.ensures.carrier
+
+pub returns-clause-lost : goal.returns-clause-lost
+returns-clause-lost c =
+    let row = c.index_mut.result.now in
+    let some : place_of c.args.reference c.args.self.now ≡ Some c.in-Some.place =
+    ap (λ (l : Rows Line). place_of c.args.reference l) (sym (c.as_slice.ensures.value ∙ c.self.view_is)) ∙ sym c.place_in.ensures ∙ c.in-Some.is in
+    let here = c.index_mut.ensures.value ∙ ap (λ (l : Rows Line). get_or l c.in-Some.place row) c.self.view_is in
+    stopped_rows c.hear.result c.args.reference c.args.self.now c.self.inside.rows.items c.in-Some.place row c.hear.new.self some here c.self.view_is c.hear.ensures.lost

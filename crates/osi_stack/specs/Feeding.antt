@@ -1,0 +1,88 @@
+-- What feeding a piece of the stream does.
+use Rattle.std.specs.Prelude.{◌≡◌, ℕ, ◌+◌, ◌-◌, ◌≤◌, ◌<◌, ◌||◌, not, Bool, true, false, List, [], ◌∷◌, ◌++◌, length, take, Option, Some, None, is_some, IsSome, ◌⊎◌, if◌then◌else◌}
+use Rattle.osi_tpkt.specs.Packet.{IsPartial}
+use Rattle.osi_tpkt.specs.Stream.{ArePackets, CutsFrom, offset_of}
+use Rattle.osi_tpkt.specs.Stream.Ending.{Faulty}
+use Rattle.osi_tpkt.specs.declared.cutting.Fed.{Fed}
+use Rattle.osi_tpkt.specs.declared.faults.TpktFault.{TpktFault}
+use Rattle.osi_carrier.specs.Feeding.{TakesAll}
+use Rattle.osi_carrier.specs.Packets.{is_spoilt}
+use Rattle.osi_carrier.specs.declared.ends.CarrierFault.TheVariants.{Tpkt}
+use Rattle.osi_carrier.specs.declared.ends.EndReason.TheVariants.{Fault, NoMemory}
+use Rattle.osi_stack.specs.Hearing.{after_packet, ends, Starves}
+use Rattle.osi_stack.specs.State.{End, Holding, waits}
+
+-- feeding stops behind a packet that gave an indication, or ended the carrier
+abbrev pub stops : End → Bool
+stops e = is_some e.carrier.ended || waits e.lines
+
+-- packets one after the other, of which none stopped but perhaps the last
+abbrev pub TakesPackets : End → List (List ℕ) → End → Type 0
+TakesPackets old units new = TakesAll after_packet stops old units new
+
+-- The whole piece was cut into packets, none of which stopped, and a rest that is held.
+pub record RunsDry (old : Holding) (piece : List ℕ) (used : ℕ) (new : Holding) : Type 0 where
+  pub units : List (List ℕ)
+  pub all : used ≡ length piece
+  pub packets : ArePackets units (old.held.octets ++ piece) new.held.octets
+  pub partial : IsPartial new.held.octets
+  pub taken : TakesPackets old.end units new.end
+  pub quiet : stops new.end ≡ false
+  pub offset : new.held.offset ≡ offset_of (old.held.offset + (length (old.held.octets ++ piece) - length new.held.octets))
+
+-- where nothing waits, or the carrier ended by a fault or for want of memory, the whole piece is used
+abbrev pub uses_all : End → Bool
+uses_all e = is_spoilt e.carrier.ended || not (waits e.lines)
+
+-- The piece up to `within` was cut into packets, of which the last stopped.
+pub record StopsBehind (old : Holding) (piece : List ℕ) (used : ℕ) (new : Holding) : Type 0 where
+  pub within : ℕ
+  pub units : List (List ℕ)
+  pub bound : within ≤ length piece
+  pub packets : ArePackets units (old.held.octets ++ take within piece) []
+  pub taken : TakesPackets old.end units new.end
+  pub stopped : stops new.end ≡ true
+  pub uses : used ≡ (if uses_all new.end then length piece else within)
+  pub held : new.held.octets ≡ []
+  pub offset : new.held.offset ≡ offset_of (old.held.offset + length (old.held.octets ++ take within piece))
+
+-- What was held and the piece have a fault behind packets of which none stopped.
+pub record Refuses (old : Holding) (piece : List ℕ) (used : ℕ) (new : Holding) : Type 0 where
+  pub units : List (List ℕ)
+  pub fault : TpktFault
+  pub before : End
+  pub all : used ≡ length piece
+  pub cut : CutsFrom old.held.offset (old.held.octets ++ piece) units (Faulty fault)
+  pub taken : TakesPackets old.end units before
+  pub quiet : stops before ≡ false
+  pub ended : new.end ≡ ends (Fault (Tpkt fault)) before
+
+-- There was no memory to hold what belongs to a packet, or for what the next packet does.
+pub record FindsNoMemory (old : Holding) (piece : List ℕ) (used : ℕ) (new : Holding) : Type 0 where
+  pub within : ℕ
+  pub units : List (List ℕ)
+  pub rest : List ℕ
+  pub before : End
+  pub all : used ≡ length piece
+  pub bound : within ≤ length piece
+  pub packets : ArePackets units (old.held.octets ++ take within piece) rest
+  pub taken : TakesPackets old.end units before
+  pub quiet : stops before ≡ false
+  pub how : (new.end ≡ ends NoMemory before) ⊎ ((packet : List ℕ) × ArePackets (packet ∷ []) rest [] × Starves before packet new.end)
+
+-- feeding a piece where nothing waits and the carrier has not ended
+abbrev pub Goes : Holding → List ℕ → ℕ → Holding → Type 0
+Goes old piece used new =
+    (RunsDry old piece used new ⊎ StopsBehind old piece used new) ⊎ (Refuses old piece used new ⊎ FindsNoMemory old piece used new)
+
+-- feeding a piece
+pub record Feeds (old : Holding) (piece : List ℕ) (fed : Fed) (new : Holding) : Type 0 where
+  -- after the end all is used, and nothing changes
+  pub over : IsSome old.end.carrier.ended → (fed.used ≡ length piece) × (new ≡ old)
+  -- while an indication waits nothing is used, and nothing changes
+  pub waiting : old.end.carrier.ended ≡ None → waits old.end.lines ≡ true → (fed.used ≡ 0) × (new ≡ old)
+  pub goes : stops old.end ≡ false → Goes old piece fed.used new
+  pub whole : fed.whole ≡ waits new.end.lines
+  pub bound : fed.used ≤ length piece
+  -- where nothing waits, some of a piece is used
+  pub progress : waits old.end.lines ≡ false → 0 < length piece → 0 < fed.used

@@ -1,0 +1,36 @@
+-- What the move of a session does to the end that it belongs to.
+use Rattle.std.specs.Prelude.{ℕ, Bool, List, ◌++◌, Option, Some, None, option_map}
+use Rattle.osi_carrier.specs.Rows.{Rows, value_at, put}
+use Rattle.osi_carrier.specs.State.{State as Carrier}
+use Rattle.osi_message.specs.Written.{written}
+use Rattle.osi_session.specs.Moves.{Input, Standing, Move, react}
+use Rattle.osi_stack.specs.State.{Line, End}
+use Rattle.osi_stack.specs.Transport.{answers_by}
+
+-- what a move does to the carrier: the unit that it sends is handed over, or the connection is closed
+abbrev pub answers : ℕ → Move → Carrier → Carrier
+answers r move c = answers_by move.closes r (option_map written move.reply) c
+
+-- what a move does to a line: what the session shows waits for its user
+abbrev pub line_after : Line → Move → Line
+line_after line move = record { session = Some move.next; waiting = line.waiting ++ move.shown }
+
+-- something happens to the session of a line, if there is one
+abbrev pub line_by : Line → Option Standing → Input → Line
+line_by line None input = line
+line_by line (Some session) input = line_after line (react session input)
+
+abbrev pub carrier_by : ℕ → Option Standing → Input → Carrier → Carrier
+carrier_by r None input c = c
+carrier_by r (Some session) input c = answers r (react session input) c
+
+abbrev pub by_line : ℕ → Option Line → Input → End → End
+by_line r None input e = e
+by_line r (Some line) input e = record {
+  carrier = carrier_by r line.session input e.carrier;
+  lines = put r (line_by line line.session input) e.lines;
+}
+
+-- something happens to the session of a reference
+abbrev pub to_session : ℕ → Input → End → End
+to_session r input e = by_line r (value_at r e.lines) input e

@@ -1,0 +1,67 @@
+-- One end of a byte connection: the carrier, and for each of its connections a session.
+use Rattle.std.specs.Prelude.{◌≡◌, ℕ, Bool, true, false, not, ◌&&◌, ◌||◌, List, [], ◌∷◌, ◌++◌, Option, Some, None, is_some, length, ◌==◌, if◌then◌else◌}
+use Rattle.std.specs.List.{list_any, filter}
+use Rattle.osi_tpkt.specs.Held.{Held}
+use Rattle.osi_class.specs.declared.terms.Local.{Local}
+use Rattle.osi_carrier.specs.Calls.{fresh_state}
+use Rattle.osi_carrier.specs.Rows.{Rows, value_at}
+use Rattle.osi_carrier.specs.State.{Connection, State as Carrier}
+use Rattle.osi_session.specs.Moves.{Standing}
+use Rattle.osi_session.specs.Shown.{Shown}
+
+-- A connection: its session, none from the end of the carrier on; and what its user is still to be
+-- shown, the oldest first.
+pub record Line : Type 0 where
+  pub session : Option Standing
+  pub waiting : List Shown
+
+-- `lines`: by the references that this end gave, in the order in which it gave them
+pub record End : Type 0 where
+  pub carrier : Carrier
+  pub lines : Rows Line
+
+-- what contracts see of a stack
+pub record Holding : Type 0 where
+  pub end : End
+  -- the packet under way
+  pub held : Held
+
+-- nothing has happened
+abbrev pub fresh_end : Bool → Local → End
+fresh_end is_caller local = record { carrier = fresh_state is_caller local; lines = [] }
+
+-- ---- the session of a reference
+
+abbrev pub session_in : Option Line → Option Standing
+session_in None = None
+session_in (Some line) = line.session
+
+-- that of a live connection; none where the connection is gone
+abbrev pub session_at : ℕ → End → Option Standing
+session_at r e = if is_some (value_at r e.carrier.live) then session_in (value_at r e.lines) else None
+
+-- ---- what waits
+
+abbrev pub line_waits : Line → Bool
+line_waits line = not (length line.waiting == 0)
+
+-- an indication waits
+abbrev pub waits : Rows Line → Bool
+waits lines = list_any (λ row. line_waits row.1) lines
+
+-- ---- a new connection
+
+-- a line that is of use: its connection is live, or something waits
+abbrev pub is_used : Rows Connection → ℕ × Line → Bool
+is_used live row = is_some (value_at row.0 live) || line_waits row.1
+
+abbrev pub used_lines : Rows Connection → Rows Line → Rows Line
+used_lines live lines = filter (is_used live) lines
+
+-- a new session, for which nothing waits; lines that are of no use are dropped
+abbrev pub joins : ℕ → Standing → End → End
+joins r session e = record e { lines = used_lines e.carrier.live (e.lines ++ (r, record { session = Some session; waiting = [] }) ∷ []) }
+
+-- an end that has not ended has heard all that its carrier told
+abbrev pub IsAttended : End → Type 0
+IsAttended e = e.carrier.ended ≡ None → e.carrier.events ≡ []

@@ -1,0 +1,102 @@
+//! A session hears what happens to it: the carrier gets what it sends, and its user what it shows.
+
+ghost use Rattle.std.specs.Prelude.{◌≡◌, [], None, false, ◌<◌, ◌≤◌, ◌+◌, ◌++◌, map, length, OnOk, OnErr};
+ghost use Rattle.std.specs.Vec.{vec_len};
+ghost use Rattle.std.specs.VecDeque.{deque_len, deque_capacity};
+ghost use Rattle.osi_session.specs.Moves.{react};
+ghost use Rattle.osi_session.specs.Phases.{shows_loss};
+ghost use Rattle.osi_session.specs.Sessions.{Takes};
+ghost use Rattle.osi_session.specs.Shown.{shown_by};
+ghost use Rattle.osi_session.specs.Steps.{all_shown};
+ghost use Rattle.osi_stack.specs.Moving.{answers};
+ghost use Rattle.osi_stack.specs.Telling.{told_input};
+
+use crate::told::Told;
+use crate::transport::answer;
+use osi_carrier::Carrier;
+use osi_session::{Indication, Phase, Session, Taken};
+use std::alloc::{AllocError, Global};
+use std::collections::VecDeque;
+
+/// Whether the user of a session in this phase is shown that the transport connection is lost.
+pub fn shows_loss(phase: Phase) -> bool
+    ensures { result ≡ shows_loss phase }
+{
+    !matches!(phase, Phase::WaitCn | Phase::Aborting | Phase::Ended)
+}
+
+/// What is done by a session that shows at most one thing, sends nothing and closes nothing.
+fn quiet(alloc: Global, shown: Option<Indication>) -> Taken
+    ensures first { result.first ≡ shown }
+    ensures more { result.more.items ≡ [] }
+    ensures reply { result.reply ≡ None }
+    ensures closes { result.closes ≡ false }
+{
+    Taken {
+        first: shown,
+        more: Vec::new(alloc),
+        reply: None,
+        closes: false,
+    }
+}
+
+/// What a session does. Want of memory changes nothing.
+fn listen(alloc: Global, session: &mut Session, told: Told<'_>) -> Result<Taken, AllocError>
+    ensures { Takes result (react session.old (told_input told.entry)) session.old session.new }
+{
+    match told {
+        Told::Opened => Ok(Taken {
+            reply: session.opened(),
+            ..quiet(alloc, None)
+        }),
+        Told::Refused(reason) => Ok(quiet(alloc, session.refused(reason))),
+        Told::Tsdu(octets) => session.take_tsdu(octets),
+        Told::Lost => Ok(quiet(alloc, session.broken())),
+    }
+}
+
+/// Indications wait, for which there is room, and for one more.
+fn show(waiting: &mut VecDeque<Indication>, first: Option<Indication>, more: Vec<Indication>)
+    requires { deque_len waiting.old + vec_len more + 1 < deque_capacity waiting.old }
+    ensures items { map shown_by waiting.new.items ≡ map shown_by waiting.old.items ++ all_shown first more.items }
+    ensures room { deque_len waiting.new < deque_capacity waiting.new }
+{
+    if let Some(indication) = first {
+        waiting.push_back_reserved(indication);
+    }
+    let mut more = VecDeque::from_vec(more);
+    let Ok(()) = waiting.append(&mut more) else {
+        unreachable!()
+    };
+}
+
+/// A session hears what happens to it. Behind it there is room for one indication more. Want of memory
+/// leaves the indications that wait, and the carrier.
+pub fn hear(
+    alloc: Global,
+    session: &mut Session,
+    waiting: &mut VecDeque<Indication>,
+    told: Told<'_>,
+    carrier: &mut Carrier,
+    reference: u16,
+) -> Result<(), AllocError>
+    ensures session { OnOk result (session.new ≡ (react session.old (told_input told.entry)).next) }
+    ensures shown { OnOk result (map shown_by waiting.new.items ≡ map shown_by waiting.old.items ++ (react session.old (told_input told.entry)).shown) }
+    ensures room { OnOk result (deque_len waiting.new < deque_capacity waiting.new) }
+    ensures carrier { OnOk result (carrier.new ≡ record carrier.old { state = answers reference (react session.old (told_input told.entry)) carrier.old.state }) }
+    ensures kept { OnErr result (waiting.new.items ≡ waiting.old.items) }
+    ensures len { OnErr result (deque_len waiting.new ≡ deque_len waiting.old) }
+    ensures capacity { OnErr result (deque_capacity waiting.old ≤ deque_capacity waiting.new) }
+    ensures err { OnErr result (carrier.new ≡ carrier.old) }
+{
+    let Taken {
+        first,
+        more,
+        reply,
+        closes,
+    } = listen(alloc, session, told)?;
+    waiting.reserve(more.len() + 2)?;
+    answer(carrier, reference, reply, closes)?;
+    show(waiting, first, more);
+    Ok(())
+}

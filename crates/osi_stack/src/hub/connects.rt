@@ -1,0 +1,91 @@
+//! Asking for a connection.
+
+ghost use Rattle.std.specs.Prelude.{◌≡◌, ◌+◌, true, false, None, OnOk, OnErr, IfOk, IfErr, option_map};
+ghost use Rattle.osi_message.specs.Meanings.{selector_octets};
+ghost use Rattle.osi_stack.specs.Calls.{connect_error, refusal, connects, calls_with, terms_error, is_long_address};
+
+use super::Hub;
+use crate::connecting::{Connect, ConnectError};
+use crate::lines::{Line, room};
+use osi_carrier::{OpenError, Ref};
+use osi_session::{CallError, Opening, Session, is_profile};
+use osi_spdu::Selector;
+use std::alloc::Global;
+
+/// The address of these octets, where some are given.
+fn address(octets: Option<&[u8]>) -> Result<Option<Selector<'_>>, ConnectError>
+    ensures ok { IfOk result (λ s. selector_octets s ≡ option_map (λ o. o.now) octets.entry) }
+    ensures short { OnOk result (is_long_address (option_map (λ o. o.now) octets.entry) ≡ false) }
+    ensures long { IfErr result (λ e. (is_long_address (option_map (λ o. o.now) octets.entry) ≡ true) × (e ≡ ConnectError.TooLong)) }
+{
+    let Some(octets) = octets else {
+        return Ok(None);
+    };
+    match Selector::new(octets) {
+        Some(selector) => Ok(Some(selector)),
+        None => Err(ConnectError::TooLong),
+    }
+}
+
+/// The session of a caller, with a CN that is to be sent.
+fn session_for(alloc: Global, connect: &Connect) -> Result<Session, ConnectError>
+    ensures ok { IfOk result (λ s. s ≡ calls_with connect.now) }
+    ensures allowed { OnOk result (terms_error connect.now ≡ None) }
+    ensures refused { IfErr result (λ e. refusal e ≡ terms_error connect.now) }
+{
+    if !is_profile(connect.requirements) {
+        return Err(ConnectError::NotSelected);
+    }
+    let calling_selector = address(connect.calling_selector)?;
+    let called_selector = address(connect.called_selector)?;
+    let opening = Opening {
+        requirements: connect.requirements,
+        serial: connect.serial,
+        wishes: connect.wishes,
+        calling_selector,
+        called_selector,
+        user_data: connect.user_data,
+    };
+    match Session::caller(alloc, &opening) {
+        Ok(session) => Ok(session),
+        Err(CallError::OutOfMemory) => Err(ConnectError::Open(OpenError::OutOfMemory)),
+        Err(_) => Err(ConnectError::TooLong),
+    }
+}
+
+impl Hub {
+    /// Asks for a connection. All growths are made before anything changes.
+    pub fn connect(&mut self, connect: &Connect) -> Result<Ref, ConnectError>
+        ensures ok { OnOk result (self.new ≡ record self.old { end = connects connect.now self.old.end }) }
+        ensures reference { IfOk result (λ r. r.0 ≡ self.old.end.carrier.given + 1) }
+        ensures allowed { OnOk result (connect_error connect.now self.old.end ≡ None) }
+        ensures refused { IfErr result (λ e. refusal e ≡ connect_error connect.now self.old.end) }
+        ensures err { OnErr result (self.new ≡ self.old) }
+    {
+        if let Err(error) = self.carrier.may_connect() {
+            return Err(ConnectError::Open(error));
+        }
+        let session = session_for(self.alloc, connect)?;
+        let Ok(waiting) = room(self.alloc) else {
+            return Err(ConnectError::Open(OpenError::OutOfMemory));
+        };
+        let before = self.lines.len();
+        let line = Line::new(self.carrier.given() + 1, session, waiting);
+        let Ok(()) = self.lines.push(line) else {
+            return Err(ConnectError::Open(OpenError::OutOfMemory));
+        };
+        match self
+            .carrier
+            .connect(connect.calling_tsap, connect.called_tsap)
+        {
+            Ok(reference) => {
+                self.lines.sweep(&self.carrier);
+                Ok(reference)
+            }
+            Err(error) => {
+                self.lines.truncate(before);
+                Err(ConnectError::Open(error))
+            }
+        }
+    }
+}

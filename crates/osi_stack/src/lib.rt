@@ -1,0 +1,15 @@
+//! One end of a byte connection as a value: octets in and octets out at the bottom, calls in and
+//! indications out at the top. It joins the transport protocol (X.224 classes 0 and 2) with a session
+//! (X.225 version 2) for each of its connections.
+#![tactic(auto)]
+
+mod connecting;
+mod hearing;
+mod hub;
+mod lines;
+mod stacks;
+mod told;
+mod transport;
+
+pub use connecting::{Connect, ConnectError};
+pub use stacks::Stack;

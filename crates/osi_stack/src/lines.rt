@@ -1,0 +1,392 @@
+//! The sessions of one end, each with what its user is still to be shown.
+
+ghost use Rattle.std.specs.Prelude.{◌≡◌, ◌<◌, ◌++◌, ◌∷◌, ◌==◌, [], length, take, position, is_some, Some, None, IfOk, IfErr, OnOk, OnErr, option_map};
+ghost use Rattle.std.specs.VecDeque.{deque_len, deque_capacity};
+ghost use Rattle.osi_carrier.specs.Rows.{value_at, place_of};
+ghost use Rattle.osi_session.specs.Calls.{called_by};
+ghost use Rattle.osi_session.specs.Moves.{called, react};
+ghost use Rattle.osi_session.specs.Shown.{Lost, shown_by};
+ghost use Rattle.osi_stack.specs.Calls.{move_refusal, session_refusal, session_error, Refuses, first_shown, without_first, TellsOf};
+ghost use Rattle.osi_stack.specs.Hearing.{loses, all_lost};
+ghost use Rattle.osi_stack.specs.Moving.{answers, line_by, carrier_by, to_session};
+ghost use Rattle.osi_stack.specs.State.{line_waits, waits, is_used, used_lines, session_in};
+ghost use Rattle.osi_stack.specs.Telling.{told_input};
+
+use crate::hearing::{hear, shows_loss};
+use crate::told::Told;
+use osi_carrier::{Carrier, Ref, SendError};
+use osi_session::{AbortCause, CallError, Indication, Request, Session};
+use std::alloc::{AllocError, Global};
+use std::collections::VecDeque;
+use std::marker::Model;
+
+/// Room for the first indications of a connection: one, and that it is lost.
+const FIRST_ROOM: usize = 2;
+
+/// A connection: its session, none from the end of the carrier on, and what its user is still to be
+/// shown. While there is a session there is room for one indication more.
+#[derive(Drop)]
+pub struct Line {
+    reference: u16,
+    session: Option<Session>,
+    waiting: VecDeque<Indication>,
+}
+
+impl Model for Line {
+    ghost use Rattle.std.specs.Prelude.{ℕ, ◌<◌, ◌≡◌, true, map, is_some};
+    ghost use Rattle.std.specs.VecDeque.{deque_len, deque_capacity};
+    ghost use Rattle.osi_session.specs.Shown.{shown_by};
+    ghost use Rattle.osi_stack.specs.State.{Line};
+
+    ghost Value = { ℕ × Line };
+
+    ghost view = { λ l. (l.reference, record { session = l.session; waiting = map shown_by l.waiting.items }) };
+
+    ghost invariant = { λ l. is_some l.session ≡ true → deque_len l.waiting < deque_capacity l.waiting };
+}
+
+/// Room for the indications of a connection.
+pub fn room(alloc: Global) -> Result<VecDeque<Indication>, AllocError>
+    ensures empty { IfOk result (λ w. w.items ≡ []) }
+    ensures room { IfOk result (λ w. deque_len w < deque_capacity w) }
+{
+    let waiting = VecDeque::with_capacity(alloc, FIRST_ROOM)?;
+    Ok(waiting)
+}
+
+/// What the user is shown when the transport connection is lost.
+fn lost() -> Indication
+    ensures { shown_by result ≡ Lost }
+{
+    Indication::ProviderAbort {
+        cause: AbortCause::Lost,
+    }
+}
+
+/// Sends what a call of the user does, and then the session does it. Each error changes nothing.
+fn make_call(
+    session: &mut Session,
+    carrier: &mut Carrier,
+    reference: u16,
+    request: Request,
+) -> Result<(), CallError>
+    ensures session { OnOk result (session.new ≡ (react session.old (called (called_by request.entry))).next) }
+    ensures carrier { OnOk result (carrier.new ≡ record carrier.old { state = answers reference (react session.old (called (called_by request.entry))) carrier.old.state }) }
+    ensures allowed { OnOk result (move_refusal reference (react session.old (called (called_by request.entry))) carrier.old.state ≡ None) }
+    ensures refused { IfErr result (λ e. Refuses e (react session.old (called (called_by request.entry))).error (move_refusal reference (react session.old (called (called_by request.entry))) carrier.old.state)) }
+    ensures err { OnErr result ((session.new ≡ session.old) × (carrier.new ≡ carrier.old)) }
+{
+    let plan = match session.plan(request) {
+        Ok(plan) => plan,
+        Err(error) => return Err(error),
+    };
+    match carrier.send(Ref(reference), plan.octets()) {
+        Ok(()) => {}
+        Err(SendError::NotOpen) => return Err(CallError::Ended),
+        Err(SendError::TooLong) => return Err(CallError::TooLong),
+        Err(SendError::OutOfMemory) => return Err(CallError::OutOfMemory),
+    }
+    let Some(_sent) = session.commit(plan) else {
+        unreachable!()
+    };
+    Ok(())
+}
+
+impl Line {
+    /// A connection with this session, for which nothing waits yet.
+    pub fn new(reference: u16, session: Session, waiting: VecDeque<Indication>) -> Self
+        requires empty { waiting.items ≡ [] }
+        requires room { deque_len waiting < deque_capacity waiting }
+        ensures { result ≡ (reference, record { session = Some session; waiting = [] }) }
+    {
+        Line {
+            reference,
+            session: Some(session),
+            waiting,
+        }
+    }
+
+    /// The reference that this end gave.
+    fn reference(&self) -> u16
+        ensures { result ≡ self.now.0 }
+    {
+        self.reference
+    }
+
+    /// Whether the connection is of this reference.
+    fn has(&self, reference: u16) -> bool
+        ensures { result ≡ (self.now.0 == reference) }
+    {
+        self.reference == reference
+    }
+
+    /// Whether an indication waits.
+    fn waits(&self) -> bool
+        ensures { result ≡ line_waits self.now.1 }
+    {
+        !self.waiting.is_empty()
+    }
+
+    /// Whether the connection is live, or an indication waits.
+    fn is_used(&self, carrier: &Carrier) -> bool
+        ensures { result ≡ is_used carrier.now.state.live self.now }
+    {
+        carrier.is_live(Ref(self.reference)) || self.waits()
+    }
+
+    /// The session, until the carrier ends.
+    fn session(&self) -> Option<&Session>
+        ensures { option_map (λ s. s.now) result ≡ self.now.1.session }
+    {
+        self.session.as_ref()
+    }
+
+    /// The oldest indication that waits.
+    fn next(&mut self) -> Option<Indication>
+        ensures { TellsOf (option_map shown_by result) self.old self.new }
+    {
+        self.waiting.pop_front()
+    }
+
+    /// The session hears what happens to it. For want of memory it is lost as it was before.
+    fn hear(
+        &mut self,
+        alloc: Global,
+        told: Told<'_>,
+        carrier: &mut Carrier,
+    ) -> Result<(), AllocError>
+        ensures ok { OnOk result (self.new ≡ (self.old.0, line_by self.old.1 self.old.1.session (told_input told.entry))) }
+        ensures carrier { OnOk result (carrier.new ≡ record carrier.old { state = carrier_by self.old.0 self.old.1.session (told_input told.entry) carrier.old.state }) }
+        ensures lost { OnErr result (self.new ≡ (self.old.0, loses self.old.1)) }
+        ensures err { OnErr result (carrier.new ≡ carrier.old) }
+    {
+        let Some(session) = &mut self.session else {
+            return Ok(());
+        };
+        let is_shown = shows_loss(session.phase());
+        let Ok(()) = hear(
+            alloc,
+            session,
+            &mut self.waiting,
+            told,
+            carrier,
+            self.reference,
+        ) else {
+            self.session = None;
+            if is_shown {
+                self.waiting.push_back_reserved(lost());
+            }
+            return Err(AllocError);
+        };
+        Ok(())
+    }
+
+    /// The carrier has ended, and the session is lost.
+    fn lose(&mut self)
+        ensures { self.new ≡ (self.old.0, loses self.old.1) }
+    {
+        let Some(session) = &self.session else {
+            return;
+        };
+        let is_shown = shows_loss(session.phase());
+        self.session = None;
+        if is_shown {
+            self.waiting.push_back_reserved(lost());
+        }
+    }
+
+    /// A call of the user. Each error changes nothing.
+    fn call(&mut self, request: Request, carrier: &mut Carrier) -> Result<(), CallError>
+        ensures ok { OnOk result (self.new ≡ (self.old.0, line_by self.old.1 self.old.1.session (called (called_by request.entry)))) }
+        ensures carrier { OnOk result (carrier.new ≡ record carrier.old { state = carrier_by self.old.0 self.old.1.session (called (called_by request.entry)) carrier.old.state }) }
+        ensures allowed { OnOk result (session_refusal self.old.0 self.old.1.session (called_by request.entry) carrier.old.state ≡ None) }
+        ensures refused { IfErr result (λ e. Refuses e (session_error self.old.1.session (called_by request.entry)) (session_refusal self.old.0 self.old.1.session (called_by request.entry) carrier.old.state)) }
+        ensures err { OnErr result ((self.new ≡ self.old) × (carrier.new ≡ carrier.old)) }
+    {
+        let Some(session) = &mut self.session else {
+            return Err(CallError::Ended);
+        };
+        make_call(session, carrier, self.reference, request)
+    }
+}
+
+/// The connections of one end, in the order in which their references were given.
+#[derive(Drop)]
+pub struct Lines {
+    rows: Vec<Line>,
+}
+
+impl Model for Lines {
+    ghost use Rattle.osi_carrier.specs.Rows.{Rows};
+    ghost use Rattle.osi_stack.specs.State.{Line};
+
+    ghost Value = { Rows Line };
+
+    ghost view = { λ l. l.rows.items };
+}
+
+/// The place of a reference among rows.
+fn place_in(rows: &[Line], reference: u16) -> Option<usize>
+    ensures { result ≡ place_of reference rows.now }
+{
+    rows.iter().position(|line| line.has(reference))
+}
+
+/// The place of the first connection for which an indication waits.
+fn first_place(rows: &[Line]) -> Option<usize>
+    ensures { result ≡ position (λ row. line_waits row.1) rows.now }
+{
+    rows.iter().position(|line| line.waits())
+}
+
+/// Whether an indication waits.
+fn any_waits(rows: &[Line]) -> bool
+    ensures { result ≡ waits rows.now }
+{
+    rows.iter().any(|line| line.waits())
+}
+
+/// Drops those that are gone and for which nothing waits.
+fn drop_unused(rows: &mut Vec<Line>, carrier: &Carrier)
+    ensures { rows.new.items ≡ used_lines carrier.now.state.live rows.old.items }
+{
+    rows.retain(|line| line.is_used(carrier));
+}
+
+/// All sessions are lost.
+fn lose_each(rows: &mut Vec<Line>)
+    ensures { rows.new.items ≡ all_lost rows.old.items }
+{
+    for line in rows.iter_mut() {
+        line.lose();
+    }
+}
+
+impl Lines {
+    /// There is no connection.
+    pub fn new(alloc: Global) -> Self
+        ensures { result ≡ [] }
+    {
+        Lines {
+            rows: Vec::new(alloc),
+        }
+    }
+
+    /// Whether an indication waits.
+    pub fn wait(&self) -> bool
+        ensures { result ≡ waits self.now }
+    {
+        any_waits(self.rows.as_slice())
+    }
+
+    /// Whether a connection has this reference.
+    pub fn has(&self, reference: u16) -> bool
+        ensures { result ≡ is_some (value_at reference self.now) }
+    {
+        place_in(self.rows.as_slice(), reference).is_some()
+    }
+
+    /// The session of a reference.
+    pub fn session(&self, reference: u16) -> Option<&Session>
+        ensures { option_map (λ s. s.now) result ≡ session_in (value_at reference self.now) }
+    {
+        let Some(place) = place_in(self.rows.as_slice(), reference) else {
+            return None;
+        };
+        self.rows[place].session()
+    }
+
+    /// The oldest indication of the first connection that has one.
+    pub fn next(&mut self) -> Option<(Ref, Indication)>
+        ensures shown { option_map (λ p. (p.0.0, shown_by p.1)) result ≡ first_shown self.old }
+        ensures rest { self.new ≡ without_first self.old }
+    {
+        let Some(place) = first_place(self.rows.as_slice()) else {
+            return None;
+        };
+        let line = &mut self.rows[place];
+        let reference = line.reference();
+        let Some(indication) = line.next() else {
+            return None;
+        };
+        Some((Ref(reference), indication))
+    }
+
+    /// The session of a reference hears what happens to it. For want of memory it is lost as it was
+    /// before.
+    pub fn hear(
+        &mut self,
+        alloc: Global,
+        reference: u16,
+        told: Told<'_>,
+        carrier: &mut Carrier,
+    ) -> Result<(), AllocError>
+        ensures ok { OnOk result (record { carrier = carrier.new.state; lines = self.new } ≡ to_session reference (told_input told.entry) (record { carrier = carrier.old.state; lines = self.old })) }
+        ensures held { carrier.new.held ≡ carrier.old.held }
+        ensures lost { OnErr result (all_lost self.new ≡ all_lost self.old) }
+        ensures err { OnErr result (carrier.new ≡ carrier.old) }
+    {
+        let Some(place) = place_in(self.rows.as_slice(), reference) else {
+            return Ok(());
+        };
+        self.rows[place].hear(alloc, told, carrier)
+    }
+
+    /// A call of the user of the session of a reference.
+    pub fn call(
+        &mut self,
+        reference: u16,
+        request: Request,
+        carrier: &mut Carrier,
+    ) -> Result<(), CallError>
+        ensures ok { OnOk result (record { carrier = carrier.new.state; lines = self.new } ≡ to_session reference (called (called_by request.entry)) (record { carrier = carrier.old.state; lines = self.old })) }
+        ensures held { carrier.new.held ≡ carrier.old.held }
+        ensures allowed { OnOk result (session_refusal reference (session_in (value_at reference self.old)) (called_by request.entry) carrier.old.state ≡ None) }
+        ensures refused { IfErr result (λ e. Refuses e (session_error (session_in (value_at reference self.old)) (called_by request.entry)) (session_refusal reference (session_in (value_at reference self.old)) (called_by request.entry) carrier.old.state)) }
+        ensures err { OnErr result ((self.new ≡ self.old) × (carrier.new ≡ carrier.old)) }
+    {
+        let Some(place) = place_in(self.rows.as_slice(), reference) else {
+            return Err(CallError::Ended);
+        };
+        self.rows[place].call(request, carrier)
+    }
+
+    /// The carrier has ended, and all sessions are lost.
+    pub fn lose_all(&mut self)
+        ensures { self.new ≡ all_lost self.old }
+    {
+        lose_each(&mut self.rows);
+    }
+
+    /// How many connections there are.
+    pub fn len(&self) -> usize
+        ensures { result ≡ length self.now }
+    {
+        self.rows.len()
+    }
+
+    /// A new connection. Want of memory changes nothing.
+    pub fn push(&mut self, line: Line) -> Result<(), AllocError>
+        ensures ok { OnOk result (self.new ≡ self.old ++ line ∷ []) }
+        ensures err { OnErr result (self.new ≡ self.old) }
+    {
+        match self.rows.push(line) {
+            Ok(()) => Ok(()),
+            Err(_) => Err(AllocError),
+        }
+    }
+
+    /// The first connections, so many.
+    pub fn truncate(&mut self, len: usize)
+        ensures { self.new ≡ take len self.old }
+    {
+        self.rows.truncate(len);
+    }
+
+    /// Drops those that are gone and for which nothing waits.
+    pub fn sweep(&mut self, carrier: &Carrier)
+        ensures { self.new ≡ used_lines carrier.now.state.live self.old }
+    {
+        drop_unused(&mut self.rows, carrier);
+    }
+}

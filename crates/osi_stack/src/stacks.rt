@@ -1,0 +1,198 @@
+use crate::connecting::{Connect, ConnectError};
+use crate::hub::Hub;
+use osi_carrier::{Carrier, EndReason, Ref};
+use osi_class::Local;
+use osi_session::{CallError, Indication, Phase, Request};
+use osi_spdu::TokenSet;
+use osi_tpkt::Fed;
+use std::alloc::Global;
+use std::marker::Model;
+
+/// One end of a byte connection: octets come in and go out, its user calls and is shown indications.
+/// Each connection has a reference of this end.
+#[derive(Drop)]
+pub struct Stack {
+    hub: Hub,
+}
+
+impl Model for Stack {
+    ghost use Rattle.osi_stack.specs.State.{Holding};
+
+    ghost Value = { Holding };
+
+    ghost use Rattle.osi_stack.specs.State.{IsAttended};
+
+    ghost view = { λ s. s.hub };
+
+    ghost invariant = { λ s. IsAttended s.hub.end };
+}
+
+impl Stack {
+    ghost use Rattle.std.specs.Prelude.{◌≡◌, ◌+◌, ◌*◌, ◌≤◌, true, false, None, OnOk, OnErr, IfOk, IfErr, option_map, length};
+    ghost use Rattle.osi_tpkt.specs.Held.{fresh};
+    ghost use Rattle.osi_carrier.specs.Calls.{kept_in};
+    ghost use Rattle.osi_message.specs.Tokens.{named, token_octet};
+    ghost use Rattle.osi_spdu.specs.Fields.{bits_of};
+    ghost use Rattle.osi_session.specs.Calls.{called_by};
+    ghost use Rattle.osi_session.specs.Moves.{called};
+    ghost use Rattle.osi_session.specs.Shown.{shown_by};
+    ghost use Rattle.osi_stack.specs.Calls.{connect_error, refusal, connects, call_error, table_error, Refuses, held_by, phase_at, numbers_of, first_shown, without_first, carried, breaks};
+    ghost use Rattle.osi_stack.specs.Feeding.{Feeds};
+    ghost use Rattle.osi_stack.specs.Moving.{to_session};
+    ghost use Rattle.osi_stack.specs.State.{fresh_end, session_at};
+
+    /// The calling end of a byte connection. Nothing is written yet.
+    pub fn caller(alloc: Global, local: Local) -> Self
+        ensures { result ≡ record { end = fresh_end true local; held = fresh } }
+    {
+        Stack {
+            hub: Hub::new(alloc, Carrier::caller(alloc, local)),
+        }
+    }
+
+    /// The called end of a byte connection.
+    pub fn called(alloc: Global, local: Local) -> Self
+        ensures { result ≡ record { end = fresh_end false local; held = fresh } }
+    {
+        Stack {
+            hub: Hub::new(alloc, Carrier::called(alloc, local)),
+        }
+    }
+
+    /// Asks for a connection: the next reference is given, a CR is written, and the CN follows once
+    /// the transport connection is there. Each error changes nothing.
+    pub fn connect(&mut self, connect: &Connect) -> Result<Ref, ConnectError>
+        ensures ok { OnOk result (self.new ≡ record self.old { end = connects connect.now self.old.end }) }
+        ensures reference { IfOk result (λ r. r.0 ≡ self.old.end.carrier.given + 1) }
+        ensures allowed { OnOk result (connect_error connect.now self.old.end ≡ None) }
+        ensures refused { IfErr result (λ e. refusal e ≡ connect_error connect.now self.old.end) }
+        ensures err { OnErr result (self.new ≡ self.old) }
+    {
+        self.hub.connect(connect)
+    }
+
+    /// A call of the user of a connection (X.225 section 7). Each error changes nothing, and want of
+    /// memory comes only where no other error does.
+    pub fn call(&mut self, reference: Ref, request: Request) -> Result<(), CallError>
+        ensures ok { OnOk result (self.new ≡ record self.old { end = to_session reference.0 (called (called_by request.entry)) self.old.end }) }
+        ensures allowed { OnOk result (call_error reference.0 (called_by request.entry) self.old.end ≡ None) }
+        ensures refused { IfErr result (λ e. Refuses e (table_error reference.0 (called_by request.entry) self.old.end) (call_error reference.0 (called_by request.entry) self.old.end)) }
+        ensures err { OnErr result (self.new ≡ self.old) }
+    {
+        self.hub.call(reference, request)
+    }
+
+    /// Feeds a piece of the stream that comes from the peer: its packets act one after the other, up
+    /// to one that gives an indication. The rest of the piece is to be fed again once the indications
+    /// were taken.
+    ///
+    /// While an indication waits nothing is used. All of the piece is used after the end, and where
+    /// the end comes now with a fault, for want of memory or with no indication.
+    pub fn feed(&mut self, piece: &[u8]) -> Fed
+        ensures { Feeds self.old piece.now result self.new }
+    {
+        if self.hub.has_ended() {
+            return Fed {
+                used: piece.len(),
+                whole: self.hub.waits(),
+            };
+        }
+        if self.hub.waits() {
+            return Fed {
+                used: 0,
+                whole: true,
+            };
+        }
+        let used = self.hub.read(piece);
+        Fed {
+            used,
+            whole: self.hub.waits(),
+        }
+    }
+
+    /// The oldest indication of the connection with the lowest reference that has one, with this
+    /// reference. Takes no memory.
+    pub fn next_indication(&mut self) -> Option<(Ref, Indication)>
+        ensures shown { option_map (λ p. (p.0.0, shown_by p.1)) result ≡ first_shown self.old.end.lines }
+        ensures rest { self.new ≡ record self.old { end = record self.old.end { lines = without_first self.old.end.lines } } }
+    {
+        self.hub.next_indication()
+    }
+
+    /// The tokens that this end holds; none for a connection that is gone or never was.
+    pub fn held(&self, reference: Ref) -> TokenSet
+        ensures octet { bits_of result ≡ token_octet (held_by (session_at reference.0 self.now.end)) }
+        ensures set { named (bits_of result) ≡ held_by (session_at reference.0 self.now.end) }
+    {
+        self.hub.held(reference)
+    }
+
+    /// Where a connection stands: none for a reference that was never given, and ended once the
+    /// connection is gone.
+    pub fn phase(&self, reference: Ref) -> Option<Phase>
+        ensures { result ≡ phase_at reference.0 self.now.end }
+    {
+        self.hub.phase(reference)
+    }
+
+    /// V(M), the number of the next synchronization point; 0 for a connection that is gone or never
+    /// was.
+    pub fn next_serial(&self, reference: Ref) -> u32
+        ensures { result ≡ (numbers_of (session_at reference.0 self.now.end)).next }
+    {
+        self.hub.next_serial(reference)
+    }
+
+    /// V(A), the lowest number that is not confirmed; 0 for a connection that is gone or never was.
+    pub fn confirmed_below(&self, reference: Ref) -> u32
+        ensures { result ≡ (numbers_of (session_at reference.0 self.now.end)).confirmed }
+    {
+        self.hub.confirmed_below(reference)
+    }
+
+    /// V(R), the lowest number at which this end may restart; 0 for a connection that is gone or
+    /// never was.
+    pub fn lowest_restart(&self, reference: Ref) -> u32
+        ensures { result ≡ (numbers_of (session_at reference.0 self.now.end)).lowest }
+    {
+        self.hub.lowest_restart(reference)
+    }
+
+    /// The octets to be carried to the peer, the first of them first.
+    pub fn outgoing(&self) -> &[u8]
+        ensures { result.now ≡ self.now.end.carrier.outgoing }
+    {
+        self.hub.outgoing()
+    }
+
+    /// The first octets of [`Stack::outgoing`] were carried: at most as many as there are.
+    pub fn taken(&mut self, octets: usize)
+        requires { octets ≤ length self.old.end.carrier.outgoing }
+        ensures { self.new ≡ record self.old { end = carried octets self.old.end } }
+    {
+        self.hub.taken(octets);
+    }
+
+    /// The byte connection broke: all sessions are lost. Nothing changes where the end has ended.
+    pub fn broken(&mut self)
+        ensures { self.new ≡ record self.old { end = breaks self.old.end } }
+    {
+        self.hub.break_off();
+    }
+
+    /// Why this end has ended; none before it has.
+    pub fn ended(&self) -> Option<EndReason>
+        ensures { result ≡ self.now.end.carrier.ended }
+    {
+        self.hub.ended()
+    }
+
+    /// How many octets are held of what came: those of the packet under way and of the unfinished
+    /// TSDUs of open connections. At most 65,535, and 1,048,576 for each live connection.
+    pub fn kept(&self) -> usize
+        ensures value { result ≡ length self.now.held.octets + kept_in self.now.end.carrier.live }
+        ensures at_most { result ≤ 65535 + 1048576 * length self.now.end.carrier.live }
+    {
+        self.hub.kept()
+    }
+}

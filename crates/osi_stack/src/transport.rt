@@ -1,0 +1,67 @@
+//! What sessions hand to the carrier.
+
+ghost use Rattle.std.specs.Prelude.{◌≡◌, OnOk, OnErr};
+ghost use Rattle.osi_carrier.specs.Calls.{closed_with};
+ghost use Rattle.osi_stack.specs.Transport.{hands, hands_some, answers_by};
+
+use osi_carrier::{Carrier, Ref, SendError};
+use osi_message::Sent;
+use std::alloc::AllocError;
+
+/// The reason of a DR by which a session closes its transport connection: 128, a normal disconnect
+/// (X.224 section 13.5.3).
+const NORMAL: u8 = 128;
+
+/// Sends a TSDU where the carrier takes it: on an open connection. Want of memory changes nothing.
+fn hand(carrier: &mut Carrier, reference: u16, tsdu: &[u8]) -> Result<(), AllocError>
+    ensures ok { OnOk result (carrier.new ≡ record carrier.old { state = hands reference tsdu.now carrier.old.state }) }
+    ensures err { OnErr result (carrier.new ≡ carrier.old) }
+{
+    match carrier.send(Ref(reference), tsdu) {
+        Ok(()) => Ok(()),
+        Err(SendError::NotOpen) => Ok(()),
+        Err(SendError::TooLong) => Ok(()),
+        Err(SendError::OutOfMemory) => Err(AllocError),
+    }
+}
+
+/// Sends what a session sends, if it does.
+fn hand_some(carrier: &mut Carrier, reference: u16, tsdu: Option<Sent>) -> Result<(), AllocError>
+    ensures ok { OnOk result (carrier.new ≡ record carrier.old { state = hands_some reference tsdu carrier.old.state }) }
+    ensures err { OnErr result (carrier.new ≡ carrier.old) }
+{
+    match tsdu {
+        None => Ok(()),
+        Some(sent) => hand(carrier, reference, sent.as_slice()),
+    }
+}
+
+/// Closes an open connection. Want of memory changes nothing.
+fn close(carrier: &mut Carrier, reference: u16) -> Result<(), AllocError>
+    ensures ok { OnOk result (carrier.new ≡ record carrier.old { state = closed_with reference 128 carrier.old.state }) }
+    ensures err { OnErr result (carrier.new ≡ carrier.old) }
+{
+    match carrier.close(Ref(reference), NORMAL) {
+        Ok(()) => Ok(()),
+        Err(SendError::NotOpen) => Ok(()),
+        Err(SendError::TooLong) => Ok(()),
+        Err(SendError::OutOfMemory) => Err(AllocError),
+    }
+}
+
+/// Closes the connection of a session if it does, or sends what it sends. Want of memory changes
+/// nothing.
+pub fn answer(
+    carrier: &mut Carrier,
+    reference: u16,
+    tsdu: Option<Sent>,
+    closes: bool,
+) -> Result<(), AllocError>
+    ensures ok { OnOk result (carrier.new ≡ record carrier.old { state = answers_by closes reference tsdu carrier.old.state }) }
+    ensures err { OnErr result (carrier.new ≡ carrier.old) }
+{
+    if closes {
+        return close(carrier, reference);
+    }
+    hand_some(carrier, reference, tsdu)
+}
