@@ -1,0 +1,17 @@
+//! The text of scripts and transcripts: a script tells two ends what to do, a line for each event, and
+//! a transcript tells what they answered and what their users were shown.
+#![tactic(auto)]
+
+mod answers;
+mod names;
+mod shown;
+mod sides;
+mod standing;
+mod texts;
+mod verbs;
+
+pub use answers::{Answer, ConnectRefusal, LineFault, push_answer};
+pub use shown::push_indication;
+pub use sides::Side;
+pub use standing::{Standing, push_standing};
+pub use verbs::Verb;

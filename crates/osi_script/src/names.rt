@@ -1,0 +1,76 @@
+ghost use Rattle.std.specs.Prelude.{◌≡◌};
+ghost use Rattle.osi_script.specs.Names.{open_error_name, call_error_name, unit_fault_name, phase_name};
+
+use osi_carrier::OpenError;
+use osi_session::{CallError, Phase, UnitFault};
+
+/// Why no connection was asked for.
+pub(crate) fn open_error(error: OpenError) -> &'static str
+    ensures { result.now ≡ open_error_name error }
+{
+    match error {
+        OpenError::NotCaller => "NotCaller",
+        OpenError::Ended => "Ended",
+        OpenError::Negotiating => "Negotiating",
+        OpenError::OneConnection => "OneConnection",
+        OpenError::TooMany => "TooMany",
+        OpenError::ReferencesUsedUp => "ReferencesUsedUp",
+        OpenError::OutOfMemory => "OutOfMemory",
+    }
+}
+
+/// Why a call was refused.
+#[tactic(auto, unfolding(crate::specs::Names::call_error_name))]
+pub(crate) fn call_error(error: CallError) -> &'static str
+    ensures { result.now ≡ call_error_name error }
+{
+    match error {
+        CallError::NoSuchConnection => "NoSuchConnection",
+        CallError::Ended => "Ended",
+        CallError::BadState => "BadState",
+        CallError::NotSelected => "NotSelected",
+        CallError::TokenNotHeld => "TokenNotHeld",
+        CallError::TokenAlreadyHeld => "TokenAlreadyHeld",
+        CallError::BadNumber => "BadNumber",
+        CallError::SerialsUsedUp => "SerialsUsedUp",
+        CallError::Empty => "Empty",
+        CallError::TooLong => "TooLong",
+        CallError::OutOfMemory => "OutOfMemory",
+    }
+}
+
+/// Why a unit that came is bad.
+pub(crate) fn unit_fault(fault: UnitFault) -> &'static str
+    ensures { result.now ≡ unit_fault_name fault }
+{
+    match fault {
+        UnitFault::Spelling(_) => "Spelling",
+        UnitFault::Unexpected(_) => "Unexpected",
+        UnitFault::NotSelected(_) => "NotSelected",
+        UnitFault::TokenHeld(_) => "TokenHeld",
+        UnitFault::BadNumber(_) => "BadNumber",
+        UnitFault::BadTokens(_) => "BadTokens",
+    }
+}
+
+/// Where a connection stands.
+#[tactic(auto, unfolding(crate::specs::Names::phase_name))]
+pub(crate) fn phase(phase: Phase) -> &'static str
+    ensures { result.now ≡ phase_name phase }
+{
+    match phase {
+        Phase::WaitTransport => "WaitTransport",
+        Phase::WaitCn => "WaitCn",
+        Phase::Connecting => "Connecting",
+        Phase::Answering => "Answering",
+        Phase::Ready => "Ready",
+        Phase::MajorAsked => "MajorAsked",
+        Phase::MajorDue => "MajorDue",
+        Phase::Releasing => "Releasing",
+        Phase::ReleaseDue => "ReleaseDue",
+        Phase::Restarting => "Restarting",
+        Phase::RestartDue => "RestartDue",
+        Phase::Aborting => "Aborting",
+        Phase::Ended => "Ended",
+    }
+}

@@ -1,0 +1,98 @@
+ghost use Rattle.std.specs.Prelude.{◌≡◌, ◌++◌, ◌∷◌, [], OnOk};
+ghost use Rattle.std.specs.Fmt.{decimal};
+ghost use Rattle.hex.specs.Hex.{encode_lower};
+ghost use Rattle.osi_tpdu.specs.Spelling.{two};
+ghost use Rattle.osi_script.specs.Texts.{data_text, wish_letter, side_letter, wishes_text, sides_text};
+
+use osi_session::Sides;
+use osi_spdu::{Side, TokenSetting, Wish};
+use std::alloc::{AllocError, Global};
+
+/// Adds words to a text.
+pub(crate) fn push_words(text: &mut Vec<u8>, words: &str) -> Result<(), AllocError>
+    ensures { OnOk result (text.new.items ≡ text.old.items ++ words.now) }
+{
+    text.extend_from_slice(words.as_bytes())
+}
+
+/// Adds a number in decimal.
+pub(crate) fn push_decimal(text: &mut Vec<u8>, number: u64) -> Result<(), AllocError>
+    ensures { OnOk result (text.new.items ≡ text.old.items ++ decimal number) }
+{
+    let mut buffer = itoa::Buffer::new();
+    text.extend_from_slice(buffer.format(number).as_bytes())
+}
+
+/// Adds an octet in hexadecimal.
+pub(crate) fn push_octet(text: &mut Vec<u8>, octet: u8) -> Result<(), AllocError>
+    ensures { OnOk result (text.new.items ≡ text.old.items ++ encode_lower (octet ∷ [])) }
+{
+    let mut digits = [0; 2];
+    let _ = hex::encode_to_slice([octet].as_slice(), &mut digits);
+    text.extend_from_slice(&digits)
+}
+
+/// Adds 16 bits in hexadecimal.
+pub(crate) fn push_short(text: &mut Vec<u8>, bits: u16) -> Result<(), AllocError>
+    ensures { OnOk result (text.new.items ≡ text.old.items ++ encode_lower (two bits)) }
+{
+    let mut digits = [0; 4];
+    let octets = [(bits / 256) as u8, (bits % 256) as u8];
+    let _ = hex::encode_to_slice(octets.as_slice(), &mut digits);
+    text.extend_from_slice(&digits)
+}
+
+/// Adds octets in hexadecimal, or a dash where there is none.
+#[tactic(auto, unfolding(crate::specs::Texts::data_text))]
+pub(crate) fn push_data(alloc: Global, text: &mut Vec<u8>, octets: &[u8]) -> Result<(), AllocError>
+    ensures { OnOk result (text.new.items ≡ text.old.items ++ data_text octets.now) }
+{
+    if octets.is_empty() {
+        return push_words(text, "-");
+    }
+    let digits = hex::encode(alloc, octets)?;
+    text.extend_from_slice(digits.as_bytes())
+}
+
+fn letter_of_wish(wish: Wish) -> u8
+    ensures { result ≡ wish_letter wish }
+{
+    match wish {
+        Wish::Asker => b'a',
+        Wish::Answerer => b'r',
+        Wish::Choice => b'c',
+    }
+}
+
+fn letter_of_side(side: Side) -> u8
+    ensures { result ≡ side_letter side }
+{
+    match side {
+        Side::Asker => b'a',
+        Side::Answerer => b'r',
+    }
+}
+
+/// The letter of the side that is wished for each token.
+pub(crate) fn letters_of_wishes(wishes: TokenSetting) -> [u8; 4]
+    ensures { result ≡ wishes_text wishes }
+{
+    [
+        letter_of_wish(wishes.data_token),
+        letter_of_wish(wishes.minor),
+        letter_of_wish(wishes.major),
+        letter_of_wish(wishes.release),
+    ]
+}
+
+/// The letter of the side that holds each token.
+pub(crate) fn letters_of_sides(sides: Sides) -> [u8; 4]
+    ensures { result ≡ sides_text sides }
+{
+    [
+        letter_of_side(sides.data_token),
+        letter_of_side(sides.minor),
+        letter_of_side(sides.major),
+        letter_of_side(sides.release),
+    ]
+}

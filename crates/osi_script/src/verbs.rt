@@ -1,0 +1,63 @@
+ghost use Rattle.std.specs.Prelude.{◌≡◌};
+ghost use Rattle.osi_script.specs.Names.{verb_name};
+
+/// What a call of the user of a session asks for (X.215 section 10), as a script names it.
+#[derive(Clone, Copy, PartialEq, Eq, Debug)]
+pub enum Verb {
+    /// Accepts the connection.
+    Accept,
+    /// Refuses the connection.
+    Refuse,
+    /// Sends data.
+    Data,
+    /// Gives tokens.
+    Give,
+    /// Asks for tokens.
+    Please,
+    /// Sets a minor synchronization point.
+    Minor,
+    /// Confirms minor points.
+    MinorConfirm,
+    /// Sets a major synchronization point.
+    Major,
+    /// Confirms the major point.
+    MajorConfirm,
+    /// Restarts at a point.
+    Restart,
+    /// Answers a restart.
+    RestartConfirm,
+    /// Asks for the release.
+    Release,
+    /// Accepts the release.
+    ReleaseAccept,
+    /// Refuses the release.
+    ReleaseRefuse,
+    /// Aborts the connection.
+    Abort,
+}
+
+impl Verb {
+    /// The word for the call.
+    #[tactic(auto, unfolding(crate::specs::Names::verb_name))]
+    pub fn name(self) -> &'static str
+        ensures { result.now ≡ verb_name self }
+    {
+        match self {
+            Verb::Accept => "accept",
+            Verb::Refuse => "refuse",
+            Verb::Data => "data",
+            Verb::Give => "give",
+            Verb::Please => "please",
+            Verb::Minor => "minor",
+            Verb::MinorConfirm => "minorconfirm",
+            Verb::Major => "major",
+            Verb::MajorConfirm => "majorconfirm",
+            Verb::Restart => "restart",
+            Verb::RestartConfirm => "restartconfirm",
+            Verb::Release => "release",
+            Verb::ReleaseAccept => "releaseaccept",
+            Verb::ReleaseRefuse => "releaserefuse",
+            Verb::Abort => "abort",
+        }
+    }
+}
