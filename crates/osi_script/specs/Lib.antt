@@ -3,3 +3,7 @@ pub mod Texts
 pub mod Answers
 pub mod Shown
 pub mod Standing
+pub mod Words
+pub mod Calls
+pub mod Commands
+pub mod Lines

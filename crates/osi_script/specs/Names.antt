@@ -1,5 +1,5 @@
 -- The words for sides, calls, errors, faults and phases: an error, a fault or a phase by its own name.
-use Rattle.std.specs.Prelude.{ℕ, List, codes}
+use Rattle.std.specs.Prelude.{ℕ, List, [], ◌∷◌, codes}
 use Rattle.osi_script.specs.declared.sides.Side.{Side}
 use Rattle.osi_script.specs.declared.sides.Side.TheVariants.{Left, Right}
 use Rattle.osi_script.specs.declared.verbs.Verb.{Verb}
@@ -33,6 +33,12 @@ verb_name verb.Release = codes "release"
 verb_name verb.ReleaseAccept = codes "releaseaccept"
 verb_name verb.ReleaseRefuse = codes "releaserefuse"
 verb_name verb.Abort = codes "abort"
+
+abbrev pub all_verbs : List Verb
+all_verbs =
+    verb.Accept ∷ verb.Refuse ∷ verb.Data ∷ verb.Give ∷ verb.Please ∷ verb.Minor ∷ verb.MinorConfirm ∷ verb.Major
+    ∷ verb.MajorConfirm ∷ verb.Restart ∷ verb.RestartConfirm ∷ verb.Release ∷ verb.ReleaseAccept ∷ verb.ReleaseRefuse
+    ∷ verb.Abort ∷ []
 
 abbrev pub open_error_name : OpenError → List ℕ
 open_error_name opening.NotCaller = codes "NotCaller"

@@ -3,14 +3,21 @@
 #![tactic(auto)]
 
 mod answers;
+mod calls;
+mod commands;
+mod lines;
 mod names;
+mod reading;
 mod shown;
 mod sides;
 mod standing;
 mod texts;
 mod verbs;
+mod words;
 
 pub use answers::{Answer, ConnectRefusal, LineFault, push_answer};
+pub use commands::{Classes, Command};
+pub use lines::Line;
 pub use shown::push_indication;
 pub use sides::Side;
 pub use standing::{Standing, push_standing};

@@ -1,5 +1,5 @@
 ghost use Rattle.std.specs.Prelude.{◌≡◌};
-ghost use Rattle.osi_script.specs.Names.{verb_name};
+ghost use Rattle.osi_script.specs.Names.{verb_name, all_verbs};
 
 /// What a call of the user of a session asks for (X.215 section 10), as a script names it.
 #[derive(Clone, Copy, PartialEq, Eq, Debug)]
@@ -37,6 +37,29 @@ pub enum Verb {
 }
 
 impl Verb {
+    /// All of them.
+    pub(crate) fn all() -> &'static [Verb]
+        ensures { result.now ≡ all_verbs }
+    {
+        &[
+            Verb::Accept,
+            Verb::Refuse,
+            Verb::Data,
+            Verb::Give,
+            Verb::Please,
+            Verb::Minor,
+            Verb::MinorConfirm,
+            Verb::Major,
+            Verb::MajorConfirm,
+            Verb::Restart,
+            Verb::RestartConfirm,
+            Verb::Release,
+            Verb::ReleaseAccept,
+            Verb::ReleaseRefuse,
+            Verb::Abort,
+        ]
+    }
+
     /// The word for the call.
     #[tactic(auto, unfolding(crate::specs::Names::verb_name))]
     pub fn name(self) -> &'static str

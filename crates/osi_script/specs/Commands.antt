@@ -1,0 +1,111 @@
+-- What a line of a script asks for, and the lines that spell it.
+use Rattle.std.specs.Prelude.{ℕ, ◌-◌, Bool, true, false, List, [], ◌∷◌, codes, length, Option, Some, None, if◌then◌else◌}
+use Rattle.std.specs.List.{slice_get}
+use Rattle.osi_spdu.specs.declared.settings.TokenSetting.{TokenSetting}
+use Rattle.osi_session.specs.Calls.{Call, called_by}
+use Rattle.osi_tpdu.specs.Limits.{size_code, window_units}
+use Rattle.osi_script.specs.declared.commands.Classes.{Classes}
+use Rattle.osi_script.specs.declared.commands.Classes.TheVariants.{Zero, Two, Both}
+use Rattle.osi_script.specs.declared.commands.Command.{Command as InMemory}
+use Rattle.osi_script.specs.declared.commands.Command.TheVariants as memory
+use Rattle.osi_script.specs.declared.sides.Side.{Side}
+use Rattle.osi_script.specs.Words.{◌>>=◌, words_of, is, number_to, units_of, serial_of, size_of, window_of, classes_of, side_of, verb_of, wishes_of, data_of}
+use Rattle.osi_script.specs.Calls.{call_of}
+
+abbrev pub has_class_0 : Classes → Bool
+has_class_0 Zero = true
+has_class_0 Two = false
+has_class_0 Both = true
+
+abbrev pub has_class_2 : Classes → Bool
+has_class_2 Zero = false
+has_class_2 Two = true
+has_class_2 Both = true
+
+pub data Command : Type 0 where
+  Ends : (caller called : Classes) (size window : ℕ) → Command
+  Connect : (requirements serial : ℕ) (wishes : TokenSetting) (octets : List ℕ) → Command
+  OfUser : (side : Side) (reference : ℕ) (call : Call) → Command
+  Carry : (side : Side) (octets : ℕ) → Command
+  Break : (left right : ℕ) → Command
+  Told : (side : Side) → Command
+
+-- a command in memory
+abbrev pub command_by : InMemory → Command
+command_by (memory.Ends caller called size window) = Ends caller called (size_code size) (window_units window)
+command_by (memory.Connect requirements serial wishes octets) = Connect requirements.0 serial.number wishes octets.now
+command_by (memory.Call side reference request) = OfUser side reference (called_by request)
+command_by (memory.Carry side octets) = Carry side octets
+command_by (memory.Break left right) = Break left right
+command_by (memory.Told side) = Told side
+
+-- ---- the words behind the first; user is what the last word spells as user data
+
+unfoldable pub ends_of : List (List ℕ) → Option Command
+ends_of (caller ∷ called ∷ size ∷ window ∷ []) = do
+  a ← classes_of caller
+  b ← classes_of called
+  s ← size_of size
+  w ← window_of window
+  Some (Ends a b s w)
+ends_of other = None
+
+unfoldable pub connect_of : List (List ℕ) → Option (List ℕ) → Option Command
+connect_of (units ∷ serial ∷ wishes ∷ last ∷ []) user = do
+  u ← units_of units
+  s ← serial_of serial
+  w ← wishes_of wishes
+  octets ← user
+  Some (Connect u s w octets)
+connect_of other user = None
+
+unfoldable pub carry_of : List (List ℕ) → Option Command
+carry_of (side ∷ octets ∷ []) = do
+  s ← side_of side
+  k ← number_to 4294967295 octets
+  Some (Carry s k)
+carry_of other = None
+
+unfoldable pub break_of : List (List ℕ) → Option Command
+break_of (left ∷ right ∷ []) = do
+  l ← number_to 4294967295 left
+  r ← number_to 4294967295 right
+  Some (Break l r)
+break_of other = None
+
+unfoldable pub told_of : List (List ℕ) → Option Command
+told_of (side ∷ []) = do
+  s ← side_of side
+  Some (Told s)
+told_of other = None
+
+-- a call: its side, the connection, the verb, and the words behind it
+unfoldable pub user_call : List ℕ → List (List ℕ) → Option (List ℕ) → Option Command
+user_call side (reference ∷ verb ∷ words) user = do
+  s ← side_of side
+  r ← number_to 65535 reference
+  v ← verb_of verb
+  c ← call_of v words user
+  Some (OfUser s r c)
+user_call side other user = None
+
+-- the line with these words, of which the last spells this user data
+unfoldable pub command_in : List (List ℕ) → Option (List ℕ) → Option Command
+command_in [] user = None
+command_in (first ∷ words) user =
+    if is first (codes "ends") then ends_of words
+    else if is first (codes "connect") then connect_of words user
+    else if is first (codes "carry") then carry_of words
+    else if is first (codes "break") then break_of words
+    else if is first (codes "told") then told_of words
+    else user_call first words user
+
+-- what the last word spells as user data
+abbrev pub last_data : List (List ℕ) → Option (List ℕ)
+last_data words = do
+  word ← slice_get words (length words - 1)
+  data_of word
+
+-- what a line asks for
+unfoldable pub command_of : List ℕ → Option Command
+command_of line = command_in (words_of line) (last_data (words_of line))

@@ -1,0 +1,176 @@
+ghost use Rattle.std.specs.Prelude.{◌≡◌, map, option_map, option_copied};
+ghost use Rattle.osi_session.specs.Calls.{called_by};
+ghost use Rattle.osi_script.specs.Calls.{accept_of, plain_data, give_of, asking, please_of, minor_of, minor_confirm_of, restart_of, restart_confirm_of, call_of};
+
+use crate::verbs::Verb;
+use crate::words::{answer, number, serial, sides, tokens, units, wishes};
+use osi_session::Request;
+use osi_spdu::TokenSet;
+
+/// The greatest number that a call can name.
+const MOST: u32 = 4_294_967_295;
+
+#[tactic(auto, unfolding(crate::specs::Calls::accept_of))]
+fn accept<'a>(words: &[&[u8]], data: Option<&'a [u8]>) -> Option<Request<'a>>
+    ensures { option_map called_by result
+        ≡ accept_of (map (λ w. w.now) words.now) (option_copied data.entry) }
+{
+    let [selected, first, stated, _] = words else {
+        return None;
+    };
+    let requirements = units(selected)?;
+    let serial = serial(first)?;
+    let sides = sides(stated)?;
+    let user_data = data?;
+    Some(Request::Accept {
+        requirements,
+        serial,
+        sides,
+        user_data,
+    })
+}
+
+/// The user data of a call that has no other word.
+#[tactic(auto, unfolding(crate::specs::Calls::plain_data))]
+fn plain<'a>(words: &[&[u8]], data: Option<&'a [u8]>) -> Option<&'a [u8]>
+    ensures { option_copied result
+        ≡ plain_data (map (λ w. w.now) words.now) (option_copied data.entry) }
+{
+    let [_] = words else {
+        return None;
+    };
+    data
+}
+
+#[tactic(auto, unfolding(crate::specs::Calls::give_of))]
+fn give<'a>(words: &[&[u8]]) -> Option<Request<'a>>
+    ensures { option_map called_by result ≡ give_of (map (λ w. w.now) words.now) }
+{
+    let [named] = words else {
+        return None;
+    };
+    let tokens = tokens(named)?;
+    Some(Request::Give { tokens })
+}
+
+#[tactic(auto, unfolding(crate::specs::Calls::asking))]
+fn asking<'a>(tokens: TokenSet, user_data: &'a [u8]) -> Request<'a>
+    ensures { called_by result ≡ asking tokens.0 user_data.entry.now }
+{
+    Request::Please { tokens, user_data }
+}
+
+#[tactic(auto, unfolding(crate::specs::Calls::please_of))]
+fn please<'a>(words: &[&[u8]], data: Option<&'a [u8]>) -> Option<Request<'a>>
+    ensures { option_map called_by result
+        ≡ please_of (map (λ w. w.now) words.now) (option_copied data.entry) }
+{
+    let [named, _] = words else {
+        return None;
+    };
+    let tokens = tokens(named)?;
+    let user_data = data?;
+    Some(asking(tokens, user_data))
+}
+
+#[tactic(auto, unfolding(crate::specs::Calls::minor_of))]
+fn minor<'a>(words: &[&[u8]], data: Option<&'a [u8]>) -> Option<Request<'a>>
+    ensures { option_map called_by result
+        ≡ minor_of (map (λ w. w.now) words.now) (option_copied data.entry) }
+{
+    let [word, _] = words else {
+        return None;
+    };
+    let confirm = answer(word)?;
+    let user_data = data?;
+    Some(Request::Minor { confirm, user_data })
+}
+
+#[tactic(auto, unfolding(crate::specs::Calls::minor_confirm_of))]
+fn minor_confirm<'a>(words: &[&[u8]], data: Option<&'a [u8]>) -> Option<Request<'a>>
+    ensures { option_map called_by result
+        ≡ minor_confirm_of (map (λ w. w.now) words.now) (option_copied data.entry) }
+{
+    let [point, _] = words else {
+        return None;
+    };
+    let number = number(point, MOST)?;
+    let user_data = data?;
+    Some(Request::MinorConfirm { number, user_data })
+}
+
+#[tactic(auto, unfolding(crate::specs::Calls::restart_of))]
+fn restart<'a>(words: &[&[u8]], data: Option<&'a [u8]>) -> Option<Request<'a>>
+    ensures { option_map called_by result
+        ≡ restart_of (map (λ w. w.now) words.now) (option_copied data.entry) }
+{
+    let [point, wished, _] = words else {
+        return None;
+    };
+    let number = number(point, MOST)?;
+    let wishes = wishes(wished)?;
+    let user_data = data?;
+    Some(Request::Restart {
+        number,
+        wishes,
+        user_data,
+    })
+}
+
+#[tactic(auto, unfolding(crate::specs::Calls::restart_confirm_of))]
+fn restart_confirm<'a>(words: &[&[u8]], data: Option<&'a [u8]>) -> Option<Request<'a>>
+    ensures { option_map called_by result
+        ≡ restart_confirm_of (map (λ w. w.now) words.now) (option_copied data.entry) }
+{
+    let [stated, _] = words else {
+        return None;
+    };
+    let sides = sides(stated)?;
+    let user_data = data?;
+    Some(Request::RestartConfirm { sides, user_data })
+}
+
+/// What a call asks for, by its verb and the words behind it, of which the last spells this user data.
+#[tactic(auto, unfolding(crate::specs::Calls::call_of))]
+pub(crate) fn request<'a>(
+    verb: Verb,
+    words: &[&[u8]],
+    data: Option<&'a [u8]>,
+) -> Option<Request<'a>>
+    ensures { option_map called_by result
+        ≡ call_of verb (map (λ w. w.now) words.now) (option_copied data.entry) }
+{
+    match verb {
+        Verb::Accept => accept(words, data),
+        Verb::Refuse => Some(Request::Refuse {
+            user_data: plain(words, data)?,
+        }),
+        Verb::Data => Some(Request::Data {
+            user_data: plain(words, data)?,
+        }),
+        Verb::Give => give(words),
+        Verb::Please => please(words, data),
+        Verb::Minor => minor(words, data),
+        Verb::MinorConfirm => minor_confirm(words, data),
+        Verb::Major => Some(Request::Major {
+            user_data: plain(words, data)?,
+        }),
+        Verb::MajorConfirm => Some(Request::MajorConfirm {
+            user_data: plain(words, data)?,
+        }),
+        Verb::Restart => restart(words, data),
+        Verb::RestartConfirm => restart_confirm(words, data),
+        Verb::Release => Some(Request::Release {
+            user_data: plain(words, data)?,
+        }),
+        Verb::ReleaseAccept => Some(Request::ReleaseAccept {
+            user_data: plain(words, data)?,
+        }),
+        Verb::ReleaseRefuse => Some(Request::ReleaseRefuse {
+            user_data: plain(words, data)?,
+        }),
+        Verb::Abort => Some(Request::Abort {
+            user_data: plain(words, data)?,
+        }),
+    }
+}

@@ -1,0 +1,91 @@
+ghost use Rattle.std.specs.Prelude.{◌≡◌};
+ghost use Rattle.osi_script.specs.Commands.{has_class_0, has_class_2};
+
+use crate::sides::Side;
+use osi_class::Local;
+use osi_session::Request;
+use osi_spdu::{Requirements, Serial, TokenSetting};
+use osi_tpdu::{SizeCode, Window};
+
+/// The classes of the transport protocol that an end supports (X.224 section 5.4).
+#[derive(Clone, Copy, PartialEq, Eq, Debug)]
+pub enum Classes {
+    /// Class 0 alone.
+    Zero,
+    /// Class 2 alone.
+    Two,
+    /// Both, of which class 2 is preferred.
+    Both,
+}
+
+impl Classes {
+    /// An end that supports these classes.
+    pub fn local(self, size: SizeCode, window: Window) -> Local
+        ensures class0 { result.class0 ≡ has_class_0 self }
+        ensures class2 { result.class2 ≡ has_class_2 self }
+        ensures size { result.size ≡ size }
+        ensures window { result.window ≡ window }
+    {
+        Local {
+            class0: matches!(self, Classes::Zero | Classes::Both),
+            class2: matches!(self, Classes::Two | Classes::Both),
+            size,
+            window,
+        }
+    }
+}
+
+/// What a line of a script asks for.
+#[derive(Clone, Copy)]
+pub enum Command<'a> {
+    /// The two ends, of which the left one calls.
+    Ends {
+        /// The classes of the left end.
+        caller: Classes,
+        /// The classes of the right end.
+        called: Classes,
+        /// The largest TPDU size of both ends.
+        size: SizeCode,
+        /// The window of both ends.
+        window: Window,
+    },
+    /// The left end asks for a connection.
+    Connect {
+        /// The functional units that are offered.
+        requirements: Requirements,
+        /// The number of the first synchronization point.
+        serial: Serial,
+        /// The side that is wished for each token.
+        wishes: TokenSetting,
+        /// User data.
+        user_data: &'a [u8],
+    },
+    /// A call of the user of one connection.
+    Call {
+        /// The side of the user.
+        side: Side,
+        /// The connection.
+        reference: u16,
+        /// What is asked for.
+        request: Request<'a>,
+    },
+    /// Carries octets that a side has sent to the other side.
+    Carry {
+        /// The side that has sent them.
+        side: Side,
+        /// How many octets, or all where there are fewer.
+        octets: u32,
+    },
+    /// Breaks the connection of the two ends.
+    Break {
+        /// How many octets of the left side can still be carried.
+        left: u32,
+        /// How many octets of the right side can still be carried.
+        right: u32,
+    },
+    /// Tells a side of the break.
+    Told {
+        /// The side.
+        side: Side,
+    },
+}
