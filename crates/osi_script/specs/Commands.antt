@@ -2,6 +2,7 @@
 use Rattle.std.specs.Prelude.{ℕ, ◌-◌, Bool, true, false, List, [], ◌∷◌, codes, length, Option, Some, None, if◌then◌else◌}
 use Rattle.std.specs.List.{slice_get}
 use Rattle.osi_spdu.specs.declared.settings.TokenSetting.{TokenSetting}
+use Rattle.osi_spdu.specs.Fields.{unit_bits}
 use Rattle.osi_session.specs.Calls.{Call, called_by}
 use Rattle.osi_tpdu.specs.Limits.{size_code, window_units}
 use Rattle.osi_script.specs.declared.commands.Classes.{Classes}
@@ -33,7 +34,7 @@ pub data Command : Type 0 where
 -- a command in memory
 abbrev pub command_by : InMemory → Command
 command_by (memory.Ends caller called size window) = Ends caller called (size_code size) (window_units window)
-command_by (memory.Connect requirements serial wishes octets) = Connect requirements.0 serial.number wishes octets.now
+command_by (memory.Connect requirements serial wishes octets) = Connect (unit_bits requirements) serial.number wishes octets.now
 command_by (memory.Call side reference request) = OfUser side reference (called_by request)
 command_by (memory.Carry side octets) = Carry side octets
 command_by (memory.Break left right) = Break left right

@@ -2,20 +2,17 @@
 use Rattle.std.specs.Prelude.{ℕ, List, [], ◌∷◌, ◌++◌, codes}
 use Rattle.std.specs.Fmt.{decimal}
 use Rattle.hex.specs.Hex.{encode_lower}
+use Rattle.osi_spdu.specs.Fields.{bits_of}
 use Rattle.osi_session.specs.declared.phases.Phase.{Phase}
 use Rattle.osi_script.specs.declared.sides.Side.{Side}
 use Rattle.osi_script.specs.declared.standing.Standing.{Standing}
 use Rattle.osi_script.specs.Names.{side_name, phase_name}
 
--- the tokens that are held, by the octet of their bits
-abbrev pub held_octet : Standing → ℕ
-held_octet s = s.held.0
-
 -- a side and a connection, the phase, the tokens
 unfoldable pub standing_text : Standing → List ℕ
 standing_text s =
     side_name s.side ++ codes " " ++ decimal s.reference ++ codes " phase " ++ phase_name s.phase
-    ++ codes " held " ++ encode_lower (held_octet s ∷ [])
+    ++ codes " held " ++ encode_lower (bits_of s.held ∷ [])
 
 -- the next number, the lowest that is not confirmed, and the lowest for a restart
 unfoldable pub standing_numbers : Standing → List ℕ

@@ -1,4 +1,5 @@
 ghost use Rattle.std.specs.Prelude.{◌≡◌, map, option_map, option_copied};
+ghost use Rattle.osi_spdu.specs.Fields.{bits_of};
 ghost use Rattle.osi_session.specs.Calls.{called_by};
 ghost use Rattle.osi_script.specs.Calls.{accept_of, plain_data, give_of, asking, please_of, minor_of, minor_confirm_of, restart_of, restart_confirm_of, call_of};
 
@@ -55,7 +56,7 @@ fn give<'a>(words: &[&[u8]]) -> Option<Request<'a>>
 
 #[tactic(auto, unfolding(crate::specs::Calls::asking))]
 fn asking<'a>(tokens: TokenSet, user_data: &'a [u8]) -> Request<'a>
-    ensures { called_by result ≡ asking tokens.0 user_data.entry.now }
+    ensures { called_by result ≡ asking (bits_of tokens) user_data.entry.now }
 {
     Request::Please { tokens, user_data }
 }

@@ -1,4 +1,5 @@
 ghost use Rattle.std.specs.Prelude.{◌≡◌, ◌≤◌, ◌+◌, ◌*◌, ◌∷◌, ℕ, List, None, option_map, IfSome, IfNone};
+ghost use Rattle.osi_spdu.specs.Fields.{bits_of, unit_bits};
 ghost use Rattle.osi_tpdu.specs.Limits.{size_code, window_units};
 ghost use Rattle.osi_script.specs.Words.{is, number_behind, number_to, units_of, tokens_of, serial_of, size_of, window_of, classes_of, side_of, verb_of, wish_of_letter, side_of_letter, wishes_of, sides_of, answer_of};
 
@@ -65,7 +66,7 @@ fn short(high: u8, low: u8) -> u16
 /// Four hexadecimal digits: functional units.
 #[tactic(auto, unfolding(crate::specs::Words::units_of))]
 pub(crate) fn units(word: &[u8]) -> Option<Requirements>
-    ensures { option_map (λ r. r.0) result ≡ units_of word.now }
+    ensures { option_map unit_bits result ≡ units_of word.now }
 {
     let mut octets = [0; 2];
     if hex::decode_to_slice(word, &mut octets).is_err() {
@@ -77,7 +78,7 @@ pub(crate) fn units(word: &[u8]) -> Option<Requirements>
 /// Two hexadecimal digits: tokens.
 #[tactic(auto, unfolding(crate::specs::Words::tokens_of))]
 pub(crate) fn tokens(word: &[u8]) -> Option<TokenSet>
-    ensures { option_map (λ t. t.0) result ≡ tokens_of word.now }
+    ensures { option_map bits_of result ≡ tokens_of word.now }
 {
     let mut octets = [0; 1];
     if hex::decode_to_slice(word, &mut octets).is_err() {
