@@ -7,3 +7,4 @@ pub mod Words
 pub mod Calls
 pub mod Commands
 pub mod Lines
+pub mod Scripts

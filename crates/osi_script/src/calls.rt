@@ -12,9 +12,9 @@ use osi_spdu::TokenSet;
 const MOST: u32 = 4_294_967_295;
 
 #[tactic(auto, unfolding(crate::specs::Calls::accept_of))]
-fn accept<'a>(words: &[&[u8]], data: Option<&'a [u8]>) -> Option<Request<'a>>
+fn accept<'a>(words: &[&[u8]], octets: Option<&'a [u8]>) -> Option<Request<'a>>
     ensures { option_map called_by result
-        ≡ accept_of (map (λ w. w.now) words.now) (option_copied data.entry) }
+        ≡ accept_of (map (λ w. w.now) words.now) (option_copied octets.entry) }
 {
     let [selected, first, stated, _] = words else {
         return None;
@@ -22,7 +22,7 @@ fn accept<'a>(words: &[&[u8]], data: Option<&'a [u8]>) -> Option<Request<'a>>
     let requirements = units(selected)?;
     let serial = serial(first)?;
     let sides = sides(stated)?;
-    let user_data = data?;
+    let user_data = octets?;
     Some(Request::Accept {
         requirements,
         serial,
@@ -33,14 +33,14 @@ fn accept<'a>(words: &[&[u8]], data: Option<&'a [u8]>) -> Option<Request<'a>>
 
 /// The user data of a call that has no other word.
 #[tactic(auto, unfolding(crate::specs::Calls::plain_data))]
-fn plain<'a>(words: &[&[u8]], data: Option<&'a [u8]>) -> Option<&'a [u8]>
+fn plain<'a>(words: &[&[u8]], octets: Option<&'a [u8]>) -> Option<&'a [u8]>
     ensures { option_copied result
-        ≡ plain_data (map (λ w. w.now) words.now) (option_copied data.entry) }
+        ≡ plain_data (map (λ w. w.now) words.now) (option_copied octets.entry) }
 {
     let [_] = words else {
         return None;
     };
-    data
+    octets
 }
 
 #[tactic(auto, unfolding(crate::specs::Calls::give_of))]
@@ -62,55 +62,55 @@ fn asking<'a>(tokens: TokenSet, user_data: &'a [u8]) -> Request<'a>
 }
 
 #[tactic(auto, unfolding(crate::specs::Calls::please_of))]
-fn please<'a>(words: &[&[u8]], data: Option<&'a [u8]>) -> Option<Request<'a>>
+fn please<'a>(words: &[&[u8]], octets: Option<&'a [u8]>) -> Option<Request<'a>>
     ensures { option_map called_by result
-        ≡ please_of (map (λ w. w.now) words.now) (option_copied data.entry) }
+        ≡ please_of (map (λ w. w.now) words.now) (option_copied octets.entry) }
 {
     let [named, _] = words else {
         return None;
     };
     let tokens = tokens(named)?;
-    let user_data = data?;
+    let user_data = octets?;
     Some(asking(tokens, user_data))
 }
 
 #[tactic(auto, unfolding(crate::specs::Calls::minor_of))]
-fn minor<'a>(words: &[&[u8]], data: Option<&'a [u8]>) -> Option<Request<'a>>
+fn minor<'a>(words: &[&[u8]], octets: Option<&'a [u8]>) -> Option<Request<'a>>
     ensures { option_map called_by result
-        ≡ minor_of (map (λ w. w.now) words.now) (option_copied data.entry) }
+        ≡ minor_of (map (λ w. w.now) words.now) (option_copied octets.entry) }
 {
     let [word, _] = words else {
         return None;
     };
     let confirm = answer(word)?;
-    let user_data = data?;
+    let user_data = octets?;
     Some(Request::Minor { confirm, user_data })
 }
 
 #[tactic(auto, unfolding(crate::specs::Calls::minor_confirm_of))]
-fn minor_confirm<'a>(words: &[&[u8]], data: Option<&'a [u8]>) -> Option<Request<'a>>
+fn minor_confirm<'a>(words: &[&[u8]], octets: Option<&'a [u8]>) -> Option<Request<'a>>
     ensures { option_map called_by result
-        ≡ minor_confirm_of (map (λ w. w.now) words.now) (option_copied data.entry) }
+        ≡ minor_confirm_of (map (λ w. w.now) words.now) (option_copied octets.entry) }
 {
     let [point, _] = words else {
         return None;
     };
     let number = number(point, MOST)?;
-    let user_data = data?;
+    let user_data = octets?;
     Some(Request::MinorConfirm { number, user_data })
 }
 
 #[tactic(auto, unfolding(crate::specs::Calls::restart_of))]
-fn restart<'a>(words: &[&[u8]], data: Option<&'a [u8]>) -> Option<Request<'a>>
+fn restart<'a>(words: &[&[u8]], octets: Option<&'a [u8]>) -> Option<Request<'a>>
     ensures { option_map called_by result
-        ≡ restart_of (map (λ w. w.now) words.now) (option_copied data.entry) }
+        ≡ restart_of (map (λ w. w.now) words.now) (option_copied octets.entry) }
 {
     let [point, wished, _] = words else {
         return None;
     };
     let number = number(point, MOST)?;
     let wishes = wishes(wished)?;
-    let user_data = data?;
+    let user_data = octets?;
     Some(Request::Restart {
         number,
         wishes,
@@ -119,15 +119,15 @@ fn restart<'a>(words: &[&[u8]], data: Option<&'a [u8]>) -> Option<Request<'a>>
 }
 
 #[tactic(auto, unfolding(crate::specs::Calls::restart_confirm_of))]
-fn restart_confirm<'a>(words: &[&[u8]], data: Option<&'a [u8]>) -> Option<Request<'a>>
+fn restart_confirm<'a>(words: &[&[u8]], octets: Option<&'a [u8]>) -> Option<Request<'a>>
     ensures { option_map called_by result
-        ≡ restart_confirm_of (map (λ w. w.now) words.now) (option_copied data.entry) }
+        ≡ restart_confirm_of (map (λ w. w.now) words.now) (option_copied octets.entry) }
 {
     let [stated, _] = words else {
         return None;
     };
     let sides = sides(stated)?;
-    let user_data = data?;
+    let user_data = octets?;
     Some(Request::RestartConfirm { sides, user_data })
 }
 
@@ -136,42 +136,42 @@ fn restart_confirm<'a>(words: &[&[u8]], data: Option<&'a [u8]>) -> Option<Reques
 pub(crate) fn request<'a>(
     verb: Verb,
     words: &[&[u8]],
-    data: Option<&'a [u8]>,
+    octets: Option<&'a [u8]>,
 ) -> Option<Request<'a>>
     ensures { option_map called_by result
-        ≡ call_of verb (map (λ w. w.now) words.now) (option_copied data.entry) }
+        ≡ call_of verb (map (λ w. w.now) words.now) (option_copied octets.entry) }
 {
     match verb {
-        Verb::Accept => accept(words, data),
+        Verb::Accept => accept(words, octets),
         Verb::Refuse => Some(Request::Refuse {
-            user_data: plain(words, data)?,
+            user_data: plain(words, octets)?,
         }),
         Verb::Data => Some(Request::Data {
-            user_data: plain(words, data)?,
+            user_data: plain(words, octets)?,
         }),
         Verb::Give => give(words),
-        Verb::Please => please(words, data),
-        Verb::Minor => minor(words, data),
-        Verb::MinorConfirm => minor_confirm(words, data),
+        Verb::Please => please(words, octets),
+        Verb::Minor => minor(words, octets),
+        Verb::MinorConfirm => minor_confirm(words, octets),
         Verb::Major => Some(Request::Major {
-            user_data: plain(words, data)?,
+            user_data: plain(words, octets)?,
         }),
         Verb::MajorConfirm => Some(Request::MajorConfirm {
-            user_data: plain(words, data)?,
+            user_data: plain(words, octets)?,
         }),
-        Verb::Restart => restart(words, data),
-        Verb::RestartConfirm => restart_confirm(words, data),
+        Verb::Restart => restart(words, octets),
+        Verb::RestartConfirm => restart_confirm(words, octets),
         Verb::Release => Some(Request::Release {
-            user_data: plain(words, data)?,
+            user_data: plain(words, octets)?,
         }),
         Verb::ReleaseAccept => Some(Request::ReleaseAccept {
-            user_data: plain(words, data)?,
+            user_data: plain(words, octets)?,
         }),
         Verb::ReleaseRefuse => Some(Request::ReleaseRefuse {
-            user_data: plain(words, data)?,
+            user_data: plain(words, octets)?,
         }),
         Verb::Abort => Some(Request::Abort {
-            user_data: plain(words, data)?,
+            user_data: plain(words, octets)?,
         }),
     }
 }

@@ -28,9 +28,9 @@ fn ends<'a>(words: &[&[u8]]) -> Option<Command<'a>>
 }
 
 #[tactic(auto, unfolding(crate::specs::Commands::connect_of))]
-fn connect<'a>(words: &[&[u8]], data: Option<&'a [u8]>) -> Option<Command<'a>>
+fn connect<'a>(words: &[&[u8]], octets: Option<&'a [u8]>) -> Option<Command<'a>>
     ensures { option_map command_by result
-        ≡ connect_of (map (λ w. w.now) words.now) (option_copied data.entry) }
+        ≡ connect_of (map (λ w. w.now) words.now) (option_copied octets.entry) }
 {
     let [offered, first, sides, _] = words else {
         return None;
@@ -38,7 +38,7 @@ fn connect<'a>(words: &[&[u8]], data: Option<&'a [u8]>) -> Option<Command<'a>>
     let requirements = units(offered)?;
     let serial = serial(first)?;
     let wishes = wishes(sides)?;
-    let user_data = data?;
+    let user_data = octets?;
     Some(Command::Connect {
         requirements,
         serial,
@@ -83,9 +83,9 @@ fn told<'a>(words: &[&[u8]]) -> Option<Command<'a>>
 }
 
 #[tactic(auto, unfolding(crate::specs::Commands::user_call))]
-fn call<'a>(first: &[u8], words: &[&[u8]], data: Option<&'a [u8]>) -> Option<Command<'a>>
+fn call<'a>(first: &[u8], words: &[&[u8]], octets: Option<&'a [u8]>) -> Option<Command<'a>>
     ensures { option_map command_by result
-        ≡ user_call first.now (map (λ w. w.now) words.now) (option_copied data.entry) }
+        ≡ user_call first.now (map (λ w. w.now) words.now) (option_copied octets.entry) }
 {
     let [connection, name, behind @ ..] = words else {
         return None;
@@ -93,7 +93,7 @@ fn call<'a>(first: &[u8], words: &[&[u8]], data: Option<&'a [u8]>) -> Option<Com
     let side = side(first)?;
     let reference = number(connection, 65_535)?;
     let verb = verb(name)?;
-    let request = request(verb, behind, data)?;
+    let request = request(verb, behind, octets)?;
     Some(Command::Call {
         side,
         reference: reference as u16,
@@ -103,9 +103,9 @@ fn call<'a>(first: &[u8], words: &[&[u8]], data: Option<&'a [u8]>) -> Option<Com
 
 /// What a line with these words asks for, where its last word spells this user data.
 #[tactic(auto, unfolding(crate::specs::Commands::command_in))]
-pub(crate) fn command<'a>(words: &[&[u8]], data: Option<&'a [u8]>) -> Option<Command<'a>>
+pub(crate) fn command<'a>(words: &[&[u8]], octets: Option<&'a [u8]>) -> Option<Command<'a>>
     ensures { option_map command_by result
-        ≡ command_in (map (λ w. w.now) words.now) (option_copied data.entry) }
+        ≡ command_in (map (λ w. w.now) words.now) (option_copied octets.entry) }
 {
     let [first, behind @ ..] = words else {
         return None;
@@ -114,7 +114,7 @@ pub(crate) fn command<'a>(words: &[&[u8]], data: Option<&'a [u8]>) -> Option<Com
         return ends(behind);
     }
     if is(first, "connect") {
-        return connect(behind, data);
+        return connect(behind, octets);
     }
     if is(first, "carry") {
         return carry(behind);
@@ -125,5 +125,5 @@ pub(crate) fn command<'a>(words: &[&[u8]], data: Option<&'a [u8]>) -> Option<Com
     if is(first, "told") {
         return told(behind);
     }
-    call(first, behind, data)
+    call(first, behind, octets)
 }
