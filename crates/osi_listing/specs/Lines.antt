@@ -14,11 +14,12 @@ abbrev pub packet_length : List ℕ → ℕ
 packet_length u = length u + 4
 
 -- a packet, by its offset in the capture, its length and the second octet of its transport unit
+-- how the line of a packet ends
+abbrev pub code_end : ℕ → List ℕ
+code_end code = codes " code " ++ encode_lower (code ∷ []) ++ codes "\n"
+
 unfoldable pub packet_line : ℕ → List ℕ → List ℕ
-packet_line at u =
-    codes "packet " ++ decimal at ++ codes " length " ++ decimal (packet_length u)
-    ++ codes " code " ++ encode_lower (slice_index u 1 ∷ [])
-    ++ codes "\n"
+packet_line at u = codes "packet " ++ decimal at ++ codes " length " ++ decimal (packet_length u) ++ code_end (slice_index u 1)
 
 abbrev pub fault_name : TpktFault → List ℕ
 fault_name (BadVersion at) = codes "BadVersion"

@@ -1,7 +1,7 @@
 ghost use Rattle.std.specs.Prelude.{◌≡◌, ◌++◌, ◌<◌, ◌^◌, ◌+◌, ◌∷◌, [], length, option_copied, OnOk};
 ghost use Rattle.std.specs.Fmt.{decimal};
 ghost use Rattle.hex.specs.Hex.{encode_lower};
-ghost use Rattle.osi_listing.specs.Lines.{packet_line, fault_line, rest_line, unit_fault_line, tsdu_line, too_long_line, number_field, reference_field, octet_field, octets_field};
+ghost use Rattle.osi_listing.specs.Lines.{code_end, packet_line, fault_line, rest_line, unit_fault_line, tsdu_line, too_long_line, number_field, reference_field, octet_field, octets_field};
 
 use osi_tpdu::TpduFault;
 use osi_tpkt::TpktFault;
@@ -113,8 +113,15 @@ pub(crate) fn push_packet(text: &mut Vec<u8>, offset: u64, unit: &[u8]) -> Resul
     push_decimal(text, offset)?;
     push_words(text, " length ")?;
     push_decimal(text, unit.len() as u64 + 4)?;
+    push_code(text, unit[1])
+}
+
+/// Ends the line of a packet with the code of its first transport unit.
+fn push_code(text: &mut Vec<u8>, code: u8) -> Result<(), AllocError>
+    ensures { OnOk result (text.new.items ≡ text.old.items ++ code_end code) }
+{
     push_words(text, " code ")?;
-    push_octet(text, unit[1])?;
+    push_octet(text, code)?;
     push_words(text, "\n")
 }
 

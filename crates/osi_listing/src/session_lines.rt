@@ -1,4 +1,5 @@
 ghost use Rattle.std.specs.Prelude.{◌≡◌, ◌++◌, ℕ, List, IfOk, OnOk};
+ghost use Rattle.std.specs.List.{flat_map};
 ghost use Rattle.osi_spdu.specs.Octets.{octets_of};
 ghost use Rattle.osi_spdu.specs.Units.{said_by};
 ghost use Rattle.osi_listing.specs.SessionLines.{kind_name, value_field, member_fields, members_text, separator_of, fields_left, group_field, parameter_field, session_fields, information_field, session_line, session_fault_name, session_fault_offset, session_fault_code, session_fault_line};
@@ -54,7 +55,19 @@ fn name(kind: Kind) -> &'static str
 fn push_parameters(alloc: Global, text: &mut Vec<u8>, unit: &Spdu) -> Result<(), AllocError>
     ensures { OnOk result (text.new.items ≡ text.old.items ++ session_fields (said_by unit.now)) }
 {
-    let codes = unit.kind().codes();
+    push_each(alloc, text, unit, unit.kind().codes())
+}
+
+/// The parameters and groups of these codes.
+fn push_each(
+    alloc: Global,
+    text: &mut Vec<u8>,
+    unit: &Spdu,
+    codes: &[Code],
+) -> Result<(), AllocError>
+    ensures { OnOk result (text.new.items ≡ text.old.items
+        ++ flat_map (λ c. parameter_field (said_by unit.now) c ((said_by unit.now).known c)) codes.now) }
+{
     'codes: for code in codes {
         push_parameter(alloc, text, unit, *code)?;
     }

@@ -3,7 +3,7 @@ use Rattle.std.specs.List.{flat_map}
 use Rattle.osi_spdu.specs.declared.codes.Code.{Code}
 use Rattle.osi_spdu.specs.Units.{said_by}
 use Rattle.osi_listing.specs.SessionLines.{parameter_field}
-use Rattle.osi_listing.proofs.session_lines.push_parameters.Given as goal
+use Rattle.osi_listing.proofs.session_lines.push_each.Given as goal
 
 abbrev pub invariant-codes : goal.invariant-codes
 invariant-codes l =
