@@ -140,23 +140,23 @@ shown_as_asked b w s t (inr (inr h)) = (
 -- ---- what is confirmed
 
 pub confirmed_there : (b : Bool) (w : World) (s t : Told) → Stage b w s t → ConfirmedThere w s t
-confirmed_there b w s t (inl h) l d e before n kind octets p q r =
+confirmed_there b w s t (inl h) d e before n kind octets p q r =
     absurd (none_in_nil before (Point n kind octets) (subst (Begins (before ++ Point n kind octets ∷ [])) (ap (λ (x : Told). x.view) h.own_told) p))
-confirmed_there b w s t (inr (inl h)) l d e before n kind octets p q r =
+confirmed_there b w s t (inr (inl h)) d e before n kind octets p q r =
     absurd (none_in_nil before (Point n kind octets) (subst (Begins (before ++ Point n kind octets ∷ [])) (ap (λ (x : Told). x.view) h.peer_told) p))
-confirmed_there b w s t (inr (inr h)) l d e before n kind octets p q r =
+confirmed_there b w s t (inr (inr h)) d e before n kind octets p q r =
     subst (Begins (before ++ Point n kind octets ∷ [])) (sym (turned_view t h.core (turned_stands h.core h.stands) h.peer e))
     (confirmed_is_seen h.core h.stands before n kind octets
     (subst (Begins (before ++ Point n kind octets ∷ [])) (told_view s h.core h.stands h.own d) p)
-    (subst (λ (k : Kept). n < k.confirmed) (h.projects.own.alike l).kept q)
+    (subst (λ (k : ℕ). n < k) h.projects.own.acked q)
     (sym h.peer.asking ∙ r))
 
 turned_stage_of : (b : Bool) (w : World) (s t : Told) → Stage b w s t → ConfirmedThere (turned w) t s
-turned_stage_of b w s t (inl h) l d e before n kind octets p q r =
+turned_stage_of b w s t (inl h) d e before n kind octets p q r =
     absurd (none_in_nil before (Point n kind octets) (subst (Begins (before ++ Point n kind octets ∷ [])) (ap (λ (x : Told). x.view) h.peer_told) p))
-turned_stage_of b w s t (inr (inl h)) l d e before n kind octets p q r =
+turned_stage_of b w s t (inr (inl h)) d e before n kind octets p q r =
     absurd (none_in_nil before (Point n kind octets) (subst (Begins (before ++ Point n kind octets ∷ [])) (ap (λ (x : Told). x.view) h.own_told) p))
-turned_stage_of b w s t (inr (inr h)) l d e before n kind octets p q r = confirmed_there b (turned w) t s (inr (inr (turned_repeats b w s t h))) l d e before n kind octets p q r
+turned_stage_of b w s t (inr (inr h)) d e before n kind octets p q r = confirmed_there b (turned w) t s (inr (inr (turned_repeats b w s t h))) d e before n kind octets p q r
 
 -- ---- of each connection of each run
 

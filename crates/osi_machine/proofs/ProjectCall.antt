@@ -2,7 +2,7 @@
 use Rattle.std.proofs.Common.{◌≡◌, refl, sym, ◌∙◌, ap, subst, ℕ, ◌+◌, ◌≤◌, Bool, true, false, not, ◌||◌, if◌then◌else◌, List, [], ◌∷◌, ◌++◌, append_assoc, map, length, ◌⊎◌, inl, inr, Ok}
 use Rattle.std.proofs.lemmas.List.{length-append, map-append}
 use Rattle.std.specs.List.{list_any}
-use Rattle.osi_machine.specs.Floor.{State, Meaning, Token, has, is_over, Call, Accept, Refuse, Give, Major, MajorConfirm, Restart, RestartConfirm, Release, ReleaseAccept, ReleaseRefuse, Abort, Granted, allowed, after, sends, may_call}
+use Rattle.osi_machine.specs.Floor.{State, Meaning, Token, has, is_over, Call, Accept, Refuse, Give, Major, MajorConfirm, Restart, RestartConfirm, Release, ReleaseAccept, ReleaseRefuse, Abort, Granted, allowed, after, sends, may_call, Numbers}
 use Rattle.osi_machine.specs.Histories.{Item, cutat}
 use Rattle.osi_machine.specs.Owners.{Owner, Own, Theirs, ToOwn, ToThem, Pool, Absent, Owners, is_own, turned_owner, given_up, own_to_pool, left_by}
 use Rattle.osi_machine.specs.Channels.{is_plain}
@@ -174,6 +174,7 @@ called_own broken w c x k lives p s q =
     let now = call_lives s' x k (ap (λ (r : Kept). is_over r.phase) (sym a.kept) ∙ lives) in
     record {
       begun = p.own.begun;
+      acked = refl;
       alike = λ l. record {
         transport = a.transport;
         kept = refl;
@@ -199,6 +200,7 @@ called_peer broken w c x k lives p =
     let now = call_lives s' x k (ap (λ (r : Kept). is_over r.phase) (sym own.kept) ∙ lives) in
     record {
       begun = p.peer.begun;
+      acked = p.peer.acked;
       alike = λ l.
           let a = p.peer.alike l in
           record {
@@ -252,6 +254,12 @@ stop_owners s (ReleaseAccept x) o k = refl
 stop_owners s (Abort x) o k = refl
 stop_owners s _ o k = absurd (cc)
 
+stop_numbers : (s : State) (c : Call) → stays_in_core c ≡ false → (after s c).numbers ≡ s.numbers
+stop_numbers s (Refuse x) k = refl
+stop_numbers s (ReleaseAccept x) k = refl
+stop_numbers s (Abort x) k = refl
+stop_numbers s _ k = absurd (cc)
+
 pub stop_projects : (broken : Bool) (w : World) (c : Core) (x : Call) (g : Granted) → stays_in_core x ≡ false → stopped w.own ≡ false → Projects broken w c
     → allowed c.own.session x ≡ Ok g → Projects broken (after_call broken c.own.session x g w) c
 stop_projects broken w c x g k lives p e =
@@ -260,9 +268,10 @@ stop_projects broken w c x g k lives p e =
     let now = stop_over s' x k in
     subst (λ (r : Granted). Projects broken (after_call broken s' x r w) c) (sym q.gives) (record {
       history = ap (λ (d : List Item). w.history ++ d) (stop_silent s' x k) ∙ append_nil w.history ∙ p.history;
-      own = over_side broken (after_call broken s' x (granted s' x) w) c p.own.begun now;
+      own = over_side broken (after_call broken s' x (granted s' x) w) c p.own.begun now (ap (λ (v : Numbers). v.confirmed) (stop_numbers s' x k));
       peer = record {
         begun = p.peer.begun;
+        acked = p.peer.acked;
         alike = λ l.
             let a = p.peer.alike l in
             record {

@@ -1,7 +1,7 @@
 -- The last unit of a side that is over is taken, and a side that is over takes a unit.
 use Rattle.std.proofs.Common.{◌≡◌, refl, sym, ◌∙◌, ap, subst, Bool, true, false, not, ◌&&◌, ◌||◌, if◌then◌else◌, List, [], ◌∷◌}
 use Rattle.std.specs.List.{list_any}
-use Rattle.osi_machine.specs.Floor.{State, Meaning, CN, AC, RF, DT, GT, PT, MIP, MIA, MAP, MAA, RS, RA, FN, DN, NF, AB, AA, Outcome, nothing, good, is_over, is_aborting, is_ended, in_aborting, in_ended, is_wait_cn, is_connecting, is_answering, is_ready, is_major_asked, is_releasing, is_release_due, is_restarting, may_ask, takes_data, takes_please, takes_minor_ack, is_expected, respond_unit, stands, next}
+use Rattle.osi_machine.specs.Floor.{State, Meaning, CN, AC, RF, DT, GT, PT, MIP, MIA, MAP, MAA, RS, RA, FN, DN, NF, AB, AA, Outcome, nothing, good, is_over, is_aborting, is_ended, in_aborting, in_ended, is_wait_cn, is_connecting, is_answering, is_ready, is_major_asked, is_releasing, is_release_due, is_restarting, may_ask, takes_data, takes_please, takes_minor_ack, is_expected, respond_unit, stands, next, becomes}
 use Rattle.osi_machine.specs.Histories.{Item}
 use Rattle.osi_machine.specs.Owners.{is_own, turned_owner}
 use Rattle.osi_machine.specs.Taking.{is_acted_on, cut_by, owners_after}
@@ -112,6 +112,12 @@ same_if : (b : Bool) (g h : List Item) → g ≡ h → (if b then g else h) ≡ 
 same_if true g h e = e
 same_if false g h e = refl
 
+last_numbers : (s r : State) (u : Meaning) → IsLast r u → (becomes s u).numbers.confirmed ≡ s.numbers.confirmed
+last_numbers s r (AB b o) l = refl
+last_numbers s r (DN o) l = refl
+last_numbers s r (RF x o) l = refl
+last_numbers s r _ l = absurd (l)
+
 -- both sides are over after it
 pub last_projects : (broken : Bool) (w : World) (c : Core) (u : Meaning) (ms : List Message) → Projects broken w c → Stands c
     → Last (stopped w.peer) u ms c.peer.sent c.peer.session → (stopped (took broken w c u ms).own ≡ true) × Projects broken (took broken w c u ms) c
@@ -120,7 +126,8 @@ last_projects broken w c u ms p s l =
       ends,
       both_over broken (took broken w c u ms) c
           (same_if (is_acted_on c.own.session u) (cut_by c.own.session u w.history) w.history (last_cuts c.own.session c.peer.session u w.history l.last) ∙ p.history)
-          p.own.begun ends p.peer.begun l.ended,
+          p.own.begun ends p.peer.begun l.ended
+          (ap (λ (o : Outcome). o.next.numbers.confirmed) (last_good c u s l.none l.last) ∙ last_numbers c.own.session c.peer.session u l.last) p.peer.acked,
     )
 
 -- ---- a side that is over
@@ -163,6 +170,25 @@ over_nothing s u o p = by (is_aborting s.phase) refl (is_ended s.phase) refl
     by false h true k = other (is_aborting s.phase) _ _ h ∙ first (is_ended s.phase) _ _ k ∙ plain_ended s u p
     by false h false k = absurd (let n = over_of false false s.phase h k in cc)
 
+-- and keeps its numbers
+over_numbers : (s : State) (u : Meaning) → is_over s.phase ≡ true → (respond_unit s u).next.numbers.confirmed ≡ s.numbers.confirmed
+unfolding respond_unit
+over_numbers s u o = by (is_aborting s.phase) refl (is_ended s.phase) refl
+  where
+    aborting : (m : Meaning) → (in_aborting s m).next.numbers.confirmed ≡ s.numbers.confirmed
+    aborting (AB b x) = refl
+    aborting AA = refl
+    aborting _ = refl
+
+    ended : (m : Meaning) → (in_ended s m).next.numbers.confirmed ≡ s.numbers.confirmed
+    ended (AB b x) = refl
+    ended _ = refl
+
+    by : (a : Bool) → is_aborting s.phase ≡ a → (e : Bool) → is_ended s.phase ≡ e → (respond_unit s u).next.numbers.confirmed ≡ s.numbers.confirmed
+    by true h e k = ap (λ (x : Outcome). x.next.numbers.confirmed) (first (is_aborting s.phase) _ _ h) ∙ aborting u
+    by false h true k = ap (λ (x : Outcome). x.next.numbers.confirmed) (other (is_aborting s.phase) _ _ h ∙ first (is_ended s.phase) _ _ k) ∙ ended u
+    by false h false k = absurd (let n = over_of false false s.phase h k in cc)
+
 pub not_true : (b : Bool) → not b ≡ false → b ≡ true
 not_true true h = refl
 not_true false h = absurd (cc)
@@ -190,6 +216,7 @@ over_giver broken w c u ms p o e l =
     let a = p.peer.alike l in
     record {
       begun = p.peer.begun;
+      acked = p.peer.acked;
       alike = λ k. record {
         transport = a.transport;
         kept = a.kept;
@@ -211,10 +238,13 @@ over_projects broken w c u ms p o e = by (stopped w.peer) refl
     ends : stopped (ignored broken w u ms).own ≡ true
     ends = over_next (session_of (without_first w ms)) u o
 
+    acked : (ignored broken w u ms).own.kept.confirmed ≡ c.own.session.numbers.confirmed
+    acked = over_numbers (session_of (without_first w ms)) u o ∙ p.own.acked
+
     by : (b : Bool) → stopped w.peer ≡ b → Projects broken (ignored broken w u ms) c
-    by true l = both_over broken (ignored broken w u ms) c (over_history broken w u ms o ∙ p.history) p.own.begun ends p.peer.begun l
+    by true l = both_over broken (ignored broken w u ms) c (over_history broken w u ms o ∙ p.history) p.own.begun ends p.peer.begun l acked p.peer.acked
     by false l = record {
       history = over_history broken w u ms o ∙ p.history;
-      own = over_side broken (ignored broken w u ms) c p.own.begun ends;
+      own = over_side broken (ignored broken w u ms) c p.own.begun ends acked;
       peer = over_giver broken w c u ms p o e l;
     }

@@ -13,7 +13,7 @@ use Rattle.osi_machine.proofs.ViewFold.{Tells, told_all}
 use Rattle.osi_machine.proofs.Projects.{stopped, parts, is_begun, Alike, Carried, OneSide}
 use Rattle.osi_machine.proofs.ProjectTake.{put_nothing}
 use Rattle.osi_machine.proofs.ProjectWorld.{Repeats}
-use Rattle.osi_machine.proofs.ProjectStart.{Waits, Idle, Way, nothing_sent, asked, agreed, denied, asks, replies, suits, Opens, absent_left, absent_back}
+use Rattle.osi_machine.proofs.ProjectStart.{caller_acked, called_acked, Waits, Idle, Way, nothing_sent, asked, agreed, denied, asks, replies, suits, Opens, absent_left, absent_back}
 
 not_both : {A : Type 0} (b : Bool) → b ≡ true → b ≡ false → A
 not_both b p q = absurd (cc)
@@ -42,6 +42,7 @@ first_parted false o channel e = ap (λ (ms : List Message). list_any parts (ms 
 started_own : (broken : Bool) (w : World) (t u : Told) → Opens w t u → Waits w.own → w.own.channel ≡ [] → OneSide broken (started broken w) (core_start w.offer)
 started_own broken w t u h k e = record {
   begun = refl;
+  acked = refl;
   alike = λ l. record {
     transport = refl;
     kept = refl;
@@ -75,6 +76,7 @@ started_peer : (broken : Bool) (w : World) (t u : Told) → Opens w t u → is_b
     → OneSide broken (turned_world (started broken w)) (turned (core_start w.offer))
 started_peer broken w t u h b e = record {
   begun = b;
+  acked = called_acked w.peer h.called;
   alike = started_alike broken w t u h b;
   carried = λ l. first_carried broken w.own.channel (offer_sent w.offer) (offering w.offer) e;
   parted = λ l. refl;
@@ -108,7 +110,7 @@ answered w t u h e = record {
     | inl k ↦ inl (record { transport = k.transport; kept = k.kept; mark = k.mark; said = k.said; got = k.got })
     | inr r ↦ elim r [
       | inl k ↦ inr (inl (record { transport = k.transport; kept = k.kept; mark = k.mark; said = k.said; got = k.got }))
-      | inr k ↦ inr (inr (record { transport = k.transport; over_now = k.over_now }))
+      | inr k ↦ inr (inr (record { transport = k.transport; over_now = k.over_now; acked = k.acked }))
     ]
   ];
   way = nothing_sent;
@@ -128,7 +130,7 @@ refused_now broken w t u reason h e =
       profile = h.profile;
       history = h.history;
       owner = λ x. absent_left (without_tokens Ended (session_of (without_first w []))) w.owner x (h.owner x);
-      caller = inr (record { transport = refl; over_now = refl });
+      caller = inr (record { transport = refl; over_now = refl; acked = caller_acked w.own h.caller });
       called = a.called;
       way = nothing_sent;
       own_channel = put_nothing broken w.own.channel ∙ e;
@@ -197,8 +199,8 @@ asked_late w t u h e = record {
   history = h.history;
   owner = h.owner;
   caller = elim h.caller [
-    | inl k ↦ inl (record { transport = k.transport; phase = k.phase; mark = k.mark; said = k.said; got = k.got })
-    | inr k ↦ inr (record { transport = k.transport; over_now = k.over_now })
+    | inl k ↦ inl (record { transport = k.transport; phase = k.phase; mark = k.mark; said = k.said; got = k.got; acked = k.acked })
+    | inr k ↦ inr (record { transport = k.transport; over_now = k.over_now; acked = k.acked })
   ];
   called = h.called;
   way = nothing_sent;

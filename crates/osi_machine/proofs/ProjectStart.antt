@@ -23,6 +23,7 @@ pub record Waits (x : End) : Type 0 where
   pub mark : x.mark ≡ 0
   pub said : x.said ≡ []
   pub got : x.got ≡ 0
+  pub acked : x.kept.confirmed ≡ 0
 
 pub record Idle (tr : Transport) (x : End) : Type 0 where
   pub transport : x.transport ≡ tr
@@ -35,6 +36,17 @@ pub record Idle (tr : Transport) (x : End) : Type 0 where
 pub record Left_it (x : End) : Type 0 where
   pub transport : x.transport ≡ gone
   pub over_now : stopped x ≡ true
+  pub acked : x.kept.confirmed ≡ 0
+
+-- V(A) is 0
+pub caller_acked : (x : End) → Waits x ⊎ Left_it x → x.kept.confirmed ≡ 0
+caller_acked x (inl h) = h.acked
+caller_acked x (inr h) = h.acked
+
+pub called_acked : (x : End) → Idle not_yet x ⊎ (Idle linked x ⊎ Left_it x) → x.kept.confirmed ≡ 0
+called_acked x (inl h) = ap (λ (k : Kept). k.confirmed) h.kept
+called_acked x (inr (inl h)) = ap (λ (k : Kept). k.confirmed) h.kept
+called_acked x (inr (inr h)) = h.acked
 
 -- what is under way
 pub data Way : Type 0 where
@@ -77,7 +89,7 @@ asked_opens o small profile = record {
   profile = profile;
   history = refl;
   owner = λ k. refl;
-  caller = inl (record { transport = refl; phase = refl; mark = refl; said = refl; got = refl });
+  caller = inl (record { transport = refl; phase = refl; mark = refl; said = refl; got = refl; acked = refl });
   called = inl (record { transport = refl; kept = refl; mark = refl; said = refl; got = refl });
   way = asked;
   own_channel = refl;
@@ -256,7 +268,7 @@ caller_ends k w t u h = record {
   profile = h.profile;
   history = h.history;
   owner = λ x. absent_left (lost (session_of (shortened k w))).next w.owner x (h.owner x);
-  caller = inr (record { transport = refl; over_now = refl });
+  caller = inr (record { transport = refl; over_now = refl; acked = caller_acked w.own h.caller });
   called = h.called;
   way = cut_asks k h.way;
   own_channel = ap (take k) h.own_channel ∙ take_asks k h.way;
@@ -273,7 +285,7 @@ called_ends k w t u h = record {
   history = h.history;
   owner = λ x. ap turned_owner (absent_left (lost (session_of (shortened k w))).next w.owner x (absent_back (w.owner x) (h.owner x)));
   caller = h.caller;
-  called = inr (inr (record { transport = refl; over_now = refl }));
+  called = inr (inr (record { transport = refl; over_now = refl; acked = called_acked w.own h.called }));
   way = cut_replies k h.way;
   own_channel = h.own_channel ∙ sym (asks_kept k h.way);
   peer_channel = ap (take k) h.peer_channel ∙ take_replies k h.way;
@@ -288,8 +300,8 @@ abbrev pub cut_both : ℕ → ℕ → World → World
 cut_both k j w = record w { own = record w.own { channel = take k w.own.channel }; peer = record w.peer { channel = take j w.peer.channel } }
 
 caller_kept : (x : End) (ch : List Message) → Waits x ⊎ Left_it x → Waits (record x { channel = ch }) ⊎ Left_it (record x { channel = ch })
-caller_kept x ch (inl h) = inl (record { transport = h.transport; phase = h.phase; mark = h.mark; said = h.said; got = h.got })
-caller_kept x ch (inr h) = inr (record { transport = h.transport; over_now = h.over_now })
+caller_kept x ch (inl h) = inl (record { transport = h.transport; phase = h.phase; mark = h.mark; said = h.said; got = h.got; acked = h.acked })
+caller_kept x ch (inr h) = inr (record { transport = h.transport; over_now = h.over_now; acked = h.acked })
 
 idle_kept : (tr : Transport) (x : End) (ch : List Message) → Idle tr x → Idle tr (record x { channel = ch })
 idle_kept tr x ch h = record { transport = h.transport; kept = h.kept; mark = h.mark; said = h.said; got = h.got }
@@ -298,7 +310,7 @@ called_kept : (x : End) (ch : List Message) → Idle not_yet x ⊎ (Idle linked 
     → Idle not_yet (record x { channel = ch }) ⊎ (Idle linked (record x { channel = ch }) ⊎ Left_it (record x { channel = ch }))
 called_kept x ch (inl h) = inl (idle_kept not_yet x ch h)
 called_kept x ch (inr (inl h)) = inr (inl (idle_kept linked x ch h))
-called_kept x ch (inr (inr h)) = inr (inr (record { transport = h.transport; over_now = h.over_now }))
+called_kept x ch (inr (inr h)) = inr (inr (record { transport = h.transport; over_now = h.over_now; acked = h.acked }))
 
 pub break_opens : (k j : ℕ) (w : World) (t u : Told) → Opens w t u → Opens (cut_both k j w) t u
 break_opens k j w t u h = record {

@@ -214,6 +214,7 @@ taker_side : (broken : Bool) (w : World) (c : Core) (u : Meaning) (us : List Mea
     → Carried broken (stopped w.peer) ms us c.peer.session → OneSide broken (took broken w c u ms) (taking c (u ∷ us))
 taker_side broken w c u us ms k rest = record {
   begun = k.old.own.begun;
+  acked = refl;
   alike = λ l. record {
     transport = (was_alike broken w c u us ms k).transport;
     kept = refl;
@@ -247,6 +248,7 @@ giver_side : (broken : Bool) (w : World) (c : Core) (u : Meaning) (us : List Mea
     → OneSide broken (turned_world (took broken w c u ms)) (turned (taking c (u ∷ us)))
 giver_side broken w c u us ms k = record {
   begun = k.old.peer.begun;
+  acked = k.old.peer.acked;
   alike = λ l.
       let a = k.old.peer.alike l in
       record {

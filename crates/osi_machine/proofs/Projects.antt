@@ -68,6 +68,8 @@ pub record Carried (broken over_now : Bool) (channel : List Message) (sent : Lis
 
 pub record OneSide (broken : Bool) (w : World) (c : Core) : Type 0 where
   pub begun : is_begun w.own.transport ≡ true
+  -- V(A) is that of the core, of a side that is over too
+  pub acked : w.own.kept.confirmed ≡ c.own.session.numbers.confirmed
   pub alike : stopped w.own ≡ false → Alike w c
   pub carried : stopped w.own ≡ false → Carried broken (stopped w.peer) w.peer.channel c.peer.sent c.peer.session
   pub parted : stopped w.own ≡ false → list_any parts w.own.channel ≡ false
@@ -82,14 +84,17 @@ pub record Projects (broken : Bool) (w : World) (c : Core) : Type 0 where
 not_both : {A : Type 0} (b : Bool) → b ≡ true → b ≡ false → A
 not_both b p q = absurd (cc)
 
-one_over : (broken : Bool) (w : World) (c : Core) → is_begun w.own.transport ≡ true → stopped w.own ≡ true → OneSide broken w c
-one_over broken w c b o = record { begun = b; alike = λ l. not_both _ o l; carried = λ l. not_both _ o l; parted = λ l. not_both _ o l }
+one_over : (broken : Bool) (w : World) (c : Core) → is_begun w.own.transport ≡ true → stopped w.own ≡ true → w.own.kept.confirmed ≡ c.own.session.numbers.confirmed
+    → OneSide broken w c
+one_over broken w c b o a = record { begun = b; acked = a; alike = λ l. not_both _ o l; carried = λ l. not_both _ o l; parted = λ l. not_both _ o l }
 
 pub both_over : (broken : Bool) (w : World) (c : Core) → w.history ≡ c.history → is_begun w.own.transport ≡ true → stopped w.own ≡ true
-    → is_begun w.peer.transport ≡ true → stopped w.peer ≡ true → Projects broken w c
-both_over broken w c h b o d p = record { history = h; own = one_over broken w c b o; peer = one_over broken (turned_world w) (turned c) d p }
+    → is_begun w.peer.transport ≡ true → stopped w.peer ≡ true → w.own.kept.confirmed ≡ c.own.session.numbers.confirmed → w.peer.kept.confirmed ≡ c.peer.session.numbers.confirmed
+    → Projects broken w c
+both_over broken w c h b o d p x y = record { history = h; own = one_over broken w c b o x; peer = one_over broken (turned_world w) (turned c) d p y }
 
-pub over_side : (broken : Bool) (w : World) (c : Core) → is_begun w.own.transport ≡ true → stopped w.own ≡ true → OneSide broken w c
+pub over_side : (broken : Bool) (w : World) (c : Core) → is_begun w.own.transport ≡ true → stopped w.own ≡ true → w.own.kept.confirmed ≡ c.own.session.numbers.confirmed
+    → OneSide broken w c
 over_side = one_over
 
 -- ---- the session of a side that is not over is that of the core

@@ -136,7 +136,7 @@ lost_opens o small profile =
       profile = profile;
       history = refl;
       owner = h.owner;
-      caller = inl (record { transport = refl; phase = refl; mark = refl; said = refl; got = refl });
+      caller = inl (record { transport = refl; phase = refl; mark = refl; said = refl; got = refl; acked = refl });
       called = h.called;
       way = nothing_sent;
       own_channel = refl;

@@ -36,11 +36,10 @@ abbrev pub ShownAsAsked : World → Told → Told → Type 0
 ShownAsAsked w left right =
     (left.duplex ≡ true → Begins left.indicated right.requested) × (right.duplex ≡ true → Begins right.indicated left.requested)
 
--- each point in the view of a side that is neither aborted nor ended, with a number below its V(A), is in
--- the view of the other, behind the same items; unless the other has asked for a restart and has seen no
--- answer
+-- each point in the view of a side with a number below its V(A) is in the view of the other, behind the
+-- same items; unless the other has asked for a restart and has seen no answer
 abbrev pub ConfirmedThere : World → Told → Told → Type 0
-ConfirmedThere w own other = is_over w.own.kept.phase ≡ false → own.duplex ≡ false → other.duplex ≡ false →
+ConfirmedThere w own other = own.duplex ≡ false → other.duplex ≡ false →
     (before : List Item) (n : ℕ) (kind : PointKind) (octets : List ℕ) → Begins (before ++ Point n kind octets ∷ []) own.view →
     n < w.own.kept.confirmed → other.asking ≡ false → Begins (before ++ Point n kind octets ∷ []) other.view
 
