@@ -1,2 +1,3 @@
 pub mod LineEnds
 pub mod Numerals
+pub mod VerbNames

@@ -1,5 +1,5 @@
 -- What a line of a script asks for, and the lines that spell it.
-use Rattle.std.specs.Prelude.{ℕ, ◌-◌, Bool, true, false, List, [], ◌∷◌, codes, length, Option, Some, None, if◌then◌else◌}
+use Rattle.std.specs.Prelude.{◌≡◌, ℕ, ◌-◌, Bool, true, false, List, [], ◌∷◌, codes, length, Option, Some, None, if◌then◌else◌}
 use Rattle.std.specs.List.{slice_get}
 use Rattle.osi_spdu.specs.declared.settings.TokenSetting.{TokenSetting}
 use Rattle.osi_spdu.specs.Fields.{unit_bits}
@@ -110,3 +110,7 @@ last_data words = do
 -- what a line asks for
 unfoldable pub command_of : List ℕ → Option Command
 command_of line = command_in (words_of line) (last_data (words_of line))
+
+-- these octets spell a command
+abbrev pub Spells : List ℕ → Command → Type 0
+Spells line command = command_of line ≡ Some command

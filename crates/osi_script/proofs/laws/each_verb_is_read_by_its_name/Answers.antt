@@ -1,0 +1,5 @@
+use Rattle.osi_script.proofs.VerbNames.{verb_read}
+use Rattle.osi_script.proofs.laws.each_verb_is_read_by_its_name.Goals as goal
+
+pub returns : goal.returns
+returns c = verb_read
