@@ -19,6 +19,10 @@ mod session_words;
 #[cfg(test)]
 mod sessions;
 #[cfg(test)]
+mod stack_words;
+#[cfg(test)]
+mod stacks;
+#[cfg(test)]
 mod transport_units;
 #[cfg(test)]
 mod whole_links;
