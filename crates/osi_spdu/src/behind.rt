@@ -31,6 +31,7 @@ impl<'a> Behind<'a> {
     ghost use Rattle.osi_spdu.specs.Groups.{units_behind};
 
     /// No unit.
+    #[inline(always)]
     pub(crate) fn none() -> Behind<'a>
         ensures units { units_behind result ≡ [] }
         ensures next { result.next ≡ None }
@@ -88,6 +89,7 @@ impl<'a> Iterator for Behind<'a> {
     ghost remaining = { item_count units_behind };
 
     /// The next unit, in the order of the TSDU.
+    #[inline(always)]
     fn next(&mut self) -> Option<Spdu<'a>> {
         let unit = self.next?;
         if self.rest.is_empty() {

@@ -22,6 +22,7 @@ impl<'a> Group<'a> {
     ghost use Rattle.osi_spdu.specs.Groups.{units_behind, first_of, behind_of, units_of};
 
     /// A unit of category 0 or 1, alone.
+    #[inline(always)]
     pub fn alone(unit: Spdu<'a>) -> Group<'a>
         requires { is_joined (said_by unit).kind None ≡ true }
         ensures { units_of result ≡ said_by unit.entry ∷ [] }
@@ -48,6 +49,7 @@ impl<'a> Group<'a> {
     }
 
     /// A unit, and those behind it.
+    #[inline(always)]
     pub(crate) fn with(first: Spdu<'a>, behind: Behind<'a>) -> Group<'a>
         requires { is_joined first.kind (option_map (λ s. s.kind) behind.next) ≡ true }
         ensures { units_of result ≡ said_by first.entry ∷ units_behind behind.entry }
@@ -56,6 +58,7 @@ impl<'a> Group<'a> {
     }
 
     /// The first unit.
+    #[inline(always)]
     pub fn first(&self) -> &Spdu<'a>
         ensures { said_by result.now ≡ first_of self.now }
     {
@@ -63,6 +66,7 @@ impl<'a> Group<'a> {
     }
 
     /// The units behind the first one.
+    #[inline(always)]
     pub fn behind(&self) -> Behind<'a>
         ensures { units_behind result ≡ behind_of self.now }
     {

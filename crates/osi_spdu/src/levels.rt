@@ -163,7 +163,7 @@ fn take_parameter<'a>(
 }
 
 /// Takes the parameters and groups of a unit.
-pub(crate) fn take_parameters<'a>(
+fn take_all<'a>(
     kind: Kind,
     at: usize,
     octets: &'a [u8],
@@ -184,6 +184,24 @@ pub(crate) fn take_parameters<'a>(
         rest = counted.rest;
     }
     Ok(())
+}
+
+/// Takes the parameters and groups of a unit, of which there may be none: most units have none.
+#[inline(always)]
+pub(crate) fn take_parameters<'a>(
+    kind: Kind,
+    at: usize,
+    octets: &'a [u8],
+    params: &mut Params<'a>,
+) -> Result<(), SpduFault>
+    requires { at + length octets.now < 2 ^ 64 }
+    ensures { Gives (λ _. slots_of params.new) result
+        (params_of (in_unit kind) at (slots_of params.old) octets.now) }
+{
+    if octets.is_empty() {
+        return Ok(());
+    }
+    take_all(kind, at, octets, params)
 }
 
 /// Whether the parameters that a unit must have are there.
