@@ -49,7 +49,7 @@ taken_next restarts item u us = shift restarts (is_resynchronize u) (list_any is
 abbrev pub Leads : Outcome → Outcome → Bool → Meaning → List Meaning → Type 0
 Leads want o restarts item us = and_then o (respond_all o.next (acting_behind restarts item us)) ≡ want
 
-good_then : (s : State) (u : Meaning) (us : List Meaning) → is_faulty (verdict s u) ≡ false
+pub good_then : (s : State) (u : Meaning) (us : List Meaning) → is_faulty (verdict s u) ≡ false
     → respond_all s (u ∷ us) ≡ and_then (respond_unit s u) (respond_all (respond_unit s u).next us)
 unfolding respond_all
 good_then s u us h = rw h refl

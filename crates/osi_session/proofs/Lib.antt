@@ -22,3 +22,6 @@ pub mod SoundUnits
 pub mod TokenSets
 pub mod TsduLaws
 pub mod VerdictLaws
+pub mod ClosingLaws
+pub mod AnswerLaws
+pub mod WrittenLaws

@@ -7,12 +7,12 @@ use Rattle.osi_message.specs.Reading.{Said}
 use Rattle.osi_message.specs.Written.{written}
 use Rattle.osi_session.specs.Calls.{Call}
 use Rattle.osi_session.specs.Allowed.{Step, Answer, allowed}
-use Rattle.osi_session.specs.Respond.{Outcome, respond, respond_fault, respond_read}
-use Rattle.osi_session.specs.Moves.{called, taken, unread, came_as, Standing, Move, in_state, answered, moved, react, after_input}
+use Rattle.osi_session.specs.Respond.{Outcome, respond, respond_fault, respond_read, lost}
+use Rattle.osi_session.specs.Moves.{called, taken, unread, opened, refused, broken, came_as, Standing, Move, rests, in_state, answered, moved, begun, denied, react, after_input}
 use Rattle.osi_session.specs.Sessions.{Planned, IsPlanOf}
 use Rattle.osi_session.specs.declared.faults.CallError.TheVariants as error
 use Rattle.std.proofs.lemmas.Bool.{cases_Bool}
-use Rattle.osi_session.specs.Phases.{is_over}
+use Rattle.osi_session.specs.Phases.{is_wait_transport, is_over}
 
 pub call_is : (s : Standing) (c : Call) (a : Answer) → allowed s.state c ≡ a → react s (called c) ≡ answered s a
 unfolding react
@@ -78,3 +78,37 @@ planned_live c plan p = elim (cases_Bool (is_over plan.was.phase)) [
 -- what was decided and written is a plan
 pub plan_of : (c : Call) (plan : Planned) (x : Step) → allowed plan.was c ≡ Ok x → plan.next ≡ x.next → plan.sent ≡ written x.sent → IsPlanOf c plan
 plan_of c plan x e n o = (x.sent, e ∙ ap (λ (s : State). Ok (let y : Step = record { next = s; sent = x.sent } in y)) (sym n), o)
+
+-- ---- the move of each input
+
+pub of_call : (s : Standing) (c : Call) → react s (called c) ≡ answered s (allowed s.state c)
+unfolding react
+of_call s c = refl
+
+pub of_units : (s : Standing) (said : Said) → react s (taken said) ≡ moved s (respond s.state said)
+unfolding react
+of_units s said = refl
+
+pub of_fault : (s : Standing) (fault : SpduFault) → react s (unread fault) ≡ moved s (respond_fault s.state fault)
+unfolding react
+of_fault s fault = refl
+
+pub of_opened : (s : Standing) → is_wait_transport s.state.phase ≡ true → react s opened ≡ begun s
+unfolding react
+of_opened s w = rw w refl
+
+pub of_refused : (s : Standing) (reason : ℕ) → is_wait_transport s.state.phase ≡ true → react s (refused reason) ≡ denied reason s
+unfolding react
+of_refused s reason w = rw w refl
+
+pub of_broken : (s : Standing) → react s broken ≡ moved s (lost s.state)
+unfolding react
+of_broken s = refl
+
+pub not_opened : (s : Standing) → is_wait_transport s.state.phase ≡ false → react s opened ≡ rests s
+unfolding react
+not_opened s w = rw w refl
+
+pub not_refused : (s : Standing) (reason : ℕ) → is_wait_transport s.state.phase ≡ false → react s (refused reason) ≡ rests s
+unfolding react
+not_refused s reason w = rw w refl

@@ -54,7 +54,7 @@ ended_cases : (P : State → Type 0) (s : State) (u : Meaning) → P s → P (in
 ended_cases P s (AB bits octets) h = h
 ended_cases P s _ h = h
 
-not_false : (b : Bool) → not b ≡ false → b ≡ true
+pub not_false : (b : Bool) → not b ≡ false → b ≡ true
 not_false true h = refl
 not_false false h = absurd (cc)
 
@@ -76,7 +76,7 @@ all_kept P Q s (u ∷ us) k q h =
     either P (is_faulty (verdict s u)) _ _ (λ e. k s u q.0 h)
     (λ e. all_kept P Q (respond_unit s u).next us k q.1 (k s u q.0 h))
 
-any_unit : (us : List Meaning) → AllByRecursion (λ u. Unit {0}) us
+pub any_unit : (us : List Meaning) → AllByRecursion (λ u. Unit {0}) us
 any_unit [] = tt
 any_unit (u ∷ us) = (tt, any_unit us)
 

@@ -18,12 +18,13 @@ use Rattle.osi_session.specs.declared.opening.Opening.{Opening}
 use Rattle.osi_session.specs.Units.{functional_units, has_points}
 use Rattle.osi_session.specs.Sessions.{awaiting, asking}
 use Rattle.osi_session.proofs.SessionLaws.{first_small}
-use Rattle.osi_session.specs.Moves.{Input, called, taken, unread, opened, refused, broken, Standing, after_input, after_inputs}
+use Rattle.osi_session.specs.Moves.{Input, called, taken, unread, opened, refused, broken, Standing, react, after_input, after_inputs}
 use Rattle.osi_session.specs.Runs.{HasNumbers, IsFresh}
-use Rattle.osi_session.proofs.TsduLaws.{respond_sound}
+use Rattle.osi_session.proofs.Begun.{Begins}
+use Rattle.osi_session.proofs.TsduLaws.{respond_sound, respond_begun}
 use Rattle.osi_session.proofs.PhaseLaws.{implied, excluded}
 use Rattle.osi_session.proofs.RunCases.{call_cases, unit_cases, said_kept, taken_cases, fault_cases, opened_cases, refused_cases, broken_cases}
-use Rattle.osi_session.proofs.SoundCalls.{bare, call_sound}
+use Rattle.osi_session.proofs.SoundCalls.{bare, call_sound, call_begun}
 use Rattle.osi_session.proofs.SoundNumbers.{from_ordered}
 
 -- ---- what is true at all times
@@ -67,7 +68,7 @@ fresh_sound s h =
 
 -- ---- what is over stays over
 
-unit_over : (s : State) (u : Meaning) → is_over s.phase ≡ true → is_over (respond_unit s u).next.phase ≡ true
+pub unit_over : (s : State) (u : Meaning) → is_over s.phase ≡ true → is_over (respond_unit s u).next.phase ≡ true
 unit_over s u h = unit_cases (λ next. is_over next.phase ≡ true) s u (record {
   same = h;
   ended = λ a. refl;
@@ -75,7 +76,7 @@ unit_over s u h = unit_cases (λ next. is_over next.phase ≡ true) s u (record 
   good = λ a e. absurd (let w = implied is_over (λ p. is_aborting p || is_ended p) refl s.phase h in (let f : (is_aborting s.phase || is_ended s.phase) ≡ false = rw (a, e) refl in cc));
 })
 
-unit_ended : (s : State) (u : Meaning) → is_ended s.phase ≡ true → is_ended (respond_unit s u).next.phase ≡ true
+pub unit_ended : (s : State) (u : Meaning) → is_ended s.phase ≡ true → is_ended (respond_unit s u).next.phase ≡ true
 unit_ended s u h = unit_cases (λ next. is_ended next.phase ≡ true) s u (record {
   same = h;
   ended = λ a. refl;
@@ -119,3 +120,17 @@ stays_over s (input ∷ inputs) h = stays_over (after_input s input) inputs (inp
 pub stays_ended : (s : Standing) (inputs : List Input) → is_ended s.state.phase ≡ true → is_ended (after_inputs s inputs).state.phase ≡ true
 stays_ended s [] h = h
 stays_ended s (input ∷ inputs) h = stays_ended (after_input s input) inputs (input_ended s input h)
+
+-- ---- no session goes back to awaiting the transport connection
+
+pub input_begun : (s : Standing) (input : Input) → is_wait_transport (after_input s input).state.phase ≡ true → is_wait_transport s.state.phase ≡ true
+input_begun s (called c) = call_cases (Begins s.state) s c (λ k. k) (λ x e k. absurd (let b = call_begun s.state c x e in cc))
+input_begun s (taken said) = taken_cases (Begins s.state) s said (respond_begun s.state said)
+input_begun s (unread fault) = fault_cases (Begins s.state) s fault (λ k. k) (λ o k. absurd (cc))
+input_begun s opened = opened_cases (Begins s.state) s (λ w k. w) (λ k. k)
+input_begun s (refused reason) = refused_cases (Begins s.state) s reason (λ w k. w) (λ k. k)
+input_begun s broken = broken_cases (Begins s.state) s (λ k. absurd (cc))
+
+pub lost_ended : (s : Standing) → is_ended (after_input s broken).state.phase ≡ true
+unfolding react
+lost_ended s = refl

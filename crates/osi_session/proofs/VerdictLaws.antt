@@ -32,7 +32,7 @@ neither true e true w h k = absurd (cc)
 neither false true true w h k = absurd (cc)
 neither false false true w h k = absurd (cc)
 
-not_over : (s : State) → is_aborting s.phase ≡ false → is_ended s.phase ≡ false → is_over s.phase ≡ false
+pub not_over : (s : State) → is_aborting s.phase ≡ false → is_ended s.phase ≡ false → is_over s.phase ≡ false
 not_over s a e = neither _ _ _ (every_is (λ p. not (is_over p) || (is_aborting p || is_ended p)) refl s.phase) a e
 
 -- the table of units enacts the verdict

@@ -1,6 +1,7 @@
 pub mod Allowed
 pub mod Calls
 pub mod Causes
+pub mod Closing
 pub mod Moves
 pub mod Numbers
 pub mod Openings

@@ -1,5 +1,5 @@
 -- All that can happen to a session, and the move that it makes.
-use Rattle.std.specs.Prelude.{ℕ, Bool, false, List, [], ◌∷◌, Option, Some, None, Result, Ok, Err, if◌then◌else◌}
+use Rattle.std.specs.Prelude.{ℕ, Bool, true, false, List, [], ◌∷◌, Option, Some, None, Result, Ok, Err, if◌then◌else◌}
 use Rattle.osi_spdu.specs.declared.faults.SpduFault.{SpduFault}
 use Rattle.osi_session.specs.declared.phases.Phase.TheVariants.{Connecting, Ended}
 use Rattle.osi_session.specs.declared.faults.CallError.{CallError}
@@ -84,3 +84,7 @@ came_as (Err fault) = unread fault
 
 abbrev pub came : List ℕ → Input
 came octets = came_as (said_at octets)
+
+abbrev pub is_opened : Input → Bool
+is_opened opened = true
+is_opened _ = false

@@ -1,10 +1,11 @@
 //! Laws of the definitions that the contracts cite. Each function does nothing: its clauses are the
 //! laws.
 
-ghost use Rattle.std.specs.Prelude.{◌≡◌, ◌+◌, ◌<◌, ◌≤◌, ◌⊎◌, ℕ, true, false, ◌||◌, if◌then◌else◌, length, List, [], ◌∷◌, Some, Ok, option_map};
+ghost use Rattle.std.specs.Prelude.{◌≡◌, ◌+◌, ◌<◌, ◌≤◌, ◌⊎◌, ℕ, true, false, ◌||◌, if◌then◌else◌, length, List, [], ◌∷◌, Some, None, Ok, option_map};
 ghost use Rattle.std.specs.List.{AllByRecursion, list_any};
 ghost use Rattle.std.specs.Int.RustNames.{bit_and};
 ghost use Rattle.osi_session.specs.declared.faults.UnitFault.{UnitFault};
+ghost use Rattle.osi_spdu.specs.declared.faults.SpduFault.{SpduFault};
 ghost use Rattle.osi_spdu.specs.declared.fields.ResyncType.{ResyncType};
 ghost use Rattle.osi_spdu.specs.declared.settings.TokenSetting.{TokenSetting};
 ghost use Rattle.osi_spdu.specs.Known.{Units};
@@ -15,13 +16,15 @@ ghost use Rattle.osi_message.specs.declared.tokens.Tokens.{Tokens};
 ghost use Rattle.osi_session.specs.Allowed.{Step, allowed, Passed};
 ghost use Rattle.osi_session.specs.Calls.{Call, Give, MinorConfirm, HasSerial, called_by};
 ghost use Rattle.osi_session.specs.Causes.{opens_connection, call_gives, unit_gives, call_holds, unit_holds, renews};
-ghost use Rattle.osi_message.specs.Meanings.{Meaning, MIA, RS};
+ghost use Rattle.osi_message.specs.Meanings.{Meaning, MIA, RS, AA};
 ghost use Rattle.osi_session.specs.Numbers.{lower};
-ghost use Rattle.osi_session.specs.Phases.{is_over, is_ended, is_restarting, is_restart_due, may_hold};
-ghost use Rattle.osi_message.specs.Reading.{Said, alone, behind, said_by_units};
-ghost use Rattle.osi_session.specs.Moves.{Input, called, taken, Standing, in_state, react, after_input, after_inputs};
+ghost use Rattle.osi_session.specs.Closing.{closes_alone, is_answer, awaits_close};
+ghost use Rattle.osi_session.specs.declared.phases.Phase.{Phase};
+ghost use Rattle.osi_session.specs.Phases.{is_wait_transport, is_wait_cn, is_aborting, is_over, is_ended, is_restarting, is_restart_due, may_abort, may_hold};
+ghost use Rattle.osi_message.specs.Reading.{Said, alone, behind, said_by_units, said_at};
+ghost use Rattle.osi_session.specs.Moves.{Input, is_opened, called, taken, unread, opened, refused, broken, came, rests, answered, moved, begun, denied, Standing, in_state, react, after_input, after_inputs};
 ghost use Rattle.osi_message.specs.Written.{written};
-ghost use Rattle.osi_session.specs.Respond.{nothing, bad, becomes, respond_unit, respond_all, respond, stands, drops, verdict, enacted, fine, IsGood, has_no_effect, is_token_item, is_resynchronize, and_then};
+ghost use Rattle.osi_session.specs.Respond.{nothing, bad, becomes, respond_unit, respond_all, respond, respond_fault, lost, stands, drops, verdict, enacted, fine, IsGood, has_no_effect, is_token_item, is_resynchronize, and_then};
 ghost use Rattle.osi_session.specs.Restarts.{HasAsked, AreCrossed, after_restart};
 ghost use Rattle.osi_session.specs.Runs.{HasNumbers, IsFresh};
 ghost use Rattle.osi_session.specs.Sessions.{awaiting, asking, Planned, IsPlanOf};
@@ -38,6 +41,73 @@ pub fn what_is_sent_can_be_sent()
     ensures called { (s : State) (c : Call) (x : Step) → IsSound s → HasSerial c → allowed s c ≡ Ok x → IsSendable x.sent }
     ensures replied { (s : State) (said : Said) (m : Meaning) → (respond s said).reply ≡ Some m → IsSendable m }
     ensures asked { (o : Opening) → length o.user_data.now < 65000 → IsSendable (asked_for o) }
+{}
+
+/// The move of each input: what the tables give for a call, for the units of a TSDU and for one that is
+/// none; the transport connection is there, or there is none, while it is awaited, and no other time;
+/// and it is lost.
+pub fn what_each_input_does()
+    ensures called { (s : Standing) (c : Call) → react s (called c) ≡ answered s (allowed s.state c) }
+    ensures taken { (s : Standing) (said : Said) → react s (taken said) ≡ moved s (respond s.state said) }
+    ensures unread { (s : Standing) (fault : SpduFault) → react s (unread fault) ≡ moved s (respond_fault s.state fault) }
+    ensures opened { (s : Standing) → is_wait_transport s.state.phase ≡ true → react s opened ≡ begun s }
+    ensures refused { (s : Standing) (reason : ℕ) → is_wait_transport s.state.phase ≡ true → react s (refused reason) ≡ denied reason s }
+    ensures broken { (s : Standing) → react s broken ≡ moved s (lost s.state) }
+    ensures not_opened { (s : Standing) → is_wait_transport s.state.phase ≡ false → react s opened ≡ rests s }
+    ensures not_refused { (s : Standing) (reason : ℕ) → is_wait_transport s.state.phase ≡ false → react s (refused reason) ≡ rests s }
+{}
+
+/// What is sent is taken as it was meant: from the octets of a message to its row of the table of
+/// units. So of what an accepted call sends, of what a TSDU is answered by, and of what a caller asks
+/// for.
+pub fn what_is_sent_is_taken()
+    ensures message { (s : Standing) (m : Meaning) → IsSendable m → react s (came (written m)) ≡ moved s (respond_unit s.state m) }
+    ensures called { (sender : State) (c : Call) (x : Step) (s : Standing) → IsSound sender → HasSerial c → allowed sender c ≡ Ok x →
+        react s (came (written x.sent)) ≡ moved s (respond_unit s.state x.sent) }
+    ensures replied { (sender : State) (said : Said) (m : Meaning) (s : Standing) → (respond sender said).reply ≡ Some m →
+        react s (came (written m)) ≡ moved s (respond_unit s.state m) }
+    ensures asked { (o : Opening) (s : Standing) → length o.user_data.now < 65000 →
+        react s (came (written (asked_for o))) ≡ moved s (respond_unit s.state (asked_for o)) }
+{
+    osi_message::laws::what_is_sent_is_read();
+}
+
+/// What closes the transport connection sends nothing, and leaves a session that has ended, which
+/// awaited it. That is a TSDU with RF, DN, AB or AA, in which this unit stands alone: behind a DN an
+/// AB would still be answered, but no octets say that. A call leaves the transport connection open.
+pub fn what_closes_sends_nothing()
+    ensures unit { (s : State) (u : Meaning) → (respond_unit s u).closes ≡ true → (respond_unit s u).reply ≡ None }
+    ensures said { (s : State) (said : Said) → closes_alone said ≡ true → (respond s said).closes ≡ true → (respond s said).reply ≡ None }
+    ensures alone { (octets : List ℕ) (said : Said) → said_at octets ≡ Ok said → closes_alone said ≡ true }
+    ensures octets { (s : Standing) (octets : List ℕ) → (react s (came octets)).closes ≡ true → (react s (came octets)).reply ≡ None }
+    ensures call { (s : Standing) (c : Call) → (react s (called c)).closes ≡ false }
+    ensures ended { (s : Standing) (input : Input) → (react s input).closes ≡ true → is_ended (after_input s input).state.phase ≡ true }
+    ensures awaited { (s : Standing) (octets : List ℕ) → (react s (came octets)).closes ≡ true → awaits_close s.state.phase ≡ true }
+{}
+
+/// Who answers a TSDU is over: RF is sent and the session has ended, AB is sent and it is aborted, or
+/// AA is sent and it has ended. An aborted session answers nothing, and one that has ended answers an
+/// AB by AA, and nothing else.
+pub fn what_answers_is_over()
+    ensures unit { (s : State) (u m : Meaning) → (respond_unit s u).reply ≡ Some m →
+        (is_answer m ≡ true) × (is_over (respond_unit s u).next.phase ≡ true) }
+    ensures octets { (s : Standing) (octets : List ℕ) (m : Meaning) → (react s (came octets)).reply ≡ Some m →
+        (is_answer m ≡ true) × (is_over (after_input s (came octets)).state.phase ≡ true) }
+    ensures aborting { (s : Standing) (octets : List ℕ) → is_aborting s.state.phase ≡ true → (react s (came octets)).reply ≡ None }
+    ensures ended { (s : Standing) (octets : List ℕ) (m : Meaning) → is_ended s.state.phase ≡ true →
+        (react s (came octets)).reply ≡ Some m → m ≡ AA }
+{}
+
+/// A call is accepted only where the user may abort: not before the transport connection is there, not
+/// while a CN is awaited, not where the session is aborted or has ended. Whatever happens, a session
+/// does not go back to awaiting the transport connection; and what happens before it is there leaves
+/// it awaited, or is the end.
+pub fn where_a_call_is_accepted()
+    ensures phase { (s : State) (c : Call) (x : Step) → allowed s c ≡ Ok x → may_abort s.phase ≡ true }
+    ensures live { (p : Phase) → may_abort p ≡ true → (is_wait_transport p ≡ false) × (is_wait_cn p ≡ false) × (is_over p ≡ false) }
+    ensures begun { (s : Standing) (input : Input) → is_wait_transport (after_input s input).state.phase ≡ true → is_wait_transport s.state.phase ≡ true }
+    ensures waiting { (s : Standing) (input : Input) → is_opened input ≡ false → is_wait_transport s.state.phase ≡ true →
+        (is_wait_transport (after_input s input).state.phase || is_over (after_input s input).state.phase) ≡ true }
 {}
 
 /// What becomes of a unit: the table of units enacts its verdict. A unit that is not discarded, that
@@ -94,10 +164,12 @@ pub fn numbers_stay_in_order()
     ensures kept { (s : Standing) (inputs : List Input) → AllByRecursion HasNumbers inputs → IsSound s.state → IsSound (after_inputs s inputs).state }
 {}
 
-/// Whatever happens, a session that is aborted or ended stays so, and one that is ended stays ended.
+/// Whatever happens, a session that is aborted or ended stays so, and one that is ended stays ended;
+/// and one whose transport connection is lost has ended.
 pub fn an_ended_session_stays_ended()
     ensures over { (s : Standing) (inputs : List Input) → is_over s.state.phase ≡ true → is_over (after_inputs s inputs).state.phase ≡ true }
     ensures ended { (s : Standing) (inputs : List Input) → is_ended s.state.phase ≡ true → is_ended (after_inputs s inputs).state.phase ≡ true }
+    ensures lost { (s : Standing) → is_ended (after_input s broken).state.phase ≡ true }
 {}
 
 /// Tokens come to be held only where a connection is opened: by a call of Accept or RestartConfirm, or

@@ -1,0 +1,364 @@
+-- What a TSDU is answered by, in which phases a session closes the transport connection, and in which
+-- a call is accepted.
+use Rattle.std.proofs.Common.{◌⊎◌, inl, inr, ◌≡◌, refl, sym, ◌∙◌, ap, subst, ℕ, Bool, true, false, not, ◌&&◌, ◌||◌, List, [], ◌∷◌, Option, Some, None, unwrap_or, Result, Ok, Err, if◌then◌else◌}
+use Rattle.std.specs.List.{list_any}
+use Rattle.osi_spdu.specs.declared.faults.SpduFault.{SpduFault}
+use Rattle.osi_spdu.specs.declared.settings.TokenSetting.{TokenSetting}
+use Rattle.osi_message.specs.Meanings.{Meaning, CN, RF, DN, AB, AA}
+use Rattle.osi_message.specs.Reading.{Said, said_at}
+use Rattle.osi_session.specs.declared.faults.UnitFault.{UnitFault}
+use Rattle.osi_session.specs.declared.faults.UnitFault.TheVariants.{Spelling, Unexpected}
+use Rattle.osi_session.specs.declared.phases.Phase.{Phase}
+use Rattle.osi_session.specs.declared.phases.Phase.TheVariants.{WaitTransport, Answering, Ended}
+use Rattle.osi_session.specs.declared.state.State.{State}
+use Rattle.osi_session.specs.Phases.{is_wait_transport, is_wait_cn, is_connecting, is_answering, is_ready, is_major_due, is_releasing, is_release_due, is_restart_due, is_aborting, is_ended, is_over, may_give, may_ask, may_confirm_minor, may_restart, may_abort}
+use Rattle.osi_session.specs.Calls.{Call, Accept, Refuse, Data, Give, Please, Minor, MinorConfirm, Major, MajorConfirm, Restart, RestartConfirm, Release, ReleaseAccept, ReleaseRefuse, Abort}
+use Rattle.osi_session.specs.Allowed.{Step, may_call, allowed}
+use Rattle.osi_session.specs.Closing.{may_close, closes_alone, is_answer, awaits_close}
+use Rattle.osi_session.specs.Moves.{Input, called, taken, unread, opened, refused, broken, is_opened, came_as, came, Standing, react, after_input}
+use Rattle.osi_session.specs.State.{without_tokens}
+use Rattle.osi_session.specs.Units.{functional_units, has_data}
+use Rattle.osi_session.specs.Respond.{Outcome, si, conditions, first_fault, is_expected, drops, nothing, good, bad, becomes, judged, take_expected, in_aborting, in_ended, respond_unit, first_reply, and_then, over, verdict, enacted, is_faulty, respond_all, acting, respond, respond_fault, respond_read}
+use Rattle.osi_session.proofs.ClosingLaws.{neither, acting_none, not_true, said_open, octets_alone, fault_open}
+use Rattle.osi_session.proofs.Passed.{passed}
+use Rattle.osi_session.proofs.FollowLaws.{good_then}
+use Rattle.osi_session.proofs.PhaseLaws.{implied, excluded}
+use Rattle.osi_session.proofs.RunCases.{all_kept, any_unit, not_false, call_cases, unit_cases, said_kept, taken_cases, fault_cases, refused_cases, broken_cases}
+use Rattle.osi_session.proofs.RunLaws.{unit_over}
+use Rattle.osi_session.proofs.VerdictLaws.{enacts, said_alone, not_over}
+
+-- ---- who answers a TSDU is over
+
+-- where something is sent, it is an answer, and the session is aborted or has ended
+record Answers (o : Outcome) : Type 0 where
+  last : (m : Meaning) → o.reply ≡ Some m → (is_answer m ≡ true) × (is_over o.next.phase ≡ true)
+
+silent : (o : Outcome) → o.reply ≡ None → Answers o
+silent o h = record { last = λ m e. absurd (cc) }
+
+abbrev some : Meaning → Option Meaning
+some m = Some m
+
+-- an outcome that sends this
+sends_one : (o : Outcome) (u : Meaning) → o.reply ≡ Some u → is_answer u ≡ true → is_over o.next.phase ≡ true → Answers o
+sends_one o u h a k = record {
+  last = λ m e.
+      let same : some u ≡ some m = sym h ∙ e in
+      let w : u ≡ m = cc in (subst (λ (x : Meaning). is_answer x ≡ true) w a, k);
+}
+
+either : (b : Bool) (x y : Outcome) → (b ≡ true → Answers x) → (b ≡ false → Answers y) → Answers (if b then x else y)
+either true x y h k = h refl
+either false x y h k = k refl
+
+aborting_answers : (s : State) (u : Meaning) → Answers (in_aborting s u)
+aborting_answers s (AB bits octets) = silent _ refl
+aborting_answers s AA = silent _ refl
+aborting_answers s _ = silent _ refl
+
+ended_answers : (s : State) (u : Meaning) → is_over s.phase ≡ true → Answers (in_ended s u)
+ended_answers s (AB bits octets) h = sends_one _ AA refl refl h
+ended_answers s _ h = silent _ refl
+
+-- a CN that cannot be accepted
+refused_over : (version_2 transfers : Bool) (x y : State) (m : Meaning) → is_over y.phase ≡ true
+    → (if not version_2 then Some (RF 132 []) else (if not transfers then Some (RF 134 []) else None)) ≡ Some m
+    → (is_answer m ≡ true) × (is_over (if version_2 && transfers then x else y).phase ≡ true)
+refused_over true true x y m h e = absurd (cc)
+refused_over true false x y m h e = let w : RF 134 [] ≡ m = cc in (subst (λ (u : Meaning). is_answer u ≡ true) w refl, h)
+refused_over false transfers x y m h e = let w : RF 132 [] ≡ m = cc in (subst (λ (u : Meaning). is_answer u ≡ true) w refl, h)
+
+-- the state after a CN that is accepted
+abbrev becomes_answering : State → ℕ → Option ℕ → TokenSetting → State
+becomes_answering s requirements serial wishes =
+    record s { phase = Answering; units = functional_units requirements; wishes = wishes; proposed = unwrap_or serial 0 }
+
+good_answers : (s : State) (u : Meaning) → Answers (good s u)
+good_answers s (CN version_2 requirements serial wishes from to octets) = record {
+  last = λ m e. refused_over version_2 (has_data (functional_units requirements))
+      (becomes_answering s requirements serial wishes) (without_tokens Ended s) m refl e;
+}
+good_answers s (AB bits octets) = sends_one _ AA refl refl refl
+good_answers s _ = silent _ refl
+
+bad_answers : (s : State) (fault : UnitFault) → Answers (bad s fault)
+bad_answers s fault = sends_one _ (AB 5 []) refl refl refl
+
+judged_answers : (s : State) (u : Meaning) (f : Option UnitFault) → Answers (judged s u f)
+judged_answers s u None = good_answers s u
+judged_answers s u (Some fault) = bad_answers s fault
+
+expected_answers : (s : State) (u : Meaning) → Answers (take_expected s u)
+unfolding take_expected
+expected_answers s u = judged_answers s u (first_fault (si u) (conditions s u))
+
+answers : (s : State) (u : Meaning) → Answers (respond_unit s u)
+unfolding respond_unit
+answers s u =
+    either (is_aborting s.phase) _ _ (λ a. aborting_answers s u) (λ a.
+    either (is_ended s.phase) _ _ (λ e. ended_answers s u (implied is_ended is_over refl s.phase e)) (λ e.
+    either (drops s u) _ _ (λ d. silent _ refl) (λ d.
+    either (not (is_expected s.phase u)) _ _ (λ x. bad_answers s (Unexpected (si u))) (λ x. expected_answers s u))))
+
+pub unit_answers : (s : State) (u m : Meaning) → (respond_unit s u).reply ≡ Some m → (is_answer m ≡ true) × (is_over (respond_unit s u).next.phase ≡ true)
+unit_answers s u = (answers s u).last
+
+stays_over : (s : State) (us : List Meaning) → is_over s.phase ≡ true → is_over (respond_all s us).next.phase ≡ true
+stays_over s us h = all_kept (λ r. is_over r.phase ≡ true) (λ u. Unit {0}) s us (λ r u q. unit_over r u) (any_unit us) h
+
+either_sent : (a b : Option Meaning) (m : Meaning) → first_reply a b ≡ Some m → (a ≡ Some m) ⊎ (b ≡ Some m)
+either_sent None b m h = inr h
+either_sent (Some u) b m h = inl h
+
+-- the answer to a unit, and what follows
+then_answers : (first second : Outcome) → Answers first → (is_over first.next.phase ≡ true → is_over second.next.phase ≡ true)
+    → Answers second → Answers (and_then first second)
+then_answers first second h stays k = record {
+  last = λ m e. elim (either_sent first.reply second.reply m e) [
+    | inl a ↦ (let q = h.last m a in (q.0, stays q.1))
+    | inr b ↦ k.last m b
+  ];
+}
+
+all_answer : (s : State) (us : List Meaning) → Answers (respond_all s us)
+unfolding respond_all
+all_answer s [] = silent _ refl
+all_answer s (u ∷ us) =
+    let next = (respond_unit s u).next in
+    either (is_faulty (verdict s u)) _ _ (λ b. answers s u) (λ b.
+    then_answers (respond_unit s u) (respond_all next us) (answers s u) (stays_over next us) (all_answer next us))
+
+fault_answers : (s : State) (fault : SpduFault) → Answers (respond_fault s fault)
+unfolding respond_fault
+fault_answers s fault = either (is_over s.phase) _ _ (λ o. silent _ refl) (λ o. bad_answers s (Spelling fault))
+
+pub read_answers : (s : Standing) (read : Result Said SpduFault) (m : Meaning) → (react s (came_as read)).reply ≡ Some m
+    → (is_answer m ≡ true) × (is_over (react s (came_as read)).next.state.phase ≡ true)
+unfolding react
+read_answers s (Ok said) = (all_answer s.state (acting said)).last
+read_answers s (Err fault) = (fault_answers s.state fault).last
+
+-- whoever answers a TSDU is over
+pub octets_answered : (s : Standing) (octets : List ℕ) (m : Meaning) → (react s (came octets)).reply ≡ Some m
+    → (is_answer m ≡ true) × (is_over (react s (came octets)).next.state.phase ≡ true)
+octets_answered s octets = read_answers s (said_at octets)
+
+-- ---- a session that is over
+
+aborting_still : (s : State) (u : Meaning) → may_close u ≡ false → in_aborting s u ≡ nothing s
+aborting_still s (AB bits octets) h = absurd (cc)
+aborting_still s AA h = absurd (cc)
+aborting_still s _ h = refl
+
+ended_still : (s : State) (u : Meaning) → may_close u ≡ false → in_ended s u ≡ nothing s
+ended_still s (AB bits octets) h = absurd (cc)
+ended_still s _ h = refl
+
+over_still : (s : State) (u : Meaning) → may_close u ≡ false → enacted s u over ≡ nothing s
+over_still s u h = by (is_aborting s.phase)
+  where
+    by : (b : Bool) → (if b then in_aborting s u else in_ended s u) ≡ nothing s
+    by true = aborting_still s u h
+    by false = ended_still s u h
+
+over_verdict : (s : State) (u : Meaning) → is_over s.phase ≡ true → verdict s u ≡ over
+over_verdict s u o = rw o refl
+
+unit_still : (s : State) (u : Meaning) → is_over s.phase ≡ true → may_close u ≡ false → respond_unit s u ≡ nothing s
+unit_still s u o h = enacts s u ∙ ap (enacted s u) (over_verdict s u o) ∙ over_still s u h
+
+-- the units that come behind others do nothing
+all_still : (s : State) (us : List Meaning) → is_over s.phase ≡ true → list_any may_close us ≡ false → respond_all s us ≡ nothing s
+unfolding respond_all
+all_still s [] o h = refl
+all_still s (u ∷ us) o h =
+    let q = neither (may_close u) (list_any may_close us) h in
+    let v = ap is_faulty (over_verdict s u o) in
+    let e = unit_still s u o q.0 in
+    good_then s u us v ∙ ap (λ (x : Outcome). and_then x (respond_all x.next us)) e ∙ ap (and_then (nothing s)) (all_still s us o q.1)
+
+said_still : (s : State) (said : Said) → is_over s.phase ≡ true → list_any may_close said ≡ false → respond s said ≡ nothing s
+said_still s said o h = all_still s (acting said) o (acting_none may_close said h)
+
+-- what comes to a session that is over: a unit alone, or nothing
+over_said : (P : Outcome → Type 0) (s : State) (said : Said) → is_over s.phase ≡ true → closes_alone said ≡ true
+    → P (nothing s) → ((u : Meaning) → P (respond_unit s u)) → P (respond s said)
+over_said P s [] o h n k = subst P (sym (said_still s [] o refl)) n
+over_said P s (u ∷ []) o h n k = subst P (sym (said_alone s u)) (k u)
+over_said P s (u ∷ v ∷ us) o h n k = subst P (sym (said_still s (u ∷ v ∷ us) o (not_true (list_any may_close (u ∷ v ∷ us)) h))) n
+
+abbrev Silent : Outcome → Type 0
+Silent o = o.reply ≡ None
+
+aborting_reply : (s : State) (u : Meaning) → Silent (in_aborting s u)
+aborting_reply s (AB bits octets) = refl
+aborting_reply s AA = refl
+aborting_reply s _ = refl
+
+unit_unanswered : (s : State) (u : Meaning) → is_aborting s.phase ≡ true → Silent (respond_unit s u)
+unfolding respond_unit
+unit_unanswered s u a = rw a (aborting_reply s u)
+
+abbrev AcceptsAbort : Outcome → Type 0
+AcceptsAbort o = (m : Meaning) → o.reply ≡ Some m → m ≡ AA
+
+ended_accepts : (s : State) (u : Meaning) → AcceptsAbort (in_ended s u)
+ended_accepts s (AB bits octets) m e = cc
+ended_accepts s _ m e = absurd (cc)
+
+not_aborting : (p : Phase) → is_ended p ≡ true → is_aborting p ≡ false
+not_aborting p h = excluded is_ended is_aborting refl p h
+
+unit_accepts : (s : State) (u : Meaning) → is_ended s.phase ≡ true → AcceptsAbort (respond_unit s u)
+unfolding respond_unit
+unit_accepts s u e = let a = not_aborting s.phase e in rw (a, e) (ended_accepts s u)
+
+over_fault : (s : State) (fault : SpduFault) → is_over s.phase ≡ true → respond_fault s fault ≡ nothing s
+unfolding respond_fault
+over_fault s fault o = rw o refl
+
+read_over : (P : Outcome → Type 0) (s : Standing) (read : Result Said SpduFault) → is_over s.state.phase ≡ true
+    → ((said : Said) → read ≡ Ok said → closes_alone said ≡ true) → P (nothing s.state) → ((u : Meaning) → P (respond_unit s.state u))
+    → P (respond_read s.state read)
+read_over P s (Ok said) o h n k = over_said P s.state said o (h said refl) n k
+read_over P s (Err fault) o h n k = subst P (sym (over_fault s.state fault o)) n
+
+reply_read : (s : Standing) (read : Result Said SpduFault) → (react s (came_as read)).reply ≡ (respond_read s.state read).reply
+unfolding react
+reply_read s (Ok said) = refl
+reply_read s (Err fault) = refl
+
+aborting_over : (p : Phase) → is_aborting p ≡ true → is_over p ≡ true
+aborting_over p h = implied is_aborting is_over refl p h
+
+-- an aborted session answers nothing
+pub aborting_silent : (s : Standing) (octets : List ℕ) → is_aborting s.state.phase ≡ true → (react s (came octets)).reply ≡ None
+aborting_silent s octets a =
+    reply_read s (said_at octets)
+    ∙ read_over Silent s (said_at octets) (aborting_over s.state.phase a) (octets_alone octets) refl (λ u. unit_unanswered s.state u a)
+
+-- an ended one answers an abort
+pub ended_accepting : (s : Standing) (octets : List ℕ) (m : Meaning) → is_ended s.state.phase ≡ true → (react s (came octets)).reply ≡ Some m → m ≡ AA
+ended_accepting s octets m e h =
+    read_over AcceptsAbort s (said_at octets) (implied is_ended is_over refl s.state.phase e) (octets_alone octets) (λ u k. absurd (cc)) (λ u. unit_accepts s.state u e)
+    m (sym (reply_read s (said_at octets)) ∙ h)
+
+-- ---- in which phases the transport connection is closed
+
+record Awaited (s : State) (o : Outcome) : Type 0 where
+  awaits : o.closes ≡ true → awaits_close s.phase ≡ true
+
+left_open : (s : State) (o : Outcome) → o.closes ≡ false → Awaited s o
+left_open s o h = record { awaits = λ c. absurd (cc) }
+
+either_awaited : (s : State) (b : Bool) (x y : Outcome) → (b ≡ true → Awaited s x) → (b ≡ false → Awaited s y) → Awaited s (if b then x else y)
+either_awaited s true x y h k = h refl
+either_awaited s false x y h k = k refl
+
+good_awaited : (s : State) (u : Meaning) → is_expected s.phase u ≡ true → Awaited s (good s u)
+good_awaited s (RF reason octets) x = record { awaits = λ c. implied is_connecting awaits_close refl s.phase x }
+good_awaited s (DN octets) x = record { awaits = λ c. implied is_releasing awaits_close refl s.phase x }
+good_awaited s _ x = left_open s _ refl
+
+judged_awaited : (s : State) (u : Meaning) (f : Option UnitFault) → is_expected s.phase u ≡ true → Awaited s (judged s u f)
+judged_awaited s u None x = good_awaited s u x
+judged_awaited s u (Some fault) x = left_open s _ refl
+
+expected_awaited : (s : State) (u : Meaning) → is_expected s.phase u ≡ true → Awaited s (take_expected s u)
+unfolding take_expected
+expected_awaited s u x = judged_awaited s u (first_fault (si u) (conditions s u)) x
+
+ended_awaited : (s : State) (u : Meaning) → Awaited s (in_ended s u)
+ended_awaited s (AB bits octets) = left_open s _ refl
+ended_awaited s _ = left_open s _ refl
+
+aborting_awaited : (s : State) (u : Meaning) → is_aborting s.phase ≡ true → Awaited s (in_aborting s u)
+aborting_awaited s u a = record { awaits = λ c. implied is_aborting awaits_close refl s.phase a }
+
+unit_awaited : (s : State) (u : Meaning) → Awaited s (respond_unit s u)
+unfolding respond_unit
+unit_awaited s u =
+    either_awaited s (is_aborting s.phase) _ _ (λ a. aborting_awaited s u a) (λ a.
+    either_awaited s (is_ended s.phase) _ _ (λ e. ended_awaited s u) (λ e.
+    either_awaited s (drops s u) _ _ (λ d. left_open s _ refl) (λ d.
+    either_awaited s (not (is_expected s.phase u)) _ _ (λ x. left_open s _ refl) (λ x. expected_awaited s u (not_false (is_expected s.phase u) x)))))
+
+said_awaited : (s : State) (said : Said) → closes_alone said ≡ true → Awaited s (respond s said)
+said_awaited s [] h = left_open s _ (said_open s [] refl)
+said_awaited s (u ∷ []) h = subst (λ (o : Outcome). Awaited s o) (sym (said_alone s u)) (unit_awaited s u)
+said_awaited s (u ∷ v ∷ us) h = left_open s _ (said_open s (u ∷ v ∷ us) (not_true (list_any may_close (u ∷ v ∷ us)) h))
+
+read_awaited : (s : Standing) (read : Result Said SpduFault) → ((said : Said) → read ≡ Ok said → closes_alone said ≡ true)
+    → (react s (came_as read)).closes ≡ true → awaits_close s.state.phase ≡ true
+unfolding react
+read_awaited s (Ok said) h = (said_awaited s.state said (h said refl)).awaits
+read_awaited s (Err fault) h = (left_open s.state (respond_fault s.state fault) (fault_open s.state fault)).awaits
+
+-- who closes it awaited a unit that does so
+pub octets_awaited : (s : Standing) (octets : List ℕ) → (react s (came octets)).closes ≡ true → awaits_close s.state.phase ≡ true
+octets_awaited s octets = read_awaited s (said_at octets) (octets_alone octets)
+
+-- ---- in which phases a call is accepted
+
+callable : (c : Call) (p : Phase) → may_call p c ≡ true → may_abort p ≡ true
+callable (Accept requirements serial sides octets) p h = implied is_answering may_abort refl p h
+callable (Refuse octets) p h = implied is_answering may_abort refl p h
+callable (Data octets) p h = implied is_ready may_abort refl p h
+callable (Give tokens) p h = implied may_give may_abort refl p h
+callable (Please tokens octets) p h = implied may_ask may_abort refl p h
+callable (Minor confirm octets) p h = implied is_ready may_abort refl p h
+callable (MinorConfirm n octets) p h = implied may_confirm_minor may_abort refl p h
+callable (Major octets) p h = implied is_ready may_abort refl p h
+callable (MajorConfirm octets) p h = implied is_major_due may_abort refl p h
+callable (Restart n wishes octets) p h = implied may_restart may_abort refl p h
+callable (RestartConfirm sides octets) p h = implied is_restart_due may_abort refl p h
+callable (Release octets) p h = implied is_ready may_abort refl p h
+callable (ReleaseAccept octets) p h = implied is_release_due may_abort refl p h
+callable (ReleaseRefuse octets) p h = implied is_release_due may_abort refl p h
+callable (Abort octets) p h = h
+
+pub accepted_callable : (s : State) (c : Call) (x : Step) → allowed s c ≡ Ok x → may_abort s.phase ≡ true
+accepted_callable s c x h = callable c s.phase (passed s c x h).phase
+
+pub callable_open : (p : Phase) → may_abort p ≡ true → (is_wait_transport p ≡ false) × (is_wait_cn p ≡ false) × (is_over p ≡ false)
+callable_open p h = (excluded may_abort is_wait_transport refl p h, excluded may_abort is_wait_cn refl p h, excluded may_abort is_over refl p h)
+
+-- ---- while the transport connection is awaited
+
+abbrev Waits : State → Type 0
+Waits s = (is_wait_transport s.phase || is_over s.phase) ≡ true
+
+waits_in : (p : Phase) → is_wait_transport p ≡ true → p ≡ WaitTransport
+waits_in WaitTransport h = refl
+waits_in _ h = absurd (cc)
+
+good_waits : (s : State) (u : Meaning) → is_expected WaitTransport u ≡ true → Waits (becomes s u)
+good_waits s (AB bits octets) x = refl
+good_waits s _ x = absurd (cc)
+
+either_is : (a b : Bool) → (a || b) ≡ true → b ≡ false → a ≡ true
+either_is true b h k = refl
+either_is false b h k = absurd (cc)
+
+unit_waits : (s : State) (u : Meaning) → Waits s → Waits (respond_unit s u).next
+unit_waits s u h = unit_cases Waits s u (record {
+  same = h;
+  ended = λ a. refl;
+  bad = λ a e. refl;
+  good = λ a e x met.
+      let w = either_is (is_wait_transport s.phase) (is_over s.phase) h (not_over s a e) in
+      good_waits s u (subst (λ (p : Phase). is_expected p u ≡ true) (waits_in s.phase w) x);
+})
+
+first_true : (a b : Bool) → a ≡ true → (a || b) ≡ true
+first_true a b h = rw h refl
+
+-- what comes before it is there leaves it awaited, or is the end
+pub input_waits : (s : Standing) (input : Input) → is_opened input ≡ false → is_wait_transport s.state.phase ≡ true
+    → (is_wait_transport (after_input s input).state.phase || is_over (after_input s input).state.phase) ≡ true
+input_waits s (called c) n w = call_cases Waits s c (first_true _ _ w) (λ x e. absurd (let b = callable_open s.state.phase (accepted_callable s.state c x e) in let q = b.0 in cc))
+input_waits s (taken said) n w = taken_cases Waits s said (said_kept Waits s.state said unit_waits (first_true _ _ w))
+input_waits s (unread fault) n w = fault_cases Waits s fault (first_true _ _ w) (λ o. refl)
+input_waits s opened n w = absurd (cc)
+input_waits s (refused reason) n w = refused_cases Waits s reason (λ k. refl) (first_true _ _ w)
+input_waits s broken n w = broken_cases Waits s refl

@@ -1,0 +1,272 @@
+-- What closes the transport connection, and that nothing is sent with it.
+use Rattle.std.proofs.Common.{◌≡◌, refl, sym, ◌∙◌, ap, subst, ℕ, Bool, true, false, not, ◌||◌, List, [], ◌∷◌, ◌++◌, None, Result, Ok, Err, if◌then◌else◌}
+use Rattle.std.specs.List.{list_any}
+use Rattle.std.proofs.lemmas.List.Folds.{list_any-append}
+use Rattle.osi_spdu.specs.declared.faults.SpduFault.{SpduFault}
+use Rattle.osi_spdu.specs.declared.kinds.Kind.{Kind}
+use Rattle.osi_spdu.specs.declared.kinds.Kind.TheVariants as kind
+use Rattle.osi_spdu.specs.declared.kinds.Category.{Category}
+use Rattle.osi_spdu.specs.declared.kinds.Category.TheVariants.{Zero, One, Two}
+use Rattle.osi_spdu.specs.Kinds.{category_of}
+use Rattle.osi_spdu.specs.Known.{Known, Contents, Units}
+use Rattle.osi_spdu.specs.Reading.{Placed, unit_at, contents_of, behind_at, ended, continued, tsdu_at}
+use Rattle.osi_spdu.specs.Spelling.{AreBehind}
+use Rattle.osi_spdu.specs.Laws.Steps.{bind_ok, ok_is}
+use Rattle.osi_spdu.specs.Laws.Tsdus.{behind_stands}
+use Rattle.osi_message.specs.Meanings.{Meaning, RF, DN, AB, AA}
+use Rattle.osi_message.specs.Reading.{Said, meaning_by, meaning, said_by_units, said_if_read, said_at}
+use Rattle.osi_session.specs.declared.state.State.{State}
+use Rattle.osi_session.specs.Phases.{is_wait_transport, is_aborting, is_ended, is_over}
+use Rattle.osi_session.specs.Calls.{Call}
+use Rattle.osi_session.specs.Allowed.{Answer, allowed}
+use Rattle.osi_session.specs.Closing.{may_close, closes_alone}
+use Rattle.osi_session.specs.Moves.{Input, called, taken, unread, opened, refused, broken, came_as, came, Standing, Move, rests, answered, begun, denied, react}
+use Rattle.osi_session.specs.Respond.{Outcome, is_resynchronize, becomes, reply_for, closes_for, in_aborting, in_ended, respond_unit, and_then, Verdict, over, dropped, faulty, fine, verdict, enacted, is_faulty, respond_all, acting, respond, respond_fault}
+use Rattle.osi_session.proofs.RunCases.{all_kept, any_unit}
+use Rattle.osi_session.proofs.RunLaws.{unit_ended}
+use Rattle.osi_session.proofs.VerdictLaws.{enacts, said_alone}
+
+-- ---- one unit
+
+-- an outcome that closes the transport connection sends nothing, and is the end
+pub record ClosesLast (o : Outcome) : Type 0 where
+  pub silent : o.closes ≡ true → o.reply ≡ None
+  pub last : o.closes ≡ true → is_ended o.next.phase ≡ true
+
+open_still : (o : Outcome) → o.closes ≡ false → ClosesLast o
+open_still o h = record { silent = λ k. absurd (cc); last = λ k. absurd (cc) }
+
+good_silent : (u : Meaning) → closes_for u ≡ true → reply_for u ≡ None
+good_silent (RF reason octets) h = refl
+good_silent (DN octets) h = refl
+good_silent _ h = absurd (cc)
+
+good_last : (s : State) (u : Meaning) → closes_for u ≡ true → is_ended (becomes s u).phase ≡ true
+good_last s (RF reason octets) h = refl
+good_last s (DN octets) h = refl
+good_last s _ h = absurd (cc)
+
+aborting_last : (s : State) (u : Meaning) → ClosesLast (in_aborting s u)
+aborting_last s (AB bits octets) = record { silent = λ k. refl; last = λ k. refl }
+aborting_last s AA = record { silent = λ k. refl; last = λ k. refl }
+aborting_last s _ = open_still _ refl
+
+ended_last : (s : State) (u : Meaning) → ClosesLast (in_ended s u)
+ended_last s (AB bits octets) = open_still _ refl
+ended_last s _ = open_still _ refl
+
+either_last : (b : Bool) (x y : Outcome) → ClosesLast x → ClosesLast y → ClosesLast (if b then x else y)
+either_last true x y h k = h
+either_last false x y h k = k
+
+enacted_last : (s : State) (u : Meaning) (v : Verdict) → ClosesLast (enacted s u v)
+enacted_last s u over = either_last (is_aborting s.phase) _ _ (aborting_last s u) (ended_last s u)
+enacted_last s u dropped = open_still _ refl
+enacted_last s u (faulty fault) = open_still _ refl
+enacted_last s u fine = record { silent = good_silent u; last = good_last s u }
+
+unit_closes_last : (s : State) (u : Meaning) → ClosesLast (respond_unit s u)
+unit_closes_last s u = subst ClosesLast (sym (enacts s u)) (enacted_last s u (verdict s u))
+
+pub unit_silent : (s : State) (u : Meaning) → (respond_unit s u).closes ≡ true → (respond_unit s u).reply ≡ None
+unit_silent s u = (unit_closes_last s u).silent
+
+-- ---- units one after the other
+
+either_ends : (b : Bool) (x y : Outcome) → (x.closes ≡ true → is_ended x.next.phase ≡ true) → (y.closes ≡ true → is_ended y.next.phase ≡ true)
+    → (if b then x else y).closes ≡ true → is_ended (if b then x else y).next.phase ≡ true
+either_ends true x y h k = h
+either_ends false x y h k = k
+
+or_ends : (a b : Bool) (next : State) → (a ≡ true → is_ended next.phase ≡ true) → (b ≡ true → is_ended next.phase ≡ true)
+    → (a || b) ≡ true → is_ended next.phase ≡ true
+or_ends true b next h k c = h refl
+or_ends false b next h k c = k c
+
+stays_ended : (s : State) (us : List Meaning) → is_ended s.phase ≡ true → is_ended (respond_all s us).next.phase ≡ true
+stays_ended s us h = all_kept (λ r. is_ended r.phase ≡ true) (λ u. Unit {0}) s us (λ r u q. unit_ended r u) (any_unit us) h
+
+all_end : (s : State) (us : List Meaning) → (respond_all s us).closes ≡ true → is_ended (respond_all s us).next.phase ≡ true
+unfolding respond_all
+all_end s [] = λ h. absurd (cc)
+all_end s (u ∷ us) =
+    let one = unit_closes_last s u in
+    let next = (respond_unit s u).next in
+    either_ends (is_faulty (verdict s u)) (respond_unit s u) (and_then (respond_unit s u) (respond_all next us)) one.last
+    (or_ends (respond_unit s u).closes (respond_all next us).closes (respond_all next us).next
+    (λ h. stays_ended next us (one.last h)) (all_end next us))
+
+-- ---- units that leave the transport connection open
+
+good_open : (u : Meaning) → may_close u ≡ false → closes_for u ≡ false
+good_open (RF reason octets) h = absurd (cc)
+good_open (DN octets) h = absurd (cc)
+good_open _ h = refl
+
+aborting_open : (s : State) (u : Meaning) → may_close u ≡ false → (in_aborting s u).closes ≡ false
+aborting_open s (AB bits octets) h = absurd (cc)
+aborting_open s AA h = absurd (cc)
+aborting_open s _ h = refl
+
+ended_open : (s : State) (u : Meaning) → (in_ended s u).closes ≡ false
+ended_open s (AB bits octets) = refl
+ended_open s _ = refl
+
+either_open : (b : Bool) (x y : Outcome) → x.closes ≡ false → y.closes ≡ false → (if b then x else y).closes ≡ false
+either_open true x y h k = h
+either_open false x y h k = k
+
+enacted_open : (s : State) (u : Meaning) (v : Verdict) → may_close u ≡ false → (enacted s u v).closes ≡ false
+enacted_open s u over h = either_open (is_aborting s.phase) _ _ (aborting_open s u h) (ended_open s u)
+enacted_open s u dropped h = refl
+enacted_open s u (faulty fault) h = refl
+enacted_open s u fine h = good_open u h
+
+pub unit_open : (s : State) (u : Meaning) → may_close u ≡ false → (respond_unit s u).closes ≡ false
+unit_open s u h = subst (λ (o : Outcome). o.closes ≡ false) (sym (enacts s u)) (enacted_open s u (verdict s u) h)
+
+pub neither : (a b : Bool) → (a || b) ≡ false → (a ≡ false) × (b ≡ false)
+neither true b h = absurd (cc)
+neither false b h = (refl, h)
+
+none_closes : (a b : Bool) → a ≡ false → b ≡ false → (a || b) ≡ false
+none_closes a b h k = rw (h, k) refl
+
+all_open : (s : State) (us : List Meaning) → list_any may_close us ≡ false → (respond_all s us).closes ≡ false
+unfolding respond_all
+all_open s [] h = refl
+all_open s (u ∷ us) h =
+    let q = neither (may_close u) (list_any may_close us) h in
+    let one = unit_open s u q.0 in
+    either_open (is_faulty (verdict s u)) _ _ one (none_closes _ _ one (all_open (respond_unit s u).next us q.1))
+
+either_none : (p : Meaning → Bool) (b : Bool) (x y : List Meaning) → list_any p x ≡ false → list_any p y ≡ false → list_any p (if b then x else y) ≡ false
+either_none p true x y h k = h
+either_none p false x y h k = k
+
+pub acting_none : (p : Meaning → Bool) (said : Said) → list_any p said ≡ false → list_any p (acting said) ≡ false
+unfolding acting
+acting_none p [] h = refl
+acting_none p (first ∷ units) h =
+    let q = neither (p first) (list_any p units) h in
+    either_none p (list_any is_resynchronize units) units (units ++ first ∷ []) q.1
+    (list_any-append p units (first ∷ []) ∙ none_closes _ _ q.1 (none_closes (p first) false q.0 refl))
+
+-- ---- what is said in a TSDU
+
+pub said_open : (s : State) (said : Said) → list_any may_close said ≡ false → (respond s said).closes ≡ false
+said_open s said h = all_open s (acting said) (acting_none may_close said h)
+
+pub not_true : (b : Bool) → not b ≡ true → b ≡ false
+not_true true h = absurd (cc)
+not_true false h = refl
+
+pub said_silent : (s : State) (said : Said) → closes_alone said ≡ true → (respond s said).closes ≡ true → (respond s said).reply ≡ None
+said_silent s [] h c = let o = said_open s [] refl in absurd (cc)
+said_silent s (u ∷ []) h c = subst (λ (o : Outcome). o.closes ≡ true → o.reply ≡ None) (sym (said_alone s u)) (unit_silent s u) c
+said_silent s (u ∷ v ∷ us) h c =
+    let o = said_open s (u ∷ v ∷ us) (not_true (list_any may_close (u ∷ v ∷ us)) h) in absurd (cc)
+
+pub said_ends : (s : State) (said : Said) → (respond s said).closes ≡ true → is_ended (respond s said).next.phase ≡ true
+said_ends s said = all_end s (acting said)
+
+-- ---- what is read from octets
+
+behind_open : (k : Kind) (known : Known) (information : List ℕ) → category_of k ≡ Two → may_close (meaning_by k known information) ≡ false
+unfolding category_of
+behind_open kind.DataTransfer known information h = refl
+behind_open kind.ResynchronizeAck known information h = refl
+behind_open kind.MajorSyncPoint known information h = refl
+behind_open kind.MajorSyncAck known information h = refl
+behind_open kind.MinorSyncPoint known information h = refl
+behind_open kind.MinorSyncAck known information h = refl
+behind_open kind.Resynchronize known information h = refl
+behind_open _ known information h = absurd (cc)
+
+item_open : (k : Kind) (known : Known) (information : List ℕ) → category_of k ≡ Zero → may_close (meaning_by k known information) ≡ false
+unfolding category_of
+item_open kind.GiveTokens known information h = refl
+item_open kind.PleaseTokens known information h = refl
+item_open _ known information h = absurd (cc)
+
+all_behind_open : (units : Units) → AreBehind units → list_any may_close (said_by_units units) ≡ false
+unfolding meaning
+all_behind_open [] h = refl
+all_behind_open (unit ∷ units) h = none_closes _ _ (behind_open unit.kind unit.known unit.information h.0) (all_behind_open units h.2)
+
+none_alone : (said : Said) → list_any may_close said ≡ false → closes_alone said ≡ true
+none_alone [] h = refl
+none_alone (u ∷ []) h = refl
+none_alone (u ∷ v ∷ us) h = ap not h
+
+abbrev IsAlone : Units → Type 0
+IsAlone units = closes_alone (said_by_units units) ≡ true
+
+ended_alone : (at : ℕ) (octets : List ℕ) (unit : Contents) (units : Units) → ended at octets unit ≡ Ok units → IsAlone units
+ended_alone at [] unit units e = subst IsAlone (ok_is (unit ∷ []) units e) refl
+ended_alone at (b ∷ octets) unit units e = absurd (cc)
+
+continued_alone : (p : Placed) (units : Units) (category : Category) → category_of p.kind ≡ category → continued category p ≡ Ok units → IsAlone units
+unfolding meaning
+continued_alone p units Zero same e =
+    let a = bind_ok (behind_at 16 p.end p.rest) (λ behind. Ok (contents_of p [] ∷ behind)) units e in
+    let r = behind_stands 16 p.end p.rest a.0 a.1 in
+    let first = item_open p.kind p.known [] same in
+    subst IsAlone (ok_is (contents_of p [] ∷ a.0) units a.2)
+    (none_alone (said_by_units (contents_of p [] ∷ a.0)) (none_closes _ _ first (all_behind_open a.0 r.0)))
+continued_alone p units One same e = ended_alone p.end p.rest (contents_of p []) units e
+continued_alone p units Two same e = ended_alone p.end p.rest (contents_of p []) units e
+
+units_alone : (octets : List ℕ) (units : Units) → tsdu_at octets ≡ Ok units → IsAlone units
+unfolding tsdu_at
+units_alone octets units e =
+    let a = bind_ok (unit_at false 0 octets) (λ unit. continued (category_of unit.kind) unit) units e in
+    continued_alone a.0 units (category_of a.0.kind) refl a.2
+
+read_alone : (read : Result Units SpduFault) (said : Said) → ((units : Units) → read ≡ Ok units → IsAlone units)
+    → said_if_read read ≡ Ok said → closes_alone said ≡ true
+read_alone (Ok units) said h e = let same : said_by_units units ≡ said = cc in subst (λ (x : Said). closes_alone x ≡ true) same (h units refl)
+read_alone (Err fault) said h e = absurd (cc)
+
+-- in what octets say, a unit that may close stands alone
+pub octets_alone : (octets : List ℕ) (said : Said) → said_at octets ≡ Ok said → closes_alone said ≡ true
+unfolding said_at
+octets_alone octets said e = read_alone (tsdu_at octets) said (units_alone octets) e
+
+-- ---- moves
+
+either_quiet : (b : Bool) (x y : Move) → x.closes ≡ false → y.closes ≡ false → (if b then x else y).closes ≡ false
+either_quiet true x y h k = h
+either_quiet false x y h k = k
+
+answered_open : (s : Standing) (a : Answer) → (answered s a).closes ≡ false
+answered_open s (Ok step) = refl
+answered_open s (Err e) = refl
+
+-- a call leaves the transport connection open, and so does what befalls it
+pub call_open : (s : Standing) (c : Call) → (react s (called c)).closes ≡ false
+unfolding react
+call_open s c = answered_open s (allowed s.state c)
+
+pub fault_open : (s : State) (fault : SpduFault) → (respond_fault s fault).closes ≡ false
+unfolding respond_fault
+fault_open s fault = either_open (is_over s.phase) _ _ refl refl
+
+-- a TSDU that closes it is the last
+pub input_ends : (s : Standing) (input : Input) → (react s input).closes ≡ true → is_ended (react s input).next.state.phase ≡ true
+unfolding react
+input_ends s (called c) h = absurd (let o = answered_open s (allowed s.state c) in cc)
+input_ends s (taken said) h = said_ends s.state said h
+input_ends s (unread fault) h = absurd (let o = fault_open s.state fault in cc)
+input_ends s opened h = absurd (let o = either_quiet (is_wait_transport s.state.phase) (begun s) (rests s) refl refl in cc)
+input_ends s (refused reason) h = absurd (let o = either_quiet (is_wait_transport s.state.phase) (denied reason s) (rests s) refl refl in cc)
+input_ends s broken h = absurd (cc)
+
+came_silent : (s : Standing) (read : Result Said SpduFault) → ((said : Said) → read ≡ Ok said → closes_alone said ≡ true)
+    → (react s (came_as read)).closes ≡ true → (react s (came_as read)).reply ≡ None
+unfolding react
+came_silent s (Ok said) h c = said_silent s.state said (h said refl) c
+came_silent s (Err fault) h c = absurd (let o = fault_open s.state fault in cc)
+
+pub octets_silent : (s : Standing) (octets : List ℕ) → (react s (came octets)).closes ≡ true → (react s (came octets)).reply ≡ None
+octets_silent s octets = came_silent s (said_at octets) (octets_alone octets)
