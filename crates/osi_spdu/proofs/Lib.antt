@@ -1,4 +1,5 @@
 pub mod Named
+pub mod Lookup
 pub mod Digits
 pub mod OneOctet
 pub mod ParamsLaws

@@ -1,5 +1,5 @@
 ghost use Rattle.std.specs.Prelude.{◌≡◌};
-ghost use Rattle.osi_spdu.specs.Codes.{number_of, is_same, is_group, slot_of};
+ghost use Rattle.osi_spdu.specs.Codes.{number_of, is_same, is_group, slot_of, every_code};
 ghost use Rattle.osi_spdu.specs.Reading.{code_among};
 
 /// A parameter or a parameter group of session units, by the code that names it (X.225 section 8).
@@ -114,9 +114,36 @@ impl Code {
     }
 }
 
-/// The code of this number, if it is in the list.
-pub(crate) fn code_among(codes: &[Code], number: u8) -> Option<Code>
-    ensures { result ≡ code_among codes.now number }
+/// The code of this number, if there is one.
+#[tactic(auto, using(crate::proofs::Lookup::unknown), unfolding(crate::specs::Codes::number_of))]
+pub(crate) fn code_numbered(number: u8) -> Option<Code>
+    ensures { result ≡ code_among every_code number }
 {
-    codes.iter().copied().find(|code| code.number() == number)
+    match number {
+        1 => Some(Code::ConnectionIdentifier),
+        5 => Some(Code::ConnectAcceptItem),
+        9 => Some(Code::CalledReference),
+        10 => Some(Code::CallingReference),
+        11 => Some(Code::CommonReference),
+        12 => Some(Code::AdditionalReference),
+        15 => Some(Code::SyncType),
+        16 => Some(Code::TokenItem),
+        17 => Some(Code::TransportDisconnect),
+        19 => Some(Code::ProtocolOptions),
+        20 => Some(Code::UserRequirements),
+        21 => Some(Code::TsduMaximumSize),
+        22 => Some(Code::Version),
+        23 => Some(Code::InitialNumber),
+        25 => Some(Code::Enclosure),
+        26 => Some(Code::TokenSetting),
+        27 => Some(Code::ResyncType),
+        42 => Some(Code::Number),
+        49 => Some(Code::Reflect),
+        50 => Some(Code::Reason),
+        51 => Some(Code::CallingSelector),
+        52 => Some(Code::CalledSelector),
+        193 => Some(Code::UserData),
+        194 => Some(Code::ExtendedUserData),
+        _ => None,
+    }
 }

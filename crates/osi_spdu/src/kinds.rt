@@ -1,9 +1,9 @@
 ghost use Rattle.std.specs.Prelude.{◌≡◌};
 ghost use Rattle.osi_spdu.specs.Kinds.{si_of, category_of, codes_of, members_of, references_of, required_of, may_stand, kind_named};
-ghost use Rattle.osi_spdu.specs.Reading.{takes_rest};
+ghost use Rattle.osi_spdu.specs.Reading.{takes_rest, code_among};
 ghost use Rattle.osi_spdu.specs.Writing.{among};
 
-use crate::codes::Code;
+use crate::codes::{Code, code_numbered};
 
 /// A session unit, by the name that X.225 section 8 gives it.
 #[derive(Clone, Copy, PartialEq, Eq, Debug)]
@@ -234,6 +234,108 @@ impl Kind {
                 Code::CommonReference,
                 Code::AdditionalReference,
             ],
+        }
+    }
+
+    /// Whether the unit knows the parameter or group, outside its groups.
+    fn knows(self, code: Code) -> bool
+        ensures { result ≡ among (codes_of self) code }
+    {
+        match code {
+            Code::ConnectionIdentifier | Code::UserRequirements => {
+                matches!(self, Kind::Refuse | Kind::Connect | Kind::Accept)
+            }
+            Code::ConnectAcceptItem | Code::CallingSelector | Code::CalledSelector => {
+                matches!(self, Kind::Connect | Kind::Accept)
+            }
+            Code::SyncType => matches!(self, Kind::MajorSyncPoint | Kind::MinorSyncPoint),
+            Code::TokenItem => {
+                matches!(self, Kind::GiveTokens | Kind::PleaseTokens | Kind::Accept)
+            }
+            Code::TransportDisconnect => {
+                matches!(self, Kind::Finish | Kind::Refuse | Kind::Abort)
+            }
+            Code::Version | Code::Reason => matches!(self, Kind::Refuse),
+            Code::Enclosure => !matches!(
+                self,
+                Kind::GiveTokens | Kind::PleaseTokens | Kind::Connect | Kind::AbortAccept
+            ),
+            Code::TokenSetting => matches!(self, Kind::ResynchronizeAck | Kind::Resynchronize),
+            Code::ResyncType => matches!(self, Kind::Resynchronize),
+            Code::Number => self.is_numbered(),
+            Code::Reflect => matches!(self, Kind::Abort),
+            Code::UserData => !matches!(
+                self,
+                Kind::GiveTokens | Kind::DataTransfer | Kind::Refuse | Kind::AbortAccept
+            ),
+            Code::ExtendedUserData => self.knows_extended(),
+            _ => false,
+        }
+    }
+
+    /// Whether the unit has the number of a synchronization point.
+    fn is_numbered(self) -> bool
+        ensures { result ≡ among (codes_of self) Code.Number }
+    {
+        matches!(
+            self,
+            Kind::ResynchronizeAck
+                | Kind::MajorSyncPoint
+                | Kind::MajorSyncAck
+                | Kind::MinorSyncPoint
+                | Kind::MinorSyncAck
+                | Kind::Resynchronize
+        )
+    }
+
+    /// Whether a group of the unit knows the parameter.
+    fn knows_in(self, group: Code, code: Code) -> bool
+        ensures { result ≡ among (members_of self group) code }
+    {
+        match group {
+            Code::ConnectionIdentifier => self.refers_by(code),
+            Code::ConnectAcceptItem => matches!(
+                code,
+                Code::ProtocolOptions
+                    | Code::TsduMaximumSize
+                    | Code::Version
+                    | Code::InitialNumber
+                    | Code::TokenSetting
+            ),
+            _ => false,
+        }
+    }
+
+    fn refers_by(self, code: Code) -> bool
+        ensures { result ≡ among (references_of self) code }
+    {
+        match code {
+            Code::CommonReference | Code::AdditionalReference => true,
+            Code::CallingReference => matches!(self, Kind::Connect),
+            Code::CalledReference => !matches!(self, Kind::Connect),
+            _ => false,
+        }
+    }
+
+    /// The parameter or group of this number, if the unit knows it outside its groups.
+    #[tactic(auto, using(crate::proofs::Lookup::looked_up))]
+    pub(crate) fn known(self, number: u8) -> Option<Code>
+        ensures { result ≡ code_among (codes_of self) number }
+    {
+        let code = code_numbered(number)?;
+        if self.knows(code) { Some(code) } else { None }
+    }
+
+    /// The parameter of this number, if a group of the unit knows it.
+    #[tactic(auto, using(crate::proofs::Lookup::looked_up))]
+    pub(crate) fn known_in(self, group: Code, number: u8) -> Option<Code>
+        ensures { result ≡ code_among (members_of self group) number }
+    {
+        let code = code_numbered(number)?;
+        if self.knows_in(group, code) {
+            Some(code)
+        } else {
+            None
         }
     }
 

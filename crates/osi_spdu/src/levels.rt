@@ -1,11 +1,12 @@
 //! Parameters of one level: of a unit, and of a group in it.
 
-ghost use Rattle.std.specs.Prelude.{◌≡◌, ◌≤◌, ◌<◌, ◌+◌, ◌^◌, ℕ, length, IfOk};
-ghost use Rattle.osi_spdu.specs.Reading.{Gives, counted_at, measured_at, parameter_at, stored, in_group, in_unit, params_of, all_there};
+ghost use Rattle.std.specs.Prelude.{◌≡◌, ◌≤◌, ◌<◌, ◌+◌, ◌^◌, length, IfOk};
+ghost use Rattle.osi_spdu.specs.Reading.{Gives, Taking, counted_at, measured_at, parameter_at, stored, in_group, in_unit, params_of, all_there};
+ghost use Rattle.osi_spdu.specs.Kinds.{members_of};
 ghost use Rattle.osi_spdu.specs.Params.{slots_of};
 ghost use Rattle.osi_spdu.specs.Counted.{measured_of, parameter_of};
 
-use crate::codes::{Code, code_among};
+use crate::codes::Code;
 use crate::faults::SpduFault;
 use crate::kinds::Kind;
 use crate::params::Params;
@@ -97,81 +98,93 @@ fn store<'a>(
     }
 }
 
-/// Takes a parameter of a group.
+/// What knows parameters: a unit, or a group in it.
+trait Level {
+    ghost taking: { Self → Taking };
+
+    /// Takes a parameter that stands at the offset; its value begins at `body`.
+    fn take<'a>(
+        &self,
+        at: usize,
+        body: usize,
+        code: u8,
+        value: &'a [u8],
+        params: &mut Params<'a>,
+    ) -> Result<(), SpduFault>
+        requires { body + length value.now < 2 ^ 64 }
+        ensures { Gives (λ _. slots_of params.new) result
+            (taking self.now at body code value.now (slots_of params.old)) };
+}
+
+/// What a group of a unit of this kind knows.
+#[derive(Clone, Copy)]
+struct OfGroup {
+    kind: Kind,
+    group: Code,
+}
+
+/// What a unit of this kind knows.
+#[derive(Clone, Copy)]
+struct OfUnit {
+    kind: Kind,
+}
+
 #[tactic(auto, unfolding(crate::specs::Reading::in_group))]
-fn take_member<'a>(
-    members: &[Code],
-    at: usize,
-    code: u8,
-    value: &'a [u8],
-    params: &mut Params<'a>,
-) -> Result<(), SpduFault>
-    ensures { (body : ℕ) → Gives (λ _. slots_of params.new) result
-        (in_group members.now at body code value.now (slots_of params.old)) }
-{
-    match code_among(members, code) {
-        None => Ok(()),
-        Some(code) => store(params, at, code, value),
+impl Level for OfGroup {
+    ghost taking = { λ g. in_group (members_of g.kind g.group) };
+
+    fn take<'a>(
+        &self,
+        at: usize,
+        _body: usize,
+        code: u8,
+        value: &'a [u8],
+        params: &mut Params<'a>,
+    ) -> Result<(), SpduFault> {
+        match self.kind.known_in(self.group, code) {
+            None => Ok(()),
+            Some(code) => store(params, at, code, value),
+        }
     }
 }
 
-/// Takes the parameters of a group.
-fn take_members<'a>(
-    members: &[Code],
-    at: usize,
-    octets: &'a [u8],
-    params: &mut Params<'a>,
-) -> Result<(), SpduFault>
-    requires { at + length octets.now < 2 ^ 64 }
-    ensures { Gives (λ _. slots_of params.new) result
-        (params_of (in_group members.now) at (slots_of params.old) octets.now) }
-{
-    let mut at = at;
-    let mut rest = octets;
-    'parameters: while !rest.is_empty() {
-        let parameter = parameter_at(at, rest)?;
-        let counted = parameter.counted;
-        take_member(members, at, parameter.code, counted.value, params)?;
-        at += 1 + counted.used + counted.value.len();
-        rest = counted.rest;
-    }
-    Ok(())
-}
-
-/// Takes a parameter or a group of a unit.
 #[tactic(auto, unfolding(crate::specs::Reading::in_unit))]
-fn take_parameter<'a>(
-    kind: Kind,
-    at: usize,
-    body: usize,
-    code: u8,
-    value: &'a [u8],
-    params: &mut Params<'a>,
-) -> Result<(), SpduFault>
-    requires { body + length value.now < 2 ^ 64 }
-    ensures { Gives (λ _. slots_of params.new) result
-        (in_unit kind at body code value.now (slots_of params.old)) }
-{
-    let Some(code) = code_among(kind.codes(), code) else {
-        return Ok(());
-    };
-    store(params, at, code, value)?;
-    if code.is_group() {
-        return take_members(kind.members(code), body, value, params);
+impl Level for OfUnit {
+    ghost taking = { λ u. in_unit u.kind };
+
+    fn take<'a>(
+        &self,
+        at: usize,
+        body: usize,
+        code: u8,
+        value: &'a [u8],
+        params: &mut Params<'a>,
+    ) -> Result<(), SpduFault> {
+        let Some(code) = self.kind.known(code) else {
+            return Ok(());
+        };
+        store(params, at, code, value)?;
+        if code.is_group() {
+            let group = OfGroup {
+                kind: self.kind,
+                group: code,
+            };
+            return take_all(&group, body, value, params);
+        }
+        Ok(())
     }
-    Ok(())
 }
 
-/// Takes the parameters and groups of a unit.
-fn take_all<'a>(
-    kind: Kind,
+/// Takes the parameters of a level.
+fn take_all<'a, L: Level>(
+    level: &L,
     at: usize,
     octets: &'a [u8],
     params: &mut Params<'a>,
 ) -> Result<(), SpduFault>
     requires { at + length octets.now < 2 ^ 64 }
     ensures { Gives (λ _. slots_of params.new) result
-        (params_of (in_unit kind) at (slots_of params.old) octets.now) }
+        (params_of (L.taking level.now) at (slots_of params.old) octets.now) }
 {
     let mut at = at;
     let mut rest = octets;
@@ -179,14 +192,14 @@ fn take_all<'a>(
         let parameter = parameter_at(at, rest)?;
         let counted = parameter.counted;
         let body = at + (1 + counted.used);
-        take_parameter(kind, at, body, parameter.code, counted.value, params)?;
+        level.take(at, body, parameter.code, counted.value, params)?;
         at += 1 + counted.used + counted.value.len();
         rest = counted.rest;
     }
     Ok(())
 }
 
-/// Takes the parameters and groups of a unit, of which there may be none: most units have none.
+/// Takes the parameters and groups of a unit. Most units have none.
 #[inline(always)]
 pub(crate) fn take_parameters<'a>(
     kind: Kind,
@@ -201,7 +214,7 @@ pub(crate) fn take_parameters<'a>(
     if octets.is_empty() {
         return Ok(());
     }
-    take_all(kind, at, octets, params)
+    take_all(&OfUnit { kind }, at, octets, params)
 }
 
 /// Whether the parameters that a unit must have are there.

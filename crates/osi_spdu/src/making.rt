@@ -29,6 +29,7 @@ pub struct Terms {
     pub user_requirements: Requirements,
 }
 
+#[tactic(auto, unfolding(crate::specs::Writing::is_formed, crate::specs::Writing::is_joined, crate::specs::Params::known_of, crate::specs::Params::slots_of, crate::specs::Params::cells_of, crate::specs::Params::place_of, crate::specs::Codes::number_of, crate::specs::Kinds::codes_of, crate::specs::Kinds::members_of, crate::specs::Kinds::required_of, crate::specs::Kinds::category_of, crate::specs::Kinds::may_stand))]
 impl<'a> Spdu<'a> {
     ghost use Rattle.osi_spdu.specs.Units.{said_by};
 

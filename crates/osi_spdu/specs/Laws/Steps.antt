@@ -37,10 +37,11 @@ none_is o e = ap is_some e
 
 -- ---- codes
 
-abbrev named : ℕ → Option Code
+-- the code of a number
+abbrev pub named : ℕ → Option Code
 named n = find (λ c. eqb (number_of c) n) every_code
 
-named_back : (c : Code) → named (number_of c) ≡ Some c
+pub named_back : (c : Code) → named (number_of c) ≡ Some c
 unfolding number_of
 named_back ConnectionIdentifier = refl
 named_back ConnectAcceptItem = refl

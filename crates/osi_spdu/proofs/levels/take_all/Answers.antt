@@ -1,33 +1,32 @@
 use Rattle.std.proofs.Common.{◌≡◌, ◌∙◌, length, sym, arith}
 use Rattle.std.proofs.lemmas.Bool.{eqb-true, eqb-false}
 use Rattle.std.proofs.lemmas.Result.{err_from_is_err_and}
-use Rattle.osi_spdu.specs.Reading.{in_unit}
 use Rattle.osi_spdu.specs.Params.{slots_of}
 use Rattle.osi_spdu.specs.Counted.{measured_of}
 use Rattle.osi_spdu.proofs.Loops.{taking_next, taking_fault, taking_refused, taking_end}
 use Rattle.osi_spdu.proofs.levels.take_all.Goals as goal
 
 pub returns-in_err-parameter : goal.returns-in_err-parameter
-returns-in_err-parameter c =
+returns-in_err-parameter g c =
     let p = err_from_is_err_and c.from_residual.result c.from_residual.ensures.1 in
     let some : length c.parameters.rest.now ≡ 0 → ⊥ = eqb-false (length c.parameters.rest.now) 0 (sym c.is_empty.ensures ∙ c.parameters-test.true) in
-    rw (p.1, p.2) (taking_fault (in_unit c.args.kind) c.parameters.at (slots_of c.parameters.params) c.parameters.rest.now c.args.at (slots_of c.args.params.now) c.args.octets.now
+    rw (p.1, p.2) (taking_fault (g.L.Level.taking c.args.level.now) c.parameters.at (slots_of c.parameters.params) c.parameters.rest.now c.args.at (slots_of c.args.params.now) c.args.octets.now
     c.in_err-parameter.field-0.0 (omega arith) c.in_err-parameter.ensures.value c.parameters.invariant)
 
-pub returns-in_err-take_parameter : goal.returns-in_err-take_parameter
-returns-in_err-take_parameter c =
-    let p = err_from_is_err_and c.from_residual-in_err-take_parameter.result c.from_residual-in_err-take_parameter.ensures.1 in
+pub returns-in_err-take : goal.returns-in_err-take
+returns-in_err-take g c =
+    let p = err_from_is_err_and c.from_residual-in_err-take.result c.from_residual-in_err-take.ensures.1 in
     let m = measured_of c.in_ok-parameter.parameter.counted in
-    rw (p.1, p.2) (taking_refused (in_unit c.args.kind) c.parameters.at c.in_ok-parameter.parameter.code m (slots_of c.parameters.params) c.parameters.rest.now c.args.at (slots_of c.args.params.now) c.args.octets.now
-    c.in_err-take_parameter.field-0.0 c.in_ok-parameter.ensures.value (c.in_err-take_parameter.ensures) c.parameters.invariant)
+    rw (p.1, p.2) (taking_refused (g.L.Level.taking c.args.level.now) c.parameters.at c.in_ok-parameter.parameter.code m (slots_of c.parameters.params) c.parameters.rest.now c.args.at (slots_of c.args.params.now) c.args.octets.now
+    c.in_err-take.field-0.0 c.in_ok-parameter.ensures.value (c.in_err-take.ensures) c.parameters.invariant)
 
 pub parameters-preserved : goal.parameters-preserved
-parameters-preserved c =
+parameters-preserved g c =
     let m = measured_of c.in_ok-parameter.parameter.counted in
-    taking_next (in_unit c.args.kind) c.parameters.at c.in_ok-parameter.parameter.code m (slots_of c.parameters.params) (slots_of c.take_parameter.new.params) c.parameters.rest.now c.args.at (slots_of c.args.params.now) c.args.octets.now
-    c.in_ok-parameter.ensures.value c.in_ok-parameter.ensures.whole (c.in_ok-take_parameter.ensures) c.parameters.invariant
+    taking_next (g.L.Level.taking c.args.level.now) c.parameters.at c.in_ok-parameter.parameter.code m (slots_of c.parameters.params) (slots_of c.take.new.params) c.parameters.rest.now c.args.at (slots_of c.args.params.now) c.args.octets.now
+    c.in_ok-parameter.ensures.value c.in_ok-parameter.ensures.whole (c.in_ok-take.ensures) c.parameters.invariant
 
 pub returns : goal.returns
-returns c =
-    taking_end (in_unit c.args.kind) c.parameters.at (slots_of c.parameters.params) c.parameters.rest.now c.args.at (slots_of c.args.params.now) c.args.octets.now
+returns g c =
+    taking_end (g.L.Level.taking c.args.level.now) c.parameters.at (slots_of c.parameters.params) c.parameters.rest.now c.args.at (slots_of c.args.params.now) c.args.octets.now
     (eqb-true (length c.parameters.rest.now) 0 (sym c.is_empty.ensures ∙ c.parameters-test.false)) c.parameters.invariant
