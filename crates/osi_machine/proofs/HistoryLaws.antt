@@ -1,6 +1,6 @@
 -- Histories: their points, and what a restart leaves of them.
-use Rattle.std.proofs.Common.{◌≡◌, refl, ap, ℕ, zero, suc, ◌+◌, ◌-◌, ◌≤◌, List, [], ◌∷◌, ◌++◌, arith}
-use Rattle.osi_machine.specs.Histories.{Item, Octets, Point, points, upto, cutat, AreNumberedFrom}
+use Rattle.std.proofs.Common.{◌≡◌, refl, sym, ◌∙◌, ap, ℕ, zero, suc, ◌+◌, ◌-◌, ◌≤◌, List, [], ◌∷◌, ◌++◌, arith}
+use Rattle.osi_machine.specs.Histories.{Item, Octets, Point, PointKind, points, upto, cutat, AreNumberedFrom}
 
 pub points_append : (h k : List Item) → points (h ++ k) ≡ points h + points k
 points_append [] k = omega arith
@@ -52,3 +52,25 @@ cut_append base n h more v e c =
     let p = ap points e in
     let q = points_below (n - base) h in
     upto_append (n - base) h more (omega arith)
+
+-- ---- how many points are left
+
+pub points_upto_least : (k : ℕ) (h : List Item) → points (upto k h) ≡ k - (k - points h)
+points_upto_least zero h = omega arith
+points_upto_least (suc k) [] = omega arith
+points_upto_least (suc k) (Octets octets ∷ h) = points_upto_least (suc k) h
+points_upto_least (suc k) (Point n kind octets ∷ h) = let e = points_upto_least k h in omega arith
+
+-- a restart leaves as many points of what has as many
+pub cut_points : (a b n : ℕ) (g h : List Item) → a ≡ b → points g ≡ points h → points (cutat a g n) ≡ points (cutat b h n)
+cut_points a b n g h e q =
+    ap (λ (x : ℕ). points (cutat x g n)) e ∙ points_upto_least (n - b) g ∙ ap (λ (x : ℕ). (n - b) - ((n - b) - x)) q ∙ sym (points_upto_least (n - b) h)
+
+pub one_point_more : (m n : ℕ) (t v : List Item) (k : PointKind) (octets : List ℕ) → points t ≡ points v → points (t ++ Point m k octets ∷ []) ≡ points (v ++ Point n k octets ∷ [])
+one_point_more m n t v k octets e =
+    let a = points_append t (Point m k octets ∷ []) in
+    let b = points_append v (Point n k octets ∷ []) in
+    omega arith
+
+pub no_point_more : (t : List Item) (octets : List ℕ) → points (t ++ Octets octets ∷ []) ≡ points t
+no_point_more t octets = let a = points_append t (Octets octets ∷ []) in omega arith

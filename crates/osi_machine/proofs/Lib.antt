@@ -1,6 +1,7 @@
 pub mod AcceptCall
 pub mod Acting
 pub mod Alive
+pub mod Apart
 pub mod Begun
 pub mod ChannelLaws
 pub mod ConfirmCall
@@ -14,10 +15,12 @@ pub mod GiveCall
 pub mod Heard
 pub mod HistoryLaws
 pub mod Idle
+pub mod ItemLaws
 pub mod Lines
 pub mod LinesRun
 pub mod MachineLaws
 pub mod NumberLaws
+pub mod OffersTold
 pub mod Opening
 pub mod Passed
 pub mod PhaseLaws
@@ -45,6 +48,11 @@ pub mod Settled
 pub mod Shift
 pub mod ShiftCall
 pub mod Starts
+pub mod TableLines
+pub mod TableMessages
+pub mod TablePromises
+pub mod TableRuns
+pub mod TableSeats
 pub mod TakeAnswers
 pub mod TakeIdle
 pub mod TakeMoves

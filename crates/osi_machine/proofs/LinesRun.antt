@@ -5,8 +5,8 @@ use Rattle.osi_session.specs.declared.faults.CallError.TheVariants as error
 use Rattle.osi_session.specs.Shown.{Shown}
 use Rattle.osi_machine.specs.Floor.{CallError, Call, HasSerial, allowed, is_profile}
 use Rattle.osi_machine.specs.Core.{Offer, Side, Left, Right}
-use Rattle.osi_machine.specs.Worlds.{Class, class_0, class_2, Message, World, session_of, asked_with, after_answer, Terms, closed, ended_at, shown_at_end}
-use Rattle.osi_machine.specs.Machine.{Ending, closed_here, Refusal, Step, connects, calls, delivers, breaks, ends, Entry, connect_answered, call_answered, shown_at, ended, Machine, start, connection_at, replaced, seen_from, end_of, stays, noted, is_given, is_waiting, is_known, is_class_0, live_count, refusal, asked_in, error_of, call_in, side_of, ended_worlds, shown_in_order, marked_ended, after_end, closes_by, after_taking, learns, taken_in, delivered_to, cut_channels, is_told, step, run, HasNumber}
+use Rattle.osi_machine.specs.Worlds.{Class, class_0, class_2, Message, Transport, World, session_of, asked_with, after_answer, Terms, closed, ended_at, shown_at_end}
+use Rattle.osi_machine.specs.Machine.{Ending, closed_here, Refusal, Step, connects, calls, delivers, breaks, ends, Entry, connect_answered, call_answered, shown_at, ended, Machine, start, connection_at, replaced, seen_from, end_of, stays, noted, is_given, is_waiting, is_known, is_class_0, live_count, refusal_by, transport_of, refusal, asked_in, error_of, call_in, side_of, ended_worlds, shown_in_order, marked_ended, after_end, closes_by, after_taking, learns, taken_in, delivered_to, cut_channels, is_told, step, run, HasNumber}
 use Rattle.osi_machine.specs.Views.{Told, told_by, is_side, record_of, untold, told_of}
 use Rattle.osi_machine.proofs.Idle.{append_nil}
 use Rattle.osi_machine.proofs.ViewFold.{told_all}
@@ -111,7 +111,7 @@ append_line P b j k (v ∷ ws) (p ∷ os) w o h l =
 append_line P b j k [] (p ∷ os) w o h l = absurd l
 append_line P b j k (v ∷ ws) [] w o h l = absurd l
 
-if_none : (b : Bool) (e : Refusal) (x : Option Refusal) → (if b then Some e else x) ≡ None → (b ≡ false) × (x ≡ None)
+pub if_none : (b : Bool) (e : Refusal) (x : Option Refusal) → (if b then Some e else x) ≡ None → (b ≡ false) × (x ≡ None)
 if_none true e x h = absurd (cc)
 if_none false e x h = (refl, h)
 
@@ -119,13 +119,13 @@ not_false : (b : Bool) → not b ≡ false → b ≡ true
 not_false true h = refl
 not_false false h = absurd (cc)
 
-asked_profile : (m : Machine) (o : Offer) → refusal m o ≡ None → is_profile o.requirements ≡ true
-asked_profile m o h =
-    let a = if_none (is_some m.left_end) _ _ h in
-    let b = if_none (not (is_known m.known) && list_any (λ (w : World). is_waiting w.own.transport) m.worlds) _ _ a.1 in
-    let c = if_none (is_class_0 m.known) _ _ b.1 in
-    let d = if_none (nat_le 64 (live_count m.worlds)) _ _ c.1 in
-    let e = if_none (nat_le 65535 (length m.worlds)) _ _ d.1 in
+asked_profile : (ended_now : Bool) (known : Option Class) (asked : List Transport) (o : Offer) → refusal_by ended_now known asked o ≡ None → is_profile o.requirements ≡ true
+asked_profile ended_now known asked o h =
+    let a = if_none ended_now _ _ h in
+    let b = if_none (not (is_known known) && list_any is_waiting asked) _ _ a.1 in
+    let c = if_none (is_class_0 known) _ _ b.1 in
+    let d = if_none (nat_le 64 (live_count asked)) _ _ c.1 in
+    let e = if_none (nat_le 65535 (length asked)) _ _ d.1 in
     not_false (is_profile o.requirements) (if_none (not (is_profile o.requirements)) _ _ e.1).0
 
 asked_good : (terms : Terms) (P : Bool → World → Offer → Told → Told → Type 0) → IsKept terms P → (m : Machine) (o : Offer) → o.serial < 1000000 → IsGood terms P m
@@ -143,8 +143,8 @@ asked_good terms P k m o small g None h = record {
     new b = if b then record (asked_with o) { own = record (asked_with o).own { channel = [] } } else asked_with o
 
     by : (b : Bool) → P b (if b then record (asked_with o) { own = record (asked_with o).own { channel = [] } } else asked_with o) o (untold Left o) (untold Right o)
-    by true = k.lost o small (asked_profile m o h)
-    by false = k.starts o small (asked_profile m o h)
+    by true = k.lost o small (asked_profile (is_some m.left_end) m.known (map transport_of m.worlds) o h)
+    by false = k.starts o small (asked_profile (is_some m.left_end) m.known (map transport_of m.worlds) o h)
 
 -- ---- a call
 

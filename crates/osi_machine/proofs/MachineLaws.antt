@@ -1,8 +1,8 @@
 -- What the records of both sides tell after every list of steps of the machine.
-use Rattle.std.proofs.Common.{◌≡◌, refl, sym, ◌∙◌, ap, subst, ℕ, zero, suc, ◌+◌, ◌<◌, Bool, true, false, not, ◌&&◌, ◌||◌, List, [], ◌∷◌, ◌++◌, Option, Some, None, inl, inr, arith}
+use Rattle.std.proofs.Common.{◌≡◌, refl, sym, ◌∙◌, ap, subst, ℕ, zero, suc, ◌+◌, ◌<◌, Bool, true, false, not, ◌&&◌, ◌||◌, List, [], ◌∷◌, ◌++◌, length, Option, Some, None, inl, inr, arith}
 use Rattle.std.specs.List.{slice_get}
 use Rattle.osi_machine.specs.Floor.{has, is_over, FunctionalUnits}
-use Rattle.osi_machine.specs.Histories.{Item, Point, Begins, Agree}
+use Rattle.osi_machine.specs.Histories.{Item, Point, PointKind, points, Begins, Agree}
 use Rattle.osi_machine.specs.Owners.{turned_owner, is_own}
 use Rattle.osi_machine.specs.Core.{Offer, Left, Right, Core, turned as turned_core}
 use Rattle.osi_machine.specs.Parties.{is_opening}
@@ -15,7 +15,9 @@ use Rattle.osi_machine.proofs.Records.{Stands}
 use Rattle.osi_machine.proofs.Tokens.{has_set}
 use Rattle.osi_machine.proofs.Alive.{alive}
 use Rattle.osi_machine.proofs.Begun.{flush_open}
-use Rattle.osi_machine.proofs.Promises.{one_owner, views_agree, got_what_was_said, confirmed_is_seen, none_in_nil}
+use Rattle.osi_machine.proofs.Promises.{one_owner, views_agree, got_what_was_said, confirmed_is_seen, none_in_nil, sees_the_history}
+use Rattle.osi_machine.proofs.HistoryLaws.{points_append}
+use Rattle.osi_machine.proofs.Heard.{begins_points}
 use Rattle.osi_machine.proofs.ViewFold.{Tells}
 use Rattle.osi_machine.proofs.Dispatch.{turned_stands}
 use Rattle.osi_machine.proofs.Lines.{Lines}
@@ -25,7 +27,7 @@ use Rattle.osi_machine.proofs.Whole.{Stage, Whole, whole_kept}
 
 -- ---- one connection of a run
 
-line_at : (b : Bool) (j : List Entry) (k r : ℕ) (ws : List World) (os : List Offer) (w : World) → slice_get ws r ≡ Some w → Lines Whole b j k ws os
+pub line_at : (b : Bool) (j : List Entry) (k r : ℕ) (ws : List World) (os : List Offer) (w : World) → slice_get ws r ≡ Some w → Lines Whole b j k ws os
     → Stage b w (told_of Left (k + r) w.offer j) (told_of Right (k + r) w.offer j)
 line_at b j k r [] os w e h = absurd (cc)
 line_at b j k zero (v ∷ ws) (o ∷ os) w e h =
@@ -44,7 +46,7 @@ line_at b j k (suc r) (v ∷ ws) (o ∷ os) w e h =
 line_at b j k zero (v ∷ ws) [] w e h = absurd h
 line_at b j k (suc r) (v ∷ ws) [] w e h = absurd h
 
-stage_at : SessionLaws → (m : Machine) → IsRun m → (r : ℕ) (w : World) → connection_at r m.worlds ≡ Some w
+pub stage_at : SessionLaws → (m : Machine) → IsRun m → (r : ℕ) (w : World) → connection_at r m.worlds ≡ Some w
     → Stage m.broken w (told_of Left r w.offer m.journal) (told_of Right r w.offer m.journal)
 stage_at laws m h zero w e = absurd (cc)
 stage_at laws m h (suc r) w e =
@@ -139,24 +141,62 @@ shown_as_asked b w s t (inr (inr h)) = (
 
 -- ---- what is confirmed
 
+nil_begins : (v : List Item) → Begins v [] → v ≡ []
+nil_begins [] b = refl
+nil_begins (i ∷ v) b = absurd (let e = ap length b.1 in omega arith)
+
+-- with duplex a side sees nothing of the history
+duplex_view : (c : Core) → Stands c → is_opening c.own.session.phase ≡ false → c.own.session.units.duplex ≡ true → c.own.view ≡ []
+duplex_view c s e d =
+    let units = (flush_open c.own.session c.peer.sent e s.own.fits).units in
+    nil_begins c.own.view (subst (Begins c.own.view) (s.own_views.stream (ap (λ (u : FunctionalUnits). u.duplex) units ∙ d)).1 (sees_the_history c s))
+
+pointed : (before v : List Item) (n : ℕ) (kind : PointKind) (octets : List ℕ) → Begins (before ++ Point n kind octets ∷ []) v → points v ≡ 0 → ⊥
+pointed before v n kind octets b e =
+    let more = begins_points (before ++ Point n kind octets ∷ []) v b in
+    let one = points_append before (Point n kind octets ∷ []) in
+    omega arith
+
+-- a record that tells a point is of a side without duplex
+told_point : (t : Told) (c : Core) → Stands c → Tells t c.own.session c.own.view c.own.said c.own.got → (before : List Item) (n : ℕ) (kind : PointKind) (octets : List ℕ)
+    → Begins (before ++ Point n kind octets ∷ []) t.view → (is_opening c.own.session.phase ≡ false) × (c.own.session.units.duplex ≡ false)
+told_point t c s h before n kind octets b = by (is_opening c.own.session.phase) (c.own.session.units.duplex) refl refl
+  where
+    by : (o d : Bool) → is_opening c.own.session.phase ≡ o → c.own.session.units.duplex ≡ d → (is_opening c.own.session.phase ≡ false) × (c.own.session.units.duplex ≡ false)
+    by true d e f = absurd (none_in_nil before (Point n kind octets) (subst (Begins (before ++ Point n kind octets ∷ [])) (h.fresh e) b))
+    by false true e f = absurd (pointed before t.view n kind octets b (h.pointed ∙ ap points (duplex_view c s e f)))
+    by false false e f = (e, f)
+
+-- and the record of the other then tells what the other has seen
+other_view : (t : Told) (c : Core) → Stands c → Tells t c.peer.session c.peer.view c.peer.said c.peer.got → is_opening c.own.session.phase ≡ false → c.own.session.units.duplex ≡ false
+    → t.view ≡ c.peer.view
+other_view t c s h e d = by (is_opening c.peer.session.phase) refl
+  where
+    by : (b : Bool) → is_opening c.peer.session.phase ≡ b → t.view ≡ c.peer.view
+    by true f = h.fresh f ∙ sym (s.consistent.peer.fresh f).view
+    by false f =
+        let units = sym (flush_open c.peer.session c.own.sent f s.peer.fits).units ∙ sym s.own.meeting.units ∙ (flush_open c.own.session c.peer.sent e s.own.fits).units in
+        h.view (ap (λ (u : FunctionalUnits). u.duplex) units ∙ d)
+
 pub confirmed_there : (b : Bool) (w : World) (s t : Told) → Stage b w s t → ConfirmedThere w s t
-confirmed_there b w s t (inl h) d e before n kind octets p q r =
+confirmed_there b w s t (inl h) before n kind octets p q r =
     absurd (none_in_nil before (Point n kind octets) (subst (Begins (before ++ Point n kind octets ∷ [])) (ap (λ (x : Told). x.view) h.own_told) p))
-confirmed_there b w s t (inr (inl h)) d e before n kind octets p q r =
+confirmed_there b w s t (inr (inl h)) before n kind octets p q r =
     absurd (none_in_nil before (Point n kind octets) (subst (Begins (before ++ Point n kind octets ∷ [])) (ap (λ (x : Told). x.view) h.peer_told) p))
-confirmed_there b w s t (inr (inr h)) d e before n kind octets p q r =
-    subst (Begins (before ++ Point n kind octets ∷ [])) (sym (turned_view t h.core (turned_stands h.core h.stands) h.peer e))
+confirmed_there b w s t (inr (inr h)) before n kind octets p q r =
+    let k = told_point s h.core h.stands h.own before n kind octets p in
+    subst (Begins (before ++ Point n kind octets ∷ [])) (sym (other_view t h.core h.stands h.peer k.0 k.1))
     (confirmed_is_seen h.core h.stands before n kind octets
-    (subst (Begins (before ++ Point n kind octets ∷ [])) (told_view s h.core h.stands h.own d) p)
-    (subst (λ (k : ℕ). n < k) h.projects.own.acked q)
+    (subst (Begins (before ++ Point n kind octets ∷ [])) (h.own.view k.1) p)
+    (subst (λ (k : ℕ). n < k) h.projects.own.counted.acked q)
     (sym h.peer.asking ∙ r))
 
 turned_stage_of : (b : Bool) (w : World) (s t : Told) → Stage b w s t → ConfirmedThere (turned w) t s
-turned_stage_of b w s t (inl h) d e before n kind octets p q r =
+turned_stage_of b w s t (inl h) before n kind octets p q r =
     absurd (none_in_nil before (Point n kind octets) (subst (Begins (before ++ Point n kind octets ∷ [])) (ap (λ (x : Told). x.view) h.peer_told) p))
-turned_stage_of b w s t (inr (inl h)) d e before n kind octets p q r =
+turned_stage_of b w s t (inr (inl h)) before n kind octets p q r =
     absurd (none_in_nil before (Point n kind octets) (subst (Begins (before ++ Point n kind octets ∷ [])) (ap (λ (x : Told). x.view) h.own_told) p))
-turned_stage_of b w s t (inr (inr h)) d e before n kind octets p q r = confirmed_there b (turned w) t s (inr (inr (turned_repeats b w s t h))) d e before n kind octets p q r
+turned_stage_of b w s t (inr (inr h)) before n kind octets p q r = confirmed_there b (turned w) t s (inr (inr (turned_repeats b w s t h))) before n kind octets p q r
 
 -- ---- of each connection of each run
 

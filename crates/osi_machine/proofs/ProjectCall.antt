@@ -1,5 +1,5 @@
 -- A call at a whole connection, and in the core.
-use Rattle.std.proofs.Common.{◌≡◌, refl, sym, ◌∙◌, ap, subst, ℕ, ◌+◌, ◌≤◌, Bool, true, false, not, ◌||◌, if◌then◌else◌, List, [], ◌∷◌, ◌++◌, append_assoc, map, length, ◌⊎◌, inl, inr, Ok}
+use Rattle.std.proofs.Common.{◌≡◌, refl, sym, ◌∙◌, ap, subst, ℕ, ◌+◌, ◌≤◌, Bool, true, false, not, ◌||◌, if◌then◌else◌, List, [], ◌∷◌, ◌++◌, append_assoc, map, length, ◌⊎◌, inl, inr, Ok, arith}
 use Rattle.std.proofs.lemmas.List.{length-append, map-append}
 use Rattle.std.specs.List.{list_any}
 use Rattle.osi_machine.specs.Floor.{State, Meaning, Token, has, is_over, Call, Accept, Refuse, Give, Major, MajorConfirm, Restart, RestartConfirm, Release, ReleaseAccept, ReleaseRefuse, Abort, Granted, allowed, after, sends, may_call, Numbers}
@@ -98,7 +98,7 @@ left_theirs s o t = by (is_over s.phase)
     by true = sym (given_theirs (o t))
     by false = refl
 
-own_gone : (p : Owner) → is_own (own_to_pool p) ≡ false
+pub own_gone : (p : Owner) → is_own (own_to_pool p) ≡ false
 own_gone Own = refl
 own_gone Theirs = refl
 own_gone ToOwn = refl
@@ -174,7 +174,7 @@ called_own broken w c x k lives p s q =
     let now = call_lives s' x k (ap (λ (r : Kept). is_over r.phase) (sym a.kept) ∙ lives) in
     record {
       begun = p.own.begun;
-      acked = refl;
+      counted = record { acked = refl; based = refl; marked = marked c x w.history w.own.mark s q p.history a.mark };
       alike = λ l. record {
         transport = a.transport;
         kept = refl;
@@ -200,7 +200,7 @@ called_peer broken w c x k lives p =
     let now = call_lives s' x k (ap (λ (r : Kept). is_over r.phase) (sym own.kept) ∙ lives) in
     record {
       begun = p.peer.begun;
-      acked = p.peer.acked;
+      counted = p.peer.counted;
       alike = λ l.
           let a = p.peer.alike l in
           record {
@@ -260,6 +260,18 @@ stop_numbers s (ReleaseAccept x) k = refl
 stop_numbers s (Abort x) k = refl
 stop_numbers s _ k = absurd (cc)
 
+stop_base : (s : State) (c : Call) → stays_in_core c ≡ false → (after s c).base ≡ s.base
+stop_base s (Refuse x) k = refl
+stop_base s (ReleaseAccept x) k = refl
+stop_base s (Abort x) k = refl
+stop_base s _ k = absurd (cc)
+
+stop_mark : (s : State) (c : Call) (h : List Item) (mark : ℕ) → stays_in_core c ≡ false → mark_called s c h mark ≡ mark
+stop_mark s (Refuse x) h mark k = omega arith
+stop_mark s (ReleaseAccept x) h mark k = omega arith
+stop_mark s (Abort x) h mark k = omega arith
+stop_mark s _ h mark k = absurd (cc)
+
 pub stop_projects : (broken : Bool) (w : World) (c : Core) (x : Call) (g : Granted) → stays_in_core x ≡ false → stopped w.own ≡ false → Projects broken w c
     → allowed c.own.session x ≡ Ok g → Projects broken (after_call broken c.own.session x g w) c
 stop_projects broken w c x g k lives p e =
@@ -268,10 +280,14 @@ stop_projects broken w c x g k lives p e =
     let now = stop_over s' x k in
     subst (λ (r : Granted). Projects broken (after_call broken s' x r w) c) (sym q.gives) (record {
       history = ap (λ (d : List Item). w.history ++ d) (stop_silent s' x k) ∙ append_nil w.history ∙ p.history;
-      own = over_side broken (after_call broken s' x (granted s' x) w) c p.own.begun now (ap (λ (v : Numbers). v.confirmed) (stop_numbers s' x k));
+      own = over_side broken (after_call broken s' x (granted s' x) w) c p.own.begun now (record {
+        acked = ap (λ (v : Numbers). v.confirmed) (stop_numbers s' x k);
+        based = stop_base s' x k;
+        marked = stop_mark s' x w.history w.own.mark k ∙ p.own.counted.marked;
+      });
       peer = record {
         begun = p.peer.begun;
-        acked = p.peer.acked;
+        counted = p.peer.counted;
         alike = λ l.
             let a = p.peer.alike l in
             record {

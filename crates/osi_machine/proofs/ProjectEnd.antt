@@ -82,7 +82,7 @@ cut_side : (k j : ℕ) (broken : Bool) (w : World) (c : Core) → OneSide broken
     → OneSide true (record w { own = record w.own { channel = take k w.own.channel }; peer = record w.peer { channel = take j w.peer.channel } }) c
 cut_side k j broken w c h = record {
   begun = h.begun;
-  acked = h.acked;
+  counted = h.counted;
   alike = λ l. let a = h.alike l in record { transport = a.transport; kept = a.kept; mark = a.mark; said = a.said; got = a.got; owns = a.owns };
   carried = λ l. carried_cut j broken true (stopped w.peer) (stopped w.peer) w.peer.channel c.peer.sent c.peer.session (λ e. e) (or_true (stopped w.peer)) (h.carried l);
   parted = λ l. none_parts k w.own.channel (h.parted l);
@@ -102,7 +102,7 @@ break_projects k j broken w c p = record {
 ended_peer : (k : ℕ) (broken : Bool) (w : World) (c : Core) → OneSide broken (turned_world w) (turned c) → OneSide broken (turned_world (ended_at k w)) (turned c)
 ended_peer k broken w c h = record {
   begun = h.begun;
-  acked = h.acked;
+  counted = h.counted;
   alike = λ l.
       let a = h.alike l in
       record {
@@ -120,7 +120,7 @@ ended_peer k broken w c h = record {
 pub end_projects : (k : ℕ) (broken : Bool) (w : World) (c : Core) → Projects broken w c → Projects broken (ended_at k w) c
 end_projects k broken w c p = record {
   history = p.history;
-  own = over_side broken (ended_at k w) c refl refl p.own.acked;
+  own = over_side broken (ended_at k w) c refl refl p.own.counted;
   peer = ended_peer k broken w c p.peer;
 }
 
@@ -167,7 +167,7 @@ popped_peer : (broken : Bool) (w : World) (c : Core) (m : Message) (ms : List Me
     → OneSide broken (turned_world (without_first w ms)) (turned c)
 popped_peer broken w c m ms h e = record {
   begun = h.begun;
-  acked = h.acked;
+  counted = h.counted;
   alike = λ l. let a = h.alike l in record { transport = a.transport; kept = a.kept; mark = a.mark; said = a.said; got = a.got; owns = a.owns };
   carried = h.carried;
   parted = λ l. (or_parts (parts m) (list_any parts ms) (ap (list_any parts) (sym e) ∙ h.parted l)).1;
@@ -178,18 +178,18 @@ pub popped_projects : (broken : Bool) (w : World) (c : Core) (m : Message) (ms :
     → Projects broken (without_first w ms) c
 popped_projects broken w c m ms p o e = record {
   history = p.history;
-  own = over_side broken (without_first w ms) c p.own.begun o p.own.acked;
+  own = over_side broken (without_first w ms) c p.own.begun o p.own.counted;
   peer = popped_peer broken w c m ms p.peer e;
 }
 
 -- ---- a close, at a side that is over and from a side that is over
 
 pub closed_projects : (broken : Bool) (k : ℕ) (w : World) (c : Core) → Projects broken w c → stopped w.own ≡ true → stopped w.peer ≡ true → Projects broken (closed broken k w) c
-closed_projects broken k w c p o d = both_over broken (closed broken k w) c p.history refl o p.peer.begun d p.own.acked p.peer.acked
+closed_projects broken k w c p o d = both_over broken (closed broken k w) c p.history refl o p.peer.begun d p.own.counted p.peer.counted
 
 -- a bye is taken by a side whose transport connection is open
 pub bye_projects : (broken : Bool) (k : ℕ) (w : World) (c : Core) (reason : ℕ) (ms : List Message) → Projects broken w c → w.peer.channel ≡ bye reason ∷ ms
     → Projects broken (moved broken gone (lost (session_of (without_first w ms))).next (over ∷ []) (shortened k (without_first w ms))) c
 bye_projects broken k w c reason ms p e =
     both_over broken (moved broken gone (lost (session_of (without_first w ms))).next (over ∷ []) (shortened k (without_first w ms))) c p.history refl refl p.peer.begun
-    (parting_over broken w c (bye reason) ms p e refl) p.own.acked p.peer.acked
+    (parting_over broken w c (bye reason) ms p e refl) p.own.counted p.peer.counted

@@ -1,13 +1,13 @@
 -- The last unit of a side that is over is taken, and a side that is over takes a unit.
-use Rattle.std.proofs.Common.{◌≡◌, refl, sym, ◌∙◌, ap, subst, Bool, true, false, not, ◌&&◌, ◌||◌, if◌then◌else◌, List, [], ◌∷◌}
+use Rattle.std.proofs.Common.{◌≡◌, ℕ, refl, sym, ◌∙◌, ap, subst, Bool, true, false, not, ◌&&◌, ◌||◌, if◌then◌else◌, List, [], ◌∷◌}
 use Rattle.std.specs.List.{list_any}
-use Rattle.osi_machine.specs.Floor.{State, Meaning, CN, AC, RF, DT, GT, PT, MIP, MIA, MAP, MAA, RS, RA, FN, DN, NF, AB, AA, Outcome, nothing, good, is_over, is_aborting, is_ended, in_aborting, in_ended, is_wait_cn, is_connecting, is_answering, is_ready, is_major_asked, is_releasing, is_release_due, is_restarting, may_ask, takes_data, takes_please, takes_minor_ack, is_expected, respond_unit, stands, next, becomes}
+use Rattle.osi_machine.specs.Floor.{State, Ended, without_tokens, Meaning, CN, AC, RF, DT, GT, PT, MIP, MIA, MAP, MAA, RS, RA, FN, DN, NF, AB, AA, Outcome, nothing, good, is_over, is_aborting, is_ended, in_aborting, in_ended, is_wait_cn, is_connecting, is_answering, is_ready, is_major_asked, is_releasing, is_release_due, is_restarting, may_ask, takes_data, takes_please, takes_minor_ack, is_expected, respond_unit, stands, next, becomes}
 use Rattle.osi_machine.specs.Histories.{Item}
 use Rattle.osi_machine.specs.Owners.{is_own, turned_owner}
 use Rattle.osi_machine.specs.Taking.{is_acted_on, cut_by, owners_after}
 use Rattle.osi_machine.specs.Channels.{is_plain, AllFit, flush, stops, heard}
 use Rattle.osi_machine.specs.Core.{Core, turned}
-use Rattle.osi_machine.specs.Worlds.{Message, unit, World, session_of, put, replied, after_unit, turned as turned_world}
+use Rattle.osi_machine.specs.Worlds.{Message, unit, World, session_of, put, replied, mark_after, after_unit, turned as turned_world}
 use Rattle.osi_machine.specs.Machine.{without_first}
 use Rattle.osi_machine.proofs.PhaseLaws.{excluded, implied_two}
 use Rattle.osi_machine.proofs.Records.{flushed, matched, Stands}
@@ -17,7 +17,7 @@ use Rattle.osi_machine.proofs.Alive.{alive}
 use Rattle.osi_machine.proofs.Deaf.{all_empty, empty_end}
 use Rattle.osi_machine.proofs.Opening.{none_answering}
 use Rattle.osi_machine.proofs.RestartMeet.{listener_stands}
-use Rattle.osi_machine.proofs.Projects.{stopped, parts, IsLast, Carried, OneSide, Projects, both_over, over_side}
+use Rattle.osi_machine.proofs.Projects.{stopped, parts, IsLast, Carried, Counted, OneSide, Projects, both_over, over_side}
 use Rattle.osi_machine.proofs.ProjectCall.{left_theirs}
 use Rattle.osi_machine.proofs.ProjectTake.{Last, took, put_nothing}
 
@@ -118,6 +118,22 @@ last_numbers s r (DN o) l = refl
 last_numbers s r (RF x o) l = refl
 last_numbers s r _ l = absurd (l)
 
+last_base : (s r : State) (u : Meaning) → IsLast r u → (becomes s u).base ≡ s.base
+last_base s r (AB b o) l = refl
+last_base s r (DN o) l = refl
+last_base s r (RF x o) l = refl
+last_base s r _ l = absurd (l)
+
+last_mark : (s r : State) (u : Meaning) (h : List Item) (mark : ℕ) → IsLast r u → mark_after s u h mark ≡ mark
+last_mark s r (AB b o) h mark l = refl
+last_mark s r (DN o) h mark l = refl
+last_mark s r (RF x o) h mark l = refl
+last_mark s r _ h mark l = absurd (l)
+
+same_mark : (b : Bool) (m n : ℕ) → m ≡ n → (if b then m else n) ≡ n
+same_mark true m n e = e
+same_mark false m n e = refl
+
 -- both sides are over after it
 pub last_projects : (broken : Bool) (w : World) (c : Core) (u : Meaning) (ms : List Message) → Projects broken w c → Stands c
     → Last (stopped w.peer) u ms c.peer.sent c.peer.session → (stopped (took broken w c u ms).own ≡ true) × Projects broken (took broken w c u ms) c
@@ -127,7 +143,12 @@ last_projects broken w c u ms p s l =
       both_over broken (took broken w c u ms) c
           (same_if (is_acted_on c.own.session u) (cut_by c.own.session u w.history) w.history (last_cuts c.own.session c.peer.session u w.history l.last) ∙ p.history)
           p.own.begun ends p.peer.begun l.ended
-          (ap (λ (o : Outcome). o.next.numbers.confirmed) (last_good c u s l.none l.last) ∙ last_numbers c.own.session c.peer.session u l.last) p.peer.acked,
+          (record {
+            acked = ap (λ (o : Outcome). o.next.numbers.confirmed) (last_good c u s l.none l.last) ∙ last_numbers c.own.session c.peer.session u l.last;
+            based = ap (λ (o : Outcome). o.next.base) (last_good c u s l.none l.last) ∙ last_base c.own.session c.peer.session u l.last;
+            marked = same_mark (is_acted_on c.own.session u) (mark_after c.own.session u w.history w.own.mark) w.own.mark (last_mark c.own.session c.peer.session u w.history w.own.mark l.last)
+                ∙ p.own.counted.marked;
+          }) p.peer.counted,
     )
 
 -- ---- a side that is over
@@ -170,23 +191,23 @@ over_nothing s u o p = by (is_aborting s.phase) refl (is_ended s.phase) refl
     by false h true k = other (is_aborting s.phase) _ _ h ∙ first (is_ended s.phase) _ _ k ∙ plain_ended s u p
     by false h false k = absurd (let n = over_of false false s.phase h k in cc)
 
--- and keeps its numbers
-over_numbers : (s : State) (u : Meaning) → is_over s.phase ≡ true → (respond_unit s u).next.numbers.confirmed ≡ s.numbers.confirmed
+-- it stays as it is, or is ended
+pub over_as : (P : State → Type 0) (s : State) (u : Meaning) → is_over s.phase ≡ true → P s → P (without_tokens Ended s) → P (respond_unit s u).next
 unfolding respond_unit
-over_numbers s u o = by (is_aborting s.phase) refl (is_ended s.phase) refl
+over_as P s u o same ended_now = by (is_aborting s.phase) refl (is_ended s.phase) refl
   where
-    aborting : (m : Meaning) → (in_aborting s m).next.numbers.confirmed ≡ s.numbers.confirmed
-    aborting (AB b x) = refl
-    aborting AA = refl
-    aborting _ = refl
+    aborting : (m : Meaning) → P (in_aborting s m).next
+    aborting (AB b x) = ended_now
+    aborting AA = ended_now
+    aborting _ = same
 
-    ended : (m : Meaning) → (in_ended s m).next.numbers.confirmed ≡ s.numbers.confirmed
-    ended (AB b x) = refl
-    ended _ = refl
+    ended : (m : Meaning) → P (in_ended s m).next
+    ended (AB b x) = same
+    ended _ = same
 
-    by : (a : Bool) → is_aborting s.phase ≡ a → (e : Bool) → is_ended s.phase ≡ e → (respond_unit s u).next.numbers.confirmed ≡ s.numbers.confirmed
-    by true h e k = ap (λ (x : Outcome). x.next.numbers.confirmed) (first (is_aborting s.phase) _ _ h) ∙ aborting u
-    by false h true k = ap (λ (x : Outcome). x.next.numbers.confirmed) (other (is_aborting s.phase) _ _ h ∙ first (is_ended s.phase) _ _ k) ∙ ended u
+    by : (a : Bool) → is_aborting s.phase ≡ a → (e : Bool) → is_ended s.phase ≡ e → P (respond_unit s u).next
+    by true h e k = subst (λ (x : Outcome). P x.next) (sym (first (is_aborting s.phase) _ _ h)) (aborting u)
+    by false h true k = subst (λ (x : Outcome). P x.next) (sym (other (is_aborting s.phase) _ _ h ∙ first (is_ended s.phase) _ _ k)) (ended u)
     by false h false k = absurd (let n = over_of false false s.phase h k in cc)
 
 pub not_true : (b : Bool) → not b ≡ false → b ≡ true
@@ -216,7 +237,7 @@ over_giver broken w c u ms p o e l =
     let a = p.peer.alike l in
     record {
       begun = p.peer.begun;
-      acked = p.peer.acked;
+      counted = p.peer.counted;
       alike = λ k. record {
         transport = a.transport;
         kept = a.kept;
@@ -238,13 +259,18 @@ over_projects broken w c u ms p o e = by (stopped w.peer) refl
     ends : stopped (ignored broken w u ms).own ≡ true
     ends = over_next (session_of (without_first w ms)) u o
 
-    acked : (ignored broken w u ms).own.kept.confirmed ≡ c.own.session.numbers.confirmed
-    acked = over_numbers (session_of (without_first w ms)) u o ∙ p.own.acked
+    counted : Counted (ignored broken w u ms).own c.own
+    counted = record {
+      acked = over_as (λ r. r.numbers.confirmed ≡ c.own.session.numbers.confirmed) (session_of (without_first w ms)) u o p.own.counted.acked p.own.counted.acked;
+      based = over_as (λ r. r.base ≡ c.own.session.base) (session_of (without_first w ms)) u o p.own.counted.based p.own.counted.based;
+      marked = ap (λ (b : Bool). if b then mark_after (session_of (without_first w ms)) u w.history w.own.mark else w.own.mark) (over_not_acted (session_of (without_first w ms)) u o)
+          ∙ p.own.counted.marked;
+    }
 
     by : (b : Bool) → stopped w.peer ≡ b → Projects broken (ignored broken w u ms) c
-    by true l = both_over broken (ignored broken w u ms) c (over_history broken w u ms o ∙ p.history) p.own.begun ends p.peer.begun l acked p.peer.acked
+    by true l = both_over broken (ignored broken w u ms) c (over_history broken w u ms o ∙ p.history) p.own.begun ends p.peer.begun l counted p.peer.counted
     by false l = record {
       history = over_history broken w u ms o ∙ p.history;
-      own = over_side broken (ignored broken w u ms) c p.own.begun ends acked;
+      own = over_side broken (ignored broken w u ms) c p.own.begun ends counted;
       peer = over_giver broken w c u ms p o e l;
     }

@@ -13,7 +13,7 @@ use Rattle.osi_machine.proofs.ViewFold.{Tells, told_all}
 use Rattle.osi_machine.proofs.Projects.{stopped, parts, is_begun, Alike, Carried, OneSide}
 use Rattle.osi_machine.proofs.ProjectTake.{put_nothing}
 use Rattle.osi_machine.proofs.ProjectWorld.{Repeats}
-use Rattle.osi_machine.proofs.ProjectStart.{caller_acked, called_acked, Waits, Idle, Way, nothing_sent, asked, agreed, denied, asks, replies, suits, Opens, absent_left, absent_back}
+use Rattle.osi_machine.proofs.ProjectStart.{caller_zero, called_zero, Waits, Idle, Way, nothing_sent, asked, agreed, denied, asks, replies, suits, Opens, absent_left, absent_back}
 
 not_both : {A : Type 0} (b : Bool) → b ≡ true → b ≡ false → A
 not_both b p q = absurd (cc)
@@ -42,7 +42,7 @@ first_parted false o channel e = ap (λ (ms : List Message). list_any parts (ms 
 started_own : (broken : Bool) (w : World) (t u : Told) → Opens w t u → Waits w.own → w.own.channel ≡ [] → OneSide broken (started broken w) (core_start w.offer)
 started_own broken w t u h k e = record {
   begun = refl;
-  acked = refl;
+  counted = record { acked = refl; based = refl; marked = k.mark };
   alike = λ l. record {
     transport = refl;
     kept = refl;
@@ -76,7 +76,7 @@ started_peer : (broken : Bool) (w : World) (t u : Told) → Opens w t u → is_b
     → OneSide broken (turned_world (started broken w)) (turned (core_start w.offer))
 started_peer broken w t u h b e = record {
   begun = b;
-  acked = called_acked w.peer h.called;
+  counted = let z = called_zero w.peer h.called in record { acked = z.acked; based = z.based; marked = z.marked };
   alike = started_alike broken w t u h b;
   carried = λ l. first_carried broken w.own.channel (offer_sent w.offer) (offering w.offer) e;
   parted = λ l. refl;
@@ -87,8 +87,8 @@ start_repeats broken w t u h k e b = record {
   core = core_start w.offer;
   stands = offer_stands w.offer h.small h.profile;
   projects = record { history = h.history; own = started_own broken w t u h k e; peer = started_peer broken w t u h b e };
-  own = subst (λ (d : Told). Tells d (offering w.offer) [] [] []) (sym h.own_told) (record { asked = λ c. (refl, refl); fresh = λ o. refl; base = refl; view = λ d. refl; asking = refl; duplex = λ o. absurd (cc); fine = refl; silent = λ k. (refl, refl); said = λ k. refl; got = λ k. refl });
-  peer = subst (λ (d : Told). Tells d awaiting [] [] []) (sym h.peer_told) (record { asked = λ c. absurd (cc); fresh = λ o. refl; base = refl; view = λ d. refl; asking = refl; duplex = λ o. absurd (cc); fine = refl; silent = λ k. (refl, refl); said = λ k. refl; got = λ k. refl });
+  own = subst (λ (d : Told). Tells d (offering w.offer) [] [] []) (sym h.own_told) (record { asked = λ c. (refl, refl); fresh = λ o. refl; base = refl; view = λ d. refl; asking = refl; duplex = λ o. absurd (cc); fine = refl; silent = λ k. (refl, refl); said = λ k. refl; got = λ k. refl; pointed = refl });
+  peer = subst (λ (d : Told). Tells d awaiting [] [] []) (sym h.peer_told) (record { asked = λ c. absurd (cc); fresh = λ o. refl; base = refl; view = λ d. refl; asking = refl; duplex = λ o. absurd (cc); fine = refl; silent = λ k. (refl, refl); said = λ k. refl; got = λ k. refl; pointed = refl });
 }
 
 -- ---- what the caller takes
@@ -110,7 +110,7 @@ answered w t u h e = record {
     | inl k ↦ inl (record { transport = k.transport; kept = k.kept; mark = k.mark; said = k.said; got = k.got })
     | inr r ↦ elim r [
       | inl k ↦ inr (inl (record { transport = k.transport; kept = k.kept; mark = k.mark; said = k.said; got = k.got }))
-      | inr k ↦ inr (inr (record { transport = k.transport; over_now = k.over_now; acked = k.acked }))
+      | inr k ↦ inr (inr (record { transport = k.transport; over_now = k.over_now; zero_now = k.zero_now }))
     ]
   ];
   way = nothing_sent;
@@ -130,7 +130,7 @@ refused_now broken w t u reason h e =
       profile = h.profile;
       history = h.history;
       owner = λ x. absent_left (without_tokens Ended (session_of (without_first w []))) w.owner x (h.owner x);
-      caller = inr (record { transport = refl; over_now = refl; acked = caller_acked w.own h.caller });
+      caller = inr (record { transport = refl; over_now = refl; zero_now = caller_zero w.own h.caller });
       called = a.called;
       way = nothing_sent;
       own_channel = put_nothing broken w.own.channel ∙ e;
@@ -199,8 +199,8 @@ asked_late w t u h e = record {
   history = h.history;
   owner = h.owner;
   caller = elim h.caller [
-    | inl k ↦ inl (record { transport = k.transport; phase = k.phase; mark = k.mark; said = k.said; got = k.got; acked = k.acked })
-    | inr k ↦ inr (record { transport = k.transport; over_now = k.over_now; acked = k.acked })
+    | inl k ↦ inl (record { transport = k.transport; phase = k.phase; mark = k.mark; said = k.said; got = k.got; zero_now = k.zero_now })
+    | inr k ↦ inr (record { transport = k.transport; over_now = k.over_now; zero_now = k.zero_now })
   ];
   called = h.called;
   way = nothing_sent;

@@ -16,6 +16,12 @@ use Rattle.osi_machine.proofs.ProjectSteps.{loss_told}
 
 -- ---- the lines
 
+-- V(A), the base and the mark of a side that has seen nothing
+pub record AreZero (confirmed base mark : ℕ) : Type 0 where
+  pub acked : confirmed ≡ 0
+  pub based : base ≡ 0
+  pub marked : mark ≡ 0
+
 -- a side that has taken nothing yet
 pub record Waits (x : End) : Type 0 where
   pub transport : x.transport ≡ waiting
@@ -23,7 +29,7 @@ pub record Waits (x : End) : Type 0 where
   pub mark : x.mark ≡ 0
   pub said : x.said ≡ []
   pub got : x.got ≡ 0
-  pub acked : x.kept.confirmed ≡ 0
+  pub zero_now : AreZero x.kept.confirmed x.kept.base x.mark
 
 pub record Idle (tr : Transport) (x : End) : Type 0 where
   pub transport : x.transport ≡ tr
@@ -36,17 +42,19 @@ pub record Idle (tr : Transport) (x : End) : Type 0 where
 pub record Left_it (x : End) : Type 0 where
   pub transport : x.transport ≡ gone
   pub over_now : stopped x ≡ true
-  pub acked : x.kept.confirmed ≡ 0
+  pub zero_now : AreZero x.kept.confirmed x.kept.base x.mark
 
--- V(A) is 0
-pub caller_acked : (x : End) → Waits x ⊎ Left_it x → x.kept.confirmed ≡ 0
-caller_acked x (inl h) = h.acked
-caller_acked x (inr h) = h.acked
+pub caller_zero : (x : End) → Waits x ⊎ Left_it x → AreZero x.kept.confirmed x.kept.base x.mark
+caller_zero x (inl h) = h.zero_now
+caller_zero x (inr h) = h.zero_now
 
-pub called_acked : (x : End) → Idle not_yet x ⊎ (Idle linked x ⊎ Left_it x) → x.kept.confirmed ≡ 0
-called_acked x (inl h) = ap (λ (k : Kept). k.confirmed) h.kept
-called_acked x (inr (inl h)) = ap (λ (k : Kept). k.confirmed) h.kept
-called_acked x (inr (inr h)) = h.acked
+idle_zero : (tr : Transport) (x : End) → Idle tr x → AreZero x.kept.confirmed x.kept.base x.mark
+idle_zero tr x h = record { acked = ap (λ (k : Kept). k.confirmed) h.kept; based = ap (λ (k : Kept). k.base) h.kept; marked = h.mark }
+
+pub called_zero : (x : End) → Idle not_yet x ⊎ (Idle linked x ⊎ Left_it x) → AreZero x.kept.confirmed x.kept.base x.mark
+called_zero x (inl h) = idle_zero not_yet x h
+called_zero x (inr (inl h)) = idle_zero linked x h
+called_zero x (inr (inr h)) = h.zero_now
 
 -- what is under way
 pub data Way : Type 0 where
@@ -89,7 +97,7 @@ asked_opens o small profile = record {
   profile = profile;
   history = refl;
   owner = λ k. refl;
-  caller = inl (record { transport = refl; phase = refl; mark = refl; said = refl; got = refl; acked = refl });
+  caller = inl (record { transport = refl; phase = refl; mark = refl; said = refl; got = refl; zero_now = record { acked = refl; based = refl; marked = refl } });
   called = inl (record { transport = refl; kept = refl; mark = refl; said = refl; got = refl });
   way = asked;
   own_channel = refl;
@@ -101,7 +109,7 @@ asked_opens o small profile = record {
 
 -- ---- every call is refused
 
-abbrev is_early : Phase → Bool
+abbrev pub is_early : Phase → Bool
 is_early p = is_wait_transport p || is_wait_cn p
 
 no_call : (p : Phase) (x : Call) → is_early p ≡ true → may_call p x ≡ false
@@ -121,7 +129,7 @@ no_call p (ReleaseAccept o) h = excluded is_early is_release_due refl p h
 no_call p (ReleaseRefuse o) h = excluded is_early is_release_due refl p h
 no_call p (Abort o) h = excluded is_early may_abort refl p h
 
-refused_early : (s : State) (x : Call) → is_early s.phase ≡ true → allowed s x ≡ Err error.BadState
+pub refused_early : (s : State) (x : Call) → is_early s.phase ≡ true → allowed s x ≡ Err error.BadState
 unfolding allowed
 refused_early s x h =
     other (is_over s.phase) _ _ (excluded is_early is_over refl s.phase h) ∙ first (not (may_call s.phase x)) _ _ (ap not (no_call s.phase x h))
@@ -268,7 +276,7 @@ caller_ends k w t u h = record {
   profile = h.profile;
   history = h.history;
   owner = λ x. absent_left (lost (session_of (shortened k w))).next w.owner x (h.owner x);
-  caller = inr (record { transport = refl; over_now = refl; acked = caller_acked w.own h.caller });
+  caller = inr (record { transport = refl; over_now = refl; zero_now = caller_zero w.own h.caller });
   called = h.called;
   way = cut_asks k h.way;
   own_channel = ap (take k) h.own_channel ∙ take_asks k h.way;
@@ -285,7 +293,7 @@ called_ends k w t u h = record {
   history = h.history;
   owner = λ x. ap turned_owner (absent_left (lost (session_of (shortened k w))).next w.owner x (absent_back (w.owner x) (h.owner x)));
   caller = h.caller;
-  called = inr (inr (record { transport = refl; over_now = refl; acked = called_acked w.own h.called }));
+  called = inr (inr (record { transport = refl; over_now = refl; zero_now = called_zero w.own h.called }));
   way = cut_replies k h.way;
   own_channel = h.own_channel ∙ sym (asks_kept k h.way);
   peer_channel = ap (take k) h.peer_channel ∙ take_replies k h.way;
@@ -300,8 +308,8 @@ abbrev pub cut_both : ℕ → ℕ → World → World
 cut_both k j w = record w { own = record w.own { channel = take k w.own.channel }; peer = record w.peer { channel = take j w.peer.channel } }
 
 caller_kept : (x : End) (ch : List Message) → Waits x ⊎ Left_it x → Waits (record x { channel = ch }) ⊎ Left_it (record x { channel = ch })
-caller_kept x ch (inl h) = inl (record { transport = h.transport; phase = h.phase; mark = h.mark; said = h.said; got = h.got; acked = h.acked })
-caller_kept x ch (inr h) = inr (record { transport = h.transport; over_now = h.over_now; acked = h.acked })
+caller_kept x ch (inl h) = inl (record { transport = h.transport; phase = h.phase; mark = h.mark; said = h.said; got = h.got; zero_now = h.zero_now })
+caller_kept x ch (inr h) = inr (record { transport = h.transport; over_now = h.over_now; zero_now = h.zero_now })
 
 idle_kept : (tr : Transport) (x : End) (ch : List Message) → Idle tr x → Idle tr (record x { channel = ch })
 idle_kept tr x ch h = record { transport = h.transport; kept = h.kept; mark = h.mark; said = h.said; got = h.got }
@@ -310,7 +318,7 @@ called_kept : (x : End) (ch : List Message) → Idle not_yet x ⊎ (Idle linked 
     → Idle not_yet (record x { channel = ch }) ⊎ (Idle linked (record x { channel = ch }) ⊎ Left_it (record x { channel = ch }))
 called_kept x ch (inl h) = inl (idle_kept not_yet x ch h)
 called_kept x ch (inr (inl h)) = inr (inl (idle_kept linked x ch h))
-called_kept x ch (inr (inr h)) = inr (inr (record { transport = h.transport; over_now = h.over_now; acked = h.acked }))
+called_kept x ch (inr (inr h)) = inr (inr (record { transport = h.transport; over_now = h.over_now; zero_now = h.zero_now }))
 
 pub break_opens : (k j : ℕ) (w : World) (t u : Told) → Opens w t u → Opens (cut_both k j w) t u
 break_opens k j w t u h = record {

@@ -61,7 +61,7 @@ answered_close : (broken : Bool) (w : World) (t u : Told) (m : Message) (ms : Li
 answered_close broken w t u m ms h e q o = record {
   repeats = same_core broken broken w (record (without_first w ms) { own = record w.own { transport = gone } }) t u h
       (both_over broken (record (without_first w ms) { own = record w.own { transport = gone } }) h.core h.projects.history refl o h.projects.peer.begun (parting_over broken w h.core m ms h.projects e q)
-      h.projects.own.acked h.projects.peer.acked);
+      h.projects.own.counted h.projects.peer.counted);
   over_now = λ k. absurd (cc);
 }
 
@@ -71,7 +71,7 @@ late_close broken w t u m ms h e q o = record {
   repeats = same_core broken broken w (record (without_first w ms) { own = record w.own { channel = put broken (over ∷ []) w.own.channel } }) t u h
       (both_over broken (record (without_first w ms) { own = record w.own { channel = put broken (over ∷ []) w.own.channel } }) h.core h.projects.history h.projects.own.begun o h.projects.peer.begun
       (parting_over broken w h.core m ms h.projects e q)
-      h.projects.own.acked h.projects.peer.acked);
+      h.projects.own.counted h.projects.peer.counted);
   over_now = λ k. absurd (cc);
 }
 

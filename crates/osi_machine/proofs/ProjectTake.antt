@@ -31,7 +31,7 @@ pool_own ToThem = refl
 pool_own Pool = refl
 pool_own Absent = refl
 
-pool_theirs : (p : Owner) → is_own (turned_owner (all_to_pool p)) ≡ false
+pub pool_theirs : (p : Owner) → is_own (turned_owner (all_to_pool p)) ≡ false
 pool_theirs Own = refl
 pool_theirs Theirs = refl
 pool_theirs ToOwn = refl
@@ -214,7 +214,7 @@ taker_side : (broken : Bool) (w : World) (c : Core) (u : Meaning) (us : List Mea
     → Carried broken (stopped w.peer) ms us c.peer.session → OneSide broken (took broken w c u ms) (taking c (u ∷ us))
 taker_side broken w c u us ms k rest = record {
   begun = k.old.own.begun;
-  acked = refl;
+  counted = record { acked = refl; based = refl; marked = taker_mark broken w c u us ms k };
   alike = λ l. record {
     transport = (was_alike broken w c u us ms k).transport;
     kept = refl;
@@ -248,7 +248,7 @@ giver_side : (broken : Bool) (w : World) (c : Core) (u : Meaning) (us : List Mea
     → OneSide broken (turned_world (took broken w c u ms)) (turned (taking c (u ∷ us)))
 giver_side broken w c u us ms k = record {
   begun = k.old.peer.begun;
-  acked = k.old.peer.acked;
+  counted = k.old.peer.counted;
   alike = λ l.
       let a = k.old.peer.alike l in
       record {

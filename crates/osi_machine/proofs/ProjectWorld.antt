@@ -104,7 +104,7 @@ call_repeats laws broken w t u x small h = by (stopped w.own) refl
     by : (b : Bool) → stopped w.own ≡ b → Repeats broken (after_answer broken x w (allowed (session_of w) x)) (told_answer t x (allowed (session_of w) x)) u
     by true o = subst (λ (a : Answer). Repeats broken (after_answer broken x w a) (told_answer t x a) u) (sym (refused (session_of w) x o)) h
     by false l =
-        let e = session_is w h.core h.stands h.projects.history (h.projects.own.alike l) in
+        let e = session_is w h.core h.stands h.projects.history h.projects.own.counted (h.projects.own.alike l) in
         subst (λ (v : World). Repeats broken v (told_answer t x (allowed (session_of w) x)) u) (answers_as broken w x (allowed (session_of w) x))
         (subst (λ (s : State). Repeats broken (answered_by broken s x w (allowed s x)) (told_answer t x (allowed s x)) u) (sym e)
         (core_answer laws broken w t u x small h l (stays_in_core x) refl (allowed h.core.own.session x) refl))
@@ -234,7 +234,7 @@ unit_repeats laws broken w t u m ms h e = by (stopped w.own) refl
     by : (b : Bool) → stopped w.own ≡ b → Taken broken t u (unit_as broken w m ms (session_of w))
     by true o = take_over broken w t u m ms h o e
     by false l =
-        let same = session_is w h.core h.stands h.projects.history (h.projects.own.alike l) in
+        let same = session_is w h.core h.stands h.projects.history h.projects.own.counted (h.projects.own.alike l) in
         let way = subst (λ (ch : List Message). Carried broken (stopped w.peer) ch h.core.peer.sent h.core.peer.session) e (h.projects.own.carried l) in
         subst (λ (s : State). Taken broken t u (unit_as broken w m ms s)) (sym same)
         (elim (split_first broken (stopped w.peer) m ms h.core.peer.sent h.core.peer.session way) [

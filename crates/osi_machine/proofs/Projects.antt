@@ -7,7 +7,7 @@ use Rattle.osi_machine.specs.Floor.{State, Meaning, RF, DN, AB, Token, is_over, 
 use Rattle.osi_machine.specs.Histories.{Item, points, Begins}
 use Rattle.osi_machine.specs.Owners.{is_own, owned}
 use Rattle.osi_machine.specs.Channels.{is_plain}
-use Rattle.osi_machine.specs.Core.{Core, turned}
+use Rattle.osi_machine.specs.Core.{Party, Core, turned}
 use Rattle.osi_machine.specs.Worlds.{Message, unit, bye, over, Transport, not_yet, waiting, linked, Kept, kept_of, End, World, session_of, turned as turned_world}
 use Rattle.osi_machine.proofs.Records.{Stands}
 use Rattle.osi_machine.proofs.Tokens.{has_set}
@@ -66,10 +66,18 @@ pub record Carried (broken over_now : Bool) (channel : List Message) (sent : Lis
   pub whole : (lost ≡ []) ⊎ ((over_now || broken) ≡ true)
   pub last : IsTail over_now s lost tail
 
+-- V(A), the base and the mark of a side are those of the core, of a side that is over too
+pub record Counts (confirmed base mark : ℕ) (s : State) (view : List Item) : Type 0 where
+  pub acked : confirmed ≡ s.numbers.confirmed
+  pub based : base ≡ s.base
+  pub marked : mark ≡ length view
+
+abbrev pub Counted : End → Party → Type 0
+Counted x p = Counts x.kept.confirmed x.kept.base x.mark p.session p.view
+
 pub record OneSide (broken : Bool) (w : World) (c : Core) : Type 0 where
   pub begun : is_begun w.own.transport ≡ true
-  -- V(A) is that of the core, of a side that is over too
-  pub acked : w.own.kept.confirmed ≡ c.own.session.numbers.confirmed
+  pub counted : Counted w.own c.own
   pub alike : stopped w.own ≡ false → Alike w c
   pub carried : stopped w.own ≡ false → Carried broken (stopped w.peer) w.peer.channel c.peer.sent c.peer.session
   pub parted : stopped w.own ≡ false → list_any parts w.own.channel ≡ false
@@ -84,41 +92,42 @@ pub record Projects (broken : Bool) (w : World) (c : Core) : Type 0 where
 not_both : {A : Type 0} (b : Bool) → b ≡ true → b ≡ false → A
 not_both b p q = absurd (cc)
 
-one_over : (broken : Bool) (w : World) (c : Core) → is_begun w.own.transport ≡ true → stopped w.own ≡ true → w.own.kept.confirmed ≡ c.own.session.numbers.confirmed
+one_over : (broken : Bool) (w : World) (c : Core) → is_begun w.own.transport ≡ true → stopped w.own ≡ true → Counted w.own c.own
     → OneSide broken w c
-one_over broken w c b o a = record { begun = b; acked = a; alike = λ l. not_both _ o l; carried = λ l. not_both _ o l; parted = λ l. not_both _ o l }
+one_over broken w c b o a = record { begun = b; counted = a; alike = λ l. not_both _ o l; carried = λ l. not_both _ o l; parted = λ l. not_both _ o l }
 
 pub both_over : (broken : Bool) (w : World) (c : Core) → w.history ≡ c.history → is_begun w.own.transport ≡ true → stopped w.own ≡ true
-    → is_begun w.peer.transport ≡ true → stopped w.peer ≡ true → w.own.kept.confirmed ≡ c.own.session.numbers.confirmed → w.peer.kept.confirmed ≡ c.peer.session.numbers.confirmed
+    → is_begun w.peer.transport ≡ true → stopped w.peer ≡ true → Counted w.own c.own → Counted w.peer c.peer
     → Projects broken w c
 both_over broken w c h b o d p x y = record { history = h; own = one_over broken w c b o x; peer = one_over broken (turned_world w) (turned c) d p y }
 
-pub over_side : (broken : Bool) (w : World) (c : Core) → is_begun w.own.transport ≡ true → stopped w.own ≡ true → w.own.kept.confirmed ≡ c.own.session.numbers.confirmed
+pub over_side : (broken : Bool) (w : World) (c : Core) → is_begun w.own.transport ≡ true → stopped w.own ≡ true → Counted w.own c.own
     → OneSide broken w c
 over_side = one_over
 
 -- ---- the session of a side that is not over is that of the core
 
-taken_view : (v h : List Item) → Begins v h → take (length v) h ≡ v
+pub taken_view : (v h : List Item) → Begins v h → take (length v) h ≡ v
 taken_view v h b = ap (take (length v)) (sym b.1) ∙ take-append_seam v b.0
 
-owned_is : (w : World) (c : Core) → Stands c → Alike w c → owned w.owner ≡ c.own.session.held
+pub owned_is : (w : World) (c : Core) → Stands c → Alike w c → owned w.owner ≡ c.own.session.held
 owned_is w c s a = tokens_same (owned w.owner) c.own.session.held
     (λ t. has_set (λ t. is_own (w.owner t)) t ∙ a.owns t ∙ sym (s.own.meeting.holds t))
 
-next_is : (w : World) (c : Core) → Stands c → w.history ≡ c.history → Alike w c
+-- V(M), of a side that is over too
+pub next_is : (w : World) (c : Core) → Stands c → w.history ≡ c.history → Counted w.own c.own
     → w.own.kept.base + points (take w.own.mark w.history) ≡ c.own.session.numbers.next
 next_is w c s h a =
-    ap (λ (k : Kept). k.base + points (take w.own.mark w.history)) a.kept
-    ∙ ap (λ (m : ℕ). c.own.session.base + points (take m w.history)) a.mark
+    ap (λ (b : ℕ). b + points (take w.own.mark w.history)) a.based
+    ∙ ap (λ (m : ℕ). c.own.session.base + points (take m w.history)) a.marked
     ∙ ap (λ (g : List Item). c.own.session.base + points (take (length c.own.view) g)) h
     ∙ ap (λ (v : List Item). c.own.session.base + points v) (taken_view c.own.view c.history (sees_the_history c s))
     ∙ sym s.consistent.own.count
 
-pub session_is : (w : World) (c : Core) → Stands c → w.history ≡ c.history → Alike w c → session_of w ≡ c.own.session
-session_is w c s h a =
+pub session_is : (w : World) (c : Core) → Stands c → w.history ≡ c.history → Counted w.own c.own → Alike w c → session_of w ≡ c.own.session
+session_is w c s h n a =
     let held = owned_is w c s a in
-    let next = next_is w c s h a in
+    let next = next_is w c s h n in
     λ i. record {
       phase = (a.kept i).phase;
       is_caller = (a.kept i).is_caller;

@@ -111,7 +111,7 @@ got_what_was_said w s d = by (is_opening w.own.session.phase) refl
 
 -- ---- what is taken
 
-none_brought : (w : Core) → Stands w → Begins (w.own.view ++ []) w.history
+pub none_brought : (w : Core) → Stands w → Begins (w.own.view ++ []) w.history
 none_brought w s = subst (λ (v : List Item). Begins v w.history) (sym (append_nil w.own.view)) (sees_the_history w s)
 
 -- what was seen after it

@@ -9,6 +9,7 @@ use Rattle.osi_machine.specs.Core.{view_called, speaks, stays_in_core}
 use Rattle.osi_machine.specs.Parties.{is_opening}
 use Rattle.osi_machine.specs.Views.{Told, told_call, told_shown}
 use Rattle.osi_machine.proofs.PhaseLaws.{implied, excluded}
+use Rattle.osi_machine.proofs.HistoryLaws.{cut_points, one_point_more, no_point_more}
 use Rattle.osi_machine.proofs.Idle.{append_nil}
 
 -- a connection that is open
@@ -28,6 +29,8 @@ pub record Tells (t : Told) (s : State) (v : List Item) (spoken heard : List (Li
   pub silent : is_opening s.phase ≡ true → (t.requested ≡ []) × (t.indicated ≡ [])
   pub said : s.units.duplex ≡ true → t.requested ≡ spoken
   pub got : s.units.duplex ≡ true → t.indicated ≡ heard
+  -- with duplex there is none
+  pub pointed : points t.view ≡ points v
 
 -- ---- where little changes
 
@@ -45,6 +48,7 @@ same_tells t s r v w x x' y y' p u n b e f g h = record {
   silent = λ o. h.silent (ap is_opening (sym p) ∙ o);
   said = λ d. h.said (ap (λ (z : FunctionalUnits). z.duplex) (sym u) ∙ d) ∙ sym f;
   got = λ d. h.got (ap (λ (z : FunctionalUnits). z.duplex) (sym u) ∙ d) ∙ sym g;
+  pointed = h.pointed ∙ ap points (sym e);
 }
 
 -- from an open phase to one in which nothing is opened
@@ -62,8 +66,8 @@ calm_parts p h = by (is_opening p) (is_restarting p) h
 
 calm_tells : (t : Told) (s : State) (v : List Item) (said got : List (List ℕ)) → calm s.phase ≡ true → t.base ≡ s.base → (s.units.duplex ≡ false → t.view ≡ v) → t.asking ≡ false
     → (is_open s.phase ≡ true → t.duplex ≡ s.units.duplex) → t.faulted ≡ false → (s.units.duplex ≡ true → t.requested ≡ said) → (s.units.duplex ≡ true → t.indicated ≡ got)
-    → Tells t s v said got
-calm_tells t s v said got c b e a d f x y =
+    → points t.view ≡ points v → Tells t s v said got
+calm_tells t s v said got c b e a d f x y q =
     let p = calm_parts s.phase c in
     let no = p.0 in
     record {
@@ -77,10 +81,22 @@ calm_tells t s v said got c b e a d f x y =
       silent = λ k. absurd (cc);
       said = x;
       got = y;
+      pointed = q;
     }
 
 none_more : (t : Told) (v : List Item) (b : Bool) → (b ≡ false → t.view ≡ v) → b ≡ false → t.view ≡ v ++ []
 none_more t v b f d = f d ∙ sym (append_nil v)
+
+octets_called : (b : Bool) (t v : List Item) (octets : List ℕ) → points t ≡ points v → points (t ++ Octets octets ∷ []) ≡ points (v ++ (if b then [] else Octets octets ∷ []))
+octets_called true t v octets e = no_point_more t octets ∙ e ∙ ap points (sym (append_nil v))
+octets_called false t v octets e = no_point_more t octets ∙ e ∙ sym (no_point_more v octets)
+
+octets_taken : (b : Bool) (t v : List Item) (octets : List ℕ) → points t ≡ points v → points (t ++ Octets octets ∷ []) ≡ points (if b then v else v ++ Octets octets ∷ [])
+octets_taken true t v octets e = no_point_more t octets ∙ e
+octets_taken false t v octets e = no_point_more t octets ∙ e ∙ sym (no_point_more v octets)
+
+same_points : (t : Told) (s : State) (v : List Item) (said got : List (List ℕ)) → Tells t s v said got → points t.view ≡ points (v ++ [])
+same_points t s v said got h = h.pointed ∙ ap points (sym (append_nil v))
 
 -- ---- an accepted call
 
@@ -107,22 +123,25 @@ pub call_tells : (t : Told) (s : State) (c : Call) (v : List Item) (said got : L
 unfolding calm
 call_tells t s (Accept requirements serial sides octets) v said got k p n f h =
     let o = implied is_answering is_opening refl s.phase p in
-    calm_tells _ _ _ _ _ refl refl (λ d. h.fresh o ∙ sym (append_nil v ∙ (f o).0)) (not_asking t s v said got h (excluded is_answering is_restarting refl s.phase p)) (λ o. refl) h.fine (λ d. (h.silent o).0 ∙ sym (append_nil said ∙ (f o).1)) (λ d. (h.silent o).1 ∙ sym (f o).2)
+    calm_tells _ _ _ _ _ refl refl (λ d. h.fresh o ∙ sym (append_nil v ∙ (f o).0)) (not_asking t s v said got h (excluded is_answering is_restarting refl s.phase p)) (λ o. refl) h.fine (λ d. (h.silent o).0 ∙ sym (append_nil said ∙ (f o).1)) (λ d. (h.silent o).1 ∙ sym (f o).2) (same_points t s v said got h)
 call_tells t s (Refuse octets) v said got k p n f h = absurd (cc)
 call_tells t s (Data octets) v said got k p n f h =
     calm_tells _ _ _ _ _ (implied is_ready calm refl s.phase p) h.base
     (λ d. data_added s.units.duplex t.view v octets (h.view d) d) (not_asking t s v said got h (excluded is_ready is_restarting refl s.phase p)) (λ o. h.duplex (implied is_ready is_open refl s.phase p)) h.fine (λ d. octets_said s.units.duplex t.requested said octets (h.said d) d) h.got
+    (octets_called s.units.duplex t.view v octets h.pointed)
 call_tells t s (Give tokens) v said got k p n f h = same_tells t s _ v _ said _ got got refl refl refl refl (append_nil v) (append_nil said) refl h
 call_tells t s (Please tokens octets) v said got k p n f h = same_tells t s _ v _ said _ got got refl refl refl refl (append_nil v) (append_nil said) refl h
 call_tells t s (Minor confirm octets) v said got k p n f h =
     calm_tells _ _ _ _ _ (implied is_ready calm refl s.phase p) h.base
     (λ d. point_added s.numbers.next t.base t.view v (minor_kind confirm) octets (next_point t s v said got h n d) (h.view d)) (not_asking t s v said got h (excluded is_ready is_restarting refl s.phase p)) (λ o. h.duplex (implied is_ready is_open refl s.phase p)) h.fine (λ d. h.said d ∙ sym (append_nil said)) h.got
+    (one_point_more (t.base + points t.view) s.numbers.next t.view v (minor_kind confirm) octets h.pointed)
 call_tells t s (MinorConfirm m octets) v said got k p n f h = same_tells t s _ v _ said _ got got refl refl refl refl (append_nil v) (append_nil said) refl h
 call_tells t s (Major octets) v said got k p n f h =
     calm_tells _ _ _ _ _ refl h.base
     (λ d. point_added s.numbers.next t.base t.view v major_point octets (next_point t s v said got h n d) (h.view d)) (not_asking t s v said got h (excluded is_ready is_restarting refl s.phase p)) (λ o. h.duplex (implied is_ready is_open refl s.phase p)) h.fine (λ d. h.said d ∙ sym (append_nil said)) h.got
+    (one_point_more (t.base + points t.view) s.numbers.next t.view v major_point octets h.pointed)
 call_tells t s (MajorConfirm octets) v said got k p n f h =
-    calm_tells _ _ _ _ _ refl h.base (none_more t v s.units.duplex h.view) (not_asking t s v said got h (excluded is_major_due is_restarting refl s.phase p)) (λ o. h.duplex (implied is_major_due is_open refl s.phase p)) h.fine (λ d. h.said d ∙ sym (append_nil said)) h.got
+    calm_tells _ _ _ _ _ refl h.base (none_more t v s.units.duplex h.view) (not_asking t s v said got h (excluded is_major_due is_restarting refl s.phase p)) (λ o. h.duplex (implied is_major_due is_open refl s.phase p)) h.fine (λ d. h.said d ∙ sym (append_nil said)) h.got (same_points t s v said got h)
 call_tells t s (Restart m wishes octets) v said got k p n f h =
     record {
       asked = λ c. absurd (cc);
@@ -135,14 +154,15 @@ call_tells t s (Restart m wishes octets) v said got k p n f h =
       silent = λ c. absurd (cc);
       said = λ d. h.said d ∙ sym (append_nil said);
       got = h.got;
+      pointed = cut_points t.base s.base m t.view v h.base h.pointed;
     }
 call_tells t s (RestartConfirm sides octets) v said got k p n f h =
-    calm_tells _ _ _ _ _ refl h.base (none_more t v s.units.duplex h.view) (not_asking t s v said got h (excluded is_restart_due is_restarting refl s.phase p)) (λ o. h.duplex (implied is_restart_due is_open refl s.phase p)) h.fine (λ d. h.said d ∙ sym (append_nil said)) h.got
+    calm_tells _ _ _ _ _ refl h.base (none_more t v s.units.duplex h.view) (not_asking t s v said got h (excluded is_restart_due is_restarting refl s.phase p)) (λ o. h.duplex (implied is_restart_due is_open refl s.phase p)) h.fine (λ d. h.said d ∙ sym (append_nil said)) h.got (same_points t s v said got h)
 call_tells t s (Release octets) v said got k p n f h =
-    calm_tells _ _ _ _ _ refl h.base (none_more t v s.units.duplex h.view) (not_asking t s v said got h (excluded is_ready is_restarting refl s.phase p)) (λ o. h.duplex (implied is_ready is_open refl s.phase p)) h.fine (λ d. h.said d ∙ sym (append_nil said)) h.got
+    calm_tells _ _ _ _ _ refl h.base (none_more t v s.units.duplex h.view) (not_asking t s v said got h (excluded is_ready is_restarting refl s.phase p)) (λ o. h.duplex (implied is_ready is_open refl s.phase p)) h.fine (λ d. h.said d ∙ sym (append_nil said)) h.got (same_points t s v said got h)
 call_tells t s (ReleaseAccept octets) v said got k p n f h = absurd (cc)
 call_tells t s (ReleaseRefuse octets) v said got k p n f h =
-    calm_tells _ _ _ _ _ refl h.base (none_more t v s.units.duplex h.view) (not_asking t s v said got h (excluded is_release_due is_restarting refl s.phase p)) (λ o. h.duplex (implied is_release_due is_open refl s.phase p)) h.fine (λ d. h.said d ∙ sym (append_nil said)) h.got
+    calm_tells _ _ _ _ _ refl h.base (none_more t v s.units.duplex h.view) (not_asking t s v said got h (excluded is_release_due is_restarting refl s.phase p)) (λ o. h.duplex (implied is_release_due is_open refl s.phase p)) h.fine (λ d. h.said d ∙ sym (append_nil said)) h.got (same_points t s v said got h)
 call_tells t s (Abort octets) v said got k p n f h = absurd (cc)
 
 -- ---- a unit that is acted on
@@ -181,37 +201,41 @@ unit_tells t s (CN w r n x from to o) v said got p g f h =
       silent = λ c. h.silent open_now;
       said = λ d. (h.silent open_now).0 ∙ sym (f open_now).1;
       got = λ d. (h.silent open_now).1 ∙ sym (append_nil got ∙ (f open_now).2);
+      pointed = h.pointed;
     })
-    (calm_tells _ _ _ _ _ refl h.base (λ d. fresh ∙ sym (f open_now).0) (not_asking t s v said got h (excluded is_wait_cn is_restarting refl s.phase g.expected)) (λ o. absurd (cc)) h.fine (λ d. (h.silent open_now).0 ∙ sym (f open_now).1) (λ d. (h.silent open_now).1 ∙ sym (append_nil got ∙ (f open_now).2)))
+    (calm_tells _ _ _ _ _ refl h.base (λ d. fresh ∙ sym (f open_now).0) (not_asking t s v said got h (excluded is_wait_cn is_restarting refl s.phase g.expected)) (λ o. absurd (cc)) h.fine (λ d. (h.silent open_now).0 ∙ sym (f open_now).1) (λ d. (h.silent open_now).1 ∙ sym (append_nil got ∙ (f open_now).2)) h.pointed)
 unit_tells t s (AC w r n x o) v said got p g f h =
     let open_now = implied is_connecting is_opening refl s.phase g.expected in
     let k = h.asked g.expected in
     calm_tells _ _ _ _ _ refl (ap (λ (a : FunctionalUnits). agreed_base (both_units a (functional_units r)) n t.proposed) k.0 ∙ ap (agreed_base (both_units s.units (functional_units r)) n) k.1)
-    (λ d. h.fresh open_now ∙ sym (f open_now).0) (not_asking t s v said got h (excluded is_connecting is_restarting refl s.phase g.expected)) (λ o. ap (λ (a : FunctionalUnits). (both_units a (functional_units r)).duplex) k.0) h.fine (λ d. (h.silent open_now).0 ∙ sym (f open_now).1) (λ d. (h.silent open_now).1 ∙ sym (append_nil got ∙ (f open_now).2))
+    (λ d. h.fresh open_now ∙ sym (f open_now).0) (not_asking t s v said got h (excluded is_connecting is_restarting refl s.phase g.expected)) (λ o. ap (λ (a : FunctionalUnits). (both_units a (functional_units r)).duplex) k.0) h.fine (λ d. (h.silent open_now).0 ∙ sym (f open_now).1) (λ d. (h.silent open_now).1 ∙ sym (append_nil got ∙ (f open_now).2)) h.pointed
 unit_tells t s (RF r o) v said got p g f h = absurd (cc)
 unit_tells t s (DT o) v said got p g f h =
     calm_tells _ _ _ _ _ (implied takes_data calm refl s.phase g.expected) h.base
     (λ d. data_taken s.units.duplex t.view v o (h.view d) d) (not_asking t s v said got h (excluded takes_data is_restarting refl s.phase g.expected)) (λ o. h.duplex (implied takes_data is_open refl s.phase g.expected)) h.fine h.said (λ d. octets_said s.units.duplex t.indicated got o (h.got d) d)
+    (octets_taken s.units.duplex t.view v o h.pointed)
 unit_tells t s (GT k) v said got p g f h = same_tells t s _ v v said said got _ refl refl refl refl refl refl (append_nil got) h
 unit_tells t s (PT k o) v said got p g f h = same_tells t s _ v v said said got _ refl refl refl refl refl refl (append_nil got) h
 unit_tells t s (MIP c n o) v said got p g f h =
     calm_tells _ _ _ _ _ (implied is_ready calm refl s.phase g.expected) h.base
     (λ d. ap (λ (r : List Item). r ++ Point n (minor_kind c) o ∷ []) (h.view d)) (not_asking t s v said got h (excluded is_ready is_restarting refl s.phase g.expected)) (λ o. h.duplex (implied is_ready is_open refl s.phase g.expected)) h.fine h.said (λ d. h.got d ∙ sym (append_nil got))
+    (one_point_more n n t.view v (minor_kind c) o h.pointed)
 unit_tells t s (MIA n o) v said got p g f h = same_tells t s _ v v said said got _ refl refl refl refl refl refl (append_nil got) h
 unit_tells t s (MAP n o) v said got p g f h =
     calm_tells _ _ _ _ _ refl h.base
     (λ d. ap (λ (r : List Item). r ++ Point n major_point o ∷ []) (h.view d)) (not_asking t s v said got h (excluded is_ready is_restarting refl s.phase g.expected)) (λ o. h.duplex (implied is_ready is_open refl s.phase g.expected)) h.fine h.said (λ d. h.got d ∙ sym (append_nil got))
+    (one_point_more n n t.view v major_point o h.pointed)
 unit_tells t s (MAA n o) v said got p g f h =
-    calm_tells _ _ _ _ _ refl h.base h.view (not_asking t s v said got h (excluded is_major_asked is_restarting refl s.phase g.expected)) (λ o. h.duplex (implied is_major_asked is_open refl s.phase g.expected)) h.fine h.said (λ d. h.got d ∙ sym (append_nil got))
+    calm_tells _ _ _ _ _ refl h.base h.view (not_asking t s v said got h (excluded is_major_asked is_restarting refl s.phase g.expected)) (λ o. h.duplex (implied is_major_asked is_open refl s.phase g.expected)) h.fine h.said (λ d. h.got d ∙ sym (append_nil got)) h.pointed
 unit_tells t s (RS j n w o) v said got p g f h =
     either (λ a q z. Tells (told_all t a) q z said (got ++ [])) (stands s n) _ _ _ s (cutat s.base v n) v
-    (λ e. calm_tells _ _ _ _ _ refl h.base (λ d. ap (λ (b : ℕ). cutat b t.view n) h.base ∙ ap (λ (r : List Item). cutat s.base r n) (h.view d)) refl (λ o. h.duplex (implied takes_restart is_open refl s.phase g.expected)) h.fine h.said (λ d. h.got d ∙ sym (append_nil got)))
+    (λ e. calm_tells _ _ _ _ _ refl h.base (λ d. ap (λ (b : ℕ). cutat b t.view n) h.base ∙ ap (λ (r : List Item). cutat s.base r n) (h.view d)) refl (λ o. h.duplex (implied takes_restart is_open refl s.phase g.expected)) h.fine h.said (λ d. h.got d ∙ sym (append_nil got)) (cut_points t.base s.base n t.view v h.base h.pointed))
     (λ e. same_tells t s s v v said said got _ refl refl refl refl refl refl (append_nil got) h)
-unit_tells t s (RA n w o) v said got p g f h = calm_tells _ _ _ _ _ refl h.base h.view refl (λ o. h.duplex (implied is_restarting is_open refl s.phase g.expected)) h.fine h.said (λ d. h.got d ∙ sym (append_nil got))
+unit_tells t s (RA n w o) v said got p g f h = calm_tells _ _ _ _ _ refl h.base h.view refl (λ o. h.duplex (implied is_restarting is_open refl s.phase g.expected)) h.fine h.said (λ d. h.got d ∙ sym (append_nil got)) h.pointed
 unit_tells t s (FN o) v said got p g f h =
-    calm_tells _ _ _ _ _ refl h.base h.view (not_asking t s v said got h (excluded is_ready is_restarting refl s.phase g.expected)) (λ o. h.duplex (implied is_ready is_open refl s.phase g.expected)) h.fine h.said (λ d. h.got d ∙ sym (append_nil got))
+    calm_tells _ _ _ _ _ refl h.base h.view (not_asking t s v said got h (excluded is_ready is_restarting refl s.phase g.expected)) (λ o. h.duplex (implied is_ready is_open refl s.phase g.expected)) h.fine h.said (λ d. h.got d ∙ sym (append_nil got)) h.pointed
 unit_tells t s (DN o) v said got p g f h = absurd (cc)
 unit_tells t s (NF o) v said got p g f h =
-    calm_tells _ _ _ _ _ refl h.base h.view (not_asking t s v said got h (excluded is_releasing is_restarting refl s.phase g.expected)) (λ o. h.duplex (implied is_releasing is_open refl s.phase g.expected)) h.fine h.said (λ d. h.got d ∙ sym (append_nil got))
+    calm_tells _ _ _ _ _ refl h.base h.view (not_asking t s v said got h (excluded is_releasing is_restarting refl s.phase g.expected)) (λ o. h.duplex (implied is_releasing is_open refl s.phase g.expected)) h.fine h.said (λ d. h.got d ∙ sym (append_nil got)) h.pointed
 unit_tells t s (AB b o) v said got p g f h = absurd (cc)
 unit_tells t s AA v said got p g f h = absurd (cc)

@@ -25,10 +25,10 @@ pub record Whole (b : Bool) (w : World) (o : Offer) (s t : Told) : Type 0 where
 
 -- ---- the other side
 
-turned_back : (w : World) → turned (turned w) ≡ w
+pub turned_back : (w : World) → turned (turned w) ≡ w
 turned_back w = λ i. record { offer = w.offer; history = w.history; owner = turned_twice w.owner i; own = w.own; peer = w.peer }
 
-turned_stage : (b : Bool) (w : World) (s t : Told) → Stage b w s t → Stage b (turned w) t s
+pub turned_stage : (b : Bool) (w : World) (s t : Told) → Stage b w s t → Stage b (turned w) t s
 turned_stage b w s t (inl h) = inr (inl (subst (λ (v : World). Opens v s t) (sym (turned_back w)) h))
 turned_stage b w s t (inr (inl h)) = inl h
 turned_stage b w s t (inr (inr h)) = inr (inr (turned_repeats b w s t h))
@@ -39,7 +39,7 @@ same_told : (s : Told) (c : Call) (a : Answer) → told_answer s c a ≡ told_of
 same_told s c (Ok g) = refl
 same_told s c (Err e) = refl
 
-call_offer : (b : Bool) (c : Call) (w : World) (a : Answer) → (after_answer b c w a).offer ≡ w.offer
+pub call_offer : (b : Bool) (c : Call) (w : World) (a : Answer) → (after_answer b c w a).offer ≡ w.offer
 call_offer b c w (Ok g) = refl
 call_offer b c w (Err e) = refl
 
@@ -57,7 +57,7 @@ called_stage laws b w s t c small (inr (inr h)) =
 
 -- ---- a message
 
-message_offer : (b : Bool) (terms : Terms) (k : ℕ) (tr : Transport) (w : World) (m : Message) → (message_taken b terms k tr w m).world.offer ≡ w.offer
+pub message_offer : (b : Bool) (terms : Terms) (k : ℕ) (tr : Transport) (w : World) (m : Message) → (message_taken b terms k tr w m).world.offer ≡ w.offer
 message_offer b (accepts class) k not_yet w ask = refl
 message_offer b (denies reason) k not_yet w ask = refl
 message_offer b terms k not_yet w (unit u) = refl
@@ -136,7 +136,7 @@ lost_opens o small profile =
       profile = profile;
       history = refl;
       owner = h.owner;
-      caller = inl (record { transport = refl; phase = refl; mark = refl; said = refl; got = refl; acked = refl });
+      caller = inl (record { transport = refl; phase = refl; mark = refl; said = refl; got = refl; zero_now = record { acked = refl; based = refl; marked = refl } });
       called = h.called;
       way = nothing_sent;
       own_channel = refl;

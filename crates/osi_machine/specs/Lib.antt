@@ -1,3 +1,4 @@
+pub mod AsTables
 pub mod Channels
 pub mod Core
 pub mod Examples
@@ -8,6 +9,7 @@ pub mod Owners
 pub mod Parties
 pub mod Promises
 pub mod Runs
+pub mod Tables
 pub mod Taking
 pub mod Views
 pub mod Worlds

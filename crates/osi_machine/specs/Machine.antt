@@ -1,6 +1,6 @@
 -- The machine: any number of connections between two ends, their steps, and the journal of what the
 -- users do and see.
-use Rattle.std.specs.Prelude.{◌≡◌, ◌<◌, ℕ, zero, suc, ◌+◌, Bool, true, false, not, ◌&&◌, ◌||◌, if◌then◌else◌, nat_le, List, [], ◌∷◌, ◌++◌, take, map, length, Option, Some, None, is_some, Ok, Err}
+use Rattle.std.specs.Prelude.{◌≡◌, ◌<◌, ℕ, zero, suc, ◌+◌, Bool, true, false, not, ◌&&◌, ◌||◌, if◌then◌else◌, nat_le, nat_lt, List, [], ◌∷◌, ◌++◌, take, map, length, Option, Some, None, is_some, Ok, Err}
 use Rattle.std.specs.List.{AllByRecursion, list_any, slice_get}
 use Rattle.osi_session.specs.declared.faults.CallError.TheVariants as error
 use Rattle.osi_session.specs.Shown.{Shown}
@@ -56,17 +56,17 @@ start terms = record { terms = terms; broken = false; left_end = None; right_end
 
 -- ---- connections and sides
 
-abbrev pub connection_at : ℕ → List World → Option World
+abbrev pub connection_at : {C : Type 0} → ℕ → List C → Option C
 connection_at zero ws = None
 connection_at (suc r) ws = slice_get ws r
 
 -- the connection with that place is another, counted from 0
-abbrev pub replaced : ℕ → World → List World → List World
+abbrev pub replaced : {C : Type 0} → ℕ → C → List C → List C
 replaced r w [] = []
 replaced zero w (v ∷ vs) = w ∷ vs
 replaced (suc r) w (v ∷ vs) = v ∷ replaced r w vs
 
-abbrev pub with_connection : ℕ → World → List World → List World
+abbrev pub with_connection : {C : Type 0} → ℕ → C → List C → List C
 with_connection zero w ws = ws
 with_connection (suc r) w ws = replaced r w ws
 
@@ -101,20 +101,36 @@ abbrev pub is_class_0 : Option Class → Bool
 is_class_0 (Some class_0) = true
 is_class_0 _ = false
 
-abbrev pub live_count : List World → ℕ
+abbrev pub live_count : List Transport → ℕ
 live_count [] = 0
-live_count (w ∷ ws) = if is_live w.own.transport then live_count ws + 1 else live_count ws
+live_count (t ∷ ts) = if is_live t then live_count ts + 1 else live_count ts
+
+-- a selector has at most 16 octets, and user data at most 10,240
+abbrev pub is_long_selector : Option (List ℕ) → Bool
+is_long_selector None = false
+is_long_selector (Some octets) = nat_lt 16 (length octets)
+
+abbrev pub is_long : Offer → Bool
+is_long o = is_long_selector o.calling_selector || (is_long_selector o.called_selector || not (nat_le (length o.octets) 10240))
+
+-- by whether the caller has ended, the class, and what the transport connection is of each connection
+-- that he asked for
+abbrev pub refusal_by : Bool → Option Class → List Transport → Offer → Option Refusal
+refusal_by over_now known asked o =
+    if over_now then Some has_ended
+    else if not (is_known known) && list_any is_waiting asked then Some negotiating
+    else if is_class_0 known then Some one_connection
+    else if nat_le 64 (live_count asked) then Some too_many
+    else if nat_le 65535 (length asked) then Some references_used_up
+    else if not (is_profile o.requirements) then Some not_selected
+    else if is_long o then Some too_long
+    else None
+
+abbrev pub transport_of : World → Transport
+transport_of w = w.own.transport
 
 abbrev pub refusal : Machine → Offer → Option Refusal
-refusal m o =
-    if is_some m.left_end then Some has_ended
-    else if not (is_known m.known) && list_any (λ (w : World). is_waiting w.own.transport) m.worlds then Some negotiating
-    else if is_class_0 m.known then Some one_connection
-    else if nat_le 64 (live_count m.worlds) then Some too_many
-    else if nat_le 65535 (length m.worlds) then Some references_used_up
-    else if not (is_profile o.requirements) then Some not_selected
-    else if not (nat_le (length o.octets) 10240) then Some too_long
-    else None
+refusal m o = refusal_by (is_some m.left_end) m.known (map transport_of m.worlds) o
 
 abbrev pub asked_in : Machine → Offer → Option Refusal → Machine
 asked_in m o (Some e) = m

@@ -1,12 +1,14 @@
 -- What two users may rely on after every list of steps of the machine, by what their records tell.
-use Rattle.std.specs.Prelude.{◌≡◌, ℕ, ◌<◌, true, false, ◌&&◌, List, [], ◌∷◌, ◌++◌, Some}
+use Rattle.std.specs.Prelude.{◌≡◌, ℕ, ◌<◌, true, false, ◌&&◌, List, [], ◌∷◌, ◌++◌, take, Some}
 use Rattle.std.specs.List.{AllByRecursion}
-use Rattle.osi_machine.specs.Floor.{Token, has, is_over}
+use Rattle.osi_machine.specs.Floor.{Token, has, Call, Meaning}
 use Rattle.osi_machine.specs.Histories.{Item, Point, PointKind, Begins, Agree}
-use Rattle.osi_machine.specs.Core.{Left, Right}
-use Rattle.osi_machine.specs.Worlds.{World, Terms, turned, session_of}
-use Rattle.osi_machine.specs.Machine.{Step, Machine, HasNumber, start, run, connection_at}
+use Rattle.osi_machine.specs.Core.{Offer, Side, Left, Right}
+use Rattle.osi_machine.specs.Worlds.{Message, unit, World, Terms, turned, session_of}
+use Rattle.osi_machine.specs.Machine.{Step, connects, calls, delivers, Machine, HasNumber, start, step, run, connection_at, end_of}
 use Rattle.osi_machine.specs.Views.{Told, told_of}
+use Rattle.osi_machine.specs.Promises.{brings}
+use Rattle.osi_machine.specs.Taking.{is_acted_on}
 
 -- a machine that came about from the empty one
 pub record IsRun (m : Machine) : Type 0 where
@@ -39,9 +41,27 @@ ShownAsAsked w left right =
 -- each point in the view of a side with a number below its V(A) is in the view of the other, behind the
 -- same items; unless the other has asked for a restart and has seen no answer
 abbrev pub ConfirmedThere : World → Told → Told → Type 0
-ConfirmedThere w own other = own.duplex ≡ false → other.duplex ≡ false →
+ConfirmedThere w own other =
     (before : List Item) (n : ℕ) (kind : PointKind) (octets : List ℕ) → Begins (before ++ Point n kind octets ∷ []) own.view →
     n < w.own.kept.confirmed → other.asking ≡ false → Begins (before ++ Point n kind octets ∷ []) other.view
 
 abbrev pub ConfirmedInBoth : World → Told → Told → Type 0
 ConfirmedInBoth w left right = ConfirmedThere w left right × ConfirmedThere (turned w) right left
+
+-- data or a point that is taken is the item of the history at the mark of the side that takes it
+abbrev pub TakesItsItem : World → Type 0
+TakesItsItem w = (u : Meaning) (ms : List Message) → w.peer.channel ≡ unit u ∷ ms → is_acted_on (session_of w) u ≡ true →
+    Begins (take w.own.mark w.history ++ brings (session_of w) u) w.history
+
+abbrev pub TakeTheirItems : World → Told → Told → Type 0
+TakeTheirItems w left right = TakesItsItem w × TakesItsItem (turned w)
+
+-- ---- connections are apart
+
+-- A step of one connection changes no other: a new one, a call, a delivery that does not end its side. A
+-- break and an end are for all.
+pub record AreApart (m : Machine) : Type 0 where
+  pub asked : (o : Offer) (q : ℕ) (w : World) → connection_at q m.worlds ≡ Some w → connection_at q (step m (connects o)).worlds ≡ Some w
+  pub called : (side : Side) (r q : ℕ) (c : Call) → (q ≡ r → ⊥) → connection_at q (step m (calls side r c)).worlds ≡ connection_at q m.worlds
+  pub delivered : (side : Side) (r q : ℕ) (keep : ℕ → ℕ) → (q ≡ r → ⊥) → end_of side (step m (delivers side r keep)) ≡ end_of side m
+      → connection_at q (step m (delivers side r keep)).worlds ≡ connection_at q m.worlds

@@ -2,16 +2,19 @@
 
 ghost use Rattle.std.specs.Prelude.{◌≡◌, ◌<◌, List, [], true, false};
 ghost use Rattle.std.specs.List.{AllByRecursion};
+ghost use Rattle.osi_machine.specs.AsTables.{IsAsTables, IsTableRun, AreOffered, OfEachLine, HoldNoneTwice, AreNoFaults, AreAgreed, IsShownAsAsked, IsSeenInBoth};
 ghost use Rattle.osi_machine.specs.Core.{Core, CoreStep, Offer, Left, Right, core_run, core_start};
 ghost use Rattle.osi_machine.specs.Examples.{all_tokens, lost_give_seen, after_lost_give, crossing_seen, after_crossing, two_points_seen, restart_below_seen, after_restart_below, last_point, last_point_seen, lost_release_seen, after_lost_release, both_send, both_send_seen, to_right, held_in, stands_at, next_at, lowest_at, history_of, up_to_first_point};
 ghost use Rattle.osi_machine.specs.Floor.{no_token, is_profile};
 ghost use Rattle.osi_machine.specs.Histories.{Agree};
-ghost use Rattle.osi_machine.specs.Machine.{Machine, run, start, step};
+ghost use Rattle.osi_machine.specs.Machine.{Machine, Step, HasNumber, run, start, step};
 ghost use Rattle.osi_machine.specs.Parties.{AreConsistent, IsNumberedStep};
 ghost use Rattle.osi_machine.specs.Promises.{IsReached, OfBoth, OneHolder, HoldsItsOwn, TakesNoFault, SeesTheHistory, ViewsAgree, GotWhatWasSaid, TakesTheNextItem, ConfirmedIsSeen};
-ghost use Rattle.osi_machine.specs.Runs.{IsRun, OfEach, HasOneHolder, ShowNoFault, RecordsAgree, ShownAsAsked, ConfirmedInBoth};
+ghost use Rattle.osi_machine.specs.Runs.{IsRun, OfEach, HasOneHolder, ShowNoFault, RecordsAgree, ShownAsAsked, ConfirmedInBoth, TakeTheirItems, AreApart};
+ghost use Rattle.osi_machine.specs.Tables.{Tables};
+ghost use Rattle.osi_machine.specs.Tables as tables;
 ghost use Rattle.osi_machine.specs.Views.{AreTold, left_told, right_told};
-ghost use Rattle.osi_machine.specs.Worlds.{accepts, class_2};
+ghost use Rattle.osi_machine.specs.Worlds.{Terms, accepts, class_2};
 
 use osi_session::laws as session;
 
@@ -102,19 +105,59 @@ pub fn what_a_record_tells()
 /// ends, and whatever is lost: of each connection no token is held by both sides; neither user is shown
 /// a fault of its own side or of the other; unless duplex is selected, one of both views begins with the
 /// other, and with duplex the data that a side is shown is how the data that the other asked to send
-/// begins; and each point in the view of a side that is not over, with a number below its V(A), is in the
-/// view of the other, behind the same items, unless the other awaits the answer to a restart. All this
-/// is read from the journal alone, but for V(A).
+/// begins; and each point in the view of a side with a number below its V(A) is in the view of the other,
+/// behind the same items, unless the other awaits the answer to a restart. All this is read from the
+/// journal alone, but for V(A). Data or a point that is taken is the item of the history at the mark of
+/// the side that takes it.
 pub fn what_two_records_tell()
     ensures holder { (m : Machine) → IsRun m → OfEach HasOneHolder m }
     ensures fault { (m : Machine) → IsRun m → OfEach ShowNoFault m }
     ensures agreement { (m : Machine) → IsRun m → OfEach RecordsAgree m }
     ensures duplex { (m : Machine) → IsRun m → OfEach ShownAsAsked m }
     ensures confirmed { (m : Machine) → IsRun m → OfEach ConfirmedInBoth m }
+    ensures item { (m : Machine) → IsRun m → OfEach TakeTheirItems m }
 {
     session::numbers_stay_in_order();
     session::what_is_sent_can_be_sent();
     session::what_two_units_do();
+}
+
+/// A step of one connection changes no other: a new one, a call, and a delivery that does not end its side.
+pub fn connections_are_apart()
+    ensures { (m : Machine) → AreApart m }
+{}
+
+/// After every list of steps two tables that share nothing but what is under way, one for each side, do
+/// what the machine does: the journal is the same, and so are the ends and the class; and each side has
+/// the same state, which the machine reads from one history and one owner for each token, and the same
+/// messages under way.
+pub fn the_tables_are_the_machine()
+    ensures { (terms : Terms) (steps : List Step) → AllByRecursion HasNumber steps → IsAsTables (run (start terms) steps) (tables.run (tables.start terms) steps) }
+{
+    session::numbers_stay_in_order();
+    session::what_is_sent_can_be_sent();
+    session::what_two_units_do();
+    session::an_empty_token_item_changes_nothing();
+}
+
+/// What two records tell, read from the tables and the journal alone: of each connection no token is held
+/// by both sessions; neither user is shown a fault of its own side or of the other; unless duplex is
+/// selected, one of both views begins with the other, and with duplex the data that a side is shown is
+/// how the data that the other asked to send begins; and each point in the view of a side with a number
+/// below its V(A) is in the view of the other, behind the same items, unless the other awaits the answer
+/// to a restart. The journal has what was asked for with each connection.
+pub fn what_two_tables_tell()
+    ensures holder { (t : Tables) → IsTableRun t → OfEachLine HoldNoneTwice t }
+    ensures fault { (t : Tables) → IsTableRun t → OfEachLine AreNoFaults t }
+    ensures agreement { (t : Tables) → IsTableRun t → OfEachLine AreAgreed t }
+    ensures duplex { (t : Tables) → IsTableRun t → OfEachLine IsShownAsAsked t }
+    ensures confirmed { (t : Tables) → IsTableRun t → OfEachLine IsSeenInBoth t }
+    ensures offered { (t : Tables) → IsTableRun t → AreOffered t }
+{
+    session::numbers_stay_in_order();
+    session::what_is_sent_can_be_sent();
+    session::what_two_units_do();
+    session::an_empty_token_item_changes_nothing();
 }
 
 /// Examples, computed. A token that is given and not yet taken when the other side asks for a restart

@@ -1,0 +1,95 @@
+-- A step of one connection changes no other.
+use Rattle.std.proofs.Common.{◌≡◌, refl, sym, ◌∙◌, ap, ℕ, zero, suc, Bool, true, false, if◌then◌else◌, List, [], ◌∷◌, ◌++◌, map, Option, Some, None, is_some}
+use Rattle.std.specs.List.{slice_get}
+use Rattle.osi_session.specs.declared.faults.CallError.TheVariants as error
+use Rattle.osi_machine.specs.Floor.{Call, allowed}
+use Rattle.osi_machine.specs.Core.{Offer, Side, Left, Right}
+use Rattle.osi_machine.specs.Worlds.{Class, class_0, class_2, Message, World, session_of, after_answer, Taking, message_taken, closed}
+use Rattle.osi_machine.specs.Machine.{Ending, closed_here, Refusal, Step, connects, calls, delivers, Machine, connection_at, replaced, with_connection, seen_from, end_of, stays, noted, is_given, error_of, call_answered, shown_at, refusal, asked_in, call_in, side_of, marked_ended, after_end, closes_by, after_taking, without_first, learns, taken_in, delivered_to, step}
+use Rattle.osi_machine.specs.Runs.{AreApart}
+
+replaced_other : (k r : ℕ) (ws : List World) (v : World) → (k ≡ r → ⊥) → slice_get (replaced r v ws) k ≡ slice_get ws k
+replaced_other k r [] v n = refl
+replaced_other zero zero (w ∷ ws) v n = absurd (n refl)
+replaced_other (suc k) zero (w ∷ ws) v n = refl
+replaced_other zero (suc r) (w ∷ ws) v n = refl
+replaced_other (suc k) (suc r) (w ∷ ws) v n = replaced_other k r ws v (λ e. n (ap suc e))
+
+with_other : (k r : ℕ) (ws : List World) (v : World) → (k ≡ r → ⊥) → connection_at k (with_connection r v ws) ≡ connection_at k ws
+with_other zero zero ws v n = refl
+with_other (suc k) zero ws v n = refl
+with_other zero (suc r) ws v n = refl
+with_other (suc k) (suc r) ws v n = replaced_other k r ws v (λ e. n (ap suc e))
+
+there_still : (k : ℕ) (ws vs : List World) (w : World) → slice_get ws k ≡ Some w → slice_get (ws ++ vs) k ≡ Some w
+there_still k [] vs w e = absurd (cc)
+there_still zero (x ∷ ws) vs w e = e
+there_still (suc k) (x ∷ ws) vs w e = there_still k ws vs w e
+
+asked_other : (m : Machine) (o : Offer) (a : Option Refusal) (k : ℕ) (w : World) → connection_at k m.worlds ≡ Some w → connection_at k (asked_in m o a).worlds ≡ Some w
+asked_other m o (Some e) k w f = f
+asked_other m o None zero w f = absurd (cc)
+asked_other m o None (suc k) w f = there_still k m.worlds _ w f
+
+call_other : (m : Machine) (side : Side) (r : ℕ) (c : Call) (k : ℕ) → (k ≡ r → ⊥) → (a : Option World) → connection_at k (call_in m side r c (side_of side a)).worlds ≡ connection_at k m.worlds
+call_other m side r c k n None = refl
+call_other m side r c k n (Some w) = by (is_given (seen_from side w).own.transport)
+  where
+    by : (b : Bool) → connection_at k (if b
+        then noted (call_answered side r c (error_of (allowed (session_of (seen_from side w)) c)) ∷ []) (stays m side r (after_answer m.broken c (seen_from side w) (allowed (session_of (seen_from side w)) c)))
+        else noted (call_answered side r c (Some error.NoSuchConnection) ∷ []) m).worlds ≡ connection_at k m.worlds
+    by true = with_other k r m.worlds (seen_from side (after_answer m.broken c (seen_from side w) (allowed (session_of (seen_from side w)) c))) n
+    by false = refl
+
+ended_now : (side : Side) (m : Machine) → end_of side (marked_ended side closed_here m) ≡ Some closed_here
+ended_now Left m = refl
+ended_now Right m = refl
+
+no_end : {A : Type 0} (e f : Option Ending) → e ≡ Some closed_here → e ≡ f → is_some f ≡ false → A
+no_end e f p q n = absurd (let z = sym (ap is_some (sym q ∙ p)) ∙ n in cc)
+
+same_end : (side : Side) (m : Machine) (known : Option Class) → end_of side (record m { known = known }) ≡ end_of side m
+same_end Left m known = refl
+same_end Right m known = refl
+
+taking_other : (m : Machine) (side : Side) (r : ℕ) (keep : ℕ → ℕ) (t : Taking) (k : ℕ) → (k ≡ r → ⊥) → is_some (end_of side m) ≡ false → end_of side (after_taking m side r keep t) ≡ end_of side m
+    → connection_at k (after_taking m side r keep t).worlds ≡ connection_at k m.worlds
+taking_other m side r keep t k n i e = by t.closes e
+  where
+    last : (known : Option Class) → end_of side (closes_by known (noted (map (shown_at side r) t.shown) m) side r keep t) ≡ end_of side m → connection_at k (closes_by known (noted (map (shown_at side r) t.shown) m) side r keep t).worlds ≡ connection_at k m.worlds
+    last (Some class_2) f = with_other k r m.worlds (seen_from side (closed m.broken (keep r) t.world)) n
+    last (Some class_0) f = no_end _ (end_of side m) (ended_now side _) f i
+    last None f = no_end _ (end_of side m) (ended_now side _) f i
+
+    by : (b : Bool) → end_of side (if b then closes_by m.known (noted (map (shown_at side r) t.shown) m) side r keep t else noted (map (shown_at side r) t.shown) (stays m side r t.world)) ≡ end_of side m
+        → connection_at k (if b then closes_by m.known (noted (map (shown_at side r) t.shown) m) side r keep t else noted (map (shown_at side r) t.shown) (stays m side r t.world)).worlds ≡ connection_at k m.worlds
+    by true f = last m.known f
+    by false f = with_other k r m.worlds (seen_from side t.world) n
+
+taken_other : (m : Machine) (side : Side) (r : ℕ) (keep : ℕ → ℕ) (w : World) (k : ℕ) → (k ≡ r → ⊥) → is_some (end_of side m) ≡ false → (ms : List Message)
+    → end_of side (taken_in m side r keep w ms) ≡ end_of side m → connection_at k (taken_in m side r keep w ms).worlds ≡ connection_at k m.worlds
+taken_other m side r keep w k n i [] e = refl
+taken_other m side r keep w k n i (x ∷ xs) e =
+    taking_other (record m { known = learns m.terms w.own.transport x m.known }) side r keep (message_taken m.broken m.terms (keep r) w.own.transport (without_first w xs) x) k n
+    (ap is_some (same_end side m (learns m.terms w.own.transport x m.known)) ∙ i) (e ∙ sym (same_end side m (learns m.terms w.own.transport x m.known)))
+
+delivery_other : (m : Machine) (side : Side) (r : ℕ) (keep : ℕ → ℕ) (k : ℕ) → (k ≡ r → ⊥) → is_some (end_of side m) ≡ false → (a : Option World)
+    → end_of side (delivered_to m side r keep (side_of side a)) ≡ end_of side m → connection_at k (delivered_to m side r keep (side_of side a)).worlds ≡ connection_at k m.worlds
+delivery_other m side r keep k n i None e = refl
+delivery_other m side r keep k n i (Some w) e = taken_other m side r keep (seen_from side w) k n i (seen_from side w).peer.channel e
+
+delivers_apart : (m : Machine) (side : Side) (r : ℕ) (keep : ℕ → ℕ) (k : ℕ) → (k ≡ r → ⊥) → end_of side (step m (delivers side r keep)) ≡ end_of side m
+    → connection_at k (step m (delivers side r keep)).worlds ≡ connection_at k m.worlds
+delivers_apart m side r keep k n e = by (is_some (end_of side m)) refl e
+  where
+    by : (b : Bool) → is_some (end_of side m) ≡ b → end_of side (if b then m else delivered_to m side r keep (side_of side (connection_at r m.worlds))) ≡ end_of side m
+        → connection_at k (if b then m else delivered_to m side r keep (side_of side (connection_at r m.worlds))).worlds ≡ connection_at k m.worlds
+    by true i f = refl
+    by false i f = delivery_other m side r keep k n i (connection_at r m.worlds) f
+
+pub are_apart : (m : Machine) → AreApart m
+are_apart m = record {
+  asked = λ o q w e. asked_other m o (refusal m o) q w e;
+  called = λ side r q c n. call_other m side r c q n (connection_at r m.worlds);
+  delivered = λ side r q keep n e. delivers_apart m side r keep q n e;
+}

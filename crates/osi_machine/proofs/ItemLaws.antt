@@ -1,0 +1,60 @@
+-- Data or a point that is taken is the item of the history at the mark of the side that takes it.
+use Rattle.std.proofs.Common.{◌≡◌, refl, sym, ◌∙◌, ap, subst, ℕ, Bool, true, false, not, ◌&&◌, if◌then◌else◌, List, [], ◌∷◌, ◌++◌, take, length, Some, inl, inr}
+use Rattle.osi_machine.specs.Floor.{State, Meaning, RF, DN, AB, is_over}
+use Rattle.osi_machine.specs.Histories.{Item, Begins}
+use Rattle.osi_machine.specs.Taking.{is_acted_on}
+use Rattle.osi_machine.specs.Core.{Core, Left, Right}
+use Rattle.osi_machine.specs.Worlds.{Message, unit, World, turned, session_of}
+use Rattle.osi_machine.specs.Machine.{Machine, connection_at}
+use Rattle.osi_machine.specs.Views.{Told, told_of}
+use Rattle.osi_machine.specs.Promises.{brings}
+use Rattle.osi_machine.specs.Runs.{IsRun, OfEach, TakesItsItem, TakeTheirItems}
+use Rattle.osi_machine.proofs.CoreLaws.{SessionLaws}
+use Rattle.osi_machine.proofs.Promises.{none_brought, sees_the_history, takes_the_next_item}
+use Rattle.osi_machine.proofs.Projects.{stopped, IsLast, Carried, taken_view, session_is}
+use Rattle.osi_machine.proofs.ProjectTake.{First, Last, split_first}
+use Rattle.osi_machine.proofs.ProjectWorld.{Repeats}
+use Rattle.osi_machine.proofs.Whole.{Stage, turned_stage}
+use Rattle.osi_machine.proofs.MachineLaws.{stage_at}
+use Rattle.osi_machine.proofs.TableRuns.{no_unit_back, no_unit_out}
+
+acted_lives : (s : State) (u : Meaning) → is_acted_on s u ≡ true → is_over s.phase ≡ false
+acted_lives s u a = by (is_over s.phase) _ a
+  where
+    by : (b c : Bool) → (not b && c) ≡ true → b ≡ false
+    by true c e = absurd (cc)
+    by false c e = refl
+
+last_brings : (s r : State) (u : Meaning) → IsLast r u → brings s u ≡ []
+last_brings s r (AB b o) l = refl
+last_brings s r (DN o) l = refl
+last_brings s r (RF x o) l = refl
+last_brings s r _ l = absurd l
+
+next_there : SessionLaws → (b : Bool) (w : World) (t u : Told) (m : Meaning) (ms : List Message) (h : Repeats b w t u) → w.peer.channel ≡ unit m ∷ ms → stopped w.own ≡ false
+    → is_acted_on h.core.own.session m ≡ true → Begins (h.core.own.view ++ brings h.core.own.session m) h.core.history
+next_there laws b w t u m ms h e l a =
+    let way = subst (λ (ch : List Message). Carried b (stopped w.peer) ch h.core.peer.sent h.core.peer.session) e (h.projects.own.carried l) in
+    elim (split_first b (stopped w.peer) m ms h.core.peer.sent h.core.peer.session way) [
+      | inl f ↦ takes_the_next_item laws h.core h.stands m f.rest f.sent_is a
+      | inr z ↦ subst (λ (is : List Item). Begins (h.core.own.view ++ is) h.core.history) (sym (last_brings h.core.own.session h.core.peer.session m z.last)) (none_brought h.core h.stands)
+    ]
+
+takes_its_item : SessionLaws → (b : Bool) (w : World) (t u : Told) → Stage b w t u → TakesItsItem w
+takes_its_item laws b w t u (inl h) m ms e a = absurd (no_unit_back h.way m ms (sym e ∙ h.peer_channel))
+takes_its_item laws b w t u (inr (inl h)) m ms e a = absurd (no_unit_out h.way m ms (sym e ∙ h.own_channel))
+takes_its_item laws b w t u (inr (inr h)) m ms e a =
+    let l : stopped w.own ≡ false = acted_lives (session_of w) m a in
+    let same = session_is w h.core h.stands h.projects.history h.projects.own.counted (h.projects.own.alike l) in
+    let seen = ap (λ (k : ℕ). take k w.history) h.projects.own.counted.marked ∙ ap (take (length h.core.own.view)) h.projects.history ∙ taken_view h.core.own.view h.core.history (sees_the_history h.core h.stands) in
+    subst (λ (v : List Item). Begins (v ++ brings (session_of w) m) w.history) (sym seen)
+    (subst (λ (s : State). Begins (h.core.own.view ++ brings s m) w.history) (sym same)
+    (subst (Begins (h.core.own.view ++ brings h.core.own.session m)) (sym h.projects.history)
+    (next_there laws b w t u m ms h e l (subst (λ (s : State). is_acted_on s m ≡ true) same a))))
+
+pub items_taken : SessionLaws → (m : Machine) → IsRun m → OfEach TakeTheirItems m
+items_taken laws m h r w e =
+    let s = stage_at laws m h r w e in (
+      takes_its_item laws m.broken w _ _ s,
+      takes_its_item laws m.broken (turned w) _ _ (turned_stage m.broken w _ _ s),
+    )

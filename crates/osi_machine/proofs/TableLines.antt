@@ -1,0 +1,217 @@
+-- A connection of the machine as its two sides keep it, and that every move of it is the same in tables.
+use Rattle.std.proofs.Common.{◌≡◌, refl, sym, ◌∙◌, ap, subst, ℕ, ◌+◌, ◌<◌, Bool, true, false, not, if◌then◌else◌, List, [], ◌∷◌, take, Option, Some, None, inl, inr, Ok, Err}
+use Rattle.osi_session.specs.Moves.{called, taken, opened, refused, broken as broken_off, Standing, Move, react, answered as answered_move, begun, denied, rests}
+use Rattle.osi_session.specs.Shown.{Shown, RefusedByTransport}
+use Rattle.osi_message.specs.Sendable.{said_of}
+use Rattle.osi_machine.specs.Floor.{State, Phase, WaitTransport, Connecting, Ended, Meaning, Token, Call, HasSerial, Answer, Granted, CallError, Outcome, no_token, is_over, is_wait_transport, without_tokens, allowed, respond, respond_unit, awaiting, lost}
+use Rattle.osi_machine.specs.Histories.{points}
+use Rattle.osi_machine.specs.Owners.{Owner, Owners, is_own, turned_owner, owned, given_up, left_by}
+use Rattle.osi_machine.specs.Core.{Offer, offering, offer_sent}
+use Rattle.osi_machine.specs.Worlds.{Message, unit, ask, agree, deny, bye, over, Transport, not_yet, waiting, linked, closing, gone, Kept, kept_of, World, turned, session_of, asked_with, put, replied, after_call, after_answer, Taking, unit_taken, Terms, accepts, denies, message_taken, moved, shortened, closed, ended_at, shown_at_end}
+use Rattle.osi_machine.specs.Machine.{error_of, without_first}
+use Rattle.osi_machine.specs.Tables.{Seat, Line, Turn}
+use Rattle.osi_machine.specs.Tables as tables
+use Rattle.osi_machine.specs.Views.{Told}
+use Rattle.osi_machine.proofs.CoreLaws.{SessionLaws}
+use Rattle.osi_machine.proofs.RestartCall.{given_theirs}
+use Rattle.osi_machine.proofs.Projects.{stopped, is_begun}
+use Rattle.osi_machine.proofs.ProjectCall.{own_gone, left_theirs}
+use Rattle.osi_machine.proofs.ProjectTake.{put_nothing}
+use Rattle.osi_machine.proofs.ProjectWorld.{Repeats}
+use Rattle.osi_machine.proofs.ProjectStart.{Refuses}
+use Rattle.osi_machine.proofs.Whole.{turned_back}
+use Rattle.osi_machine.proofs.TableSeats.{state_from, Disowned, owned_none, owned_as, called_disowned, taken_disowned, Followed, call_followed, unit_followed}
+
+-- ---- a connection as tables; a and b are the CNs that may wait
+
+abbrev pub seat_of : World → Option Meaning → Seat
+seat_of w a = record { transport = w.own.transport; session = record { state = session_of w; waiting = a }; channel = w.own.channel }
+
+abbrev pub line_of : World → Option Meaning → Option Meaning → Line
+line_of w a b = record { own = seat_of w a; peer = seat_of (turned w) b }
+
+-- what is true of a side besides: before the connection is agreed to it is as it was made, and owns nothing
+pub record IsSeated (w : World) (a : Option Meaning) : Type 0 where
+  pub calls : w.own.transport ≡ waiting → a ≡ Some (offer_sent w.offer)
+  pub called : w.own.transport ≡ waiting → w.own.kept ≡ kept_of (without_tokens WaitTransport (offering w.offer))
+  pub idle : w.own.transport ≡ not_yet → w.own.kept ≡ kept_of awaiting
+  pub bare : is_begun w.own.transport ≡ false → (t : Token) → is_own (w.owner t) ≡ false
+  pub disowned : Disowned w
+
+pub record AreSeated (w : World) (a b : Option Meaning) : Type 0 where
+  pub own : IsSeated w a
+  pub peer : IsSeated (turned w) b
+
+-- a line is this connection
+pub record Tabled (l : Line) (w : World) : Type 0 where
+  pub first : Option Meaning
+  pub second : Option Meaning
+  pub same : l ≡ line_of w first second
+  pub seated : AreSeated w first second
+
+abbrev pub turn_of : Taking → Option Meaning → Option Meaning → Turn
+turn_of k a b = record { line = line_of k.world a b; shown = k.shown; closes = k.closes }
+
+pub record TurnTabled (x : Turn) (k : Taking) : Type 0 where
+  pub first : Option Meaning
+  pub second : Option Meaning
+  pub same : x ≡ turn_of k first second
+  pub seated : AreSeated k.world first second
+
+-- ---- sides
+
+not_both : {A : Type 0} (b : Bool) → b ≡ true → b ≡ false → A
+not_both b p q = absurd (cc)
+
+pub begun_seated : (w : World) (a : Option Meaning) → is_begun w.own.transport ≡ true → Disowned w → IsSeated w a
+begun_seated w a b d = record {
+  calls = λ e. not_both _ b (ap is_begun e);
+  called = λ e. not_both _ b (ap is_begun e);
+  idle = λ e. not_both _ b (ap is_begun e);
+  bare = λ e. not_both _ b e;
+  disowned = d;
+}
+
+-- the other side, whose tokens are as they were
+other_seated : (w : World) (o : Owners) (a : Option Meaning) → ((t : Token) → is_own (o t) ≡ is_own (w.owner t)) → IsSeated w a → IsSeated (record w { owner = o }) a
+other_seated w o a same h = record {
+  calls = h.calls;
+  called = h.called;
+  idle = h.idle;
+  bare = λ e t. same t ∙ h.bare e t;
+  disowned = λ e t. same t ∙ h.disowned e t;
+}
+
+pub turned_tabled : (l : Line) (w : World) → Tabled l w → Tabled (tables.turned l) (turned w)
+turned_tabled l w h = record {
+  first = h.second;
+  second = h.first;
+  same = ap tables.turned h.same ∙ ap (λ (v : World). record { own = seat_of (turned w) h.second; peer = seat_of v h.first }) (sym (turned_back w));
+  seated = record { own = h.seated.peer; peer = subst (λ (v : World). IsSeated v h.first) (sym (turned_back w)) h.seated.own };
+}
+
+-- ---- what a session that is over leaves of its tokens
+
+gave_up : (w : World) → owned (given_up w.owner) ≡ no_token
+gave_up w = owned_none (given_up w.owner) (λ t. own_gone (w.owner t))
+
+pub theirs_stay : (s : State) (w : World) → session_of (turned (record w { owner = left_by s w.owner })) ≡ session_of (turned w)
+theirs_stay s w =
+    ap (λ h. state_from w.peer.kept h (w.peer.kept.base + points (take w.peer.mark w.history)))
+    (owned_as (λ t. turned_owner (left_by s w.owner t)) (λ t. turned_owner (w.owner t)) (λ t. left_theirs s w.owner t))
+
+-- a side that is lost or denied
+pub gone_state : (w : World) → session_of (record w { owner = given_up w.owner; own = record w.own { kept = kept_of (without_tokens Ended (session_of w)) } }) ≡ without_tokens Ended (session_of w)
+gone_state w = ap (λ h. state_from (kept_of (without_tokens Ended (session_of w))) h (w.own.kept.base + points (take w.own.mark w.history))) (gave_up w)
+
+pub gone_seated : (w : World) (tr : Transport) (ms : List Message) (a b : Option Meaning) → is_begun tr ≡ true → AreSeated w a b
+    → AreSeated (record w { owner = given_up w.owner; own = record w.own { transport = tr; kept = kept_of (without_tokens Ended (session_of w)); channel = ms } }) a b
+gone_seated w tr ms a b e h = record {
+  own = begun_seated (record w { owner = given_up w.owner; own = record w.own { transport = tr; kept = kept_of (without_tokens Ended (session_of w)); channel = ms } }) a e (λ o t. own_gone (w.owner t));
+  peer = record {
+    calls = h.peer.calls;
+    called = h.peer.called;
+    idle = h.peer.idle;
+    bare = λ q t. sym (given_theirs (w.owner t)) ∙ h.peer.bare q t;
+    disowned = λ q t. sym (given_theirs (w.owner t)) ∙ h.peer.disowned q t;
+  };
+}
+
+-- ---- a call
+
+refused_call : (broken : Bool) (c : Call) (w : World) (a b : Option Meaning) (e : CallError) → allowed (session_of w) c ≡ Err e
+    → tables.after_call broken c (line_of w a b) ≡ line_of w a b
+unfolding react
+refused_call broken c w a b e h =
+    ap (λ x. tables.made broken (answered_move (record { state = session_of w; waiting = a }) x) (line_of w a b)) h
+    ∙ ap (λ ch. record { own = record { transport = w.own.transport; session = record { state = session_of w; waiting = a }; channel = ch }; peer = seat_of (turned w) b }) (put_nothing broken w.own.channel)
+
+accepted_call : (broken : Bool) (c : Call) (w : World) (a b : Option Meaning) (g : Granted) → allowed (session_of w) c ≡ Ok g → Followed w (after_call broken (session_of w) c g w) g.next
+    → tables.after_call broken c (line_of w a b) ≡ line_of (after_call broken (session_of w) c g w) a b
+unfolding react
+accepted_call broken c w a b g h f =
+    let own = sym f.own in
+    let peer = sym f.peer in
+    ap (λ x. tables.made broken (answered_move (record { state = session_of w; waiting = a }) x) (line_of w a b)) h
+    ∙ (λ i. record {
+      own = record { transport = w.own.transport; session = record { state = own i; waiting = a }; channel = put broken (unit g.sent ∷ []) w.own.channel };
+      peer = record { transport = w.peer.transport; session = record { state = peer i; waiting = b }; channel = w.peer.channel };
+    })
+
+pub error_as : (s : State) (a : Option Meaning) (c : Call) → (react (record { state = s; waiting = a }) (called c)).error ≡ error_of (allowed s c)
+unfolding react
+error_as s a c = by (allowed s c)
+  where
+    by : (x : Answer) → (answered_move (record { state = s; waiting = a }) x).error ≡ error_of x
+    by (Ok g) = refl
+    by (Err e) = refl
+
+pub call_tabled : SessionLaws → (broken : Bool) (w : World) (a b : Option Meaning) (t u : Told) (c : Call) → HasSerial c → Repeats broken w t u → AreSeated w a b
+    → Tabled (tables.after_call broken c (line_of w a b)) (after_answer broken c w (allowed (session_of w) c))
+call_tabled laws broken w a b t u c small h s = by (allowed (session_of w) c) refl
+  where
+    by : (x : Answer) → allowed (session_of w) c ≡ x → Tabled (tables.after_call broken c (line_of w a b)) (after_answer broken c w x)
+    by (Ok g) e =
+        let none = called_disowned broken (session_of w) c g w s.peer.disowned in
+        record {
+          first = a;
+          second = b;
+          same = accepted_call broken c w a b g e (call_followed laws broken w t u c g small h s.peer.disowned e);
+          seated = record {
+            own = begun_seated (after_call broken (session_of w) c g w) a h.projects.own.begun none.0;
+            peer = begun_seated (turned (after_call broken (session_of w) c g w)) b h.projects.peer.begun none.1;
+          };
+        }
+    by (Err e) q = record { first = a; second = b; same = refused_call broken c w a b e q; seated = s }
+
+pub refused_tabled : (broken : Bool) (w : World) (a b : Option Meaning) (c : Call) → Refuses (session_of w) c → AreSeated w a b
+    → Tabled (tables.after_call broken c (line_of w a b)) (after_answer broken c w (allowed (session_of w) c))
+refused_tabled broken w a b c r s =
+    subst (λ (x : Answer). Tabled (tables.after_call broken c (line_of w a b)) (after_answer broken c w x)) (sym r.refused)
+    (record { first = a; second = b; same = refused_call broken c w a b r.fault r.refused; seated = s })
+
+-- ---- a unit is taken
+
+-- what a TSDU says that has one unit
+abbrev pub SaysItsUnit : Type 0
+SaysItsUnit = (s : State) (u : Meaning) → respond s (said_of u) ≡ respond_unit s u
+
+unit_turn : SaysItsUnit → (broken : Bool) (w : World) (ms : List Message) (a b : Option Meaning) (u : Meaning) → w.own.transport ≡ linked
+    → Followed w (unit_taken broken (without_first w ms) u).world (respond_unit (session_of w) u).next
+    → tables.hears broken linked (taken (said_of u)) (line_of (without_first w ms) a b) ≡ turn_of (unit_taken broken (without_first w ms) u) a b
+unfolding react
+unit_turn says broken w ms a b u e f =
+    let own = sym f.own in
+    let peer = sym f.peer in
+    let o = says (session_of w) u in
+    let tr = sym e in
+    (λ i. record {
+      line = record {
+        own = record { transport = linked; session = record { state = (o i).next; waiting = a }; channel = put broken (replied (o i).reply) w.own.channel };
+        peer = record { transport = w.peer.transport; session = record { state = session_of (turned w); waiting = b }; channel = ms };
+      };
+      shown = (o i).shown;
+      closes = (o i).closes;
+    })
+    ∙ (λ i. record {
+      line = record {
+        own = record { transport = tr i; session = record { state = own i; waiting = a }; channel = put broken (replied (respond_unit (session_of w) u).reply) w.own.channel };
+        peer = record { transport = w.peer.transport; session = record { state = peer i; waiting = b }; channel = ms };
+      };
+      shown = (respond_unit (session_of w) u).shown;
+      closes = (respond_unit (session_of w) u).closes;
+    })
+
+pub unit_tabled : SessionLaws → SaysItsUnit → (broken : Bool) (w : World) (a b : Option Meaning) (t u : Told) (m : Meaning) (ms : List Message) → Repeats broken w t u → w.peer.channel ≡ unit m ∷ ms
+    → w.own.transport ≡ linked → AreSeated w a b → TurnTabled (tables.hears broken linked (taken (said_of m)) (line_of (without_first w ms) a b)) (unit_taken broken (without_first w ms) m)
+unit_tabled laws says broken w a b t u m ms h e l s =
+    let none = taken_disowned broken (session_of w) m (without_first w ms) s.peer.disowned in
+    record {
+      first = a;
+      second = b;
+      same = unit_turn says broken w ms a b m l (unit_followed laws broken w t u m ms h e s.own.disowned s.peer.disowned);
+      seated = record {
+        own = begun_seated (unit_taken broken (without_first w ms) m).world a h.projects.own.begun none.0;
+        peer = begun_seated (turned (unit_taken broken (without_first w ms) m).world) b h.projects.peer.begun none.1;
+      };
+    }

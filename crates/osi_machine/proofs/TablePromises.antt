@@ -1,0 +1,130 @@
+-- What two users may rely on, read from the tables and the journal.
+use Rattle.std.proofs.Common.{◌≡◌, refl, sym, ◌∙◌, ap, subst, ℕ, zero, suc, List, [], ◌∷◌, map, Option, Some, None}
+use Rattle.std.specs.List.{AllByRecursion, slice_get}
+use Rattle.osi_machine.specs.Floor.{State}
+use Rattle.osi_machine.specs.Core.{Offer, Left, Right}
+use Rattle.osi_machine.specs.Worlds.{World, Terms, turned, session_of}
+use Rattle.osi_machine.specs.Machine.{Step, Entry, Machine, start, connection_at, run, HasNumber}
+use Rattle.osi_machine.specs.Tables.{Line, Tables}
+use Rattle.osi_machine.specs.Tables as tables
+use Rattle.osi_machine.specs.Views.{Told, told_of}
+use Rattle.osi_machine.specs.Runs.{IsRun}
+use Rattle.osi_machine.specs.AsTables.{IsSeat, IsLine, AreLines, IsAsTables, offers_in, IsTableRun, IsOffered, AreOffered, OfEachLine, HoldNoneTwice, AreNoFaults, AreAgreed, IsShownAsAsked, IsSeenInBoth}
+use Rattle.osi_machine.proofs.CoreLaws.{SessionLaws}
+use Rattle.osi_machine.proofs.OffersTold.{offer_of, Offered, run_offered}
+use Rattle.osi_machine.proofs.MachineLaws.{holders, no_faults, agreements, duplex_agreements, confirmations}
+use Rattle.osi_machine.proofs.TableLines.{line_of, Tabled, SaysItsUnit}
+use Rattle.osi_machine.proofs.TableRuns.{AllTabled, At, Follows, line_there, all_follow}
+
+-- ---- the machine and its tables side by side
+
+line_as : (w : World) (l : Line) → Tabled l w → IsLine w l
+line_as w l h = subst (IsLine w) (sym h.same) (record {
+  own = record { transport = refl; state = refl; channel = refl };
+  peer = record { transport = refl; state = refl; channel = refl };
+})
+
+lines_as : (ws : List World) (ls : List Line) → AllTabled ls ws → AreLines ws ls
+lines_as [] [] h = tt
+lines_as (w ∷ ws) (l ∷ ls) h = (line_as w l h.0, lines_as ws ls h.1)
+lines_as [] (l ∷ ls) h = absurd h
+lines_as (w ∷ ws) [] h = absurd h
+
+follows_as : (m : Machine) (t : Tables) → Follows t m → IsAsTables m t
+follows_as m t h = subst (IsAsTables m) (sym h.same)
+    (record { terms = refl; broken = refl; left_end = refl; right_end = refl; known = refl; journal = refl; lines = lines_as m.worlds h.lines h.all })
+
+pub are_as_tables : SessionLaws → SaysItsUnit → (terms : Terms) (steps : List Step) → AllByRecursion HasNumber steps → IsAsTables (run (start terms) steps) (tables.run (tables.start terms) steps)
+are_as_tables laws says terms steps small = follows_as _ _ (all_follow laws says terms steps small)
+
+-- ---- a line, and the connection that it is
+
+record IsThere (m : Machine) (r : ℕ) (l : Line) : Type 0 where
+  world : World
+  found : connection_at r m.worlds ≡ Some world
+  tabled : Tabled l world
+
+some_line : (x l : Line) → Some x ≡ Some l → x ≡ l
+some_line x l e = ap or_else e
+  where
+    or_else : Option Line → Line
+    or_else None = x
+    or_else (Some y) = y
+
+line_found : (m : Machine) (r : ℕ) (l : Line) (a : Option Line) (b : Option World) → At a b → a ≡ Some l → connection_at r m.worlds ≡ b → IsThere m r l
+line_found m r l (Some x) (Some w) h e q = record { world = w; found = q; tabled = subst (λ (y : Line). Tabled y w) (some_line x l e) h }
+line_found m r l None (Some w) h e q = absurd h
+line_found m r l None None h e q = absurd (cc)
+line_found m r l (Some x) None h e q = absurd h
+
+offers_got : (ws : List World) (r : ℕ) (w : World) → slice_get ws r ≡ Some w → slice_get (map offer_of ws) r ≡ Some w.offer
+offers_got [] r w e = absurd (cc)
+offers_got (v ∷ ws) zero w e = ap offer_in e
+  where
+    offer_in : Option World → Option Offer
+    offer_in None = None
+    offer_in (Some y) = Some y.offer
+offers_got (v ∷ ws) (suc r) w e = offers_got ws r w e
+
+offer_got : (ws : List World) (r : ℕ) (w : World) → connection_at r ws ≡ Some w → connection_at r (map offer_of ws) ≡ Some w.offer
+offer_got ws zero w e = absurd (cc)
+offer_got ws (suc r) w e = offers_got ws r w e
+
+some_offer : (x o : Offer) → Some x ≡ Some o → x ≡ o
+some_offer x o e = ap or_else e
+  where
+    or_else : Option Offer → Offer
+    or_else None = x
+    or_else (Some y) = y
+
+-- what is true of each connection of the machine is true of each line
+lifted : (P : State → State → Told → Told → Type 0) (t : Tables) (m : Machine) → Follows t m → Offered m
+    → ((r : ℕ) (w : World) → connection_at r m.worlds ≡ Some w → P (session_of w) (session_of (turned w)) (told_of Left r w.offer m.journal) (told_of Right r w.offer m.journal))
+    → OfEachLine P t
+lifted P t m h q all r l o e f =
+    let journal : t.journal ≡ m.journal = ap (λ (x : Tables). x.journal) h.same in
+    let there = line_found m r l (connection_at r h.lines) (connection_at r m.worlds) (line_there h.lines m.worlds r h.all) (ap (λ (x : Tables). connection_at r x.lines) (sym h.same) ∙ e) refl in
+    let offer = some_offer there.world.offer o (sym (offer_got m.worlds r there.world there.found) ∙ ap (connection_at r) (sym q) ∙ ap (λ (j : List Entry). connection_at r (offers_in j)) (sym journal) ∙ f) in
+    subst (λ (x : Line). P x.own.session.state x.peer.session.state (told_of Left r o t.journal) (told_of Right r o t.journal)) (sym there.tabled.same)
+    (subst (λ (j : List Entry). P (session_of there.world) (session_of (turned there.world)) (told_of Left r o j) (told_of Right r o j)) (sym journal)
+    (subst (λ (p : Offer). P (session_of there.world) (session_of (turned there.world)) (told_of Left r p m.journal) (told_of Right r p m.journal)) offer
+    (all r there.world there.found)))
+
+offered_as : (t : Tables) (m : Machine) → Follows t m → Offered m → AreOffered t
+offered_as t m h q r l e =
+    let journal : t.journal ≡ m.journal = ap (λ (x : Tables). x.journal) h.same in
+    let there = line_found m r l (connection_at r h.lines) (connection_at r m.worlds) (line_there h.lines m.worlds r h.all) (ap (λ (x : Tables). connection_at r x.lines) (sym h.same) ∙ e) refl in
+    record {
+      offer = there.world.offer;
+      found = ap (λ (j : List Entry). connection_at r (offers_in j)) journal ∙ ap (connection_at r) q ∙ offer_got m.worlds r there.world there.found;
+    }
+
+of_runs : SessionLaws → SaysItsUnit → (P : State → State → Told → Told → Type 0)
+    → ((m : Machine) → IsRun m → (r : ℕ) (w : World) → connection_at r m.worlds ≡ Some w → P (session_of w) (session_of (turned w)) (told_of Left r w.offer m.journal) (told_of Right r w.offer m.journal))
+    → (t : Tables) → IsTableRun t → OfEachLine P t
+of_runs laws says P all t h =
+    lifted P t (run (start h.agreed) h.steps)
+    (subst (λ (x : Tables). Follows x (run (start h.agreed) h.steps)) h.reached (all_follow laws says h.agreed h.steps h.numbered))
+    (run_offered (start h.agreed) h.steps refl)
+    (all (run (start h.agreed) h.steps) (record { agreed = h.agreed; steps = h.steps; numbered = h.numbered; reached = refl }))
+
+pub table_offers : SessionLaws → SaysItsUnit → (t : Tables) → IsTableRun t → AreOffered t
+table_offers laws says t h =
+    offered_as t (run (start h.agreed) h.steps)
+    (subst (λ (x : Tables). Follows x (run (start h.agreed) h.steps)) h.reached (all_follow laws says h.agreed h.steps h.numbered))
+    (run_offered (start h.agreed) h.steps refl)
+
+pub table_holders : SessionLaws → SaysItsUnit → (t : Tables) → IsTableRun t → OfEachLine HoldNoneTwice t
+table_holders laws says = of_runs laws says HoldNoneTwice (holders laws)
+
+pub table_faults : SessionLaws → SaysItsUnit → (t : Tables) → IsTableRun t → OfEachLine AreNoFaults t
+table_faults laws says = of_runs laws says AreNoFaults (no_faults laws)
+
+pub table_agreements : SessionLaws → SaysItsUnit → (t : Tables) → IsTableRun t → OfEachLine AreAgreed t
+table_agreements laws says = of_runs laws says AreAgreed (agreements laws)
+
+pub table_duplex : SessionLaws → SaysItsUnit → (t : Tables) → IsTableRun t → OfEachLine IsShownAsAsked t
+table_duplex laws says = of_runs laws says IsShownAsAsked (duplex_agreements laws)
+
+pub table_confirmations : SessionLaws → SaysItsUnit → (t : Tables) → IsTableRun t → OfEachLine IsSeenInBoth t
+table_confirmations laws says = of_runs laws says IsSeenInBoth (confirmations laws)

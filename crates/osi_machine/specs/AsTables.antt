@@ -1,0 +1,91 @@
+-- The machine beside its tables, and what two users may rely on, read from the tables and the journal alone.
+use Rattle.std.specs.Prelude.{◌≡◌, ℕ, ◌<◌, true, false, ◌&&◌, List, [], ◌∷◌, ◌++◌, Option, Some, None}
+use Rattle.std.specs.List.{AllByRecursion}
+use Rattle.osi_machine.specs.Floor.{State, Token, has}
+use Rattle.osi_machine.specs.Histories.{Item, Point, PointKind, Begins, Agree}
+use Rattle.osi_machine.specs.Core.{Offer, Left, Right}
+use Rattle.osi_machine.specs.Worlds.{World, Terms, turned, session_of}
+use Rattle.osi_machine.specs.Machine.{Step, Entry, connect_answered, Machine, HasNumber, connection_at}
+use Rattle.osi_machine.specs.Tables.{Seat, Line, Tables, start, run}
+use Rattle.osi_machine.specs.Views.{Told, told_of}
+
+-- a side as the tables have it is the first side of a connection of the machine
+pub record IsSeat (w : World) (x : Seat) : Type 0 where
+  pub transport : x.transport ≡ w.own.transport
+  pub state : x.session.state ≡ session_of w
+  pub channel : x.channel ≡ w.own.channel
+
+pub record IsLine (w : World) (l : Line) : Type 0 where
+  pub own : IsSeat w l.own
+  pub peer : IsSeat (turned w) l.peer
+
+abbrev pub AreLines : List World → List Line → Type 0
+AreLines [] [] = Unit {0}
+AreLines (w ∷ ws) (l ∷ ls) = IsLine w l × AreLines ws ls
+AreLines [] (l ∷ ls) = ⊥
+AreLines (w ∷ ws) [] = ⊥
+
+-- the same journal, the same ends, the same class, and the same connections
+pub record IsAsTables (m : Machine) (t : Tables) : Type 0 where
+  pub terms : t.terms ≡ m.terms
+  pub broken : t.broken ≡ m.broken
+  pub left_end : t.left_end ≡ m.left_end
+  pub right_end : t.right_end ≡ m.right_end
+  pub known : t.known ≡ m.known
+  pub journal : t.journal ≡ m.journal
+  pub lines : AreLines m.worlds t.lines
+
+-- ---- what is read from the journal
+
+-- what was asked for with each connection, by rising reference
+abbrev pub offers_in : List Entry → List Offer
+offers_in [] = []
+offers_in (connect_answered o None ∷ es) = o ∷ offers_in es
+offers_in (e ∷ es) = offers_in es
+
+-- tables that came about from empty ones
+pub record IsTableRun (t : Tables) : Type 0 where
+  pub agreed : Terms
+  pub steps : List Step
+  pub numbered : AllByRecursion HasNumber steps
+  pub reached : run (start agreed) steps ≡ t
+
+-- said of the sessions of both sides of each connection, and of what the records of both tell
+abbrev pub OfEachLine : (State → State → Told → Told → Type 0) → Tables → Type 0
+OfEachLine P t = (r : ℕ) (l : Line) (o : Offer) → connection_at r t.lines ≡ Some l → connection_at r (offers_in t.journal) ≡ Some o
+    → P l.own.session.state l.peer.session.state (told_of Left r o t.journal) (told_of Right r o t.journal)
+
+-- the journal has what was asked for with each connection
+pub record IsOffered (t : Tables) (r : ℕ) : Type 0 where
+  pub offer : Offer
+  pub found : connection_at r (offers_in t.journal) ≡ Some offer
+
+abbrev pub AreOffered : Tables → Type 0
+AreOffered t = (r : ℕ) (l : Line) → connection_at r t.lines ≡ Some l → IsOffered t r
+
+-- no token is held by both
+abbrev pub HoldNoneTwice : State → State → Told → Told → Type 0
+HoldNoneTwice s p left right = (t : Token) → (has s.held t && has p.held t) ≡ false
+
+-- neither user is shown a fault, of this side or of the other
+abbrev pub AreNoFaults : State → State → Told → Told → Type 0
+AreNoFaults s p left right = (left.faulted ≡ false) × (right.faulted ≡ false)
+
+-- one of the two views begins with the other, unless duplex is selected
+abbrev pub AreAgreed : State → State → Told → Told → Type 0
+AreAgreed s p left right = left.duplex ≡ false → right.duplex ≡ false → Agree left.view right.view
+
+-- with duplex, the data that a side is shown is how the data that the other asked to send begins
+abbrev pub IsShownAsAsked : State → State → Told → Told → Type 0
+IsShownAsAsked s p left right =
+    (left.duplex ≡ true → Begins left.indicated right.requested) × (right.duplex ≡ true → Begins right.indicated left.requested)
+
+-- each point in the view of a side with a number below its V(A) is in the view of the other, behind the
+-- same items; unless the other has asked for a restart and has seen no answer
+abbrev pub IsSeenThere : State → Told → Told → Type 0
+IsSeenThere s own other =
+    (before : List Item) (n : ℕ) (kind : PointKind) (octets : List ℕ) → Begins (before ++ Point n kind octets ∷ []) own.view →
+    n < s.numbers.confirmed → other.asking ≡ false → Begins (before ++ Point n kind octets ∷ []) other.view
+
+abbrev pub IsSeenInBoth : State → State → Told → Told → Type 0
+IsSeenInBoth s p left right = IsSeenThere s left right × IsSeenThere p right left
