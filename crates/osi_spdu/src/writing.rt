@@ -9,7 +9,7 @@ ghost use Rattle.osi_spdu.specs.Octets.{octets_of};
 ghost use Rattle.osi_spdu.specs.Params.{known_of};
 ghost use Rattle.osi_spdu.specs.Reading.{tsdu_at};
 ghost use Rattle.osi_spdu.specs.Spelling.{length_octets, SpellsTsdu};
-ghost use Rattle.osi_spdu.specs.Writing.{written_code, member_octets, members_octets, parameter_octets, body_octets, unit_octets, tsdu_octets, UnitFits, TsduFits};
+ghost use Rattle.osi_spdu.specs.Writing.{written_code, written_item, member_octets, members_octets, parameter_octets, body_octets, unit_octets, tsdu_octets, UnitFits, TsduFits};
 ghost use Rattle.osi_spdu.specs.Units.{said_by};
 ghost use Rattle.osi_spdu.specs.Groups.{units_behind, units_of};
 
@@ -45,11 +45,39 @@ fn put_header(out: &mut BytesMut, code: u8, len: usize)
     }
 }
 
-fn put_value(out: &mut BytesMut, value: Value)
-    requires { length (octets_of value) ≤ out.old.spare }
-    ensures items { out.new.items ≡ out.old.items ++ octets_of value.entry }
-    ensures spare { out.new.spare + length (octets_of value.entry) ≡ out.old.spare }
+/// Appends a code, the length of a value and its octets; those of a short value all at once.
+fn put_octets(out: &mut BytesMut, code: u8, octets: &[u8])
+    requires small { length octets.now < 65536 }
+    requires room { length (written_item code octets.now) ≤ out.old.spare }
+    ensures items { out.new.items ≡ out.old.items ++ written_item code octets.now }
+    ensures spare { out.new.spare + length (written_item code octets.now) ≡ out.old.spare }
 {
+    match octets {
+        [] => out.extend_reserved(&[code, 0]),
+        [a] => out.extend_reserved(&[code, 1, *a]),
+        [a, b] => out.extend_reserved(&[code, 2, *a, *b]),
+        [a, b, c] => out.extend_reserved(&[code, 3, *a, *b, *c]),
+        [a, b, c, d] => out.extend_reserved(&[code, 4, *a, *b, *c, *d]),
+        [a, b, c, d, e] => out.extend_reserved(&[code, 5, *a, *b, *c, *d, *e]),
+        [a, b, c, d, e, f] => out.extend_reserved(&[code, 6, *a, *b, *c, *d, *e, *f]),
+        _ => {
+            put_header(out, code, octets.len());
+            out.extend_reserved(octets);
+        }
+    }
+}
+
+/// Appends a code, the length of a value and its octets.
+fn put_item(out: &mut BytesMut, code: u8, value: Value)
+    requires small { length (octets_of value) < 65536 }
+    requires room { length (written_item code (octets_of value)) ≤ out.old.spare }
+    ensures items { out.new.items ≡ out.old.items ++ written_item code (octets_of value.entry) }
+    ensures spare { out.new.spare + length (written_item code (octets_of value.entry)) ≡ out.old.spare }
+{
+    if value.lent().is_empty() {
+        return put_octets(out, code, value.made());
+    }
+    put_header(out, code, value.len());
     out.extend_reserved(value.made());
     out.extend_reserved(value.lent());
 }
@@ -85,8 +113,7 @@ fn put_member(out: &mut BytesMut, params: &Params, code: Code)
         ≡ out.old.spare }
 {
     if let Some(value) = params.value(code) {
-        put_header(out, code.number(), value.len());
-        put_value(out, value);
+        put_item(out, code.number(), value);
     }
 }
 
@@ -153,8 +180,7 @@ fn put_parameter(out: &mut BytesMut, kind: Kind, params: &Params, code: Code)
         put_members(out, params, members);
         return;
     }
-    put_header(out, number, value.len());
-    put_value(out, value);
+    put_item(out, number, value);
 }
 
 /// How many octets the parameters and groups of a unit are.
