@@ -8,8 +8,10 @@ pub mod ConfirmCall
 pub mod Consistent
 pub mod CoreLaws
 pub mod DataCall
+pub mod DeadLines
 pub mod Deaf
 pub mod Dispatch
+pub mod EarlyLines
 pub mod Fewer
 pub mod GiveCall
 pub mod Heard
@@ -18,6 +20,8 @@ pub mod Idle
 pub mod ItemLaws
 pub mod Lines
 pub mod LinesRun
+pub mod LossRun
+pub mod LossShown
 pub mod MachineLaws
 pub mod NumberLaws
 pub mod OffersTold

@@ -2,19 +2,20 @@
 use Rattle.std.proofs.Common.{◌≡◌, refl, sym, ◌∙◌, ap, subst, ℕ, zero, suc, List, [], ◌∷◌, map, Option, Some, None}
 use Rattle.std.specs.List.{AllByRecursion, slice_get}
 use Rattle.osi_machine.specs.Floor.{State}
-use Rattle.osi_machine.specs.Core.{Offer, Left, Right}
+use Rattle.osi_machine.specs.Core.{Offer, Side, Left, Right}
 use Rattle.osi_machine.specs.Worlds.{World, Terms, turned, session_of}
-use Rattle.osi_machine.specs.Machine.{Step, Entry, Machine, start, connection_at, run, HasNumber}
+use Rattle.osi_machine.specs.Machine.{Step, Entry, Machine, start, connection_at, end_of, run, HasNumber}
 use Rattle.osi_machine.specs.Tables.{Line, Tables}
 use Rattle.osi_machine.specs.Tables as tables
 use Rattle.osi_machine.specs.Views.{Told, told_of}
-use Rattle.osi_machine.specs.Runs.{IsRun}
-use Rattle.osi_machine.specs.AsTables.{IsSeat, IsLine, AreLines, IsAsTables, offers_in, IsTableRun, IsOffered, AreOffered, OfEachLine, HoldNoneTwice, AreNoFaults, AreAgreed, IsShownAsAsked, IsSeenInBoth}
+use Rattle.osi_machine.specs.Runs.{IsRun, loses, LosesByItsEnd}
+use Rattle.osi_machine.specs.AsTables.{IsSeat, IsLine, AreLines, IsAsTables, offers_in, IsTableRun, IsOffered, AreOffered, OfEachLine, HoldNoneTwice, AreNoFaults, AreAgreed, IsShownAsAsked, IsSeenInBoth, LosesAsItEnds}
 use Rattle.osi_machine.proofs.CoreLaws.{SessionLaws}
 use Rattle.osi_machine.proofs.OffersTold.{offer_of, Offered, run_offered}
 use Rattle.osi_machine.proofs.MachineLaws.{holders, no_faults, agreements, duplex_agreements, confirmations}
+use Rattle.osi_machine.proofs.LossRun.{losses_have_an_end}
 use Rattle.osi_machine.proofs.TableLines.{line_of, Tabled, SaysItsUnit}
-use Rattle.osi_machine.proofs.TableRuns.{AllTabled, At, Follows, line_there, all_follow}
+use Rattle.osi_machine.proofs.TableRuns.{AllTabled, At, tables_of, Follows, line_there, all_follow}
 
 -- ---- the machine and its tables side by side
 
@@ -128,3 +129,18 @@ table_duplex laws says = of_runs laws says IsShownAsAsked (duplex_agreements law
 
 pub table_confirmations : SessionLaws → SaysItsUnit → (t : Tables) → IsTableRun t → OfEachLine IsSeenInBoth t
 table_confirmations laws says = of_runs laws says IsSeenInBoth (confirmations laws)
+
+-- ---- losses
+
+ends_as : (side : Side) (m : Machine) (ls : List Line) → tables.end_of side (tables_of m ls) ≡ end_of side m
+ends_as Left m ls = refl
+ends_as Right m ls = refl
+
+lost_as : (t : Tables) (m : Machine) → Follows t m → LosesByItsEnd m → LosesAsItEnds t
+lost_as t m h all = subst LosesAsItEnds (sym h.same) (λ side e. ap loses (ends_as side m h.lines) ∙ all side e)
+
+pub table_losses : SessionLaws → SaysItsUnit → (t : Tables) → IsTableRun t → LosesAsItEnds t
+table_losses laws says t h =
+    lost_as t (run (start h.agreed) h.steps)
+    (subst (λ (x : Tables). Follows x (run (start h.agreed) h.steps)) h.reached (all_follow laws says h.agreed h.steps h.numbered))
+    (losses_have_an_end laws (run (start h.agreed) h.steps) (record { agreed = h.agreed; steps = h.steps; numbered = h.numbered; reached = refl }))

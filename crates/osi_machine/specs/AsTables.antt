@@ -1,12 +1,13 @@
 -- The machine beside its tables, and what two users may rely on, read from the tables and the journal alone.
 use Rattle.std.specs.Prelude.{◌≡◌, ℕ, ◌<◌, true, false, ◌&&◌, List, [], ◌∷◌, ◌++◌, Option, Some, None}
-use Rattle.std.specs.List.{AllByRecursion}
+use Rattle.std.specs.List.{AllByRecursion, list_any}
 use Rattle.osi_machine.specs.Floor.{State, Token, has}
 use Rattle.osi_machine.specs.Histories.{Item, Point, PointKind, Begins, Agree}
-use Rattle.osi_machine.specs.Core.{Offer, Left, Right}
+use Rattle.osi_machine.specs.Core.{Offer, Side, Left, Right}
 use Rattle.osi_machine.specs.Worlds.{World, Terms, turned, session_of}
 use Rattle.osi_machine.specs.Machine.{Step, Entry, connect_answered, Machine, HasNumber, connection_at}
-use Rattle.osi_machine.specs.Tables.{Seat, Line, Tables, start, run}
+use Rattle.osi_machine.specs.Tables.{Seat, Line, Tables, start, run, end_of}
+use Rattle.osi_machine.specs.Runs.{is_loss, loses}
 use Rattle.osi_machine.specs.Views.{Told, told_of}
 
 -- a side as the tables have it is the first side of a connection of the machine
@@ -89,3 +90,7 @@ IsSeenThere s own other =
 
 abbrev pub IsSeenInBoth : State → State → Told → Told → Type 0
 IsSeenInBoth s p left right = IsSeenThere s left right × IsSeenThere p right left
+
+-- a side is shown a loss only where it was told of a break or found no memory
+abbrev pub LosesAsItEnds : Tables → Type 0
+LosesAsItEnds t = (side : Side) → list_any (is_loss side) t.journal ≡ true → loses (end_of side t) ≡ true

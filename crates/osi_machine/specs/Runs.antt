@@ -1,12 +1,13 @@
 -- What two users may rely on after every list of steps of the machine, by what their records tell.
-use Rattle.std.specs.Prelude.{◌≡◌, ℕ, ◌<◌, true, false, ◌&&◌, List, [], ◌∷◌, ◌++◌, take, Some}
-use Rattle.std.specs.List.{AllByRecursion}
+use Rattle.std.specs.Prelude.{◌≡◌, ℕ, ◌<◌, Bool, true, false, ◌&&◌, List, [], ◌∷◌, ◌++◌, take, Option, Some}
+use Rattle.std.specs.List.{AllByRecursion, list_any}
+use Rattle.osi_session.specs.Shown.{Lost}
 use Rattle.osi_machine.specs.Floor.{Token, has, Call, Meaning}
 use Rattle.osi_machine.specs.Histories.{Item, Point, PointKind, Begins, Agree}
 use Rattle.osi_machine.specs.Core.{Offer, Side, Left, Right}
 use Rattle.osi_machine.specs.Worlds.{Message, unit, World, Terms, turned, session_of}
-use Rattle.osi_machine.specs.Machine.{Step, connects, calls, delivers, Machine, HasNumber, start, step, run, connection_at, end_of}
-use Rattle.osi_machine.specs.Views.{Told, told_of}
+use Rattle.osi_machine.specs.Machine.{Ending, told_of_break, no_memory, Step, connects, calls, delivers, Entry, shown_at, Machine, HasNumber, start, step, run, connection_at, end_of}
+use Rattle.osi_machine.specs.Views.{Told, told_of, is_side}
 use Rattle.osi_machine.specs.Promises.{brings}
 use Rattle.osi_machine.specs.Taking.{is_acted_on}
 
@@ -65,3 +66,20 @@ pub record AreApart (m : Machine) : Type 0 where
   pub called : (side : Side) (r q : ℕ) (c : Call) → (q ≡ r → ⊥) → connection_at q (step m (calls side r c)).worlds ≡ connection_at q m.worlds
   pub delivered : (side : Side) (r q : ℕ) (keep : ℕ → ℕ) → (q ≡ r → ⊥) → end_of side (step m (delivers side r keep)) ≡ end_of side m
       → connection_at q (step m (delivers side r keep)).worlds ≡ connection_at q m.worlds
+
+-- ---- a connection that is lost
+
+-- a loss that a side is shown
+abbrev pub is_loss : Side → Entry → Bool
+is_loss side (shown_at d r Lost) = is_side side d
+is_loss side e = false
+
+-- a side is told of a break, or finds no memory
+abbrev pub loses : Option Ending → Bool
+loses (Some told_of_break) = true
+loses (Some no_memory) = true
+loses e = false
+
+-- a side is shown a loss only where it ended so
+abbrev pub LosesByItsEnd : Machine → Type 0
+LosesByItsEnd m = (side : Side) → list_any (is_loss side) m.journal ≡ true → loses (end_of side m) ≡ true

@@ -2,7 +2,7 @@
 
 ghost use Rattle.std.specs.Prelude.{◌≡◌, ◌<◌, List, [], true, false};
 ghost use Rattle.std.specs.List.{AllByRecursion};
-ghost use Rattle.osi_machine.specs.AsTables.{IsAsTables, IsTableRun, AreOffered, OfEachLine, HoldNoneTwice, AreNoFaults, AreAgreed, IsShownAsAsked, IsSeenInBoth};
+ghost use Rattle.osi_machine.specs.AsTables.{IsAsTables, IsTableRun, AreOffered, OfEachLine, HoldNoneTwice, AreNoFaults, AreAgreed, IsShownAsAsked, IsSeenInBoth, LosesAsItEnds};
 ghost use Rattle.osi_machine.specs.Core.{Core, CoreStep, Offer, Left, Right, core_run, core_start};
 ghost use Rattle.osi_machine.specs.Examples.{all_tokens, lost_give_seen, after_lost_give, crossing_seen, after_crossing, two_points_seen, restart_below_seen, after_restart_below, last_point, last_point_seen, lost_release_seen, after_lost_release, both_send, both_send_seen, to_right, held_in, stands_at, next_at, lowest_at, history_of, up_to_first_point};
 ghost use Rattle.osi_machine.specs.Floor.{no_token, is_profile};
@@ -10,7 +10,7 @@ ghost use Rattle.osi_machine.specs.Histories.{Agree};
 ghost use Rattle.osi_machine.specs.Machine.{Machine, Step, HasNumber, run, start, step};
 ghost use Rattle.osi_machine.specs.Parties.{AreConsistent, IsNumberedStep};
 ghost use Rattle.osi_machine.specs.Promises.{IsReached, OfBoth, OneHolder, HoldsItsOwn, TakesNoFault, SeesTheHistory, ViewsAgree, GotWhatWasSaid, TakesTheNextItem, ConfirmedIsSeen};
-ghost use Rattle.osi_machine.specs.Runs.{IsRun, OfEach, HasOneHolder, ShowNoFault, RecordsAgree, ShownAsAsked, ConfirmedInBoth, TakeTheirItems, AreApart};
+ghost use Rattle.osi_machine.specs.Runs.{IsRun, OfEach, HasOneHolder, ShowNoFault, RecordsAgree, ShownAsAsked, ConfirmedInBoth, TakeTheirItems, AreApart, LosesByItsEnd};
 ghost use Rattle.osi_machine.specs.Tables.{Tables};
 ghost use Rattle.osi_machine.specs.Tables as tables;
 ghost use Rattle.osi_machine.specs.Views.{AreTold, left_told, right_told};
@@ -108,7 +108,8 @@ pub fn what_a_record_tells()
 /// begins; and each point in the view of a side with a number below its V(A) is in the view of the other,
 /// behind the same items, unless the other awaits the answer to a restart. All this is read from the
 /// journal alone, but for V(A). Data or a point that is taken is the item of the history at the mark of
-/// the side that takes it.
+/// the side that takes it. And a side is shown that a connection was lost only where it was told of
+/// a break or found no memory.
 pub fn what_two_records_tell()
     ensures holder { (m : Machine) → IsRun m → OfEach HasOneHolder m }
     ensures fault { (m : Machine) → IsRun m → OfEach ShowNoFault m }
@@ -116,6 +117,7 @@ pub fn what_two_records_tell()
     ensures duplex { (m : Machine) → IsRun m → OfEach ShownAsAsked m }
     ensures confirmed { (m : Machine) → IsRun m → OfEach ConfirmedInBoth m }
     ensures item { (m : Machine) → IsRun m → OfEach TakeTheirItems m }
+    ensures lost { (m : Machine) → IsRun m → LosesByItsEnd m }
 {
     session::numbers_stay_in_order();
     session::what_is_sent_can_be_sent();
@@ -145,13 +147,15 @@ pub fn the_tables_are_the_machine()
 /// selected, one of both views begins with the other, and with duplex the data that a side is shown is
 /// how the data that the other asked to send begins; and each point in the view of a side with a number
 /// below its V(A) is in the view of the other, behind the same items, unless the other awaits the answer
-/// to a restart. The journal has what was asked for with each connection.
+/// to a restart. A side is shown that a connection was lost only where it was told of a break or found no
+/// memory. The journal has what was asked for with each connection.
 pub fn what_two_tables_tell()
     ensures holder { (t : Tables) → IsTableRun t → OfEachLine HoldNoneTwice t }
     ensures fault { (t : Tables) → IsTableRun t → OfEachLine AreNoFaults t }
     ensures agreement { (t : Tables) → IsTableRun t → OfEachLine AreAgreed t }
     ensures duplex { (t : Tables) → IsTableRun t → OfEachLine IsShownAsAsked t }
     ensures confirmed { (t : Tables) → IsTableRun t → OfEachLine IsSeenInBoth t }
+    ensures lost { (t : Tables) → IsTableRun t → LosesAsItEnds t }
     ensures offered { (t : Tables) → IsTableRun t → AreOffered t }
 {
     session::numbers_stay_in_order();

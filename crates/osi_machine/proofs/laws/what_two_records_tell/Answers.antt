@@ -1,4 +1,5 @@
 use Rattle.osi_machine.proofs.ItemLaws.{items_taken}
+use Rattle.osi_machine.proofs.LossRun.{losses_have_an_end}
 use Rattle.osi_machine.proofs.MachineLaws.{holders, no_faults, agreements, duplex_agreements, confirmations}
 use Rattle.osi_machine.proofs.laws.what_two_records_tell.Goals as goal
 
@@ -21,6 +22,10 @@ returns-clause-confirmed c =
 pub returns-clause-duplex : goal.returns-clause-duplex
 returns-clause-duplex c =
     duplex_agreements (record { sound = c.numbers_stay_in_order.ensures.kept; sendable = c.what_is_sent_can_be_sent.ensures.called; one_unit = c.what_two_units_do.ensures.alone })
+
+pub returns-clause-lost : goal.returns-clause-lost
+returns-clause-lost c =
+    losses_have_an_end (record { sound = c.numbers_stay_in_order.ensures.kept; sendable = c.what_is_sent_can_be_sent.ensures.called; one_unit = c.what_two_units_do.ensures.alone })
 
 pub returns-clause-item : goal.returns-clause-item
 returns-clause-item c =

@@ -1,4 +1,4 @@
-use Rattle.osi_machine.proofs.TablePromises.{table_holders, table_faults, table_agreements, table_duplex, table_confirmations, table_offers}
+use Rattle.osi_machine.proofs.TablePromises.{table_holders, table_faults, table_agreements, table_duplex, table_confirmations, table_losses, table_offers}
 use Rattle.osi_machine.proofs.laws.what_two_tables_tell.Goals as goal
 
 pub returns-clause-holder : goal.returns-clause-holder
@@ -24,6 +24,11 @@ returns-clause-duplex c =
 pub returns-clause-confirmed : goal.returns-clause-confirmed
 returns-clause-confirmed c =
     table_confirmations (record { sound = c.numbers_stay_in_order.ensures.kept; sendable = c.what_is_sent_can_be_sent.ensures.called; one_unit = c.what_two_units_do.ensures.alone })
+    c.an_empty_token_item_changes_nothing.ensures.said
+
+pub returns-clause-lost : goal.returns-clause-lost
+returns-clause-lost c =
+    table_losses (record { sound = c.numbers_stay_in_order.ensures.kept; sendable = c.what_is_sent_can_be_sent.ensures.called; one_unit = c.what_two_units_do.ensures.alone })
     c.an_empty_token_item_changes_nothing.ensures.said
 
 pub returns-clause-offered : goal.returns-clause-offered

@@ -1,0 +1,152 @@
+-- While no class is known each connection waits for its caller's first message, or is dead; and where a called
+-- end denies, no agreement is under way.
+use Rattle.std.proofs.Common.{◌≡◌, refl, sym, ◌∙◌, ap, subst, ℕ, Bool, true, false, not, ◌||◌, if◌then◌else◌, List, [], ◌∷◌, ◌++◌, take, Option, Some, None, Ok, Err, inl, inr, ◌⊎◌}
+use Rattle.std.specs.List.{list_any}
+use Rattle.osi_machine.specs.Floor.{State, Meaning, Call, Answer, Granted, allowed, respond_unit}
+use Rattle.osi_machine.specs.Core.{Offer}
+use Rattle.osi_machine.specs.Worlds.{Message, unit, ask, agree, deny, bye, over, Transport, not_yet, waiting, linked, closing, gone, World, turned, session_of, asked_with, put, replied, after_call, after_answer, Taking, Terms, accepts, denies, message_taken, closed, ended_at}
+use Rattle.osi_machine.specs.Machine.{without_first}
+use Rattle.osi_machine.specs.Views.{Told}
+use Rattle.osi_machine.proofs.Idle.{append_nil}
+use Rattle.osi_machine.proofs.Lines.{cut_to}
+use Rattle.osi_machine.proofs.Projects.{is_begun}
+use Rattle.osi_machine.proofs.ProjectEnd.{is_unit}
+use Rattle.osi_machine.proofs.ProjectStart.{Opens, Refuses, caller_refuses, called_refuses, caller_ends, called_ends}
+use Rattle.osi_machine.proofs.ProjectOpen.{called_takes}
+use Rattle.osi_machine.proofs.Whole.{Stage, turned_back}
+use Rattle.osi_machine.proofs.DeadLines.{IsDead, IsEarly, opens_early, opens_quiet, dead_call, dead_called, dead_takes, dead_taken, dead_ends, dead_ended, dead_cut, or_parts, put_none, take_none}
+
+-- ---- a connection whose caller waits
+
+not_both : {A : Type 0} (b : Bool) → b ≡ true → b ≡ false → A
+not_both b p q = absurd (cc)
+
+waits_opens : (b : Bool) (w : World) (t u : Told) → Stage b w t u → w.own.transport ≡ waiting → Opens w t u
+waits_opens b w t u (inl h) e = h
+waits_opens b w t u (inr (inl h)) e = elim h.called [
+  | inl k ↦ absurd (let x = sym e ∙ k.transport in cc)
+  | inr k ↦ elim k [
+    | inl j ↦ absurd (let x = sym e ∙ j.transport in cc)
+    | inr j ↦ absurd (let x = sym e ∙ j.transport in cc)
+  ]
+]
+waits_opens b w t u (inr (inr h)) e = not_both (is_begun w.own.transport) h.projects.own.begun (ap is_begun e)
+
+pub early_call : (b : Bool) (w : World) (t u : Told) (x : Call) → Stage b w t u → IsEarly w → IsEarly (after_answer b x w (allowed (session_of w) x))
+early_call b w t u x h (inl e) = subst (λ (a : Answer). IsEarly (after_answer b x w a)) (sym (caller_refuses w t u x (waits_opens b w t u h e)).refused) (inl e)
+early_call b w t u x h (inr d) = inr (dead_call b w x d)
+
+pub early_called : (b : Bool) (w : World) (t u : Told) (x : Call) → Stage b (turned w) t u → IsEarly (turned w) → IsEarly (turned (after_answer b x w (allowed (session_of w) x)))
+early_called b w t u x h (inl e) =
+    subst (λ (a : Answer). IsEarly (turned (after_answer b x w a)))
+    (sym (subst (λ (v : World). Refuses (session_of v) x) (turned_back w) (called_refuses (turned w) t u x (waits_opens b (turned w) t u h e))).refused) (inl e)
+early_called b w t u x h (inr d) = inr (dead_called b w x d)
+
+-- the caller takes a message that is no agreement
+abbrev pub is_agree : Message → Bool
+is_agree agree = true
+is_agree m = false
+
+pub early_takes : (b : Bool) (terms : Terms) (keep : ℕ) (w : World) (t u : Told) (m : Message) (ms : List Message) → is_agree m ≡ false → Stage b w t u → IsEarly w
+    → ((message_taken b terms keep w.own.transport (without_first w ms) m).closes ≡ false) × IsEarly (message_taken b terms keep w.own.transport (without_first w ms) m).world
+early_takes b terms keep w t u m ms n h (inr d) = let k = dead_takes b terms keep w m ms d in (k.0, inr k.1)
+early_takes b terms keep w t u m ms n h (inl e) =
+    subst (λ (tr : Transport). ((message_taken b terms keep tr (without_first w ms) m).closes ≡ false) × IsEarly (message_taken b terms keep tr (without_first w ms) m).world) (sym e) (by m n)
+  where
+    same : list_any is_unit w.own.channel ≡ false → (c : Bool) → list_any is_unit (put c [] w.own.channel) ≡ false
+    same f true = f
+    same f false = ap (list_any is_unit) (append_nil w.own.channel) ∙ f
+
+    by : (m : Message) → is_agree m ≡ false → ((message_taken b terms keep waiting (without_first w ms) m).closes ≡ false) × IsEarly (message_taken b terms keep waiting (without_first w ms) m).world
+    by agree n = absurd (cc)
+    by (deny r) n =
+        let q = opens_quiet w t u (waits_opens b w t u h e) in
+        (refl, inr (record { left = refl; over_now = refl; quiet = q.quiet; idle = q.idle; no_unit = same q.no_unit b }))
+    by ask n = (refl, inl e)
+    by (unit v) n = (refl, inl e)
+    by (bye r) n = (refl, inl e)
+    by over n = (refl, inl e)
+
+pub early_taken : (b : Bool) (terms : Terms) (keep : ℕ) (w : World) (t u : Told) (m : Message) (ms : List Message) → w.peer.channel ≡ m ∷ ms → Stage b (turned w) t u → IsEarly (turned w)
+    → ((message_taken b terms keep w.own.transport (without_first w ms) m).closes ≡ false) × IsEarly (turned (message_taken b terms keep w.own.transport (without_first w ms) m).world)
+early_taken b terms keep w t u m ms f h (inl e) =
+    let k = called_takes b terms keep w t u m ms (waits_opens b (turned w) t u h e) f in
+    (k.stays_open, opens_early _ _ _ k.leads)
+early_taken b terms keep w t u m ms f h (inr d) = let k = dead_taken b terms keep w m ms d f in (k.0, inr k.1)
+
+pub early_ends : (b : Bool) (keep : ℕ) (w : World) (t u : Told) → Stage b w t u → IsEarly w → IsEarly (ended_at keep w)
+early_ends b keep w t u h (inl e) = opens_early _ _ _ (caller_ends keep w t u (waits_opens b w t u h e))
+early_ends b keep w t u h (inr d) = inr (dead_ends keep w d)
+
+pub early_ended : (b : Bool) (keep : ℕ) (w : World) (t u : Told) → Stage b (turned w) t u → IsEarly (turned w) → IsEarly (turned (ended_at keep w))
+early_ended b keep w t u h (inl e) = opens_early _ _ _ (called_ends keep w t u (waits_opens b (turned w) t u h e))
+early_ended b keep w t u h (inr d) = inr (dead_ended keep w d)
+
+pub early_cut : (left right : ℕ) (w : World) → IsEarly w → IsEarly (cut_to left right w)
+early_cut left right w (inl e) = inl e
+early_cut left right w (inr d) = inr (dead_cut left right w d)
+
+-- ---- no agreement, where it is denied
+
+pub record NoAgree (w : World) : Type 0 where
+  pub own : list_any is_agree w.own.channel ≡ false
+  pub peer : list_any is_agree w.peer.channel ≡ false
+
+pub none_back : (w : World) → NoAgree w → NoAgree (turned w)
+none_back w h = record { own = h.peer; peer = h.own }
+
+put_some : (b : Bool) (ms : List Message) (r : Option Meaning) → list_any is_agree ms ≡ false → list_any is_agree (put b (replied r) ms) ≡ false
+put_some b ms (Some m) h = put_none is_agree b ms (unit m) refl h
+put_some true ms None h = h
+put_some false ms None h = ap (list_any is_agree) (append_nil ms) ∙ h
+
+pub none_call : (b : Bool) (w : World) (x : Call) (a : Answer) → NoAgree w → NoAgree (after_answer b x w a)
+none_call b w x (Ok g) h = record { own = put_none is_agree b w.own.channel (unit g.sent) refl h.own; peer = h.peer }
+none_call b w x (Err e) h = h
+
+pub none_takes : (b : Bool) (r keep : ℕ) (w : World) (m : Message) (ms : List Message) → w.peer.channel ≡ m ∷ ms → NoAgree w
+    → (is_agree m ≡ false) × NoAgree (message_taken b (denies r) keep w.own.transport (without_first w ms) m).world
+none_takes b r keep w m ms e h = (parts.0, by w.own.transport m parts.0)
+  where
+    parts : (is_agree m ≡ false) × (list_any is_agree ms ≡ false)
+    parts = or_parts (is_agree m) (list_any is_agree ms) (sym (ap (list_any is_agree) e) ∙ h.peer)
+
+    still : NoAgree (without_first w ms)
+    still = record { own = h.own; peer = parts.1 }
+
+    by : (tr : Transport) (m : Message) → is_agree m ≡ false → NoAgree (message_taken b (denies r) keep tr (without_first w ms) m).world
+    by tr agree n = absurd (cc)
+    by not_yet ask n = record { own = put_none is_agree b w.own.channel (deny r) refl h.own; peer = parts.1 }
+    by not_yet (unit u) n = still
+    by not_yet (deny q) n = still
+    by not_yet (bye q) n = still
+    by not_yet over n = still
+    by waiting (deny q) n = record { own = put_some b w.own.channel None h.own; peer = parts.1 }
+    by waiting ask n = still
+    by waiting (unit u) n = still
+    by waiting (bye q) n = still
+    by waiting over n = still
+    by linked (unit u) n = record { own = put_some b w.own.channel (respond_unit (session_of (without_first w ms)) u).reply h.own; peer = parts.1 }
+    by linked (bye q) n = record { own = put_none is_agree b (take keep w.own.channel) over refl (take_none is_agree keep w.own.channel h.own); peer = parts.1 }
+    by linked ask n = still
+    by linked (deny q) n = still
+    by linked over n = still
+    by closing (bye q) n = record { own = h.own; peer = parts.1 }
+    by closing over n = record { own = h.own; peer = parts.1 }
+    by closing ask n = still
+    by closing (unit u) n = still
+    by closing (deny q) n = still
+    by gone (bye q) n = record { own = put_none is_agree b w.own.channel over refl h.own; peer = parts.1 }
+    by gone ask n = still
+    by gone (unit u) n = still
+    by gone (deny q) n = still
+    by gone over n = still
+
+pub none_closed : (b : Bool) (keep : ℕ) (w : World) → NoAgree w → NoAgree (closed b keep w)
+none_closed b keep w h = record { own = put_none is_agree b (take keep w.own.channel) (bye 128) refl (take_none is_agree keep w.own.channel h.own); peer = h.peer }
+
+pub none_ends : (keep : ℕ) (w : World) → NoAgree w → NoAgree (ended_at keep w)
+none_ends keep w h = record { own = take_none is_agree keep w.own.channel h.own; peer = h.peer }
+
+pub none_cut : (left right : ℕ) (w : World) → NoAgree w → NoAgree (cut_to left right w)
+none_cut left right w h = record { own = take_none is_agree left w.own.channel h.own; peer = take_none is_agree right w.peer.channel h.peer }

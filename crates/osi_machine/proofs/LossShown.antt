@@ -1,0 +1,143 @@
+-- No message that is taken shows a loss, and no agreement is under way where a called end denies.
+use Rattle.std.proofs.Common.{◌≡◌, refl, sym, ◌∙◌, ap, subst, ℕ, zero, suc, Bool, true, false, not, ◌||◌, if◌then◌else◌, List, [], ◌∷◌, ◌++◌, take, Option, Some, None, inl, inr, ◌⊎◌}
+use Rattle.std.specs.List.{list_any}
+use Rattle.osi_session.specs.Shown.{Shown, Lost, Aborted, PeerAbort, BadUnit, Connect, Restart}
+use Rattle.osi_session.specs.Respond.{bad, judged}
+use Rattle.osi_session.specs.declared.faults.UnitFault.{UnitFault}
+use Rattle.osi_session.specs.declared.faults.UnitFault.TheVariants.{Unexpected}
+use Rattle.osi_message.specs.Reading.{names}
+use Rattle.osi_machine.specs.Floor.{State, Phase, Meaning, CN, AC, RF, DT, GT, PT, MIP, MIA, MAP, MAA, RS, RA, FN, DN, NF, AB, AA, Outcome, nothing, good, is_over, is_wait_cn, is_aborting, is_ended, is_expected, is_acceptable, in_aborting, in_ended, drops, si, conditions, first_fault, take_expected, respond_unit, shown_for, stands, shows_loss, lost}
+use Rattle.osi_machine.specs.Worlds.{Message, unit, ask, agree, deny, bye, over, Transport, not_yet, waiting, linked, closing, gone, World, turned, session_of, put, replied, Taking, Terms, accepts, denies, message_taken, after_answer, closed, ended_at, shown_at_end}
+use Rattle.osi_machine.specs.Machine.{without_first}
+use Rattle.osi_machine.specs.Views.{Told}
+use Rattle.osi_machine.proofs.Projects.{stopped}
+use Rattle.osi_machine.proofs.ProjectEnd.{is_unit, comes_unit}
+use Rattle.osi_machine.proofs.ProjectWorld.{Repeats}
+use Rattle.osi_machine.proofs.ProjectStart.{Way, nothing_sent, asked, agreed, denied, asks, replies, Opens}
+use Rattle.osi_machine.proofs.Whole.{Stage}
+use Rattle.osi_machine.proofs.DeadLines.{quiet_end, over_quiet}
+
+abbrev pub is_lost : Shown → Bool
+is_lost Lost = true
+is_lost i = false
+
+-- ---- a unit
+
+good_keeps : (s : State) (u : Meaning) → list_any is_lost (shown_for s u) ≡ false
+good_keeps s (CN v r n w from to o) = by (is_acceptable v r)
+  where
+    by : (b : Bool) → list_any is_lost (if b then Connect r n w o ∷ [] else []) ≡ false
+    by true = refl
+    by false = refl
+good_keeps s (RS k n w o) = by (stands s n)
+  where
+    by : (b : Bool) → list_any is_lost (if b then Restart n w o ∷ [] else []) ≡ false
+    by true = refl
+    by false = refl
+good_keeps s (AB bits o) = by (is_wait_cn s.phase) (names bits 2)
+  where
+    by : (a b : Bool) → list_any is_lost (if a then [] else (if b then Aborted o else PeerAbort bits) ∷ []) ≡ false
+    by true b = refl
+    by false true = refl
+    by false false = refl
+good_keeps s _ = refl
+
+bad_keeps : (s : State) (fault : UnitFault) → list_any is_lost (bad s fault).shown ≡ false
+bad_keeps s fault = by (is_wait_cn s.phase)
+  where
+    by : (b : Bool) → list_any is_lost (if b then [] else BadUnit fault ∷ []) ≡ false
+    by true = refl
+    by false = refl
+
+pub unit_keeps : (s : State) (u : Meaning) → list_any is_lost (respond_unit s u).shown ≡ false
+unfolding respond_unit take_expected
+unit_keeps s u =
+    first (is_aborting s.phase) (in_aborting s u)
+    (if is_ended s.phase then in_ended s u else if drops s u then nothing s else if not (is_expected s.phase u) then bad s (Unexpected (si u)) else take_expected s u)
+    (aborting u)
+    (first (is_ended s.phase) (in_ended s u) (if drops s u then nothing s else if not (is_expected s.phase u) then bad s (Unexpected (si u)) else take_expected s u)
+    (ended u)
+    (first (drops s u) (nothing s) (if not (is_expected s.phase u) then bad s (Unexpected (si u)) else take_expected s u)
+    refl
+    (first (not (is_expected s.phase u)) (bad s (Unexpected (si u))) (take_expected s u) (bad_keeps s (Unexpected (si u))) (by (first_fault (si u) (conditions s u))))))
+  where
+    aborting : (m : Meaning) → list_any is_lost (in_aborting s m).shown ≡ false
+    aborting (AB b o) = refl
+    aborting AA = refl
+    aborting _ = refl
+
+    ended : (m : Meaning) → list_any is_lost (in_ended s m).shown ≡ false
+    ended (AB b o) = refl
+    ended _ = refl
+
+    first : (b : Bool) (x y : Outcome) → list_any is_lost x.shown ≡ false → list_any is_lost y.shown ≡ false → list_any is_lost (if b then x else y).shown ≡ false
+    first true x y h k = h
+    first false x y h k = k
+
+    by : (f : Option UnitFault) → list_any is_lost (judged s u f).shown ≡ false
+    by None = good_keeps s u
+    by (Some fault) = bad_keeps s fault
+
+-- ---- a message
+
+-- a close comes only where the session is over
+close_quiet : (b : Bool) (w : World) (t u : Told) (r : ℕ) (ms : List Message) → Stage b w t u → w.peer.channel ≡ bye r ∷ ms → shows_loss w.own.kept.phase ≡ false
+close_quiet b w t u r ms (inl h) e = absurd (none h.way (sym e ∙ h.peer_channel))
+  where
+    none : (way : Way) → bye r ∷ ms ≡ replies way → ⊥
+    none nothing_sent f = absurd (cc)
+    none asked f = absurd (cc)
+    none agreed f = absurd (cc)
+    none (denied x) f = absurd (cc)
+close_quiet b w t u r ms (inr (inl h)) e = absurd (none h.way (sym e ∙ h.own_channel))
+  where
+    none : (way : Way) → bye r ∷ ms ≡ asks way → ⊥
+    none nothing_sent f = absurd (cc)
+    none asked f = absurd (cc)
+    none agreed f = absurd (cc)
+    none (denied x) f = absurd (cc)
+close_quiet b w t u r ms (inr (inr h)) e = by (stopped w.own) refl
+  where
+    by : (o : Bool) → stopped w.own ≡ o → shows_loss w.own.kept.phase ≡ false
+    by true o = over_quiet w.own.kept.phase o
+    by false l = absurd (let x = comes_unit b w h.core (bye r) ms h.projects l e in cc)
+
+pub message_keeps : (b : Bool) (terms : Terms) (keep : ℕ) (w : World) (t u : Told) (x : Message) (xs : List Message) → Stage b w t u → w.peer.channel ≡ x ∷ xs
+    → list_any is_lost (message_taken b terms keep w.own.transport (without_first w xs) x).shown ≡ false
+message_keeps b terms keep w t u x xs h e = by w.own.transport x e
+  where
+    asked_keeps : (d : Terms) → list_any is_lost (message_taken b d keep not_yet (without_first w xs) ask).shown ≡ false
+    asked_keeps (accepts class) = refl
+    asked_keeps (denies reason) = refl
+
+    by : (tr : Transport) (m : Message) → w.peer.channel ≡ m ∷ xs → list_any is_lost (message_taken b terms keep tr (without_first w xs) m).shown ≡ false
+    by linked (unit v) f = unit_keeps (session_of (without_first w xs)) v
+    by linked (bye r) f = ap (list_any is_lost) (quiet_end w (close_quiet b w t u r xs h f))
+    by linked ask f = refl
+    by linked agree f = refl
+    by linked (deny r) f = refl
+    by linked over f = refl
+    by not_yet ask f = asked_keeps terms
+    by not_yet agree f = refl
+    by not_yet (unit v) f = refl
+    by not_yet (deny r) f = refl
+    by not_yet (bye r) f = refl
+    by not_yet over f = refl
+    by waiting ask f = refl
+    by waiting agree f = refl
+    by waiting (unit v) f = refl
+    by waiting (deny r) f = refl
+    by waiting (bye r) f = refl
+    by waiting over f = refl
+    by closing ask f = refl
+    by closing agree f = refl
+    by closing (unit v) f = refl
+    by closing (deny r) f = refl
+    by closing (bye r) f = refl
+    by closing over f = refl
+    by gone ask f = refl
+    by gone agree f = refl
+    by gone (unit v) f = refl
+    by gone (deny r) f = refl
+    by gone (bye r) f = refl
+    by gone over f = refl
