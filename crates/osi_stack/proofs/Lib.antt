@@ -7,3 +7,5 @@ pub mod Keeping
 pub mod Events
 pub mod Lifting
 pub mod Pieces
+pub mod Comings
+pub mod Moves

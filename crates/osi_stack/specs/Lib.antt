@@ -4,5 +4,7 @@ pub mod Moving
 pub mod Telling
 pub mod Hearing
 pub mod Feeding
+pub mod Coming
+pub mod Messages
 pub mod Calls
 pub mod Fetching

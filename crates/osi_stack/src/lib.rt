@@ -6,6 +6,7 @@
 mod connecting;
 mod hearing;
 mod hub;
+pub mod laws;
 mod lines;
 mod stacks;
 mod told;

@@ -1,0 +1,304 @@
+-- Octets that the other end wrote are read as the units that it wrote.
+use Rattle.std.proofs.Common.{◌≡◌, ℕ, ◌+◌, ◌-◌, ◌<◌, ◌≤◌, Bool, true, false, ◌||◌, not, is_some, List, [], ◌∷◌, ◌++◌, length, map, take, drop, Option, None, Some, Result, Ok, Err, refl, sym, ap, subst, ◌∙◌, inl, inr, ◌⊎◌, arith, append_assoc, length-append, if◌then◌else◌}
+use Rattle.std.specs.List.{AllByRecursion}
+use Rattle.std.proofs.lemmas.List.{append_cancel_left, take-append-drop, length-take-le, take-take}
+use Rattle.osi_tpkt.specs.Packet.{IsPacket, packet_of}
+use Rattle.osi_tpkt.specs.PacketLaws.{one_packet, written_packet}
+use Rattle.osi_tpkt.specs.Stream.{ArePackets, offset_of}
+use Rattle.osi_tpkt.specs.declared.cutting.Fed.{Fed}
+use Rattle.osi_tpdu.specs.Laws.Written.{written_spells}
+use Rattle.osi_tpdu.specs.Packet.{units_of}
+use Rattle.osi_tpdu.specs.Value.{Value}
+use Rattle.osi_tpdu.specs.Writing.{written}
+use Rattle.osi_tpdu.specs.declared.faults.TpduFault.{TpduFault}
+use Rattle.osi_tpdu.proofs.PacketLaws.{units_only}
+use Rattle.osi_carrier.specs.Coming.{IsSendable, AreComing}
+use Rattle.osi_carrier.specs.Happenings.{Happening}
+use Rattle.osi_carrier.specs.Packets as carriers
+use Rattle.osi_carrier.specs.React.{react, reacts}
+use Rattle.osi_carrier.specs.State.{State as Carrier, packets}
+use Rattle.osi_carrier.specs.State as states
+use Rattle.osi_carrier.specs.declared.ends.EndReason.{EndReason}
+use Rattle.osi_carrier.specs.declared.ends.EndReason.TheVariants.{NoMemory}
+use Rattle.osi_carrier.proofs.Coming.{packet_reacts, fault_free}
+use Rattle.osi_carrier.proofs.Units.{written_least}
+use Rattle.osi_stack.specs.Coming.{after_unit, carries_out, TakesUnits, IsUnheard, TakesSome}
+use Rattle.osi_stack.specs.Feeding.{stops, uses_all, TakesPackets, RunsDry, StopsBehind, Refuses, FindsNoMemory, Goes, Feeds}
+use Rattle.osi_stack.specs.Hearing.{attends, after_packet, with_carrier, with_events, hears_all, hears_times, hears_first, hears_next, ends, concludes, RunsOut, Starves}
+use Rattle.osi_stack.specs.State.{Line, End, Holding, IsAttended, waits}
+use Rattle.osi_stack.proofs.Events.{all_quiet, never_starved, concluded_attended, starved_over as ended_then}
+use Rattle.osi_stack.proofs.Keeping.{hears_keep}
+use Rattle.osi_stack.proofs.Lifting.{packet_is}
+
+-- ---- one unit
+
+unit_packet : (unit : Value) → IsSendable unit → IsPacket (written unit) (packet_of (written unit))
+unit_packet unit h = written_packet (written unit) (record { at_least = written_least unit; at_most = h.most; octets = (written_spells unit h.fits).are_octets })
+
+unit_read : (unit : Value) → IsSendable unit → units_of (written unit) ≡ Ok (unit ∷ [])
+unit_read unit h = units_only (written unit) (unit ∷ []) (written_spells unit h.fits)
+
+-- a packet of one unit does what the unit does
+pub packet_is_unit : (e : End) (unit : Value) → IsSendable unit → after_packet e (written unit) ≡ after_unit e unit
+packet_is_unit e unit h = packet_is e (written unit) ∙ ap (λ (c : Carrier). attends (with_carrier c e)) (packet_reacts e.carrier unit h)
+
+-- ---- packets
+
+-- packets at the front of what was written
+record Fronts (units : List (List ℕ)) (coming : List Value) (r t : List ℕ) : Type 0 where
+  done : List Value
+  left : List Value
+  parts : coming ≡ done ++ left
+  are : units ≡ map written done
+  sendable : AllByRecursion IsSendable done
+  rest : AreComing r t left
+
+some_octets : (u b : List ℕ) → IsPacket u b → 0 < length b
+some_octets u b p = let e = ap length p.spelled in omega arith
+
+units_front : (units : List (List ℕ)) (coming : List Value) (s r t : List ℕ) → AllByRecursion IsSendable coming → ArePackets units s r → s ++ t ≡ packets coming →
+    Fronts units coming r t
+units_front [] coming s r t all h e = record {
+  done = [];
+  left = coming;
+  parts = refl;
+  are = refl;
+  sendable = tt;
+  rest = record { octets = ap (λ l. l ++ t) (sym h) ∙ e; sendable = all };
+}
+units_front (u ∷ us) [] s r t all h e =
+    let some = some_octets u h.0 h.2 in
+    let total = length-append s t in
+    let parts = ap length h.3 ∙ length-append h.0 h.1 in
+    let none = ap length e in
+    absurd (omega arith)
+units_front (u ∷ us) (v ∷ vs) s r t all h e =
+    let packet = unit_packet v all.0 in
+    let same : h.0 ++ (h.1 ++ t) ≡ packet_of (written v) ++ packets vs = sym (append_assoc h.0 h.1 t) ∙ ap (λ l. l ++ t) (sym h.3) ∙ e in
+    let one = one_packet u (written v) h.0 (packet_of (written v)) (h.1 ++ t) (packets vs) h.2 packet same in
+    let behind : h.1 ++ t ≡ packets vs = append_cancel_left (packet_of (written v)) (h.1 ++ t) (packets vs) (ap (λ l. l ++ (h.1 ++ t)) (sym one.0) ∙ same) in
+    let more = units_front us vs h.1 r t all.1 h.4 behind in
+    record {
+      done = v ∷ more.done;
+      left = more.left;
+      parts = ap (λ l. v ∷ l) more.parts;
+      are = ap (λ x. x ∷ us) one.1 ∙ ap (λ l. written v ∷ l) more.are;
+      sendable = (all.0, more.sendable);
+      rest = more.rest;
+    }
+
+-- packets that are taken are units that are taken
+units_taken : (done : List Value) (s t : End) → AllByRecursion IsSendable done → TakesPackets s (map written done) t → TakesUnits s done t
+units_taken [] s t all h = h
+units_taken (u ∷ us) s t all h =
+    (h.0, units_taken us (after_unit s u) t all.1 (subst (λ (x : End). TakesPackets x (map written us) t) (packet_is_unit s u all.0) h.1))
+
+whole_piece : (held outgoing : List ℕ) (n : ℕ) → (held ++ take n outgoing) ++ drop n outgoing ≡ held ++ outgoing
+whole_piece held outgoing n = append_assoc held (take n outgoing) (drop n outgoing) ∙ ap (λ l. held ++ l) (take-append-drop n outgoing)
+
+-- the packets of a part of what comes
+reads_part : (held outgoing : List ℕ) (coming : List Value) (n : ℕ) (units : List (List ℕ)) (r : List ℕ) → AreComing held outgoing coming →
+    ArePackets units (held ++ take n outgoing) r → Fronts units coming r (drop n outgoing)
+reads_part held outgoing coming n units r c h = units_front units coming (held ++ take n outgoing) r (drop n outgoing) c.sendable h (whole_piece held outgoing n ∙ c.octets)
+
+front_taken : (s t : End) (units : List (List ℕ)) (coming : List Value) (r behind : List ℕ) (f : Fronts units coming r behind) → TakesPackets s units t → TakesUnits s f.done t
+front_taken s t units coming r behind f h = units_taken f.done s t f.sendable (subst (λ (l : List (List ℕ)). TakesPackets s l t) f.are h)
+
+same_part : (outgoing : List ℕ) (n k : ℕ) → n ≤ k → take n (take k outgoing) ≡ take n outgoing
+same_part outgoing n k less = take-take n k outgoing less
+
+-- ---- what is attended stays so along packets
+
+no_events : (e : End) → stops e ≡ false → IsAttended e → e.carrier.events ≡ []
+no_events e quiet attended = attended (none_by e.carrier.ended (waits e.lines) quiet)
+  where
+    none_by : (o : Option EndReason) (b : Bool) → (is_some o || b) ≡ false → o ≡ None
+    none_by None b h = refl
+    none_by (Some reason) b h = cc
+
+-- ---- a unit for which there was no memory
+
+-- the carrier found none: the unit did nothing
+ended_quiet : (e : End) (c : Carrier) → e.carrier.events ≡ [] → c ≡ states.ends NoMemory e.carrier → attends (with_carrier c e) ≡ ends NoMemory e
+ended_quiet e c none is =
+    let over : End = record e { carrier = states.ends NoMemory e.carrier } in
+    ap (λ (x : Carrier). attends (with_carrier x e)) is ∙ ap concludes (all_quiet over none)
+
+alone_starved : (old new : Carrier) (unit : Value) (done more : List Value) (next : Value) → unit ∷ [] ≡ done ++ (next ∷ more) → new ≡ states.ends NoMemory (reacts done old) → new ≡ states.ends NoMemory old
+alone_starved old new unit [] more next e is = is
+alone_starved old new unit (d ∷ []) more next e is = cc
+alone_starved old new unit (d ∷ f ∷ ds) more next e is = cc
+
+carrier_starved : (old new : Carrier) (unit : Value) → carriers.RunsOut old (unit ∷ []) new → new ≡ states.ends NoMemory old
+carrier_starved old new unit h = alone_starved old new unit h.done h.more h.next h.all h.ended
+
+starved_unit : (old : Carrier) (new : Carrier) (unit : Value) → IsSendable unit → carriers.Starves old (written unit) new → new ≡ states.ends NoMemory old
+starved_unit old new unit sendable h =
+    let same : Ok (unit ∷ []) ≡ Ok h.0 = sym (unit_read unit sendable) ∙ h.1 in
+    let us : unit ∷ [] ≡ h.0 = cc in
+    carrier_starved old new unit (subst (λ (l : List Value). carriers.RunsOut old l new) (sym us) h.2)
+
+acted_unit : (old : Carrier) (new : Carrier) (unit : Value) → IsSendable unit → carriers.Acts old (written unit) new → (new ≡ react unit old) ⊎ (new ≡ states.ends NoMemory old)
+acted_unit old new unit sendable h =
+    let acts : carriers.ActsBy (Ok (unit ∷ [])) old new = subst (λ (r : Result (List Value) TpduFault). carriers.ActsBy r old new) (unit_read unit sendable) h in
+    elim acts [
+      | inl is ↦ inl is
+      | inr out ↦ inr (carrier_starved old new unit out)
+    ]
+
+abbrev Starved : End → List Value → End → Type 0
+Starved e left new = (new ≡ ends NoMemory e) ⊎ IsUnheard e left new
+
+unit_starved : (e new : End) (unit : Value) (rest : List Value) → IsSendable unit → e.carrier.events ≡ [] → Starves e (written unit) new → Starved e (unit ∷ rest) new
+unit_starved e new unit rest sendable none (inl h) = inl (h.2 ∙ ended_quiet e h.0 none (starved_unit e.carrier h.0 unit sendable h.1))
+unit_starved e new unit rest sendable none (inr h) = elim (acted_unit e.carrier h.0 unit sendable h.1) [
+  | inl is ↦ inr (record { unit = unit; rest = rest; first = refl; starved = subst (λ (c : Carrier). RunsOut (with_carrier c e) new) is h.2 })
+  | inr is ↦ never_starved (with_carrier h.0 e) new (ap (λ (c : Carrier). c.events) is ∙ none) h.2
+]
+
+-- the packet that starved is the next unit that comes
+packet_starved : (e new : End) (packet : List ℕ) (coming : List Value) (r t : List ℕ) → e.carrier.events ≡ [] → (f : Fronts (packet ∷ []) coming r t) → Starves e packet new → Starved e coming new
+packet_starved e new packet coming r t none f h =
+    elim f.done as (λ (l : List Value). packet ∷ [] ≡ map written l → coming ≡ l ++ f.left → AllByRecursion IsSendable l → Starved e coming new) [
+      | [] ↦ λ is parts all. cc
+      | u ∷ us ↦ λ is parts all.
+          let same : packet ≡ written u = cc in
+          subst (λ (l : List Value). Starved e l new) (sym parts)
+          (unit_starved e new u (us ++ f.left) all.0 none (subst (λ (p : List ℕ). Starves e p new) same h))
+    ] f.are f.parts f.sendable
+
+-- it has ended then
+starved_over : (e : End) (left : List Value) (new : End) → Starved e left new → new.carrier.ended ≡ None → ⊥
+starved_over e left new (inl is) lasts =
+    let over : is_some new.carrier.ended ≡ true = ap (λ (x : End). is_some x.carrier.ended) is in
+    let none : is_some new.carrier.ended ≡ false = ap is_some lasts in
+    cc
+starved_over e left new (inr h) lasts =
+    let at = with_events h.starved.more (hears_times h.starved.heard (carries_out h.unit e)) in
+    let over : is_some new.carrier.ended ≡ true = ap (λ (x : End). is_some x.carrier.ended) h.starved.starved ∙ ended_then at in
+    let none : is_some new.carrier.ended ≡ false = ap is_some lasts in
+    cc
+
+-- ---- attended along packets
+
+-- all events were heard
+all_heard : (l : List Happening) (e : End) → e.carrier.events ≡ l → (hears_times (length l) e).carrier.events ≡ []
+all_heard [] e h = h
+all_heard (x ∷ xs) e h =
+    let next : (hears_next e).carrier.events ≡ xs = ap (λ (k : List Happening). (hears_first k e).carrier.events) h ∙ (hears_keep x (with_events xs e)).events in
+    all_heard xs (hears_next e) next
+
+pub attended_then : (e new : End) → new ≡ attends e → IsAttended new
+attended_then e new h = concluded_attended (hears_all e) new h (all_heard e.carrier.events e refl)
+
+attended_along : (units : List (List ℕ)) (old new : End) → TakesPackets old units new → IsAttended old → IsAttended new
+attended_along [] old new h attended = subst IsAttended (sym h) attended
+attended_along (u ∷ units) old new h attended =
+    attended_along units (after_packet old u) new h.1 (attended_then (with_carrier (carriers.after_packet old.carrier u) old) (after_packet old u) (packet_is old u))
+
+-- ---- feeding
+
+runs_dry : (old new : Holding) (outgoing : List ℕ) (coming : List Value) (k used : ℕ) → k ≤ length outgoing → AreComing old.held.octets outgoing coming →
+    RunsDry old (take k outgoing) used new → TakesSome old outgoing coming used new
+runs_dry old new outgoing coming k used less c h =
+    let f = reads_part old.held.octets outgoing coming k h.units new.held.octets c h.packets in
+    let all : used ≡ k = h.all ∙ length-take-le k outgoing less in
+    record {
+      done = f.done;
+      left = f.left;
+      parts = f.parts;
+      reached = new.end;
+      taken = front_taken old.end new.end h.units coming new.held.octets (drop k outgoing) f h.taken;
+      how = inl refl;
+      coming_then = λ lasts. subst (λ n. AreComing new.held.octets (drop n outgoing) f.left) (sym all) f.rest;
+    }
+
+-- where the end has not ended, an indication waits
+uses_within : (e : End) (all within used : ℕ) → stops e ≡ true → e.carrier.ended ≡ None → used ≡ (if uses_all e then all else within) → used ≡ within
+uses_within e all within used stopped lasts uses =
+    let over : is_some e.carrier.ended ≡ false = ap is_some lasts in
+    let waiting : waits e.lines ≡ true = sym (ap (λ b. b || waits e.lines) over) ∙ stopped in
+    let some : uses_all e ≡ false = ap (λ (o : Option EndReason). carriers.is_spoilt o || not (waits e.lines)) lasts ∙ ap not waiting in
+    uses ∙ ap (λ (b : Bool). if◌then◌else◌ {A = ℕ} b all within) some
+
+stops_behind : (old new : Holding) (outgoing : List ℕ) (coming : List Value) (k used : ℕ) → k ≤ length outgoing → AreComing old.held.octets outgoing coming →
+    StopsBehind old (take k outgoing) used new → TakesSome old outgoing coming used new
+stops_behind old new outgoing coming k used less c h =
+    let n = h.within in
+    let within : n ≤ k = (let bound = h.bound in let size = length-take-le k outgoing less in omega arith) in
+    let f = reads_part old.held.octets outgoing coming n h.units [] c
+    (subst (λ l. ArePackets h.units (old.held.octets ++ l) []) (same_part outgoing n k within) h.packets) in
+    record {
+      done = f.done;
+      left = f.left;
+      parts = f.parts;
+      reached = new.end;
+      taken = front_taken old.end new.end h.units coming [] (drop n outgoing) f h.taken;
+      how = inl refl;
+      coming_then = λ lasts.
+          let all : used ≡ n = uses_within new.end (length (take k outgoing)) n used h.stopped lasts h.uses in
+          subst (λ m. AreComing new.held.octets (drop m outgoing) f.left) (sym all) (subst (λ l. AreComing l (drop n outgoing) f.left) (sym h.held) f.rest);
+    }
+
+refuses_none : (old new : Holding) (outgoing : List ℕ) (coming : List Value) (k used : ℕ) → AreComing old.held.octets outgoing coming →
+    Refuses old (take k outgoing) used new → ⊥
+refuses_none old new outgoing coming k used c h =
+    let f = reads_part old.held.octets outgoing coming k h.units h.cut.0 c h.cut.1 in
+    fault_free (offset_of (old.held.offset + (length (old.held.octets ++ take k outgoing) - length h.cut.0))) h.cut.0 (drop k outgoing) h.fault f.left f.rest h.cut.2
+
+finds_none : (old new : Holding) (outgoing : List ℕ) (coming : List Value) (k used : ℕ) → k ≤ length outgoing → AreComing old.held.octets outgoing coming → IsAttended old.end →
+    FindsNoMemory old (take k outgoing) used new → TakesSome old outgoing coming used new
+finds_none old new outgoing coming k used less c attended h =
+    let n = h.within in
+    let within : n ≤ k = (let bound = h.bound in let size = length-take-le k outgoing less in omega arith) in
+    let f = reads_part old.held.octets outgoing coming n h.units h.rest c
+    (subst (λ l. ArePackets h.units (old.held.octets ++ l) h.rest) (same_part outgoing n k within) h.packets) in
+    let none = no_events h.before h.quiet (attended_along h.units old.end h.before h.taken attended) in
+    let starved : Starved h.before f.left new.end =
+    elim h.how [
+      | inl e ↦ inl e
+      | inr p ↦ packet_starved h.before new.end p.0 f.left [] (drop n outgoing) none
+          (units_front (p.0 ∷ []) f.left h.rest [] (drop n outgoing) f.rest.sendable p.1 f.rest.octets) p.2
+    ] in
+    record {
+      done = f.done;
+      left = f.left;
+      parts = f.parts;
+      reached = h.before;
+      taken = front_taken old.end h.before h.units coming h.rest (drop n outgoing) f h.taken;
+      how = inr starved;
+      coming_then = λ lasts. absurd (starved_over h.before f.left new.end starved lasts);
+    }
+
+goes_some : (old new : Holding) (outgoing : List ℕ) (coming : List Value) (k used : ℕ) → k ≤ length outgoing → AreComing old.held.octets outgoing coming → IsAttended old.end →
+    Goes old (take k outgoing) used new → TakesSome old outgoing coming used new
+goes_some old new outgoing coming k used less c attended (inl (inl h)) = runs_dry old new outgoing coming k used less c h
+goes_some old new outgoing coming k used less c attended (inl (inr h)) = stops_behind old new outgoing coming k used less c h
+goes_some old new outgoing coming k used less c attended (inr (inl h)) = absurd (refuses_none old new outgoing coming k used c h)
+goes_some old new outgoing coming k used less c attended (inr (inr h)) = finds_none old new outgoing coming k used less c attended h
+
+feeds_by : (old new : Holding) (outgoing : List ℕ) (coming : List Value) (k : ℕ) (fed : Fed) (wait : Bool) → k ≤ length outgoing → AreComing old.held.octets outgoing coming →
+    IsAttended old.end → old.end.carrier.ended ≡ None → waits old.end.lines ≡ wait → Feeds old (take k outgoing) fed new → TakesSome old outgoing coming fed.used new
+feeds_by old new outgoing coming k fed true less c attended lasts wait h =
+    let none = h.waiting lasts wait in
+    record {
+      done = [];
+      left = coming;
+      parts = refl;
+      reached = old.end;
+      taken = refl;
+      how = inl (ap (λ (x : Holding). x.end) none.1);
+      coming_then = λ over.
+          subst (λ n. AreComing new.held.octets (drop n outgoing) coming) (sym none.0)
+          (subst (λ (x : Holding). AreComing x.held.octets outgoing coming) (sym none.1) c);
+    }
+feeds_by old new outgoing coming k fed false less c attended lasts wait h =
+    goes_some old new outgoing coming k fed.used less c attended
+    (h.goes (ap (λ (o : Option EndReason). is_some o || waits old.end.lines) lasts ∙ wait))
+
+pub feeds_some : (old new : Holding) (outgoing : List ℕ) (coming : List Value) (k : ℕ) (fed : Fed) → k ≤ length outgoing → AreComing old.held.octets outgoing coming →
+    IsAttended old.end → old.end.carrier.ended ≡ None → Feeds old (take k outgoing) fed new → TakesSome old outgoing coming fed.used new
+feeds_some old new outgoing coming k fed less c attended lasts h = feeds_by old new outgoing coming k fed (waits old.end.lines) less c attended lasts refl h
+
+pub attended_unit : (e : End) (unit : Value) → IsAttended (after_unit e unit)
+attended_unit e unit = attended_then (carries_out unit e) (after_unit e unit) refl

@@ -1,0 +1,304 @@
+-- What a session that makes a move leaves, and a message that arrives.
+use Rattle.std.proofs.Common.{◌≡◌, ◌≢◌, ℕ, zero, suc, ◌<◌, ◌≤◌, ◌==◌, Bool, true, false, not, ◌||◌, List, [], ◌∷◌, ◌++◌, length, nat_lt, nat_le, map, Option, Some, None, is_some, IsSome, option_map, Result, Ok, Err, refl, sym, ap, subst, ◌∙◌, arith, if◌then◌else◌}
+use Rattle.std.proofs.lemmas.Bool.{eqb-true}
+use Rattle.std.proofs.lemmas.Bool.Decides.{nat_tests}
+use Rattle.osi_tpdu.specs.Value.{Value}
+use Rattle.osi_carrier.specs.Calls.{send_error, open_link, length_error, sent, sent_on}
+use Rattle.osi_carrier.specs.Course.{Place, never, was_given}
+use Rattle.osi_carrier.specs.Happenings.{Happening}
+use Rattle.osi_carrier.specs.Happenings as told
+use Rattle.osi_carrier.specs.React as carriers
+use Rattle.osi_carrier.specs.Rows.{Rows, value_at, put}
+use Rattle.osi_carrier.specs.State.{Connection, asked, linked, closing, State as Carrier}
+use Rattle.osi_carrier.specs.declared.faults.SendError.{SendError}
+use Rattle.osi_carrier.specs.declared.faults.SendError.TheVariants.{NotOpen, TooLong}
+use Rattle.osi_carrier.proofs.Apart.{put_here}
+use Rattle.osi_carrier.proofs.AtReferences.{put_other}
+use Rattle.osi_class.specs.Link.{Standing as Link}
+use Rattle.osi_message.specs.Meanings.{Meaning}
+use Rattle.osi_message.specs.Reading.{said_by_units, said_at, said_if_read}
+use Rattle.osi_spdu.specs.Known.{Units}
+use Rattle.osi_spdu.specs.declared.faults.SpduFault.{SpduFault}
+use Rattle.osi_message.specs.Sendable.{said_of, IsSendable}
+use Rattle.osi_message.specs.Written.{written, spelled}
+use Rattle.osi_spdu.specs.Reading.{tsdu_at}
+use Rattle.osi_session.specs.Moves.{Input, Standing, Move, called, opened, refused, broken, taken, came, came_as, in_state, answered, react}
+use Rattle.osi_session.specs.Sessions.{awaits}
+use Rattle.osi_session.specs.Shown.{Shown}
+use Rattle.osi_stack.specs.Calls.{first_shown, first_by, without_first, rest_by, has_given, send_refusal, reply_refusal, or_else, move_refusal, session_refusal, call_error}
+use Rattle.osi_stack.specs.Coming.{carries_out, after_unit}
+use Rattle.osi_stack.specs.Hearing.{opens, hears, hears_times, hears_next, hears_first, hears_all, with_events, concludes, attends, shown_at_loss, loses, all_lost}
+use Rattle.osi_stack.specs.Messages.{Message, unit, ask, agree, deny, bye, over, IsWhole, put_by, puts, Acts, Effect, begins, happens, rests, effect_at, told_at, HasSession, IsShort, CanHear, Hears, told_all, Arrives, kept_at, waiting_of, waiting_at, Becomes, IsGranted, Says, AreLost, shown_of, all_waiting, IsFirstOf}
+use Rattle.osi_stack.specs.Moving.{answers, line_after, line_by, carrier_by, by_line, to_session}
+use Rattle.osi_stack.specs.State.{Line, End, session_in, session_at, line_waits, waits, is_used, used_lines, joins}
+use Rattle.osi_stack.specs.Transport.{sent_unless, hands, hands_some, answers_by}
+use Rattle.osi_stack.proofs.Events.{all_quiet}
+use Rattle.osi_stack.proofs.Lifting.{or_first, or_second}
+use Rattle.osi_session.specs.Allowed.{Step, Answer, allowed}
+use Rattle.osi_session.specs.Calls.{Call}
+use Rattle.osi_session.specs.declared.faults.CallError.{CallError}
+use Rattle.osi_session.specs.declared.faults.CallError.TheVariants as error
+
+-- ---- what a session puts
+
+-- what is short is sent on an open connection, and on another nothing is
+handed_by : (r : ℕ) (tsdu : List ℕ) (c : Carrier) (o : Option (ℕ × Link)) → open_link r c ≡ o → length tsdu ≤ 1048576 → hands r tsdu c ≡ sent r tsdu c
+handed_by r tsdu c None e short =
+    ap (λ x. sent_unless (send_error tsdu x) r tsdu c) e ∙ sym (ap (λ x. sent_on r tsdu x c) e)
+handed_by r tsdu c (Some link) e short =
+    let fits : nat_lt 1048576 (length tsdu) ≡ false = grind (arith, nat_tests) in
+    let none : length_error tsdu ≡ None = ap (λ (b : Bool). if◌then◌else◌ {A = Option SendError} b (Some TooLong) None) fits in
+    ap (λ x. sent_unless (send_error tsdu x) r tsdu c) e ∙ ap (λ x. sent_unless x r tsdu c) none
+
+pub handed : (r : ℕ) (tsdu : List ℕ) (c : Carrier) → length tsdu ≤ 1048576 → hands r tsdu c ≡ sent r tsdu c
+handed r tsdu c short = handed_by r tsdu c (open_link r c) refl short
+
+answers_put : (r : ℕ) (closes : Bool) (reply : Option Meaning) (c : Carrier) → IsShort reply → answers_by closes r (option_map written reply) c ≡ puts r (put_by closes reply) c
+answers_put r true reply c short = refl
+answers_put r false None c short = refl
+answers_put r false (Some m) c short = handed r (written m) c short
+
+-- ---- a move
+
+by_acts : (r : ℕ) (input : Input) (e : End) (line : Line) (s : Standing) → value_at r e.lines ≡ Some line → line.session ≡ Some s → IsShort (react s input).reply →
+    Acts r input e (to_session r input e)
+by_acts r input e line s here is short =
+    let at : to_session r input e ≡ by_line r (Some line) input e = ap (λ o. by_line r o input e) here in
+    record {
+      line = line;
+      session = s;
+      here = here;
+      is = is;
+      lines = ap (λ (x : End). x.lines) at ∙ ap (λ o. put r (line_by line o input) e.lines) is;
+      carrier = ap (λ (x : End). x.carrier) at ∙ ap (λ o. carrier_by r o input e.carrier) is
+          ∙ answers_put r (react s input).closes (react s input).reply e.carrier short;
+    }
+
+pub acts_is : (r : ℕ) (input : Input) (e : End) (s : HasSession r e.lines) → IsShort (react s.session input).reply → Acts r input e (to_session r input e)
+acts_is r input e s short = by_acts r input e s.line s.session s.here s.is short
+
+pub acts_becomes : (r : ℕ) (input : Input) (old new : End) (a : Acts r input old new) →
+    Becomes r (react a.session input).next (react a.session input).shown old.lines new.lines
+acts_becomes r input old new a =
+    let after = line_after a.line (react a.session input) in
+    let at : value_at r new.lines ≡ Some after = ap (λ (l : Rows Line). value_at r l) a.lines ∙ put_here r after a.line old.lines a.here in
+    record {
+      session_is = ap session_in at;
+      waiting = ap waiting_of at ∙ sym (ap (λ o. waiting_of o ++ (react a.session input).shown) a.here);
+      others = λ q ne. ap (λ (l : Rows Line). value_at q l) a.lines ∙ put_other q r after old.lines ne;
+    }
+
+-- ---- one event
+
+one_heard : (e : End) (event : Happening) → e.carrier.events ≡ event ∷ [] → hears_all e ≡ hears event (with_events [] e)
+one_heard e event h =
+    ap (λ (l : List Happening). hears_times (length l) e) h ∙ ap (λ (l : List Happening). hears_first l e) h
+
+attends_one : (e : End) (event : Happening) → e.carrier.events ≡ event ∷ [] → attends e ≡ concludes (hears event (with_events [] e))
+attends_one e event h = ap concludes (one_heard e event h)
+
+none_told : (e : End) → e.carrier.events ≡ [] → with_events [] e ≡ e
+none_told e h = ap (λ (l : List Happening). with_events l e) (sym h)
+
+attends_none : (e : End) → e.carrier.events ≡ [] → attends e ≡ concludes (with_events [] e)
+attends_none e h = ap concludes (all_quiet e h ∙ sym (none_told e h))
+
+arrives_by : (r : ℕ) (effect : Effect) (v : Value) (e heard : End) → Hears r effect (told_all v e) heard → after_unit e v ≡ concludes heard → Arrives r effect v e (after_unit e v)
+arrives_by r effect v e heard h is = record { heard = heard; hears = h; is = is }
+
+happens_by : (r : ℕ) (input : Input) (event : Happening) (v : Value) (e : End) → (carries_out v e).carrier.events ≡ event ∷ [] →
+    hears event (told_all v e) ≡ to_session r input (told_all v e) → CanHear r (happens input) e.lines → Arrives r (happens input) v e (after_unit e v)
+happens_by r input event v e h same can =
+    arrives_by r (happens input) v e (to_session r input (told_all v e)) (acts_is r input (told_all v e) can.0 can.1)
+    (attends_one (carries_out v e) event h ∙ ap concludes same)
+
+rests_by : (r : ℕ) (v : Value) (e : End) → (carries_out v e).carrier.events ≡ [] → Arrives r rests v e (after_unit e v)
+rests_by r v e h = arrives_by r rests v e (told_all v e) refl (attends_none (carries_out v e) h)
+
+-- a session of a reference hears that its transport connection is there
+opens_to : (r : ℕ) (e : End) (line : Line) → value_at r e.lines ≡ Some line → hears (told.opened r) e ≡ to_session r opened e
+opens_to r e line here = ap (λ o. opens r o e) here
+
+pub record Readings : Type 0 where
+  pub read : (m : Meaning) → IsSendable m → tsdu_at (written m) ≡ Ok (spelled m)
+  pub said : (m : Meaning) → IsSendable m → said_by_units (spelled m) ≡ said_of m
+
+-- what is sent comes as what it says
+pub came_is : Readings → (m : Meaning) → IsSendable m → came (written m) ≡ taken (said_of m)
+unfolding said_at
+came_is law m sendable = ap (λ (r : Result Units SpduFault). came_as (said_if_read r)) (law.read m sendable) ∙ ap taken (law.said m sendable)
+
+pub arrives : Readings → (r : ℕ) (place : Place) (m : Message) (v : Value) (e : End) → IsWhole m → (carriers.react v e.carrier).events ≡ told_at r place m →
+    CanHear r (effect_at place m) e.lines → Arrives r (effect_at place m) v e (after_unit e v)
+arrives law r never (unit m) v e whole h can = rests_by r v e h
+arrives law r never ask v e whole h can =
+    arrives_by r begins v e (joins r awaits (told_all v e)) refl (attends_one (carries_out v e) (told.opened r) h ∙ ap (λ o. concludes (opens r o (told_all v e))) can)
+arrives law r never agree v e whole h can = rests_by r v e h
+arrives law r never (deny reason) v e whole h can = rests_by r v e h
+arrives law r never (bye reason) v e whole h can = rests_by r v e h
+arrives law r never over v e whole h can = rests_by r v e h
+arrives law r (was_given None) m v e whole h can = rests_by r v e h
+arrives law r (was_given (Some asked)) (unit m) v e whole h can = rests_by r v e h
+arrives law r (was_given (Some asked)) ask v e whole h can = rests_by r v e h
+arrives law r (was_given (Some asked)) agree v e whole h can = happens_by r opened (told.opened r) v e h (opens_to r (told_all v e) can.0.line can.0.here) can
+arrives law r (was_given (Some asked)) (deny reason) v e whole h can = happens_by r (refused reason) (told.refused r reason) v e h refl can
+arrives law r (was_given (Some asked)) (bye reason) v e whole h can = rests_by r v e h
+arrives law r (was_given (Some asked)) over v e whole h can = rests_by r v e h
+arrives law r (was_given (Some (linked peer link))) (unit m) v e whole h can =
+    happens_by r (taken (said_of m)) (told.tsdu r (written m)) v e h (ap (λ i. to_session r i (told_all v e)) (came_is law m whole)) can
+arrives law r (was_given (Some (linked peer link))) ask v e whole h can = rests_by r v e h
+arrives law r (was_given (Some (linked peer link))) agree v e whole h can = rests_by r v e h
+arrives law r (was_given (Some (linked peer link))) (deny reason) v e whole h can = rests_by r v e h
+arrives law r (was_given (Some (linked peer link))) (bye reason) v e whole h can = happens_by r broken (told.closed r reason) v e h refl can
+arrives law r (was_given (Some (linked peer link))) over v e whole h can = rests_by r v e h
+arrives law r (was_given (Some (closing peer))) m v e whole h can = rests_by r v e h
+
+-- ---- all are lost
+
+lost_at_by : (r q : ℕ) (line : Line) (lines : Rows Line) (b : Bool) → (q == r) ≡ b → value_at r (all_lost lines) ≡ option_map loses (value_at r lines) →
+    value_at r (all_lost ((q, line) ∷ lines)) ≡ option_map loses (value_at r ((q, line) ∷ lines))
+lost_at_by r q line lines true e more = rw e refl
+lost_at_by r q line lines false e more = rw e more
+
+pub lost_at : (r : ℕ) (lines : Rows Line) → value_at r (all_lost lines) ≡ option_map loses (value_at r lines)
+lost_at r [] = refl
+lost_at r ((q, line) ∷ lines) = lost_at_by r q line lines (q == r) refl (lost_at r lines)
+
+lost_none : (o : Option Line) → session_in (option_map loses o) ≡ None
+lost_none None = refl
+lost_none (Some line) = refl
+
+lost_waiting : (o : Option Line) → waiting_of (option_map loses o) ≡ waiting_of o ++ shown_at_loss (session_in o)
+lost_waiting None = refl
+lost_waiting (Some line) = refl
+
+pub are_lost : (lines : Rows Line) → AreLost lines (all_lost lines)
+are_lost lines = record {
+  none = λ r. ap session_in (lost_at r lines) ∙ lost_none (value_at r lines);
+  waiting = λ r. ap waiting_of (lost_at r lines) ∙ lost_waiting (value_at r lines);
+}
+
+-- ---- all that waits
+
+shown_first : (r : ℕ) (line : Line) (waiting : List Shown) (lines : Rows Line) → line.waiting ≡ waiting →
+    IsFirstOf (first_shown lines) (all_waiting lines) (all_waiting (without_first lines)) →
+    IsFirstOf (first_by r waiting (first_shown lines)) (shown_of r waiting ++ all_waiting lines) (all_waiting (rest_by r line waiting lines (without_first lines)))
+shown_first r line [] lines none more =
+    subst (λ (w : List Shown). IsFirstOf (first_shown lines) (all_waiting lines) (shown_of r w ++ all_waiting (without_first lines))) (sym none) more
+shown_first r line (shown ∷ waiting) lines some more = refl
+
+pub first_of_all : (lines : Rows Line) → IsFirstOf (first_shown lines) (all_waiting lines) (all_waiting (without_first lines))
+first_of_all [] = (refl, refl)
+first_of_all ((r, line) ∷ lines) = shown_first r line line.waiting lines refl (first_of_all lines)
+
+kept_first_by : (q r : ℕ) (line : Line) (waiting : List Shown) (lines : Rows Line) (b : Bool) → (r == q) ≡ b → kept_at q (without_first lines) ≡ kept_at q lines →
+    kept_at q (rest_by r line waiting lines (without_first lines)) ≡ kept_at q ((r, line) ∷ lines)
+kept_first_by q r line [] lines true e more = rw e refl
+kept_first_by q r line [] lines false e more = rw e more
+kept_first_by q r line (shown ∷ waiting) lines true e more = rw e refl
+kept_first_by q r line (shown ∷ waiting) lines false e more = rw e refl
+
+-- the sessions are as they were
+pub kept_first : (q : ℕ) (lines : Rows Line) → kept_at q (without_first lines) ≡ kept_at q lines
+kept_first q [] = refl
+kept_first q ((r, line) ∷ lines) = kept_first_by q r line line.waiting lines (r == q) refl (kept_first q lines)
+
+-- where nothing waits
+pub none_waiting : (lines : Rows Line) → waits lines ≡ false → all_waiting lines ≡ []
+none_waiting [] h = refl
+none_waiting ((r, line) ∷ lines) h =
+    let here : line_waits line ≡ false = or_first (line_waits line) (waits lines) h in
+    let none = empty_of line.waiting here in
+    ap (λ (w : List Shown). shown_of r w ++ all_waiting lines) none ∙ none_waiting lines (or_second (line_waits line) (waits lines) h)
+  where
+    empty_of : (w : List Shown) → not (length w == 0) ≡ false → w ≡ []
+    empty_of [] h = refl
+    empty_of (x ∷ w) h = let none : suc (length w) ≡ 0 = grind (arith, nat_tests) in absurd (omega arith)
+
+-- ---- a call
+
+pub record HasLink (o : Option (ℕ × Link)) (tsdu : List ℕ) : Type 0 where
+  pub opened : IsSome o
+  pub short : length tsdu ≤ 1048576
+
+unsent_link : (o : Option (ℕ × Link)) (tsdu : List ℕ) → send_refusal (send_error tsdu o) ≡ None → HasLink o tsdu
+unsent_link None tsdu h = cc
+unsent_link (Some link) tsdu h = short_by (nat_lt 1048576 (length tsdu)) refl
+  where
+    short_by : (b : Bool) → nat_lt 1048576 (length tsdu) ≡ b → HasLink (Some link) tsdu
+    short_by true e = let no = rw e at h in cc
+    short_by false e = record { opened = refl; short = grind (arith, nat_tests) }
+
+granted_by : (r : ℕ) (call : Call) (s : Standing) (c : Carrier) (a : Answer) → allowed s.state call ≡ a → move_refusal r (react s (called call)) c ≡ None → IsGranted r call s c
+unfolding react
+granted_by r call s c (Err error) e h =
+    let is : react s (called call) ≡ answered s (Err error) = ap (answered s) e in
+    let no : Some error ≡ None = sym (ap (λ (m : Move). move_refusal r m c) is) ∙ h in
+    cc
+granted_by r call s c (Ok step) e h =
+    let is : react s (called call) ≡ answered s (Ok step) = ap (answered s) e in
+    let sends : send_refusal (send_error (written step.sent) (open_link r c)) ≡ None = sym (ap (λ (m : Move). move_refusal r m c) is) ∙ h in
+    let link = unsent_link (open_link r c) (written step.sent) sends in
+    record {
+      step = step;
+      accepted = e;
+      opened = link.opened;
+      short = link.short;
+      reply = ap (λ (m : Move). m.reply) is;
+      closes = ap (λ (m : Move). m.closes) is;
+      shown = ap (λ (m : Move). m.shown) is;
+      next = ap (λ (m : Move). m.next) is;
+    }
+
+line_of : (b : Bool) (o : Option Line) (s : Standing) → (if b then session_in o else None) ≡ Some s → (line : Line) × (o ≡ Some line) × (line.session ≡ Some s)
+line_of true (Some line) s h = (line, refl, h)
+line_of true None s h = cc
+line_of false o s h = cc
+
+says_at : (r : ℕ) (call : Call) (e : End) (o : Option Standing) → session_at r e ≡ o → session_refusal r o call e.carrier ≡ None → Says r call e (to_session r (called call) e)
+unfolding by_acts
+says_at r call e None at h = let no : Some error.Ended ≡ None = h in cc
+says_at r call e (Some s) at h =
+    let there = line_of (is_some (value_at r e.carrier.live)) (value_at r e.lines) s at in
+    let g = granted_by r call s e.carrier (allowed s.state call) refl h in
+    let short : IsShort (react s (called call)).reply = subst IsShort (sym g.reply) g.short in
+    record {
+      acts = by_acts r (called call) e there.0 s there.1 there.2 short;
+      granted = g;
+      live = at;
+    }
+
+given_by : (b : Bool) (o : Option CallError) → (if not b then Some error.NoSuchConnection else o) ≡ None → o ≡ None
+given_by true o h = h
+given_by false o h = cc
+
+pub says_is : (r : ℕ) (call : Call) (e : End) → call_error r call e ≡ None → Says r call e (to_session r (called call) e)
+says_is r call e h =
+    says_at r call e (session_at r e) refl (given_by (has_given r e.carrier) (session_refusal r (session_at r e) call e.carrier) h)
+
+-- ---- a new line
+
+used_by : (live : Rows Connection) (row : ℕ × Line) (lines : Rows Line) (b : Bool) → is_used live row ≡ b →
+    used_lines live (row ∷ lines) ≡ (if b then row ∷ used_lines live lines else used_lines live lines)
+used_by live row lines b e = ap (λ (c : Bool). if◌then◌else◌ {A = Rows Line} c (row ∷ used_lines live lines) (used_lines live lines)) e
+
+at_row : (q p : ℕ) (y : Line) (rows : Rows Line) (b : Bool) → (p == q) ≡ b → value_at q ((p, y) ∷ rows) ≡ (if b then Some y else value_at q rows)
+at_row q p y rows b e = ap (λ (c : Bool). if◌then◌else◌ {A = Option Line} c (Some y) (value_at q rows)) e
+
+-- lines of live connections stay
+used_live_by : (q p : ℕ) (y : Line) (live : Rows Connection) (lines : Rows Line) (b u : Bool) → (p == q) ≡ b → is_used live (p, y) ≡ u → is_some (value_at q live) ≡ true →
+    value_at q (used_lines live lines) ≡ value_at q lines → value_at q (used_lines live ((p, y) ∷ lines)) ≡ value_at q ((p, y) ∷ lines)
+used_live_by q p y live lines b true e used is more =
+    ap (value_at q) (used_by live (p, y) lines true used) ∙ at_row q p y (used_lines live lines) b e
+    ∙ ap (λ (o : Option Line). if◌then◌else◌ {A = Option Line} b (Some y) o) more ∙ sym (at_row q p y lines b e)
+used_live_by q p y live lines true false e used is more =
+    let same = eqb-true p q e in
+    let lives : is_some (value_at p live) ≡ true = ap (λ n. is_some (value_at n live)) same ∙ is in
+    let no : true ≡ false = sym (ap (λ (c : Bool). c || line_waits y) lives) ∙ used in
+    cc
+used_live_by q p y live lines false false e used is more =
+    ap (value_at q) (used_by live (p, y) lines false used) ∙ more ∙ sym (at_row q p y lines false e)
+
+pub used_live : (q : ℕ) (live : Rows Connection) (lines : Rows Line) → is_some (value_at q live) ≡ true → value_at q (used_lines live lines) ≡ value_at q lines
+used_live q live [] is = refl
+used_live q live ((p, y) ∷ lines) is = used_live_by q p y live lines (p == q) (is_used live (p, y)) refl refl is (used_live q live lines is)

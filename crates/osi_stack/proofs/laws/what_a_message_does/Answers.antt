@@ -1,0 +1,8 @@
+use Rattle.osi_stack.proofs.Moves.{Readings, arrives, acts_becomes}
+use Rattle.osi_stack.proofs.laws.what_a_message_does.Goals as goal
+
+pub returns : goal.returns
+returns c = record {
+  arrives = arrives (record { read = c.what_is_sent_is_read.ensures.read; said = c.what_is_sent_is_read.ensures.said });
+  becomes = acts_becomes;
+}

@@ -1,0 +1,5 @@
+use Rattle.osi_stack.proofs.Moves.{are_lost}
+use Rattle.osi_stack.proofs.laws.what_an_end_shows.Goals as goal
+
+pub returns : goal.returns
+returns c = are_lost

@@ -1,0 +1,5 @@
+use Rattle.osi_stack.proofs.Moves.{first_of_all, kept_first, none_waiting, used_live}
+use Rattle.osi_stack.proofs.laws.what_waits_is_told_in_order.Goals as goal
+
+pub returns : goal.returns
+returns c = record { next = first_of_all; sessions = kept_first; none = none_waiting; lines = used_live }

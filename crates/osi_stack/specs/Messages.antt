@@ -1,0 +1,202 @@
+-- What an end takes, shows and puts for a connection, in whole messages.
+use Rattle.std.specs.Prelude.{◌≡◌, ◌≢◌, ◌≤◌, ℕ, Bool, true, false, List, [], ◌∷◌, ◌++◌, length, Option, Some, None, IsSome, Ok}
+use Rattle.osi_message.specs.Meanings.{Meaning}
+use Rattle.osi_message.specs.Sendable.{said_of, IsSendable}
+use Rattle.osi_message.specs.Written.{written}
+use Rattle.osi_tpdu.specs.Value.{Value}
+use Rattle.osi_carrier.specs.Calls.{open_link, sent, closed_with}
+use Rattle.osi_carrier.specs.Course.{Place, never, was_given}
+use Rattle.osi_carrier.specs.Happenings.{Happening}
+use Rattle.osi_carrier.specs.Happenings as told
+use Rattle.osi_carrier.specs.Messages as between
+use Rattle.osi_carrier.specs.Rows.{Rows, value_at, put}
+use Rattle.osi_carrier.specs.State.{Connection, asked, linked, closing, State as Carrier}
+use Rattle.osi_session.specs.Allowed.{Step, allowed}
+use Rattle.osi_session.specs.Calls.{Call}
+use Rattle.osi_session.specs.Moves.{Input, Standing, called, opened, refused, broken, taken, in_state, react}
+use Rattle.osi_session.specs.Sessions.{awaits}
+use Rattle.osi_session.specs.Shown.{Shown}
+use Rattle.osi_stack.specs.Coming.{carries_out}
+use Rattle.osi_stack.specs.Hearing.{with_events, concludes, shown_at_loss}
+use Rattle.osi_stack.specs.Moving.{line_after}
+use Rattle.osi_stack.specs.State.{Line, End, session_in, session_at, joins}
+
+-- a session unit; and of a transport connection that it is asked for, agreed to, denied, or closed, and
+-- that a close is answered
+pub data Message : Type 0 where
+  unit : Meaning → Message
+  ask : Message
+  agree : Message
+  deny : (reason : ℕ) → Message
+  bye : (reason : ℕ) → Message
+  over : Message
+
+-- a message between the carriers: a unit is a TSDU
+abbrev pub carried : Message → between.Message
+carried (unit m) = between.message (written m)
+carried ask = between.ask
+carried agree = between.agree
+carried (deny reason) = between.deny reason
+carried (bye reason) = between.bye reason
+carried over = between.over
+
+-- a unit is one that can be sent, so that its octets are read as it
+abbrev pub IsWhole : Message → Type 0
+IsWhole (unit m) = IsSendable m
+IsWhole ask = Unit {0}
+IsWhole agree = Unit {0}
+IsWhole (deny reason) = Unit {0}
+IsWhole (bye reason) = Unit {0}
+IsWhole over = Unit {0}
+
+-- ---- what a session puts
+
+-- that its transport connection is closed, or a unit, or nothing: what closes a connection is not answered
+abbrev pub put_by : Bool → Option Meaning → List Message
+put_by true reply = bye 128 ∷ []
+put_by false None = []
+put_by false (Some m) = unit m ∷ []
+
+-- what a session puts its carrier does; all else the carrier puts itself
+abbrev pub does : ℕ → Message → Carrier → Carrier
+does r (unit m) c = sent r (written m) c
+does r (bye reason) c = closed_with r reason c
+does r ask c = c
+does r agree c = c
+does r (deny reason) c = c
+does r over c = c
+
+abbrev pub puts : ℕ → List Message → Carrier → Carrier
+puts r [] c = c
+puts r (m ∷ messages) c = puts r messages (does r m c)
+
+-- ---- a move of one session
+
+-- The session of a reference made its move: it is left so, its user is to be shown this more, and the
+-- carrier did what it put. All other lines stand as they did.
+pub record Acts (r : ℕ) (input : Input) (old new : End) : Type 0 where
+  pub line : Line
+  pub session : Standing
+  pub here : value_at r old.lines ≡ Some line
+  pub is : line.session ≡ Some session
+  pub lines : new.lines ≡ put r (line_after line (react session input)) old.lines
+  pub carrier : new.carrier ≡ puts r (put_by (react session input).closes (react session input).reply) old.carrier
+
+-- ---- a message that arrives
+
+-- what it does to the session of its connection: there is a new one, or this happens to it, or nothing
+pub data Effect : Type 0 where
+  begins : Effect
+  happens : Input → Effect
+  rests : Effect
+
+-- by where the connection stands
+abbrev pub effect_at : Place → Message → Effect
+effect_at never ask = begins
+effect_at (was_given (Some asked)) agree = happens opened
+effect_at (was_given (Some asked)) (deny reason) = happens (refused reason)
+effect_at (was_given (Some (linked peer link))) (unit m) = happens (taken (said_of m))
+effect_at (was_given (Some (linked peer link))) (bye reason) = happens broken
+effect_at place m = rests
+
+-- what the carrier tells of it
+abbrev pub told_at : ℕ → Place → Message → List Happening
+told_at r never ask = told.opened r ∷ []
+told_at r (was_given (Some asked)) agree = told.opened r ∷ []
+told_at r (was_given (Some asked)) (deny reason) = told.refused r reason ∷ []
+told_at r (was_given (Some (linked peer link))) (unit m) = told.tsdu r (written m) ∷ []
+told_at r (was_given (Some (linked peer link))) (bye reason) = told.closed r reason ∷ []
+told_at r place m = []
+
+-- a connection has a session
+pub record HasSession (r : ℕ) (lines : Rows Line) : Type 0 where
+  pub line : Line
+  pub session : Standing
+  pub here : value_at r lines ≡ Some line
+  pub is : line.session ≡ Some session
+
+-- what a session answers is no longer than a TSDU may be
+abbrev pub IsShort : Option Meaning → Type 0
+IsShort None = Unit {0}
+IsShort (Some m) = length (written m) ≤ 1048576
+
+-- a new session stands where there is none, and other things happen to one that is there
+abbrev pub CanHear : ℕ → Effect → Rows Line → Type 0
+CanHear r begins lines = value_at r lines ≡ None
+CanHear r (happens input) lines = (s : HasSession r lines) × IsShort (react s.session input).reply
+CanHear r rests lines = Unit {0}
+
+abbrev pub Hears : ℕ → Effect → End → End → Type 0
+Hears r begins old new = new ≡ joins r awaits old
+Hears r (happens input) old new = Acts r input old new
+Hears r rests old new = new ≡ old
+
+-- the carrier has acted on a unit, and what it told is heard
+abbrev pub told_all : Value → End → End
+told_all tpdu e = with_events [] (carries_out tpdu e)
+
+-- A unit acted with which a message arrived: the carrier did what it does, the session of the connection
+-- heard of it, and where the carrier ended then all sessions are lost.
+pub record Arrives (r : ℕ) (effect : Effect) (tpdu : Value) (old new : End) : Type 0 where
+  pub heard : End
+  pub hears : Hears r effect (told_all tpdu old) heard
+  pub is : new ≡ concludes heard
+
+-- ---- a call
+
+-- A call that the table of calls allows, on an open connection: it sends one unit.
+pub record IsGranted (r : ℕ) (call : Call) (s : Standing) (c : Carrier) : Type 0 where
+  pub step : Step
+  pub accepted : allowed s.state call ≡ Ok step
+  pub opened : IsSome (open_link r c)
+  pub short : length (written step.sent) ≤ 1048576
+  pub reply : (react s (called call)).reply ≡ Some step.sent
+  pub closes : (react s (called call)).closes ≡ false
+  pub shown : (react s (called call)).shown ≡ []
+  pub next : (react s (called call)).next ≡ in_state s step.next
+
+-- An accepted call is a move of the session of a live connection, which sends one unit.
+pub record Says (r : ℕ) (call : Call) (old new : End) : Type 0 where
+  pub acts : Acts r (called call) old new
+  pub granted : IsGranted r call acts.session old.carrier
+  pub live : session_at r old ≡ Some acts.session
+
+-- ---- what is seen of connections
+
+-- the session of a reference, also of one that is gone while its user has still to be shown something
+abbrev pub kept_at : ℕ → Rows Line → Option Standing
+kept_at r lines = session_in (value_at r lines)
+
+abbrev pub waiting_of : Option Line → List Shown
+waiting_of None = []
+waiting_of (Some line) = line.waiting
+
+-- what its user is still to be shown
+abbrev pub waiting_at : ℕ → Rows Line → List Shown
+waiting_at r lines = waiting_of (value_at r lines)
+
+-- The session at a reference became this one, and its user is to be shown this more; all others are as
+-- they were.
+pub record Becomes (r : ℕ) (session : Standing) (shown : List Shown) (old new : Rows Line) : Type 0 where
+  pub session_is : kept_at r new ≡ Some session
+  pub waiting : waiting_at r new ≡ waiting_at r old ++ shown
+  pub others : (q : ℕ) → q ≢ r → value_at q new ≡ value_at q old
+
+-- No session is left, and the user of each was shown what it shows where it is lost.
+pub record AreLost (old new : Rows Line) : Type 0 where
+  pub none : (r : ℕ) → kept_at r new ≡ None
+  pub waiting : (r : ℕ) → waiting_at r new ≡ waiting_at r old ++ shown_at_loss (kept_at r old)
+
+-- all that waits, with its reference: line after line
+abbrev pub shown_of : ℕ → List Shown → List (ℕ × Shown)
+shown_of r [] = []
+shown_of r (shown ∷ waiting) = (r, shown) ∷ shown_of r waiting
+
+abbrev pub all_waiting : Rows Line → List (ℕ × Shown)
+all_waiting [] = []
+all_waiting ((r, line) ∷ lines) = shown_of r line.waiting ++ all_waiting lines
+
+-- the first of them, and the others
+abbrev pub IsFirstOf : Option (ℕ × Shown) → List (ℕ × Shown) → List (ℕ × Shown) → Type 0
+IsFirstOf None all others = (all ≡ []) × (others ≡ [])
+IsFirstOf (Some first) all others = all ≡ first ∷ others
