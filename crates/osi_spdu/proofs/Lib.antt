@@ -8,6 +8,7 @@ pub mod FormedLaws
 pub mod TsduLaws
 pub mod WritingLoops
 pub mod WritingUnits
+pub mod KeptLengths
 pub mod CanonicalLaws
 pub mod BehindLaws
 pub mod Shorter

@@ -5,6 +5,7 @@ pub mod Known
 pub mod Reading
 pub mod Spelling
 pub mod Writing
+pub mod UnitLengths
 pub mod Octets
 pub mod Fields
 pub mod Params

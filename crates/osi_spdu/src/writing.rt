@@ -1,6 +1,6 @@
 //! The written form of units: known parameters alone, in rising order of code.
 
-ghost use Rattle.std.specs.Prelude.{◌≡◌, ◌≤◌, ◌<◌, ◌^◌, ◌+◌, ◌*◌, ◌++◌, [], ◌∷◌, length, nat_lt, Ok, OnOk, OnErr, if◌then◌else◌};
+ghost use Rattle.std.specs.Prelude.{◌≡◌, ◌≤◌, ◌<◌, ◌^◌, ◌+◌, ◌*◌, ◌++◌, [], ◌∷◌, length, get_or, set, nat_lt, Ok, OnOk, OnErr, if◌then◌else◌};
 ghost use Rattle.std.specs.List.{flat_map};
 ghost use Rattle.bytes.specs.Filled.{UsesSpare};
 ghost use Rattle.osi_tpkt.specs.Octets.{IsOctets};
@@ -10,8 +10,9 @@ ghost use Rattle.osi_spdu.specs.Params.{known_of};
 ghost use Rattle.osi_spdu.specs.Reading.{tsdu_at};
 ghost use Rattle.osi_spdu.specs.Spelling.{length_octets, SpellsTsdu};
 ghost use Rattle.osi_spdu.specs.Writing.{written_code, written_item, member_octets, members_octets, parameter_octets, body_octets, unit_octets, tsdu_octets, UnitFits, TsduFits};
+ghost use Rattle.osi_spdu.specs.UnitLengths.{body_length, AreLengths};
 ghost use Rattle.osi_spdu.specs.Units.{said_by};
-ghost use Rattle.osi_spdu.specs.Groups.{units_behind, units_of};
+ghost use Rattle.osi_spdu.specs.Groups.{first_of, behind_of, units_behind, units_of};
 
 use crate::behind::Behind;
 use crate::codes::Code;
@@ -211,71 +212,134 @@ fn put_body(out: &mut BytesMut, kind: Kind, params: &Params)
 }
 
 /// How many octets a unit is, without the user information of a DT.
-#[tactic(auto, unfolding(crate::specs::Writing::unit_octets))]
-fn unit_len(unit: &Spdu) -> usize
-    requires { UnitFits (said_by unit.now) }
-    ensures value { result ≡ length (unit_octets (said_by unit.now)) }
-    ensures short { result < 65540 }
-{
-    item_len(body_len(unit.kind(), unit.params()))
+#[derive(Clone, Copy)]
+struct UnitLength {
+    /// Its parameters and groups.
+    body: usize,
+    /// With its SI and its length indicator.
+    whole: usize,
 }
 
 #[tactic(auto, unfolding(crate::specs::Writing::unit_octets))]
-fn put_unit(out: &mut BytesMut, unit: &Spdu)
+fn unit_len(unit: &Spdu) -> UnitLength
+    requires { UnitFits (said_by unit.now) }
+    ensures body { result.body ≡ body_length (said_by unit.now) }
+    ensures value { result.whole ≡ length (unit_octets (said_by unit.now)) }
+    ensures short { result.whole < 65540 }
+{
+    let body = body_len(unit.kind(), unit.params());
+    UnitLength {
+        body,
+        whole: item_len(body),
+    }
+}
+
+#[tactic(auto, unfolding(crate::specs::Writing::unit_octets))]
+fn put_unit(out: &mut BytesMut, unit: &Spdu, body: usize)
     requires small { UnitFits (said_by unit.now) }
+    requires body { body ≡ body_length (said_by unit.now) }
     requires room { length (unit_octets (said_by unit.now)) ≤ out.old.spare }
     ensures items { out.new.items ≡ out.old.items ++ unit_octets (said_by unit.now) }
     ensures spare { out.new.spare + length (unit_octets (said_by unit.now)) ≡ out.old.spare }
 {
-    let kind = unit.kind();
-    let params = unit.params();
-    put_header(out, kind.si(), body_len(kind, params));
-    put_body(out, kind, params);
+    put_header(out, unit.kind().si(), body);
+    put_body(out, unit.kind(), unit.params());
 }
 
-/// How many octets the units behind the first one are.
-fn behind_len(mut behind: Behind) -> usize
-    requires { TsduFits (units_behind behind) }
+/// How many octets the parameters and groups of the units of a group are, and all its units.
+#[derive(Clone, Copy)]
+struct Lengths {
+    first: usize,
+    behind: [u16; 16],
+    all: usize,
+}
+
+fn keep_length(lengths: &mut [u16], count: usize, body: usize)
+    requires within { count < length lengths.old }
+    requires small { body < 65536 }
+    ensures { lengths.new ≡ set lengths.old count body }
+{
+    lengths[count] = body as u16;
+}
+
+fn kept_length(lengths: &[u16], count: usize) -> usize
+    requires { count < length lengths.now }
+    ensures { result ≡ get_or lengths.now count 0 }
+{
+    lengths[count] as usize
+}
+
+/// How many octets the units behind the first one are. The length of each is kept.
+fn count_behind(mut behind: Behind, lengths: &mut [u16]) -> usize
+    requires fits { TsduFits (units_behind behind) }
+    requires room { length lengths.old ≡ 16 }
     ensures value { result ≡ length (tsdu_octets (units_behind behind.entry)) }
     ensures small { result ≤ 2 ^ 63 + 65540 * 16 }
+    ensures lengths { AreLengths lengths.new (units_behind behind.entry) }
 {
     let mut len = 0;
+    let mut count = 0usize;
     'units: while let Some(unit) = behind.next() {
-        len += unit_len(&unit) + unit.information().len();
+        let counted = unit_len(&unit);
+        keep_length(lengths, count, counted.body);
+        count += 1;
+        len += counted.whole + unit.information().len();
     }
     len
 }
 
+/// Counts the octets of the units, each once.
+fn lengths_of(group: &Group) -> Lengths
+    requires { TsduFits (units_of group.now) }
+    ensures first { result.first ≡ body_length (first_of group.now) }
+    ensures behind { AreLengths result.behind (behind_of group.now) }
+    ensures all { result.all ≡ length (tsdu_octets (units_of group.now)) }
+{
+    let counted = unit_len(group.first());
+    let mut behind = [0u16; 16];
+    let others = count_behind(group.behind(), &mut behind);
+    Lengths {
+        first: counted.body,
+        behind,
+        all: counted.whole + others,
+    }
+}
+
 /// How many octets `write_tsdu` appends.
-#[tactic(auto, unfolding(crate::specs::Writing::tsdu_octets))]
 pub fn written_len(group: &Group) -> usize
     requires { TsduFits (units_of group.now) }
     ensures { result ≡ length (tsdu_octets (units_of group.now)) }
 {
-    unit_len(group.first()) + behind_len(group.behind())
+    lengths_of(group).all
 }
 
-fn put_behind(out: &mut BytesMut, mut behind: Behind)
+fn put_behind(out: &mut BytesMut, mut behind: Behind, lengths: &[u16])
     requires small { TsduFits (units_behind behind) }
+    requires lengths { AreLengths lengths.now (units_behind behind) }
+    requires kept { length lengths.now ≡ 16 }
     requires room { length (tsdu_octets (units_behind behind)) ≤ out.old.spare }
     ensures items { out.new.items ≡ out.old.items ++ tsdu_octets (units_behind behind.entry) }
     ensures spare { out.new.spare + length (tsdu_octets (units_behind behind.entry)) ≡ out.old.spare }
 {
+    let mut count = 0usize;
     'units: while let Some(unit) = behind.next() {
-        put_unit(out, &unit);
+        put_unit(out, &unit, kept_length(lengths, count));
         out.extend_reserved(unit.information());
+        count += 1;
     }
 }
 
 #[tactic(auto, unfolding(crate::specs::Writing::tsdu_octets))]
-fn put_group(out: &mut BytesMut, group: &Group)
+fn put_group(out: &mut BytesMut, group: &Group, lengths: &Lengths)
     requires small { TsduFits (units_of group.now) }
+    requires first { lengths.now.first ≡ body_length (first_of group.now) }
+    requires behind { AreLengths lengths.now.behind (behind_of group.now) }
     requires room { length (tsdu_octets (units_of group.now)) ≤ out.old.spare }
     ensures items { out.new.items ≡ out.old.items ++ tsdu_octets (units_of group.now) }
     ensures spare { out.new.spare + length (tsdu_octets (units_of group.now)) ≡ out.old.spare }
 {
-    put_unit(out, group.first());
-    put_behind(out, group.behind());
+    put_unit(out, group.first(), lengths.first);
+    put_behind(out, group.behind(), &lengths.behind);
 }
 
 /// What a slice of octets holds are octets.
@@ -300,8 +364,9 @@ pub fn write_tsdu(group: &Group, out: &mut BytesMut) -> Result<(), AllocError>
     ensures spelled { OnOk result (SpellsTsdu (units_of group.now) (tsdu_octets (units_of group.now))) }
     ensures read { tsdu_at (tsdu_octets (units_of group.now)) ≡ Ok (units_of group.now) }
 {
-    out.reserve(written_len(group))?;
-    put_group(out, group);
+    let lengths = lengths_of(group);
+    out.reserve(lengths.all)?;
+    put_group(out, group, &lengths);
     are_octets(out.as_slice());
     Ok(())
 }

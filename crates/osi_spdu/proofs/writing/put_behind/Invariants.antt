@@ -1,10 +1,14 @@
-use Rattle.std.proofs.Common.{length}
+use Rattle.std.proofs.Common.{length, drop}
 use Rattle.osi_spdu.specs.Groups.{units_behind}
+use Rattle.osi_spdu.specs.UnitLengths.{AreLengths}
 use Rattle.osi_spdu.proofs.WritingUnits.{IsPuttingUnits}
 use Rattle.osi_spdu.proofs.writing.put_behind.Given as goal
 
 abbrev pub invariant-units : goal.invariant-units
-invariant-units l = IsPuttingUnits (units_behind l.behind) l.out.items l.out.spare (units_behind l.fn.behind) l.fn.out.items l.fn.out.spare
+invariant-units l = record {
+  put : IsPuttingUnits (units_behind l.behind) l.out.items l.out.spare (units_behind l.fn.behind) l.fn.out.items l.fn.out.spare;
+  kept : AreLengths (drop l.count l.lengths) (units_behind l.behind);
+}
 
 abbrev pub decreases-units : goal.decreases-units
 decreases-units l = length (units_behind l.behind)

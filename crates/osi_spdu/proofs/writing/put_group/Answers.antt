@@ -1,4 +1,6 @@
-use Rattle.std.proofs.Common.{◌≡◌, ◌++◌, ◌∙◌, ℕ, List, length, ap, sym, arith, append_assoc}
+use Rattle.std.proofs.Common.{◌≡◌, ◌++◌, ◌∙◌, ℕ, List, length, ap, sym, subst, arith, append_assoc}
+use Rattle.osi_spdu.specs.Known.{Units}
+use Rattle.osi_spdu.specs.UnitLengths.{body_length, AreLengths}
 use Rattle.osi_spdu.specs.Units.{said_by}
 use Rattle.osi_spdu.specs.Groups.{units_behind}
 use Rattle.osi_spdu.specs.Writing.{unit_octets, tsdu_octets}
@@ -12,6 +14,12 @@ put_unit-requires-clause-room c =
     let n = first_len (said_by g.first) (units_behind g.behind) (group_plain g) in
     let first = ap (λ x. length (unit_octets x)) c.first.ensures in
     omega (arith, n, c.requires.room)
+
+pub put_unit-requires-clause-body : goal.put_unit-requires-clause-body
+put_unit-requires-clause-body c = c.requires.first ∙ ap body_length (sym c.first.ensures)
+
+pub put_behind-requires-clause-lengths : goal.put_behind-requires-clause-lengths
+put_behind-requires-clause-lengths c = subst (λ (us : Units). AreLengths c.args.lengths.now.behind us) (sym c.behind.ensures) c.requires.behind
 
 pub put_behind-requires-clause-room : goal.put_behind-requires-clause-room
 put_behind-requires-clause-room c =

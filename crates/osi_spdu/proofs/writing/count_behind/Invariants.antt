@@ -1,12 +1,14 @@
 use Rattle.std.proofs.Common.{◌≤◌, ◌+◌, ◌*◌, ◌^◌, length}
 use Rattle.osi_spdu.specs.Groups.{units_behind}
 use Rattle.osi_spdu.proofs.WritingUnits.{IsCountingUnits}
-use Rattle.osi_spdu.proofs.writing.behind_len.Given as goal
+use Rattle.osi_spdu.proofs.KeptLengths.{IsKeeping}
+use Rattle.osi_spdu.proofs.writing.count_behind.Given as goal
 
 abbrev pub invariant-units : goal.invariant-units
 invariant-units l = record {
   so_far : IsCountingUnits (units_behind l.behind) l.len (units_behind l.fn.behind);
   small : l.len ≤ 2 ^ 63 + 65540 * 16;
+  kept : IsKeeping l.lengths l.count (units_behind l.behind) (units_behind l.fn.behind);
 }
 
 abbrev pub decreases-units : goal.decreases-units

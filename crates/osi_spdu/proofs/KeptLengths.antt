@@ -1,0 +1,68 @@
+-- The lengths of units are kept one after the other, as a loop does.
+use Rattle.std.proofs.Common.{inl, inr, ◌≡◌, ℕ, zero, suc, ◌+◌, ◌<◌, ◌≤◌, List, [], ◌∷◌, ◌++◌, length, take, drop, get_or, set, sym, ap, subst, ◌∙◌, append_assoc, ltb, arith}
+use Rattle.std.proofs.lemmas.Bool.{cases_Bool, ltb-true, ltb-false}
+use Rattle.std.proofs.lemmas.List.{append-nil, length-set, take_more_set, drop_more, drop_all}
+use Rattle.osi_spdu.specs.Known.{Contents, Units}
+use Rattle.osi_spdu.specs.UnitLengths.{body_length, AreLengths}
+
+-- the lengths of all units, once those of the units that are left stand behind those that were kept
+pub record IsKeeping (lens : List ℕ) (count : ℕ) (units all : Units) : Type 0 where
+  pub room : count + length units ≤ 16
+  pub size : length lens ≡ 16
+  pub goes : (tail : List ℕ) → AreLengths tail units → AreLengths (take count lens ++ tail) all
+
+pub keeping_start : (lens : List ℕ) (all : Units) → length lens ≡ 16 → length all ≤ 16 → IsKeeping lens 0 all all
+keeping_start lens all size few = record { room = omega arith; size = size; goes = λ tail h. h }
+
+pub keeping_within : (lens : List ℕ) (count : ℕ) (units others all : Units) (unit : Contents) → units ≡ unit ∷ others → IsKeeping lens count units all → count < length lens
+keeping_within lens count units others all unit e so_far =
+    let n = ap length e in
+    let r = so_far.room in
+    let s = so_far.size in
+    omega arith
+
+pub keeping_next : (lens more : List ℕ) (count body : ℕ) (units others all : Units) (unit : Contents) → units ≡ unit ∷ others → body ≡ body_length unit → more ≡ set lens count body
+    → IsKeeping lens count units all → IsKeeping more (count + 1) others all
+keeping_next lens more count body units others all unit e is same so_far =
+    let n = ap length e in
+    let r = so_far.room in
+    let s = so_far.size in
+    let l = length-set lens count body in
+    let m = ap length same in
+    let within = keeping_within lens count units others all unit e so_far in
+    let front : take (count + 1) more ≡ take count lens ++ body ∷ [] = ap (take (count + 1)) same ∙ take_more_set lens count body within in
+    record {
+      room = omega arith;
+      size = omega arith;
+      goes = λ tail h.
+          (let all_of : AreLengths (take count lens ++ (body ∷ tail)) all = so_far.goes (body ∷ tail) (subst (λ (us : Units). AreLengths (body ∷ tail) us) (sym e) (is, h)) in
+          let joined : (take count lens ++ body ∷ []) ++ tail ≡ take count lens ++ (body ∷ tail) = append_assoc (take count lens) (body ∷ []) tail in
+          subst (λ (x : List ℕ). AreLengths (x ++ tail) all) (sym front) (subst (λ (x : List ℕ). AreLengths x all) (sym joined) all_of));
+    }
+
+front_enough : (n : ℕ) (lens : List ℕ) (units : Units) → AreLengths (take n lens) units → AreLengths lens units
+front_enough n lens [] h = tt
+front_enough zero lens (unit ∷ units) h = absurd h
+front_enough (suc n) [] (unit ∷ units) h = absurd h
+front_enough (suc n) (b ∷ lens) (unit ∷ units) h = (h.0, front_enough n lens units h.1)
+
+pub keeping_end : (lens : List ℕ) (count : ℕ) (units all : Units) → units ≡ [] → IsKeeping lens count units all → AreLengths lens all
+keeping_end lens count units all e so_far =
+    let all_of : AreLengths (take count lens ++ []) all = so_far.goes [] (subst (λ (us : Units). AreLengths [] us) (sym e) tt) in
+    front_enough count lens all (subst (λ (x : List ℕ). AreLengths x all) (append-nil (take count lens)) all_of)
+
+-- the length of the next unit
+pub record IsNextLength (lens : List ℕ) (count : ℕ) (unit : Contents) (others : Units) : Type 0 where
+  pub within : count < length lens
+  pub is : get_or lens count 0 ≡ body_length unit
+  pub rest : AreLengths (drop (count + 1) lens) others
+
+pub next_length : (lens : List ℕ) (count : ℕ) (units others : Units) (unit : Contents) → units ≡ unit ∷ others → AreLengths (drop count lens) units → IsNextLength lens count unit others
+next_length lens count units others unit e h =
+    let here : AreLengths (drop count lens) (unit ∷ others) = subst (λ (us : Units). AreLengths (drop count lens) us) e h in
+    elim (cases_Bool (ltb count (length lens))) [
+      | inl t ↦ (let lt = ltb-true count (length lens) t in
+          let both : AreLengths (get_or lens count 0 ∷ drop (count + 1) lens) (unit ∷ others) = subst (λ (x : List ℕ). AreLengths x (unit ∷ others)) (drop_more lens count 0 lt) here in
+          record { within = lt; is = both.0; rest = both.1 })
+      | inr f ↦ absurd (let none : AreLengths [] (unit ∷ others) = subst (λ (x : List ℕ). AreLengths x (unit ∷ others)) (drop_all count lens (ltb-false count (length lens) f)) here in none)
+    ]
