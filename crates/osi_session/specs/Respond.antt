@@ -254,23 +254,23 @@ in_ended s _ = nothing s
 unfoldable pub take_expected : State → Meaning → Outcome
 take_expected s u = judged s u (first_fault (si u) (conditions s u))
 
+-- a unit that comes while the connection lives, and that is not discarded
+abbrev pub in_phase : State → Meaning → Outcome
+in_phase s u = if not (is_expected s.phase u) then bad s (Unexpected (si u)) else take_expected s u
+
 -- one unit
 unfoldable pub respond_unit : State → Meaning → Outcome
 respond_unit s u =
     if is_aborting s.phase then in_aborting s u
     else if is_ended s.phase then in_ended s u
     else if drops s u then nothing s
-    else if not (is_expected s.phase u) then bad s (Unexpected (si u))
-    else take_expected s u
+    else in_phase s u
 
--- a unit that opens or aborts a connection, or answers an abort
-abbrev pub is_outside : Meaning → Bool
-is_outside (CN v u n w from to o) = true
-is_outside (AC v u n w o) = true
-is_outside (RF r o) = true
-is_outside (AB b o) = true
-is_outside AA = true
-is_outside _ = false
+-- a unit that names functional units
+abbrev pub has_terms : Meaning → Bool
+has_terms (CN v u n w from to o) = true
+has_terms (AC v u n w o) = true
+has_terms _ = false
 
 abbrev pub is_resynchronize : Meaning → Bool
 is_resynchronize (RS kind n wishes octets) = true

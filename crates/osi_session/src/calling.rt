@@ -1,10 +1,10 @@
 //! The table of calls.
 
 ghost use Rattle.osi_spdu.specs.Fields.{bits_of, unit_bits};
-ghost use Rattle.std.specs.Prelude.{◌≡◌, ◌<◌, ◌≤◌, ◌&&◌, true, length, nat_le, Ok, IfOk};
-ghost use Rattle.osi_session.specs.Allowed.{allowed, met, may_call, octets_of, most_of, has_right, point_needs, is_restartable};
-ghost use Rattle.osi_session.specs.Calls.{called_by, Accept, Data, Give, Please, Minor, MinorConfirm, Major, MajorConfirm, Restart, RestartConfirm, Release, ReleaseRefuse};
-ghost use Rattle.osi_message.specs.Meanings.{meant_by};
+ghost use Rattle.std.specs.Prelude.{◌≡◌, ◌<◌, ◌≤◌, ◌&&◌, true, length, nat_le, Ok, Err, IfOk, OnOk, IfErr};
+ghost use Rattle.osi_session.specs.Allowed.{allowed, met, needs, may_call, octets_of, most_of, has_right, point_needs, is_restartable};
+ghost use Rattle.osi_session.specs.Calls.{called_by, Accept, Refuse, Data, Give, Please, Minor, MinorConfirm, Major, MajorConfirm, Restart, RestartConfirm, Release, ReleaseAccept, ReleaseRefuse, Abort};
+ghost use Rattle.osi_message.specs.Meanings.{meant_by, DT};
 ghost use Rattle.osi_session.specs.Sound.{IsSound};
 ghost use Rattle.osi_session.specs.State.{without_tokens};
 ghost use Rattle.osi_session.specs.Steps.{Answers, Finds, step_of};
@@ -163,9 +163,8 @@ fn accept<'a>(
 }
 
 /// Data needs the data token, if there is one, and at least one octet.
-#[tactic(auto, unfolding(crate::specs::Allowed::met))]
-fn data<'a>(state: &State, user_data: &'a [u8]) -> Result<Step<'a>, CallError>
-    ensures { Answers result (met state.now (Data user_data.entry.now)) }
+fn check_data(state: &State, user_data: &[u8]) -> Result<(), CallError>
+    ensures { Finds result (needs state.now (Data user_data.now)) }
 {
     if !state.rights().data_token {
         return Err(CallError::TokenNotHeld);
@@ -173,6 +172,14 @@ fn data<'a>(state: &State, user_data: &'a [u8]) -> Result<Step<'a>, CallError>
     if user_data.is_empty() {
         return Err(CallError::Empty);
     }
+    Ok(())
+}
+
+#[tactic(auto, unfolding(crate::specs::Allowed::met))]
+fn data<'a>(state: &State, user_data: &'a [u8]) -> Result<Step<'a>, CallError>
+    ensures { Answers result (met state.now (Data user_data.entry.now)) }
+{
+    check_data(state, user_data)?;
     Ok(Step {
         next: *state,
         sent: Message::Data { user_data },
@@ -433,6 +440,34 @@ fn over<'a>(state: &State, phase: Phase, sent: Message<'a>) -> Step<'a>
     }
 }
 
+/// A refusal has reason 2 where user data follows, else 0.
+#[tactic(auto, unfolding(crate::specs::Allowed::met))]
+fn refuse<'a>(state: &State, user_data: &'a [u8]) -> Step<'a>
+    ensures { Answers (Ok result) (met state.now (Refuse user_data.entry.now)) }
+{
+    let reason = if user_data.is_empty() { 0 } else { 2 };
+    over(state, Phase::Ended, Message::Refuse { reason, user_data })
+}
+
+#[tactic(auto, unfolding(crate::specs::Allowed::met))]
+fn release_accept<'a>(state: &State, user_data: &'a [u8]) -> Step<'a>
+    ensures { Answers (Ok result) (met state.now (ReleaseAccept user_data.entry.now)) }
+{
+    over(state, Phase::Ended, Message::Disconnect { user_data })
+}
+
+#[tactic(auto, unfolding(crate::specs::Allowed::met))]
+fn abort<'a>(state: &State, user_data: &'a [u8]) -> Step<'a>
+    ensures { Answers (Ok result) (met state.now (Abort user_data.entry.now)) }
+{
+    let transport_disconnect = USER_ABORT;
+    let sent = Message::Abort {
+        transport_disconnect,
+        user_data,
+    };
+    over(state, Phase::Aborting, sent)
+}
+
 /// What a call gives that its phase allows.
 #[tactic(auto, unfolding(crate::specs::Allowed::met))]
 fn decide_row<'a>(state: &State, request: &Request<'a>) -> Result<Step<'a>, CallError>
@@ -447,10 +482,7 @@ fn decide_row<'a>(state: &State, request: &Request<'a>) -> Result<Step<'a>, Call
             sides,
             user_data,
         } => accept(state, requirements, serial, sides, user_data),
-        Request::Refuse { user_data } => {
-            let reason = if user_data.is_empty() { 0 } else { 2 };
-            Ok(over(state, Phase::Ended, Message::Refuse { reason, user_data }))
-        }
+        Request::Refuse { user_data } => Ok(refuse(state, user_data)),
         Request::Data { user_data } => data(state, user_data),
         Request::Give { tokens } => give(state, tokens),
         Request::Please { tokens, user_data } => please(state, tokens, user_data),
@@ -467,18 +499,9 @@ fn decide_row<'a>(state: &State, request: &Request<'a>) -> Result<Step<'a>, Call
             state, sides, user_data,
         )),
         Request::Release { user_data } => release(state, user_data),
-        Request::ReleaseAccept { user_data } => {
-            Ok(over(state, Phase::Ended, Message::Disconnect { user_data }))
-        }
+        Request::ReleaseAccept { user_data } => Ok(release_accept(state, user_data)),
         Request::ReleaseRefuse { user_data } => release_refuse(state, user_data),
-        Request::Abort { user_data } => Ok(over(
-            state,
-            Phase::Aborting,
-            Message::Abort {
-                transport_disconnect: USER_ABORT,
-                user_data,
-            },
-        )),
+        Request::Abort { user_data } => Ok(abort(state, user_data)),
     }
 }
 
@@ -499,4 +522,23 @@ pub(crate) fn decide<'a>(state: &State, request: &Request<'a>) -> Result<Step<'a
         return Err(CallError::TooLong);
     }
     Ok(step)
+}
+
+/// The first error of data; else the state stays, and DT is sent.
+#[tactic(auto, unfolding(crate::specs::Allowed::allowed, crate::specs::Allowed::met))]
+pub(crate) fn allow_data(state: &State, user_data: &[u8]) -> Result<(), CallError>
+    ensures ok { OnOk result (allowed state.now (Data user_data.now) ≡ Ok (record { next = state.now; sent = DT user_data.now })) }
+    ensures err { IfErr result (λ e. allowed state.now (Data user_data.now) ≡ Err e) }
+{
+    if state.phase.is_over() {
+        return Err(CallError::Ended);
+    }
+    if !state.phase.is_ready() {
+        return Err(CallError::BadState);
+    }
+    check_data(state, user_data)?;
+    if user_data.len() > MOST_DATA {
+        return Err(CallError::TooLong);
+    }
+    Ok(())
 }

@@ -1,7 +1,11 @@
-ghost use Rattle.std.specs.Prelude.{◌≡◌, []};
+ghost use Rattle.std.specs.Prelude.{◌≡◌, [], Some};
 ghost use Rattle.osi_session.specs.Respond.{nothing, shows, bad, lost, replies_abort};
 ghost use Rattle.osi_session.specs.Shown.{shown_by};
 ghost use Rattle.osi_session.specs.Steps.{outcome_of, reply_of};
+ghost use Rattle.osi_session.specs.State.{without_tokens};
+ghost use Rattle.osi_session.specs.declared.faults.UnitFault.TheVariants.{Unexpected};
+ghost use Rattle.osi_session.specs.declared.phases.Phase.TheVariants.{Ended};
+ghost use Rattle.osi_spdu.specs.Kinds.{si_of};
 ghost use Rattle.osi_message.specs.Meanings.{meant_by};
 ghost use Rattle.osi_message.specs.Written.{user_data_of};
 
@@ -10,6 +14,7 @@ use crate::indications::{AbortCause, Indication};
 use crate::phases::Phase;
 use crate::state::State;
 use osi_message::Message;
+use osi_spdu::Kind;
 
 /// The reason of an RF where the version is not supported.
 const VERSION_NOT_SUPPORTED: u8 = 132;
@@ -91,6 +96,16 @@ impl Reaction {
         }
     }
 
+    /// A CN that cannot be accepted: RF is sent, and the user is shown nothing.
+    pub(crate) fn refusing(state: &State, reply: Reply) -> Reaction
+        ensures { outcome_of result ≡ record (nothing (without_tokens Ended state.now)) { reply = Some (reply_of reply) } }
+    {
+        Reaction {
+            reply: Some(reply),
+            ..Reaction::silent(state.without_tokens(Phase::Ended))
+        }
+    }
+
     /// A bad unit: AB is sent. Before a CN was taken there is no user to be shown it.
     pub(crate) fn bad(state: &State, fault: UnitFault) -> Reaction
         ensures { outcome_of result ≡ bad state.now fault }
@@ -107,6 +122,13 @@ impl Reaction {
             reply: Some(Reply::ProtocolError),
             closes: false,
         }
+    }
+
+    /// A unit that the phase does not expect is bad.
+    pub(crate) fn unexpected(state: &State, kind: Kind) -> Reaction
+        ensures { outcome_of result ≡ bad state.now (Unexpected (si_of kind)) }
+    {
+        Reaction::bad(state, UnitFault::Unexpected(kind.si()))
     }
 
     /// Whether the unit was bad.

@@ -6,7 +6,7 @@ ghost use Rattle.osi_session.specs.Steps.{reply_of};
 ghost use Rattle.osi_message.specs.Meanings.{meant_by};
 ghost use Rattle.osi_message.specs.Written.{written, user_data_of};
 
-use crate::calling::{MOST_USER_DATA, decide};
+use crate::calling::{MOST_USER_DATA, allow_data, decide};
 use crate::faults::CallError;
 use crate::grouping::{Reactions, take_all, take_octets, unread};
 use crate::indications::Indication;
@@ -88,7 +88,7 @@ impl Session {
     ghost use Rattle.osi_spdu.specs.Groups.{units_of};
     ghost use Rattle.osi_message.specs.Reading.{said_by_units};
     ghost use Rattle.osi_message.specs.Tokens.{named, token_octet};
-    ghost use Rattle.osi_session.specs.Calls.{called_by};
+    ghost use Rattle.osi_session.specs.Calls.{Data, called_by};
     ghost use Rattle.osi_session.specs.Moves.{called, taken, unread, came, opened, refused, broken, in_state, react};
     ghost use Rattle.osi_session.specs.Phases.{is_wait_transport};
     ghost use Rattle.osi_session.specs.Respond.{is_nil};
@@ -205,8 +205,39 @@ impl Session {
     /// A call of the user (X.225 section 7): the TSDU that is to be sent, or the first error that
     /// applies. A call that is refused changes nothing, and `OutOfMemory` comes only where no other
     /// error does.
-    #[tactic(auto, using(crate::proofs::CallLaws::refused, crate::proofs::CallLaws::wanting, crate::proofs::MoveLaws::call_leaves, crate::proofs::MoveLaws::call_sends))]
     pub fn call(&mut self, request: Request) -> Result<Sent, CallError>
+        ensures state { OnOk result (self.new ≡ (react self.old (called (called_by request.entry))).next) }
+        ensures sent { IfOk result (λ s. option_map written (react self.old (called (called_by request.entry))).reply ≡ Some s) }
+        ensures sendable { OnOk result (CanBeSent (react self.old (called (called_by request.entry))).reply) }
+        ensures refused { IfErr result (λ e. Refused e (react self.old (called (called_by request.entry))).error) }
+        ensures err { OnErr result (self.new ≡ self.old) }
+    {
+        match request {
+            Request::Data { user_data } => self.call_data(user_data),
+            _ => self.call_other(request),
+        }
+    }
+
+    /// Data, which changes nothing.
+    #[tactic(auto, using(crate::proofs::CallLaws::refused, crate::proofs::CallLaws::wanting), unfolding(osi_message::specs::Written::user_data_of))]
+    fn call_data(&self, user_data: &[u8]) -> Result<Sent, CallError>
+        ensures state { OnOk result (self.now ≡ (react self.now (called (Data user_data.now))).next) }
+        ensures sent { IfOk result (λ s. option_map written (react self.now (called (Data user_data.now))).reply ≡ Some s) }
+        ensures sendable { OnOk result (CanBeSent (react self.now (called (Data user_data.now))).reply) }
+        ensures refused { IfErr result (λ e. Refused e (react self.now (called (Data user_data.now))).error) }
+    {
+        allow_data(&self.state, user_data)?;
+        match written_message(self.alloc, &Message::Data { user_data }) {
+            Ok(sent) => Ok(sent),
+            Err(_) => Err(CallError::OutOfMemory),
+        }
+    }
+
+    /// Any call. It stands out of line: else the room for its state and its message would be made on
+    /// the way to data, too.
+    #[inline(never)]
+    #[tactic(auto, using(crate::proofs::CallLaws::refused, crate::proofs::CallLaws::wanting, crate::proofs::MoveLaws::call_leaves, crate::proofs::MoveLaws::call_sends))]
+    fn call_other(&mut self, request: Request) -> Result<Sent, CallError>
         ensures state { OnOk result (self.new ≡ (react self.old (called (called_by request.entry))).next) }
         ensures sent { IfOk result (λ s. option_map written (react self.old (called (called_by request.entry))).reply ≡ Some s) }
         ensures sendable { OnOk result (CanBeSent (react self.old (called (called_by request.entry))).reply) }

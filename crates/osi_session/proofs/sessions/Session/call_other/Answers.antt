@@ -9,7 +9,7 @@ use Rattle.osi_session.proofs.CallLaws.{sent_short}
 use Rattle.osi_session.proofs.MoveLaws.{call_leaves, call_sends, call_passes}
 use Rattle.osi_session.proofs.SendableLaws.{call_sendable}
 use Rattle.osi_session.proofs.SessionLaws.{request_small, request_sound, request_begun}
-use Rattle.osi_session.proofs.sessions.Session.call.Goals as goal
+use Rattle.osi_session.proofs.sessions.Session.call_other.Goals as goal
 
 -- what an accepted call sends is short
 pub written_message-requires : goal.written_message-requires

@@ -1,0 +1,143 @@
+//! Units that open a connection, or refuse one.
+
+ghost use Rattle.osi_spdu.specs.Fields.{unit_bits};
+ghost use Rattle.std.specs.Prelude.{◌≡◌, None, option_map};
+ghost use Rattle.osi_message.specs.Meanings.{CN, AC, RF};
+ghost use Rattle.osi_session.specs.Allowed.{opened_with};
+ghost use Rattle.osi_session.specs.Respond.{in_phase, agreed_base};
+ghost use Rattle.osi_session.specs.Sides.{of_asker};
+ghost use Rattle.osi_session.specs.Steps.{Reacts};
+
+use crate::faults::UnitFault;
+use crate::indications::Indication;
+use crate::numbers::Numbers;
+use crate::phases::Phase;
+use crate::reactions::{Reaction, Reply};
+use crate::selected::FunctionalUnits;
+use crate::sides::{Sides, answers_wishes};
+use crate::state::State;
+use osi_message::Octets;
+use osi_spdu::{Kind, Requirements, Serial, TokenSetting};
+use std::alloc::{AllocError, Global};
+
+/// CN: one that has not version 2, or neither half-duplex nor duplex, is refused, and the user is
+/// shown nothing.
+#[tactic(auto, unfolding(crate::specs::Respond::take_expected))]
+pub(super) fn connect(
+    alloc: Global,
+    state: &State,
+    version_2: bool,
+    requirements: Requirements,
+    serial: Option<Serial>,
+    wishes: TokenSetting,
+    user_data: &[u8],
+) -> Result<Reaction, AllocError>
+    ensures { Reacts result (in_phase state.now
+        (CN version_2 (unit_bits requirements) (option_map (λ s. s.number) serial) wishes None None user_data.now)) }
+{
+    if !state.phase.is_wait_cn() {
+        return Ok(Reaction::unexpected(state, Kind::Connect));
+    }
+    let units = FunctionalUnits::of(requirements);
+    if !version_2 {
+        return Ok(Reaction::refusing(state, Reply::VersionNotSupported));
+    }
+    if !units.has_data() {
+        return Ok(Reaction::refusing(state, Reply::ImplementationRestriction));
+    }
+    let serial = number_of(serial);
+    let next = State {
+        phase: Phase::Answering,
+        units,
+        wishes,
+        proposed: serial.unwrap_or(0),
+        ..*state
+    };
+    let user_data = Octets::copy(alloc, user_data)?;
+    let shown = Indication::Connect {
+        requirements,
+        serial,
+        wishes,
+        user_data,
+    };
+    Ok(Reaction::showing(next, shown))
+}
+
+fn number_of(serial: Option<Serial>) -> Option<u32>
+    ensures { result ≡ option_map (λ s. s.number) serial }
+{
+    Some(serial?.number)
+}
+
+/// AC: version 2, half-duplex or duplex among the units that both name, and sides as they were
+/// wished.
+#[tactic(auto, unfolding(crate::specs::Respond::take_expected))]
+pub(super) fn accept(
+    alloc: Global,
+    state: &State,
+    version_2: bool,
+    requirements: Requirements,
+    serial: Option<Serial>,
+    answer: TokenSetting,
+    user_data: &[u8],
+) -> Result<Reaction, AllocError>
+    ensures { Reacts result (in_phase state.now
+        (AC version_2 (unit_bits requirements) (option_map (λ s. s.number) serial) answer user_data.now)) }
+{
+    if !state.phase.is_connecting() {
+        return Ok(Reaction::unexpected(state, Kind::Accept));
+    }
+    let units = state.units.both(FunctionalUnits::of(requirements));
+    if !(version_2 && units.has_data()) {
+        return Ok(Reaction::bad(state, UnitFault::NotSelected(Kind::Accept.si())));
+    }
+    if !answers_wishes(units, state.wishes, answer) {
+        return Ok(Reaction::bad(state, UnitFault::BadTokens(Kind::Accept.si())));
+    }
+    let serial = number_of(serial);
+    let sides = Sides::stated(units, answer);
+    let user_data = Octets::copy(alloc, user_data)?;
+    let shown = Indication::Connected {
+        requirements,
+        serial,
+        sides,
+        user_data,
+    };
+    Ok(Reaction::showing(opened(state, units, sides, serial), shown))
+}
+
+/// The state of the caller once its CN is accepted.
+fn opened(state: &State, units: FunctionalUnits, sides: Sides, serial: Option<u32>) -> State
+    ensures { result ≡ opened_with units (of_asker units sides) (agreed_base units serial state.now.proposed) state.now }
+{
+    let base = units.base(serial.unwrap_or(state.proposed));
+    State {
+        phase: Phase::Ready,
+        units,
+        held: sides.of_asker(units),
+        base,
+        numbers: Numbers::from_base(base),
+        ..*state
+    }
+}
+
+/// RF.
+#[tactic(auto, unfolding(crate::specs::Respond::take_expected))]
+pub(super) fn refuse(
+    alloc: Global,
+    state: &State,
+    reason: u8,
+    user_data: &[u8],
+) -> Result<Reaction, AllocError>
+    ensures { Reacts result (in_phase state.now (RF reason user_data.now)) }
+{
+    if !state.phase.is_connecting() {
+        return Ok(Reaction::unexpected(state, Kind::Refuse));
+    }
+    let user_data = Octets::copy(alloc, user_data)?;
+    let shown = Indication::RefusedBySession { reason, user_data };
+    Ok(Reaction {
+        closes: true,
+        ..Reaction::showing(state.without_tokens(Phase::Ended), shown)
+    })
+}
