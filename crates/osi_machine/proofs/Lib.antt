@@ -57,6 +57,7 @@ pub mod TableMessages
 pub mod TablePromises
 pub mod TableRuns
 pub mod TableSeats
+pub mod TableSendable
 pub mod TakeAnswers
 pub mod TakeIdle
 pub mod TakeMoves

@@ -4,7 +4,7 @@ use Rattle.std.specs.List.{AllByRecursion, slice_get}
 use Rattle.osi_machine.specs.Floor.{State}
 use Rattle.osi_machine.specs.Core.{Offer, Side, Left, Right}
 use Rattle.osi_machine.specs.Worlds.{World, Terms, turned, session_of}
-use Rattle.osi_machine.specs.Machine.{Step, Entry, Machine, start, connection_at, end_of, run, HasNumber}
+use Rattle.osi_machine.specs.Machine.{IsLegal, Step, Entry, Machine, start, connection_at, end_of, run, HasNumber}
 use Rattle.osi_machine.specs.Tables.{Line, Tables}
 use Rattle.osi_machine.specs.Tables as tables
 use Rattle.osi_machine.specs.Views.{Told, told_of}
@@ -37,6 +37,13 @@ follows_as m t h = subst (IsAsTables m) (sym h.same)
 
 pub are_as_tables : SessionLaws → SaysItsUnit → (terms : Terms) (steps : List Step) → AllByRecursion HasNumber steps → IsAsTables (run (start terms) steps) (tables.run (tables.start terms) steps)
 are_as_tables laws says terms steps small = follows_as _ _ (all_follow laws says terms steps small)
+
+pub is_legal : SessionLaws → SaysItsUnit → (t : Tables) → (h : IsTableRun t) → IsLegal h.agreed t.journal
+is_legal laws says t h = record {
+  steps = h.steps;
+  numbered = h.numbered;
+  leads = sym (are_as_tables laws says h.agreed h.steps h.numbered).journal ∙ ap (λ (x : Tables). x.journal) h.reached;
+}
 
 -- ---- a line, and the connection that it is
 

@@ -1,10 +1,11 @@
 -- The machine beside its tables, and what two users may rely on, read from the tables and the journal alone.
 use Rattle.std.specs.Prelude.{◌≡◌, ℕ, ◌<◌, true, false, ◌&&◌, List, [], ◌∷◌, ◌++◌, Option, Some, None}
 use Rattle.std.specs.List.{AllByRecursion, list_any}
-use Rattle.osi_machine.specs.Floor.{State, Token, has}
+use Rattle.osi_session.specs.Sessions.{CanBeSent}
+use Rattle.osi_machine.specs.Floor.{State, Token, has, IsSound, IsSendable}
 use Rattle.osi_machine.specs.Histories.{Item, Point, PointKind, Begins, Agree}
 use Rattle.osi_machine.specs.Core.{Offer, Side, Left, Right}
-use Rattle.osi_machine.specs.Worlds.{World, Terms, turned, session_of}
+use Rattle.osi_machine.specs.Worlds.{Message, unit, World, Terms, turned, session_of}
 use Rattle.osi_machine.specs.Machine.{Step, Entry, connect_answered, Machine, HasNumber, connection_at}
 use Rattle.osi_machine.specs.Tables.{Seat, Line, Tables, start, run, end_of}
 use Rattle.osi_machine.specs.Runs.{is_loss, loses}
@@ -35,6 +36,27 @@ pub record IsAsTables (m : Machine) (t : Tables) : Type 0 where
   pub known : t.known ≡ m.known
   pub journal : t.journal ≡ m.journal
   pub lines : AreLines m.worlds t.lines
+
+-- ---- what is under way
+
+-- each unit can be sent, so that it is read as it was meant
+abbrev pub AreSendable : List Message → Type 0
+AreSendable [] = Unit {0}
+AreSendable (unit m ∷ ms) = IsSendable m × AreSendable ms
+AreSendable (m ∷ ms) = AreSendable ms
+
+-- the numbers of the session are in order, and the CN that may wait can be sent
+pub record IsSoundSeat (x : Seat) : Type 0 where
+  pub sound : IsSound x.session.state
+  pub waits : CanBeSent x.session.waiting
+  pub under_way : AreSendable x.channel
+
+pub record IsSoundLine (l : Line) : Type 0 where
+  pub own : IsSoundSeat l.own
+  pub peer : IsSoundSeat l.peer
+
+abbrev pub AreSoundLines : Tables → Type 0
+AreSoundLines t = (r : ℕ) (l : Line) → connection_at r t.lines ≡ Some l → IsSoundLine l
 
 -- ---- what is read from the journal
 

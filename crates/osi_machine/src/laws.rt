@@ -2,12 +2,12 @@
 
 ghost use Rattle.std.specs.Prelude.{◌≡◌, ◌<◌, List, [], true, false};
 ghost use Rattle.std.specs.List.{AllByRecursion};
-ghost use Rattle.osi_machine.specs.AsTables.{IsAsTables, IsTableRun, AreOffered, OfEachLine, HoldNoneTwice, AreNoFaults, AreAgreed, IsShownAsAsked, IsSeenInBoth, LosesAsItEnds};
+ghost use Rattle.osi_machine.specs.AsTables.{AreSoundLines, IsAsTables, IsTableRun, AreOffered, OfEachLine, HoldNoneTwice, AreNoFaults, AreAgreed, IsShownAsAsked, IsSeenInBoth, LosesAsItEnds};
 ghost use Rattle.osi_machine.specs.Core.{Core, CoreStep, Offer, Left, Right, core_run, core_start};
 ghost use Rattle.osi_machine.specs.Examples.{all_tokens, lost_give_seen, after_lost_give, crossing_seen, after_crossing, two_points_seen, restart_below_seen, after_restart_below, last_point, last_point_seen, lost_release_seen, after_lost_release, both_send, both_send_seen, to_right, held_in, stands_at, next_at, lowest_at, history_of, up_to_first_point};
 ghost use Rattle.osi_machine.specs.Floor.{no_token, is_profile};
 ghost use Rattle.osi_machine.specs.Histories.{Agree};
-ghost use Rattle.osi_machine.specs.Machine.{Machine, Step, HasNumber, run, start, step};
+ghost use Rattle.osi_machine.specs.Machine.{IsLegal, Machine, Step, HasNumber, run, start, step};
 ghost use Rattle.osi_machine.specs.Parties.{AreConsistent, IsNumberedStep};
 ghost use Rattle.osi_machine.specs.Promises.{IsReached, OfBoth, OneHolder, HoldsItsOwn, TakesNoFault, SeesTheHistory, ViewsAgree, GotWhatWasSaid, TakesTheNextItem, ConfirmedIsSeen};
 ghost use Rattle.osi_machine.specs.Runs.{IsRun, OfEach, HasOneHolder, ShowNoFault, RecordsAgree, ShownAsAsked, ConfirmedInBoth, TakeTheirItems, AreApart, LosesByItsEnd};
@@ -132,14 +132,25 @@ pub fn connections_are_apart()
 /// After every list of steps two tables that share nothing but what is under way, one for each side, do
 /// what the machine does: the journal is the same, and so are the ends and the class; and each side has
 /// the same state, which the machine reads from one history and one owner for each token, and the same
-/// messages under way.
+/// messages under way. So the journal is one of what two users may do and see.
 pub fn the_tables_are_the_machine()
-    ensures { (terms : Terms) (steps : List Step) → AllByRecursion HasNumber steps → IsAsTables (run (start terms) steps) (tables.run (tables.start terms) steps) }
+    ensures same { (terms : Terms) (steps : List Step) → AllByRecursion HasNumber steps → IsAsTables (run (start terms) steps) (tables.run (tables.start terms) steps) }
+    ensures legal { (t : Tables) (h : IsTableRun t) → IsLegal h.agreed t.journal }
 {
     session::numbers_stay_in_order();
     session::what_is_sent_can_be_sent();
     session::what_two_units_do();
     session::an_empty_token_item_changes_nothing();
+}
+
+/// Over every list of steps, whatever is lost: each unit that is under way can be sent, so that it is read
+/// as it was meant, and so can the CN that waits for the transport connection; V(A) and V(R) of each session
+/// are between the base and V(M), which is at most 1,000,000, and tokens are held in few phases.
+pub fn what_is_under_way_can_be_sent()
+    ensures { (t : Tables) → IsTableRun t → AreSoundLines t }
+{
+    session::numbers_stay_in_order();
+    session::what_is_sent_can_be_sent();
 }
 
 /// What two records tell, read from the tables and the journal alone: of each connection no token is held

@@ -1,0 +1,364 @@
+-- Every unit that is under way can be sent, and the numbers of each session are in order.
+use Rattle.std.proofs.Common.{◌≡◌, refl, sym, ◌∙◌, ap, subst, ℕ, zero, suc, ◌+◌, ◌≤◌, ◌<◌, Bool, true, false, not, ◌&&◌, ◌||◌, nat_le, nat_lt, if◌then◌else◌, List, [], ◌∷◌, ◌++◌, map, length, take, Option, Some, None, is_some, Ok, Err, arith}
+use Rattle.std.proofs.lemmas.Bool.{leb-true, ltb-false}
+use Rattle.std.specs.List.{AllByRecursion, list_any, slice_get}
+use Rattle.osi_session.specs.declared.faults.CallError.TheVariants as error
+use Rattle.osi_session.specs.Moves.{Input, called, taken, opened, refused, broken as broken_off, Standing, Move, react, answered as answered_move, begun, denied, rests, after_inputs}
+use Rattle.osi_session.specs.Runs.{HasNumbers}
+use Rattle.osi_session.specs.Sessions.{CanBeSent, awaits}
+use Rattle.osi_message.specs.Reading.{Said, alone, behind}
+use Rattle.osi_message.specs.Sendable.{said_of, IsAddress}
+use Rattle.osi_message.specs.Written.{is_second, user_data_of}
+use Rattle.osi_machine.specs.Floor.{State, Meaning, GT, WaitTransport, Call, HasSerial, Granted, Answer, CallError, IsNumbered, IsSmall, IsSound, IsSendable, FunctionalUnits, no_token, allowed, respond, without_tokens, awaiting, functional_units, has_points, base_for, serial_for, is_wait_transport, is_profile, lost}
+use Rattle.osi_machine.specs.Core.{Offer, Side, Left, Right, offering, offer_sent}
+use Rattle.osi_machine.specs.Worlds.{Class, class_0, class_2, Message, unit, ask, agree, deny, bye, over, Transport, not_yet, waiting, linked, closing, gone, put, replied, Terms, accepts, denies}
+use Rattle.osi_machine.specs.Machine.{Ending, closed_here, Refusal, Step, connects, calls, delivers, breaks, ends, Entry, call_answered, shown_at, connect_answered, ended, connection_at, replaced, with_connection, is_given, is_known, is_class_0, is_waiting, live_count, is_long_selector, is_long, refusal_by, learns, is_told, HasNumber}
+use Rattle.osi_machine.specs.Tables.{Seat, Line, Turn, Tables, turned, calling, asked_with, in_transport, puts, shortened, made, unseen, hears, after_call, asked_at, message_taken, closed, ended_at, start, seen_from, side_of, end_of, stays, noted, transport_of, refusal, asked_in, call_in, ended_lines, shown_in_order, marked_ended, after_end, closes_by, after_turn, without_first, taken_in, delivered_to, cut_channels, step, run}
+use Rattle.osi_machine.specs.AsTables.{AreSendable, IsSoundSeat, IsSoundLine, AreSoundLines, IsTableRun}
+use Rattle.osi_machine.proofs.LinesRun.{if_none}
+
+-- what is proved of one session
+pub record SendLaws : Type 0 where
+  pub sound : (s : Standing) (inputs : List Input) → AllByRecursion HasNumbers inputs → IsSound s.state → IsSound (after_inputs s inputs).state
+  pub called : (s : State) (c : Call) (g : Granted) → IsSound s → HasSerial c → allowed s c ≡ Ok g → IsSendable g.sent
+  pub replied : (s : State) (said : Said) (m : Meaning) → (respond s said).reply ≡ Some m → IsSendable m
+
+-- ---- channels
+
+sendable_append : (xs ys : List Message) → AreSendable xs → AreSendable ys → AreSendable (xs ++ ys)
+sendable_append [] ys h k = k
+sendable_append (unit m ∷ xs) ys h k = (h.0, sendable_append xs ys h.1 k)
+sendable_append (x ∷ xs) ys h k = sendable_append xs ys h k
+
+put_sendable : (b : Bool) (ms ch : List Message) → AreSendable ms → AreSendable ch → AreSendable (put b ms ch)
+put_sendable true ms ch h k = k
+put_sendable false ms ch h k = sendable_append ch ms k h
+
+take_sendable : (n : ℕ) (ms : List Message) → AreSendable ms → AreSendable (take n ms)
+take_sendable zero ms h = tt
+take_sendable (suc n) [] h = tt
+take_sendable (suc n) (unit m ∷ ms) h = (h.0, take_sendable n ms h.1)
+take_sendable (suc n) (x ∷ ms) h = take_sendable n ms h
+
+replied_sendable : (r : Option Meaning) → CanBeSent r → AreSendable (replied r)
+replied_sendable None h = tt
+replied_sendable (Some m) h = (h, tt)
+
+rest_sendable : (x : Message) (ms : List Message) → AreSendable (x ∷ ms) → AreSendable ms
+rest_sendable (unit m) ms h = h.1
+rest_sendable x ms h = h
+
+-- ---- a move
+
+record IsWell (m : Move) : Type 0 where
+  sound : IsSound m.next.state
+  waits : CanBeSent m.next.waiting
+  reply : CanBeSent m.reply
+
+sound_after : SendLaws → (s : Standing) (i : Input) → HasNumbers i → IsSound s.state → IsSound (react s i).next.state
+sound_after laws s i h k = laws.sound s (i ∷ []) (h, tt) k
+
+well_called : SendLaws → (s : Standing) (c : Call) → HasSerial c → IsSound s.state → CanBeSent s.waiting → IsWell (react s (called c))
+unfolding react
+well_called laws s c small h w = by (allowed s.state c) refl (sound_after laws s (called c) small h)
+  where
+    by : (a : Answer) → allowed s.state c ≡ a → IsSound (answered_move s (allowed s.state c)).next.state → IsWell (answered_move s (allowed s.state c))
+    by (Ok g) e k = subst (λ (a : Answer). IsSound (answered_move s a).next.state → IsWell (answered_move s a)) (sym e)
+        (λ x. record { sound = x; waits = w; reply = laws.called s.state c g h small e }) k
+    by (Err f) e k = subst (λ (a : Answer). IsSound (answered_move s a).next.state → IsWell (answered_move s a)) (sym e)
+        (λ x. record { sound = x; waits = w; reply = tt }) k
+
+well_taken : SendLaws → (s : Standing) (said : Said) → HasNumbers (taken said) → IsSound s.state → CanBeSent s.waiting → IsWell (react s (taken said))
+unfolding react
+well_taken laws s said n h w = record {
+  sound = sound_after laws s (taken said) n h;
+  waits = w;
+  reply = by (respond s.state said).reply refl;
+}
+  where
+    by : (r : Option Meaning) → (respond s.state said).reply ≡ r → CanBeSent r
+    by None e = tt
+    by (Some m) e = laws.replied s.state said m e
+
+well_broken : SendLaws → (s : Standing) → IsSound s.state → CanBeSent s.waiting → IsWell (react s broken_off)
+unfolding react
+well_broken laws s h w = record { sound = sound_after laws s broken_off tt h; waits = w; reply = tt }
+
+well_if : (b : Bool) (x y : Move) → IsWell x → IsWell y → IsWell (if b then x else y)
+well_if true x y h k = h
+well_if false x y h k = k
+
+well_opened : SendLaws → (s : Standing) → IsSound s.state → CanBeSent s.waiting → IsWell (react s opened)
+unfolding react
+well_opened laws s h w = record { sound = sound_after laws s opened tt h; waits = waits (is_wait_transport s.state.phase); reply = reply (is_wait_transport s.state.phase) }
+  where
+    waits : (b : Bool) → CanBeSent (if b then begun s else rests s).next.waiting
+    waits true = tt
+    waits false = w
+
+    reply : (b : Bool) → CanBeSent (if b then begun s else rests s).reply
+    reply true = w
+    reply false = tt
+
+well_refused : SendLaws → (s : Standing) (reason : ℕ) → IsSound s.state → CanBeSent s.waiting → IsWell (react s (refused reason))
+unfolding react
+well_refused laws s reason h w = record { sound = sound_after laws s (refused reason) tt h; waits = waits (is_wait_transport s.state.phase); reply = reply (is_wait_transport s.state.phase) }
+  where
+    waits : (b : Bool) → CanBeSent (if b then denied reason s else rests s).next.waiting
+    waits true = w
+    waits false = w
+
+    reply : (b : Bool) → CanBeSent (if b then denied reason s else rests s).reply
+    reply true = tt
+    reply false = tt
+
+-- ---- a connection
+
+moved_line : (b : Bool) (tr : Transport) (m : Move) (l : Line) → IsWell m → IsSoundLine l → IsSoundLine (in_transport tr (made b m l))
+moved_line b tr m l w h = record {
+  own = record { sound = w.sound; waits = w.waits; under_way = put_sendable b (replied m.reply) l.own.channel (replied_sendable m.reply w.reply) h.own.under_way };
+  peer = h.peer;
+}
+
+put_line : (b : Bool) (ms : List Message) (tr : Transport) (l : Line) → AreSendable ms → IsSoundLine l → IsSoundLine (puts b ms (in_transport tr l))
+put_line b ms tr l k h = record { own = record { sound = h.own.sound; waits = h.own.waits; under_way = put_sendable b ms l.own.channel k h.own.under_way }; peer = h.peer }
+
+gone_line : (tr : Transport) (l : Line) → IsSoundLine l → IsSoundLine (in_transport tr l)
+gone_line tr l h = record { own = record { sound = h.own.sound; waits = h.own.waits; under_way = h.own.under_way }; peer = h.peer }
+
+short_line : (n : ℕ) (l : Line) → IsSoundLine l → IsSoundLine (shortened n l)
+short_line n l h = record { own = record { sound = h.own.sound; waits = h.own.waits; under_way = take_sendable n l.own.channel h.own.under_way }; peer = h.peer }
+
+turned_line : (l : Line) → IsSoundLine l → IsSoundLine (turned l)
+turned_line l h = record { own = h.peer; peer = h.own }
+
+popped_line : (l : Line) (ms : List Message) → AreSendable ms → IsSoundLine l → IsSoundLine (without_first l ms)
+popped_line l ms k h = record { own = h.own; peer = record { sound = h.peer.sound; waits = h.peer.waits; under_way = k } }
+
+called_line : SendLaws → (b : Bool) (c : Call) (l : Line) → HasSerial c → IsSoundLine l → IsSoundLine (after_call b c l)
+called_line laws b c l small h =
+    let w = well_called laws l.own.session c small h.own.sound h.own.waits in
+    record {
+      own = record { sound = w.sound; waits = w.waits; under_way = put_sendable b (replied (react l.own.session (called c)).reply) l.own.channel (replied_sendable (react l.own.session (called c)).reply w.reply) h.own.under_way };
+      peer = h.peer;
+    }
+
+said_numbered : (u : Meaning) → IsNumbered u → AllByRecursion IsNumbered (said_of u)
+said_numbered u n = by (is_second u)
+  where
+    by : (b : Bool) → AllByRecursion IsNumbered (if b then behind (GT no_token) u else alone u)
+    by true = (tt, (n, tt))
+    by false = (n, tt)
+
+first_sendable : (u : Meaning) (ms : List Message) → AreSendable (unit u ∷ ms) → IsSendable u
+first_sendable u ms h = h.0
+
+message_line : SendLaws → (b : Bool) (terms : Terms) (keep : ℕ) (tr : Transport) (l : Line) (x : Message) (xs : List Message) → AreSendable (x ∷ xs) → IsSoundLine l
+    → IsSoundLine (message_taken b terms keep tr (without_first l xs) x).line
+message_line laws b (accepts class) keep not_yet l ask xs k h = put_line b (agree ∷ []) linked (without_first l xs) tt (popped_line l xs k h)
+message_line laws b (denies reason) keep not_yet l ask xs k h =
+    let p = popped_line l xs k h in
+    record { own = record { sound = p.own.sound; waits = p.own.waits; under_way = put_sendable b (deny reason ∷ []) l.own.channel tt p.own.under_way }; peer = p.peer }
+message_line laws b terms keep waiting l agree xs k h =
+    moved_line b linked (react l.own.session opened) (without_first l xs) (well_opened laws l.own.session h.own.sound h.own.waits) (popped_line l xs k h)
+message_line laws b terms keep waiting l (deny r) xs k h =
+    moved_line b gone (react l.own.session (refused r)) (without_first l xs) (well_refused laws l.own.session r h.own.sound h.own.waits) (popped_line l xs k h)
+message_line laws b terms keep linked l (unit u) xs k h =
+    moved_line b linked (react l.own.session (taken (said_of u))) (without_first l xs)
+    (well_taken laws l.own.session (said_of u) (said_numbered u (first_sendable u xs k).numbered) h.own.sound h.own.waits) (popped_line l xs k.1 h)
+message_line laws b terms keep linked l (bye r) xs k h =
+    let p = moved_line b gone (react l.own.session broken_off) (shortened keep (without_first l xs)) (well_broken laws l.own.session h.own.sound h.own.waits) (short_line keep (without_first l xs) (popped_line l xs k h)) in
+    record {
+      own = record { sound = p.own.sound; waits = p.own.waits; under_way = put_sendable b (over ∷ []) (put b (replied (react l.own.session broken_off).reply) (take keep l.own.channel)) tt p.own.under_way };
+      peer = p.peer;
+    }
+message_line laws b terms keep closing l (bye r) xs k h = gone_line gone (without_first l xs) (popped_line l xs k h)
+message_line laws b terms keep closing l over xs k h = gone_line gone (without_first l xs) (popped_line l xs k h)
+message_line laws b terms keep gone l (bye r) xs k h =
+    let p = popped_line l xs k h in
+    record { own = record { sound = p.own.sound; waits = p.own.waits; under_way = put_sendable b (over ∷ []) l.own.channel tt p.own.under_way }; peer = p.peer }
+message_line laws b terms keep tr l x xs k h = popped_line l xs (rest_sendable x xs k) h
+
+closed_line : (b : Bool) (keep : ℕ) (l : Line) → IsSoundLine l → IsSoundLine (closed b keep l)
+closed_line b keep l h = put_line b (bye 128 ∷ []) closing (shortened keep l) tt (short_line keep l h)
+
+ended_line : SendLaws → (keep : ℕ) (l : Line) → IsSoundLine l → IsSoundLine (ended_at keep l).line
+ended_line laws keep l h = moved_line true gone (react l.own.session broken_off) (shortened keep l) (well_broken laws l.own.session h.own.sound h.own.waits) (short_line keep l h)
+
+-- ---- a new connection
+
+or_parts : (a b : Bool) → (a || b) ≡ false → (a ≡ false) × (b ≡ false)
+or_parts true b h = absurd (cc)
+or_parts false b h = (refl, h)
+
+not_false : (b : Bool) → not b ≡ false → b ≡ true
+not_false true h = refl
+not_false false h = absurd (cc)
+
+short_selector : (s : Option (List ℕ)) → is_long_selector s ≡ false → IsAddress s
+short_selector None h = tt
+short_selector (Some octets) h = ltb-false 16 (length octets) h
+
+offer_sendable : (o : Offer) → o.serial < 1000000 → is_long o ≡ false → IsSendable (offer_sent o)
+unfolding user_data_of
+offer_sendable o small h =
+    let a = or_parts (is_long_selector o.calling_selector) _ h in
+    let b = or_parts (is_long_selector o.called_selector) _ a.1 in
+    let c = leb-true (length o.octets) 10240 (not_false _ b.1) in
+    record {
+      version = refl;
+      numbered = numbered (has_points (functional_units o.requirements));
+      addressed = (short_selector o.calling_selector a.0, short_selector o.called_selector b.0);
+      short = omega arith;
+    }
+  where
+    numbered : (b : Bool) → IsSmall (if b then Some o.serial else None)
+    numbered true = omega arith
+    numbered false = tt
+
+calling_sound : (o : Offer) → o.serial < 1000000 → IsSound (without_tokens WaitTransport (offering o))
+calling_sound o small = record {
+  ordered = record { confirmed_from = omega arith; confirmed_to = omega arith; lowest_from = omega arith; lowest_to = omega arith; last = omega arith };
+  first = first (has_points (functional_units o.requirements));
+  major = λ e. absurd (cc);
+  restart = λ e. absurd (cc);
+  tokens = λ e. refl;
+}
+  where
+    first : (b : Bool) → (if b then o.serial else 0) < 1000000
+    first true = small
+    first false = omega arith
+
+awaiting_sound : IsSound awaiting
+awaiting_sound = record {
+  ordered = record { confirmed_from = omega arith; confirmed_to = omega arith; lowest_from = omega arith; lowest_to = omega arith; last = omega arith };
+  first = omega arith;
+  major = λ e. absurd (cc);
+  restart = λ e. absurd (cc);
+  tokens = λ e. refl;
+}
+
+asked_line : (b : Bool) (o : Offer) → o.serial < 1000000 → is_long o ≡ false → IsSoundLine (asked_with b o)
+asked_line b o small h = record {
+  own = record { sound = calling_sound o small; waits = offer_sendable o small h; under_way = put_sendable b (ask ∷ []) [] tt tt };
+  peer = record { sound = awaiting_sound; waits = tt; under_way = tt };
+}
+
+asked_short : (ended_now : Bool) (known : Option Class) (asked : List Transport) (o : Offer) → refusal_by ended_now known asked o ≡ None → is_long o ≡ false
+asked_short ended_now known asked o h =
+    let a = if_none ended_now _ _ h in
+    let b = if_none (not (is_known known) && list_any is_waiting asked) _ _ a.1 in
+    let c = if_none (is_class_0 known) _ _ b.1 in
+    let d = if_none (nat_le 64 (live_count asked)) _ _ c.1 in
+    let e = if_none (nat_le 65535 (length asked)) _ _ d.1 in
+    let f = if_none (not (is_profile o.requirements)) _ _ e.1 in
+    (if_none (is_long o) _ _ f.1).0
+
+-- ---- all connections
+
+side_line : (side : Side) (l : Line) → IsSoundLine l → IsSoundLine (seen_from side l)
+side_line Left l h = h
+side_line Right l h = turned_line l h
+
+replaced_lines : (r : ℕ) (l : Line) (ls : List Line) → IsSoundLine l → AllByRecursion IsSoundLine ls → AllByRecursion IsSoundLine (replaced r l ls)
+replaced_lines r l [] k h = tt
+replaced_lines zero l (x ∷ ls) k h = (k, h.1)
+replaced_lines (suc r) l (x ∷ ls) k h = (h.0, replaced_lines r l ls k h.1)
+
+with_lines : (r : ℕ) (l : Line) (ls : List Line) → IsSoundLine l → AllByRecursion IsSoundLine ls → AllByRecursion IsSoundLine (with_connection r l ls)
+with_lines zero l ls k h = h
+with_lines (suc r) l ls k h = replaced_lines r l ls k h
+
+more_lines : (ls : List Line) (l : Line) → IsSoundLine l → AllByRecursion IsSoundLine ls → AllByRecursion IsSoundLine (ls ++ l ∷ [])
+more_lines [] l k h = (k, tt)
+more_lines (x ∷ ls) l k h = (h.0, more_lines ls l k h.1)
+
+got_line : (r : ℕ) (ls : List Line) (l : Line) → slice_get ls r ≡ Some l → AllByRecursion IsSoundLine ls → IsSoundLine l
+got_line r [] l e h = absurd (cc)
+got_line zero (x ∷ ls) l e h = subst IsSoundLine (ap or_else e) h.0
+  where
+    or_else : Option Line → Line
+    or_else None = x
+    or_else (Some y) = y
+got_line (suc r) (x ∷ ls) l e h = got_line r ls l e h.1
+
+found_line : (r : ℕ) (ls : List Line) (l : Line) → connection_at r ls ≡ Some l → AllByRecursion IsSoundLine ls → IsSoundLine l
+found_line zero ls l e h = absurd (cc)
+found_line (suc r) ls l e h = got_line r ls l e h
+
+abbrev Sound : Tables → Type 0
+Sound t = AllByRecursion IsSoundLine t.lines
+
+if_sound : (b : Bool) (t u : Tables) → Sound t → Sound u → Sound (if b then t else u)
+if_sound true t u h k = h
+if_sound false t u h k = k
+
+asked_sound : (t : Tables) (o : Offer) → o.serial < 1000000 → Sound t → (a : Option Refusal) → refusal t o ≡ a → Sound (asked_in t o a)
+asked_sound t o small h (Some e) q = h
+asked_sound t o small h None q = more_lines t.lines (asked_with t.broken o) (asked_line t.broken o small (asked_short (is_some t.left_end) t.known (map transport_of t.lines) o q)) h
+
+call_sound : SendLaws → (t : Tables) (side : Side) (r : ℕ) (c : Call) → HasSerial c → Sound t → (a : Option Line) → connection_at r t.lines ≡ a → Sound (call_in t side r c (side_of side a))
+call_sound laws t side r c small h None e = h
+call_sound laws t side r c small h (Some l) e =
+    if_sound (is_given (seen_from side l).own.transport)
+    (noted (call_answered side r c (react (seen_from side l).own.session (called c)).error ∷ []) (stays t side r (after_call t.broken c (seen_from side l))))
+    (noted (call_answered side r c (Some error.NoSuchConnection) ∷ []) t)
+    (with_lines r _ t.lines (side_line side _ (called_line laws t.broken c (seen_from side l) small (side_line side l (found_line r t.lines l e h)))) h) h
+
+ended_lines_sound : SendLaws → (side : Side) (keep : ℕ → ℕ) (k : ℕ) (ls : List Line) → AllByRecursion IsSoundLine ls → AllByRecursion IsSoundLine (ended_lines side keep k ls)
+ended_lines_sound laws side keep k [] h = tt
+ended_lines_sound laws side keep k (l ∷ ls) h = (side_line side _ (ended_line laws (keep k) (seen_from side l) (side_line side l h.0)), ended_lines_sound laws side keep (k + 1) ls h.1)
+
+marked_sound : (side : Side) (e : Ending) (t : Tables) → Sound t → Sound (marked_ended side e t)
+marked_sound Left e t h = h
+marked_sound Right e t h = h
+
+end_sound : SendLaws → (side : Side) (e : Ending) (keep : ℕ → ℕ) (t : Tables) → Sound t → Sound (after_end side e keep t)
+end_sound laws side e keep t h = marked_sound side e
+    (noted (shown_in_order side 1 t.lines ++ ended side e ∷ []) (record t { lines = ended_lines side keep 1 t.lines })) (ended_lines_sound laws side keep 1 t.lines h)
+
+closes_sound : SendLaws → (known : Option Class) (t : Tables) (side : Side) (r : ℕ) (keep : ℕ → ℕ) (l : Line) → IsSoundLine l → Sound t → Sound (closes_by known t side r keep l)
+closes_sound laws (Some class_2) t side r keep l k h = with_lines r _ t.lines (side_line side _ (closed_line t.broken (keep r) l k)) h
+closes_sound laws (Some class_0) t side r keep l k h = end_sound laws side closed_here keep (stays t side r l) (with_lines r _ t.lines (side_line side l k) h)
+closes_sound laws None t side r keep l k h = end_sound laws side closed_here keep (stays t side r l) (with_lines r _ t.lines (side_line side l k) h)
+
+turn_sound : SendLaws → (t : Tables) (side : Side) (r : ℕ) (keep : ℕ → ℕ) (x : Turn) → IsSoundLine x.line → Sound t → Sound (after_turn t side r keep x)
+turn_sound laws t side r keep x k h =
+    if_sound x.closes (closes_by t.known (noted (map (shown_at side r) x.shown) t) side r keep x.line) (noted (map (shown_at side r) x.shown) (stays t side r x.line))
+    (closes_sound laws t.known (noted (map (shown_at side r) x.shown) t) side r keep x.line k h) (with_lines r _ t.lines (side_line side x.line k) h)
+
+taken_sound : SendLaws → (t : Tables) (side : Side) (r : ℕ) (keep : ℕ → ℕ) (l : Line) → IsSoundLine l → Sound t → (ms : List Message) → AreSendable ms → Sound (taken_in t side r keep l ms)
+taken_sound laws t side r keep l k h [] s = h
+taken_sound laws t side r keep l k h (x ∷ xs) s =
+    turn_sound laws (record t { known = learns t.terms l.own.transport x t.known }) side r keep (message_taken t.broken t.terms (keep r) l.own.transport (without_first l xs) x)
+    (message_line laws t.broken t.terms (keep r) l.own.transport l x xs s k) h
+
+delivery_sound : SendLaws → (t : Tables) (side : Side) (r : ℕ) (keep : ℕ → ℕ) → Sound t → (a : Option Line) → connection_at r t.lines ≡ a → Sound (delivered_to t side r keep (side_of side a))
+delivery_sound laws t side r keep h None e = h
+delivery_sound laws t side r keep h (Some l) e =
+    let k = side_line side l (found_line r t.lines l e h) in
+    taken_sound laws t side r keep (seen_from side l) k h (seen_from side l).peer.channel k.peer.under_way
+
+cut_sound : (left right : ℕ → ℕ) (k : ℕ) (ls : List Line) → AllByRecursion IsSoundLine ls → AllByRecursion IsSoundLine (cut_channels left right k ls)
+cut_sound left right k [] h = tt
+cut_sound left right k (l ∷ ls) h = (
+  record {
+    own = record { sound = h.0.own.sound; waits = h.0.own.waits; under_way = take_sendable (left k) l.own.channel h.0.own.under_way };
+    peer = record { sound = h.0.peer.sound; waits = h.0.peer.waits; under_way = take_sendable (right k) l.peer.channel h.0.peer.under_way };
+  },
+  cut_sound left right (k + 1) ls h.1,
+)
+
+step_sound : SendLaws → (t : Tables) (s : Step) → HasNumber s → Sound t → Sound (step t s)
+step_sound laws t (connects o) small h = asked_sound t o small h (refusal t o) refl
+step_sound laws t (calls side r c) small h = call_sound laws t side r c small h (connection_at r t.lines) refl
+step_sound laws t (delivers side r keep) small h = if_sound (is_some (end_of side t)) t _ h (delivery_sound laws t side r keep h (connection_at r t.lines) refl)
+step_sound laws t (breaks left right) small h = if_sound t.broken t _ h (cut_sound left right 1 t.lines h)
+step_sound laws t (ends side e keep) small h = if_sound (is_some (end_of side t) || not (is_told e t.broken)) t _ h (end_sound laws side e keep t h)
+
+run_sound : SendLaws → (t : Tables) (steps : List Step) → AllByRecursion HasNumber steps → Sound t → Sound (run t steps)
+run_sound laws t [] small h = h
+run_sound laws t (s ∷ steps) small h = run_sound laws (step t s) steps small.1 (step_sound laws t s small.0 h)
+
+pub are_sound : SendLaws → (t : Tables) → IsTableRun t → AreSoundLines t
+are_sound laws t h r l e = found_line r t.lines l e (subst Sound h.reached (run_sound laws (start h.agreed) h.steps h.numbered tt))
