@@ -31,3 +31,4 @@ pub mod JoinedAsks
 pub mod JoinedCalls
 pub mod Lasting
 pub mod Linked
+pub mod PlainUnits

@@ -71,3 +71,12 @@ along_starved start now tried after all left more unit h e nothing ended = inr (
 pub none_of : {A : Type 0} (o : Option A) → is_some o ≡ false → o ≡ None
 none_of None e = refl
 none_of (Some x) e = cc
+
+-- one unit acts, or there was no memory for it
+pub one_acts : (start after : State) (unit : Value) → start.ended ≡ None → after ≡ in_class start.class unit start → Act start (unit ∷ []) after
+one_acts start after unit quiet acts = inl (acts ∙ sym (react_quiet unit start quiet))
+
+pub one_starved : (start tried after : State) (unit : Value) → start.ended ≡ None → ends NoMemory tried ≡ ends NoMemory start →
+    after ≡ ends NoMemory tried → Act start (unit ∷ []) after
+one_starved start tried after unit quiet nothing ended =
+    along_starved start start tried after (unit ∷ []) (unit ∷ []) [] unit (along_first start (unit ∷ []) quiet) refl nothing ended

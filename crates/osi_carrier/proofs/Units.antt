@@ -1,10 +1,11 @@
 -- How long the written form of a unit is, and that one unit makes one packet.
-use Rattle.std.proofs.Common.{◌≡◌, ℕ, ◌+◌, ◌≤◌, [], ◌∷◌, length, arith, length-append}
+use Rattle.std.proofs.Common.{◌≡◌, ℕ, ◌+◌, ◌≤◌, [], ◌∷◌, length, ap, arith, length-append}
 use Rattle.std.proofs.lemmas.List.{append-nil}
 use Rattle.osi_tpkt.specs.Packet.{packet_of}
 use Rattle.osi_tpdu.specs.Value.{Value, request, confirm, disconnect, disconnected, data0, data2, acknowledge, error, user_data}
 use Rattle.osi_tpdu.specs.Writing.{written, written_header, Fits}
-use Rattle.osi_class.specs.Link.{FitsAUnit, given, unit_of}
+use Rattle.osi_class.specs.Giving.{header_octets, octets_of}
+use Rattle.osi_class.specs.Link.{FitsAUnit, Given, part0, part2, ack, given, unit_of}
 use Rattle.osi_class.specs.declared.units.Out.{Out}
 use Rattle.osi_class.specs.declared.units.Out.TheVariants.{Data0, Data2, Ack}
 use Rattle.osi_carrier.specs.State.{packets}
@@ -39,3 +40,17 @@ pub given_short : (peer : ℕ) (out : Out) → FitsAUnit out → length (user_da
 given_short peer (Data0 end octets) fits = omega arith
 given_short peer (Data2 number end octets) fits = let short = fits.1 in omega arith
 given_short peer (Ack number credit) fits = omega arith
+
+-- the octets of a packet with a unit that a link gave: its header, the unit's header, and the data
+pub given_size : (peer : ℕ) (given : Given) → length (packets (unit_of peer given ∷ [])) ≡ 4 + header_octets given + octets_of given
+given_size peer (part0 end octets) =
+    let one : length (packets (data0 end octets ∷ [])) ≡ length (packet_of (written (data0 end octets))) = ap length (one_packet_of (data0 end octets)) in
+    omega arith
+given_size peer (part2 number end octets) =
+    let unit = data2 peer number end octets in
+    let one : length (packets (unit ∷ [])) ≡ length (packet_of (written unit)) = ap length (one_packet_of unit) in
+    omega arith
+given_size peer (ack number credit) =
+    let unit = acknowledge credit peer number in
+    let one : length (packets (unit ∷ [])) ≡ length (packet_of (written unit)) = ap length (one_packet_of unit) in
+    omega arith

@@ -10,6 +10,7 @@ mod faults;
 pub mod laws;
 mod links;
 mod negotiation;
+mod plain;
 mod rows;
 mod stages;
 mod switch;

@@ -3,7 +3,8 @@
 ghost use Rattle.std.specs.Prelude.{◌≡◌, ◌+◌, ◌≤◌, ◌<◌, ◌∷◌, ◌++◌, [], length, option_map, option_copied, IfSome, OnOk, OnErr};
 ghost use Rattle.osi_tpkt.specs.Octets.{IsOctets};
 ghost use Rattle.osi_tpdu.specs.Limits.{size_code, selector_octets};
-ghost use Rattle.osi_tpdu.specs.Value.{user_data, request, confirm, disconnect, disconnected, AreParameters, IsConnect, IsReference};
+ghost use Rattle.osi_tpdu.specs.Spelling.{below_bit};
+ghost use Rattle.osi_tpdu.specs.Value.{data0, data2, acknowledge, user_data, request, confirm, disconnect, disconnected, AreParameters, IsConnect, IsReference};
 ghost use Rattle.osi_tpdu.specs.View.{value, parameter_values, request_content, confirm_content};
 ghost use Rattle.osi_tpdu.specs.Writing.{Fits, HasFewClasses};
 ghost use Rattle.osi_class.specs.Link.{FitsAUnit, given, unit_of};
@@ -162,8 +163,86 @@ pub fn put_confirm(out: &mut BytesMut, unit: &ConnectConfirm<'_>) -> Result<(), 
     put(out, &unit)
 }
 
+// ---- the units that are written most, each at once with its packet header
+
+/// The octet of a DT that has its number, 0 to 127, and EOT.
+fn with_end(end: bool, number: u8) -> u8
+    requires { number < 128 }
+    ensures { result ≡ below_bit end number }
+{
+    if end { 0x80 + number } else { number }
+}
+
+/// Appends a DT of class 0.
+#[tactic(auto, using(crate::proofs::Units::one_packet_of))]
+fn put_data0(out: &mut BytesMut, end: bool, octets: &[u8]) -> Result<(), AllocError>
+    requires { length octets.now ≤ 8189 }
+    ensures ok { OnOk result (out.new.items ≡ out.old.items ++ packets (data0 end octets.now ∷ [])) }
+    ensures err { OnErr result (out.new.items ≡ out.old.items) }
+    ensures spare { OnOk result (out.old.spare ≤ out.new.spare + (7 + length octets.now)) }
+    ensures full { OnErr result (out.old.spare < 7 + length octets.now) }
+{
+    let size = 7 + octets.len();
+    out.reserve(size)?;
+    let [high, low] = (size as u16).to_be_bytes();
+    out.extend_reserved(&[3, 0, high, low, 2, 0xF0, with_end(end, 0)]);
+    out.extend_reserved(octets);
+    Ok(())
+}
+
+/// Appends a DT of class 2 with this number, 0 to 127, to this reference of the peer.
+#[tactic(auto, using(crate::proofs::Units::one_packet_of))]
+fn put_data2(
+    out: &mut BytesMut,
+    peer: u16,
+    number: u8,
+    end: bool,
+    octets: &[u8],
+) -> Result<(), AllocError>
+    requires number { number < 128 }
+    requires short { length octets.now ≤ 8189 }
+    ensures ok { OnOk result (out.new.items ≡ out.old.items ++ packets (data2 peer number end octets.now ∷ [])) }
+    ensures err { OnErr result (out.new.items ≡ out.old.items) }
+    ensures spare { OnOk result (out.old.spare ≤ out.new.spare + (9 + length octets.now)) }
+    ensures full { OnErr result (out.old.spare < 9 + length octets.now) }
+{
+    let size = 9 + octets.len();
+    out.reserve(size)?;
+    let [high, low] = (size as u16).to_be_bytes();
+    let [to_high, to_low] = peer.to_be_bytes();
+    out.extend_reserved(&[
+        3,
+        0,
+        high,
+        low,
+        4,
+        0xF0,
+        to_high,
+        to_low,
+        with_end(end, number),
+    ]);
+    out.extend_reserved(octets);
+    Ok(())
+}
+
+/// Appends an AK with this number, 0 to 127, and credit, 0 to 15, to this reference of the peer.
+#[tactic(auto, using(crate::proofs::Units::one_packet_of))]
+fn put_ack(out: &mut BytesMut, peer: u16, number: u8, credit: u8) -> Result<(), AllocError>
+    requires number { number < 128 }
+    requires credit { credit < 16 }
+    ensures ok { OnOk result (out.new.items ≡ out.old.items ++ packets (acknowledge credit peer number ∷ [])) }
+    ensures err { OnErr result (out.new.items ≡ out.old.items) }
+    ensures spare { OnOk result (out.old.spare ≤ out.new.spare + 9) }
+    ensures full { OnErr result (out.old.spare < 9) }
+{
+    out.reserve(9)?;
+    let [to_high, to_low] = peer.to_be_bytes();
+    out.extend_reserved(&[3, 0, 0, 9, 4, 0x60 + credit, to_high, to_low, number]);
+    Ok(())
+}
+
 /// Appends a unit that a link gave, to this reference of the peer.
-#[tactic(auto, using(crate::proofs::Units::given_short))]
+#[tactic(auto, using(crate::proofs::Units::given_size))]
 pub fn put_given(out: &mut BytesMut, peer: u16, unit: &Out<'_>) -> Result<(), AllocError>
     requires { FitsAUnit unit.now }
     ensures ok { OnOk result (out.new.items ≡ out.old.items ++ packets (unit_of peer (given unit.now) ∷ [])) }
@@ -171,6 +250,13 @@ pub fn put_given(out: &mut BytesMut, peer: u16, unit: &Out<'_>) -> Result<(), Al
     ensures spare { OnOk result (out.old.spare ≤ out.new.spare + length (packets (unit_of peer (given unit.now) ∷ []))) }
     ensures full { OnErr result (out.old.spare < length (packets (unit_of peer (given unit.now) ∷ []))) }
 {
-    let unit = unit.unit(peer);
-    put(out, &unit)
+    match *unit {
+        Out::Data0 { end, octets } => put_data0(out, end, octets),
+        Out::Data2 {
+            number,
+            end,
+            octets,
+        } => put_data2(out, peer, number, end, octets),
+        Out::Ack { number, credit } => put_ack(out, peer, number, credit),
+    }
 }

@@ -1,12 +1,14 @@
 //! The units of a packet, one after the other (X.224 section 6.4).
 
-ghost use Rattle.std.specs.Prelude.{◌≡◌, None};
+ghost use Rattle.std.specs.Prelude.{◌≡◌, ◌∷◌, [], None};
 ghost use Rattle.osi_tpdu.specs.Units.{units_left};
+ghost use Rattle.osi_tpdu.specs.View.{value};
 ghost use Rattle.osi_carrier.specs.Packets.{Act, Acts, after_refusal};
 
 use super::Switch;
 use crate::ends::{CarrierFault, EndReason};
-use osi_tpdu::{Units, read_units};
+use crate::plain::plain_unit;
+use osi_tpdu::{Tpdu, Units, read_units};
 use osi_tpkt::TpktFault;
 
 impl Switch {
@@ -15,9 +17,31 @@ impl Switch {
         requires { self.old.ended ≡ None }
         ensures { Acts self.old packet.now self.new }
     {
+        match plain_unit(packet) {
+            Some(unit) => self.take_one(&unit),
+            None => self.take_any(packet),
+        }
+    }
+
+    /// A packet that may hold any units.
+    fn take_any(&mut self, packet: &[u8])
+        requires { self.old.ended ≡ None }
+        ensures { Acts self.old packet.now self.new }
+    {
         match read_units(packet) {
             Ok(units) => self.take_units(units),
             Err(fault) => self.fail(CarrierFault::Tpdu(fault)),
+        }
+    }
+
+    /// The only unit of a packet.
+    #[tactic(auto, using(crate::proofs::Reacts::one_acts, crate::proofs::Reacts::one_starved))]
+    fn take_one(&mut self, unit: &Tpdu<'_>)
+        requires { self.old.ended ≡ None }
+        ensures { Act self.old (value unit.now ∷ []) self.new }
+    {
+        if self.react(unit).is_err() {
+            self.end(EndReason::NoMemory);
         }
     }
 
