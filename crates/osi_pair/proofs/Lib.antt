@@ -1,0 +1,5 @@
+pub mod Waiting
+pub mod Showing
+pub mod Pieces
+pub mod Lists
+pub mod Growing

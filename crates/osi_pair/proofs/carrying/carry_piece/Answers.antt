@@ -1,0 +1,18 @@
+use Rattle.std.proofs.Common.{map}
+use Rattle.osi_pair.specs.Entries.{entry_by}
+use Rattle.osi_pair.proofs.Showing.{says_all}
+use Rattle.osi_pair.proofs.carrying.carry_piece.Goals as goal
+
+pub returns-clause-carries : goal.returns-clause-carries
+returns-clause-carries c =
+    let told = c.show.ensures.tells in
+    record {
+      between = c.feed-used.new.to;
+      first = told.first;
+      feeds = c.feed-used.ensures.feeds;
+      taken = c.feed-used.ensures.taken;
+      shows = told.shows;
+      says = says_all c.args.side (map entry_by c.args.journal.now.items) (map entry_by c.show.new.journal.items) (map entry_by c.note_end.new.journal.items)
+          told.first c.ended-before.result c.ended.result c.args.to.now.end.carrier.ended c.show.new.stack.end.carrier.ended
+          told.says c.note_end.ensures c.ended-before.ensures c.ended.ensures;
+    }

@@ -1,0 +1,23 @@
+use Rattle.std.proofs.Common.{◌≡◌, ◌∙◌, [], ◌∷◌, map, sym, ap, arith}
+use Rattle.std.proofs.lemmas.List.{map-append}
+use Rattle.osi_session.specs.Shown.{shown_by}
+use Rattle.osi_pair.specs.Entries.{entry_by}
+use Rattle.osi_pair.specs.declared.entries.Entry.TheVariants.{Indication}
+use Rattle.osi_pair.proofs.Showing.{shown_end, shown_then}
+use Rattle.osi_pair.proofs.telling.show.Goals as goal
+
+pub returns-in_default-clause-tells : goal.returns-in_default-clause-tells
+returns-in_default-clause-tells c =
+    shown_end c.args.side c.args.stack.now (map entry_by c.args.journal.now.items) c.shown.count c.shown.stack c.next_indication.new.self
+    (map entry_by c.shown.journal.items) c.shown.invariant.0 (sym c.in_default.ensures.shown) c.in_default.ensures.rest
+
+pub shown-preserved : goal.shown-preserved
+shown-preserved c = (
+  shown_then c.args.side c.args.stack.now (map entry_by c.args.journal.now.items) c.shown.count c.shown.stack c.next_indication.new.self
+      (map entry_by c.shown.journal.items) (map entry_by c.note.new.journal.items) (c.in-Some.reference.0, shown_by c.in-Some.indication)
+      c.shown.invariant.0 (sym c.in-Some.ensures.shown) c.in-Some.ensures.rest
+      (ap (map entry_by) c.note.ensures.items
+      ∙ map-append entry_by c.shown.journal.items (Indication c.args.side c.in-Some.reference c.in-Some.indication ∷ [])),
+  omega arith,
+  omega arith,
+)

@@ -1,0 +1,11 @@
+use Rattle.std.proofs.Common.{◌+◌, ◌-◌, ◌<◌, ◌≤◌, map, vec_len, vec_capacity}
+use Rattle.osi_pair.specs.Entries.{entry_by}
+use Rattle.osi_pair.proofs.Showing.{HasShown}
+use Rattle.osi_pair.proofs.telling.show.Given as goal
+
+abbrev pub invariant-shown : goal.invariant-shown
+invariant-shown l = HasShown l.side l.fn.stack (map entry_by l.fn.journal.items) l.count l.stack (map entry_by l.journal.items)
+    × (vec_len l.journal + 81 < vec_capacity l.journal + l.count) × (l.count ≤ 81)
+
+abbrev pub decreases-shown : goal.decreases-shown
+decreases-shown l = 81 - l.count

@@ -1,0 +1,10 @@
+pub mod Sides
+pub mod Asked
+pub mod Entries
+pub mod Reaching
+pub mod Ends
+pub mod Telling
+pub mod Carrying
+pub mod Events
+pub mod Running
+pub mod Memory

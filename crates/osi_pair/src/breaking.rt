@@ -1,0 +1,35 @@
+//! An end is told that the byte connection is broken.
+
+ghost use Rattle.std.specs.Prelude.{◌≡◌, map, OnOk, OnErr, IfErr};
+ghost use Rattle.osi_pair.specs.Entries.{entry_by};
+ghost use Rattle.osi_pair.specs.Events.{IsToldOfBreak};
+
+use crate::entries::Entry;
+use crate::faults::PairError;
+use crate::sides::Side;
+use crate::telling::{ROOM, note_end, show};
+use osi_stack::Stack;
+
+/// Tells an end of the break, and notes what its users are shown. Want of memory changes nothing.
+pub(crate) fn tell_break(
+    side: Side,
+    stack: &mut Stack,
+    journal: &mut Vec<Entry>,
+) -> Result<(), PairError>
+    ensures told { OnOk result (IsToldOfBreak side stack.old (map entry_by journal.old.items) stack.new (map entry_by journal.new.items)) }
+    ensures memory { IfErr result (λ error. error ≡ PairError.OutOfMemory) }
+    ensures err { OnErr result (stack.new ≡ stack.old) }
+    ensures silent { OnErr result (journal.new.items ≡ journal.old.items) }
+{
+    let before = stack.ended();
+    if before.is_some() {
+        return Ok(());
+    }
+    let Ok(()) = journal.reserve(ROOM) else {
+        return Err(PairError::OutOfMemory);
+    };
+    stack.broken();
+    show(side, stack, journal);
+    note_end(side, before, stack.ended(), journal);
+    Ok(())
+}

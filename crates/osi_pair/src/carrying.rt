@@ -1,0 +1,86 @@
+//! Octets are carried from one end to the other.
+
+ghost use Rattle.std.specs.Prelude.{◌≡◌, ◌+◌, ◌<◌, ◌≤◌, false, length, map, vec_len, vec_capacity, IfOk, IfErr, OnErr};
+ghost use Rattle.osi_stack.specs.Calls.{carried};
+ghost use Rattle.osi_stack.specs.State.{waits};
+ghost use Rattle.osi_pair.specs.Carrying.{FeedsFirst, CarriesPiece, Carries};
+ghost use Rattle.osi_pair.specs.Entries.{entry_by};
+
+use crate::entries::Entry;
+use crate::faults::PairError;
+use crate::sides::Side;
+use crate::telling::{ROOM, note_end, show};
+use osi_stack::Stack;
+
+/// Feeds an end what the other has sent, at most so many octets. What it uses is taken from the other.
+fn feed(from: &mut Stack, to: &mut Stack, most: usize) -> usize
+    requires { most ≤ length from.old.end.carrier.outgoing }
+    ensures feeds { FeedsFirst most from.old to.old result to.new }
+    ensures taken { from.new ≡ record from.old { end = carried result from.old.end } }
+    ensures used { result ≤ most }
+    ensures progress { waits to.old.end.lines ≡ false → 0 < most → 0 < result }
+{
+    let fed = to.feed(&from.outgoing()[..most]);
+    from.taken(fed.used);
+    fed.used
+}
+
+/// Carries one piece. The journal has room for what comes of it.
+fn carry_piece(
+    side: Side,
+    from: &mut Stack,
+    to: &mut Stack,
+    most: usize,
+    journal: &mut Vec<Entry>,
+) -> usize
+    requires octets { most ≤ length from.old.end.carrier.outgoing }
+    requires room { vec_len journal.old + 81 < vec_capacity journal.old }
+    ensures carries { CarriesPiece side most
+        (record { from = from.old; to = to.old; journal = map entry_by journal.old.items }) result
+        (record { from = from.new; to = to.new; journal = map entry_by journal.new.items }) }
+    ensures used { result ≤ most }
+    ensures left { length from.new.end.carrier.outgoing + result ≡ length from.old.end.carrier.outgoing }
+    ensures progress { waits to.old.end.lines ≡ false → 0 < most → 0 < result }
+{
+    let before = to.ended();
+    let used = feed(from, to, most);
+    show(side, to, journal);
+    note_end(side, before, to.ended(), journal);
+    used
+}
+
+/// Carries octets to the end of a side: so many, unless there is no room in the journal for what may
+/// come of more of them. Where there is none from the first, nothing has changed.
+pub(crate) fn carry(
+    side: Side,
+    from: &mut Stack,
+    to: &mut Stack,
+    octets: usize,
+    journal: &mut Vec<Entry>,
+) -> Result<usize, PairError>
+    requires { octets ≤ length from.old.end.carrier.outgoing }
+    ensures carries { IfOk result (λ carried. Carries side octets
+        (record { from = from.old; to = to.old; journal = map entry_by journal.old.items }) carried
+        (record { from = from.new; to = to.new; journal = map entry_by journal.new.items })) }
+    ensures most { IfOk result (λ carried. carried ≤ octets) }
+    ensures progress { IfOk result (λ carried. waits to.old.end.lines ≡ false → 0 < octets → 0 < carried) }
+    ensures memory { IfErr result (λ error. error ≡ PairError.OutOfMemory) }
+    ensures from { OnErr result (from.new ≡ from.old) }
+    ensures to { OnErr result (to.new ≡ to.old) }
+    ensures journal { OnErr result (journal.new.items ≡ journal.old.items) }
+{
+    if octets == 0 {
+        return Ok(0);
+    }
+    let Ok(()) = journal.reserve(ROOM) else {
+        return Err(PairError::OutOfMemory);
+    };
+    let mut carried = 0;
+    'pieces: loop {
+        let used = carry_piece(side, from, to, octets - carried, journal);
+        carried += used;
+        if used == 0 || carried == octets || journal.reserve(ROOM).is_err() {
+            return Ok(carried);
+        }
+    }
+}

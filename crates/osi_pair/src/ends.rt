@@ -1,0 +1,180 @@
+use crate::asking::{call, connect};
+use crate::breaking::tell_break;
+use crate::carrying::carry;
+use crate::entries::Entry;
+use crate::events::Event;
+use crate::faults::PairError;
+use crate::reach::{Reach, reach_after, within};
+use crate::sides::Side;
+use osi_carrier::Ref;
+use osi_class::Local;
+use osi_session::Request;
+use osi_stack::{Connect, Stack};
+use std::alloc::Global;
+
+/// Two ends, how far octets still reach once the byte connection is broken, and the journal; without
+/// what is always true of them.
+#[derive(Drop)]
+pub(crate) struct Ends {
+    alloc: Global,
+    pub(crate) left: Stack,
+    pub(crate) right: Stack,
+    reach: Option<Reach>,
+    pub(crate) journal: Vec<Entry>,
+}
+
+impl Ends {
+    ghost use Rattle.std.specs.Prelude.{◌≡◌, ◌<◌, ◌≤◌, true, false, min, is_some, IfOk, IfErr, OnOk, OnErr};
+    ghost use Rattle.osi_session.specs.Calls.{called_by};
+    ghost use Rattle.osi_stack.specs.State.{waits};
+    ghost use Rattle.osi_pair.specs.Carrying.{CarriesFrom};
+    ghost use Rattle.osi_pair.specs.Ends.{fresh_ends, end_at, after_connect, after_call, after_break, sent_by, reachable};
+    ghost use Rattle.osi_pair.specs.Events.{misfit, misfit_told, error_by_rule, TellsBreak, Does, CarriesAsMuch};
+    ghost use Rattle.osi_pair.specs.Memory.{ends_in};
+    ghost use Rattle.osi_pair.specs.Sides.{other};
+
+    /// Two ends on which nothing has happened.
+    pub(crate) fn new(alloc: Global, left: Local, right: Local) -> Self
+        ensures { ends_in result ≡ fresh_ends left right }
+    {
+        Ends {
+            alloc,
+            left: Stack::caller(alloc, left),
+            right: Stack::called(alloc, right),
+            reach: None,
+            journal: Vec::new(alloc),
+        }
+    }
+
+    fn connect(&mut self, asked: &Connect) -> Result<(), PairError>
+        ensures ok { OnOk result (ends_in self.new ≡ after_connect asked.now (ends_in self.old)) }
+        ensures memory { IfErr result (λ error. error ≡ PairError.OutOfMemory) }
+        ensures err { OnErr result (ends_in self.new ≡ ends_in self.old) }
+    {
+        connect(self.alloc, &mut self.left, asked, &mut self.journal)?;
+        Ok(())
+    }
+
+    fn call(&mut self, side: Side, reference: Ref, request: Request) -> Result<(), PairError>
+        ensures ok { OnOk result (ends_in self.new ≡ after_call side reference.0 (called_by request.entry) (ends_in self.old)) }
+        ensures memory { IfErr result (λ error. error ≡ PairError.OutOfMemory) }
+        ensures err { OnErr result (ends_in self.new ≡ ends_in self.old) }
+    {
+        let journal = &mut self.journal;
+        match side {
+            Side::Left => call(
+                self.alloc,
+                side,
+                &mut self.left,
+                reference,
+                request,
+                journal,
+            )?,
+            Side::Right => call(
+                self.alloc,
+                side,
+                &mut self.right,
+                reference,
+                request,
+                journal,
+            )?,
+        }
+        Ok(())
+    }
+
+    /// How many octets of a side can be carried.
+    fn reachable(&self, side: Side) -> usize
+        ensures value { result ≡ reachable side (ends_in self.now) }
+        ensures at_most { result ≤ sent_by side (ends_in self.now) }
+    {
+        match side {
+            Side::Left => within(self.reach, side, self.left.outgoing().len()),
+            Side::Right => within(self.reach, side, self.right.outgoing().len()),
+        }
+    }
+
+    fn carry(&mut self, side: Side, octets: usize) -> Result<usize, PairError>
+        ensures ok { IfOk result (λ carried. CarriesFrom side octets (ends_in self.old) carried (ends_in self.new)) }
+        ensures most { IfOk result (λ carried. carried ≤ min octets (reachable side (ends_in self.old))) }
+        ensures progress { IfOk result (λ carried. waits (end_at (other side) (ends_in self.old)).end.lines ≡ false →
+            0 < min octets (reachable side (ends_in self.old)) → 0 < carried) }
+        ensures memory { IfErr result (λ error. error ≡ PairError.OutOfMemory) }
+        ensures err { OnErr result (ends_in self.new ≡ ends_in self.old) }
+    {
+        let most = octets.min(self.reachable(side));
+        let journal = &mut self.journal;
+        match side {
+            Side::Left => {
+                let carried = carry(Side::Right, &mut self.left, &mut self.right, most, journal)?;
+                self.reach = reach_after(side, carried, self.reach);
+                Ok(carried)
+            }
+            Side::Right => {
+                let carried = carry(Side::Left, &mut self.right, &mut self.left, most, journal)?;
+                self.reach = reach_after(side, carried, self.reach);
+                Ok(carried)
+            }
+        }
+    }
+
+    fn break_off(&mut self, left: usize, right: usize) -> Result<(), PairError>
+        ensures ok { OnOk result (ends_in self.new ≡ after_break left right (ends_in self.old)) }
+        ensures first { OnOk result (is_some self.old.reach ≡ false) }
+        ensures refused { IfErr result (λ error. (error ≡ PairError.AlreadyBroken) × (is_some self.old.reach ≡ true)) }
+        ensures err { OnErr result (ends_in self.new ≡ ends_in self.old) }
+    {
+        if self.reach.is_some() {
+            return Err(PairError::AlreadyBroken);
+        }
+        self.reach = Some(Reach {
+            left: left.min(self.left.outgoing().len()),
+            right: right.min(self.right.outgoing().len()),
+        });
+        Ok(())
+    }
+
+    fn tell(&mut self, side: Side) -> Result<(), PairError>
+        ensures ok { OnOk result (TellsBreak side (ends_in self.old) (ends_in self.new)) }
+        ensures broken { OnOk result (is_some self.old.reach ≡ true) }
+        ensures refused { IfErr result (λ error. error_by_rule error ≡ misfit_told self.old.reach) }
+        ensures err { OnErr result (ends_in self.new ≡ ends_in self.old) }
+    {
+        if self.reach.is_none() {
+            return Err(PairError::NotBroken);
+        }
+        let journal = &mut self.journal;
+        match side {
+            Side::Left => tell_break(side, &mut self.left, journal),
+            Side::Right => tell_break(side, &mut self.right, journal),
+        }
+    }
+
+    /// What happens to the two ends, and how many octets were carried.
+    pub(crate) fn apply(&mut self, event: &Event) -> Result<usize, PairError>
+        ensures does { IfOk result (λ octets. Does event.now (ends_in self.old) octets (ends_in self.new)) }
+        ensures fits { OnOk result (misfit event.now (ends_in self.old) ≡ None) }
+        ensures refused { IfErr result (λ error. error_by_rule error ≡ misfit event.now (ends_in self.old)) }
+        ensures err { OnErr result (ends_in self.new ≡ ends_in self.old) }
+        ensures carried { IfOk result (λ octets. CarriesAsMuch event.now (ends_in self.old) octets) }
+    {
+        match *event {
+            Event::Connect(asked) => {
+                self.connect(&asked)?;
+                Ok(0)
+            }
+            Event::Call(side, reference, request) => {
+                self.call(side, reference, request)?;
+                Ok(0)
+            }
+            Event::Carry(side, octets) => self.carry(side, octets),
+            Event::Break(left, right) => {
+                self.break_off(left, right)?;
+                Ok(0)
+            }
+            Event::Told(side) => {
+                self.tell(side)?;
+                Ok(0)
+            }
+        }
+    }
+}

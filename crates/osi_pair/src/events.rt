@@ -1,0 +1,28 @@
+use crate::sides::Side;
+use osi_carrier::Ref;
+use osi_session::Request;
+use osi_stack::Connect;
+
+/// What happens to two ends.
+#[derive(Clone, Copy)]
+pub enum Event<'a> {
+    /// The user of the left end asks for a connection.
+    Connect(Connect<'a>),
+    /// A call of the user of one connection.
+    Call(Side, Ref, Request<'a>),
+    /// The first octets that a side has sent are carried to the other side: so many, or all where
+    /// there are fewer.
+    Carry(Side, usize),
+    /// The byte connection breaks: of the octets that the left side has sent, and of those of the
+    /// right side, so many can still be carried, or all where there are fewer.
+    Break(usize, usize),
+    /// A side is told of the break.
+    Told(Side),
+}
+
+/// What was done.
+#[derive(Clone, Copy, PartialEq, Eq, Debug)]
+pub struct Applied {
+    /// How many octets were carried; 0 for all events but a carry.
+    pub carried: usize,
+}

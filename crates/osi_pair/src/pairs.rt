@@ -1,0 +1,93 @@
+use crate::ends::Ends;
+use crate::entries::Entry;
+use crate::events::{Applied, Event};
+use crate::faults::{PairError, RunError};
+use crate::sides::Side;
+use osi_class::Local;
+use osi_stack::Stack;
+use std::alloc::Global;
+use std::marker::Model;
+
+/// Two ends of one byte connection, the left of which calls, and the journal of what their users
+/// asked for and were shown.
+#[derive(Drop)]
+pub struct Pair {
+    ends: Ends,
+}
+
+impl Model for Pair {
+    ghost use Rattle.osi_pair.specs.Ends.{TwoEnds};
+
+    ghost Value = { TwoEnds };
+
+    ghost use Rattle.osi_pair.specs.Memory.{ends_in};
+
+    ghost view = { λ p. ends_in p.ends };
+}
+
+impl Pair {
+    ghost use Rattle.std.specs.Prelude.{◌≡◌, None, map, IfOk, IfErr, OnOk, OnErr};
+    ghost use Rattle.osi_pair.specs.Ends.{fresh_ends, end_at};
+    ghost use Rattle.osi_pair.specs.Entries.{entry_by};
+    ghost use Rattle.osi_pair.specs.Events.{misfit, error_by_rule, Does, DoAll, CarriesAsMuch, Adds};
+    ghost use Rattle.osi_pair.specs.Running.{StopsAt};
+
+    /// Two ends on which nothing has happened.
+    pub fn new(alloc: Global, left: Local, right: Local) -> Self
+        ensures { result ≡ fresh_ends left right }
+    {
+        Pair {
+            ends: Ends::new(alloc, left, right),
+        }
+    }
+
+    /// Applies an event. An error changes nothing.
+    ///
+    /// The octets that a side has sent and the other has not been fed are under way. A
+    /// [`Event::Carry`] carries the first of them, and the users of the other end are shown what
+    /// comes of it; it carries fewer than it was asked to where there is no memory for what the
+    /// journal may have to say of more. After an [`Event::Break`] only those can be carried that it
+    /// leaves, and an [`Event::Told`] ends an end that has not ended.
+    #[tactic(auto, using(crate::proofs::Growing::does_add))]
+    pub fn apply(&mut self, event: &Event) -> Result<Applied, PairError>
+        ensures does { IfOk result (λ applied. Does event.now self.old applied.carried self.new) }
+        ensures carried { IfOk result (λ applied. CarriesAsMuch event.now self.old applied.carried) }
+        ensures fits { OnOk result (misfit event.now self.old ≡ None) }
+        ensures refused { IfErr result (λ error. error_by_rule error ≡ misfit event.now self.old) }
+        ensures err { OnErr result (self.new ≡ self.old) }
+        ensures journal { OnOk result (Adds self.old.journal self.new.journal) }
+    {
+        let carried = self.ends.apply(event)?;
+        Ok(Applied { carried })
+    }
+
+    /// Applies events one after the other, up to the first that is refused.
+    pub fn run(&mut self, events: &[Event]) -> Result<(), RunError>
+        ensures all { OnOk result (DoAll events.now self.old self.new) }
+        ensures stops { IfErr result (λ error. StopsAt events.now self.old error self.new) }
+    {
+        'events: for (place, event) in events.iter().enumerate() {
+            if let Err(error) = self.apply(event) {
+                return Err(RunError { place, error });
+            }
+        }
+        Ok(())
+    }
+
+    /// What the users asked for, what they were answered and what they were shown, the oldest first.
+    pub fn journal(&self) -> &[Entry]
+        ensures { map entry_by result.now ≡ self.now.journal }
+    {
+        self.ends.journal.as_slice()
+    }
+
+    /// The end of a side.
+    pub fn stack(&self, side: Side) -> &Stack
+        ensures { result.now ≡ end_at side self.now }
+    {
+        match side {
+            Side::Left => &self.ends.left,
+            Side::Right => &self.ends.right,
+        }
+    }
+}
