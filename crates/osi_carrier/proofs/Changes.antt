@@ -96,7 +96,7 @@ at_connection n o unit s at = ap (λ (c : Option Connection). to_connection n c 
 
 -- ---- what each unit does
 
-linked_takes : (n peer : ℕ) (link : Standing) (g : Given) (s : State) → to_linked n peer link (unit_of n g) s ≡ taking n peer (taken link (unit_of n g)) s
+pub linked_takes : (n peer : ℕ) (link : Standing) (g : Given) (s : State) → to_linked n peer link (unit_of n g) s ≡ taking n peer (taken link (unit_of n g)) s
 linked_takes n peer link (part0 end octets) s = refl
 linked_takes n peer link (part2 number end octets) s = refl
 linked_takes n peer link (ack number credit) s = refl
@@ -157,7 +157,7 @@ over_changes n s quiet class orderly at =
 
 -- ---- what each call does
 
-open_is_linked : (n : ℕ) (s : State) (link : Standing) → s.ended ≡ None → value_at n s.live ≡ Some (linked n link) → open_link n s ≡ Some (n, link)
+pub open_is_linked : (n : ℕ) (s : State) (link : Standing) → s.ended ≡ None → value_at n s.live ≡ Some (linked n link) → open_link n s ≡ Some (n, link)
 open_is_linked n s link quiet at = rw quiet (ap link_of at)
 
 pub send_changes : (n : ℕ) (s : State) (link : Standing) (octets : List ℕ) → s.ended ≡ None → IsOrderly s → value_at n s.live ≡ Some (linked n link) →

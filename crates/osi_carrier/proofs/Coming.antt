@@ -24,16 +24,16 @@ use Rattle.osi_carrier.specs.declared.ends.EndReason.TheVariants.{NoMemory}
 use Rattle.osi_carrier.proofs.Pumping.{packets_join}
 use Rattle.osi_carrier.proofs.Units.{written_least}
 
-all_behind : (us vs : List Value) → AllByRecursion IsSendable us → AllByRecursion IsSendable vs → AllByRecursion IsSendable (us ++ vs)
+pub all_behind : (us vs : List Value) → AllByRecursion IsSendable us → AllByRecursion IsSendable vs → AllByRecursion IsSendable (us ++ vs)
 all_behind [] vs a b = b
 all_behind (u ∷ us) vs a b = (a.0, all_behind us vs a.1 b)
 
 -- ---- one unit
 
-unit_packet : (unit : Value) → IsSendable unit → IsPacket (written unit) (packet_of (written unit))
+pub unit_packet : (unit : Value) → IsSendable unit → IsPacket (written unit) (packet_of (written unit))
 unit_packet unit h = written_packet (written unit) (record { at_least = written_least unit; at_most = h.most; octets = (written_spells unit h.fits).are_octets })
 
-unit_read : (unit : Value) → IsSendable unit → units_of (written unit) ≡ Ok (unit ∷ [])
+pub unit_read : (unit : Value) → IsSendable unit → units_of (written unit) ≡ Ok (unit ∷ [])
 unit_read unit h = units_only (written unit) (unit ∷ []) (written_spells unit h.fits)
 
 -- a packet of one unit does what the unit does
@@ -122,12 +122,12 @@ whole_piece : (held outgoing : List ℕ) (n : ℕ) → (held ++ take n outgoing)
 whole_piece held outgoing n = append_assoc held (take n outgoing) (drop n outgoing) ∙ ap (λ l. held ++ l) (take-append-drop n outgoing)
 
 -- one unit that found no memory had done nothing
-alone_starved : (old new : State) (unit : Value) (done more : List Value) (next : Value) → unit ∷ [] ≡ done ++ (next ∷ more) → new ≡ ends NoMemory (reacts done old) → new ≡ ends NoMemory old
+pub alone_starved : (old new : State) (unit : Value) (done more : List Value) (next : Value) → unit ∷ [] ≡ done ++ (next ∷ more) → new ≡ ends NoMemory (reacts done old) → new ≡ ends NoMemory old
 alone_starved old new unit [] more next e is = is
 alone_starved old new unit (d ∷ []) more next e is = cc
 alone_starved old new unit (d ∷ f ∷ ds) more next e is = cc
 
-starved_unit : (old new : State) (packet : List ℕ) (unit : Value) → IsSendable unit → packet ≡ written unit → Starves old packet new → new ≡ ends NoMemory old
+pub starved_unit : (old new : State) (packet : List ℕ) (unit : Value) → IsSendable unit → packet ≡ written unit → Starves old packet new → new ≡ ends NoMemory old
 starved_unit old new packet unit sendable is h =
     let same : Ok (unit ∷ []) ≡ Ok h.0 = sym (unit_read unit sendable) ∙ ap units_of (sym is) ∙ h.1 in
     let us : unit ∷ [] ≡ h.0 = cc in

@@ -21,11 +21,13 @@ use Rattle.osi_carrier.specs.Messages.{Message, ask, agree, message, bye, messag
 use Rattle.osi_carrier.specs.Negotiation.{proposal_by}
 use Rattle.osi_carrier.specs.OpenLinks.{AreOpen, after_send}
 use Rattle.osi_carrier.specs.Orderly.{IsOrderly}
+use Rattle.osi_carrier.specs.Progress.{not_yet, awaiting, in_use, Brings}
 use Rattle.osi_carrier.specs.React.{react, in_class, before_class, in_two, answers_request, answers, accepts, has_peer, is_full, opens, to_reference, to_connection}
 use Rattle.osi_carrier.specs.Rows.{value_at}
 use Rattle.osi_carrier.specs.State.{Connection, asked, linked, closing, State, packets}
 use Rattle.osi_carrier.proofs.Apart.{push_here, beyond, put_here}
 use Rattle.osi_carrier.proofs.AtReferences.{push_other, put_other}
+use Rattle.osi_carrier.proofs.Bringing.{brings_none, brings_sent, brings_shut}
 use Rattle.osi_carrier.proofs.Changes.{send_changes, close_changes}
 use Rattle.osi_carrier.proofs.Courses.{given_place, acts_changed, place_changed, put_references, none_more}
 use Rattle.osi_carrier.proofs.Meetings.{open_mirror, class_end, addressed_join, addressed_for}
@@ -87,11 +89,12 @@ asks_moves s r calling called orderly left supports fits fits_called =
       numbers = refl;
       places = tt;
       carries = record { arrived = []; stays = []; lost = []; told = refl; came = refl; before = refl; after = refl };
+      brings = brings_none true not_yet awaiting None (Some asked) (ask ∷ []) refl refl;
     }
 
 -- ---- the CC
 
-react_request : (c : Connect) (r : State) → r.ended ≡ None → r.is_caller ≡ false → MayTakeTwo r.class → react (request c) r ≡ answers_request c r
+pub react_request : (c : Connect) (r : State) → r.ended ≡ None → r.is_caller ≡ false → MayTakeTwo r.class → react (request c) r ≡ answers_request c r
 react_request c r quiet called (inl none) =
     react_quiet (request c) r quiet ∙ ap (λ (k : Option Class). in_class k (request c) r) none ∙ ap (λ (b : Bool). before_class b (request c) r) called
 react_request c r quiet called (inr two) =
@@ -141,6 +144,7 @@ accepts_moves_by s r class calling called orderly left fits fits_called =
       numbers = refl;
       places = map-append (λ (row : ℕ × Connection). row.0) r.live ((n, linked n (called_link r.local c)) ∷ []);
       carries = record { arrived = ask ∷ []; stays = []; lost = []; told = refl; came = refl; before = refl; after = refl };
+      brings = record { is = refl; more = λ units. refl; may = (refl, tt); becomes = refl };
     }
 
 pub accepts_moves : (n : ℕ) (c : Connect) (s r : State) → n ≡ r.given + 1 → IsAskedBy n s.local c → IsOrderly r → r.ended ≡ None → r.is_caller ≡ false → MayTakeTwo r.class →
@@ -221,6 +225,7 @@ accepted_sends n c p s r octets h quiet orderly le at short are =
         before = sym (append-nil (agree ∷ stays));
         after = ap (λ (l : List Message). agree ∷ l) more;
       };
+      brings = brings_sent n p.right octets;
     }
 
 pub accepted_closes : (n : ℕ) (c : Connect) (p : LinkPair) (s r : State) (reason : ℕ) → 0 < n → reason < 256 → IsAccepted n s r c p → r.ended ≡ None → IsOrderly r → n ≤ r.given →
@@ -254,11 +259,12 @@ accepted_closes n c p s r reason some small h quiet orderly le at =
         before = ap (λ (l : List Message). agree ∷ l) front.1;
         after = ap (λ (l : List Message). agree ∷ l) (behind_leaving n us reason [] some);
       };
+      brings = brings_shut n p.right reason;
     }
 
 -- ---- the caller takes the CC
 
-confirm_to : (n : ℕ) (c : Connect) (s : State) → s.ended ≡ None → s.is_caller ≡ true → MayTakeTwo s.class → react (confirm n c) s ≡ to_reference n (confirm n c) s
+pub confirm_to : (n : ℕ) (c : Connect) (s : State) → s.ended ≡ None → s.is_caller ≡ true → MayTakeTwo s.class → react (confirm n c) s ≡ to_reference n (confirm n c) s
 confirm_to n c s quiet caller (inl none) =
     react_quiet (confirm n c) s quiet ∙ ap (λ (k : Option Class). in_class k (confirm n c) s) none ∙ ap (λ (b : Bool). before_class b (confirm n c) s) caller
 confirm_to n c s quiet caller (inr two) =
@@ -291,6 +297,16 @@ confirm_place n c s called link le at is =
     given_place n (opens n (answer_of n called c) (Some Two) s) le
     ∙ ap was_given (put_here n (linked n (caller_link n s.local called c)) asked s.live at ∙ ap (λ (l : Standing). Some (linked n l)) (sym is))
 
+-- what the CC brings
+brings_agree : (n : ℕ) (s r : State) (c : Connect) (p : LinkPair) → IsAccepted n s r c p →
+    Brings true awaiting in_use (Some asked) (Some (linked n p.left)) (confirm n (answer_of n r.local c) ∷ []) (agree ∷ []) []
+brings_agree n s r c p h = record {
+  is = refl;
+  more = λ units. ap (λ (b : List ℕ). agree ∷ messages_after b units) (sym (nothing_begun n s r c p h));
+  may = (refl, tt);
+  becomes = refl;
+}
+
 pub confirm_moves : (n : ℕ) (c : Connect) (p : LinkPair) (s r : State) → IsAccepted n s r c p → s.ended ≡ None → s.is_caller ≡ true → MayTakeTwo s.class → s.local.class2 ≡ true →
     n ≤ s.given → value_at n s.live ≡ Some asked →
     CourseMoves true n (accepting c p) s r (react (confirm n (answer_of n r.local c)) s) (confirm n (answer_of n r.local c) ∷ []) 0 []
@@ -321,6 +337,7 @@ confirm_moves n c p s r h quiet caller two supports le at =
         after = ap (λ (gs : List Given). messages_after p.right.ends.joining.begun (addressed n gs ++ uncut_units p.left.ends.unsent)) h.rightward
             ∙ ap (λ (ts : List (List ℕ)). messages_after p.right.ends.joining.begun (uncut_units ts)) (nothing_unsent n s r c p h);
       };
+      brings = brings_agree n s r c p h;
     })
 
 pub withdrawn_moves : (n : ℕ) (c : Connect) (p : LinkPair) (reason : ℕ) (s r : State) → IsAccepted n s r c p → s.ended ≡ None → s.is_caller ≡ true → MayTakeTwo s.class → s.local.class2 ≡ true →
@@ -352,4 +369,5 @@ withdrawn_moves n c p reason s r h quiet caller two supports le at =
         before = refl;
         after = ap (λ (ts : List (List ℕ)). map kind_of (messages_after [] (uncut_units ts))) (nothing_unsent n s r c p h);
       };
+      brings = brings_agree n s r c p h;
     })

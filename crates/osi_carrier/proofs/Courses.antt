@@ -12,6 +12,7 @@ use Rattle.osi_carrier.specs.Course.{Place, never, was_given, place_at, met, May
 use Rattle.osi_carrier.specs.Happenings.{Happening}
 use Rattle.osi_carrier.specs.Meeting.{Meeting, talking, left_here, left_there, left_both, waiting_here, waiting_there, parted, mirror, here, addressed, leaving, farewell, rows_with, out, back, Stands, Changes, told_at, messages_back, messages_out, Carries, Moves}
 use Rattle.osi_carrier.specs.Messages.{Message, messages_to, AreLike}
+use Rattle.osi_carrier.specs.Progress.{progress_in, Brings}
 use Rattle.osi_carrier.specs.Rows.{Rows, value_at, put, without}
 use Rattle.osi_carrier.specs.State.{Connection, State}
 use Rattle.osi_carrier.proofs.Meetings.{mirror_twice, mirror_stands}
@@ -163,7 +164,7 @@ told_met n (waiting_here us last) ms = refl
 told_met n (waiting_there us last) ms = refl
 told_met n parted ms = refl
 
-carries_caller : (n : ℕ) (local : Local) (m new : Meeting) (es : List Happening) (put : List Message) → Carries n m new es put →
+abbrev carries_caller : (n : ℕ) (local : Local) (m new : Meeting) (es : List Happening) (put : List Message) → Carries n m new es put →
     CourseCarries true n local (met m) (met new) es put
 carries_caller n local m new es put c = record {
   arrived = c.arrived;
@@ -181,7 +182,7 @@ back_mirror n m = ap (λ (x : Meeting). messages_to (here n x) (out n x) (here n
 out_mirror : (n : ℕ) (m : Meeting) → messages_out n (mirror m) ≡ messages_back n m
 out_mirror n m = ap (λ (x : Meeting). messages_to (here n (mirror m)) (out n (mirror m)) (here n x)) (mirror_twice m)
 
-carries_mirror : (n : ℕ) (local : Local) (m new : Meeting) (es : List Happening) (put : List Message) → Carries n (mirror m) (mirror new) es put →
+abbrev carries_mirror : (n : ℕ) (local : Local) (m new : Meeting) (es : List Happening) (put : List Message) → Carries n (mirror m) (mirror new) es put →
     CourseCarries false n local (met m) (met new) es put
 carries_mirror n local m new es put c = record {
   arrived = c.arrived;
@@ -212,7 +213,18 @@ met_caller n m s r t taken put h le mv = record {
   numbers = plain_requests n mv.units (plain_back n (out n m) mv.units (subst (λ (l : List Value). AllByRecursion (IsPlain n) l) mv.out (plain_out n mv.new mv.stands)));
   places = tt;
   carries = carries_caller n r.local m mv.new mv.events put mv.carries;
+  brings = mv.brings;
 }
+
+-- what was carried, and what units brought
+record CarriesBoth (n : ℕ) (old new : Meeting) (events : List Happening) (taken : List Value) (put : List Message) : Type 0 where
+  carries : Carries n old new events put
+  brings : Brings true (progress_in (here n old)) (progress_in (here n new)) (here n old) (here n new) taken carries.arrived put
+
+turned_carries : (n : ℕ) (m new : Meeting) (es : List Happening) (taken : List Value) (put : List Message) → (c : Carries n (mirror m) new es put) →
+    Brings true (progress_in (here n (mirror m))) (progress_in (here n new)) (here n (mirror m)) (here n new) taken c.arrived put → CarriesBoth n (mirror m) (mirror (mirror new)) es taken put
+turned_carries n m new es taken put c b =
+    subst (λ (x : Meeting). CarriesBoth n (mirror m) x es taken put) (sym (mirror_twice new)) (record { carries = c; brings = b })
 
 pub met_called : (n : ℕ) (m : Meeting) (r s t : State) (taken : List Value) (put : List Message) → HaveMet s r m → n ≤ r.given → IsOneAtMost taken → Moves n (mirror m) r t taken put → CourseMoves false n (met m) r s t taken 0 put
 met_called n m r s t taken put h le one mv = record {
@@ -233,6 +245,6 @@ met_called n m r s t taken put h le one mv = record {
       let taken_are : AllByRecursion (IsPlain n) taken =
       plain_front n taken (back n mv.new) (subst (λ (l : List Value). AllByRecursion (IsPlain n) l) (ap (out n) (sym (mirror_twice m)) ∙ mv.back) (plain_out n m h.stands)) in
       ap references mv.changes.live ∙ references_after n taken (here n mv.new) r.live one taken_are mv.goes;
-  carries = carries_mirror n r.local m (mirror mv.new) mv.events put
-      (subst (λ (x : Meeting). Carries n (mirror m) x mv.events put) (sym (mirror_twice mv.new)) mv.carries);
+  carries = carries_mirror n r.local m (mirror mv.new) mv.events put (turned_carries n m mv.new mv.events taken put mv.carries mv.brings).carries;
+  brings = (turned_carries n m mv.new mv.events taken put mv.carries mv.brings).brings;
 }

@@ -32,7 +32,7 @@ not_asked n (accepting c p) e = cc
 not_asked n (withdrawing c p reason) e = cc
 not_asked n (met m) e = cc
 
-next_never : (s : State) (n : ℕ) → s.given < n → place_at n s ≡ never
+pub next_never : (s : State) (n : ℕ) → s.given < n → place_at n s ≡ never
 next_never s n above = ap (λ (b : Bool). if◌then◌else◌ {A = Place} b never (was_given (value_at n s.live))) (lt-ltb s.given n above)
 
 abbrev fresh_course : (n : ℕ) (s r : State) (going coming : List Value) → place_at n s ≡ never → (h : StandsBetween true n s r going coming) → h.course ≡ unasked → StandsBetween true n s r going coming
@@ -99,7 +99,7 @@ fresh_joined caller called a b = record {
 
 -- ---- nothing is on the way
 
-none_addressed : (n : ℕ) (gs : List Given) → addressed n gs ≡ [] → gs ≡ []
+pub none_addressed : (n : ℕ) (gs : List Given) → addressed n gs ≡ [] → gs ≡ []
 none_addressed n [] e = refl
 none_addressed n (g ∷ gs) e = cc
 

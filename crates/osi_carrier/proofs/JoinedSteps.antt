@@ -8,7 +8,7 @@ use Rattle.osi_class.specs.Between.{LinkPair}
 use Rattle.osi_class.specs.declared.terms.Local.{Local}
 use Rattle.osi_tpdu.specs.Value.{Connect}
 use Rattle.osi_carrier.specs.Addresses.{units_of, AreFor}
-use Rattle.osi_carrier.specs.Course.{Place, place_at, connection_in, at_end, messages_from, told_opening, Course, unasked, asking, accepting, withdrawing, met, from_end, IsAskedBy, IsAccepted, HoldsAt, called_local, Acts, CourseMoves}
+use Rattle.osi_carrier.specs.Course.{Place, place_at, connection_in, at_end, messages_from, told_opening, Course, unasked, asking, accepting, withdrawing, met, from_end, IsAskedBy, IsAccepted, HoldsAt, called_local, Acts, BringsTo, CourseMoves}
 use Rattle.osi_carrier.specs.Happenings.{Happening}
 use Rattle.osi_carrier.specs.Joined.{StandsBetween, under_way_for, ActsFor}
 use Rattle.osi_carrier.specs.Messages.{Message, messages_to, AreLike}
@@ -178,4 +178,11 @@ acts_for end n asked this other next going coming rest taken put s cut all mv =
           refl
           (ap (units_of q) cut ∙ units_join q taken rest ∙ ap (λ (l : List Value). l ++ units_of q rest) (units_other q n taken apart all))
           (sym (mv.acts.others q apart));
+      others_stay = mv.acts.others;
+      taken = taken;
+      cut = cut;
+      all_for = all;
+      written_for = mv.acts.all_for;
+      brings = subst (λ (x : Place). BringsTo true x (place_at n next) taken c.arrived put) (sym s.place)
+          (subst (λ (x : Place). BringsTo true (at_end end n s.course) x taken c.arrived put) (sym mv.place) mv.brings);
     }

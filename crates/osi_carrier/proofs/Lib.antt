@@ -13,6 +13,7 @@ pub mod Effects
 pub mod Turned
 pub mod Apart
 pub mod MessageLaws
+pub mod Bringing
 pub mod MeetingMessages
 pub mod Changes
 pub mod Meetings
@@ -30,5 +31,15 @@ pub mod JoinedMoves
 pub mod JoinedAsks
 pub mod JoinedCalls
 pub mod Lasting
+pub mod OnTheWay
+pub mod Acting
 pub mod Linked
 pub mod PlainUnits
+pub mod Providing
+pub mod Betweens
+pub mod Proposals
+pub mod Zeros
+pub mod ZeroLaws
+pub mod Refusals
+pub mod Terms
+pub mod Emptied

@@ -24,7 +24,7 @@ use Rattle.osi_carrier.proofs.JoinedMoves.{called_takes_one, caller_takes_one}
 
 -- ---- what is to be handed over and told does not matter
 
-abbrev with_queues : List ℕ → List Happening → State → State
+abbrev pub with_queues : List ℕ → List Happening → State → State
 with_queues outgoing events s = record s { outgoing = outgoing; events = events }
 
 holds_caller : (n : ℕ) (s r : State) (o : List ℕ) (e : List Happening) (g : Course) → Holds n s r g → Holds n (with_queues o e s) r g

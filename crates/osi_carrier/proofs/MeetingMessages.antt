@@ -22,33 +22,33 @@ use Rattle.osi_carrier.proofs.Turned.{turned_any, turned_any_back, turned_take, 
 
 -- ---- lists of messages
 
-like_same : (o : Option Connection) (some others : List Message) → some ≡ others → AreLike o some others
+pub like_same : (o : Option Connection) (some others : List Message) → some ≡ others → AreLike o some others
 like_same None some others e = e
 like_same (Some asked) some others e = e
 like_same (Some (linked peer link)) some others e = e
 like_same (Some (closing peer)) some others e = ap (map kind_of) e
 
-parting_is : (n reason : ℕ) → 0 < n → parting n reason ≡ bye reason
+pub parting_is : (n reason : ℕ) → 0 < n → parting n reason ≡ bye reason
 parting_is zero reason some = absurd (omega arith)
 parting_is (suc n) reason some = refl
 
-told_tsdus : (n : ℕ) (ts : List (List ℕ)) → map (tsdu n) ts ≡ flat_map (told_open n) (map message ts)
+pub told_tsdus : (n : ℕ) (ts : List (List ℕ)) → map (tsdu n) ts ≡ flat_map (told_open n) (map message ts)
 told_tsdus n [] = refl
 told_tsdus n (t ∷ ts) = ap (λ (l : List Happening). tsdu n t ∷ l) (told_tsdus n ts)
 
-told_nothing : (ms : List Message) (f : Message → List Happening) → ((m : Message) → f m ≡ []) → [] ≡ flat_map f ms
+pub told_nothing : (ms : List Message) (f : Message → List Happening) → ((m : Message) → f m ≡ []) → [] ≡ flat_map f ms
 told_nothing [] f none = refl
 told_nothing (m ∷ ms) f none = told_nothing ms f none ∙ ap (λ (l : List Happening). l ++ flat_map f ms) (sym (none m))
 
 -- ---- links
 
 -- what is under way between two links, as messages
-under_way_is : (p : LinkPair) (later : List (List ℕ)) → p.right.ends.joining.whole ≡ [] →
+pub under_way_is : (p : LinkPair) (later : List (List ℕ)) → p.right.ends.joining.whole ≡ [] →
     under_way_before p later ≡ tsdus_after p.right.ends.joining.begun (parts_under_way p.rightward ++ uncut (p.left.ends.unsent ++ later))
 under_way_is p later e =
     ap (λ (w : List (List ℕ)). w ++ tsdus_after p.right.ends.joining.begun (parts_under_way p.rightward ++ uncut (p.left.ends.unsent ++ later))) e
 
-pair_before : (n : ℕ) (p : LinkPair) (later : List (List ℕ)) → p.right.ends.joining.whole ≡ [] →
+pub pair_before : (n : ℕ) (p : LinkPair) (later : List (List ℕ)) → p.right.ends.joining.whole ≡ [] →
     messages_after p.right.ends.joining.begun (addressed n p.rightward ++ uncut_units (p.left.ends.unsent ++ later)) ≡ map message (under_way_before p later)
 pair_before n p later e =
     tsdu_messages n p.rightward p.right.ends.joining.begun (p.left.ends.unsent ++ later) ∙ ap (map message) (sym (under_way_is p later e))
@@ -60,12 +60,12 @@ pair_messages n p e =
     ∙ pair_before n p [] e
 
 -- a link with nothing to send, which has taken nothing
-abbrev bare : Standing
+abbrev pub bare : Standing
 bare = zero_standing (fresh_ends 0)
 
 -- ---- both talk
 
-pub talking_takes : (n : ℕ) (p : LinkPair) (unit : Value) (rest : List Given) → AreOpen true p → (t : LeftTakes true p unit rest) →
+abbrev pub talking_takes : (n : ℕ) (p : LinkPair) (unit : Value) (rest : List Given) → AreOpen true p → (t : LeftTakes true p unit rest) →
     Carries n (talking p) (talking (after_take p t.link rest)) (map (tsdu n) (take 1 t.link.ends.joining.whole)) []
 talking_takes n p unit rest a t =
     let q = after_take p t.link rest in
@@ -85,11 +85,11 @@ talking_takes n p unit rest a t =
     }
 
 -- the first part of what is under way to a link that is closing, by kind
-kinds_of_tsdu : (us : List Value) (octets : List ℕ) → map kind_of (messages_after [] (us ++ data0 true octets ∷ [])) ≡ map kind_of (messages_after [] us ++ message octets ∷ [])
+pub kinds_of_tsdu : (us : List Value) (octets : List ℕ) → map kind_of (messages_after [] (us ++ data0 true octets ∷ [])) ≡ map kind_of (messages_after [] us ++ message octets ∷ [])
 kinds_of_tsdu us octets =
     kinds_join us (data0 true octets ∷ []) [] ∙ sym (map-append kind_of (messages_after [] us) (message octets ∷ []))
 
-pub talking_sends : (n : ℕ) (p : LinkPair) (octets : List ℕ) → AreOpen true p → under_way p ++ octets ∷ [] ≡ under_way (after_send p octets) →
+abbrev pub talking_sends : (n : ℕ) (p : LinkPair) (octets : List ℕ) → AreOpen true p → under_way p ++ octets ∷ [] ≡ under_way (after_send p octets) →
     under_way (swapped p) ≡ under_way (swapped (after_send p octets)) → AreOpen true (after_send p octets) →
     Carries n (talking p) (talking (after_send p octets)) [] (message octets ∷ [])
 talking_sends n p octets a rightward leftward b =
@@ -106,7 +106,7 @@ talking_sends n p octets a rightward leftward b =
     }
 
 -- units of which nothing is unsent
-alone : (begun : List ℕ) (us : List Value) → messages_after begun (us ++ uncut_units []) ≡ messages_after begun us
+pub alone : (begun : List ℕ) (us : List Value) → messages_after begun (us ++ uncut_units []) ≡ messages_after begun us
 alone begun us = ap (messages_after begun) (append-nil us)
 
 -- a DR behind units
@@ -116,10 +116,10 @@ behind_leaving n us reason begun some =
     alone begun (us ++ leaving n reason ∷ [])
     ∙ messages_behind us begun (leaving n reason ∷ []) (bye reason ∷ []) (λ b. ap (λ (m : Message). m ∷ []) (parting_is n reason some))
 
-behind_over : (n : ℕ) (us : List Value) (begun : List ℕ) → messages_after begun ((us ++ disconnected n n ∷ []) ++ uncut_units []) ≡ messages_after begun us ++ over ∷ []
+pub behind_over : (n : ℕ) (us : List Value) (begun : List ℕ) → messages_after begun ((us ++ disconnected n n ∷ []) ++ uncut_units []) ≡ messages_after begun us ++ over ∷ []
 behind_over n us begun = alone begun (us ++ disconnected n n ∷ []) ∙ messages_behind us begun (disconnected n n ∷ []) (over ∷ []) (λ b. refl)
 
-pub talking_closes : (n : ℕ) (p : LinkPair) (reason : ℕ) → 0 < n → Carries n (talking p) (left_here p p.leftward reason) [] (bye reason ∷ [])
+abbrev pub talking_closes : (n : ℕ) (p : LinkPair) (reason : ℕ) → 0 < n → Carries n (talking p) (left_here p p.leftward reason) [] (bye reason ∷ [])
 talking_closes n p reason some =
     let us = addressed n p.rightward in
     let begun = p.right.ends.joining.begun in
@@ -136,7 +136,7 @@ talking_closes n p reason some =
 
 -- ---- the other has closed
 
-pub behind_takes : (n : ℕ) (p : LinkPair) (hs : List Given) (reason : ℕ) (g : Given) (gs : List Given) → 0 < n → AreOpen true p → p.leftward ≡ g ∷ gs →
+abbrev pub behind_takes : (n : ℕ) (p : LinkPair) (hs : List Given) (reason : ℕ) (g : Given) (gs : List Given) → 0 < n → AreOpen true p → p.leftward ≡ g ∷ gs →
     (t : LeftTakes true p (unit_of n g) gs) →
     Carries n (left_there p hs reason) (left_there (after_take p t.link gs) (hs ++ all_given (handed_out t.link)) reason)
     (map (tsdu n) (take 1 t.link.ends.joining.whole)) []
@@ -169,7 +169,7 @@ behind_takes n p hs reason g gs some a e t =
       after = ap (map kind_of) (sym same ∙ sym (append-nil (messages_out n (left_there p hs reason))));
     }
 
-pub behind_sends : (n : ℕ) (p : LinkPair) (hs : List Given) (reason : ℕ) (octets : List ℕ) →
+abbrev pub behind_sends : (n : ℕ) (p : LinkPair) (hs : List Given) (reason : ℕ) (octets : List ℕ) →
     Carries n (left_there p hs reason) (left_there (after_send p octets) (hs ++ all_given (with_tsdu p.left octets)) reason) [] (message octets ∷ [])
 behind_sends n p hs reason octets =
     let link = pumped (with_tsdu p.left octets) in
@@ -194,10 +194,10 @@ behind_sends n p hs reason octets =
     }
 
 -- what was not yet cut is lost
-kinds_lost : (us vs : List Value) → map kind_of (messages_after [] (us ++ vs)) ≡ map kind_of (messages_after [] us ++ messages_after [] vs)
+pub kinds_lost : (us vs : List Value) → map kind_of (messages_after [] (us ++ vs)) ≡ map kind_of (messages_after [] us ++ messages_after [] vs)
 kinds_lost us vs = kinds_join us vs [] ∙ sym (map-append kind_of (messages_after [] us) (messages_after [] vs))
 
-pub leaving_takes : (n : ℕ) (p : LinkPair) (hs : List Given) (reason : ℕ) → 0 < n → p.leftward ≡ [] →
+abbrev pub leaving_takes : (n : ℕ) (p : LinkPair) (hs : List Given) (reason : ℕ) → 0 < n → p.leftward ≡ [] →
     Carries n (left_there p hs reason) (waiting_there hs None) (closed n reason ∷ []) (over ∷ [])
 leaving_takes n p hs reason some e = record {
   arrived = bye reason ∷ [];
@@ -210,7 +210,7 @@ leaving_takes n p hs reason some e = record {
   after = ap (map kind_of) (behind_over n (addressed n hs) []);
 }
 
-pub behind_closes : (n : ℕ) (p : LinkPair) (hs : List Given) (reason other : ℕ) → 0 < n →
+abbrev pub behind_closes : (n : ℕ) (p : LinkPair) (hs : List Given) (reason other : ℕ) → 0 < n →
     Carries n (left_there p hs other) (left_both hs reason p.leftward other) [] (bye reason ∷ [])
 behind_closes n p hs reason other some = record {
   arrived = [];
@@ -225,14 +225,14 @@ behind_closes n p hs reason other some = record {
 -- ---- this side has closed
 
 -- a unit that is ignored, by kind
-kinds_first : (u : Value) (us : List Value) → map kind_of (messages_after [] (u ∷ us)) ≡ map kind_of (messages_after [] (u ∷ []) ++ messages_after [] us)
+pub kinds_first : (u : Value) (us : List Value) → map kind_of (messages_after [] (u ∷ us)) ≡ map kind_of (messages_after [] (u ∷ []) ++ messages_after [] us)
 kinds_first u us = kinds_join (u ∷ []) us [] ∙ sym (map-append kind_of (messages_after [] (u ∷ [])) (messages_after [] us))
 
 -- what is under way from here does not change
-abbrev Still : ℕ → Meeting → Meeting → Type 0
+abbrev pub Still : ℕ → Meeting → Meeting → Type 0
 Still n old new = messages_out n new ≡ messages_out n old
 
-still_carries : (n : ℕ) (old new : Meeting) (arrived : List Message) → [] ≡ flat_map (told_at n (here n old)) arrived →
+abbrev still_carries : (n : ℕ) (old new : Meeting) (arrived : List Message) → [] ≡ flat_map (told_at n (here n old)) arrived →
     AreLike (here n new) (messages_back n old) (arrived ++ messages_back n new) → Still n old new → Carries n old new [] []
 still_carries n old new arrived told leftward same = record {
   arrived = arrived;
@@ -244,34 +244,34 @@ still_carries n old new arrived told leftward same = record {
   after = like_same (there n old) (messages_out n new) (messages_out n old ++ []) (same ∙ sym (append-nil (messages_out n old)));
 }
 
-pub left_ignores : (n : ℕ) (p : LinkPair) (g : Given) (gs : List Given) (reason : ℕ) → Carries n (left_here p (g ∷ gs) reason) (left_here p gs reason) [] []
+abbrev pub left_ignores : (n : ℕ) (p : LinkPair) (g : Given) (gs : List Given) (reason : ℕ) → Carries n (left_here p (g ∷ gs) reason) (left_here p gs reason) [] []
 left_ignores n p g gs reason =
     still_carries n (left_here p (g ∷ gs) reason) (left_here p gs reason) (messages_after [] (unit_of n g ∷ []))
     (told_nothing (messages_after [] (unit_of n g ∷ [])) (told_at n (Some (closing n))) (λ m. refl))
     (kinds_first (unit_of n g) (addressed n gs ++ uncut_units p.right.ends.unsent)) refl
 
-pub both_ignores : (n : ℕ) (hs : List Given) (reason : ℕ) (g : Given) (gs : List Given) (other : ℕ) →
+abbrev pub both_ignores : (n : ℕ) (hs : List Given) (reason : ℕ) (g : Given) (gs : List Given) (other : ℕ) →
     Carries n (left_both hs reason (g ∷ gs) other) (left_both hs reason gs other) [] []
 both_ignores n hs reason g gs other =
     still_carries n (left_both hs reason (g ∷ gs) other) (left_both hs reason gs other) (messages_after [] (unit_of n g ∷ []))
     (told_nothing (messages_after [] (unit_of n g ∷ [])) (told_at n (Some (closing n))) (λ m. refl))
     (kinds_first (unit_of n g) ((addressed n gs ++ leaving n other ∷ []) ++ [])) refl
 
-pub waiting_ignores : (n : ℕ) (g : Given) (gs : List Given) (last : Option ℕ) → Carries n (waiting_here (g ∷ gs) last) (waiting_here gs last) [] []
+abbrev pub waiting_ignores : (n : ℕ) (g : Given) (gs : List Given) (last : Option ℕ) → Carries n (waiting_here (g ∷ gs) last) (waiting_here gs last) [] []
 waiting_ignores n g gs last =
     still_carries n (waiting_here (g ∷ gs) last) (waiting_here gs last) (messages_after [] (unit_of n g ∷ []))
     (told_nothing (messages_after [] (unit_of n g ∷ [])) (told_at n (Some (closing n))) (λ m. refl))
     (kinds_first (unit_of n g) ((addressed n gs ++ farewell n last ∷ []) ++ [])) refl
 
-pub both_takes : (n : ℕ) (hs : List Given) (reason other : ℕ) → 0 < n → Carries n (left_both hs reason [] other) (waiting_there hs (Some reason)) [] []
+abbrev pub both_takes : (n : ℕ) (hs : List Given) (reason other : ℕ) → 0 < n → Carries n (left_both hs reason [] other) (waiting_there hs (Some reason)) [] []
 both_takes n hs reason other some =
     still_carries n (left_both hs reason [] other) (waiting_there hs (Some reason)) (bye other ∷ []) refl
     (ap (λ (m : Message). m ∷ []) (parting_is n other some)) refl
 
-pub waiting_over : (n : ℕ) → Carries n (waiting_here [] None) parted [] []
+abbrev pub waiting_over : (n : ℕ) → Carries n (waiting_here [] None) parted [] []
 waiting_over n = still_carries n (waiting_here [] None) parted (over ∷ []) refl refl refl
 
-pub waiting_crossed : (n reason : ℕ) → 0 < n → Carries n (waiting_here [] (Some reason)) parted [] []
+abbrev pub waiting_crossed : (n reason : ℕ) → 0 < n → Carries n (waiting_here [] (Some reason)) parted [] []
 waiting_crossed n reason some =
     still_carries n (waiting_here [] (Some reason)) parted (bye reason ∷ []) refl
     (ap (λ (m : Message). m ∷ []) (parting_is n reason some)) refl

@@ -16,8 +16,9 @@ use Rattle.osi_carrier.specs.React.{react, handed_out}
 use Rattle.osi_carrier.specs.Orderly.{IsOrderly}
 use Rattle.osi_carrier.specs.Rows.{value_at}
 use Rattle.osi_carrier.specs.State.{linked, State}
-use Rattle.osi_carrier.specs.Messages.{Message, message, bye, over}
-use Rattle.osi_carrier.proofs.MeetingMessages.{talking_takes, talking_sends, talking_closes, behind_takes, behind_sends, leaving_takes, behind_closes, left_ignores, both_ignores, waiting_ignores, both_takes, waiting_over, waiting_crossed}
+use Rattle.osi_carrier.specs.Messages.{Message, message, bye, over, messages_after}
+use Rattle.osi_carrier.proofs.Bringing.{brings_given, brings_sent, brings_shut, brings_ignored, brings_bye, brings_crossed}
+use Rattle.osi_carrier.proofs.MeetingMessages.{parting_is, talking_takes, talking_sends, talking_closes, behind_takes, behind_sends, leaving_takes, behind_closes, left_ignores, both_ignores, waiting_ignores, both_takes, waiting_over, waiting_crossed}
 use Rattle.osi_carrier.proofs.Changes.{given_changes, given_ignored, leaving_changes, crossed_changes, over_changes, send_changes, close_changes}
 use Rattle.osi_carrier.proofs.Sendables.{all_sendable, range_end, leaving_sendable, over_sendable}
 use Rattle.osi_carrier.proofs.Turned.{left_takes, sends_passes}
@@ -108,6 +109,7 @@ take_talking n s p g gs some few quiet class orderly at a e =
       goes = sym (ap (λ (b : Bool). b || false) (given_stays n g));
       stands = t.passes.stay_open;
       carries = talking_takes n p (unit_of n g) gs a t;
+      brings = brings_given n g p.left t.link a.left.handed t.taken;
     }
 
 take_behind : (n : ℕ) (s : State) (p : LinkPair) (hs : List Given) (reason : ℕ) (g : Given) (gs : List Given) → 0 < n → n < 65536 → s.ended ≡ None → s.class ≡ Some Two → IsOrderly s →
@@ -129,6 +131,7 @@ take_behind n s p hs reason g gs some few quiet class orderly at a two e =
       goes = sym (ap (λ (b : Bool). b || false) (given_stays n g));
       stands = (t.passes.stay_open, class_join hs given two (class_end p.rightward given t.passes.stay_open.agree.agree.class));
       carries = behind_takes n p hs reason g gs some a e t;
+      brings = brings_given n g p.left t.link a.left.handed t.taken;
     }
 
 take_leaving : (n : ℕ) (s : State) (p : LinkPair) (hs : List Given) (reason : ℕ) → 0 < n → n < 65536 → s.ended ≡ None → s.class ≡ Some Two → IsOrderly s →
@@ -147,6 +150,7 @@ take_leaving n s p hs reason some few quiet class orderly at two e = record {
   goes = refl;
   stands = two;
   carries = leaving_takes n p hs reason some e;
+  brings = brings_bye n reason p.left (λ units. ap (λ (m : Message). m ∷ messages_after [] units) (parting_is n reason some));
 }
 
 -- the unit that was taken is the oldest
@@ -197,6 +201,7 @@ take_here n s (left_here p (g ∷ gs) reason) unit rest some few quiet class ord
       goes = sym (ap (λ (b : Bool). b || false) (given_stays n g));
       stands = (h.0, h.1.1);
       carries = left_ignores n p g gs reason;
+      brings = brings_ignored n g;
     })
 take_here n s (left_both hs reason [] other) unit rest some few quiet class orderly at h b =
     at_head n (left_both hs reason [] other) s (leaving n other) unit [] rest [] refl b refl (record {
@@ -212,6 +217,7 @@ take_here n s (left_both hs reason [] other) unit rest some few quiet class orde
       goes = refl;
       stands = h.0;
       carries = both_takes n hs reason other some;
+      brings = brings_crossed n other (λ units. ap (λ (m : Message). m ∷ messages_after [] units) (parting_is n other some));
     })
 take_here n s (left_both hs reason (g ∷ gs) other) unit rest some few quiet class orderly at h b =
     at_head n (left_both hs reason (g ∷ gs) other) s (unit_of n g) unit (addressed n gs ++ leaving n other ∷ []) rest [] refl b refl (record {
@@ -227,6 +233,7 @@ take_here n s (left_both hs reason (g ∷ gs) other) unit rest some few quiet cl
       goes = sym (ap (λ (b : Bool). b || false) (given_stays n g));
       stands = (h.0, h.1.1);
       carries = both_ignores n hs reason g gs other;
+      brings = brings_ignored n g;
     })
 take_here n s (waiting_here [] None) unit rest some few quiet class orderly at h b =
     at_head n (waiting_here [] None) s (disconnected n n) unit [] rest [] refl b refl (record {
@@ -242,6 +249,7 @@ take_here n s (waiting_here [] None) unit rest some few quiet class orderly at h
       goes = refl;
       stands = tt;
       carries = waiting_over n;
+      brings = record { is = refl; more = λ units. refl; may = (refl, tt); becomes = refl };
     })
 take_here n s (waiting_here [] (Some reason)) unit rest some few quiet class orderly at h b =
     at_head n (waiting_here [] (Some reason)) s (leaving n reason) unit [] rest [] refl b refl (record {
@@ -257,6 +265,7 @@ take_here n s (waiting_here [] (Some reason)) unit rest some few quiet class ord
       goes = refl;
       stands = tt;
       carries = waiting_crossed n reason some;
+      brings = brings_crossed n reason (λ units. ap (λ (m : Message). m ∷ messages_after [] units) (parting_is n reason some));
     })
 take_here n s (waiting_here (g ∷ gs) last) unit rest some few quiet class orderly at h b =
     at_head n (waiting_here (g ∷ gs) last) s (unit_of n g) unit (addressed n gs ++ farewell n last ∷ []) rest [] refl b refl (record {
@@ -272,6 +281,7 @@ take_here n s (waiting_here (g ∷ gs) last) unit rest some few quiet class orde
       goes = sym (ap (λ (b : Bool). b || false) (given_stays n g));
       stands = h.1;
       carries = waiting_ignores n g gs last;
+      brings = brings_ignored n g;
     })
 take_here n s (waiting_there hs last) unit rest some few quiet class orderly at h b = cc
 take_here n s parted unit rest some few quiet class orderly at h b = cc
@@ -295,6 +305,7 @@ send_here n s (talking p) link octets few quiet orderly at is h short are =
       goes = refl;
       stands = passes.stay_open;
       carries = talking_sends n p octets h passes.rightward passes.leftward passes.stay_open;
+      brings = brings_sent n p.left octets;
     }
 send_here n s (left_there p hs reason) link octets few quiet orderly at is h short are =
     let passes = sends_passes true p octets h.0 short are in
@@ -312,6 +323,7 @@ send_here n s (left_there p hs reason) link octets few quiet orderly at is h sho
       goes = refl;
       stands = (passes.stay_open, class_join hs given h.1 (class_end p.rightward given passes.stay_open.agree.agree.class));
       carries = behind_sends n p hs reason octets;
+      brings = brings_sent n p.left octets;
     }
 send_here n s (left_here p gs reason) link octets few quiet orderly at is h short are = cc
 send_here n s (left_both hs reason gs other) link octets few quiet orderly at is h short are = cc
@@ -334,6 +346,7 @@ close_here n s (talking p) link reason some few small quiet class orderly at is 
   goes = refl;
   stands = (h, h.agree.agree_back.class);
   carries = talking_closes n p reason some;
+  brings = brings_shut n p.left reason;
 }
 close_here n s (left_there p hs other) link reason some few small quiet class orderly at is h = record {
   new = left_both hs reason p.leftward other;
@@ -348,6 +361,7 @@ close_here n s (left_there p hs other) link reason some few small quiet class or
   goes = refl;
   stands = (h.1, h.0.agree.agree_back.class);
   carries = behind_closes n p hs reason other some;
+  brings = brings_shut n p.left reason;
 }
 close_here n s (left_here p gs other) link reason some few small quiet class orderly at is h = cc
 close_here n s (left_both hs own gs other) link reason some few small quiet class orderly at is h = cc

@@ -69,7 +69,7 @@ kinds_join (acknowledge credit destination number ∷ us) vs b = kinds_join us v
 kinds_join (error destination cause ∷ us) vs b = kinds_join us vs b
 
 -- what is begun behind units
-abbrev begun_after : List ℕ → List Value → List ℕ
+abbrev pub begun_after : List ℕ → List Value → List ℕ
 begun_after begun [] = begun
 begun_after begun (request c ∷ units) = begun_after [] units
 begun_after begun (confirm destination c ∷ units) = begun_after [] units
@@ -82,7 +82,7 @@ begun_after begun (data2 destination number true octets ∷ units) = begun_after
 begun_after begun (acknowledge credit destination number ∷ units) = begun_after begun units
 begun_after begun (error destination cause ∷ units) = begun_after begun units
 
-messages_part : (us : List Value) (begun : List ℕ) (vs : List Value) → messages_after begun (us ++ vs) ≡ messages_after begun us ++ messages_after (begun_after begun us) vs
+pub messages_part : (us : List Value) (begun : List ℕ) (vs : List Value) → messages_after begun (us ++ vs) ≡ messages_after begun us ++ messages_after (begun_after begun us) vs
 messages_part [] begun vs = refl
 messages_part (request c ∷ us) begun vs = ap (λ (l : List Message). ask ∷ l) (messages_part us [] vs)
 messages_part (confirm destination c ∷ us) begun vs = ap (λ (l : List Message). agree ∷ l) (messages_part us [] vs)

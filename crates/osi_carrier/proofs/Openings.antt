@@ -46,7 +46,7 @@ new_settled code window credit least most some few small =
       };
     }
 
-none_short : (ts : List (List ℕ)) → ts ≡ [] → AllByRecursion IsShortTsdu ts
+pub none_short : (ts : List (List ℕ)) → ts ≡ [] → AllByRecursion IsShortTsdu ts
 none_short ts e = subst (λ (l : List (List ℕ)). AllByRecursion IsShortTsdu l) (sym e) tt
 
 new_open : (i j a b : ℕ) → 7 ≤ i → i ≤ 13 → 7 ≤ j → j ≤ 13 → 1 ≤ a → a ≤ 15 → 1 ≤ b → b ≤ 15 → AreOpen true (opened_pair (new_link i a b) (new_link j b a))
@@ -110,7 +110,7 @@ opens_links caller called class calling to n =
 
 -- ---- they can be written
 
-no_octets : IsOctets []
+pub no_octets : IsOctets []
 no_octets i = omega arith
 
 alternatives_fit : (b : Bool) → IfSome (alternatives b) (λ s. length s ≤ 1)

@@ -4,7 +4,7 @@ use Rattle.std.specs.List.{flat_map, AllByRecursion}
 use Rattle.std.proofs.lemmas.Grind.{flat_map-append}
 use Rattle.osi_tpkt.specs.Octets.{IsOctets}
 use Rattle.osi_tpdu.specs.Spelling.{Item, item_octets, single}
-use Rattle.osi_tpdu.specs.Value.{Value, Connect, Parameters, IsConnect, request, confirm, disconnected}
+use Rattle.osi_tpdu.specs.Value.{Value, Connect, Parameters, IsConnect, request, confirm, disconnect, disconnected}
 use Rattle.osi_tpdu.specs.Writing.{items_of, written_items}
 use Rattle.osi_class.specs.Link.{Given, part0, part2, ack, unit_of}
 use Rattle.osi_class.specs.Sound.{HasGivenInRange}
@@ -35,6 +35,10 @@ no_octets i = omega arith
 
 pub leaving_sendable : (n reason : ℕ) → n < 65536 → reason < 256 → IsSendable (leaving n reason)
 leaving_sendable n reason few small = record { fits = record { in_range = (few, few, small, no_octets); counted = omega arith }; most = omega arith }
+
+-- a DR of which its sender has no connection
+pub denying_sendable : (n reason : ℕ) → n < 65536 → reason < 256 → IsSendable (disconnect n 0 reason [])
+denying_sendable n reason few small = record { fits = record { in_range = (few, omega arith, small, no_octets); counted = omega arith }; most = omega arith }
 
 pub over_sendable : (n : ℕ) → n < 65536 → IsSendable (disconnected n n)
 over_sendable n few = record { fits = record { in_range = (few, few); counted = omega arith }; most = omega arith }

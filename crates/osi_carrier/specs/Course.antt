@@ -17,6 +17,7 @@ use Rattle.osi_carrier.specs.Meeting as meeting
 use Rattle.osi_carrier.specs.Messages.{Message, ask, agree, deny, message, bye, over, messages_to, AreLike}
 use Rattle.osi_carrier.specs.Negotiation.{proposal_by, acceptance, agreed_size, opened_link}
 use Rattle.osi_carrier.specs.OpenLinks.{AreOpen}
+use Rattle.osi_carrier.specs.Progress.{Progress, not_yet, progress_in, Brings}
 use Rattle.osi_carrier.specs.Rows.{value_at}
 use Rattle.osi_carrier.specs.State.{Connection, asked, linked, closing, State, packets}
 
@@ -151,6 +152,14 @@ pub record CourseCarries (end : Bool) (n : ℕ) (called : Local) (old new : Cour
   pub before : AreLike (connection_in (at_end (not end) n old)) (messages_from end n called old) (stays ++ lost)
   pub after : AreLike (connection_in (at_end (not end) n old)) (messages_from end n called new) (stays ++ put)
 
+abbrev pub progress_of : Place → Progress
+progress_of never = not_yet
+progress_of (was_given connection) = progress_in connection
+
+-- what units brought to a connection that was at this place and is at that one
+abbrev pub BringsTo : Bool → Place → Place → List Value → List Message → List Message → Type 0
+BringsTo accepts old new taken arrived put = Brings accepts (progress_of old) (progress_of new) (connection_in old) (connection_in new) taken arrived put
+
 -- What changed at an end is this connection: these units, all for it, were written, and these events
 -- told. The class stays once there is one.
 pub record Acts (n : ℕ) (old new : State) (units : List Value) (told : List Happening) : Type 0 where
@@ -204,3 +213,4 @@ pub record CourseMoves (end : Bool) (n : ℕ) (old : Course) (this other next : 
   pub numbers : requests (asked_in end units taken) ≡ behind this.given asked
   pub places : KeepsPlaces end this next taken
   pub carries : CourseCarries end n (called_local end this other) old new events put
+  pub brings : BringsTo true (at_end end n old) (at_end end n new) taken carries.arrived put

@@ -3,9 +3,9 @@ use Rattle.std.specs.Prelude.{◌≡◌, ◌≢◌, ℕ, ◌+◌, ◌<◌, Bool,
 use Rattle.std.specs.List.{flat_map, AllByRecursion}
 use Rattle.osi_tpdu.specs.Value.{Value, request, confirm, disconnect, disconnected, data0, data2, acknowledge, error}
 use Rattle.osi_class.specs.Link.{Standing}
-use Rattle.osi_carrier.specs.Addresses.{reference_of, units_of, live_behind, references, requests, behind}
+use Rattle.osi_carrier.specs.Addresses.{AreFor, reference_of, units_of, live_behind, references, requests, behind}
 use Rattle.osi_carrier.specs.Coming.{IsSendable}
-use Rattle.osi_carrier.specs.Course.{place_at, connection_in, Course, at_end, from_end, MayTakeTwo, HoldsAt, called_local, told_opening}
+use Rattle.osi_carrier.specs.Course.{place_at, connection_in, Course, at_end, from_end, MayTakeTwo, HoldsAt, called_local, told_opening, BringsTo}
 use Rattle.osi_carrier.specs.Happenings.{Happening}
 use Rattle.osi_carrier.specs.Messages.{Message, messages_to, AreLike}
 use Rattle.osi_carrier.specs.Orderly.{IsOrderly}
@@ -80,6 +80,12 @@ pub record ActsFor (n : ℕ) (this other next : State) (going coming behind rest
   pub after : AreLike (connection_in (place_at n other)) (under_way_for n next other behind) (stays ++ put)
   pub others : (q : ℕ) → q ≢ n → under_way_for q this other going ≡ under_way_for q next other behind
   pub others_back : (q : ℕ) → q ≢ n → under_way_for q other this coming ≡ under_way_for q other next rest
+  pub others_stay : (q : ℕ) → q ≢ n → place_at q next ≡ place_at q this
+  pub taken : List Value
+  pub cut : coming ≡ taken ++ rest
+  pub all_for : AreFor n taken
+  pub written_for : AreFor n units
+  pub brings : BringsTo true (place_at n this) (place_at n next) taken arrived put
 
 -- what the caller did (it was `caller` and is `next`), and that the two are joined then
 pub record CallerDid (n : ℕ) (caller called next : State) (going coming rest : List Value) (put : List Message) : Type 0 where

@@ -16,9 +16,14 @@ pub mod OpenLinks
 pub mod Messages
 pub mod Coming
 pub mod Addresses
+pub mod Progress
 pub mod Meeting
+pub mod Terms
 pub mod Runs
 pub mod Told
 pub mod Course
 pub mod Joined
 pub mod Linked
+pub mod Zero
+pub mod Refusing
+pub mod Between

@@ -1,7 +1,7 @@
 //! Laws of two carriers and the units between them. Each function does nothing: its clauses are the
 //! laws.
 
-ghost use Rattle.std.specs.Prelude.{◌≡◌, ◌<◌, ◌≤◌, ◌++◌, ◌+◌, ℕ, true, false, List, [], ◌∷◌, Option, Some, None, length, take};
+ghost use Rattle.std.specs.Prelude.{◌≡◌, ◌<◌, ◌≤◌, ◌++◌, ◌+◌, ℕ, Bool, true, false, List, [], ◌∷◌, Option, Some, None, length, take};
 ghost use Rattle.std.specs.List.{AllByRecursion};
 ghost use Rattle.osi_tpkt.specs.declared.cutting.Fed.{Fed};
 ghost use Rattle.osi_tpkt.specs.Octets.{IsOctets};
@@ -10,6 +10,11 @@ ghost use Rattle.osi_class.specs.Between.{IsShortTsdu};
 ghost use Rattle.osi_class.specs.Link.{Standing};
 ghost use Rattle.osi_class.specs.declared.terms.Local.{Local};
 ghost use Rattle.osi_carrier.specs.Addresses.{reference_of};
+ghost use Rattle.osi_carrier.specs.Between.{Both, side, arriving, Between, AreBetween, Acted, becomes, Took, Same, handed_over, still_to_tell, Lost, ended_at, broken_at, fresh_both, fresh_between, IsStill, IsAllThere};
+ghost use Rattle.osi_carrier.specs.Terms.{Terms, by_two, by_zero, terms_of};
+ghost use Rattle.osi_carrier.specs.declared.ends.EndReason.{EndReason};
+ghost use Rattle.osi_carrier.specs.declared.ends.EndReason.TheVariants.{Closed};
+ghost use Rattle.osi_tpkt.specs.Packet.{IsPacket};
 ghost use Rattle.osi_carrier.specs.Calls.{fresh_state, may_connect, asks, sent, closed_with};
 ghost use Rattle.osi_carrier.specs.Coming.{IsSendable, AreComing, TakesSome};
 ghost use Rattle.osi_carrier.specs.Course.{place_at, answers_at, IsTsap};
@@ -21,7 +26,7 @@ ghost use Rattle.osi_carrier.specs.Messages.{Message, ask, message, bye};
 ghost use Rattle.osi_carrier.specs.Packets.{Carrying, Feeds};
 ghost use Rattle.osi_carrier.specs.React.{react};
 ghost use Rattle.osi_carrier.specs.Rows.{value_at};
-ghost use Rattle.osi_carrier.specs.State.{State, linked, packets};
+ghost use Rattle.osi_carrier.specs.State.{State, linked, packets, ends};
 
 /// A connection of class 2 that both carriers have had open, seen from one of them. The oldest unit
 /// that is under way to it is taken, and no fault comes of it, nor an end: it is a DT or an AK that
@@ -111,4 +116,41 @@ pub fn two_carriers_stay_linked()
         AreLinked (with_events events caller) called going coming }
     ensures called_tells { (caller called : Carrying) (events : List Happening) (going coming : List Value) → AreLinked caller called going coming →
         AreLinked caller (with_events events called) going coming }
+{}
+
+/// A caller's and a called end's carrier and the octets between them, whatever they
+/// come to by what each supports: class 2, class 0, or that each connection is refused. New ones stand so, and
+/// so do they after the next packet that an end holds, after each call, where octets are handed over and
+/// events are told, where an end comes, for whatever reason, want of memory among them, and where the byte
+/// connection breaks. A packet is one unit, and of what the other wrote comes neither an end nor a fault. What
+/// was under way to the end that acts arrived and was told, or still is; what is under way from it stays, and
+/// what is put comes behind, but for what a close takes away; an end and a break take the last of what is
+/// under way, and after a break nothing that is put arrives. In class 0 a close ends the carrier.
+pub fn whatever_becomes_of_two_carriers()
+    ensures begins { (caller called : Local) → AreBetween (terms_of caller called) (fresh_both caller called) (fresh_between caller called) }
+    ensures taken { (terms : Terms) (end : Bool) (both : Both) (b : Between) (packet octets behind : List ℕ) → AreBetween terms both b →
+        (side end both).state.ended ≡ None → IsPacket packet octets → (side end both).held ≡ octets ++ behind → Took terms end packet behind both b }
+    ensures asked { (terms : Terms) (both : Both) (b : Between) (calling to : Option (List ℕ)) → AreBetween terms both b →
+        both.caller.state.ended ≡ None → may_connect both.caller.state ≡ None → IsTsap calling → IsTsap to →
+        Acted terms true (both.caller.state.given + 1) both (becomes true (asks calling to both.caller.state) both.caller.held both) b [] (ask ∷ []) }
+    ensures handed_in { (terms : Terms) (end : Bool) (both : Both) (b : Between) (n peer : ℕ) (link : Standing) (tsdu : List ℕ) →
+        AreBetween terms both b → (side end both).state.ended ≡ None → value_at n (side end both).state.live ≡ Some (linked peer link) →
+        IsShortTsdu tsdu → IsOctets tsdu →
+        Acted terms end n both (becomes end (sent n tsdu (side end both).state) (side end both).held both) b [] (message tsdu ∷ []) }
+    ensures closed { (end : Bool) (both : Both) (b : Between) (n peer : ℕ) (link : Standing) (reason : ℕ) → AreBetween by_two both b →
+        (side end both).state.ended ≡ None → value_at n (side end both).state.live ≡ Some (linked peer link) → reason < 256 →
+        Acted by_two end n both (becomes end (closed_with n reason (side end both).state) (side end both).held both) b [] (bye reason ∷ []) }
+    ensures closed_in_0 { (end : Bool) (both : Both) (b : Between) (n peer : ℕ) (link : Standing) (reason : ℕ) → AreBetween by_zero both b →
+        (side end both).state.ended ≡ None → value_at n (side end both).state.live ≡ Some (linked peer link) →
+        closed_with n reason (side end both).state ≡ ends Closed (side end both).state }
+    ensures carried { (terms : Terms) (end : Bool) (both : Both) (b : Between) (k : ℕ) → AreBetween terms both b → k ≤ length (arriving end both) →
+        Same terms both (handed_over end k both) b }
+    ensures told { (terms : Terms) (end : Bool) (both : Both) (b : Between) (events : List Happening) → AreBetween terms both b →
+        Same terms both (still_to_tell end events both) b }
+    ensures ended { (terms : Terms) (end : Bool) (both : Both) (b : Between) (reason : EndReason) → AreBetween terms both b →
+        Lost terms both (ended_at end reason both) b }
+    ensures broken { (terms : Terms) (both : Both) (b : Between) (k l : ℕ) → AreBetween terms both b → both.reach ≡ None →
+        k ≤ length both.caller.state.outgoing → l ≤ length both.called.state.outgoing → Lost terms both (broken_at k l both) b }
+    ensures empty { (terms : Terms) (both : Both) (b : Between) (n p q : ℕ) (x y : Standing) → AreBetween terms both b → IsStill both →
+        value_at n both.caller.state.live ≡ Some (linked p x) → value_at n both.called.state.live ≡ Some (linked q y) → IsAllThere n both b x y }
 {}
