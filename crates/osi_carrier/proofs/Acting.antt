@@ -226,6 +226,8 @@ carries_caller terms n both b next behind left taken put a alive cut d =
           (is_cut false both) (is_cut false both) (ap connection_in (sym (st.others_stay q apart))) (other_in q n b.coming taken left apart cut st.all_for) refl refl);
       other_places = st.others_stay;
       there = refl;
+      cut = cut;
+      lost_still = refl;
     }
 
 pub acted_caller : (terms : Terms) (n : ℕ) (both : Both) (b : Between) (next : State) (behind : List ℕ) (left taken : List Value) (put : List Message) → AreBetween terms both b → both.caller.state.ended ≡ None →
@@ -304,6 +306,8 @@ carries_called terms n both b next behind left taken put a alive cut d =
           (is_cut true both) (is_cut true both) (ap connection_in (sym (st.others_stay q apart))) (other_in q n b.going taken left apart cut st.all_for) refl refl);
       other_places = st.others_stay;
       there = refl;
+      cut = cut;
+      lost_still = refl;
     }
 
 pub acted_called : (terms : Terms) (n : ℕ) (both : Both) (b : Between) (next : State) (behind : List ℕ) (left taken : List Value) (put : List Message) → AreBetween terms both b → both.called.state.ended ≡ None →

@@ -3,8 +3,9 @@
 use Rattle.std.proofs.Common.{◌≡◌, ℕ, ◌+◌, ◌-◌, ◌<◌, ◌≤◌, ◌||◌, Bool, true, false, not, List, [], ◌∷◌, ◌++◌, length, take, drop, Option, Some, None, is_some, IfSome, refl, sym, ap, subst, ◌∙◌, append_assoc}
 use Rattle.std.proofs.lemmas.List.{append-nil}
 use Rattle.osi_tpkt.specs.Octets.{IsOctets}
-use Rattle.osi_tpkt.specs.Packet.{IsPacket}
+use Rattle.osi_tpkt.specs.Packet.{IsPacket, packet_of}
 use Rattle.osi_tpdu.specs.Value.{Value}
+use Rattle.osi_tpdu.specs.Writing.{written}
 use Rattle.osi_class.specs.Between.{IsShortTsdu}
 use Rattle.osi_class.specs.Link.{Standing}
 use Rattle.osi_class.specs.declared.terms.Local.{Local}
@@ -26,7 +27,7 @@ use Rattle.osi_carrier.proofs.Addressing.{units_join}
 use Rattle.osi_carrier.proofs.Coming.{packet_reacts}
 use Rattle.osi_carrier.proofs.Linked.{with_queues}
 use Rattle.osi_carrier.proofs.MessageLaws.{messages_front}
-use Rattle.osi_carrier.proofs.OnTheWay.{less_by, way_over, bound_over, way_takes, Breaks, way_breaks}
+use Rattle.osi_carrier.proofs.OnTheWay.{less_by, way_over, bound_over, way_takes, way_unit, Breaks, way_breaks}
 use Rattle.osi_carrier.proofs.Providing.{Provides, closes_two}
 use Rattle.osi_carrier.proofs.Refusals.{none_open}
 use Rattle.osi_carrier.proofs.ZeroLaws.{closes_zero}
@@ -132,6 +133,8 @@ breaks terms both b k l a whole less less_called =
         unbroken = λ e x. cc;
         bound = by_end true (λ e. IfSome (reach_of e new.reach) (λ m. m ≤ length (side e new).state.outgoing)) less less_called;
       };
+      units = λ e. by_end true (λ x. units_from x b ++ lost_from x b ≡ units_from x now ++ lost_from x now)
+          (all_parts b.going b.going_lost out.done out.left (a.unbroken whole true) out.parts) (all_parts b.coming b.coming_lost back.done back.left (a.unbroken whole false) back.parts) e;
       loses = λ e n. by_end true (λ x. Loses x n both new b now)
           (loses_of true n both new b now (front_parts (connection_in (place_at n b.called)) n b.going out.done out.left (to_come (is_cut true both) (connection_in (place_at n b.caller))) out.parts))
           (loses_of false n both new b now (front_parts (connection_in (place_at n b.caller)) n b.coming back.done back.left (to_come (is_cut false both) (connection_in (place_at n b.called))) back.parts)) e;
@@ -155,6 +158,16 @@ took_caller terms p both b packet octets behind a alive is cut =
       acted = subst (λ (s : State). Acted terms true (reference_of u) both (becomes true (react u s) behind both) b (u ∷ []) put) (sym (a.lives true alive))
           (acted_caller terms (reference_of u) both b (react u b.caller) behind w.left (u ∷ []) put a alive w.way w.parts d);
     }
+
+-- the unit that comes first is taken
+unit_caller : (terms : Terms) (p : Provides terms) (both : Both) (b : Between) (u : Value) (rest : List Value) (behind : List ℕ) → AreBetween terms both b → both.caller.state.ended ≡ None → b.coming ≡ u ∷ rest →
+    both.caller.held ≡ packet_of (written u) ++ behind →
+    Acted terms true (reference_of u) both (becomes true (react u both.caller.state) behind both) b (u ∷ []) (answers_in terms (place_at (reference_of u) b.caller) u)
+unit_caller terms p both b u rest behind a alive first cut =
+    let put = answers_in terms (place_at (reference_of u) b.caller) u in
+    let d = p.takes_one true b.caller b.called (b.going ++ b.going_lost) (b.coming ++ b.coming_lost) (rest ++ b.coming_lost) u a.joined (ap (λ (l : List Value). l ++ b.coming_lost) first) in
+    subst (λ (s : State). Acted terms true (reference_of u) both (becomes true (react u s) behind both) b (u ∷ []) put) (sym (a.lives true alive))
+    (acted_caller terms (reference_of u) both b (react u b.caller) behind rest (u ∷ []) put a alive (way_unit u rest behind both.caller.held (arriving false both) b.coming b.coming_lost first cut (a.comes false alive)) first d)
 
 -- a call
 call_caller : (terms : Terms) (n : ℕ) (both : Both) (b : Between) (next : State) (put : List Message) → AreBetween terms both b → both.caller.state.ended ≡ None →
@@ -201,6 +214,8 @@ over_caller terms p both b k a less =
             (subst (λ (r : Option ℕ). IfSome r (λ m. m ≤ length rest)) (less_own true k both.reach) (bound_over (reach_of true both.reach) k both.caller.state.outgoing (a.bound true)))
             (subst (λ (r : Option ℕ). IfSome r (λ m. m ≤ length both.called.state.outgoing)) (less_other true k both.reach) (a.bound false));
       };
+      units = λ e. by_end true (λ x. units_from x now ≡ units_from x b) refl refl e;
+      lost = λ e. by_end true (λ x. lost_from x now ≡ lost_from x b) refl refl e;
       under = λ e n. by_end true (λ x. under_way x n both b ≡ under_way x n new now)
           (ap (λ (t : Bool). sum_of (connection_in (place_at n b.called)) n b.going (t || is_some both.caller.state.ended) (connection_in (place_at n b.caller))) some)
           (ap (λ (t : Bool). sum_of (connection_in (place_at n b.caller)) n b.coming (t || is_some both.called.state.ended) (connection_in (place_at n b.called))) some) e;
@@ -221,6 +236,8 @@ tells_caller terms p both b events a =
         unbroken = λ e x. by_end true (λ y. lost_from y now ≡ []) (a.unbroken e true) (a.unbroken e false) x;
         bound = by_end true (λ e. IfSome (reach_of e new.reach) (λ m. m ≤ length (side e new).state.outgoing)) (a.bound true) (a.bound false);
       };
+      units = λ e. by_end true (λ x. units_from x now ≡ units_from x b) refl refl e;
+      lost = λ e. by_end true (λ x. lost_from x now ≡ lost_from x b) refl refl e;
       under = λ e n. by_end true (λ x. under_way x n both b ≡ under_way x n new now) refl refl e;
       stays = λ e n. by_end true (λ x. place_at n (last_of x now) ≡ place_at n (last_of x b)) refl refl e;
     }
@@ -238,6 +255,7 @@ ends_caller terms both b reason a =
         unbroken = a.unbroken;
         bound = by_end true (λ e. IfSome (reach_of e new.reach) (λ m. m ≤ length (side e new).state.outgoing)) (a.bound true) (a.bound false);
       };
+      units = λ e. refl;
       loses = λ e n. by_end true (λ x. Loses x n both new b b)
           (loses_of true n both new b b (front_cut (connection_in (place_at n b.called)) n b.going (is_cut true both) (is_some both.reach || true) (connection_in (place_at n b.caller)) (or_true (is_some both.reach))))
           (loses_of false n both new b b (front_same (under_way false n both b) (under_way false n new b) refl)) e;
@@ -261,6 +279,16 @@ took_called terms p both b packet octets behind a alive is cut =
       acted = subst (λ (s : State). Acted terms false (reference_of u) both (becomes false (react u s) behind both) b (u ∷ []) put) (sym (a.lives false alive))
           (acted_called terms (reference_of u) both b (react u b.called) behind w.left (u ∷ []) put a alive w.way w.parts d);
     }
+
+-- the unit that comes first is taken
+unit_called : (terms : Terms) (p : Provides terms) (both : Both) (b : Between) (u : Value) (rest : List Value) (behind : List ℕ) → AreBetween terms both b → both.called.state.ended ≡ None → b.going ≡ u ∷ rest →
+    both.called.held ≡ packet_of (written u) ++ behind →
+    Acted terms false (reference_of u) both (becomes false (react u both.called.state) behind both) b (u ∷ []) (answers_in terms (place_at (reference_of u) b.called) u)
+unit_called terms p both b u rest behind a alive first cut =
+    let put = answers_in terms (place_at (reference_of u) b.called) u in
+    let d = p.takes_one false b.called b.caller (b.coming ++ b.coming_lost) (b.going ++ b.going_lost) (rest ++ b.going_lost) u a.joined (ap (λ (l : List Value). l ++ b.going_lost) first) in
+    subst (λ (s : State). Acted terms false (reference_of u) both (becomes false (react u s) behind both) b (u ∷ []) put) (sym (a.lives false alive))
+    (acted_called terms (reference_of u) both b (react u b.called) behind rest (u ∷ []) put a alive (way_unit u rest behind both.called.held (arriving true both) b.going b.going_lost first cut (a.comes true alive)) first d)
 
 -- a call
 call_called : (terms : Terms) (n : ℕ) (both : Both) (b : Between) (next : State) (put : List Message) → AreBetween terms both b → both.called.state.ended ≡ None →
@@ -307,6 +335,8 @@ over_called terms p both b k a less =
             (subst (λ (r : Option ℕ). IfSome r (λ m. m ≤ length rest)) (less_own false k both.reach) (bound_over (reach_of false both.reach) k both.called.state.outgoing (a.bound false)))
             (subst (λ (r : Option ℕ). IfSome r (λ m. m ≤ length both.caller.state.outgoing)) (less_other false k both.reach) (a.bound true));
       };
+      units = λ e. by_end true (λ x. units_from x now ≡ units_from x b) refl refl e;
+      lost = λ e. by_end true (λ x. lost_from x now ≡ lost_from x b) refl refl e;
       under = λ e n. by_end false (λ x. under_way x n both b ≡ under_way x n new now)
           (ap (λ (t : Bool). sum_of (connection_in (place_at n b.caller)) n b.coming (t || is_some both.called.state.ended) (connection_in (place_at n b.called))) some)
           (ap (λ (t : Bool). sum_of (connection_in (place_at n b.called)) n b.going (t || is_some both.caller.state.ended) (connection_in (place_at n b.caller))) some) e;
@@ -327,6 +357,8 @@ tells_called terms p both b events a =
         unbroken = λ e x. by_end false (λ y. lost_from y now ≡ []) (a.unbroken e false) (a.unbroken e true) x;
         bound = by_end false (λ e. IfSome (reach_of e new.reach) (λ m. m ≤ length (side e new).state.outgoing)) (a.bound false) (a.bound true);
       };
+      units = λ e. by_end true (λ x. units_from x now ≡ units_from x b) refl refl e;
+      lost = λ e. by_end true (λ x. lost_from x now ≡ lost_from x b) refl refl e;
       under = λ e n. by_end false (λ x. under_way x n both b ≡ under_way x n new now) refl refl e;
       stays = λ e n. by_end false (λ x. place_at n (last_of x now) ≡ place_at n (last_of x b)) refl refl e;
     }
@@ -344,6 +376,7 @@ ends_called terms both b reason a =
         unbroken = a.unbroken;
         bound = by_end false (λ e. IfSome (reach_of e new.reach) (λ m. m ≤ length (side e new).state.outgoing)) (a.bound false) (a.bound true);
       };
+      units = λ e. refl;
       loses = λ e n. by_end false (λ x. Loses x n both new b b)
           (loses_of false n both new b b (front_cut (connection_in (place_at n b.caller)) n b.coming (is_cut false both) (is_some both.reach || true) (connection_in (place_at n b.called)) (or_true (is_some both.reach))))
           (loses_of true n both new b b (front_same (under_way true n both b) (under_way true n new b) refl)) e;
@@ -356,6 +389,12 @@ pub took : (terms : Terms) (p : Provides terms) (end : Bool) (both : Both) (b : 
     Took terms end packet behind both b
 took terms p true both b packet octets behind a alive is cut = took_caller terms p both b packet octets behind a alive is cut
 took terms p false both b packet octets behind a alive is cut = took_called terms p both b packet octets behind a alive is cut
+
+pub took_unit : (terms : Terms) (p : Provides terms) (end : Bool) (both : Both) (b : Between) (u : Value) (rest : List Value) (behind : List ℕ) → AreBetween terms both b → (side end both).state.ended ≡ None →
+    units_from (not end) b ≡ u ∷ rest → (side end both).held ≡ packet_of (written u) ++ behind →
+    Acted terms end (reference_of u) both (becomes end (react u (side end both).state) behind both) b (u ∷ []) (answers_in terms (place_at (reference_of u) (last_of end b)) u)
+took_unit terms p true both b u rest behind a alive first cut = unit_caller terms p both b u rest behind a alive first cut
+took_unit terms p false both b u rest behind a alive first cut = unit_called terms p both b u rest behind a alive first cut
 
 pub sends : (terms : Terms) (p : Provides terms) (end : Bool) (both : Both) (b : Between) (n peer : ℕ) (link : Standing) (tsdu : List ℕ) → AreBetween terms both b → (side end both).state.ended ≡ None →
     value_at n (side end both).state.live ≡ Some (linked peer link) → IsShortTsdu tsdu → IsOctets tsdu →

@@ -43,3 +43,5 @@ pub mod ZeroLaws
 pub mod Refusals
 pub mod Terms
 pub mod Emptied
+pub mod Journeys
+pub mod Holdings

@@ -150,6 +150,22 @@ way_takes packet octets behind held arriving (v ∷ vs) lost p cut w =
       };
     }
 
+-- the first unit is taken
+pub way_unit : (u : Value) (rest : List Value) (behind held arriving : List ℕ) (units lost : List Value) → units ≡ u ∷ rest → held ≡ packet_of (written u) ++ behind → IsOnTheWay held arriving units lost → IsOnTheWay behind arriving rest lost
+way_unit u rest behind held arriving units lost first cut w =
+    let all : AllByRecursion IsSendable (u ∷ rest) = subst (λ (l : List Value). AllByRecursion IsSendable l) first w.sendable in
+    record {
+      front = w.front;
+      never = w.never;
+      octets = append_cancel_left (packet_of (written u)) (behind ++ arriving) (packets rest ++ w.front)
+          (sym (append_assoc (packet_of (written u)) behind arriving) ∙ ap (λ (l : List ℕ). l ++ arriving) (sym cut) ∙ w.octets
+          ∙ ap (λ (l : List Value). packets l ++ w.front) first ∙ append_assoc (packet_of (written u)) (packets rest) w.front);
+      partial = w.partial;
+      rest = w.rest;
+      sendable = all.1;
+      sendable_lost = w.sendable_lost;
+    }
+
 -- ---- the byte connection breaks
 
 -- a list in front of another

@@ -162,6 +162,9 @@ pub record Carries (terms : Terms) (end : Bool) (n : ℕ) (old new : Both) (b c 
   pub others : (q : ℕ) → q ≢ n → (from : Bool) → under_way from q old b ≡ under_way from q new c
   pub other_places : (q : ℕ) → q ≢ n → place_at q (last_of end c) ≡ place_at q (last_of end b)
   pub there : last_of (not end) c ≡ last_of (not end) b
+  -- the units that are on the way to it are those behind what it took
+  pub cut : units_from (not end) b ≡ taken ++ units_from (not end) c
+  pub lost_still : lost_from (not end) c ≡ lost_from (not end) b
 
 -- An end acted, and the two stand so then.
 pub record Acted (terms : Terms) (end : Bool) (n : ℕ) (old new : Both) (b : Between) (taken : List Value) (put : List Message) : Type 0 where
@@ -189,6 +192,8 @@ pub record Took (terms : Terms) (end : Bool) (packet behind : List ℕ) (both : 
 pub record Same (terms : Terms) (old new : Both) (b : Between) : Type 0 where
   pub now : Between
   pub between : AreBetween terms new now
+  pub units : (end : Bool) → units_from end now ≡ units_from end b
+  pub lost : (end : Bool) → lost_from end now ≡ lost_from end b
   pub under : (end : Bool) (n : ℕ) → under_way end n old b ≡ under_way end n new now
   pub stays : (end : Bool) (n : ℕ) → place_at n (last_of end now) ≡ place_at n (last_of end b)
 
@@ -239,6 +244,7 @@ pub record Loses (end : Bool) (n : ℕ) (old new : Both) (b c : Between) : Type 
 pub record Lost (terms : Terms) (old new : Both) (b : Between) : Type 0 where
   pub now : Between
   pub between : AreBetween terms new now
+  pub units : (end : Bool) → units_from end b ++ lost_from end b ≡ units_from end now ++ lost_from end now
   pub loses : (end : Bool) (n : ℕ) → Loses end n old new b now
   pub stays : (end : Bool) (n : ℕ) → place_at n (last_of end now) ≡ place_at n (last_of end b)
 

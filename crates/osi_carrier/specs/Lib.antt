@@ -27,3 +27,4 @@ pub mod Linked
 pub mod Zero
 pub mod Refusing
 pub mod Between
+pub mod Journey

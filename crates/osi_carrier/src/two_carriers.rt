@@ -1,29 +1,32 @@
 //! Laws of two carriers and the units between them. Each function does nothing: its clauses are the
 //! laws.
 
-ghost use Rattle.std.specs.Prelude.{◌≡◌, ◌<◌, ◌≤◌, ◌++◌, ◌+◌, ℕ, Bool, true, false, List, [], ◌∷◌, Option, Some, None, length, take};
+ghost use Rattle.std.specs.Prelude.{◌≡◌, ◌<◌, ◌≤◌, ◌++◌, ◌+◌, ◌⊎◌, ℕ, Bool, true, false, not, List, [], ◌∷◌, Option, Some, None, length, take};
 ghost use Rattle.std.specs.List.{AllByRecursion};
 ghost use Rattle.osi_tpkt.specs.declared.cutting.Fed.{Fed};
 ghost use Rattle.osi_tpkt.specs.Octets.{IsOctets};
 ghost use Rattle.osi_tpdu.specs.Value.{Value};
+ghost use Rattle.osi_tpdu.specs.Writing.{written};
 ghost use Rattle.osi_class.specs.Between.{IsShortTsdu};
 ghost use Rattle.osi_class.specs.Link.{Standing};
 ghost use Rattle.osi_class.specs.declared.terms.Local.{Local};
 ghost use Rattle.osi_carrier.specs.Addresses.{reference_of};
-ghost use Rattle.osi_carrier.specs.Between.{Both, side, arriving, Between, AreBetween, Acted, becomes, Took, Same, handed_over, still_to_tell, Lost, ended_at, broken_at, fresh_both, fresh_between, IsStill, IsAllThere};
+ghost use Rattle.osi_carrier.specs.Between.{Both, side, arriving, Between, last_of, units_from, lost_from, answers_in, AreBetween, Acted, becomes, Took, Same, handed_over, still_to_tell, Lost, ended_at, broken_at, fresh_both, fresh_between, IsStill, IsAllThere};
 ghost use Rattle.osi_carrier.specs.Terms.{Terms, by_two, by_zero, terms_of};
 ghost use Rattle.osi_carrier.specs.declared.ends.EndReason.{EndReason};
-ghost use Rattle.osi_carrier.specs.declared.ends.EndReason.TheVariants.{Closed};
-ghost use Rattle.osi_tpkt.specs.Packet.{IsPacket};
+ghost use Rattle.osi_carrier.specs.declared.ends.EndReason.TheVariants.{Closed, NoMemory};
+ghost use Rattle.osi_tpkt.specs.Packet.{IsPacket, IsFaultOf, packet_of};
+ghost use Rattle.osi_tpkt.specs.declared.faults.TpktFault.{TpktFault};
 ghost use Rattle.osi_carrier.specs.Calls.{fresh_state, may_connect, asks, sent, closed_with};
 ghost use Rattle.osi_carrier.specs.Coming.{IsSendable, AreComing, TakesSome};
 ghost use Rattle.osi_carrier.specs.Course.{place_at, answers_at, IsTsap};
 ghost use Rattle.osi_carrier.specs.Joined.{AreJoined, CallerDid, CalledDid, IsEmpty, under_way_for};
 ghost use Rattle.osi_carrier.specs.Happenings.{Happening};
+ghost use Rattle.osi_carrier.specs.Journey.{Move, MayAll, StayBetween};
 ghost use Rattle.osi_carrier.specs.Linked.{AreLinked, CalledFed, CallerFed, with_state, with_events};
 ghost use Rattle.osi_carrier.specs.Meeting.{Meeting, mirror, here, there, out, back, Stands, IsAt, answers_of, Moves};
 ghost use Rattle.osi_carrier.specs.Messages.{Message, ask, message, bye};
-ghost use Rattle.osi_carrier.specs.Packets.{Carrying, Feeds};
+ghost use Rattle.osi_carrier.specs.Packets.{Carrying, Feeds, after_packet, Acts, Starves};
 ghost use Rattle.osi_carrier.specs.React.{react};
 ghost use Rattle.osi_carrier.specs.Rows.{value_at};
 ghost use Rattle.osi_carrier.specs.State.{State, linked, packets, ends};
@@ -130,6 +133,11 @@ pub fn whatever_becomes_of_two_carriers()
     ensures begins { (caller called : Local) → AreBetween (terms_of caller called) (fresh_both caller called) (fresh_between caller called) }
     ensures taken { (terms : Terms) (end : Bool) (both : Both) (b : Between) (packet octets behind : List ℕ) → AreBetween terms both b →
         (side end both).state.ended ≡ None → IsPacket packet octets → (side end both).held ≡ octets ++ behind → Took terms end packet behind both b }
+    ensures taken_first { (terms : Terms) (end : Bool) (both : Both) (b : Between) (unit : Value) (rest : List Value) (behind : List ℕ) →
+        AreBetween terms both b → (side end both).state.ended ≡ None → units_from (not end) b ≡ unit ∷ rest →
+        (side end both).held ≡ packet_of (written unit) ++ behind →
+        Acted terms end (reference_of unit) both (becomes end (react unit (side end both).state) behind both) b (unit ∷ [])
+        (answers_in terms (place_at (reference_of unit) (last_of end b)) unit) }
     ensures asked { (terms : Terms) (both : Both) (b : Between) (calling to : Option (List ℕ)) → AreBetween terms both b →
         both.caller.state.ended ≡ None → may_connect both.caller.state ≡ None → IsTsap calling → IsTsap to →
         Acted terms true (both.caller.state.given + 1) both (becomes true (asks calling to both.caller.state) both.caller.held both) b [] (ask ∷ []) }
@@ -153,4 +161,32 @@ pub fn whatever_becomes_of_two_carriers()
         k ≤ length both.caller.state.outgoing → l ≤ length both.called.state.outgoing → Lost terms both (broken_at k l both) b }
     ensures empty { (terms : Terms) (both : Both) (b : Between) (n p q : ℕ) (x y : Standing) → AreBetween terms both b → IsStill both →
         value_at n both.caller.state.live ≡ Some (linked p x) → value_at n both.called.state.live ≡ Some (linked q y) → IsAllThere n both b x y }
+{}
+
+/// What an end that has not ended holds of what the other wrote, with the octets that will still arrive and
+/// those that a break took away, is the packets of all units, and has no fault of the stream. Where there is no
+/// memory for the packet that it holds first, nothing of it was done: it is one unit, which acts or does not.
+pub fn what_an_end_holds()
+    ensures coming { (terms : Terms) (end : Bool) (both : Both) (b : Between) → AreBetween terms both b → (side (not end) both).state.ended ≡ None →
+        (never : List ℕ) × AreComing (side (not end) both).held (arriving end both ++ never) (units_from end b ++ lost_from end b) }
+    ensures sound { (terms : Terms) (end : Bool) (both : Both) (b : Between) (at : ℕ) (fault : TpktFault) → AreBetween terms both b →
+        (side end both).state.ended ≡ None → IsFaultOf at (side end both).held fault → ⊥ }
+    ensures starved { (terms : Terms) (end : Bool) (both : Both) (b : Between) (packet octets behind : List ℕ) (new : State) →
+        AreBetween terms both b → (side end both).state.ended ≡ None → IsPacket packet octets → (side end both).held ≡ octets ++ behind →
+        Starves (side end both).state packet new → new ≡ ends NoMemory (side end both).state }
+    ensures acts { (terms : Terms) (end : Bool) (both : Both) (b : Between) (packet octets behind : List ℕ) (new : State) →
+        AreBetween terms both b → (side end both).state.ended ≡ None → IsPacket packet octets → (side end both).held ≡ octets ++ behind →
+        Acts (side end both).state packet new → (new ≡ after_packet (side end both).state packet) ⊎ (new ≡ ends NoMemory (side end both).state) }
+{}
+
+/// Over every list of what can happen to two new carriers: calls at both, octets that are handed over in
+/// whatever pieces, packets that are taken, events that are told, ends and a break, in any order in which they
+/// may happen. The two then stand between as they should, so nothing is under way but what was put and has not
+/// arrived; and an end has ended for no other reason than the list gives: a close of the connection of class 0,
+/// or an end of its own. So neither ends by what the other wrote.
+pub fn what_no_list_of_calls_can_do()
+    ensures stays { (caller called : Local) (moves : List Move) → MayAll moves (fresh_both caller called) →
+        StayBetween (terms_of caller called) moves (fresh_both caller called) }
+    ensures goes_on { (terms : Terms) (moves : List Move) (both : Both) (b : Between) → AreBetween terms both b → MayAll moves both →
+        StayBetween terms moves both }
 {}

@@ -1,4 +1,4 @@
-use Rattle.osi_carrier.proofs.Betweens.{took, sends, connects, closes, closes_ends, hands_over, tells, ends_at, breaks}
+use Rattle.osi_carrier.proofs.Betweens.{took, took_unit, sends, connects, closes, closes_ends, hands_over, tells, ends_at, breaks}
 use Rattle.osi_carrier.proofs.Emptied.{emptied}
 use Rattle.osi_carrier.proofs.Terms.{begins, provides}
 use Rattle.osi_carrier.proofs.two_carriers.whatever_becomes_of_two_carriers.Goals as goal
@@ -35,3 +35,6 @@ returns-clause-broken c = breaks
 
 pub returns-clause-empty : goal.returns-clause-empty
 returns-clause-empty c = emptied
+
+pub returns-clause-taken_first : goal.returns-clause-taken_first
+returns-clause-taken_first c = λ terms. took_unit terms (provides terms)

@@ -1,0 +1,11 @@
+use Rattle.osi_carrier.specs.Between.{fresh_both, fresh_between}
+use Rattle.osi_carrier.specs.Terms.{terms_of}
+use Rattle.osi_carrier.proofs.Journeys.{all_stay}
+use Rattle.osi_carrier.proofs.Terms.{begins}
+use Rattle.osi_carrier.proofs.two_carriers.what_no_list_of_calls_can_do.Goals as goal
+
+pub returns-clause-stays : goal.returns-clause-stays
+returns-clause-stays c = λ caller called moves may. all_stay (terms_of caller called) moves (fresh_both caller called) (fresh_between caller called) (begins caller called) may
+
+pub returns-clause-goes_on : goal.returns-clause-goes_on
+returns-clause-goes_on c = all_stay
