@@ -1,14 +1,14 @@
 -- Where an end acts, two carriers stand between as they should, whatever has become of them.
-use Rattle.std.proofs.Common.{◌≡◌, ◌≢◌, ℕ, ◌≤◌, ◌||◌, Bool, true, false, not, List, [], ◌∷◌, ◌++◌, length, Option, Some, None, is_some, IfSome, if◌then◌else◌, refl, sym, ap, subst, ◌∙◌, append_assoc}
+use Rattle.std.proofs.Common.{◌≡◌, ◌≢◌, ℕ, ◌≤◌, ◌||◌, Bool, true, false, not, List, [], ◌++◌, length, Option, Some, None, is_some, IfSome, if◌then◌else◌, refl, sym, ap, subst, ◌∙◌, append_assoc}
 use Rattle.std.specs.List.{flat_map, AllByRecursion}
 use Rattle.std.proofs.lemmas.List.{append-nil, append_cancel_right}
 use Rattle.osi_tpdu.specs.Value.{Value}
 use Rattle.osi_carrier.specs.Addresses.{units_of, AreFor}
-use Rattle.osi_carrier.specs.Between.{Side, Both, side, with_side, reach_of, within_reach, arriving, Between, last_of, units_from, lost_from, IsOnTheWay, AreJoinedBy, AreBetween, is_cut, to_come, under_way, told_of, put_in, Carries, Acted, becomes}
+use Rattle.osi_carrier.specs.Between.{Both, side, reach_of, within_reach, arriving, Between, last_of, units_from, lost_from, IsOnTheWay, AreJoinedBy, AreBetween, is_cut, to_come, under_way, told_of, put_in, Carries, Acted, becomes}
 use Rattle.osi_carrier.specs.Coming.{IsSendable}
-use Rattle.osi_carrier.specs.Course.{Place, place_at, connection_in, told_opening, BringsTo}
-use Rattle.osi_carrier.specs.Joined.{AreJoined, under_way_for, ActsFor}
-use Rattle.osi_carrier.specs.Messages.{Message, messages_to, messages_after, begun_at, unsent_at, uncut_units, AreLike}
+use Rattle.osi_carrier.specs.Course.{place_at, connection_in, BringsTo}
+use Rattle.osi_carrier.specs.Joined.{under_way_for, ActsFor}
+use Rattle.osi_carrier.specs.Messages.{Message, messages_to, messages_after, begun_at, AreLike}
 use Rattle.osi_carrier.specs.State.{Connection, State, packets}
 use Rattle.osi_carrier.specs.Terms.{Terms, by_two, accepts_in}
 use Rattle.osi_carrier.specs.declared.ends.EndReason.{EndReason}

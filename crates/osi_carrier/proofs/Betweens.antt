@@ -1,6 +1,6 @@
 -- What becomes of two carriers: packets are taken, octets handed over, an end comes, and the byte
 -- connection breaks.
-use Rattle.std.proofs.Common.{◌≡◌, ℕ, ◌+◌, ◌-◌, ◌<◌, ◌≤◌, ◌||◌, Bool, true, false, not, List, [], ◌∷◌, ◌++◌, length, take, drop, Option, Some, None, is_some, IfSome, refl, sym, ap, subst, ◌∙◌, append_assoc}
+use Rattle.std.proofs.Common.{◌≡◌, ℕ, ◌+◌, ◌<◌, ◌≤◌, ◌||◌, Bool, true, false, not, List, [], ◌∷◌, ◌++◌, length, take, drop, Option, Some, None, is_some, IfSome, refl, sym, ap, subst, ◌∙◌, append_assoc}
 use Rattle.std.proofs.lemmas.List.{append-nil}
 use Rattle.osi_tpkt.specs.Octets.{IsOctets}
 use Rattle.osi_tpkt.specs.Packet.{IsPacket, packet_of}
@@ -8,13 +8,12 @@ use Rattle.osi_tpdu.specs.Value.{Value}
 use Rattle.osi_tpdu.specs.Writing.{written}
 use Rattle.osi_class.specs.Between.{IsShortTsdu}
 use Rattle.osi_class.specs.Link.{Standing}
-use Rattle.osi_class.specs.declared.terms.Local.{Local}
 use Rattle.osi_carrier.specs.Addresses.{reference_of, units_of}
 use Rattle.osi_carrier.specs.Between.{Both, side, reach_of, within_reach, arriving, Between, last_of, units_from, lost_from, IsOnTheWay, AreJoinedBy, AreBetween, is_cut, to_come, under_way, answers_in, Acted, becomes, Took, Same, reach_less, handed_over, still_to_tell, ended_at, broken_at, Loses, Lost}
 use Rattle.osi_carrier.specs.Calls.{may_connect, asks, sent, closed_with}
 use Rattle.osi_carrier.specs.Course.{place_at, connection_in, IsTsap}
 use Rattle.osi_carrier.specs.Happenings.{Happening}
-use Rattle.osi_carrier.specs.Messages.{Message, ask, message, bye, messages_after, begun_at, unsent_at, uncut_units}
+use Rattle.osi_carrier.specs.Messages.{Message, ask, message, bye, messages_after, begun_at}
 use Rattle.osi_carrier.specs.Packets.{after_packet}
 use Rattle.osi_carrier.specs.React.{react}
 use Rattle.osi_carrier.specs.Rows.{value_at}
@@ -22,12 +21,12 @@ use Rattle.osi_carrier.specs.State.{Connection, linked, State, ends}
 use Rattle.osi_carrier.specs.Terms.{Terms, by_two, by_zero, refusing}
 use Rattle.osi_carrier.specs.declared.ends.EndReason.{EndReason}
 use Rattle.osi_carrier.specs.declared.ends.EndReason.TheVariants.{Closed}
-use Rattle.osi_carrier.proofs.Acting.{JoinedAt, Does, by_end, acted_caller, acted_called}
+use Rattle.osi_carrier.proofs.Acting.{Does, by_end, acted_caller, acted_called}
 use Rattle.osi_carrier.proofs.Addressing.{units_join}
 use Rattle.osi_carrier.proofs.Coming.{packet_reacts}
 use Rattle.osi_carrier.proofs.Linked.{with_queues}
 use Rattle.osi_carrier.proofs.MessageLaws.{messages_front}
-use Rattle.osi_carrier.proofs.OnTheWay.{less_by, way_over, bound_over, way_takes, way_unit, Breaks, way_breaks}
+use Rattle.osi_carrier.proofs.OnTheWay.{less_by, way_over, bound_over, way_takes, way_unit, way_breaks}
 use Rattle.osi_carrier.proofs.Providing.{Provides, closes_two}
 use Rattle.osi_carrier.proofs.Refusals.{none_open}
 use Rattle.osi_carrier.proofs.ZeroLaws.{closes_zero}

@@ -1,5 +1,5 @@
 -- What units bring that an end takes.
-use Rattle.std.proofs.Common.{◌≡◌, ℕ, ◌<◌, ◌+◌, Bool, true, false, List, [], ◌∷◌, ◌++◌, length, map, take, Option, Some, None, Result, Ok, Err, refl, sym, ap, ◌∙◌, nat_lt, if◌then◌else◌, IfOk}
+use Rattle.std.proofs.Common.{◌≡◌, ℕ, ◌+◌, Bool, true, false, List, [], ◌∷◌, ◌++◌, length, map, take, Option, Some, None, Result, Ok, Err, refl, sym, ap, ◌∙◌, nat_lt, if◌then◌else◌, IfOk}
 use Rattle.std.specs.List.{AllByRecursion}
 use Rattle.std.proofs.lemmas.List.{map-append}
 use Rattle.osi_tpdu.specs.Value.{Value, data0, data2, acknowledge, disconnect}
@@ -12,7 +12,7 @@ use Rattle.osi_class.specs.declared.faults.LinkFault.TheVariants.{TsduTooLong, O
 use Rattle.osi_class.specs.declared.limits.TheConstants.{LONGEST_TSDU}
 use Rattle.osi_class.proofs.Giving.{drained_leaves}
 use Rattle.osi_class.proofs.Order.{choose_ok, at_ok}
-use Rattle.osi_carrier.specs.Messages.{Message, ask, agree, deny, message, bye, over, messages_after, begun_at, kind_of, AreLike}
+use Rattle.osi_carrier.specs.Messages.{Message, message, bye, over, messages_after, begun_at, kind_of, AreLike}
 use Rattle.osi_carrier.specs.Progress.{Progress, in_use, shutting, gone, may_arrive, behind_arrivals, behind_puts, Brings}
 use Rattle.osi_carrier.specs.Pump.{pumped}
 use Rattle.osi_carrier.specs.React.{handed_out}

@@ -1,21 +1,20 @@
 -- Where nothing is on the way, nothing is under way for a connection that is open at both ends.
-use Rattle.std.proofs.Common.{◌≡◌, ℕ, Bool, true, false, List, [], ◌∷◌, ◌++◌, Option, Some, None, is_some, ◌||◌, refl, sym, ap, subst, ◌∙◌, inl, if◌then◌else◌}
+use Rattle.std.proofs.Common.{◌≡◌, ℕ, Bool, true, false, List, [], ◌∷◌, ◌++◌, Option, Some, None, is_some, ◌||◌, refl, sym, ap, subst, ◌∙◌, inl}
 use Rattle.std.proofs.lemmas.List.{append-nil}
 use Rattle.osi_tpdu.specs.Value.{Value}
-use Rattle.osi_class.specs.Between.{LinkPair, swapped, IsQuiet}
-use Rattle.osi_class.specs.Link.{Standing, Given}
+use Rattle.osi_class.specs.Between.{LinkPair, swapped}
+use Rattle.osi_class.specs.Link.{Standing}
 use Rattle.osi_class.proofs.Arrival.{quiet_unsent, nothing_begun}
 use Rattle.osi_carrier.specs.Addresses.{units_of}
-use Rattle.osi_carrier.specs.Between.{Both, side, reach_of, within_reach, Between, IsOnTheWay, AreJoinedBy, AreBetween, IsStill, IsAllThere, is_cut, to_come, under_way}
-use Rattle.osi_carrier.specs.Course.{Place, was_given, place_at, connection_in}
+use Rattle.osi_carrier.specs.Between.{Both, reach_of, within_reach, Between, IsOnTheWay, AreJoinedBy, AreBetween, IsStill, IsAllThere, is_cut, to_come}
+use Rattle.osi_carrier.specs.Course.{was_given, place_at, connection_in}
 use Rattle.osi_carrier.specs.Joined.{IsEmpty, under_way_for}
-use Rattle.osi_carrier.specs.Meeting.{addressed}
-use Rattle.osi_carrier.specs.Messages.{Message, messages_to, messages_after, uncut_units, begun_at, unsent_at}
+use Rattle.osi_carrier.specs.Messages.{messages_to, messages_after, uncut_units, begun_at}
 use Rattle.osi_carrier.specs.OpenLinks.{AreOpen}
 use Rattle.osi_carrier.specs.Rows.{value_at}
 use Rattle.osi_carrier.specs.State.{Connection, linked, State, packets}
 use Rattle.osi_carrier.specs.Terms.{Terms, by_two, by_zero, refusing}
-use Rattle.osi_carrier.specs.Zero.{ZeroCourse, unasked, asking, accepting, talking, at_end, from_end, Holds, HasOne, AreJoinedZero}
+use Rattle.osi_carrier.specs.Zero.{ZeroCourse, unasked, asking, accepting, talking, at_end, from_end, Holds, HasOne}
 use Rattle.osi_carrier.specs.declared.ends.EndReason.{EndReason}
 use Rattle.osi_carrier.proofs.JoinedCalls.{still, still_messages, none_addressed}
 use Rattle.osi_carrier.proofs.Meetings.{open_mirror}

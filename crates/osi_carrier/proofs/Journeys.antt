@@ -1,13 +1,9 @@
 -- Two carriers behind a list of moves.
-use Rattle.std.proofs.Common.{◌≡◌, ℕ, Bool, true, false, not, List, [], ◌∷◌, Option, Some, None, refl, sym, ap, subst, ◌∙◌}
-use Rattle.osi_class.specs.declared.terms.Local.{Local}
-use Rattle.osi_carrier.specs.Between.{Both, side, Between, AreBetween, Acted, becomes, Took, ended_at}
-use Rattle.osi_carrier.specs.Calls.{closed_with}
-use Rattle.osi_carrier.specs.Journey.{Move, carries, takes, connects, hands_in, closes, tells, ends, breaks, May, moved, MayAll, moved_by, ended_behind, ended_by_all, closed_in, IsOpenAt, StayBetween}
-use Rattle.osi_carrier.specs.React.{react}
+use Rattle.std.proofs.Common.{◌≡◌, ℕ, Bool, true, false, List, [], ◌∷◌, Option, None, refl, sym, ap, subst, ◌∙◌}
+use Rattle.osi_carrier.specs.Between.{Both, side, Between, AreBetween, becomes, Took}
+use Rattle.osi_carrier.specs.Journey.{Move, carries, takes, connects, hands_in, closes, tells, ends, breaks, May, moved, MayAll, ended_behind, ended_by_all, StayBetween}
 use Rattle.osi_carrier.specs.State.{State}
 use Rattle.osi_carrier.specs.Terms.{Terms, by_two, by_zero, refusing}
-use Rattle.osi_carrier.specs.declared.ends.EndReason.{EndReason}
 use Rattle.osi_carrier.specs.declared.ends.EndReason.TheVariants.{Closed}
 use Rattle.osi_carrier.proofs.Acting.{by_end}
 use Rattle.osi_carrier.proofs.Betweens.{took, sends, closes_ends, hands_over, ends_at, no_open}

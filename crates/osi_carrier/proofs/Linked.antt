@@ -1,22 +1,19 @@
 -- Feeding octets that the other end wrote keeps two carriers joined.
-use Rattle.std.proofs.Common.{◌≡◌, ℕ, ◌≤◌, Bool, true, false, List, [], ◌∷◌, ◌++◌, length, take, drop, Option, Some, None, refl, sym, ap, subst, ◌∙◌, inl, inr, ◌⊎◌}
-use Rattle.std.specs.List.{AllByRecursion}
-use Rattle.std.proofs.lemmas.List.{append_cancel_left}
+use Rattle.std.proofs.Common.{◌≡◌, ℕ, ◌≤◌, true, false, List, [], ◌∷◌, ◌++◌, length, take, drop, Option, None, refl, sym, ap, subst, ◌∙◌, inl, inr}
 use Rattle.osi_tpkt.specs.declared.cutting.Fed.{Fed}
 use Rattle.osi_tpdu.specs.Value.{Value}
 use Rattle.osi_class.specs.declared.terms.Local.{Local}
 use Rattle.osi_carrier.specs.Calls.{fresh_state}
-use Rattle.osi_carrier.specs.Coming.{IsSendable, AreComing, TakesUnits, TakesSome}
-use Rattle.osi_carrier.specs.Course.{Course, unasked, asking, accepting, withdrawing, met, IsAccepted, Holds}
+use Rattle.osi_carrier.specs.Coming.{AreComing, TakesUnits, TakesSome}
+use Rattle.osi_carrier.specs.Course.{Course, unasked, asking, accepting, withdrawing, met, Holds}
 use Rattle.osi_carrier.specs.Happenings.{Happening}
-use Rattle.osi_carrier.specs.Joined.{StandsBetween, AreJoined, ActsFor, CalledDid, CallerDid}
-use Rattle.osi_carrier.specs.Linked.{AreLinked, handed_over, with_state, with_events, TakesFor, CalledFed, CallerFed}
+use Rattle.osi_carrier.specs.Joined.{StandsBetween, AreJoined, CalledDid, CallerDid}
+use Rattle.osi_carrier.specs.Linked.{AreLinked, with_state, with_events, TakesFor, CalledFed, CallerFed}
 use Rattle.osi_carrier.specs.Messages.{Message}
 use Rattle.osi_carrier.specs.Packets.{Carrying, Feeds, is_spoilt}
 use Rattle.osi_carrier.specs.React.{react}
-use Rattle.osi_carrier.specs.State.{State, packets, ends}
+use Rattle.osi_carrier.specs.State.{State}
 use Rattle.osi_carrier.specs.declared.ends.EndReason.{EndReason}
-use Rattle.osi_carrier.specs.declared.ends.EndReason.TheVariants.{NoMemory}
 use Rattle.osi_carrier.proofs.Coming.{feeds_some, more_coming}
 use Rattle.osi_carrier.proofs.Effects.{orderly_same}
 use Rattle.osi_carrier.proofs.JoinedCalls.{fresh_joined}

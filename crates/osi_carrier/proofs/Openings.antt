@@ -1,5 +1,5 @@
 -- Two links of class 2 as a CR and its CC open them.
-use Rattle.std.proofs.Common.{◌≡◌, ℕ, ◌<◌, Bool, false, ◌^◌, ◌≤◌, true, List, [], ◌∷◌, length, IfSome, min, Option, Some, refl, sym, subst, inl, arith}
+use Rattle.std.proofs.Common.{◌≡◌, ℕ, ◌<◌, Bool, false, ◌^◌, ◌≤◌, true, List, [], length, IfSome, min, Option, Some, refl, sym, subst, inl, arith}
 use Rattle.std.specs.List.{AllByRecursion}
 use Rattle.std.proofs.Math.Nat.{pow-le-pow_right}
 use Rattle.osi_tpkt.specs.Octets.{IsOctets}

@@ -7,7 +7,7 @@ use Rattle.osi_class.specs.Link.{Standing}
 use Rattle.osi_carrier.specs.Addresses.{reference_of}
 use Rattle.osi_carrier.specs.Between.{answers_in}
 use Rattle.osi_carrier.specs.Calls.{may_connect, asks, sent, closed_with}
-use Rattle.osi_carrier.specs.Course.{Place, was_given, place_at, IsTsap, Course, unasked, asking, accepting, withdrawing, met, at_end}
+use Rattle.osi_carrier.specs.Course.{was_given, place_at, IsTsap, Course, unasked, asking, accepting, withdrawing, met, at_end}
 use Rattle.osi_carrier.specs.Happenings.{Happening}
 use Rattle.osi_carrier.specs.Joined.{AreJoined, CallerDid, CalledDid}
 use Rattle.osi_carrier.specs.Meeting.{Meeting, mirror, here, talking, left_here, left_there, left_both, waiting_here, waiting_there, parted}

@@ -1,29 +1,28 @@
 -- What a caller's and a called end's carrier do of which the called end refuses each CR.
-use Rattle.std.proofs.Common.{◌≡◌, ◌≢◌, ℕ, ◌+◌, ◌<◌, ◌≤◌, ◌==◌, Bool, true, false, List, [], ◌∷◌, ◌++◌, length, Option, Some, None, is_some, refl, sym, ap, subst, ◌∙◌, inl, arith, nat_lt, if◌then◌else◌}
+use Rattle.std.proofs.Common.{◌≡◌, ℕ, ◌+◌, ◌<◌, ◌==◌, Bool, true, false, List, [], ◌∷◌, ◌++◌, length, Option, Some, None, refl, sym, ap, subst, ◌∙◌, inl, arith, nat_lt, if◌then◌else◌}
 use Rattle.std.specs.List.{flat_map}
-use Rattle.std.proofs.lemmas.Bool.{eq-eqb, lt-ltb}
+use Rattle.std.proofs.lemmas.Bool.{eq-eqb}
 use Rattle.std.proofs.lemmas.List.{append-nil}
 use Rattle.osi_tpkt.specs.Octets.{IsOctets}
 use Rattle.osi_tpdu.specs.Value.{Value, Connect, request, disconnect}
 use Rattle.osi_class.specs.Between.{IsShortTsdu}
 use Rattle.osi_class.specs.Link.{Standing}
-use Rattle.osi_class.specs.Negotiation.{Selection, refuse, selected_by}
+use Rattle.osi_class.specs.Negotiation.{Selection}
 use Rattle.osi_class.specs.declared.terms.Class.{Class}
-use Rattle.osi_class.specs.declared.terms.Local.{Local}
 use Rattle.osi_carrier.specs.Addresses.{reference_of, units_of, AreFor}
 use Rattle.osi_carrier.specs.Between.{answers_in, told_of}
 use Rattle.osi_carrier.specs.Calls.{may_connect, class_error, asks, sent}
 use Rattle.osi_carrier.specs.Course.{Place, never, was_given, place_at, connection_in, IsTsap, BringsTo}
-use Rattle.osi_carrier.specs.Happenings.{Happening, refused}
+use Rattle.osi_carrier.specs.Happenings.{Happening}
 use Rattle.osi_carrier.specs.Joined.{under_way_for}
 use Rattle.osi_carrier.specs.Messages.{Message, ask, deny, message, messages_to}
 use Rattle.osi_carrier.specs.Negotiation.{proposal}
-use Rattle.osi_carrier.specs.Progress.{Brings, not_yet, awaiting}
-use Rattle.osi_carrier.specs.React.{react, in_class, before_class, to_connection, to_asked, answers_request, answers, denies, has_peer, is_full}
+use Rattle.osi_carrier.specs.Progress.{not_yet, awaiting}
+use Rattle.osi_carrier.specs.React.{react, in_class, before_class, to_connection, to_asked, answers, denies, has_peer, is_full}
 use Rattle.osi_carrier.specs.Refusing.{Refusal, unasked, asking, denied, rows_in, denying, from_end, Holds, AreRefusing}
 use Rattle.osi_carrier.specs.Rows.{Rows, value_at, without}
 use Rattle.osi_carrier.specs.State.{Connection, asked, linked, State, packets}
-use Rattle.osi_carrier.specs.Terms.{Terms, refusing, terms_of, IsProposed}
+use Rattle.osi_carrier.specs.Terms.{refusing, IsProposed}
 use Rattle.osi_carrier.proofs.Acting.{JoinedAt, Does}
 use Rattle.osi_carrier.proofs.Addressing.{units_same}
 use Rattle.osi_carrier.proofs.AtReferences.{without_other}

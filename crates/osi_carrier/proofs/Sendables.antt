@@ -1,10 +1,10 @@
 -- The units that carriers write for each other go into packets.
-use Rattle.std.proofs.Common.{◌≡◌, ℕ, ◌+◌, ◌<◌, ◌≤◌, Bool, true, false, List, [], ◌∷◌, ◌++◌, length, map, Option, Some, None, IfSome, refl, sym, ap, ◌∙◌, arith, length-append}
+use Rattle.std.proofs.Common.{◌≡◌, ℕ, ◌+◌, ◌<◌, ◌≤◌, List, [], ◌∷◌, ◌++◌, length, Option, Some, None, IfSome, ap, ◌∙◌, arith, length-append}
 use Rattle.std.specs.List.{flat_map, AllByRecursion}
 use Rattle.std.proofs.lemmas.Grind.{flat_map-append}
 use Rattle.osi_tpkt.specs.Octets.{IsOctets}
 use Rattle.osi_tpdu.specs.Spelling.{Item, item_octets, single}
-use Rattle.osi_tpdu.specs.Value.{Value, Connect, Parameters, IsConnect, request, confirm, disconnect, disconnected}
+use Rattle.osi_tpdu.specs.Value.{Connect, Parameters, IsConnect, request, confirm, disconnect, disconnected}
 use Rattle.osi_tpdu.specs.Writing.{items_of, written_items}
 use Rattle.osi_class.specs.Link.{Given, part0, part2, ack, unit_of}
 use Rattle.osi_class.specs.Sound.{HasGivenInRange}

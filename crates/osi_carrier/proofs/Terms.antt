@@ -1,5 +1,5 @@
 -- Whatever two carriers come to: how they begin, and what is asked of them.
-use Rattle.std.proofs.Common.{◌≡◌, ℕ, ◌≤◌, Bool, true, false, not, List, [], ◌++◌, length, Option, None, IfSome, refl, ap, ◌∙◌, sym, arith}
+use Rattle.std.proofs.Common.{◌≡◌, ◌≤◌, true, false, not, [], length, None, IfSome, refl, arith}
 use Rattle.osi_tpkt.proofs.Fronts.{empty_partial}
 use Rattle.osi_class.specs.declared.terms.Local.{Local}
 use Rattle.osi_carrier.specs.Between.{side, reach_of, arriving, last_of, units_from, lost_from, IsOnTheWay, AreJoinedBy, AreBetween, fresh_both, fresh_between}

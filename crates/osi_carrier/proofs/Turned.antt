@@ -12,7 +12,7 @@ use Rattle.osi_class.specs.Giving.{all_given}
 use Rattle.osi_class.specs.Joining.{Joining, joined, with_part}
 use Rattle.osi_class.specs.Link.{Standing, Given, part0, part2, ack, taken, taken_by, taken_flow, unit_of, with_tsdu, with_joined, with_sender}
 use Rattle.osi_class.specs.Runs.{hand_in, give_out, take_in, hand_out, MovesAlong}
-use Rattle.osi_class.specs.Sound.{IsSound, HasGivenInRange}
+use Rattle.osi_class.specs.Sound.{HasGivenInRange}
 use Rattle.osi_class.specs.declared.faults.LinkFault.{LinkFault}
 use Rattle.osi_class.specs.declared.faults.LinkFault.TheVariants.{TsduTooLong, OutOfSequence}
 use Rattle.osi_class.specs.declared.limits.TheConstants.{LONGEST_TSDU}

@@ -1,5 +1,5 @@
 -- Two carriers that come to class 0: each unit that is taken, and each call.
-use Rattle.std.proofs.Common.{◌≡◌, ◌≢◌, ℕ, ◌+◌, ◌<◌, ◌==◌, Bool, true, false, List, [], ◌∷◌, ◌++◌, map, Option, Some, None, is_some, refl, sym, ap, subst, ◌∙◌, arith, if◌then◌else◌}
+use Rattle.std.proofs.Common.{◌≡◌, ℕ, ◌==◌, Bool, true, false, List, [], ◌∷◌, ◌++◌, map, Option, Some, None, is_some, refl, sym, ap, subst, ◌∙◌, arith, if◌then◌else◌}
 use Rattle.std.proofs.lemmas.Bool.{eqb-true}
 use Rattle.std.proofs.lemmas.List.{append-nil, append_cancel_left, map-append}
 use Rattle.osi_tpkt.specs.Octets.{IsOctets}
@@ -10,19 +10,19 @@ use Rattle.osi_class.specs.Link.{Standing, Given, part0, part2, ack, unit_of, wi
 use Rattle.osi_class.specs.declared.terms.Class.{Class}
 use Rattle.osi_class.specs.declared.terms.Class.TheVariants.{Zero}
 use Rattle.osi_class.specs.declared.terms.Local.{Local}
-use Rattle.osi_carrier.specs.Addresses.{reference_of, AreFor}
+use Rattle.osi_carrier.specs.Addresses.{reference_of}
 use Rattle.osi_carrier.specs.Between.{answers_in}
 use Rattle.osi_carrier.specs.Calls.{sent, sent_on, closes, closed_with, closed_on, link_of, open_link}
 use Rattle.osi_carrier.specs.Course.{Place, never, was_given, place_at, connection_in, answers_at}
 use Rattle.osi_carrier.specs.Happenings.{Happening}
 use Rattle.osi_carrier.specs.Joined.{under_way_for}
-use Rattle.osi_carrier.specs.Meeting.{addressed, answers_of}
+use Rattle.osi_carrier.specs.Meeting.{addressed}
 use Rattle.osi_carrier.specs.Messages.{Message, agree, message, messages_after, uncut_units}
 use Rattle.osi_carrier.specs.OpenLinks.{AreOpen, after_send}
 use Rattle.osi_carrier.specs.Pump.{pumped}
 use Rattle.osi_carrier.specs.React.{react, pumps}
-use Rattle.osi_carrier.specs.Rows.{Rows, value_at}
-use Rattle.osi_carrier.specs.State.{Connection, asked, linked, State, packets, ends}
+use Rattle.osi_carrier.specs.Rows.{value_at}
+use Rattle.osi_carrier.specs.State.{Connection, asked, linked, State, ends}
 use Rattle.osi_carrier.specs.Terms.{by_zero, terms_of}
 use Rattle.osi_carrier.specs.Zero.{ZeroCourse, unasked, asking, accepting, talking, answer_of, at_end, from_end, IsAccepted, Holds, HasOne, AreJoinedZero}
 use Rattle.osi_carrier.specs.declared.ends.EndReason.{EndReason}

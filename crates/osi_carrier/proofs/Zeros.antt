@@ -1,48 +1,43 @@
 -- What a caller's and a called end's carrier do that come to class 0.
-use Rattle.std.proofs.Common.{◌≡◌, ◌≢◌, ℕ, ◌+◌, ◌<◌, ◌==◌, Bool, true, false, not, ◌||◌, ◌&&◌, List, [], ◌∷◌, ◌++◌, length, map, take, Option, Some, None, is_some, Result, Ok, refl, sym, ap, subst, ◌∙◌, inl, arith, nat_lt, if◌then◌else◌}
-use Rattle.std.specs.List.{flat_map, AllByRecursion}
-use Rattle.std.proofs.lemmas.Bool.{eqb-true}
+use Rattle.std.proofs.Common.{◌≡◌, ◌≢◌, ℕ, ◌+◌, Bool, true, false, not, List, [], ◌∷◌, ◌++◌, length, map, take, Option, Some, None, is_some, Result, Ok, refl, sym, ap, subst, ◌∙◌, inl, arith, nat_lt, if◌then◌else◌}
+use Rattle.std.specs.List.{flat_map}
 use Rattle.std.proofs.lemmas.List.{append-nil, map-append}
 use Rattle.osi_tpkt.specs.Octets.{IsOctets}
 use Rattle.osi_tpdu.specs.Value.{Value, Connect, request, confirm}
-use Rattle.osi_class.specs.Between.{LinkPair, swapped, opened_pair, under_way, IsShortTsdu}
+use Rattle.osi_class.specs.Between.{LinkPair, opened_pair, under_way, IsShortTsdu}
 use Rattle.osi_class.specs.Giving.{all_given}
 use Rattle.osi_class.specs.Link.{Standing, Given, part0, part2, ack, unit_of, taken, with_tsdu}
 use Rattle.osi_class.specs.Negotiation.{Selection, accept, selected_by, selected_size}
 use Rattle.osi_class.specs.declared.faults.LinkFault.{LinkFault}
 use Rattle.osi_class.specs.declared.terms.Class.{Class}
 use Rattle.osi_class.specs.declared.terms.Class.TheVariants.{Zero}
-use Rattle.osi_class.specs.declared.terms.Local.{Local}
 use Rattle.osi_carrier.specs.Addresses.{reference_of, units_of, AreFor}
-use Rattle.osi_carrier.specs.Between.{answers_in, told_of}
-use Rattle.osi_carrier.specs.Calls.{may_connect, class_error, room_error, or_else, asks, sent, sent_on, closed_with, closed_on, open_link}
-use Rattle.osi_carrier.specs.Course.{Place, never, was_given, place_at, connection_in, IsTsap, BringsTo, told_opening, answers_at}
+use Rattle.osi_carrier.specs.Between.{told_of}
+use Rattle.osi_carrier.specs.Calls.{may_connect, class_error, room_error, or_else, asks, sent, sent_on}
+use Rattle.osi_carrier.specs.Course.{Place, never, was_given, place_at, connection_in, IsTsap, BringsTo, told_opening}
 use Rattle.osi_carrier.specs.Happenings.{Happening, opened, tsdu}
 use Rattle.osi_carrier.specs.Joined.{under_way_for}
-use Rattle.osi_carrier.specs.Meeting.{addressed, told_open}
-use Rattle.osi_carrier.specs.Messages.{Message, ask, agree, message, messages_to, messages_after, uncut_units, AreLike}
+use Rattle.osi_carrier.specs.Meeting.{addressed}
+use Rattle.osi_carrier.specs.Messages.{Message, ask, agree, message, messages_to, messages_after, uncut_units}
 use Rattle.osi_carrier.specs.Negotiation.{proposal, acceptance, opened_link, agreed_size, confirmed}
-use Rattle.osi_carrier.specs.OpenLinks.{AreOpen, after_take, after_send, LeftTakes}
-use Rattle.osi_carrier.specs.Progress.{Brings, not_yet, awaiting, in_use}
+use Rattle.osi_carrier.specs.OpenLinks.{AreOpen, after_take, after_send}
+use Rattle.osi_carrier.specs.Progress.{not_yet, awaiting}
 use Rattle.osi_carrier.specs.Pump.{pumped}
-use Rattle.osi_carrier.specs.React.{react, in_class, in_zero, to_only, to_reference, to_connection, taking, settles, pumps, handed_out, answers_request, answers, accepts, opens, has_peer, is_full}
+use Rattle.osi_carrier.specs.React.{react, in_class, in_zero, to_only, to_connection, taking, settles, pumps, handed_out, answers, accepts, opens, has_peer, is_full}
 use Rattle.osi_carrier.specs.Rows.{Rows, value_at, put}
-use Rattle.osi_carrier.specs.State.{Connection, asked, linked, State, packets, ends}
+use Rattle.osi_carrier.specs.State.{Connection, asked, linked, State, packets}
 use Rattle.osi_carrier.specs.Terms.{by_zero, terms_of, IsProposed}
-use Rattle.osi_carrier.specs.Zero.{ZeroCourse, unasked, asking, accepting, talking, answer_of, at_end, from_end, IsAccepted, Holds, rows_in, given_in, class_in, HasOne, AreJoinedZero}
-use Rattle.osi_carrier.specs.declared.ends.EndReason.{EndReason}
-use Rattle.osi_carrier.specs.declared.ends.EndReason.TheVariants.{Closed}
+use Rattle.osi_carrier.specs.Zero.{ZeroCourse, unasked, asking, accepting, talking, answer_of, at_end, from_end, IsAccepted, rows_in, given_in, class_in, HasOne, AreJoinedZero}
 use Rattle.osi_carrier.specs.declared.faults.OpenError.{OpenError}
 use Rattle.osi_carrier.specs.declared.faults.OpenError.TheVariants.{NotCaller, Ended}
-use Rattle.osi_carrier.proofs.Acting.{JoinedAt, Does, Steps}
-use Rattle.osi_carrier.proofs.Addressing.{units_join, units_same}
+use Rattle.osi_carrier.proofs.Acting.{Does, Steps}
+use Rattle.osi_carrier.proofs.Addressing.{units_same}
 use Rattle.osi_carrier.proofs.AtReferences.{put_other}
 use Rattle.osi_carrier.proofs.Bringing.{same_like, brings_none, brings_sent, brings_given}
 use Rattle.osi_carrier.proofs.Changes.{linked_takes, open_is_linked}
 use Rattle.osi_carrier.proofs.CourseOpening.{push_places, react_request, confirm_to}
 use Rattle.osi_carrier.proofs.MeetingMessages.{pair_messages, told_tsdus}
-use Rattle.osi_carrier.proofs.Meetings.{open_mirror, addressed_join}
-use Rattle.osi_carrier.proofs.Linked.{with_queues}
+use Rattle.osi_carrier.proofs.Meetings.{addressed_join}
 use Rattle.osi_carrier.proofs.Proposals.{proposal_sendable, proposed_source, source_is, selects_zero, confirms_zero, answer_zero_sendable, opens_zero}
 use Rattle.osi_carrier.proofs.Reacts.{react_quiet}
 use Rattle.osi_carrier.proofs.Selecting.{has_room}

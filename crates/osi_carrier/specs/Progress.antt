@@ -1,6 +1,6 @@
 -- How far a connection is at an end, and what the messages that arrive there and those that are put
 -- there do to that.
-use Rattle.std.specs.Prelude.{◌≡◌, ℕ, Bool, true, false, List, [], ◌∷◌, ◌++◌, Option, Some, None}
+use Rattle.std.specs.Prelude.{◌≡◌, Bool, true, false, List, [], ◌∷◌, ◌++◌, Option, Some, None}
 use Rattle.std.specs.List.{AllByRecursion}
 use Rattle.osi_tpdu.specs.Value.{Value}
 use Rattle.osi_carrier.specs.Messages.{Message, ask, agree, deny, message, bye, over, begun_at, messages_after, AreLike}

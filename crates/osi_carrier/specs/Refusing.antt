@@ -1,6 +1,6 @@
 -- A caller's and a called end's carrier of which the called end refuses each CR, and the units between
 -- them: one connection at a time is asked for.
-use Rattle.std.specs.Prelude.{◌≡◌, ℕ, ◌<◌, ◌≤◌, Bool, true, false, List, [], ◌∷◌, Option, Some, None}
+use Rattle.std.specs.Prelude.{◌≡◌, ℕ, ◌<◌, ◌≤◌, Bool, true, false, List, [], ◌∷◌, None}
 use Rattle.osi_tpdu.specs.Value.{Value, Connect, request, disconnect}
 use Rattle.osi_carrier.specs.Rows.{Rows}
 use Rattle.osi_carrier.specs.State.{Connection, asked, State}
