@@ -2,7 +2,7 @@ use crate::tokens::Tokens;
 use osi_spdu::{Requirements, ResyncType, Selector, Serial, TokenSetting};
 
 /// A session unit, with the fields that have a meaning here (X.225 section 8).
-#[derive(Clone, Copy, Debug)]
+#[derive(Clone, Copy)]
 pub enum Message<'a> {
     /// Connect (CN).
     Connect {

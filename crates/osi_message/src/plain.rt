@@ -24,7 +24,7 @@ const MINOR_ACK: u8 = 0x32;
 const NUMBER: u8 = 0x2A;
 
 /// The most frequent messages.
-#[derive(Clone, Copy, Debug)]
+#[derive(Clone, Copy)]
 pub enum PlainUnit<'a> {
     /// Data transfer (DT).
     Data {
