@@ -10,7 +10,6 @@ use Rattle.osi_machine.specs.Channels.{Fits, flush, heard, hears, heard_view, da
 use Rattle.osi_machine.specs.Core.{Party, Core, answered}
 use Rattle.osi_machine.specs.Parties.{is_opening, IsFresh, AreConsistent}
 use Rattle.osi_machine.proofs.PhaseLaws.{implied, excluded, implied_two}
-use Rattle.osi_machine.proofs.Passed.{passed}
 use Rattle.osi_machine.proofs.Units.{next_acted}
 use Rattle.osi_machine.proofs.ChannelLaws.{fit_append, flush_append, heard_append, view_append, data_append}
 use Rattle.osi_machine.proofs.Tokens.{none_held}
@@ -306,7 +305,7 @@ all_kept w u n a o q c = record {
 pub accept_stands : SessionLaws → (w : Core) (u n : ℕ) (a : Sides) (o : List ℕ) (g : Granted) → HasSerial (Accept u n a o)
     → allowed w.own.session (Accept u n a o) ≡ Ok g → Stands w → Stands (answered w (Accept u n a o) (Ok g))
 accept_stands laws w u n a o g small e s =
-    let p = passed w.own.session (Accept u n a o) g e in
+    let p = laws.passed w.own.session (Accept u n a o) g e in
     let c = answered_kept laws w (Accept u n a o) (Ok g) small e s.consistent in
     let tests = and_parts (units_within (functional_units u) w.own.session.units) (is_profile u) p.needed.0 in
     let q : Accepts w u = record { answering = p.phase; within = tests.0; profile = profile_of u tests.1; all = s } in

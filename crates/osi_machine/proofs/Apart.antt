@@ -7,24 +7,7 @@ use Rattle.osi_machine.specs.Core.{Offer, Side, Left, Right}
 use Rattle.osi_machine.specs.Worlds.{Class, class_0, class_2, Message, World, session_of, after_answer, Taking, message_taken, closed}
 use Rattle.osi_machine.specs.Machine.{Ending, closed_here, Refusal, Step, connects, calls, delivers, Machine, connection_at, replaced, with_connection, seen_from, end_of, stays, noted, is_given, error_of, call_answered, shown_at, refusal, asked_in, call_in, side_of, marked_ended, after_end, closes_by, after_taking, without_first, learns, taken_in, delivered_to, step}
 use Rattle.osi_machine.specs.Runs.{AreApart}
-
-replaced_other : (k r : ℕ) (ws : List World) (v : World) → (k ≡ r → ⊥) → slice_get (replaced r v ws) k ≡ slice_get ws k
-replaced_other k r [] v n = refl
-replaced_other zero zero (w ∷ ws) v n = absurd (n refl)
-replaced_other (suc k) zero (w ∷ ws) v n = refl
-replaced_other zero (suc r) (w ∷ ws) v n = refl
-replaced_other (suc k) (suc r) (w ∷ ws) v n = replaced_other k r ws v (λ e. n (ap suc e))
-
-with_other : (k r : ℕ) (ws : List World) (v : World) → (k ≡ r → ⊥) → connection_at k (with_connection r v ws) ≡ connection_at k ws
-with_other zero zero ws v n = refl
-with_other (suc k) zero ws v n = refl
-with_other zero (suc r) ws v n = refl
-with_other (suc k) (suc r) ws v n = replaced_other k r ws v (λ e. n (ap suc e))
-
-there_still : (k : ℕ) (ws vs : List World) (w : World) → slice_get ws k ≡ Some w → slice_get (ws ++ vs) k ≡ Some w
-there_still k [] vs w e = absurd (cc)
-there_still zero (x ∷ ws) vs w e = e
-there_still (suc k) (x ∷ ws) vs w e = there_still k ws vs w e
+use Rattle.osi_machine.proofs.Places.{with_other, there_still}
 
 asked_other : (m : Machine) (o : Offer) (a : Option Refusal) (k : ℕ) (w : World) → connection_at k m.worlds ≡ Some w → connection_at k (asked_in m o a).worlds ≡ Some w
 asked_other m o (Some e) k w f = f

@@ -9,7 +9,6 @@ use Rattle.osi_machine.specs.Channels.{is_plain, AllFit, heard_view, stops, need
 use Rattle.osi_machine.specs.Core.{Core, answered}
 use Rattle.osi_machine.specs.Parties.{is_opening, AreConsistent}
 use Rattle.osi_machine.proofs.PhaseLaws.{implied, excluded, implied_two}
-use Rattle.osi_machine.proofs.Passed.{passed}
 use Rattle.osi_machine.proofs.Units.{next_cases, next_hears}
 use Rattle.osi_machine.proofs.ChannelLaws.{kept_heard, heard_flush}
 use Rattle.osi_machine.proofs.Begun.{flush_open, heard_open}
@@ -306,7 +305,7 @@ confirm_sending w n octets k h = record {
 pub minor_confirm_stands : SessionLaws → (w : Core) (n : ℕ) (octets : List ℕ) (g : Granted) → HasSerial (MinorConfirm n octets)
     → allowed w.own.session (MinorConfirm n octets) ≡ Ok g → Stands w → Stands (answered w (MinorConfirm n octets) (Ok g))
 minor_confirm_stands laws w n octets g small e h =
-    let q = passed w.own.session (MinorConfirm n octets) g e in
+    let q = laws.passed w.own.session (MinorConfirm n octets) g e in
     let c = answered_kept laws w (MinorConfirm n octets) (Ok g) small e h.consistent in
     let a = and_parts w.own.session.numbers.answers (nat_le w.own.session.numbers.confirmed n && nat_lt n w.own.session.numbers.next) q.needed.1.0 in
     let b = and_parts (nat_le w.own.session.numbers.confirmed n) (nat_lt n w.own.session.numbers.next) a.1 in
@@ -449,7 +448,7 @@ major_due_is _ h = absurd (cc)
 pub major_confirm_stands : SessionLaws → (w : Core) (octets : List ℕ) (g : Granted) → allowed w.own.session (MajorConfirm octets) ≡ Ok g → Stands w
     → Stands (answered w (MajorConfirm octets) (Ok g))
 major_confirm_stands laws w octets g e h =
-    let q = passed w.own.session (MajorConfirm octets) g e in
+    let q = laws.passed w.own.session (MajorConfirm octets) g e in
     let c = answered_kept laws w (MajorConfirm octets) (Ok g) tt e h.consistent in
     let k : Owes w.own.session = record { phase = major_due_is w.own.session.phase q.phase; answers = h.consistent.own.major q.phase } in
     subst (λ (r : Granted). Stands (answered w (MajorConfirm octets) (Ok r))) (sym q.gives)

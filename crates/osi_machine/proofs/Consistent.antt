@@ -7,7 +7,7 @@ use Rattle.osi_machine.specs.Taking.{seen, got_in}
 use Rattle.osi_machine.specs.Core.{Party, speaks, view_called, party_taking}
 use Rattle.osi_machine.specs.Parties.{is_opening, IsConsistent}
 use Rattle.osi_machine.proofs.PhaseLaws.{implied, excluded}
-use Rattle.osi_machine.proofs.Passed.{AllHold}
+use Rattle.osi_session.specs.Allowed.{AllHold}
 use Rattle.osi_machine.proofs.Acting.{unit_cases}
 use Rattle.osi_machine.proofs.HistoryLaws.{points_append, points_cut}
 

@@ -1,10 +1,10 @@
 -- Every step of the core keeps what is true of each side by itself.
 use Rattle.std.proofs.Common.{◌≡◌, refl, sym, subst, ℕ, ◌<◌, Bool, true, false, if◌then◌else◌, List, [], ◌∷◌, ◌++◌, Some, None, Ok, Err, arith}
 use Rattle.std.specs.List.{AllByRecursion}
+use Rattle.osi_session.specs.Allowed.{Passed}
 use Rattle.osi_machine.specs.Floor.{State, Granted, Answer, Call, HasSerial, Meaning, Outcome, IsNumbered, IsSmall, IsSound, AreOrdered, allowed, respond_unit, alone, respond, after, Input, call_input, taken_input, Standing, call_move, after_inputs, react, HasNumbers, IsSendable, functional_units, has_points, from_base}
 use Rattle.osi_machine.specs.Core.{Party, Core, CoreStep, call_at, take_at, Side, Left, Right, Offer, turned, stays_in_core, party_called, answered, called, party_taking, taking, takes, at_side, core_step, core_run, offer_sent, core_start}
 use Rattle.osi_machine.specs.Parties.{IsConsistent, AreConsistent, IsNumberedStep}
-use Rattle.osi_machine.proofs.Passed.{passed}
 use Rattle.osi_machine.proofs.Consistent.{Lines, lines_of, consistent, call_lines, taken_lines}
 
 -- what is proved of one session
@@ -12,6 +12,7 @@ pub record SessionLaws : Type 0 where
   pub sound : (s : Standing) (inputs : List Input) → AllByRecursion HasNumbers inputs → IsSound s.state → IsSound (after_inputs s inputs).state
   pub sendable : (s : State) (c : Call) (g : Granted) → IsSound s → HasSerial c → allowed s c ≡ Ok g → IsSendable g.sent
   pub one_unit : (s : State) (u : Meaning) → respond s (alone u) ≡ respond_unit s u
+  pub passed : (s : State) (c : Call) (g : Granted) → allowed s c ≡ Ok g → Passed s c g
 
 abbrev standing : State → Standing
 standing s = record { state = s; waiting = None }
@@ -34,7 +35,7 @@ small_append (v ∷ us) u h k = (h.0, small_append us u h.1 k)
 
 pub call_kept : SessionLaws → (x : Party) (c : Call) (g : Granted) → HasSerial c → allowed x.session c ≡ Ok g → IsConsistent x → IsConsistent (party_called x c g)
 call_kept laws x c g small e h =
-    let q = passed x.session c g e in
+    let q = laws.passed x.session c g e in
     let sound = sound_call laws x.session c g small e h.sound in
     let lines = call_lines x.session c x.view x.said x.got q.phase q.needed h.sound (lines_of x h) in
     consistent (party_called x c g) sound

@@ -9,7 +9,6 @@ use Rattle.osi_machine.specs.Channels.{AllFit, flush, heard, hears, view_next, h
 use Rattle.osi_machine.specs.Core.{Party, Core, answered}
 use Rattle.osi_machine.specs.Parties.{is_opening, IsConsistent, AreConsistent}
 use Rattle.osi_machine.proofs.PhaseLaws.{implied, excluded, implied_two}
-use Rattle.osi_machine.proofs.Passed.{passed}
 use Rattle.osi_machine.proofs.ChannelLaws.{fit_append, hears_kept, due_end, heard_flush, view_append, data_append}
 use Rattle.osi_machine.proofs.HistoryLaws.{cut_append}
 use Rattle.osi_machine.proofs.Tokens.{Holds, nothing_to_see}
@@ -197,7 +196,7 @@ all_kept w octets ready has h c =
 pub data_stands : SessionLaws → (w : Core) (octets : List ℕ) (g : Granted) → allowed w.own.session (Data octets) ≡ Ok g → Stands w
     → Stands (answered w (Data octets) (Ok g))
 data_stands laws w octets g e h =
-    let q = passed w.own.session (Data octets) g e in
+    let q = laws.passed w.own.session (Data octets) g e in
     let c = answered_kept laws w (Data octets) (Ok g) tt e h.consistent in
     subst (λ (r : Granted). Stands (answered w (Data octets) (Ok r))) (sym q.gives)
     (all_kept w octets q.phase q.needed.0 h (subst (λ (r : Granted). AreConsistent (answered w (Data octets) (Ok r))) q.gives c))

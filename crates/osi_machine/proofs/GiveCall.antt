@@ -8,7 +8,6 @@ use Rattle.osi_machine.specs.Channels.{Fits, flush, heard, hears, heard_view, da
 use Rattle.osi_machine.specs.Core.{Party, Core, answered}
 use Rattle.osi_machine.specs.Parties.{is_opening, AreConsistent}
 use Rattle.osi_machine.proofs.PhaseLaws.{implied, excluded, implied_two}
-use Rattle.osi_machine.proofs.Passed.{passed}
 use Rattle.osi_machine.proofs.Units.{next_cases, next_acted, next_dropped}
 use Rattle.osi_machine.proofs.ChannelLaws.{fit_append, flush_append, heard_flush, heard_append, data_append, Runs, alike, alike_view}
 use Rattle.osi_machine.proofs.Tokens.{united_has, without_has}
@@ -355,7 +354,7 @@ not_true false h = refl
 
 pub give_stands : SessionLaws → (w : Core) (k : Tokens) (g : Granted) → allowed w.own.session (Give k) ≡ Ok g → Stands w → Stands (answered w (Give k) (Ok g))
 give_stands laws w k g e h =
-    let q = passed w.own.session (Give k) g e in
+    let q = laws.passed w.own.session (Give k) g e in
     let c = answered_kept laws w (Give k) (Ok g) tt e h.consistent in
     let giving : Giving w k = record { phase = q.phase; selected = q.needed.0; held = q.needed.1.0; one = not_true (is_empty k) q.needed.1.1.0 } in
     subst (λ (r : Granted). Stands (answered w (Give k) (Ok r))) (sym q.gives)

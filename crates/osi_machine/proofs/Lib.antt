@@ -26,8 +26,8 @@ pub mod MachineLaws
 pub mod NumberLaws
 pub mod OffersTold
 pub mod Opening
-pub mod Passed
 pub mod PhaseLaws
+pub mod Places
 pub mod PleaseCall
 pub mod PointCall
 pub mod Profiles

@@ -6,11 +6,12 @@ use Rattle.osi_session.specs.Shown.{Shown}
 use Rattle.osi_machine.specs.Floor.{CallError, Call, HasSerial, allowed, is_profile}
 use Rattle.osi_machine.specs.Core.{Offer, Side, Left, Right}
 use Rattle.osi_machine.specs.Worlds.{Class, class_0, class_2, Message, Transport, World, session_of, asked_with, after_answer, Terms, closed, ended_at, shown_at_end}
-use Rattle.osi_machine.specs.Machine.{Ending, closed_here, Refusal, Step, connects, calls, delivers, breaks, ends, Entry, connect_answered, call_answered, shown_at, ended, Machine, start, connection_at, replaced, seen_from, end_of, stays, noted, is_given, is_waiting, is_known, is_class_0, live_count, refusal_by, transport_of, refusal, asked_in, error_of, call_in, side_of, ended_worlds, shown_in_order, marked_ended, after_end, closes_by, after_taking, learns, taken_in, delivered_to, cut_channels, is_told, step, run, HasNumber}
+use Rattle.osi_machine.specs.Machine.{Ending, closed_here, Refusal, Step, connects, calls, delivers, breaks, ends, Entry, connect_answered, call_answered, shown_at, ended, Machine, start, connection_at, replaced, seen_from, end_of, stays, noted, is_given, is_waiting, is_known, is_class_0, live_count, refusal_by, transport_of, refusal, asked_in, error_of, call_in, side_of, ends_there, ended_worlds, shown_in_order, marked_ended, after_end, closes_by, after_taking, learns, taken_in, delivered_to, cut_channels, is_told, step, run, HasNumber}
 use Rattle.osi_machine.specs.Views.{Told, told_by, is_side, record_of, untold, told_of}
 use Rattle.osi_machine.proofs.Idle.{append_nil}
 use Rattle.osi_machine.proofs.ViewFold.{told_all}
 use Rattle.osi_machine.proofs.ViewRun.{record_append, other}
+use Rattle.osi_machine.proofs.ProjectSteps.{loss_told}
 use Rattle.osi_machine.proofs.Lines.{told_of_call, taking_of, IsKept, IsBy, told_more, told_same, and_no, other_number, call_by, shown_by, other_side, call_own, shown_own, Lines, seen_told, change_line}
 
 -- ---- entries that tell nothing
@@ -188,17 +189,25 @@ early side d n k (w ∷ ws) l =
     (shown_by side k (shown_at_end (seen_from side w)) d n (and_no (is_side d side) (k == n) (other_number k n (λ e. omega arith))))
     ∙ early side d n (k + 1) ws (omega arith)
 
+ends_kept : (terms : Terms) (P : Bool → World → Offer → Told → Told → Type 0) → IsKept terms P → (b : Bool) (w : World) (o : Offer) (s t : Told) (keep : ℕ) → P b w o s t
+    → P b (ends_there keep w) o (told_all s (shown_at_end w)) t
+ends_kept terms P q b w o s t keep h = by (is_given w.own.transport)
+  where
+    by : (g : Bool) → P b (if g then ended_at keep w else w) o (told_all s (shown_at_end w)) t
+    by true = q.ends b w o s t keep h
+    by false = subst (λ (d : Told). P b w o d t) (sym (loss_told s (session_of w))) h
+
 end_lines : (terms : Terms) (P : Bool → World → Offer → Told → Told → Type 0) → IsKept terms P → (b : Bool) (side : Side) (keep : ℕ → ℕ) (j es : List Entry) (k : ℕ) (ws : List World) (os : List Offer)
     → ((d : Side) (n : ℕ) → k ≤ n → record_of d n es ≡ []) → Lines P b j k ws os
     → Lines P b (j ++ (es ++ shown_in_order side k ws)) k (ended_worlds side keep k ws) os
 end_lines terms P q b side keep j es k [] [] f h = tt
 end_lines terms P q b side keep j es k (w ∷ ws) (o ∷ os) f h = (
-  from_side terms P q b side (ended_at (keep k) (seen_from side w)) o (λ d. told_of d k o (j ++ (es ++ (map (shown_at side k) shown ++ rest))))
-      (seen_told P b (ended_at (keep k) (seen_from side w)) o _ _ _ _
+  from_side terms P q b side (ends_there (keep k) (seen_from side w)) o (λ d. told_of d k o (j ++ (es ++ (map (shown_at side k) shown ++ rest))))
+      (seen_told P b (ends_there (keep k) (seen_from side w)) o _ _ _ _
       (sym (told_more side k o j (es ++ (map (shown_at side k) shown ++ rest)) ∙ ap (told_by (told_of side k o j)) (alone side) ∙ shown_own side k (told_of side k o j) shown))
       (sym (told_same (other side) k o j (es ++ (map (shown_at side k) shown ++ rest))
       (alone (other side) ∙ shown_by side k shown (other side) k (ap (λ (c : Bool). c && (k == k)) (other_side side)))))
-      (q.ends b (seen_from side w) o _ _ (keep k) (to_side terms P q b side w o (λ d. told_of d k o j) h.0))),
+      (ends_kept terms P q b (seen_from side w) o _ _ (keep k) (to_side terms P q b side w o (λ d. told_of d k o j) h.0))),
   subst (λ (x : List Entry). Lines P b (j ++ x) (k + 1) (ended_worlds side keep (k + 1) ws) os) (append_assoc es (map (shown_at side k) shown) rest)
       (end_lines terms P q b side keep j (es ++ map (shown_at side k) shown) (k + 1) ws os (λ d n l.
       record_append d n es (map (shown_at side k) shown)

@@ -6,7 +6,7 @@ use Rattle.osi_session.specs.Shown.{Shown, Lost}
 use Rattle.osi_machine.specs.Floor.{CallError, Call, HasSerial, allowed, is_over, is_profile, shows_loss}
 use Rattle.osi_machine.specs.Core.{Offer, Side, Left, Right}
 use Rattle.osi_machine.specs.Worlds.{Class, class_0, class_2, Message, agree, Transport, waiting, World, turned, session_of, asked_with, after_answer, Taking, Terms, accepts, denies, message_taken, closed, ended_at, shown_at_end}
-use Rattle.osi_machine.specs.Machine.{Ending, told_of_break, closed_here, no_memory, Refusal, Step, connects, calls, delivers, breaks, ends, Entry, connect_answered, call_answered, shown_at, ended, Machine, start, connection_at, replaced, with_connection, seen_from, end_of, stays, noted, is_given, is_waiting, is_known, is_class_0, transport_of, live_count, is_long, refusal_by, refusal, asked_in, error_of, call_in, side_of, ended_worlds, shown_in_order, marked_ended, after_end, closes_by, after_taking, without_first, learns, taken_in, delivered_to, cut_channels, is_told, step, run, HasNumber}
+use Rattle.osi_machine.specs.Machine.{Ending, told_of_break, closed_here, no_memory, Refusal, Step, connects, calls, delivers, breaks, ends, Entry, connect_answered, call_answered, shown_at, ended, Machine, start, connection_at, replaced, with_connection, seen_from, end_of, stays, noted, is_given, is_waiting, is_known, is_class_0, transport_of, live_count, is_long, refusal_by, refusal, asked_in, error_of, call_in, side_of, ends_there, ended_worlds, shown_in_order, marked_ended, after_end, closes_by, after_taking, without_first, learns, taken_in, delivered_to, cut_channels, is_told, step, run, HasNumber}
 use Rattle.osi_machine.specs.Views.{Told, is_side}
 use Rattle.osi_machine.specs.Runs.{is_loss, loses, LosesByItsEnd, IsRun}
 use Rattle.osi_machine.proofs.CoreLaws.{SessionLaws}
@@ -72,17 +72,17 @@ one_with zero ws w v e f h = h
 one_with (suc r) ws w v e f h = one_replaced r ws w v e f h
 
 -- each moves alone
-all_ended : (P : World → Type 0) (side : Side) (keep : ℕ → ℕ) (k : ℕ) (ws : List World) → ((n : ℕ) (w : World) → P w → P (seen_from side (ended_at n (seen_from side w)))) → AllOf P ws
+all_ended : (P : World → Type 0) (side : Side) (keep : ℕ → ℕ) (k : ℕ) (ws : List World) → ((n : ℕ) (w : World) → P w → P (seen_from side (ends_there n (seen_from side w)))) → AllOf P ws
     → AllOf P (ended_worlds side keep k ws)
 all_ended P side keep k [] f h = tt
 all_ended P side keep k (w ∷ ws) f h = (f (keep k) w h.0, all_ended P side keep (k + 1) ws f h.1)
 
-all_from : (P Q : World → Type 0) (side : Side) (keep : ℕ → ℕ) (k : ℕ) (ws : List World) → ((n : ℕ) (w : World) → P w → Q (seen_from side (ended_at n (seen_from side w)))) → AllOf P ws
+all_from : (P Q : World → Type 0) (side : Side) (keep : ℕ → ℕ) (k : ℕ) (ws : List World) → ((n : ℕ) (w : World) → P w → Q (seen_from side (ends_there n (seen_from side w)))) → AllOf P ws
     → AllOf Q (ended_worlds side keep k ws)
 all_from P Q side keep k [] f h = tt
 all_from P Q side keep k (w ∷ ws) f h = (f (keep k) w h.0, all_from P Q side keep (k + 1) ws f h.1)
 
-one_ended : (side : Side) (keep : ℕ → ℕ) (k : ℕ) (ws : List World) → ((n : ℕ) (w : World) → IsDead w → IsDead (seen_from side (ended_at n (seen_from side w)))) → OneAlive ws
+one_ended : (side : Side) (keep : ℕ → ℕ) (k : ℕ) (ws : List World) → ((n : ℕ) (w : World) → IsDead w → IsDead (seen_from side (ends_there n (seen_from side w)))) → OneAlive ws
     → OneAlive (ended_worlds side keep k ws)
 one_ended side keep k [] f h = tt
 one_ended side keep k (w ∷ ws) f (inl h) = inl (f (keep k) w h.0, one_ended side keep (k + 1) ws f h.1)
@@ -178,16 +178,33 @@ none_side_takes : (b : Bool) (terms : Terms) (keep : ℕ) (side : Side) (w : Wor
 none_side_takes b (denies r) keep side w x xs e d h = none_takes b r keep (seen_from side w) x xs e (none_side side w h)
 none_side_takes b (accepts class) keep side w x xs e d h = absurd (cc)
 
-dead_side_ends : (side : Side) (n : ℕ) (w : World) → IsDead w → IsDead (seen_from side (ended_at n (seen_from side w)))
-dead_side_ends Left n w h = dead_ends n w h
-dead_side_ends Right n w h = dead_ended n (turned w) (back IsDead w h)
+twice_seen : (P : World → Type 0) (side : Side) (w : World) → P w → P (seen_from side (seen_from side w))
+twice_seen P Left w h = h
+twice_seen P Right w h = back P w h
 
-early_side_ends : (b : Bool) (side : Side) (n : ℕ) (w : World) → StageOf b w × IsEarly w → IsEarly (seen_from side (ended_at n (seen_from side w)))
-early_side_ends b Left n w h = early_ends b n w h.0.own h.0.peer h.0.stage h.1
-early_side_ends b Right n w h = early_ended b n (turned w) h.0.own h.0.peer (back (λ v. Stage b v h.0.own h.0.peer) w h.0.stage) (back IsEarly w h.1)
+ends_or_not : (P : World → Type 0) (side : Side) (n : ℕ) (w : World) → P (seen_from side (ended_at n (seen_from side w))) → P w → P (seen_from side (ends_there n (seen_from side w)))
+ends_or_not P side n w h k = by (is_given (seen_from side w).own.transport)
+  where
+    by : (g : Bool) → P (seen_from side (if g then ended_at n (seen_from side w) else seen_from side w))
+    by true = h
+    by false = twice_seen P side w k
 
-none_side_ends : (side : Side) (n : ℕ) (w : World) → NoAgree w → NoAgree (seen_from side (ended_at n (seen_from side w)))
-none_side_ends side n w h = none_side side (ended_at n (seen_from side w)) (none_ends n (seen_from side w) (none_side side w h))
+dead_ends_at : (side : Side) (n : ℕ) (w : World) → IsDead w → IsDead (seen_from side (ended_at n (seen_from side w)))
+dead_ends_at Left n w h = dead_ends n w h
+dead_ends_at Right n w h = dead_ended n (turned w) (back IsDead w h)
+
+dead_side_ends : (side : Side) (n : ℕ) (w : World) → IsDead w → IsDead (seen_from side (ends_there n (seen_from side w)))
+dead_side_ends side n w h = ends_or_not IsDead side n w (dead_ends_at side n w h) h
+
+early_ends_at : (b : Bool) (side : Side) (n : ℕ) (w : World) → StageOf b w × IsEarly w → IsEarly (seen_from side (ended_at n (seen_from side w)))
+early_ends_at b Left n w h = early_ends b n w h.0.own h.0.peer h.0.stage h.1
+early_ends_at b Right n w h = early_ended b n (turned w) h.0.own h.0.peer (back (λ v. Stage b v h.0.own h.0.peer) w h.0.stage) (back IsEarly w h.1)
+
+early_side_ends : (b : Bool) (side : Side) (n : ℕ) (w : World) → StageOf b w × IsEarly w → IsEarly (seen_from side (ends_there n (seen_from side w)))
+early_side_ends b side n w h = ends_or_not IsEarly side n w (early_ends_at b side n w h) h.1
+
+none_side_ends : (side : Side) (n : ℕ) (w : World) → NoAgree w → NoAgree (seen_from side (ends_there n (seen_from side w)))
+none_side_ends side n w h = ends_or_not NoAgree side n w (none_side side (ended_at n (seen_from side w)) (none_ends n (seen_from side w) (none_side side w h))) h
 
 stages : (b : Bool) (j : List Entry) (k : ℕ) (ws : List World) (os : List Offer) → Lines Whole b j k ws os → AllOf (StageOf b) ws
 stages b j k [] [] h = tt

@@ -7,7 +7,7 @@ use Rattle.osi_session.specs.Shown.{Shown}
 use Rattle.osi_machine.specs.Floor.{CallError, Call, allowed}
 use Rattle.osi_machine.specs.Core.{Offer, Side, Left, Right}
 use Rattle.osi_machine.specs.Worlds.{Class, class_0, class_2, Message, World, session_of, asked_with, after_answer, Taking, Terms, message_taken, closed, ended_at, shown_at_end}
-use Rattle.osi_machine.specs.Machine.{Ending, closed_here, Refusal, Step, connects, calls, delivers, breaks, ends, Entry, connect_answered, call_answered, shown_at, ended, Machine, start, connection_at, replaced, with_connection, seen_from, end_of, stays, noted, is_given, refusal, asked_in, error_of, call_in, side_of, ended_worlds, shown_in_order, marked_ended, after_end, closes_by, after_taking, without_first, learns, taken_in, delivered_to, cut_channels, is_told, step, run}
+use Rattle.osi_machine.specs.Machine.{Ending, closed_here, Refusal, Step, connects, calls, delivers, breaks, ends, Entry, connect_answered, call_answered, shown_at, ended, Machine, start, connection_at, replaced, with_connection, seen_from, end_of, stays, noted, is_given, refusal, asked_in, error_of, call_in, side_of, ends_there, ended_worlds, shown_in_order, marked_ended, after_end, closes_by, after_taking, without_first, learns, taken_in, delivered_to, cut_channels, is_told, step, run}
 use Rattle.osi_machine.specs.AsTables.{offers_in}
 use Rattle.osi_machine.proofs.Idle.{append_nil}
 use Rattle.osi_machine.proofs.Whole.{call_offer, message_offer}
@@ -58,10 +58,17 @@ stays_offered m side r w v e o h = h ∙ sym (with_offers r m.worlds w (seen_fro
 
 -- ---- the end of a side
 
+ends_offer : (keep : ℕ) (w : World) → (ends_there keep w).offer ≡ w.offer
+ends_offer keep w = by (is_given w.own.transport)
+  where
+    by : (g : Bool) → (if g then ended_at keep w else w).offer ≡ w.offer
+    by true = refl
+    by false = refl
+
 ended_offers : (side : Side) (keep : ℕ → ℕ) (r : ℕ) (ws : List World) → map offer_of (ended_worlds side keep r ws) ≡ map offer_of ws
 ended_offers side keep r [] = refl
 ended_offers side keep r (w ∷ ws) =
-    ap (λ (o : Offer). o ∷ map offer_of (ended_worlds side keep (r + 1) ws)) (from_offer side (ended_at (keep r) (seen_from side w)) ∙ from_offer side w)
+    ap (λ (o : Offer). o ∷ map offer_of (ended_worlds side keep (r + 1) ws)) (from_offer side (ends_there (keep r) (seen_from side w)) ∙ ends_offer (keep r) (seen_from side w) ∙ from_offer side w)
     ∙ ap (λ (os : List Offer). w.offer ∷ os) (ended_offers side keep (r + 1) ws)
 
 order_offers : (side : Side) (r : ℕ) (ws : List World) → offers_in (shown_in_order side r ws) ≡ []

@@ -7,7 +7,6 @@ use Rattle.osi_machine.specs.Owners.{turned_owners}
 use Rattle.osi_machine.specs.Channels.{AllFit, heard, hears, heard_view, data_of, needs_token}
 use Rattle.osi_machine.specs.Core.{Party, Core, answered}
 use Rattle.osi_machine.specs.Parties.{AreConsistent}
-use Rattle.osi_machine.proofs.Passed.{passed}
 use Rattle.osi_machine.proofs.ChannelLaws.{fit_append, data_append}
 use Rattle.osi_machine.proofs.CoreLaws.{SessionLaws, answered_kept}
 use Rattle.osi_machine.proofs.Records.{flushed, Views, Pair, Stands}
@@ -77,7 +76,7 @@ all_kept w tokens octets asks within h c =
 pub please_stands : SessionLaws → (w : Core) (tokens : Tokens) (octets : List ℕ) (g : Granted) → allowed w.own.session (Please tokens octets) ≡ Ok g → Stands w
     → Stands (answered w (Please tokens octets) (Ok g))
 please_stands laws w tokens octets g e h =
-    let q = passed w.own.session (Please tokens octets) g e in
+    let q = laws.passed w.own.session (Please tokens octets) g e in
     let c = answered_kept laws w (Please tokens octets) (Ok g) tt e h.consistent in
     subst (λ (r : Granted). Stands (answered w (Please tokens octets) (Ok r))) (sym q.gives)
     (all_kept w tokens octets q.phase q.needed.0 h (subst (λ (r : Granted). AreConsistent (answered w (Please tokens octets) (Ok r))) q.gives c))

@@ -8,7 +8,6 @@ use Rattle.osi_machine.specs.Channels.{is_plain, heard_view, stops, needs_token}
 use Rattle.osi_machine.specs.Core.{Core, answered}
 use Rattle.osi_machine.specs.Parties.{is_opening, AreConsistent}
 use Rattle.osi_machine.proofs.PhaseLaws.{implied, excluded, implied_two}
-use Rattle.osi_machine.proofs.Passed.{passed}
 use Rattle.osi_machine.proofs.Units.{next_dropped}
 use Rattle.osi_machine.proofs.ChannelLaws.{heard_flush}
 use Rattle.osi_machine.proofs.Tokens.{Holds, empty_has, united_has, nothing_to_see, heard_holds}
@@ -424,7 +423,7 @@ same_phase s e = λ i. record s { phase = e i; numbers = point_sent s.numbers }
 pub minor_stands : SessionLaws → (w : Core) (confirm : Bool) (octets : List ℕ) (g : Granted) → allowed w.own.session (Minor confirm octets) ≡ Ok g → Stands w
     → Stands (answered w (Minor confirm octets) (Ok g))
 minor_stands laws w confirm octets g e h =
-    let q = passed w.own.session (Minor confirm octets) g e in
+    let q = laws.passed w.own.session (Minor confirm octets) g e in
     let c = answered_kept laws w (Minor confirm octets) (Ok g) tt e h.consistent in
     let p = and_parts (has_right w.own.session data_token) (has_right w.own.session minor) q.needed.1.0 in
     let a : Points w = record { phase = q.phase; selected = inl q.needed.0; right = right_of w.own.session data_token p.0 } in
@@ -485,7 +484,7 @@ major_sending w octets a sel right right' h = record {
 pub major_stands : SessionLaws → (w : Core) (octets : List ℕ) (g : Granted) → allowed w.own.session (Major octets) ≡ Ok g → Stands w
     → Stands (answered w (Major octets) (Ok g))
 major_stands laws w octets g e h =
-    let q = passed w.own.session (Major octets) g e in
+    let q = laws.passed w.own.session (Major octets) g e in
     let c = answered_kept laws w (Major octets) (Ok g) tt e h.consistent in
     let p = and_parts (has_right w.own.session data_token) (has_right w.own.session minor && has_right w.own.session major) q.needed.1.0 in
     let r = and_parts (has_right w.own.session minor) (has_right w.own.session major) p.1 in

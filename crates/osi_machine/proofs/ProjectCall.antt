@@ -2,13 +2,14 @@
 use Rattle.std.proofs.Common.{◌≡◌, refl, sym, ◌∙◌, ap, subst, ℕ, ◌+◌, ◌≤◌, Bool, true, false, not, ◌||◌, if◌then◌else◌, List, [], ◌∷◌, ◌++◌, append_assoc, map, length, ◌⊎◌, inl, inr, Ok, arith}
 use Rattle.std.proofs.lemmas.List.{length-append, map-append}
 use Rattle.std.specs.List.{list_any}
+use Rattle.osi_session.specs.Allowed.{Passed}
 use Rattle.osi_machine.specs.Floor.{State, Meaning, Token, has, is_over, Call, Accept, Refuse, Give, Major, MajorConfirm, Restart, RestartConfirm, Release, ReleaseAccept, ReleaseRefuse, Abort, Granted, allowed, after, sends, may_call, Numbers}
 use Rattle.osi_machine.specs.Histories.{Item, cutat}
 use Rattle.osi_machine.specs.Owners.{Owner, Own, Theirs, ToOwn, ToThem, Pool, Absent, Owners, is_own, turned_owner, given_up, own_to_pool, left_by}
 use Rattle.osi_machine.specs.Channels.{is_plain}
 use Rattle.osi_machine.specs.Core.{Core, turned, stays_in_core, says, speaks, view_called, owners_called, answered}
 use Rattle.osi_machine.specs.Worlds.{Message, unit, Kept, World, put, mark_called, after_call, turned as turned_world}
-use Rattle.osi_machine.proofs.Passed.{Passed, passed}
+use Rattle.osi_machine.proofs.CoreLaws.{SessionLaws}
 use Rattle.osi_machine.proofs.Records.{Stands}
 use Rattle.osi_machine.proofs.Idle.{append_nil}
 use Rattle.osi_machine.proofs.Promises.{sees_the_history}
@@ -217,10 +218,10 @@ called_peer broken w c x k lives p =
       parted = p.peer.parted;
     }
 
-pub call_projects : (broken : Bool) (w : World) (c : Core) (x : Call) (g : Granted) → stays_in_core x ≡ true → stopped w.own ≡ false → Projects broken w c → Stands c
+pub call_projects : SessionLaws → (broken : Bool) (w : World) (c : Core) (x : Call) (g : Granted) → stays_in_core x ≡ true → stopped w.own ≡ false → Projects broken w c → Stands c
     → allowed c.own.session x ≡ Ok g → Projects broken (after_call broken c.own.session x g w) (answered c x (Ok g))
-call_projects broken w c x g k lives p s e =
-    let q = passed c.own.session x g e in
+call_projects laws broken w c x g k lives p s e =
+    let q = laws.passed c.own.session x g e in
     let same : Passed c.own.session x (granted c.own.session x) = record { phase = q.phase; needed = q.needed; size = q.size; gives = refl } in
     subst (λ (r : Granted). Projects broken (after_call broken c.own.session x r w) (answered c x (Ok r))) (sym q.gives) (record {
       history = ap (λ (h : List Item). h ++ says c.own.session x) p.history;
@@ -272,10 +273,10 @@ stop_mark s (ReleaseAccept x) h mark k = omega arith
 stop_mark s (Abort x) h mark k = omega arith
 stop_mark s _ h mark k = absurd (cc)
 
-pub stop_projects : (broken : Bool) (w : World) (c : Core) (x : Call) (g : Granted) → stays_in_core x ≡ false → stopped w.own ≡ false → Projects broken w c
+pub stop_projects : SessionLaws → (broken : Bool) (w : World) (c : Core) (x : Call) (g : Granted) → stays_in_core x ≡ false → stopped w.own ≡ false → Projects broken w c
     → allowed c.own.session x ≡ Ok g → Projects broken (after_call broken c.own.session x g w) c
-stop_projects broken w c x g k lives p e =
-    let q = passed c.own.session x g e in
+stop_projects laws broken w c x g k lives p e =
+    let q = laws.passed c.own.session x g e in
     let s' = c.own.session in
     let now = stop_over s' x k in
     subst (λ (r : Granted). Projects broken (after_call broken s' x r w) c) (sym q.gives) (record {

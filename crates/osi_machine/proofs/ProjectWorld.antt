@@ -73,14 +73,14 @@ core_answer laws broken w t u x small h l true q (Ok g) e = record {
   core = answered h.core x (Ok g);
   stands = subst (λ (a : Answer). Stands (answered h.core x a)) e
       (subst (λ (b : Bool). Stands (if b then answered h.core x (allowed h.core.own.session x) else h.core)) q (called_stands laws h.core x small h.stands));
-  projects = call_projects broken w h.core x g q l h.projects h.stands e;
-  own = answer_tells h.core x (Ok g) t q e h.stands h.own;
+  projects = call_projects laws broken w h.core x g q l h.projects h.stands e;
+  own = answer_tells laws h.core x (Ok g) t q e h.stands h.own;
   peer = h.peer;
 }
 core_answer laws broken w t u x small h l false q (Ok g) e = record {
   core = h.core;
   stands = h.stands;
-  projects = stop_projects broken w h.core x g q l h.projects e;
+  projects = stop_projects laws broken w h.core x g q l h.projects e;
   own = subst (λ (d : Told). Tells d h.core.own.session h.core.own.view h.core.own.said h.core.own.got) (sym (stop_told t x q)) h.own;
   peer = h.peer;
 }

@@ -9,7 +9,6 @@ use Rattle.osi_machine.specs.Channels.{is_plain, Fits, AllFit, flush, stops, hea
 use Rattle.osi_machine.specs.Core.{Core, answered}
 use Rattle.osi_machine.specs.Parties.{is_opening, AreConsistent}
 use Rattle.osi_machine.proofs.PhaseLaws.{implied, excluded, implied_two}
-use Rattle.osi_machine.proofs.Passed.{passed}
 use Rattle.osi_machine.proofs.Units.{next_cases, fit_cases, next_acted, next_dropped, next_hears}
 use Rattle.osi_machine.proofs.ChannelLaws.{kept_all, kept_heard, heard_flush}
 use Rattle.osi_machine.proofs.Tokens.{each_has}
@@ -402,7 +401,7 @@ release_sending w octets a h = record {
 pub release_stands : SessionLaws → (w : Core) (octets : List ℕ) (g : Granted) → allowed w.own.session (Release octets) ≡ Ok g → Stands w
     → Stands (answered w (Release octets) (Ok g))
 release_stands laws w octets g e h =
-    let q = passed w.own.session (Release octets) g e in
+    let q = laws.passed w.own.session (Release octets) g e in
     let c = answered_kept laws w (Release octets) (Ok g) tt e h.consistent in
     let p = and_parts (each (has_right w.own.session)) (not w.own.session.units.duplex || w.own.session.is_caller) q.needed.0 in
     let a : Asks w = record { phase = q.phase; right = λ t. right_of w.own.session t (each_has (has_right w.own.session) t p.0); caller = p.1 } in
@@ -483,7 +482,7 @@ refusal_sending w octets a h = record {
 pub refuse_stands : SessionLaws → (w : Core) (octets : List ℕ) (g : Granted) → allowed w.own.session (ReleaseRefuse octets) ≡ Ok g → Stands w
     → Stands (answered w (ReleaseRefuse octets) (Ok g))
 refuse_stands laws w octets g e h =
-    let q = passed w.own.session (ReleaseRefuse octets) g e in
+    let q = laws.passed w.own.session (ReleaseRefuse octets) g e in
     let c = answered_kept laws w (ReleaseRefuse octets) (Ok g) tt e h.consistent in
     let a : Refuses w = record { phase = q.phase; selected = q.needed.0 } in
     subst (λ (r : Granted). Stands (answered w (ReleaseRefuse octets) (Ok r))) (sym q.gives)

@@ -10,7 +10,6 @@ use Rattle.osi_machine.specs.Channels.{flush, heard, hears, data_of, needs_token
 use Rattle.osi_machine.specs.Core.{Party, Core, answered}
 use Rattle.osi_machine.specs.Parties.{AreConsistent}
 use Rattle.osi_machine.proofs.PhaseLaws.{excluded, implied_two}
-use Rattle.osi_machine.proofs.Passed.{passed}
 use Rattle.osi_machine.proofs.ChannelLaws.{fit_append, flush_append, due_end, data_append}
 use Rattle.osi_machine.proofs.HistoryLaws.{upto_append}
 use Rattle.osi_machine.proofs.Tokens.{none_held}
@@ -317,7 +316,7 @@ in_range s n sound h =
 pub restart_stands : SessionLaws → (w : Core) (n : ℕ) (wishes : TokenSetting) (o : List ℕ) (g : Granted)
     → allowed w.own.session (Restart n wishes o) ≡ Ok g → Stands w → Stands (answered w (Restart n wishes o) (Ok g))
 restart_stands laws w n wishes o g e s =
-    let p = passed w.own.session (Restart n wishes o) g e in
+    let p = laws.passed w.own.session (Restart n wishes o) g e in
     let c = answered_kept laws w (Restart n wishes o) (Ok g) tt e s.consistent in
     let range = in_range w.own.session n s.consistent.own.sound p.needed.1.0 in
     let q : Restarts w n = record { phase = p.phase; selected = p.needed.0; low = range.0; top = range.1 } in

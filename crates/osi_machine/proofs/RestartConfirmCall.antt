@@ -9,7 +9,6 @@ use Rattle.osi_machine.specs.Channels.{Fits, flush, heard, hears, heard_view, da
 use Rattle.osi_machine.specs.Core.{Party, Core, answered}
 use Rattle.osi_machine.specs.Parties.{AreConsistent}
 use Rattle.osi_machine.proofs.PhaseLaws.{excluded, implied_two}
-use Rattle.osi_machine.proofs.Passed.{passed}
 use Rattle.osi_machine.proofs.Units.{none_due, next_acted}
 use Rattle.osi_machine.proofs.ChannelLaws.{fit_append, flush_append, heard_append, view_append, data_append}
 use Rattle.osi_machine.proofs.Tokens.{none_held}
@@ -276,7 +275,7 @@ all_kept w a o due s c = record {
 pub restart_confirm_stands : SessionLaws → (w : Core) (a : Sides) (o : List ℕ) (g : Granted) → allowed w.own.session (RestartConfirm a o) ≡ Ok g → Stands w
     → Stands (answered w (RestartConfirm a o) (Ok g))
 restart_confirm_stands laws w a o g e s =
-    let p = passed w.own.session (RestartConfirm a o) g e in
+    let p = laws.passed w.own.session (RestartConfirm a o) g e in
     let c = answered_kept laws w (RestartConfirm a o) (Ok g) tt e s.consistent in
     subst (λ (r : Granted). Stands (answered w (RestartConfirm a o) (Ok r))) (sym p.gives)
     (all_kept w a o p.phase s (subst (λ (r : Granted). AreConsistent (answered w (RestartConfirm a o) (Ok r))) p.gives c))

@@ -8,9 +8,10 @@ use Rattle.osi_message.specs.Sendable.{said_of}
 use Rattle.osi_machine.specs.Floor.{CallError, Call, HasSerial, Meaning, allowed}
 use Rattle.osi_machine.specs.Core.{Offer, Side, Left, Right}
 use Rattle.osi_machine.specs.Worlds.{Class, class_0, class_2, Message, unit, Transport, linked, World, turned, session_of, asked_with, after_answer, Taking, unit_taken, Terms, message_taken, closed, ended_at, shown_at_end}
-use Rattle.osi_machine.specs.Machine.{Ending, closed_here, Refusal, Step, connects, calls, delivers, breaks, ends, Entry, connect_answered, call_answered, shown_at, ended, Machine, start, connection_at, replaced, with_connection, seen_from, end_of, stays, noted, is_given, refusal_by, transport_of, refusal, asked_in, error_of, call_in, side_of, ended_worlds, shown_in_order, marked_ended, after_end, closes_by, after_taking, without_first, learns, taken_in, delivered_to, cut_channels, is_told, step, run, HasNumber}
+use Rattle.osi_machine.specs.Machine.{Ending, closed_here, Refusal, Step, connects, calls, delivers, breaks, ends, Entry, connect_answered, call_answered, shown_at, ended, Machine, start, connection_at, replaced, with_connection, seen_from, end_of, stays, noted, is_given, refusal_by, transport_of, refusal, asked_in, error_of, call_in, side_of, ends_there, ended_worlds, shown_in_order, marked_ended, after_end, closes_by, after_taking, without_first, learns, taken_in, delivered_to, cut_channels, is_told, step, run, HasNumber}
 use Rattle.osi_machine.specs.Tables.{Seat, Line, Turn, Tables}
 use Rattle.osi_machine.specs.Tables as tables
+use Rattle.osi_machine.specs.AsTables.{cut_line}
 use Rattle.osi_machine.specs.Views.{Told, told_of}
 use Rattle.osi_machine.proofs.CoreLaws.{SessionLaws}
 use Rattle.osi_machine.proofs.Projects.{is_begun}
@@ -159,12 +160,19 @@ call_follows laws terms m ls side r c small k g (Some l) None e h = absurd h
 
 -- ---- the end of a side
 
+ends_tabled : (keep : ℕ) (w : World) (a b : Option Meaning) → AreSeated w a b → Tabled (tables.ends_there keep (line_of w a b)) (ends_there keep w)
+ends_tabled keep w a b h = by (is_given w.own.transport)
+  where
+    by : (g : Bool) → Tabled (if g then (tables.ended_at keep (line_of w a b)).line else line_of w a b) (if g then ended_at keep w else w)
+    by true = end_tabled keep w a b h
+    by false = record { first = a; second = b; same = refl; seated = h }
+
 ended_tabled : (side : Side) (keep : ℕ → ℕ) (r : ℕ) (ls : List Line) (ws : List World) → AllTabled ls ws → AllTabled (tables.ended_lines side keep r ls) (ended_worlds side keep r ws)
 ended_tabled side keep r [] [] h = tt
 ended_tabled side keep r (l ∷ ls) (w ∷ ws) h =
     let k = side_tabled side l w h.0 in (
-      side_tabled side (tables.ended_at (keep r) (tables.seen_from side l)).line (ended_at (keep r) (seen_from side w))
-          (subst (λ (x : Line). Tabled (tables.ended_at (keep r) x).line (ended_at (keep r) (seen_from side w))) (sym k.same) (end_tabled (keep r) (seen_from side w) k.first k.second k.seated)),
+      side_tabled side (tables.ends_there (keep r) (tables.seen_from side l)) (ends_there (keep r) (seen_from side w))
+          (subst (λ (x : Line). Tabled (tables.ends_there (keep r) x) (ends_there (keep r) (seen_from side w))) (sym k.same) (ends_tabled (keep r) (seen_from side w) k.first k.second k.seated)),
       ended_tabled side keep (r + 1) ls ws h.1,
     )
 ended_tabled side keep r [] (w ∷ ws) h = absurd h
@@ -279,12 +287,6 @@ delivery_follows laws says terms m ls side r keep k g None (Some w) e h = absurd
 delivery_follows laws says terms m ls side r keep k g (Some l) None e h = absurd h
 
 -- ---- a break
-
-abbrev cut_line : ℕ → ℕ → Line → Line
-cut_line left right l = record {
-  own = record l.own { channel = take left l.own.channel };
-  peer = record l.peer { channel = take right l.peer.channel };
-}
 
 cut_tabled : (left right : ℕ → ℕ) (r : ℕ) (ls : List Line) (ws : List World) → AllTabled ls ws → AllTabled (tables.cut_channels left right r ls) (cut_channels left right r ws)
 cut_tabled left right r [] [] h = tt

@@ -11,7 +11,6 @@ use Rattle.osi_machine.specs.Machine.{without_first}
 use Rattle.osi_machine.specs.Views.{Told}
 use Rattle.osi_machine.proofs.CoreLaws.{SessionLaws}
 use Rattle.osi_machine.proofs.Records.{Stands}
-use Rattle.osi_machine.proofs.Passed.{passed}
 use Rattle.osi_machine.proofs.Tokens.{has_set}
 use Rattle.osi_machine.proofs.Alive.{alive}
 use Rattle.osi_machine.proofs.Fewer.{tokens_same}
@@ -160,7 +159,7 @@ call_seats laws broken w t u x g small h l d e true q =
     let c = answered h.core x (Ok g) in
     let now : Stands (answered h.core x (Ok g)) = subst (λ (a : Answer). Stands (answered h.core x a)) e
     (subst (λ (b : Bool). Stands (if b then answered h.core x (allowed h.core.own.session x) else h.core)) q (called_stands laws h.core x small h.stands)) in
-    let p = call_projects broken w h.core x g q l h.projects h.stands e in
+    let p = call_projects laws broken w h.core x g q l h.projects h.stands e in
     let none = called_disowned broken h.core.own.session x g w d in
     record {
       own = seat_state broken v c now p.history p.own none.0 ∙ lives_as g.next (alive c.owner c.own c.peer now.own);
@@ -169,12 +168,12 @@ call_seats laws broken w t u x g small h l d e true q =
     }
 call_seats laws broken w t u x g small h l d e false q =
     let v = after_call broken h.core.own.session x g w in
-    let p = stop_projects broken w h.core x g q l h.projects e in
+    let p = stop_projects laws broken w h.core x g q l h.projects e in
     let none = called_disowned broken h.core.own.session x g w d in
     record {
       own = seat_state broken v h.core h.stands p.history p.own none.0
           ∙ subst (λ (r : Granted). state_from (kept_of r.next) (unless_over (is_over r.next.phase) h.core.own.session.held) h.core.own.session.numbers.next ≡ r.next)
-          (sym (passed h.core.own.session x g e).gives) (stop_state h.core.own.session x q);
+          (sym (laws.passed h.core.own.session x g e).gives) (stop_state h.core.own.session x q);
       peer = seat_same broken (turned_world w) (turned_world v) (turned h.core) (turned h.core) (turned_stands h.core h.stands) (turned_stands h.core h.stands) h.projects.history p.history h.projects.peer p.peer
           d none.1 refl refl;
     }

@@ -13,7 +13,7 @@ use Rattle.osi_machine.specs.Floor.{State, Meaning, GT, WaitTransport, Call, Has
 use Rattle.osi_machine.specs.Core.{Offer, Side, Left, Right, offering, offer_sent}
 use Rattle.osi_machine.specs.Worlds.{Class, class_0, class_2, Message, unit, ask, agree, deny, bye, over, Transport, not_yet, waiting, linked, closing, gone, put, replied, Terms, accepts, denies}
 use Rattle.osi_machine.specs.Machine.{Ending, closed_here, Refusal, Step, connects, calls, delivers, breaks, ends, Entry, call_answered, shown_at, connect_answered, ended, connection_at, replaced, with_connection, is_given, is_known, is_class_0, is_waiting, live_count, is_long_selector, is_long, refusal_by, learns, is_told, HasNumber}
-use Rattle.osi_machine.specs.Tables.{Seat, Line, Turn, Tables, turned, calling, asked_with, in_transport, puts, shortened, made, unseen, hears, after_call, asked_at, message_taken, closed, ended_at, start, seen_from, side_of, end_of, stays, noted, transport_of, refusal, asked_in, call_in, ended_lines, shown_in_order, marked_ended, after_end, closes_by, after_turn, without_first, taken_in, delivered_to, cut_channels, step, run}
+use Rattle.osi_machine.specs.Tables.{Seat, Line, Turn, Tables, turned, calling, asked_with, in_transport, puts, shortened, made, unseen, hears, after_call, asked_at, message_taken, closed, ended_at, start, seen_from, side_of, end_of, stays, noted, transport_of, refusal, asked_in, call_in, ends_there, ended_lines, shown_in_order, marked_ended, after_end, closes_by, after_turn, without_first, taken_in, delivered_to, cut_channels, step, run}
 use Rattle.osi_machine.specs.AsTables.{AreSendable, IsSoundSeat, IsSoundLine, AreSoundLines, IsTableRun}
 use Rattle.osi_machine.proofs.LinesRun.{if_none}
 
@@ -305,9 +305,16 @@ call_sound laws t side r c small h (Some l) e =
     (noted (call_answered side r c (Some error.NoSuchConnection) ∷ []) t)
     (with_lines r _ t.lines (side_line side _ (called_line laws t.broken c (seen_from side l) small (side_line side l (found_line r t.lines l e h)))) h) h
 
+ends_line : SendLaws → (keep : ℕ) (l : Line) → IsSoundLine l → IsSoundLine (ends_there keep l)
+ends_line laws keep l h = by (is_given l.own.transport)
+  where
+    by : (g : Bool) → IsSoundLine (if g then (ended_at keep l).line else l)
+    by true = ended_line laws keep l h
+    by false = h
+
 ended_lines_sound : SendLaws → (side : Side) (keep : ℕ → ℕ) (k : ℕ) (ls : List Line) → AllByRecursion IsSoundLine ls → AllByRecursion IsSoundLine (ended_lines side keep k ls)
 ended_lines_sound laws side keep k [] h = tt
-ended_lines_sound laws side keep k (l ∷ ls) h = (side_line side _ (ended_line laws (keep k) (seen_from side l) (side_line side l h.0)), ended_lines_sound laws side keep (k + 1) ls h.1)
+ended_lines_sound laws side keep k (l ∷ ls) h = (side_line side _ (ends_line laws (keep k) (seen_from side l) (side_line side l h.0)), ended_lines_sound laws side keep (k + 1) ls h.1)
 
 marked_sound : (side : Side) (e : Ending) (t : Tables) → Sound t → Sound (marked_ended side e t)
 marked_sound Left e t h = h

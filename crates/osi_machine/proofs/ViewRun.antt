@@ -11,7 +11,6 @@ use Rattle.osi_machine.specs.Parties.{IsNumberedStep}
 use Rattle.osi_machine.specs.Machine.{Entry, call_answered, shown_at, error_of}
 use Rattle.osi_machine.specs.Views.{Told, told_call, told_shown, told_entry, told_by, is_of, record_of, untold, call_entries, take_entries, core_entries, core_journal, left_told, right_told, AreTold}
 use Rattle.osi_machine.proofs.CoreLaws.{SessionLaws}
-use Rattle.osi_machine.proofs.Passed.{passed}
 use Rattle.osi_machine.proofs.Records.{Stands}
 use Rattle.osi_machine.proofs.Alive.{alive}
 use Rattle.osi_machine.proofs.Acting.{fit_acts, no_fault}
@@ -83,22 +82,22 @@ shown_untold Right t (i ∷ shown) = shown_untold Right t shown
 
 -- ---- a call
 
-pub answer_tells : (w : Core) (c : Call) (a : Answer) (t : Told) → stays_in_core c ≡ true → allowed w.own.session c ≡ a → Stands w → Tells t w.own.session w.own.view w.own.said w.own.got
+pub answer_tells : SessionLaws → (w : Core) (c : Call) (a : Answer) (t : Told) → stays_in_core c ≡ true → allowed w.own.session c ≡ a → Stands w → Tells t w.own.session w.own.view w.own.said w.own.got
     → Tells (told_answer t c true (error_of a)) (answered w c a).own.session (answered w c a).own.view (answered w c a).own.said (answered w c a).own.got
-answer_tells w c (Ok g) t k e s h =
-    let q = passed w.own.session c g e in
+answer_tells laws w c (Ok g) t k e s h =
+    let q = laws.passed w.own.session c g e in
     subst (λ (r : Granted). Tells (told_call t c) r.next (view_called w.own.session c w.own.view) (w.own.said ++ speaks w.own.session c) w.own.got) (sym q.gives)
     (call_tells t w.own.session c w.own.view w.own.said w.own.got k q.phase s.consistent.own.count (λ o. let z = s.consistent.own.fresh o in (z.view, z.said, z.got)) h)
-answer_tells w c (Err d) t k e s h = h
+answer_tells laws w c (Err d) t k e s h = h
 
-called_tells : (w : Core) (c : Call) (t : Told) → Stands w → Tells t w.own.session w.own.view w.own.said w.own.got
+called_tells : SessionLaws → (w : Core) (c : Call) (t : Told) → Stands w → Tells t w.own.session w.own.view w.own.said w.own.got
     → Tells (told_answer t c (stays_in_core c) (error_of (allowed w.own.session c))) (called w c).own.session (called w c).own.view (called w c).own.said (called w c).own.got
-called_tells w c t s h = by (stays_in_core c) refl
+called_tells laws w c t s h = by (stays_in_core c) refl
   where
     by : (b : Bool) → stays_in_core c ≡ b → Tells (told_answer t c b (error_of (allowed w.own.session c)))
         (if b then answered w c (allowed w.own.session c) else w).own.session (if b then answered w c (allowed w.own.session c) else w).own.view
         (if b then answered w c (allowed w.own.session c) else w).own.said (if b then answered w c (allowed w.own.session c) else w).own.got
-    by true k = answer_tells w c (allowed w.own.session c) t k refl s h
+    by true k = answer_tells laws w c (allowed w.own.session c) t k refl s h
     by false k = h
 
 called_peer : (w : Core) (c : Call) (t : Told) → Tells t w.peer.session w.peer.view w.peer.said w.peer.got → Tells t (called w c).peer.session (called w c).peer.view (called w c).peer.said (called w c).peer.got
@@ -163,24 +162,24 @@ take_untold : (side : Side) (t : Told) (s : State) (us : List Meaning) → told_
 take_untold side t s [] = refl
 take_untold side t s (u ∷ us) = shown_untold side t (respond_unit s u).shown
 
-step_tells : (w : Core) (step : CoreStep) (left right : Told) → Stands w → TellBoth w left right
+step_tells : SessionLaws → (w : Core) (step : CoreStep) (left right : Told) → Stands w → TellBoth w left right
     → TellBoth (core_step w step) (told_by left (record_of Left 1 (core_entries w step))) (told_by right (record_of Right 1 (core_entries w step)))
-step_tells w (call_at Left c) left right s h = record {
-  left = subst (λ (t : Told). Tells t (called w c).own.session (called w c).own.view (called w c).own.said (called w c).own.got) (sym (call_told Left left w.own.session c)) (called_tells w c left s h.left);
+step_tells laws w (call_at Left c) left right s h = record {
+  left = subst (λ (t : Told). Tells t (called w c).own.session (called w c).own.view (called w c).own.said (called w c).own.got) (sym (call_told Left left w.own.session c)) (called_tells laws w c left s h.left);
   right = subst (λ (t : Told). Tells t (called w c).peer.session (called w c).peer.view (called w c).peer.said (called w c).peer.got) (sym (call_untold Left right w.own.session c)) (called_peer w c right h.right);
 }
-step_tells w (call_at Right c) left right s h =
+step_tells laws w (call_at Right c) left right s h =
     record {
       left = subst (λ (t : Told). Tells t (called (turned w) c).peer.session (called (turned w) c).peer.view (called (turned w) c).peer.said (called (turned w) c).peer.got) (sym (call_untold Right left w.peer.session c)) (called_peer (turned w) c left h.left);
       right = subst (λ (t : Told). Tells t (called (turned w) c).own.session (called (turned w) c).own.view (called (turned w) c).own.said (called (turned w) c).own.got) (sym (call_told Right right w.peer.session c))
-          (called_tells (turned w) c right (turned_stands w s) h.right);
+          (called_tells laws (turned w) c right (turned_stands w s) h.right);
     }
-step_tells w (take_at Left) left right s h = record {
+step_tells laws w (take_at Left) left right s h = record {
   left = subst (λ (t : Told). Tells t (takes w).own.session (takes w).own.view (takes w).own.said (takes w).own.got) (sym (take_told Left left w w.peer.sent))
       (taken_tells w w.peer.sent left refl s h.left (shown_of w w.peer.sent) refl);
   right = subst (λ (t : Told). Tells t (takes w).peer.session (takes w).peer.view (takes w).peer.said (takes w).peer.got) (sym (take_untold Left right w.own.session w.peer.sent)) (taken_peer w w.peer.sent right h.right);
 }
-step_tells w (take_at Right) left right s h = record {
+step_tells laws w (take_at Right) left right s h = record {
   left = subst (λ (t : Told). Tells t (takes (turned w)).peer.session (takes (turned w)).peer.view (takes (turned w)).peer.said (takes (turned w)).peer.got) (sym (take_untold Right left w.peer.session w.own.sent)) (taken_peer (turned w) w.own.sent left h.left);
   right = subst (λ (t : Told). Tells t (takes (turned w)).own.session (takes (turned w)).own.view (takes (turned w)).own.said (takes (turned w)).own.got) (sym (take_told Right right (turned w) w.own.sent))
       (taken_tells (turned w) w.own.sent right refl (turned_stands w s) h.right (shown_of (turned w) w.own.sent) refl);
@@ -192,7 +191,7 @@ run_tells : SessionLaws → (w : Core) (steps : List CoreStep) (left right : Tol
     → TellBoth (core_run w steps) (told_by left (record_of Left 1 (core_journal w steps))) (told_by right (record_of Right 1 (core_journal w steps)))
 run_tells laws w [] left right small s h = h
 run_tells laws w (step ∷ steps) left right small s h =
-    let one = step_tells w step left right s h in
+    let one = step_tells laws w step left right s h in
     let more = run_tells laws (core_step w step) steps (told_by left (record_of Left 1 (core_entries w step))) (told_by right (record_of Right 1 (core_entries w step)))
     small.1 (step_stands laws w step small.0 s) one in
     record {

@@ -1,5 +1,5 @@
 -- The machine beside its tables, and what two users may rely on, read from the tables and the journal alone.
-use Rattle.std.specs.Prelude.{◌≡◌, ℕ, ◌<◌, true, false, ◌&&◌, List, [], ◌∷◌, ◌++◌, Option, Some, None}
+use Rattle.std.specs.Prelude.{◌≡◌, ℕ, ◌<◌, true, false, ◌&&◌, List, [], ◌∷◌, ◌++◌, take, Option, Some, None}
 use Rattle.std.specs.List.{AllByRecursion, list_any}
 use Rattle.osi_session.specs.Sessions.{CanBeSent}
 use Rattle.osi_machine.specs.Floor.{State, Token, has, IsSound, IsSendable}
@@ -36,6 +36,13 @@ pub record IsAsTables (m : Machine) (t : Tables) : Type 0 where
   pub known : t.known ≡ m.known
   pub journal : t.journal ≡ m.journal
   pub lines : AreLines m.worlds t.lines
+
+-- a break takes what is behind so many messages of each channel
+abbrev pub cut_line : ℕ → ℕ → Line → Line
+cut_line left right l = record {
+  own = record l.own { channel = take left l.own.channel };
+  peer = record l.peer { channel = take right l.peer.channel };
+}
 
 -- ---- what is under way
 

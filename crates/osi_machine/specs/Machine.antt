@@ -161,10 +161,14 @@ side_of side (Some w) = Some (seen_from side w)
 
 -- ---- the end of a side
 
+-- a connection to which the side never gave a reference stays as it is
+abbrev pub ends_there : ℕ → World → World
+ends_there keep w = if is_given w.own.transport then ended_at keep w else w
+
 -- each connection of the side, and what its user is shown, by rising reference
 abbrev pub ended_worlds : Side → (ℕ → ℕ) → ℕ → List World → List World
 ended_worlds side keep r [] = []
-ended_worlds side keep r (w ∷ ws) = seen_from side (ended_at (keep r) (seen_from side w)) ∷ ended_worlds side keep (r + 1) ws
+ended_worlds side keep r (w ∷ ws) = seen_from side (ends_there (keep r) (seen_from side w)) ∷ ended_worlds side keep (r + 1) ws
 
 abbrev pub shown_in_order : Side → ℕ → List World → List Entry
 shown_in_order side r [] = []

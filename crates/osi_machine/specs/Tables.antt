@@ -160,9 +160,13 @@ call_in t side r c (Some l) =
 
 -- ---- the end of a side
 
+-- a connection to which the side never gave a reference stays as it is
+abbrev pub ends_there : ℕ → Line → Line
+ends_there keep l = if is_given l.own.transport then (ended_at keep l).line else l
+
 abbrev pub ended_lines : Side → (ℕ → ℕ) → ℕ → List Line → List Line
 ended_lines side keep r [] = []
-ended_lines side keep r (l ∷ ls) = seen_from side (ended_at (keep r) (seen_from side l)).line ∷ ended_lines side keep (r + 1) ls
+ended_lines side keep r (l ∷ ls) = seen_from side (ends_there (keep r) (seen_from side l)) ∷ ended_lines side keep (r + 1) ls
 
 abbrev pub shown_in_order : Side → ℕ → List Line → List Entry
 shown_in_order side r [] = []

@@ -1,17 +1,17 @@
 //! Laws of the definitions. Each function does nothing: its clauses are the laws.
 
-ghost use Rattle.std.specs.Prelude.{◌≡◌, ◌<◌, List, [], true, false};
+ghost use Rattle.std.specs.Prelude.{◌≡◌, ◌<◌, ◌≤◌, ℕ, suc, List, [], ◌∷◌, ◌++◌, length, Some, None, is_some, true, false};
 ghost use Rattle.std.specs.List.{AllByRecursion};
-ghost use Rattle.osi_machine.specs.AsTables.{AreSoundLines, IsAsTables, IsTableRun, AreOffered, OfEachLine, HoldNoneTwice, AreNoFaults, AreAgreed, IsShownAsAsked, IsSeenInBoth, LosesAsItEnds};
-ghost use Rattle.osi_machine.specs.Core.{Core, CoreStep, Offer, Left, Right, core_run, core_start};
+ghost use Rattle.osi_machine.specs.AsTables.{cut_line, AreSoundLines, IsAsTables, IsTableRun, AreOffered, OfEachLine, HoldNoneTwice, AreNoFaults, AreAgreed, IsShownAsAsked, IsSeenInBoth, LosesAsItEnds};
+ghost use Rattle.osi_machine.specs.Core.{Core, CoreStep, Offer, Side, Left, Right, core_run, core_start};
 ghost use Rattle.osi_machine.specs.Examples.{all_tokens, lost_give_seen, after_lost_give, crossing_seen, after_crossing, two_points_seen, restart_below_seen, after_restart_below, last_point, last_point_seen, lost_release_seen, after_lost_release, both_send, both_send_seen, to_right, held_in, stands_at, next_at, lowest_at, history_of, up_to_first_point};
 ghost use Rattle.osi_machine.specs.Floor.{no_token, is_profile};
 ghost use Rattle.osi_machine.specs.Histories.{Agree};
-ghost use Rattle.osi_machine.specs.Machine.{IsLegal, Machine, Step, HasNumber, run, start, step};
+ghost use Rattle.osi_machine.specs.Machine.{IsLegal, Machine, Step, HasNumber, run, start, step, connection_at, with_connection};
 ghost use Rattle.osi_machine.specs.Parties.{AreConsistent, IsNumberedStep};
 ghost use Rattle.osi_machine.specs.Promises.{IsReached, OfBoth, OneHolder, HoldsItsOwn, TakesNoFault, SeesTheHistory, ViewsAgree, GotWhatWasSaid, TakesTheNextItem, ConfirmedIsSeen};
 ghost use Rattle.osi_machine.specs.Runs.{IsRun, OfEach, HasOneHolder, ShowNoFault, RecordsAgree, ShownAsAsked, ConfirmedInBoth, TakeTheirItems, AreApart, LosesByItsEnd};
-ghost use Rattle.osi_machine.specs.Tables.{Tables};
+ghost use Rattle.osi_machine.specs.Tables.{Line, Tables};
 ghost use Rattle.osi_machine.specs.Tables as tables;
 ghost use Rattle.osi_machine.specs.Views.{AreTold, left_told, right_told};
 ghost use Rattle.osi_machine.specs.Worlds.{Terms, accepts, class_2};
@@ -30,6 +30,7 @@ pub fn what_is_true_of_each_side()
     session::numbers_stay_in_order();
     session::what_is_sent_can_be_sent();
     session::what_two_units_do();
+    session::what_an_accepted_call_passed();
 }
 
 /// However a connection came about by calls and units taken: no token is held by both sides, and each
@@ -41,6 +42,7 @@ pub fn one_holder()
     session::numbers_stay_in_order();
     session::what_is_sent_can_be_sent();
     session::what_two_units_do();
+    session::what_an_accepted_call_passed();
 }
 
 /// No unit that either side sends is a fault at the other: it is discarded, or answered as the table of
@@ -51,6 +53,7 @@ pub fn no_fault()
     session::numbers_stay_in_order();
     session::what_is_sent_can_be_sent();
     session::what_two_units_do();
+    session::what_an_accepted_call_passed();
 }
 
 /// What a side has seen is how the history begins, so that one of both views begins with the other: each
@@ -64,6 +67,7 @@ pub fn agreement()
     session::numbers_stay_in_order();
     session::what_is_sent_can_be_sent();
     session::what_two_units_do();
+    session::what_an_accepted_call_passed();
 }
 
 /// Data or a point that is taken is the item of the history that comes behind all that its taker has
@@ -74,6 +78,7 @@ pub fn next_item()
     session::numbers_stay_in_order();
     session::what_is_sent_can_be_sent();
     session::what_two_units_do();
+    session::what_an_accepted_call_passed();
 }
 
 /// A point that a side has seen, and whose number is below its V(A), was seen by the other too, behind
@@ -84,6 +89,7 @@ pub fn confirmed_is_seen()
     session::numbers_stay_in_order();
     session::what_is_sent_can_be_sent();
     session::what_two_units_do();
+    session::what_an_accepted_call_passed();
 }
 
 /// The record of a side, which is what its user asked and was shown, tells what it has seen: data and
@@ -99,6 +105,7 @@ pub fn what_a_record_tells()
     session::numbers_stay_in_order();
     session::what_is_sent_can_be_sent();
     session::what_two_units_do();
+    session::what_an_accepted_call_passed();
 }
 
 /// After every list of steps of the machine, with any number of connections, with closes, breaks and
@@ -122,6 +129,7 @@ pub fn what_two_records_tell()
     session::numbers_stay_in_order();
     session::what_is_sent_can_be_sent();
     session::what_two_units_do();
+    session::what_an_accepted_call_passed();
 }
 
 /// A step of one connection changes no other: a new one, a call, and a delivery that does not end its side.
@@ -140,8 +148,28 @@ pub fn the_tables_are_the_machine()
     session::numbers_stay_in_order();
     session::what_is_sent_can_be_sent();
     session::what_two_units_do();
+    session::what_an_accepted_call_passed();
     session::an_empty_token_item_changes_nothing();
 }
+
+/// What stands at a reference of the tables: after the connection of one reference is another, that one
+/// there and what stood elsewhere; behind all others a new one; after the end of a side, and after a break,
+/// what these leave of each connection.
+pub fn what_stands_at_a_reference()
+    ensures same { (r : ℕ) (lines : List Line) (old new : Line) → connection_at r lines ≡ Some old → connection_at r (with_connection r new lines) ≡ Some new }
+    ensures other { (q r : ℕ) (lines : List Line) (new : Line) → (q ≡ r → ⊥) → connection_at q (with_connection r new lines) ≡ connection_at q lines }
+    ensures count { (r : ℕ) (lines : List Line) (new : Line) → length (with_connection r new lines) ≡ length lines }
+    ensures before { (q : ℕ) (lines : List Line) (old new : Line) → connection_at q lines ≡ Some old → connection_at q (lines ++ new ∷ []) ≡ Some old }
+    ensures last { (lines : List Line) (new : Line) → connection_at (suc (length lines)) (lines ++ new ∷ []) ≡ Some new }
+    ensures none { (q : ℕ) (lines : List Line) → length lines < q → connection_at q lines ≡ None }
+    ensures some { (q : ℕ) (lines : List Line) → 0 < q → q ≤ length lines → is_some (connection_at q lines) ≡ true }
+    ensures ended { (side : Side) (keep : ℕ → ℕ) (q : ℕ) (lines : List Line) (old : Line) → connection_at q lines ≡ Some old →
+        connection_at q (tables.ended_lines side keep 1 lines) ≡ Some (tables.seen_from side (tables.ends_there (keep q) (tables.seen_from side old))) }
+    ensures broken { (left right : ℕ → ℕ) (q : ℕ) (lines : List Line) (old : Line) → connection_at q lines ≡ Some old →
+        connection_at q (tables.cut_channels left right 1 lines) ≡ Some (cut_line (left q) (right q) old) }
+    ensures ended_count { (side : Side) (keep : ℕ → ℕ) (lines : List Line) → length (tables.ended_lines side keep 1 lines) ≡ length lines }
+    ensures broken_count { (left right : ℕ → ℕ) (lines : List Line) → length (tables.cut_channels left right 1 lines) ≡ length lines }
+{}
 
 /// Over every list of steps, whatever is lost: each unit that is under way can be sent, so that it is read
 /// as it was meant, and so can the CN that waits for the transport connection; V(A) and V(R) of each session
@@ -172,6 +200,7 @@ pub fn what_two_tables_tell()
     session::numbers_stay_in_order();
     session::what_is_sent_can_be_sent();
     session::what_two_units_do();
+    session::what_an_accepted_call_passed();
     session::an_empty_token_item_changes_nothing();
 }
 
