@@ -1,7 +1,10 @@
 # make: proves the program and builds it. make test: proves and tests everything.
 # make edits, or make edits CRATE=osi_spdu: tries the edits of crates/*/edits, which the prover must refuse, and the
 # functions of scripts/refused_borrows, which must not compile.
-.PHONY: all test edits bench
+# make lib: builds the library for C, into build/: libosi.a, libosi.so and osi.pc. make install PREFIX=.. puts them,
+# with include/osi.h, where the compiler finds them. make gateways: builds and runs the programs of examples/gateway.
+.PHONY: all test edits bench lib install gateways
+PREFIX ?= /usr/local
 
 all:
 	cd crates/osi_tool && rt run -- --help > out.log 2>&1 || { cat out.log; exit 1; }
@@ -17,3 +20,16 @@ edits:
 
 bench:
 	bench/run
+
+lib:
+	PREFIX=$(PREFIX) scripts/library
+
+install: lib
+	install -d $(DESTDIR)$(PREFIX)/include $(DESTDIR)$(PREFIX)/lib/pkgconfig
+	install -m 644 include/osi.h $(DESTDIR)$(PREFIX)/include
+	install -m 644 build/libosi.a $(DESTDIR)$(PREFIX)/lib
+	install -m 755 build/libosi.so $(DESTDIR)$(PREFIX)/lib
+	install -m 644 build/osi.pc $(DESTDIR)$(PREFIX)/lib/pkgconfig
+
+gateways: lib
+	scripts/gateways

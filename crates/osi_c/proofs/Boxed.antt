@@ -1,0 +1,62 @@
+-- A handle, and the box whose pointer it is.
+use Rattle.std.proofs.Common.{◌≡◌, List, [], ◌∷◌, ◌++◌, refl, sym, ap, subst}
+use lib.Dec.{T}
+use seplogic.Ra.Ura.{Ura}
+use mir.Syntax.{impl, tnil, dnil}
+use mir.Raw.{raw as bare}
+use mir.Val.{Val, vptr, vstruct, vcons, vnil, of_list}
+use base.Logic.{SProp, ent, never, fst∗}
+use base.Fml.{Fml}
+use types.Logic.{Logic, sem}
+use types.Kit.{Item, Goal, Seq, Step, step, ‵, ◌$◌, move, drop, fsplit, fjoin, fpick, fpack, feq_i, feq_l}
+use denote.RattleType.{RattleType, Valss}
+use denote.Builtin.{RawPtr}
+use denote.Memory.{lone}
+use denote.RawPtr.{Ptr, null_ptr, ptr_val}
+use denote.Steps.{nothing}
+use denote.Struct.Struct.{within}
+use denote.Struct.Owning.{shape}
+use Rattle.std.specs.Prelude.{IsSome}
+use Rattle.std.specs.declared.option.Option.{Option}
+use Rattle.std.specs.declared.option.Option.TheVariants.{None, Some}
+use Rattle.std.specs.contracts.alloc.Global as heap
+use Rattle.std.proofs.alloc.Global.TheLaws as heap_laws
+use Rattle.std.specs.contracts.impls.GlobalAllocator.TheImpl.{ghosts}
+use Rattle.std_alloc.specs.Box.Ownership.{box_owns}
+use Rattle.std_alloc.proofs.BoxSteps.Form.{Bx}
+use Rattle.osi_c.specs.Owned.{block, may_own}
+use Rattle.osi_c.specs.declared.handles.Contents.{Contents}
+use Rattle.osi_c.specs.contracts.handles.Contents as end
+use Rattle.osi_c.proofs.handles.Contents.TheLaws as end_laws
+use Rattle.osi_c.specs.contracts.handles.Handle as handle
+
+-- the box of an end
+abbrev pub E : Bx
+E = record { row = end.the_row; laws = end_laws.the_row_laws; al = record { row = heap.the_row; laws = heap_laws.the_row_laws; g = ghosts; d = impl [] tnil dnil; drops = impl [] tnil dnil } }
+
+-- the box's pointer as a handle holds it
+abbrev pub at_word : Ptr → Val
+at_word p = vstruct (vcons (ptr_val p) vnil)
+
+pub the_some : (m : Option Contents) → IsSome m → (x : Contents) × (m ≡ Some x)
+the_some (Some x) e = (x, refl)
+the_some None e = absurd (subst T (sym e) tt)
+
+pub never_null : {M : Type 1} {𝓤 : Ura M} (𝓛 : Logic 𝓤) (x : Contents) → ent 𝓤 (sem 𝓛 (box_owns block end.the_row null_ptr x)) (never 𝓤)
+never_null {𝓤 = 𝓤} 𝓛 x = fst∗ 𝓤 (never 𝓤) (sem 𝓛 (block (bare (lone end.the_row.mir)) null_ptr))
+
+module _ {M : Type 1} {𝓤 : Ura M} {𝓛 : Logic 𝓤} {K : Type 0} {Γ : List (Item 𝓤)} {G : Goal 𝓤 𝓛.H} where
+  -- what a handle owns is its pointer, and what it may own beside it
+  pub handle_out : K → (d : handle.the_row.Denot) (vs : List Val)
+      → (vs ≡ at_word d.at ∷ [] → Seq K 𝓛 (‵ (may_own d.at d.value) ∷ Γ) G)
+      → Seq K 𝓛 (‵ (handle.the_row.own_val d vs) ∷ Γ) G
+  handle_out t d vs k =
+      fsplit t $ fpick t (λ vss. fsplit t $ feq_l t (λ ev. fsplit t $ feq_l t (λ ep. drop t $
+      k (subst (λ (ps : List Val). vs ≡ vstruct (of_list (ps ++ [])) ∷ []) ep ev))))
+
+  pub handle_in : K → (p : Ptr) (m : Option Contents)
+      → Step K 𝓛 (‵ (handle.the_row.own_val (record { at = p; value = m }) (at_word p ∷ [])) ∷ Γ) G (‵ (may_own p m) ∷ Γ) G
+  handle_in t p m = step (λ s.
+      nothing t $ feq_i t (List Val) (ptr_val p ∷ []) (ptr_val p ∷ []) refl $ fjoin t $
+      feq_i t (List Val) (at_word p ∷ []) (at_word p ∷ []) refl $ fjoin t $
+      fpack t (Valss (RawPtr ∷ [])) (within (shape handle.the_type) (p, tt) (at_word p ∷ [])) (ptr_val p ∷ [], tt) $ fjoin t $ s)

@@ -1,0 +1,144 @@
+-- What the functions that C calls do: `old` and `new` are what the slot holds.
+use Rattle.std.specs.Prelude.{◌≡◌, ℕ, ◌≤◌, ◌+◌, Bool, true, List, [], length, Option, Some, None, option_map}
+use Rattle.osi_tpkt.specs.Held.{fresh}
+use Rattle.osi_tpkt.specs.declared.cutting.Fed.{Fed}
+use Rattle.osi_class.specs.declared.terms.Local.{Local}
+use Rattle.osi_carrier.specs.Calls.{kept_in}
+use Rattle.osi_carrier.specs.declared.ends.EndReason.{EndReason}
+use Rattle.osi_message.specs.Tokens.{token_octet, no_token}
+use Rattle.osi_session.specs.Calls.{Call}
+use Rattle.osi_session.specs.Moves.{called}
+use Rattle.osi_session.specs.Numbers.{from_base}
+use Rattle.osi_session.specs.Shown.{Shown, shown_by}
+use Rattle.osi_session.specs.declared.faults.CallError.{CallError}
+use Rattle.osi_session.specs.declared.numbers.Numbers.{Numbers}
+use Rattle.osi_session.specs.declared.phases.Phase.{Phase}
+use Rattle.osi_stack.specs.Calls.{connect_error, refusal, connects, call_error, table_error, Refuses, held_by, phase_at, numbers_of, first_shown, without_first, carried, breaks}
+use Rattle.osi_stack.specs.Feeding.{Feeds}
+use Rattle.osi_stack.specs.Moving.{to_session}
+use Rattle.osi_stack.specs.State.{End, Holding, fresh_end, session_at}
+use Rattle.osi_stack.specs.declared.connecting.Connect.{Connect}
+use Rattle.osi_stack.specs.declared.connecting.ConnectError.{ConnectError}
+use Rattle.osi_c.specs.Arguments.{IsTerms, SaysTerms, IsOpening, SaysOpening}
+use Rattle.osi_c.specs.Codes.{Answer, Done, Closed, BadArgument, Refused, Made, Begun, Unreadable, NoMemory, InUse, Fetching, Fetched, NoEnd, Nothing}
+use Rattle.osi_c.specs.declared.arguments.OsiTerms.{OsiTerms}
+use Rattle.osi_c.specs.declared.arguments.OsiOpening.{OsiOpening}
+use Rattle.osi_c.specs.declared.handles.Contents.{Contents}
+
+-- the same contents at another end
+abbrev pub with_end : Contents → End → Contents
+with_end c end = record c { stack = record c.stack { end = end } }
+
+-- ---- making an end
+
+-- an end on which nothing has happened
+abbrev pub begun : Bool → Local → Contents
+begun is_caller local = record { stack = record { end = fresh_end is_caller local; held = fresh }; last = None }
+
+-- its transport protocol
+abbrev pub local_of : Contents → Local
+local_of c = c.stack.end.carrier.local
+
+abbrev pub Makes : Bool → OsiTerms → Option Made → Option Contents → Option Contents → Type 0
+Makes is_caller terms (Some Begun) None (Some new) = SaysTerms terms (local_of new) × (new ≡ begun is_caller (local_of new))
+Makes is_caller terms (Some Unreadable) old new = (IsTerms terms → ⊥) × (new ≡ old)
+Makes is_caller terms (Some NoMemory) None new = new ≡ None
+Makes is_caller terms (Some InUse) (Some old) new = new ≡ Some old
+Makes is_caller terms answer old new = ⊥
+
+-- ---- asking for a connection
+
+abbrev pub Connects : Connect → Option (Answer ConnectError) → Option Contents → ℕ → Option Contents → Type 0
+Connects connect (Some Done) (Some old) reference new =
+    (connect_error connect old.stack.end ≡ None) × (reference ≡ old.stack.end.carrier.given + 1)
+    × (new ≡ Some (with_end old (connects connect old.stack.end)))
+Connects connect (Some (Refused error)) (Some old) reference new =
+    (refusal error ≡ connect_error connect old.stack.end) × (new ≡ Some old)
+Connects connect (Some Closed) None reference new = new ≡ None
+Connects connect answer old reference new = ⊥
+
+abbrev pub Asks : OsiOpening → Option (Answer ConnectError) → Option Contents → ℕ → Option Contents → Type 0
+Asks opening (Some BadArgument) old reference new = (IsOpening opening → ⊥) × (new ≡ old)
+Asks opening answer old reference new = (connect : Connect) × SaysOpening opening connect × Connects connect answer old reference new
+
+-- ---- a call
+
+abbrev pub Calls : ℕ → Call → Option (Answer CallError) → Option Contents → Option Contents → Type 0
+Calls r call (Some Done) (Some old) new =
+    (call_error r call old.stack.end ≡ None) × (new ≡ Some (with_end old (to_session r (called call) old.stack.end)))
+Calls r call (Some (Refused error)) (Some old) new =
+    Refuses error (table_error r call old.stack.end) (call_error r call old.stack.end) × (new ≡ Some old)
+Calls r call (Some Closed) None new = new ≡ None
+Calls r call answer old new = ⊥
+
+-- a call whose arguments may not be readable
+abbrev pub CallsIf : ℕ → Option Call → Option (Answer CallError) → Option Contents → Option Contents → Type 0
+CallsIf r (Some call) answer old new = Calls r call answer old new
+CallsIf r None (Some BadArgument) old new = new ≡ old
+CallsIf r None answer old new = ⊥
+
+-- ---- octets
+
+abbrev pub FeedsTo : List ℕ → ℕ → Bool → Option (Answer CallError) → Option Contents → Option Contents → Type 0
+FeedsTo piece used waits (Some Done) (Some old) (Some new) =
+    Feeds old.stack piece (record { used = used; whole = waits }) new.stack × (new.last ≡ old.last)
+FeedsTo piece used waits (Some Closed) None new = (used ≡ 0) × (new ≡ None)
+FeedsTo piece used waits answer old new = ⊥
+
+-- the octets to be carried; none of a slot that holds no end
+abbrev pub outgoing : Option Contents → List ℕ
+outgoing None = []
+outgoing (Some c) = c.stack.end.carrier.outgoing
+
+abbrev pub Carries : ℕ → Option (Answer CallError) → Option Contents → Option Contents → Type 0
+Carries octets (Some Done) (Some old) new =
+    (octets ≤ length old.stack.end.carrier.outgoing) × (new ≡ Some (with_end old (carried octets old.stack.end)))
+Carries octets (Some BadArgument) (Some old) new = (octets ≤ length old.stack.end.carrier.outgoing → ⊥) × (new ≡ Some old)
+Carries octets (Some Closed) None new = new ≡ None
+Carries octets answer old new = ⊥
+
+abbrev pub Breaks : Option (Answer CallError) → Option Contents → Option Contents → Type 0
+Breaks (Some Done) (Some old) new = new ≡ Some (with_end old (breaks old.stack.end))
+Breaks (Some Closed) None new = new ≡ None
+Breaks answer old new = ⊥
+
+-- ---- indications
+
+-- what C was last told of
+abbrev pub told : Option Contents → Option (ℕ × Shown)
+told None = None
+told (Some c) = option_map (λ p. (p.0.0, shown_by p.1)) c.last
+
+abbrev pub answers_first : Option (ℕ × Shown) → Fetching
+answers_first None = Nothing
+answers_first (Some first) = Fetched
+
+abbrev pub Fetches : Option Fetching → Option Contents → Option Contents → Type 0
+Fetches (Some NoEnd) None new = new ≡ None
+Fetches (Some answer) (Some old) (Some new) =
+    (answer ≡ answers_first (first_shown old.stack.end.lines)) × (told (Some new) ≡ first_shown old.stack.end.lines)
+    × (new.stack ≡ record old.stack { end = record old.stack.end { lines = without_first old.stack.end.lines } })
+Fetches answer old new = ⊥
+
+-- ---- where an end and its connections stand; a slot that holds no end is as one that has none
+
+abbrev pub ended : Option Contents → Option EndReason
+ended None = None
+ended (Some c) = c.stack.end.carrier.ended
+
+abbrev pub held : ℕ → Option Contents → ℕ
+held r None = 0
+held r (Some c) = token_octet (held_by (session_at r c.stack.end))
+
+abbrev pub phase : ℕ → Option Contents → Option Phase
+phase r None = None
+phase r (Some c) = phase_at r c.stack.end
+
+abbrev pub numbers : ℕ → Option Contents → Numbers
+numbers r None = from_base 0
+numbers r (Some c) = numbers_of (session_at r c.stack.end)
+
+-- the octets of packets and TSDUs that are not whole yet
+abbrev pub kept : Option Contents → ℕ
+kept None = 0
+kept (Some c) = length c.stack.held.octets + kept_in c.stack.end.carrier.live

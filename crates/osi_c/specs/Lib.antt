@@ -1,0 +1,6 @@
+pub mod Owned
+pub mod Lent
+pub mod Codes
+pub mod Arguments
+pub mod Ends
+pub mod Told

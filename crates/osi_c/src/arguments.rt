@@ -1,0 +1,157 @@
+//! What C passes.
+
+ghost use Rattle.std.specs.Prelude.{◌≡◌, ◌≤◌, length, option_map, IfSome, IfNone};
+ghost use Rattle.osi_tpdu.specs.Limits.{tsap_octets};
+ghost use Rattle.osi_c.specs.Arguments.{side_of, wish_of, sides_of, wishes_of, serial_of, given, IsTerms, SaysTerms, IsOpening, SaysOpening};
+
+use bitflags::Flags;
+use osi_class::Local;
+use osi_session::Sides;
+use osi_spdu::{Requirements, Serial, Side, TokenSetting, Wish};
+use osi_stack::Connect;
+use osi_tpdu::{SizeCode, Tsap, Window};
+
+/// The transport protocol of an end.
+#[repr(C)]
+#[derive(Clone, Copy)]
+pub struct OsiTerms {
+    /// Whether class 0 is supported, and class 2: bits 1 and 2.
+    pub classes: u8,
+    /// The exponent of the largest TPDU size, 7 to 13.
+    pub size: u8,
+    /// The window of class 2, 1 to 15.
+    pub window: u8,
+}
+
+/// The side for each token: 0 for the one that asks, 1 for the one that answers, and in a wish 2 for
+/// the choice of the one that answers.
+#[repr(C)]
+#[derive(Clone, Copy)]
+pub struct OsiSides {
+    pub data_token: u8,
+    pub minor: u8,
+    pub major: u8,
+    pub release: u8,
+}
+
+/// A connection that is asked for. An address of no octets is none.
+#[repr(C)]
+#[derive(Clone, Copy)]
+pub struct OsiOpening<'a> {
+    pub requirements: u16,
+    pub serial: u32,
+    pub wishes: OsiSides,
+    pub calling_tsap: &'a [u8],
+    pub called_tsap: &'a [u8],
+    pub calling_selector: &'a [u8],
+    pub called_selector: &'a [u8],
+    pub user_data: &'a [u8],
+}
+
+fn side(code: u8) -> Option<Side>
+    ensures { result ≡ side_of code }
+{
+    match code {
+        0 => Some(Side::Asker),
+        1 => Some(Side::Answerer),
+        _ => None,
+    }
+}
+
+fn wish(code: u8) -> Option<Wish>
+    ensures { result ≡ wish_of code }
+{
+    match code {
+        0 => Some(Wish::Asker),
+        1 => Some(Wish::Answerer),
+        2 => Some(Wish::Choice),
+        _ => None,
+    }
+}
+
+/// The side that holds each token.
+pub(crate) fn sides(codes: &OsiSides) -> Option<Sides>
+    ensures { result ≡ sides_of codes.now }
+{
+    Some(Sides {
+        data_token: side(codes.data_token)?,
+        minor: side(codes.minor)?,
+        major: side(codes.major)?,
+        release: side(codes.release)?,
+    })
+}
+
+/// The side that is wished for each token.
+pub(crate) fn wishes(codes: &OsiSides) -> Option<TokenSetting>
+    ensures { result ≡ wishes_of codes.now }
+{
+    Some(TokenSetting {
+        data_token: wish(codes.data_token)?,
+        minor: wish(codes.minor)?,
+        major: wish(codes.major)?,
+        release: wish(codes.release)?,
+    })
+}
+
+/// A serial number, 0 to 999,999.
+pub(crate) fn serial(number: u32) -> Option<Serial>
+    ensures { option_map (λ s. s.number) result ≡ serial_of number }
+{
+    Serial::new(number)
+}
+
+/// The transport protocol of an end, where its numbers are within their ranges.
+pub(crate) fn terms(terms: &OsiTerms) -> Option<Local>
+    ensures some { IfSome result (λ local. SaysTerms terms.now local) }
+    ensures none { IfNone result (IsTerms terms.now → ⊥) }
+{
+    if terms.classes > 3 {
+        return None;
+    }
+    Some(Local {
+        class0: terms.classes == 1 || terms.classes == 3,
+        class2: terms.classes >= 2,
+        size: SizeCode::new(terms.size)?,
+        window: Window::new(terms.window)?,
+    })
+}
+
+/// The octets of a session address; none where there is no octet.
+fn address(octets: &[u8]) -> Option<&[u8]>
+    ensures { option_map (λ o. o.now) result ≡ given octets.now }
+{
+    if octets.is_empty() {
+        return None;
+    }
+    Some(octets)
+}
+
+/// A transport address; none where there is no octet, and nothing where there are more than 32.
+fn transport_address(octets: &[u8]) -> Option<Option<Tsap>>
+    ensures some { IfSome result (λ tsap. option_map tsap_octets tsap ≡ given octets.now) }
+    ensures none { IfNone result (length octets.now ≤ 32 → ⊥) }
+{
+    if octets.is_empty() {
+        return Some(None);
+    }
+    Some(Some(Tsap::new(octets)?))
+}
+
+/// What is asked for, where its numbers and lengths are within their ranges.
+pub(crate) fn opening<'a>(opening: &OsiOpening<'a>) -> Option<Connect<'a>>
+    ensures some { IfSome result (λ connect. SaysOpening opening.now connect) }
+    ensures none { IfNone result (IsOpening opening.now → ⊥) }
+{
+    let calling_tsap = transport_address(opening.calling_tsap)?;
+    let called_tsap = transport_address(opening.called_tsap)?;
+    Some(Connect {
+        requirements: Requirements::from_bits_retain(opening.requirements),
+        serial: serial(opening.serial)?,
+        wishes: wishes(&opening.wishes)?,
+        calling_tsap,
+        called_tsap,
+        calling_selector: address(opening.calling_selector),
+        called_selector: address(opening.called_selector),
+        user_data: opening.user_data,
+    })
+}

@@ -1,0 +1,92 @@
+//! A value on the heap as C keeps it.
+
+mod loose;
+
+ghost use Rattle.std.specs.Prelude.{Option};
+ghost use Rattle.osi_c.specs.declared.handles.Contents.{Contents};
+
+use loose::Loose;
+use osi_carrier::Ref;
+use osi_session::Indication;
+use osi_stack::Stack;
+use std::alloc::{AllocError, Global};
+use std::marker::Model;
+use std::ptr::null_mut;
+
+/// What an end of C holds: the end, and the indication that C was last told of, whose user data is
+/// lent until the next call.
+#[derive(Drop)]
+pub struct Contents {
+    pub stack: Stack,
+    pub last: Option<(Ref, Indication)>,
+}
+
+/// A box as its pointer, or nothing.
+#[repr(C)]
+#[derive(Drop)]
+pub struct Handle {
+    at: *mut u8,
+    pub ghost value: { Option Contents },
+}
+
+impl Model for Handle {
+    ghost use Rattle.osi_c.specs.Owned.{may_own};
+
+    ghost also_owns = { λ h. may_own h.at h.value };
+}
+
+impl Handle {
+    ghost use Rattle.std.specs.Prelude.{◌≡◌, None, Some, IsSome, IfOk};
+    ghost use types.Logic.{sem};
+    ghost use Rattle.osi_c.specs.Lent.{LendsContents};
+
+    /// Nothing.
+    pub(crate) fn empty() -> Handle
+        ensures { result.value ≡ None }
+    {
+        Handle { at: null_mut() }
+    }
+
+    /// A box.
+    pub(crate) fn new(alloc: Global, end: Contents) -> Result<Handle, AllocError>
+        ensures { IfOk result (λ h. h.value ≡ Some end) }
+    {
+        let end = Box::new(alloc, end)?;
+        Ok(Handle::of_loose(Loose::of(end)))
+    }
+
+    fn of_loose(loose: Loose<Contents, Global>) -> Handle
+        ensures { result.value ≡ Some loose.value }
+    {
+        let Loose { at, alloc: _ } = loose;
+        Handle { at: at.cast() }
+    }
+
+    fn into_loose(self, alloc: Global) -> Loose<Contents, Global>
+        requires { IsSome self.value }
+        ensures { Some result.value ≡ self.value }
+    {
+        let Handle { at } = self;
+        Loose {
+            at: at.cast(),
+            alloc,
+        }
+    }
+
+    /// The box.
+    pub(crate) fn into_box(self, alloc: Global) -> Box<Contents>
+        requires { IsSome self.value }
+        ensures { Some result.value ≡ self.value }
+    {
+        self.into_loose(alloc).into_box()
+    }
+
+    /// What stands in the box.
+    pub(crate) fn get_mut(&mut self) -> &mut Contents
+        requires { IsSome self.old.value }
+        ensures* writes_back { sem 𝓛 (LendsContents self.entry result) }
+        ensures value { self.old.value ≡ Some result.now }
+    {
+        unsafe { &mut *self.at.cast() }
+    }
+}

@@ -1,0 +1,39 @@
+//! Fetching and reading indications.
+
+ghost use Rattle.std.specs.Prelude.{◌≡◌};
+ghost use Rattle.osi_c.specs.Codes.{fetched_of};
+ghost use Rattle.osi_c.specs.Ends.{Fetches, told};
+ghost use Rattle.osi_c.specs.Told.{Tells};
+
+use crate::codes::{CLOSED, NOTHING, OK};
+use crate::slots::OsiEnd;
+use crate::telling::{OsiIndication, nothing, tell};
+
+/// Fetches the next indication, which [`osi_last`] then shows.
+#[unsafe(no_mangle)]
+pub extern "C" fn osi_fetch(end: &mut OsiEnd) -> u32
+    ensures { Fetches (fetched_of result) end.old.inner.value end.new.inner.value }
+{
+    if !end.full {
+        return CLOSED;
+    }
+    let contents = end.inner.get_mut();
+    contents.last = contents.stack.next_indication();
+    if contents.last.is_none() {
+        return NOTHING;
+    }
+    OK
+}
+
+/// Shows the indication that was fetched last, whose user data is lent.
+#[unsafe(no_mangle)]
+pub extern "C" fn osi_last<'a>(end: &'a mut OsiEnd, shown: &mut OsiIndication<'a>)
+    ensures { Tells shown.new (told end.old.inner.value) }
+{
+    *shown = nothing();
+    if end.full
+        && let Some((reference, indication)) = &end.inner.get_mut().last
+    {
+        *shown = tell(reference.0, indication);
+    }
+}

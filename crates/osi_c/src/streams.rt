@@ -1,0 +1,106 @@
+//! Octets in and out, and the end of an end.
+
+ghost use Rattle.std.specs.Prelude.{◌≡◌, Some};
+ghost use Rattle.osi_c.specs.Codes.{answer_of, reason_of};
+ghost use Rattle.osi_c.specs.Ends.{FeedsTo, outgoing, Carries, Breaks, ended, kept};
+
+use crate::codes::{BAD_ARGUMENT, CLOSED, OK, end_code};
+use crate::slots::OsiEnd;
+
+/// What feeding did.
+#[repr(C)]
+#[derive(Clone, Copy)]
+pub struct OsiFed {
+    /// How many octets of the piece were used. The rest is to be fed again once the indications were
+    /// fetched.
+    pub used: usize,
+    /// Whether an indication waits.
+    pub waits: bool,
+}
+
+/// Feeds octets that came from the peer.
+#[unsafe(no_mangle)]
+pub extern "C" fn osi_feed(end: &mut OsiEnd, piece: &[u8], fed: &mut OsiFed) -> u32
+    ensures { FeedsTo piece.now fed.new.used fed.new.waits (answer_of result) end.old.inner.value end.new.inner.value }
+{
+    if !end.full {
+        *fed = OsiFed {
+            used: 0,
+            waits: false,
+        };
+        return CLOSED;
+    }
+    let did = end.inner.get_mut().stack.feed(piece);
+    *fed = OsiFed {
+        used: did.used,
+        waits: did.whole,
+    };
+    OK
+}
+
+/// Lends the octets that are to be carried to the peer; none of a slot that holds no end.
+#[unsafe(no_mangle)]
+pub extern "C" fn osi_outgoing<'a>(end: &'a mut OsiEnd, octets: &mut &'a [u8])
+    ensures { octets.new.now ≡ outgoing end.old.inner.value }
+{
+    *octets = &[];
+    if end.full {
+        *octets = end.inner.get_mut().stack.outgoing();
+    }
+}
+
+/// The first octets that were lent have been carried, so many.
+#[unsafe(no_mangle)]
+pub extern "C" fn osi_taken(end: &mut OsiEnd, octets: usize) -> u32
+    ensures { Carries octets (answer_of result) end.old.inner.value end.new.inner.value }
+{
+    if !end.full {
+        return CLOSED;
+    }
+    let contents = end.inner.get_mut();
+    if octets > contents.stack.outgoing().len() {
+        return BAD_ARGUMENT;
+    }
+    contents.stack.taken(octets);
+    OK
+}
+
+/// The byte connection broke.
+#[unsafe(no_mangle)]
+pub extern "C" fn osi_broken(end: &mut OsiEnd) -> u32
+    ensures { Breaks (answer_of result) end.old.inner.value end.new.inner.value }
+{
+    if !end.full {
+        return CLOSED;
+    }
+    end.inner.get_mut().stack.broken();
+    OK
+}
+
+/// Why the end has ended, and what belongs to that: a reason, or the place of an octet. 0 where it has
+/// not, and of a slot that holds no end.
+#[unsafe(no_mangle)]
+pub extern "C" fn osi_ended(end: &mut OsiEnd, detail: &mut u64) -> u32
+    ensures value { reason_of result detail.new ≡ Some (ended end.old.inner.value) }
+    ensures same { end.new.inner.value ≡ end.old.inner.value }
+{
+    if !end.full {
+        *detail = 0;
+        return 0;
+    }
+    let why = end_code(end.inner.get_mut().stack.ended());
+    *detail = why.detail;
+    why.code
+}
+
+/// How many octets of packets and TSDUs are kept that are not whole yet; 0 of a slot that holds no end.
+#[unsafe(no_mangle)]
+pub extern "C" fn osi_kept(end: &mut OsiEnd) -> usize
+    ensures value { result ≡ kept end.old.inner.value }
+    ensures same { end.new.inner.value ≡ end.old.inner.value }
+{
+    if !end.full {
+        return 0;
+    }
+    end.inner.get_mut().stack.kept()
+}

@@ -1,0 +1,289 @@
+//! What the user of a connection is shown, for C.
+
+ghost use Rattle.std.specs.Prelude.{◌≡◌, ◌==◌, not, Some, option_map};
+ghost use Rattle.osi_spdu.specs.Fields.{bits_of, unit_bits};
+ghost use Rattle.osi_session.specs.Shown.{shown_by, abort_shown};
+ghost use Rattle.osi_c.specs.Arguments.{side_of, wish_of, sides_of, wishes_of};
+ghost use Rattle.osi_c.specs.Told.{SaysSpelling, SaysFault, serial_in, Says};
+
+use crate::arguments::OsiSides;
+use bitflags::Flags;
+use osi_message::Octets;
+use osi_session::{AbortCause, Indication, Sides, UnitFault};
+use osi_spdu::{Requirements, Side, SpduFault, TokenSet, TokenSetting, Wish};
+
+/// Why a unit that came is bad: which fault, the SI of the unit; and where the octets are no session
+/// units the fault of their spelling, with the code of the parameter and the place of the octet.
+#[repr(C)]
+#[derive(Clone, Copy)]
+pub struct OsiFault {
+    pub fault: u8,
+    pub si: u8,
+    pub spelling: u8,
+    pub parameter: u8,
+    pub offset: u64,
+}
+
+/// What a user is shown: which indication (0 for none), of which connection, and what it says. The
+/// user data is lent.
+#[repr(C)]
+#[derive(Clone, Copy)]
+pub struct OsiIndication<'a> {
+    pub tag: u32,
+    pub number: u32,
+    pub reference: u16,
+    pub requirements: u16,
+    pub has_number: u8,
+    pub confirm: u8,
+    pub tokens: u8,
+    pub reason: u8,
+    pub sides: OsiSides,
+    pub fault: OsiFault,
+    pub user_data: &'a [u8],
+}
+
+fn side_code(side: Side) -> u8
+    ensures { side_of result ≡ Some side }
+{
+    match side {
+        Side::Asker => 0,
+        Side::Answerer => 1,
+    }
+}
+
+fn wish_code(wish: Wish) -> u8
+    ensures { wish_of result ≡ Some wish }
+{
+    match wish {
+        Wish::Asker => 0,
+        Wish::Answerer => 1,
+        Wish::Choice => 2,
+    }
+}
+
+fn side_codes(sides: Sides) -> OsiSides
+    ensures { sides_of result ≡ Some sides }
+{
+    OsiSides {
+        data_token: side_code(sides.data_token),
+        minor: side_code(sides.minor),
+        major: side_code(sides.major),
+        release: side_code(sides.release),
+    }
+}
+
+fn wish_codes(wishes: TokenSetting) -> OsiSides
+    ensures { wishes_of result ≡ Some wishes }
+{
+    OsiSides {
+        data_token: wish_code(wishes.data_token),
+        minor: wish_code(wishes.minor),
+        major: wish_code(wishes.major),
+        release: wish_code(wishes.release),
+    }
+}
+
+fn spelled(spelling: u8, parameter: u8, offset: usize) -> OsiFault
+    ensures { (result.fault ≡ 1) × (result.spelling ≡ spelling) × (result.parameter ≡ parameter) × (result.offset ≡ offset) }
+{
+    OsiFault {
+        fault: 1,
+        si: 0,
+        spelling,
+        parameter,
+        offset: offset as u64,
+    }
+}
+
+fn spelling_fault(fault: SpduFault) -> OsiFault
+    ensures { (result.fault ≡ 1) × SaysSpelling result fault }
+{
+    match fault {
+        SpduFault::UnknownSi(offset) => spelled(1, 0, offset),
+        SpduFault::LengthPastEnd(offset) => spelled(2, 0, offset),
+        SpduFault::MissingParameter(code, offset) => spelled(3, code, offset),
+        SpduFault::DuplicateParameter(code, offset) => spelled(4, code, offset),
+        SpduFault::BadValue(code, offset) => spelled(5, code, offset),
+        SpduFault::BadConcatenation(offset) => spelled(6, 0, offset),
+        SpduFault::TrailingOctets(offset) => spelled(7, 0, offset),
+    }
+}
+
+fn of_unit(fault: u8, si: u8) -> OsiFault
+    ensures { (result.fault ≡ fault) × (result.si ≡ si) }
+{
+    OsiFault {
+        fault,
+        si,
+        spelling: 0,
+        parameter: 0,
+        offset: 0,
+    }
+}
+
+fn fault_codes(fault: UnitFault) -> OsiFault
+    ensures { SaysFault result fault }
+{
+    match fault {
+        UnitFault::Spelling(spelling) => spelling_fault(spelling),
+        UnitFault::Unexpected(si) => of_unit(2, si),
+        UnitFault::NotSelected(si) => of_unit(3, si),
+        UnitFault::TokenHeld(si) => of_unit(4, si),
+        UnitFault::BadNumber(si) => of_unit(5, si),
+        UnitFault::BadTokens(si) => of_unit(6, si),
+    }
+}
+
+/// No more than which indication it is, and its user data.
+fn plain(reference: u16, tag: u32, user_data: &[u8]) -> OsiIndication<'_>
+    ensures { (result.reference ≡ reference) × (result.tag ≡ tag) × (result.user_data.now ≡ user_data.now) }
+{
+    OsiIndication {
+        tag,
+        number: 0,
+        reference,
+        requirements: 0,
+        has_number: 0,
+        confirm: 0,
+        tokens: 0,
+        reason: 0,
+        sides: OsiSides {
+            data_token: 0,
+            minor: 0,
+            major: 0,
+            release: 0,
+        },
+        fault: of_unit(0, 0),
+        user_data,
+    }
+}
+
+/// None.
+pub(crate) fn nothing<'a>() -> OsiIndication<'a>
+    ensures { result.tag ≡ 0 }
+{
+    plain(0, 0, &[])
+}
+
+fn opening<'a>(
+    requirements: Requirements,
+    serial: Option<u32>,
+    sides: OsiSides,
+    plain: OsiIndication<'a>,
+) -> OsiIndication<'a>
+    ensures same { (result.reference ≡ plain.entry.reference) × (result.tag ≡ plain.entry.tag) × (result.user_data.now ≡ plain.entry.user_data.now) }
+    ensures units { (result.requirements ≡ unit_bits requirements) × (result.sides ≡ sides) }
+    ensures serial { serial_in result ≡ serial }
+{
+    let (has_number, number) = match serial {
+        None => (0, 0),
+        Some(number) => (1, number),
+    };
+    OsiIndication {
+        requirements: requirements.bits(),
+        has_number,
+        number,
+        sides,
+        ..plain
+    }
+}
+
+fn aborted<'a>(reference: u16, cause: AbortCause) -> OsiIndication<'a>
+    ensures { (result.reference ≡ reference) × Says result (abort_shown cause) }
+{
+    match cause {
+        AbortCause::Lost => plain(reference, 18, &[]),
+        AbortCause::Peer(bits) => OsiIndication {
+            reason: bits,
+            ..plain(reference, 19, &[])
+        },
+        AbortCause::Unit(fault) => OsiIndication {
+            fault: fault_codes(fault),
+            ..plain(reference, 20, &[])
+        },
+    }
+}
+
+/// What the user of a connection is shown.
+pub(crate) fn tell(reference: u16, indication: &Indication) -> OsiIndication<'_>
+    ensures { (result.reference ≡ reference) × Says result (shown_by indication.now) }
+{
+    match indication {
+        Indication::Connect {
+            requirements,
+            serial,
+            wishes,
+            user_data,
+        } => {
+            let plain = plain(reference, 1, user_data.as_slice());
+            opening(*requirements, *serial, wish_codes(*wishes), plain)
+        }
+        Indication::Connected {
+            requirements,
+            serial,
+            sides,
+            user_data,
+        } => {
+            let plain = plain(reference, 2, user_data.as_slice());
+            opening(*requirements, *serial, side_codes(*sides), plain)
+        }
+        Indication::RefusedByTransport { reason } => OsiIndication {
+            reason: *reason,
+            ..plain(reference, 3, &[])
+        },
+        Indication::RefusedBySession { reason, user_data } => OsiIndication {
+            reason: *reason,
+            ..plain(reference, 4, user_data.as_slice())
+        },
+        Indication::Data { user_data } => plain(reference, 5, user_data.as_slice()),
+        Indication::Given { tokens } => OsiIndication {
+            tokens: tokens.bits(),
+            ..plain(reference, 6, &[])
+        },
+        Indication::Asked { tokens, user_data } => OsiIndication {
+            tokens: tokens.bits(),
+            ..plain(reference, 7, user_data.as_slice())
+        },
+        Indication::Minor {
+            number,
+            confirm,
+            user_data,
+        } => OsiIndication {
+            number: *number,
+            confirm: if *confirm { 1 } else { 0 },
+            ..plain(reference, 8, user_data.as_slice())
+        },
+        Indication::MinorConfirmed { number, user_data } => OsiIndication {
+            number: *number,
+            ..plain(reference, 9, user_data.as_slice())
+        },
+        Indication::Major { number, user_data } => OsiIndication {
+            number: *number,
+            ..plain(reference, 10, user_data.as_slice())
+        },
+        Indication::MajorConfirmed { user_data } => plain(reference, 11, user_data.as_slice()),
+        Indication::Restart {
+            number,
+            wishes,
+            user_data,
+        } => OsiIndication {
+            number: *number,
+            sides: wish_codes(*wishes),
+            ..plain(reference, 12, user_data.as_slice())
+        },
+        Indication::Restarted {
+            number,
+            sides,
+            user_data,
+        } => OsiIndication {
+            number: *number,
+            sides: side_codes(*sides),
+            ..plain(reference, 13, user_data.as_slice())
+        },
+        Indication::Release { user_data } => plain(reference, 14, user_data.as_slice()),
+        Indication::Released { user_data } => plain(reference, 15, user_data.as_slice()),
+        Indication::ReleaseRefused { user_data } => plain(reference, 16, user_data.as_slice()),
+        Indication::Aborted { user_data } => plain(reference, 17, user_data.as_slice()),
+        Indication::ProviderAbort { cause } => aborted(reference, *cause),
+    }
+}

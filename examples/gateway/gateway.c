@@ -1,0 +1,291 @@
+/* One end over a TCP socket, which does not block: octets are read and written as they come and go,
+ * in any pieces, and each indication is told to the user of the program. */
+#define _POSIX_C_SOURCE 200809L
+#include "gateway.h"
+
+#include <errno.h>
+#include <fcntl.h>
+#include <poll.h>
+#include <string.h>
+#include <sys/socket.h>
+#include <unistd.h>
+
+#define PIECE 65536
+
+const char *option(int count, char **words, const char *name, const char *otherwise)
+{
+    for (int i = 1; i + 1 < count; i++)
+        if (strcmp(words[i], name) == 0)
+            return words[i + 1];
+    return otherwise;
+}
+
+const char *code_name(uint32_t code)
+{
+    static const char *const refusals[] = {
+        "NoSuchConnection", "Ended",         "BadState",       "NotSelected",   "TokenNotHeld",
+        "TokenAlreadyHeld", "BadNumber",     "SerialsUsedUp",  "Empty",         "TooLong",
+        "NotCaller",        "Negotiating",   "OneConnection",  "TooMany",       "ReferencesUsedUp",
+    };
+    if (code >= OSI_NO_SUCH_CONNECTION && code <= OSI_REFERENCES_USED_UP)
+        return refusals[code - OSI_NO_SUCH_CONNECTION];
+    return code == OSI_NO_MEMORY ? "OutOfMemory" : code == OSI_CLOSED ? "Closed" : "BadArgument";
+}
+
+static void write_octets(FILE *file, const uint8_t *at, size_t length)
+{
+    static const char digits[] = "0123456789abcdef";
+    for (size_t i = 0; i < length; i++) {
+        putc(digits[at[i] >> 4], file);
+        putc(digits[at[i] & 15], file);
+    }
+}
+
+/* ---- the log, in the words of a transcript (docs/SCRIPTS.md) */
+
+static void write_data(FILE *log, const char *word, osi_octets data)
+{
+    fprintf(log, "%s ", word);
+    if (data.length == 0)
+        putc('-', log);
+    write_octets(log, data.at, data.length);
+}
+
+static void write_sides(FILE *log, osi_sides s)
+{
+    static const char letters[] = "arc";
+    fprintf(log, " sides %c%c%c%c", letters[s.data], letters[s.minor], letters[s.major], letters[s.release]);
+}
+
+static void write_opening(FILE *log, const osi_indication *i)
+{
+    fprintf(log, " units %04x serial ", i->requirements);
+    if (i->has_number)
+        fprintf(log, "%u", i->number);
+    else
+        putc('-', log);
+    write_sides(log, i->sides);
+    write_data(log, " data", i->user_data);
+}
+
+static const char *fault_name(uint8_t fault)
+{
+    static const char *const names[] = {"",           "Spelling",  "Unexpected", "NotSelected",
+                                        "TokenHeld", "BadNumber", "BadTokens"};
+    return names[fault];
+}
+
+static void write_shown(FILE *log, const osi_indication *i)
+{
+    static const char *const names[] = {
+        "",      "Connect",        "Connected", "Refused transport", "Refused session", "Data",     "Given",
+        "Asked", "Minor",          "MinorConfirmed", "Major",        "MajorConfirmed",  "Restart",  "Restarted",
+        "Release", "Released",     "ReleaseRefused", "Aborted",      "ProviderAbort Lost",
+        "ProviderAbort Peer", "ProviderAbort Unit",
+    };
+    fputs(names[i->tag], log);
+    switch (i->tag) {
+    case OSI_CONNECT:
+    case OSI_CONNECTED:
+        write_opening(log, i);
+        break;
+    case OSI_REFUSED_BY_TRANSPORT:
+        fprintf(log, " %u", i->reason);
+        break;
+    case OSI_REFUSED_BY_SESSION:
+        fprintf(log, " %u", i->reason);
+        write_data(log, " data", i->user_data);
+        break;
+    case OSI_DATA_SHOWN:
+        write_data(log, "", i->user_data);
+        break;
+    case OSI_GIVEN:
+        fprintf(log, " %02x", i->tokens);
+        break;
+    case OSI_ASKED:
+        fprintf(log, " %02x", i->tokens);
+        write_data(log, " data", i->user_data);
+        break;
+    case OSI_MINOR:
+        fprintf(log, " %u confirm %s", i->number, i->confirm ? "yes" : "no");
+        write_data(log, " data", i->user_data);
+        break;
+    case OSI_MINOR_CONFIRMED:
+    case OSI_MAJOR:
+        fprintf(log, " %u", i->number);
+        write_data(log, " data", i->user_data);
+        break;
+    case OSI_RESTART:
+    case OSI_RESTARTED:
+        fprintf(log, " %u", i->number);
+        write_sides(log, i->sides);
+        write_data(log, " data", i->user_data);
+        break;
+    case OSI_LOST:
+        break;
+    case OSI_PEER_ABORT:
+        fprintf(log, " %02x", i->reason);
+        break;
+    case OSI_BAD_UNIT:
+        fprintf(log, " %s", fault_name(i->fault.fault));
+        break;
+    default:
+        write_data(log, " data", i->user_data);
+    }
+    putc('\n', log);
+}
+
+bool gateway_did(struct gateway *g, unsigned reference, const char *call, uint32_t code)
+{
+    if (g->log != NULL && code == OSI_OK)
+        fprintf(g->log, "%s %u %s ok\n", g->side, reference, call);
+    else if (g->log != NULL)
+        fprintf(g->log, "%s %u %s refused %s\n", g->side, reference, call, code_name(code));
+    return code == OSI_OK;
+}
+
+/* ---- the socket */
+
+static bool has_outgoing(struct gateway *g)
+{
+    osi_octets octets;
+    osi_outgoing(&g->end, &octets);
+    return octets.length > 0;
+}
+
+/* Fetches all that waits. */
+static void show_all(struct gateway *g)
+{
+    osi_indication shown;
+    while (osi_next(&g->end, &shown)) {
+        if (g->log != NULL) {
+            fprintf(g->log, "%s %u ", g->side, shown.reference);
+            write_shown(g->log, &shown);
+        }
+        g->shown(g, &shown);
+    }
+}
+
+static void is_over(struct gateway *g)
+{
+    osi_broken(&g->end);
+    show_all(g);
+    close(g->socket);
+    g->socket = -1;
+}
+
+static void feed_all(struct gateway *g, const uint8_t *piece, size_t length)
+{
+    while (length > 0) {
+        osi_fed fed;
+        osi_feed(&g->end, piece, length, &fed);
+        piece += fed.used;
+        length -= fed.used;
+        show_all(g);
+    }
+}
+
+/* Reads what there is, once. */
+static void receive(struct gateway *g)
+{
+    static uint8_t piece[PIECE];
+    ssize_t count = recv(g->socket, piece, sizeof piece, 0);
+    if (count > 0) {
+        if (g->came != NULL)
+            write_octets(g->came, piece, (size_t)count);
+        feed_all(g, piece, (size_t)count);
+    } else if (count == 0 || (errno != EAGAIN && errno != EWOULDBLOCK && errno != EINTR)) {
+        is_over(g);
+    }
+}
+
+/* Stands still in the middle of what it sends, until somebody ends it. */
+static void stall(void)
+{
+    puts("stalled");
+    fflush(stdout);
+    for (;;)
+        pause();
+}
+
+/* Writes what can be written, once. */
+static void transmit(struct gateway *g)
+{
+    osi_octets octets;
+    osi_outgoing(&g->end, &octets);
+    size_t most = octets.length;
+    if (g->stall_at > 0 && g->sent_octets + most > g->stall_at)
+        most = g->stall_at - g->sent_octets;
+    ssize_t count = send(g->socket, octets.at, most, MSG_NOSIGNAL);
+    if (count >= 0) {
+        if (g->sent != NULL)
+            write_octets(g->sent, octets.at, (size_t)count);
+        g->sent_octets += (size_t)count;
+        osi_taken(&g->end, (size_t)count);
+        if (g->stall_at > 0 && g->sent_octets == g->stall_at)
+            stall();
+    } else if (errno != EAGAIN && errno != EWOULDBLOCK && errno != EINTR) {
+        is_over(g);
+    }
+}
+
+bool gateway_turn(struct gateway *g)
+{
+    uint64_t detail;
+    if (g->socket >= 0 && osi_ended(&g->end, &detail) != OSI_END_NONE && !has_outgoing(g))
+        is_over(g);
+    if (g->socket < 0)
+        return false;
+    if (g->done && !g->shut && !has_outgoing(g))
+        g->shut = shutdown(g->socket, SHUT_WR) == 0;
+    struct pollfd waits = {g->socket, has_outgoing(g) ? POLLIN | POLLOUT : POLLIN, 0};
+    if (poll(&waits, 1, 10000) <= 0) {
+        fprintf(stderr, "%s: the peer is silent\n", g->side);
+        is_over(g);
+        return false;
+    }
+    if (waits.revents & POLLOUT)
+        transmit(g);
+    if (g->socket >= 0 && (waits.revents & (POLLIN | POLLERR | POLLHUP)))
+        receive(g);
+    return true;
+}
+
+/* ---- opening and closing */
+
+static FILE *capture_file(const char *capture, const char *side)
+{
+    char name[512];
+    if (capture == NULL)
+        return NULL;
+    snprintf(name, sizeof name, "%s.%s", capture, side);
+    return fopen(name, "w");
+}
+
+bool gateway_open(struct gateway *g, int socket, bool calls, const char *classes, const char *log,
+                  const char *capture)
+{
+    osi_terms terms = {0, 13, 15};
+    if (strchr(classes, '0') != NULL)
+        terms.classes |= OSI_CLASS_0;
+    if (strchr(classes, '2') != NULL)
+        terms.classes |= OSI_CLASS_2;
+    g->socket = socket;
+    g->side = calls ? "left" : "right";
+    g->log = log == NULL ? NULL : strcmp(log, "-") == 0 ? stdout : fopen(log, "w");
+    g->sent = capture_file(capture, g->side);
+    g->came = capture_file(capture, calls ? "right" : "left");
+    fcntl(socket, F_SETFL, fcntl(socket, F_GETFL) | O_NONBLOCK);
+    return (calls ? osi_caller(&g->end, &terms) : osi_called(&g->end, &terms)) == OSI_OK;
+}
+
+void gateway_close(struct gateway *g)
+{
+    FILE *files[] = {g->log, g->sent, g->came};
+    if (g->socket >= 0)
+        close(g->socket);
+    osi_free(&g->end);
+    for (size_t i = 0; i < 3; i++)
+        if (files[i] != NULL && files[i] != stdout)
+            fclose(files[i]);
+}

@@ -1,0 +1,372 @@
+/*
+ * osi.h: one end of an OSI session (ITU-T X.225 version 2) over the transport classes 0 and 2 of
+ * X.224 in TPKT packets (RFC 1006), as a value that is fed octets and gives octets.
+ *
+ * Nothing here opens a socket, starts a thread, reads a clock or keeps a state of its own: all that
+ * there is of an end is in its osi_end. What each function answers and does is proved (see
+ * docs/EMBEDDING.md, which also has a longer guide): the functions below are what crates/osi_c
+ * states of them.
+ *
+ * An end in ten lines, the socket left out:
+ *
+ *     osi_end end = OSI_END;
+ *     osi_terms terms = { OSI_CLASS_0, 13, 15 };
+ *     osi_opening asked = OSI_OPENING;
+ *     uint16_t connection;
+ *     osi_indication shown;
+ *     osi_caller(&end, &terms);
+ *     osi_connect(&end, &asked, &connection);
+ *     for (;;) {
+ *         carry(&end);                          // osi_outgoing to the socket, then osi_taken
+ *         feed(&end);                           // the socket's octets to osi_feed
+ *         while (osi_next(&end, &shown))
+ *             if (shown.tag == OSI_CONNECTED)
+ *                 osi_data(&end, shown.reference, (const uint8_t *)"hello", 5);
+ *     }                                         // until osi_ended, and then osi_free(&end)
+ *
+ * What the caller owes, and nothing checks:
+ *   - An osi_end begins as OSI_END. It is never copied, and nobody but these functions reads or
+ *     writes what is in it. One that is not freed leaks.
+ *   - An end is used by one thread at a time. Different ends share nothing.
+ *   - No pointer is null, not even that of octets of which there are none: OSI_NO_OCTETS is a
+ *     pointer to none. What a pointer points to is there, is of its type, and is not the osi_end
+ *     nor octets that this end has lent.
+ *   - Octets that an end has lent (osi_outgoing, and user_data of an indication) are there until
+ *     the next call with this end, and are not written to.
+ *   - malloc, realloc and free are those of one allocator; no function is called from a signal
+ *     handler.
+ */
+#ifndef OSI_H
+#define OSI_H
+
+#include <stdbool.h>
+#include <stddef.h>
+#include <stdint.h>
+
+#ifdef __cplusplus
+extern "C" {
+#endif
+
+/* ---- an end ------------------------------------------------------------------------------- */
+
+/* A slot that holds one end of a byte connection, or none. */
+typedef struct osi_end {
+    bool full;
+    struct {
+        void *at;
+    } inner;
+} osi_end;
+
+/* A slot that holds no end, as each begins. */
+#define OSI_END { false, { NULL } }
+
+/* ---- codes: what the functions answer -----------------------------------------------------
+ * Each function says which of these it answers. All but OSI_OK change nothing, unless it is said.
+ */
+#define OSI_OK 0u                   /* done */
+#define OSI_CLOSED 1u               /* the slot holds no end */
+#define OSI_BAD_ARGUMENT 2u         /* a number or a length is outside its range */
+#define OSI_NO_MEMORY 3u            /* malloc or realloc gave none; call again when there is some */
+#define OSI_IN_USE 4u               /* the slot holds an end already: free it first */
+#define OSI_NOTHING 5u              /* no indication waits */
+#define OSI_NO_SUCH_CONNECTION 10u  /* this end never gave the reference */
+#define OSI_ENDED 11u               /* the connection, or the end, is over */
+#define OSI_BAD_STATE 12u           /* the call is not allowed in this phase (X.225 annex A) */
+#define OSI_NOT_SELECTED 13u        /* a functional unit or a token is not there, or units do not go together */
+#define OSI_TOKEN_NOT_HELD 14u      /* the call needs a token that the other side holds */
+#define OSI_TOKEN_ALREADY_HELD 15u  /* a token is asked for that is held */
+#define OSI_BAD_NUMBER 16u          /* the number is of no point that the call may name */
+#define OSI_SERIALS_USED_UP 17u     /* all numbers of points, up to 999,999, are used */
+#define OSI_EMPTY 18u               /* no octet of data, or no token */
+#define OSI_TOO_LONG 19u            /* too many octets; each call says how many there may be */
+#define OSI_NOT_CALLER 20u          /* only the calling end asks for connections */
+#define OSI_NEGOTIATING 21u         /* the first connection is not answered yet: ask again later */
+#define OSI_ONE_CONNECTION 22u      /* class 0 holds, which has one connection */
+#define OSI_TOO_MANY 23u            /* 64 connections are live */
+#define OSI_REFERENCES_USED_UP 24u  /* all 65,535 references were given */
+
+/* ---- what is passed ------------------------------------------------------------------------ */
+
+/* Octets, and how many. The pointer is never null. */
+typedef struct osi_octets {
+    const uint8_t *at;
+    size_t length;
+} osi_octets;
+
+/* No octets, as an osi_octets, and as the two arguments of a call. */
+#define OSI_NO_OCTETS { (const uint8_t *)"", 0 }
+#define OSI_NO_DATA ((const uint8_t *)""), ((size_t)0)
+
+/* The transport protocol of an end. */
+typedef struct osi_terms {
+    uint8_t classes; /* OSI_CLASS_0, OSI_CLASS_2 or both; a caller with neither takes class 0 */
+    uint8_t size;    /* the exponent of the largest TPDU: 7 (128 octets) to 13 (8,192) */
+    uint8_t window;  /* how many units of class 2 the peer may send ahead: 1 to 15 */
+} osi_terms;
+
+#define OSI_CLASS_0 1u
+#define OSI_CLASS_2 2u
+
+/* Functional units (X.225 section 8): half-duplex with any of minor, major, resynchronize and
+ * negotiated release; or duplex alone. */
+#define OSI_HALF_DUPLEX 0x0001u
+#define OSI_DUPLEX 0x0002u
+#define OSI_MINOR_SYNC 0x0008u
+#define OSI_MAJOR_SYNC 0x0010u
+#define OSI_RESYNCHRONIZE 0x0020u
+#define OSI_NEGOTIATED_RELEASE 0x0080u
+
+/* Sets of tokens. A token is there where its unit is selected: half-duplex, minor, major and
+ * negotiated release. Other bits are ignored. */
+#define OSI_TOKEN_DATA 0x01u
+#define OSI_TOKEN_MINOR 0x04u
+#define OSI_TOKEN_MAJOR 0x10u
+#define OSI_TOKEN_RELEASE 0x40u
+
+/* Who is to hold each token at first. */
+typedef struct osi_sides {
+    uint8_t data;
+    uint8_t minor;
+    uint8_t major;
+    uint8_t release;
+} osi_sides;
+
+#define OSI_ASKER 0u    /* the side that asks for the connection or the restart */
+#define OSI_ANSWERER 1u /* the side that answers */
+#define OSI_CHOICE 2u   /* in a wish alone: whom the answer names */
+
+/* A connection that is asked for. Each pointer is to be set: begin with OSI_OPENING. */
+typedef struct osi_opening {
+    uint16_t requirements;       /* functional units */
+    uint32_t serial;             /* the number of the first point, 0 to 999,999 */
+    osi_sides wishes;            /* who is to hold each token */
+    osi_octets calling_tsap;     /* the transport address of this end, 1 to 32 octets; none: no address */
+    osi_octets called_tsap;      /* that of the other end */
+    osi_octets calling_selector; /* the session address of this user, 1 to 16 octets; none: no address */
+    osi_octets called_selector;  /* that of the other user */
+    osi_octets user_data;        /* at most 10,240 octets */
+} osi_opening;
+
+#define OSI_OPENING \
+    { OSI_HALF_DUPLEX, 0, { OSI_ASKER, OSI_ASKER, OSI_ASKER, OSI_ASKER }, \
+      OSI_NO_OCTETS, OSI_NO_OCTETS, OSI_NO_OCTETS, OSI_NO_OCTETS, OSI_NO_OCTETS }
+
+/* ---- what is shown -------------------------------------------------------------------------- */
+
+/* Which indication it is (X.215 section 10), and which fields it has beside tag and reference. */
+#define OSI_NONE 0u                  /* none */
+#define OSI_CONNECT 1u               /* CN: requirements, number (if has_number), sides as wishes, user_data */
+#define OSI_CONNECTED 2u             /* AC: requirements, number (if has_number), sides, user_data */
+#define OSI_REFUSED_BY_TRANSPORT 3u  /* DR: reason (X.224 section 13.5.3) */
+#define OSI_REFUSED_BY_SESSION 4u    /* RF: reason (0, 1 and 2 are of the called user), user_data */
+#define OSI_DATA_SHOWN 5u            /* DT: user_data, an octet at least */
+#define OSI_GIVEN 6u                 /* GT: tokens */
+#define OSI_ASKED 7u                 /* PT: tokens, user_data */
+#define OSI_MINOR 8u                 /* MIP: number, confirm, user_data */
+#define OSI_MINOR_CONFIRMED 9u       /* MIA: number, user_data */
+#define OSI_MAJOR 10u                /* MAP: number, user_data */
+#define OSI_MAJOR_CONFIRMED 11u      /* MAA: user_data */
+#define OSI_RESTART 12u              /* RS: number, sides as wishes, user_data */
+#define OSI_RESTARTED 13u            /* RA: number, sides, user_data */
+#define OSI_RELEASE 14u              /* FN: user_data */
+#define OSI_RELEASED 15u             /* DN: user_data */
+#define OSI_RELEASE_REFUSED 16u      /* NF: user_data */
+#define OSI_ABORTED 17u              /* AB of the peer's user: user_data */
+#define OSI_LOST 18u                 /* the transport connection was closed or broken, or had a fault */
+#define OSI_PEER_ABORT 19u           /* AB of the peer's provider: reason, the octet of its parameter 17 */
+#define OSI_BAD_UNIT 20u             /* this end aborts, since a unit that came is bad: fault */
+
+/* Why a unit that came is bad. */
+typedef struct osi_fault {
+    uint8_t fault;     /* 1 spelling, 2 unexpected, 3 not selected, 4 token not held, 5 bad number, 6 bad tokens */
+    uint8_t si;        /* 2 to 6: the SI of the unit */
+    uint8_t spelling;  /* 1: 1 unknown SI, 2 length past end, 3 missing, 4 duplicate parameter, 5 bad value,
+                          6 bad concatenation, 7 octets left over */
+    uint8_t parameter; /* spelling 3, 4 and 5: the code of the parameter */
+    uint64_t offset;   /* 1: the place of the octet in the TSDU, from 0 */
+} osi_fault;
+
+/* What the user of a connection is shown. Fields that the tag does not have are 0. */
+typedef struct osi_indication {
+    uint32_t tag;
+    uint32_t number;       /* of a point, 0 to 999,999 */
+    uint16_t reference;    /* of this end: 1 to 65,535, and 0 for none */
+    uint16_t requirements; /* functional units */
+    uint8_t has_number;
+    uint8_t confirm;       /* 1 where the confirmation of the point is asked for */
+    uint8_t tokens;
+    uint8_t reason;
+    osi_sides sides;
+    osi_fault fault;
+    osi_octets user_data;  /* lent until the next call with this end */
+} osi_indication;
+
+/* ---- making and freeing ---------------------------------------------------------------------- */
+
+/* Makes the calling end of a byte connection, or the called one. Nothing is written yet.
+ * OSI_OK, OSI_BAD_ARGUMENT (terms), OSI_IN_USE, OSI_NO_MEMORY. */
+uint32_t osi_caller(osi_end *end, const osi_terms *terms);
+uint32_t osi_called(osi_end *end, const osi_terms *terms);
+
+/* Frees the end, if the slot holds one, with all that it has lent. The slot can be used again. */
+void osi_free(osi_end *end);
+
+/* ---- connections ------------------------------------------------------------------------------ */
+
+/* Asks for a connection: gives its reference, 1 to 65,535 and none twice, which is as it was on a
+ * refusal. The answer is an indication: OSI_CONNECTED, OSI_REFUSED_BY_*, or why it is over.
+ * OSI_OK, OSI_BAD_ARGUMENT (serial, wishes, a transport address of over 32 octets), OSI_CLOSED,
+ * OSI_NOT_CALLER, OSI_ENDED, OSI_NEGOTIATING, OSI_ONE_CONNECTION, OSI_TOO_MANY,
+ * OSI_REFERENCES_USED_UP, OSI_NOT_SELECTED, OSI_TOO_LONG, OSI_NO_MEMORY: the first that applies. */
+uint32_t osi_connect(osi_end *end, const osi_opening *asked, uint16_t *reference);
+
+/* ---- calls of the user of a connection (X.215 section 10) ---------------------------------------
+ * User data is at most 10,240 octets, unless it is said, and is copied. Each call answers the first
+ * that applies of OSI_BAD_ARGUMENT (where a call has numbers with a range), OSI_CLOSED,
+ * OSI_NO_SUCH_CONNECTION, OSI_ENDED, OSI_BAD_STATE, OSI_NOT_SELECTED, OSI_TOKEN_NOT_HELD,
+ * OSI_TOKEN_ALREADY_HELD, OSI_BAD_NUMBER, OSI_SERIALS_USED_UP, OSI_EMPTY, OSI_TOO_LONG and
+ * OSI_NO_MEMORY, or OSI_OK. What it sends stands in osi_outgoing then. */
+
+/* Answers OSI_CONNECT. The units are some of those that the CN names, half-duplex among them, or
+ * duplex alone; the number is that of the first point, 0 to 999,999; the sides hold the tokens of
+ * which the choice was this side's. */
+uint32_t osi_accept(osi_end *end, uint16_t reference, uint16_t requirements, uint32_t number,
+                    const osi_sides *sides, const uint8_t *data, size_t length);
+uint32_t osi_refuse(osi_end *end, uint16_t reference, const uint8_t *data, size_t length);
+
+/* Sends data, 1 to 1,048,572 octets. */
+uint32_t osi_data(osi_end *end, uint16_t reference, const uint8_t *data, size_t length);
+
+/* Gives tokens that are held, or asks for tokens that are not, one at least. */
+uint32_t osi_give(osi_end *end, uint16_t reference, uint8_t tokens);
+uint32_t osi_please(osi_end *end, uint16_t reference, uint8_t tokens, const uint8_t *data, size_t length);
+
+/* Sets a minor point, whose number is osi_next_serial before the call; its confirmation is asked for
+ * unless confirm is 0. Confirms all minor points up to this number. */
+uint32_t osi_minor(osi_end *end, uint16_t reference, uint8_t confirm, const uint8_t *data, size_t length);
+uint32_t osi_minor_confirm(osi_end *end, uint16_t reference, uint32_t number, const uint8_t *data, size_t length);
+
+/* Sets a major point; answers OSI_MAJOR. */
+uint32_t osi_major(osi_end *end, uint16_t reference, const uint8_t *data, size_t length);
+uint32_t osi_major_confirm(osi_end *end, uint16_t reference, const uint8_t *data, size_t length);
+
+/* Restarts at a point, whose number the next one then has; answers OSI_RESTART. */
+uint32_t osi_restart(osi_end *end, uint16_t reference, uint32_t number, const osi_sides *wishes,
+                     const uint8_t *data, size_t length);
+uint32_t osi_restart_confirm(osi_end *end, uint16_t reference, const osi_sides *sides,
+                             const uint8_t *data, size_t length);
+
+/* Asks for the release; answers OSI_RELEASE. */
+uint32_t osi_release(osi_end *end, uint16_t reference, const uint8_t *data, size_t length);
+uint32_t osi_release_accept(osi_end *end, uint16_t reference, const uint8_t *data, size_t length);
+uint32_t osi_release_refuse(osi_end *end, uint16_t reference, const uint8_t *data, size_t length);
+
+/* Aborts the connection. */
+uint32_t osi_abort(osi_end *end, uint16_t reference, const uint8_t *data, size_t length);
+
+/* ---- octets ------------------------------------------------------------------------------------- */
+
+/* What osi_feed did. */
+typedef struct osi_fed {
+    size_t used; /* so many octets of the piece were used, at most all */
+    bool waits;  /* an indication waits */
+} osi_fed;
+
+/* Feeds octets that came from the peer, in the order in which they came, cut in any way. It stops
+ * behind a packet that gives an indication, and uses nothing while one waits: fetch them all, and
+ * then feed the rest of the piece. Once the end has ended it uses all. Where it finds no memory the
+ * end ends (OSI_END_NO_MEMORY). Of a slot without an end it uses nothing. OSI_OK, OSI_CLOSED. */
+uint32_t osi_feed(osi_end *end, const uint8_t *piece, size_t length, osi_fed *fed);
+
+/* Lends the octets that are to be carried to the peer, the first of them first; none of a slot that
+ * holds no end. They are there until the next call with this end. */
+void osi_outgoing(osi_end *end, osi_octets *octets);
+
+/* So many of them, the first, have been carried. OSI_OK, OSI_CLOSED, OSI_BAD_ARGUMENT (more than
+ * there are). */
+uint32_t osi_taken(osi_end *end, size_t octets);
+
+/* The byte connection is over: it broke, or the peer closed it. Each user that has not been told the
+ * end of his connection is then shown OSI_LOST. Nothing where the end has ended. OSI_OK, OSI_CLOSED. */
+uint32_t osi_broken(osi_end *end);
+
+/* Why the end has ended, and what belongs to it. Where it has, osi_outgoing is still to be carried
+ * (unless the byte connection broke); then the byte connection is to be closed. */
+#define OSI_END_NONE 0u                 /* it has not; and for a slot that holds no end */
+#define OSI_END_BROKEN 1u               /* osi_broken */
+#define OSI_END_CLOSED 2u               /* its connection of class 0 was closed here */
+#define OSI_END_PEER_CLOSED 3u          /* the peer closed it by a DR: detail is the reason */
+#define OSI_END_NO_MEMORY 4u            /* osi_feed found no memory */
+#define OSI_END_UNKNOWN_REFERENCE 5u    /* from here on: the peer broke a rule of X.224 or RFC 1006 */
+#define OSI_END_BAD_ANSWER 6u
+#define OSI_END_UNEXPECTED_UNIT 7u
+#define OSI_END_BAD_VERSION 10u         /* detail: the place in the stream of the packet's first octet */
+#define OSI_END_BAD_LENGTH 11u          /* the same */
+#define OSI_END_NO_MEMORY_FOR_PACKET 12u
+#define OSI_END_BAD_LI 13u              /* 13 to 17: detail is the place of the octet in the packet's units */
+#define OSI_END_UNKNOWN_CODE 14u
+#define OSI_END_BAD_PARAMETER_LENGTH 15u
+#define OSI_END_BAD_PARAMETER_VALUE 16u
+#define OSI_END_DUPLICATE_PARAMETER 17u
+#define OSI_END_WRONG_FORM 18u
+#define OSI_END_OUT_OF_SEQUENCE 19u
+#define OSI_END_CREDIT_REDUCED 20u
+#define OSI_END_TSDU_TOO_LONG 21u
+#define OSI_END_NO_MEMORY_FOR_TSDU 22u
+uint32_t osi_ended(osi_end *end, uint64_t *detail);
+
+/* How many octets are kept of a packet and of TSDUs that are not whole yet: at most 65,535, and
+ * 1,048,576 for each live connection. */
+size_t osi_kept(osi_end *end);
+
+/* ---- indications ----------------------------------------------------------------------------------- */
+
+/* Fetches the oldest indication of the connection with the lowest reference that has one. It takes no
+ * memory. OSI_OK, OSI_NOTHING (none waits, and the last one is forgotten), OSI_CLOSED. */
+uint32_t osi_fetch(osi_end *end);
+
+/* Shows the indication that was fetched last; OSI_NONE where there is none. */
+void osi_last(osi_end *end, osi_indication *shown);
+
+/* Both: whether there was one. */
+static inline bool osi_next(osi_end *end, osi_indication *shown)
+{
+    uint32_t code = osi_fetch(end);
+    osi_last(end, shown);
+    return code == OSI_OK;
+}
+
+/* ---- where a connection stands ---------------------------------------------------------------------- */
+
+/* OSI_PHASE_NONE for a reference that was never given and for a slot that holds no end, and
+ * OSI_PHASE_ENDED once the connection is gone. */
+#define OSI_PHASE_NONE 0u
+#define OSI_PHASE_WAIT_TRANSPORT 1u
+#define OSI_PHASE_WAIT_CN 2u
+#define OSI_PHASE_CONNECTING 3u
+#define OSI_PHASE_ANSWERING 4u
+#define OSI_PHASE_READY 5u
+#define OSI_PHASE_MAJOR_ASKED 6u
+#define OSI_PHASE_MAJOR_DUE 7u
+#define OSI_PHASE_RELEASING 8u
+#define OSI_PHASE_RELEASE_DUE 9u
+#define OSI_PHASE_RESTARTING 10u
+#define OSI_PHASE_RESTART_DUE 11u
+#define OSI_PHASE_ABORTING 12u
+#define OSI_PHASE_ENDED 13u
+uint32_t osi_phase(osi_end *end, uint16_t reference);
+
+/* The tokens that this end holds; none for a connection that is gone or never was. */
+uint8_t osi_held(osi_end *end, uint16_t reference);
+
+/* V(M), the number of the next point; V(A), below which all are confirmed; V(R), the lowest number at
+ * which this end may restart. Each is 0 for a connection that is gone or never was. */
+uint32_t osi_next_serial(osi_end *end, uint16_t reference);
+uint32_t osi_confirmed_below(osi_end *end, uint16_t reference);
+uint32_t osi_lowest_restart(osi_end *end, uint16_t reference);
+
+#ifdef __cplusplus
+}
+#endif
+
+#endif
