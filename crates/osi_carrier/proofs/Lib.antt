@@ -45,3 +45,5 @@ pub mod Terms
 pub mod Emptied
 pub mod Journeys
 pub mod Holdings
+pub mod Amongs
+pub mod Tellings

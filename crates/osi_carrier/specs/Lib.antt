@@ -28,3 +28,4 @@ pub mod Zero
 pub mod Refusing
 pub mod Between
 pub mod Journey
+pub mod Carried

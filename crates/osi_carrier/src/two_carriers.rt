@@ -11,13 +11,14 @@ ghost use Rattle.osi_class.specs.Between.{IsShortTsdu};
 ghost use Rattle.osi_class.specs.Link.{Standing};
 ghost use Rattle.osi_class.specs.declared.terms.Local.{Local};
 ghost use Rattle.osi_carrier.specs.Addresses.{reference_of};
-ghost use Rattle.osi_carrier.specs.Between.{Both, side, arriving, Between, last_of, units_from, lost_from, answers_in, AreBetween, Acted, becomes, Took, Same, handed_over, still_to_tell, Lost, ended_at, broken_at, fresh_both, fresh_between, IsStill, IsAllThere};
+ghost use Rattle.osi_carrier.specs.Between.{Both, side, arriving, Between, last_of, units_from, lost_from, under_way, answers_in, AreBetween, Acted, becomes, Took, Same, handed_over, still_to_tell, Lost, ended_at, broken_at, fresh_both, fresh_between, IsStill, IsAllThere};
 ghost use Rattle.osi_carrier.specs.Terms.{Terms, by_two, by_zero, terms_of};
 ghost use Rattle.osi_carrier.specs.declared.ends.EndReason.{EndReason};
 ghost use Rattle.osi_carrier.specs.declared.ends.EndReason.TheVariants.{Closed, NoMemory};
 ghost use Rattle.osi_tpkt.specs.Packet.{IsPacket, IsFaultOf, packet_of};
 ghost use Rattle.osi_tpkt.specs.declared.faults.TpktFault.{TpktFault};
 ghost use Rattle.osi_carrier.specs.Calls.{fresh_state, may_connect, asks, sent, closed_with};
+ghost use Rattle.osi_carrier.specs.Carried.{tsdus_in, all_told, all_handed_in, AreAmong};
 ghost use Rattle.osi_carrier.specs.Coming.{IsSendable, AreComing, TakesSome};
 ghost use Rattle.osi_carrier.specs.Course.{place_at, answers_at, IsTsap};
 ghost use Rattle.osi_carrier.specs.Joined.{AreJoined, CallerDid, CalledDid, IsEmpty, under_way_for};
@@ -181,12 +182,17 @@ pub fn what_an_end_holds()
 
 /// Over every list of what can happen to two new carriers: calls at both, octets that are handed over in
 /// whatever pieces, packets that are taken, events that are told, ends and a break, in any order in which they
-/// may happen. The two then stand between as they should, so nothing is under way but what was put and has not
-/// arrived; and an end has ended for no other reason than the list gives: a close of the connection of class 0,
+/// may happen. The TSDUs that are told at one end for a connection are, in their order and with their octets,
+/// of those that were under way to it and then those that were handed in at the other, and no others. The two
+/// then stand between as they should; and an end has ended for no other reason than the list gives: a close of the connection of class 0,
 /// or an end of its own. So neither ends by what the other wrote.
 pub fn what_no_list_of_calls_can_do()
     ensures stays { (caller called : Local) (moves : List Move) → MayAll moves (fresh_both caller called) →
         StayBetween (terms_of caller called) moves (fresh_both caller called) }
+    ensures told { (caller called : Local) (moves : List Move) (from : Bool) (n : ℕ) → MayAll moves (fresh_both caller called) →
+        AreAmong (all_told (not from) n moves (fresh_both caller called)) (all_handed_in from n moves) }
+    ensures told_on { (terms : Terms) (moves : List Move) (both : Both) (b : Between) (from : Bool) (n : ℕ) → AreBetween terms both b → MayAll moves both →
+        AreAmong (all_told (not from) n moves both) (tsdus_in (under_way from n both b) ++ all_handed_in from n moves) }
     ensures goes_on { (terms : Terms) (moves : List Move) (both : Both) (b : Between) → AreBetween terms both b → MayAll moves both →
         StayBetween terms moves both }
 {}
