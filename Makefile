@@ -2,7 +2,8 @@
 # make edits, or make edits CRATE=osi_spdu: tries the edits of crates/*/edits, which the prover must refuse, and the
 # functions of scripts/refused_borrows, which must not compile.
 # make lib: builds the library for C, into build/: libosi.a, libosi.so and osi.pc. make install PREFIX=.. puts them,
-# with include/osi.h, where the compiler finds them. make gateways: builds and runs the programs of examples/gateway.
+# with include/osi.h, where the compiler finds them. make gateways: builds the program and the library, and builds and
+# runs the programs of examples/gateway (scripts/gateways does so with what was built before).
 .PHONY: all test edits bench lib install gateways
 PREFIX ?= /usr/local
 
@@ -31,5 +32,5 @@ install: lib
 	install -m 755 build/libosi.so $(DESTDIR)$(PREFIX)/lib
 	install -m 644 build/osi.pc $(DESTDIR)$(PREFIX)/lib/pkgconfig
 
-gateways: lib
+gateways: all lib
 	scripts/gateways
