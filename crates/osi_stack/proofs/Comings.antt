@@ -1,5 +1,5 @@
 -- Octets that the other end wrote are read as the units that it wrote.
-use Rattle.std.proofs.Common.{◌≡◌, ℕ, ◌+◌, ◌-◌, ◌<◌, ◌≤◌, Bool, true, false, ◌||◌, not, is_some, List, [], ◌∷◌, ◌++◌, length, map, take, drop, Option, None, Some, Result, Ok, Err, refl, sym, ap, subst, ◌∙◌, inl, inr, ◌⊎◌, arith, append_assoc, length-append, if◌then◌else◌}
+use Rattle.std.proofs.Common.{◌≡◌, ℕ, ◌+◌, ◌-◌, ◌<◌, ◌≤◌, Bool, true, false, ◌||◌, not, is_some, List, [], ◌∷◌, ◌++◌, length, map, take, drop, Option, None, Some, Result, Ok, refl, sym, ap, subst, ◌∙◌, inl, inr, ◌⊎◌, arith, append_assoc, length-append, if◌then◌else◌}
 use Rattle.std.specs.List.{AllByRecursion}
 use Rattle.std.proofs.lemmas.List.{append_cancel_left, take-append-drop, length-take-le, take-take}
 use Rattle.osi_tpkt.specs.Packet.{IsPacket, packet_of}
@@ -25,7 +25,7 @@ use Rattle.osi_carrier.proofs.Units.{written_least}
 use Rattle.osi_stack.specs.Coming.{after_unit, carries_out, TakesUnits, IsUnheard, TakesSome}
 use Rattle.osi_stack.specs.Feeding.{stops, uses_all, TakesPackets, RunsDry, StopsBehind, Refuses, FindsNoMemory, Goes, Feeds}
 use Rattle.osi_stack.specs.Hearing.{attends, after_packet, with_carrier, with_events, hears_all, hears_times, hears_first, hears_next, ends, concludes, RunsOut, Starves}
-use Rattle.osi_stack.specs.State.{Line, End, Holding, IsAttended, waits}
+use Rattle.osi_stack.specs.State.{End, Holding, IsAttended, waits}
 use Rattle.osi_stack.proofs.Events.{all_quiet, never_starved, concluded_attended, starved_over as ended_then}
 use Rattle.osi_stack.proofs.Keeping.{hears_keep}
 use Rattle.osi_stack.proofs.Lifting.{packet_is}
@@ -191,7 +191,7 @@ all_heard (x ∷ xs) e h =
 pub attended_then : (e new : End) → new ≡ attends e → IsAttended new
 attended_then e new h = concluded_attended (hears_all e) new h (all_heard e.carrier.events e refl)
 
-attended_along : (units : List (List ℕ)) (old new : End) → TakesPackets old units new → IsAttended old → IsAttended new
+pub attended_along : (units : List (List ℕ)) (old new : End) → TakesPackets old units new → IsAttended old → IsAttended new
 attended_along [] old new h attended = subst IsAttended (sym h) attended
 attended_along (u ∷ units) old new h attended =
     attended_along units (after_packet old u) new h.1 (attended_then (with_carrier (carriers.after_packet old.carrier u) old) (after_packet old u) (packet_is old u))

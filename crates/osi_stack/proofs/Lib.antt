@@ -9,3 +9,10 @@ pub mod Lifting
 pub mod Pieces
 pub mod Comings
 pub mod Moves
+pub mod Linking
+pub mod Soundness
+pub mod Tables
+pub mod Folds
+pub mod Shortness
+pub mod Answering
+pub mod Attending

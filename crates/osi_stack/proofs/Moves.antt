@@ -1,5 +1,5 @@
 -- What a session that makes a move leaves, and a message that arrives.
-use Rattle.std.proofs.Common.{◌≡◌, ◌≢◌, ℕ, zero, suc, ◌<◌, ◌≤◌, ◌==◌, Bool, true, false, not, ◌||◌, List, [], ◌∷◌, ◌++◌, length, nat_lt, nat_le, map, Option, Some, None, is_some, IsSome, option_map, Result, Ok, Err, refl, sym, ap, subst, ◌∙◌, arith, if◌then◌else◌}
+use Rattle.std.proofs.Common.{◌≡◌, ℕ, suc, ◌≤◌, ◌==◌, Bool, true, false, not, ◌||◌, List, [], ◌∷◌, ◌++◌, length, nat_lt, Option, Some, None, is_some, IsSome, option_map, Result, Ok, Err, refl, sym, ap, subst, ◌∙◌, arith, if◌then◌else◌}
 use Rattle.std.proofs.lemmas.Bool.{eqb-true}
 use Rattle.std.proofs.lemmas.Bool.Decides.{nat_tests}
 use Rattle.osi_tpdu.specs.Value.{Value}
@@ -11,7 +11,7 @@ use Rattle.osi_carrier.specs.React as carriers
 use Rattle.osi_carrier.specs.Rows.{Rows, value_at, put}
 use Rattle.osi_carrier.specs.State.{Connection, asked, linked, closing, State as Carrier}
 use Rattle.osi_carrier.specs.declared.faults.SendError.{SendError}
-use Rattle.osi_carrier.specs.declared.faults.SendError.TheVariants.{NotOpen, TooLong}
+use Rattle.osi_carrier.specs.declared.faults.SendError.TheVariants.{TooLong}
 use Rattle.osi_carrier.proofs.Apart.{put_here}
 use Rattle.osi_carrier.proofs.AtReferences.{put_other}
 use Rattle.osi_class.specs.Link.{Standing as Link}
@@ -22,19 +22,19 @@ use Rattle.osi_spdu.specs.declared.faults.SpduFault.{SpduFault}
 use Rattle.osi_message.specs.Sendable.{said_of, IsSendable}
 use Rattle.osi_message.specs.Written.{written, spelled}
 use Rattle.osi_spdu.specs.Reading.{tsdu_at}
-use Rattle.osi_session.specs.Moves.{Input, Standing, Move, called, opened, refused, broken, taken, came, came_as, in_state, answered, react}
+use Rattle.osi_session.specs.Moves.{Input, Standing, Move, called, opened, refused, broken, taken, came, came_as, answered, react}
 use Rattle.osi_session.specs.Sessions.{awaits}
 use Rattle.osi_session.specs.Shown.{Shown}
-use Rattle.osi_stack.specs.Calls.{first_shown, first_by, without_first, rest_by, has_given, send_refusal, reply_refusal, or_else, move_refusal, session_refusal, call_error}
+use Rattle.osi_stack.specs.Calls.{first_shown, first_by, without_first, rest_by, has_given, send_refusal, move_refusal, session_refusal, call_error}
 use Rattle.osi_stack.specs.Coming.{carries_out, after_unit}
-use Rattle.osi_stack.specs.Hearing.{opens, hears, hears_times, hears_next, hears_first, hears_all, with_events, concludes, attends, shown_at_loss, loses, all_lost}
-use Rattle.osi_stack.specs.Messages.{Message, unit, ask, agree, deny, bye, over, IsWhole, put_by, puts, Acts, Effect, begins, happens, rests, effect_at, told_at, HasSession, IsShort, CanHear, Hears, told_all, Arrives, kept_at, waiting_of, waiting_at, Becomes, IsGranted, Says, AreLost, shown_of, all_waiting, IsFirstOf}
-use Rattle.osi_stack.specs.Moving.{answers, line_after, line_by, carrier_by, by_line, to_session}
+use Rattle.osi_stack.specs.Hearing.{opens, hears, hears_times, hears_first, hears_all, with_events, concludes, attends, shown_at_loss, loses, all_lost}
+use Rattle.osi_stack.specs.Messages.{Message, unit, ask, agree, deny, bye, over, IsWhole, put_by, puts, Acts, Effect, begins, happens, rests, effect_at, told_at, HasSession, IsShort, CanHear, Hears, told_all, Arrives, kept_at, waiting_of, Becomes, IsGranted, Says, AreLost, shown_of, all_waiting, IsFirstOf}
+use Rattle.osi_stack.specs.Moving.{line_after, line_by, carrier_by, by_line, to_session}
 use Rattle.osi_stack.specs.State.{Line, End, session_in, session_at, line_waits, waits, is_used, used_lines, joins}
-use Rattle.osi_stack.specs.Transport.{sent_unless, hands, hands_some, answers_by}
+use Rattle.osi_stack.specs.Transport.{sent_unless, hands, answers_by}
 use Rattle.osi_stack.proofs.Events.{all_quiet}
 use Rattle.osi_stack.proofs.Lifting.{or_first, or_second}
-use Rattle.osi_session.specs.Allowed.{Step, Answer, allowed}
+use Rattle.osi_session.specs.Allowed.{Answer, allowed}
 use Rattle.osi_session.specs.Calls.{Call}
 use Rattle.osi_session.specs.declared.faults.CallError.{CallError}
 use Rattle.osi_session.specs.declared.faults.CallError.TheVariants as error
@@ -250,7 +250,7 @@ granted_by r call s c (Ok step) e h =
       next = ap (λ (m : Move). m.next) is;
     }
 
-line_of : (b : Bool) (o : Option Line) (s : Standing) → (if b then session_in o else None) ≡ Some s → (line : Line) × (o ≡ Some line) × (line.session ≡ Some s)
+pub line_of : (b : Bool) (o : Option Line) (s : Standing) → (if b then session_in o else None) ≡ Some s → (line : Line) × (o ≡ Some line) × (line.session ≡ Some s)
 line_of true (Some line) s h = (line, refl, h)
 line_of true None s h = cc
 line_of false o s h = cc

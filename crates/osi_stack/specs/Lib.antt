@@ -6,5 +6,7 @@ pub mod Hearing
 pub mod Feeding
 pub mod Coming
 pub mod Messages
+pub mod Links
 pub mod Calls
 pub mod Fetching
+pub mod Folds

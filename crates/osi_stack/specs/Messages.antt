@@ -10,7 +10,7 @@ use Rattle.osi_carrier.specs.Happenings.{Happening}
 use Rattle.osi_carrier.specs.Happenings as told
 use Rattle.osi_carrier.specs.Messages as between
 use Rattle.osi_carrier.specs.Rows.{Rows, value_at, put}
-use Rattle.osi_carrier.specs.State.{Connection, asked, linked, closing, State as Carrier}
+use Rattle.osi_carrier.specs.State.{asked, linked, State as Carrier}
 use Rattle.osi_session.specs.Allowed.{Step, allowed}
 use Rattle.osi_session.specs.Calls.{Call}
 use Rattle.osi_session.specs.Moves.{Input, Standing, called, opened, refused, broken, taken, in_state, react}

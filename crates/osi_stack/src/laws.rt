@@ -1,6 +1,6 @@
 //! Laws of one end. Each function does nothing: its clauses are the laws.
 
-ghost use Rattle.std.specs.Prelude.{◌≡◌, ◌≤◌, ℕ, List, [], None, is_some, false, true, length, take};
+ghost use Rattle.std.specs.Prelude.{◌≡◌, ◌≤◌, ℕ, Bool, List, [], None, is_some, false, true, length, take};
 ghost use Rattle.osi_tpkt.specs.declared.cutting.Fed.{Fed};
 ghost use Rattle.osi_tpdu.specs.Value.{Value};
 ghost use Rattle.osi_tpdu.specs.Writing.{written};
@@ -9,17 +9,27 @@ ghost use Rattle.osi_carrier.specs.Course.{Place};
 ghost use Rattle.osi_carrier.specs.React.{react as carrier_react};
 ghost use Rattle.osi_carrier.specs.Rows.{Rows, value_at};
 ghost use Rattle.osi_carrier.specs.State.{Connection};
-ghost use Rattle.osi_session.specs.Calls.{Call};
+ghost use Rattle.osi_session.specs.Calls.{Call, HasSerial};
 ghost use Rattle.osi_session.specs.Moves.{Input, called, react};
-ghost use Rattle.osi_stack.specs.Calls.{call_error, first_shown, without_first};
+ghost use Rattle.osi_stack.specs.Calls.{call_error, table_error, connect_error, connects, carried, breaks, first_shown, without_first};
+ghost use Rattle.osi_stack.specs.Folds.{AllCameAbout};
+ghost use Rattle.osi_stack.specs.Links.{IsSound, Soundness};
+ghost use Rattle.osi_stack.specs.declared.connecting.Connect.{Connect};
+ghost use Rattle.osi_class.specs.declared.terms.Local.{Local};
 ghost use Rattle.osi_stack.specs.Coming.{after_unit, TakesSome};
 ghost use Rattle.osi_stack.specs.Feeding.{Feeds};
 ghost use Rattle.osi_stack.specs.Hearing.{after_packet, all_lost};
 ghost use Rattle.osi_stack.specs.Messages.{Message, IsWhole, Acts, effect_at, told_at, CanHear, Arrives, kept_at, Becomes, Says, AreLost, all_waiting, IsFirstOf};
 ghost use Rattle.osi_stack.specs.Moving.{to_session};
-ghost use Rattle.osi_stack.specs.State.{Line, End, Holding, IsAttended, waits, used_lines};
+ghost use Rattle.osi_stack.specs.State.{Line, End, Holding, IsAttended, fresh_end, waits, used_lines};
 
 use osi_message::laws::what_is_sent_is_read;
+use osi_session::laws::{
+    an_ended_session_stays_ended, numbers_stay_in_order, what_an_accepted_call_passed,
+    what_closes_sends_nothing, what_happens_has_numbers, what_is_sent_can_be_sent,
+    where_a_call_is_accepted,
+};
+use osi_spdu::laws::{few_octets_fit, serial_digits};
 
 /// However many of the octets are fed that the other end wrote, what an end does is to take the units
 /// that these are, one after the other, up to one that stops it or finds no memory.
@@ -63,4 +73,57 @@ pub fn what_waits_is_told_in_order()
     ensures none { (lines : Rows Line) → waits lines ≡ false → all_waiting lines ≡ [] }
     ensures lines { (r : ℕ) (live : Rows Connection) (lines : Rows Line) → is_some (value_at r live) ≡ true →
         value_at r (used_lines live lines) ≡ value_at r lines }
+{}
+
+/// Whatever is called and fed, while the carrier of an end lasts: each live connection and each line has a
+/// reference of its own that was given, and each session that a call can be accepted by, or that awaits a
+/// CN, has an open transport connection.
+pub fn a_session_that_is_called_has_a_connection()
+    ensures begins { (is_caller : Bool) (local : Local) → IsSound (fresh_end is_caller local) }
+    ensures connects { (c : Connect) (e : End) → connect_error c e ≡ None → IsSound e → IsSound (connects c e) }
+    ensures called { (r : ℕ) (call : Call) (e : End) → IsSound e → IsSound (to_session r (called call) e) }
+    ensures fed { (old new : Holding) (piece : List ℕ) (fed : Fed) → Feeds old piece fed new → IsAttended old.end → IsSound old.end → IsSound new.end }
+    ensures shown { (e : End) → IsSound e → IsSound (record e { lines = without_first e.lines }) }
+    ensures carried { (octets : ℕ) (e : End) → IsSound e → IsSound (carried octets e) }
+    ensures broken { (e : End) → IsSound (breaks e) }
+{
+    an_ended_session_stays_ended();
+    what_closes_sends_nothing();
+    where_a_call_is_accepted();
+}
+
+/// Each session of an end is what its inputs made of it: it awaited a CN, or was to send one, and then its
+/// calls, the TSDUs that came and what befell its transport connection acted one after the other, whatever
+/// is called and in whatever pieces octets come. So the laws of `osi_session` over lists of inputs hold.
+pub fn a_session_is_what_its_inputs_made_it()
+    ensures connects { (c : Connect) (e : End) → AllCameAbout e.lines → AllCameAbout (connects c e).lines }
+    ensures called { (r : ℕ) (call : Call) (e : End) → HasSerial call → AllCameAbout e.lines → AllCameAbout (to_session r (called call) e).lines }
+    ensures fed { (old new : Holding) (piece : List ℕ) (fed : Fed) → Feeds old piece fed new → AllCameAbout old.end.lines → AllCameAbout new.end.lines }
+    ensures shown { (lines : Rows Line) → AllCameAbout lines → AllCameAbout (without_first lines) }
+    ensures broken { (e : End) → AllCameAbout e.lines → AllCameAbout (breaks e).lines }
+{
+    what_happens_has_numbers();
+}
+
+/// So what a call is answered is what the table of its session says: a session by which it is accepted has an
+/// open transport connection, and what it sends is no longer than a TSDU may be.
+pub fn a_call_is_answered_by_its_session()
+    ensures { (r : ℕ) (call : Call) (e : End) → HasSerial call → e.carrier.ended ≡ None → Soundness e → AllCameAbout e.lines →
+        call_error r call e ≡ table_error r call e }
+{
+    few_octets_fit();
+    serial_digits();
+    numbers_stay_in_order();
+    what_is_sent_can_be_sent();
+    what_an_accepted_call_passed();
+    where_a_call_is_accepted();
+}
+
+/// While the carrier of an end lasts, the sessions have heard all that it told, between any two calls.
+pub fn all_that_is_told_is_heard()
+    ensures begins { (is_caller : Bool) (local : Local) → IsAttended (fresh_end is_caller local) }
+    ensures connects { (c : Connect) (e : End) → IsAttended e → IsAttended (connects c e) }
+    ensures called { (r : ℕ) (call : Call) (e : End) → IsAttended e → IsAttended (to_session r (called call) e) }
+    ensures fed { (old new : Holding) (piece : List ℕ) (fed : Fed) → Feeds old piece fed new → IsAttended old.end → IsAttended new.end }
+    ensures broken { (e : End) → IsAttended e → IsAttended (breaks e) }
 {}

@@ -1,4 +1,4 @@
-use Rattle.osi_stack.proofs.Moves.{Readings, arrives, acts_becomes}
+use Rattle.osi_stack.proofs.Moves.{arrives, acts_becomes}
 use Rattle.osi_stack.proofs.laws.what_a_message_does.Goals as goal
 
 pub returns : goal.returns

@@ -1,0 +1,561 @@
+-- Sessions keep transport connections that are open, whatever is heard.
+use Rattle.std.proofs.Common.{◌≡◌, ◌≢◌, ℕ, zero, suc, ◌+◌, ◌==◌, Bool, true, false, not, ◌&&◌, ◌||◌, List, [], ◌∷◌, ◌++◌, length, Option, Some, None, is_some, IsSome, option_map, Result, Ok, Err, refl, sym, ap, subst, ◌∙◌, inl, inr, ◌⊎◌, if◌then◌else◌}
+use Rattle.std.proofs.lemmas.Bool.{eqb-true, eq-eqb}
+use Rattle.osi_carrier.specs.Calls.{send_error, open_link, link_of, sent, sent_on, closes, closed_on, closed_with}
+use Rattle.osi_carrier.specs.Happenings.{Happening}
+use Rattle.osi_carrier.specs.Happenings as told
+use Rattle.osi_carrier.specs.Rows.{Rows, value_at, put}
+use Rattle.osi_carrier.specs.State.{Connection, linked, closing, State as Carrier}
+use Rattle.osi_carrier.specs.Told.{is_open, open_after}
+use Rattle.osi_carrier.specs.declared.faults.SendError.{SendError}
+use Rattle.osi_carrier.proofs.Apart.{put_here, push_here}
+use Rattle.osi_carrier.proofs.AtReferences.{put_other, push_other, put_none}
+use Rattle.osi_carrier.proofs.Places.{put_same}
+use Rattle.osi_carrier.specs.Orderly.{told_of}
+use Rattle.osi_message.specs.Written.{written}
+use Rattle.osi_carrier.proofs.ToldOpen.{sent_opens, closed_opens}
+use Rattle.osi_class.specs.Link.{Standing as Link}
+use Rattle.osi_class.specs.declared.terms.Class.{Class}
+use Rattle.osi_class.specs.declared.terms.Class.TheVariants.{Zero, Two}
+use Rattle.osi_session.specs.Moves.{Input, Standing, opened, refused, broken, came, came_as, react}
+use Rattle.osi_message.specs.Reading.{Said, said_at}
+use Rattle.osi_spdu.specs.declared.faults.SpduFault.{SpduFault}
+use Rattle.osi_session.specs.Phases.{is_ended}
+use Rattle.osi_session.specs.Sessions.{awaits}
+use Rattle.osi_session.specs.declared.phases.Phase.{Phase}
+use Rattle.osi_stack.specs.Hearing.{opens, hears, hears_first, hears_next, hears_times, with_events, loses, all_lost}
+use Rattle.osi_stack.specs.Links.{needs_link, AreApart}
+use Rattle.osi_stack.specs.Messages.{kept_at}
+use Rattle.osi_stack.specs.Moving.{line_by, carrier_by, by_line, to_session}
+use Rattle.osi_stack.specs.State.{Line, End, session_in, line_waits, is_used, used_lines, joins}
+use Rattle.osi_stack.specs.Transport.{sent_unless, answers_by}
+use Rattle.osi_stack.proofs.Keeping.{hears_keep}
+use Rattle.osi_stack.proofs.Lifting.{both}
+use Rattle.osi_stack.proofs.Moves.{lost_at}
+
+-- what the tables of sessions say
+pub record SessionLaws : Type 0 where
+  pub closed : (s : Standing) (input : Input) → (react s input).closes ≡ true → is_ended (react s input).next.state.phase ≡ true
+  pub ended : (s : Standing) (input : Input) → is_ended s.state.phase ≡ true → is_ended (react s input).next.state.phase ≡ true
+  pub linked : (s : Standing) (input : Input) → (input ≡ opened → ⊥) → needs_link (react s input).next.state.phase ≡ true → needs_link s.state.phase ≡ true
+  -- once it is there
+  pub begun : (s : Standing) → needs_link (react s opened).next.state.phase ≡ true → needs_link s.state.phase ≡ false → is_ended s.state.phase ≡ false
+  pub unneeded : (p : Phase) → is_ended p ≡ true → needs_link p ≡ false
+
+-- ---- what a session does to the carrier
+
+put_some_by : {X : Type 0} (r q : ℕ) (x : X) (rows : Rows X) (o : Option X) (b : Bool) → (r == q) ≡ b → value_at r rows ≡ o → IsSome o → IsSome (value_at r (put q x rows))
+put_some_by r q x rows None b e at some = cc
+put_some_by {X} r q x rows (Some y) true e at some =
+    let same = eqb-true r q e in
+    let there = put_here r x y rows at in
+    subst (λ (n : ℕ). IsSome (value_at r (put n x rows))) same (ap is_some there)
+put_some_by r q x rows (Some y) false e at some =
+    let other : r ≢ q = (λ same. both (r == q) (eq-eqb r q same) e) in
+    ap is_some (put_other r q x rows other ∙ at)
+
+pub put_some : {X : Type 0} (r q : ℕ) (x : X) (rows : Rows X) → IsSome (value_at r rows) → IsSome (value_at r (put q x rows))
+put_some r q x rows some = put_some_by r q x rows (value_at r rows) (r == q) refl refl some
+
+-- after the answer of a session that closes its connection, or not
+pub record Answered (q : ℕ) (closes : Bool) (c d : Carrier) : Type 0 where
+  pub others : d.ended ≡ None → (r : ℕ) → r ≢ q → is_open r d ≡ is_open r c
+  pub stays : d.ended ≡ None → (r : ℕ) → IsSome (value_at r c.live) → IsSome (value_at r d.live)
+  pub here : closes ≡ false → is_open q d ≡ is_open q c
+  pub closing_here : closes ≡ true → d.ended ≡ None → (is_open q d ≡ is_open q c) ⊎ IsSome (value_at q d.live)
+
+unanswered : (q : ℕ) (closes : Bool) (c : Carrier) → Answered q closes c c
+unanswered q closes c = record { others = λ over r ne. refl; stays = λ over r some. some; here = λ e. refl; closing_here = λ e over. inl refl }
+
+sent_stays_by : (q : ℕ) (tsdu : List ℕ) (o : Option (ℕ × Link)) (c : Carrier) (r : ℕ) → IsSome (value_at r c.live) → IsSome (value_at r (sent_on q tsdu o c).live)
+sent_stays_by q tsdu None c r some = some
+sent_stays_by q tsdu (Some (peer, link)) c r some = put_some r q _ c.live some
+
+sent_answered : (q : ℕ) (tsdu : List ℕ) (c : Carrier) → Answered q false c (sent q tsdu c)
+sent_answered q tsdu c = record {
+  others = λ over r ne. sent_opens q r tsdu c;
+  stays = λ over r some. sent_stays_by q tsdu (open_link q c) c r some;
+  here = λ e. sent_opens q q tsdu c;
+  closing_here = λ e over. cc;
+}
+
+hands_by : (q : ℕ) (tsdu : List ℕ) (c : Carrier) (o : Option SendError) → Answered q false c (sent_unless o q tsdu c)
+hands_by q tsdu c None = sent_answered q tsdu c
+hands_by q tsdu c (Some e) = unanswered q false c
+
+live_of_link : (over : Bool) (o : Option Connection) (link : ℕ × Link) → (if over then None else link_of o) ≡ Some link → IsSome o
+live_of_link true o link e = cc
+live_of_link false None link e = cc
+live_of_link false (Some connection) link e = refl
+
+closes_stays : (q peer : ℕ) (class : Option Class) (c : Carrier) → (closes q peer 128 class c).ended ≡ None → (r : ℕ) → IsSome (value_at r c.live) →
+    IsSome (value_at r (closes q peer 128 class c).live)
+closes_stays q peer None c over r some = put_some r q (closing peer) c.live some
+closes_stays q peer (Some Two) c over r some = put_some r q (closing peer) c.live some
+closes_stays q peer (Some Zero) c over r some = cc
+
+closed_stays_by : (q : ℕ) (o : Option (ℕ × Link)) (c : Carrier) → (closed_on q 128 o c).ended ≡ None → (r : ℕ) → IsSome (value_at r c.live) →
+    IsSome (value_at r (closed_on q 128 o c).live)
+closed_stays_by q None c over r some = some
+closed_stays_by q (Some (peer, link)) c over r some = closes_stays q peer c.class c over r some
+
+closing_by : (q : ℕ) (o : Option (ℕ × Link)) (c : Carrier) → open_link q c ≡ o → (closed_on q 128 o c).ended ≡ None →
+    (is_open q (closed_on q 128 o c) ≡ is_open q c) ⊎ IsSome (value_at q (closed_on q 128 o c).live)
+closing_by q None c e over = inl refl
+closing_by q (Some link) c e over = inr (closed_stays_by q (Some link) c over q (live_of_link (is_some c.ended) (value_at q c.live) link e))
+
+and_true : (b : Bool) → (b && true) ≡ b
+and_true true = refl
+and_true false = refl
+
+pub unlike : (q r : ℕ) → r ≢ q → (q == r) ≡ false
+unlike q r ne = unlike_by (q == r) refl
+  where
+    unlike_by : (b : Bool) → (q == r) ≡ b → b ≡ false
+    unlike_by true e = absurd (ne (sym (eqb-true q r e)))
+    unlike_by false e = refl
+
+closed_answered : (q : ℕ) (c : Carrier) → Answered q true c (closed_with q 128 c)
+closed_answered q c = record {
+  others = λ over r ne. closed_opens q r 128 c over ∙ ap (λ b. is_open r c && not b) (unlike q r ne) ∙ and_true (is_open r c);
+  stays = λ over r some. closed_stays_by q (open_link q c) c over r some;
+  here = λ e. cc;
+  closing_here = λ e over. closing_by q (open_link q c) c refl over;
+}
+
+answered_by : (q : ℕ) (closes : Bool) (tsdu : Option (List ℕ)) (c : Carrier) → Answered q closes c (answers_by closes q tsdu c)
+answered_by q true tsdu c = closed_answered q c
+answered_by q false None c = unanswered q false c
+answered_by q false (Some tsdu) c = hands_by q tsdu c (send_error tsdu (open_link q c))
+
+-- ---- the events that are still to be heard
+
+or_true : (a b : Bool) → b ≡ true → (a || b) ≡ true
+or_true true b h = refl
+or_true false b h = h
+
+mono_or : (a b x : Bool) → (a ≡ true → b ≡ true) → (a || x) ≡ true → (b || x) ≡ true
+mono_or true b x imp h = ap (λ y. y || x) (imp refl)
+mono_or false b x imp h = or_true b x h
+
+mono_and : (a b x : Bool) → (a ≡ true → b ≡ true) → (a && x) ≡ true → (b && x) ≡ true
+mono_and true b x imp h = ap (λ y. y && x) (imp refl) ∙ h
+mono_and false b x imp h = cc
+
+pub mono : (r : ℕ) (events : List Happening) (a b : Bool) → (a ≡ true → b ≡ true) → open_after r a events ≡ true → open_after r b events ≡ true
+mono r [] a b imp h = imp h
+mono r (told.opened q ∷ events) a b imp h = mono r events (a || (q == r)) (b || (q == r)) (mono_or a b (q == r) imp) h
+mono r (told.refused q reason ∷ events) a b imp h = mono r events a b imp h
+mono r (told.tsdu q octets ∷ events) a b imp h = mono r events a b imp h
+mono r (told.closed q reason ∷ events) a b imp h = mono r events (a && not (q == r)) (b && not (q == r)) (mono_and a b (not (q == r)) imp) h
+mono r (told.faulted q fault ∷ events) a b imp h = mono r events (a && not (q == r)) (b && not (q == r)) (mono_and a b (not (q == r)) imp) h
+
+-- an event that is heard
+later_false : (r : ℕ) (event : Happening) (rest : List Happening) → open_after r false rest ≡ true → open_after r false (event ∷ rest) ≡ true
+later_false r (told.opened q) rest h = mono r rest false (false || (q == r)) (λ no. cc) h
+later_false r (told.refused q reason) rest h = h
+later_false r (told.tsdu q octets) rest h = h
+later_false r (told.closed q reason) rest h = h
+later_false r (told.faulted q fault) rest h = h
+
+-- ---- what is true of one reference while events wait
+
+pub record HasClosed (r : ℕ) (o : Option Standing) (c : Carrier) : Type 0 where
+  pub live : IsSome (value_at r c.live)
+  pub session : Standing
+  pub is : o ≡ Some session
+  pub ended : is_ended session.state.phase ≡ true
+
+pub record IsLinked (r : ℕ) (o : Option Standing) (events : List Happening) (c : Carrier) : Type 0 where
+  pub needed : (s : Standing) → o ≡ Some s → needs_link s.state.phase ≡ true → open_after r true events ≡ true → is_open r c ≡ true
+  pub fresh : (open_after r false events ≡ true → is_open r c ≡ true) ⊎ HasClosed r o c
+
+-- an event for another connection
+or_false : (b : Bool) → (b || false) ≡ b
+or_false true = refl
+or_false false = refl
+
+event_other : (event : Happening) (r : ℕ) (b : Bool) (rest : List Happening) → r ≢ told_of event → open_after r b (event ∷ rest) ≡ open_after r b rest
+event_other (told.opened q) r b rest ne = ap (λ x. open_after r (b || x) rest) (unlike q r ne) ∙ ap (λ x. open_after r x rest) (or_false b)
+event_other (told.refused q reason) r b rest ne = refl
+event_other (told.tsdu q octets) r b rest ne = refl
+event_other (told.closed q reason) r b rest ne = ap (λ x. open_after r (b && not x) rest) (unlike q r ne) ∙ ap (λ x. open_after r x rest) (and_true b)
+event_other (told.faulted q fault) r b rest ne = ap (λ x. open_after r (b && not x) rest) (unlike q r ne) ∙ ap (λ x. open_after r x rest) (and_true b)
+
+other_linked : (event : Happening) (rest : List Happening) (r : ℕ) (o : Option Standing) (c d : Carrier) → r ≢ told_of event → is_open r d ≡ is_open r c →
+    (IsSome (value_at r c.live) → IsSome (value_at r d.live)) → IsLinked r o (event ∷ rest) c → IsLinked r o rest d
+other_linked event rest r o c d ne same stays l = record {
+  needed = λ s is n h. same ∙ l.needed s is n (event_other event r true rest ne ∙ h);
+  fresh = elim l.fresh [
+    | inl f ↦ inl (λ h. same ∙ f (event_other event r false rest ne ∙ h))
+    | inr k ↦ inr (record { live = stays k.live; session = k.session; is = k.is; ended = k.ended })
+  ];
+}
+
+-- no session is there
+none_linked : (event : Happening) (rest : List Happening) (r : ℕ) (o : Option Standing) (c : Carrier) → o ≡ None → IsLinked r o (event ∷ rest) c → IsLinked r o rest c
+none_linked event rest r o c none l = record {
+  needed = λ s is n h. let no : None ≡ Some s = sym none ∙ is in cc;
+  fresh = elim l.fresh [
+    | inl f ↦ inl (λ h. f (later_false r event rest h))
+    | inr k ↦ inr k
+  ];
+}
+
+-- the session there made its move
+here_linked : SessionLaws → (q : ℕ) (s : Standing) (input : Input) (event : Happening) (rest : List Happening) (c d : Carrier) (b : Bool) → (react s input).closes ≡ b →
+    Answered q (react s input).closes c d → d.ended ≡ None →
+    (needs_link (react s input).next.state.phase ≡ true → open_after q true rest ≡ true → is_open q c ≡ true) →
+    IsLinked q (Some s) (event ∷ rest) c → IsLinked q (Some (react s input).next) rest d
+here_linked laws q s input event rest c d false e a over needs l = record {
+  needed = λ t is n h.
+      let same : (react s input).next ≡ t = cc in
+      a.here e ∙ needs (ap (λ (x : Standing). needs_link x.state.phase) same ∙ n) h;
+  fresh = elim l.fresh [
+    | inl f ↦ inl (λ h. a.here e ∙ f (later_false q event rest h))
+    | inr k ↦ inr (let same : k.session ≡ s = cc k.is in record {
+      live = a.stays over q k.live;
+      session = (react s input).next;
+      is = refl;
+      ended = laws.ended s input (ap (λ (x : Standing). is_ended x.state.phase) (sym same) ∙ k.ended);
+    })
+  ];
+}
+here_linked laws q s input event rest c d true e a over needs l = record {
+  needed = λ t is n h.
+      let same : (react s input).next ≡ t = cc in
+      let none = laws.unneeded (react s input).next.state.phase (laws.closed s input e) in
+      both (needs_link (react s input).next.state.phase) (ap (λ (x : Standing). needs_link x.state.phase) same ∙ n) none;
+  fresh = elim (a.closing_here e over) [
+    | inr live ↦ inr (record { live = live; session = (react s input).next; is = refl; ended = laws.closed s input e })
+    | inl still ↦ elim l.fresh [
+      | inl f ↦ inl (λ h. still ∙ f (later_false q event rest h))
+      | inr k ↦ inr (record { live = a.stays over q k.live; session = (react s input).next; is = refl; ended = laws.closed s input e })
+    ]
+  ];
+}
+
+-- ---- what hearing does to the session of a reference
+
+pub record HasMoved (q : ℕ) (input : Input) (old new : End) : Type 0 where
+  pub session : Standing
+  pub was : kept_at q old.lines ≡ Some session
+  pub is : kept_at q new.lines ≡ Some (react session input).next
+  pub others : (r : ℕ) → r ≢ q → kept_at r new.lines ≡ kept_at r old.lines
+  pub answered : Answered q (react session input).closes old.carrier new.carrier
+
+pub record HasRested (q : ℕ) (old new : End) : Type 0 where
+  pub none : kept_at q old.lines ≡ None
+  pub same : new ≡ old
+
+abbrev pub Hearing : ℕ → Input → End → End → Type 0
+Hearing q input old new = HasMoved q input old new ⊎ HasRested q old new
+
+line_hears : (q : ℕ) (input : Input) (e : End) (line : Line) (o : Option Standing) → value_at q e.lines ≡ Some line → line.session ≡ o → Hearing q input e (by_line q (Some line) input e)
+line_hears q input e line None here is = inr (record {
+  none = ap session_in here ∙ is;
+  same = ap (λ (x : Option Standing). record { carrier = carrier_by q x input e.carrier; lines = put q (line_by line x input) e.lines }) is
+      ∙ ap (λ (l : Rows Line). record { carrier = e.carrier; lines = l }) (put_same q line e.lines here);
+})
+line_hears q input e line (Some s) here is =
+    let after = line_by line line.session input in
+    inl (record {
+      session = s;
+      was = ap session_in here ∙ is;
+      is = ap session_in (put_here q after line e.lines here) ∙ ap (λ (x : Option Standing). (line_by line x input).session) is;
+      others = λ r ne. ap session_in (put_other r q after e.lines ne);
+      answered = subst (λ (x : Option Standing). Answered q (react s input).closes e.carrier (carrier_by q x input e.carrier)) (sym is)
+          (answered_by q (react s input).closes (option_map written (react s input).reply) e.carrier);
+    })
+
+session_hears_by : (q : ℕ) (input : Input) (e : End) (o : Option Line) → value_at q e.lines ≡ o → Hearing q input e (by_line q o input e)
+session_hears_by q input e None here = inr (record { none = ap session_in here; same = refl })
+session_hears_by q input e (Some line) here = line_hears q input e line line.session here refl
+
+pub session_hears : (q : ℕ) (input : Input) (e : End) → Hearing q input e (to_session q input e)
+session_hears q input e = session_hears_by q input e (value_at q e.lines) refl
+
+-- what is true of all references
+abbrev pub AllLinked : List Happening → End → Type 0
+AllLinked events e = (r : ℕ) → IsLinked r (kept_at r e.lines) events e.carrier
+
+moved_linked : SessionLaws → (q : ℕ) (input : Input) (event : Happening) (rest : List Happening) (e d : End) → told_of event ≡ q → HasMoved q input e d → d.carrier.ended ≡ None →
+    ((s : Standing) → kept_at q e.lines ≡ Some s → needs_link (react s input).next.state.phase ≡ true → open_after q true rest ≡ true → is_open q e.carrier ≡ true) →
+    AllLinked (event ∷ rest) e → (r : ℕ) (b : Bool) → (r == q) ≡ b → IsLinked r (kept_at r d.lines) rest d.carrier
+moved_linked laws q input event rest e d of m over needs l r true at =
+    let same = eqb-true r q at in
+    let before : IsLinked q (Some m.session) (event ∷ rest) e.carrier = subst (λ (o : Option Standing). IsLinked q o (event ∷ rest) e.carrier) m.was (l q) in
+    let after = here_linked laws q m.session input event rest e.carrier d.carrier (react m.session input).closes refl m.answered over (needs m.session m.was) before in
+    subst (λ (n : ℕ). IsLinked n (kept_at n d.lines) rest d.carrier) (sym same) (subst (λ (o : Option Standing). IsLinked q o rest d.carrier) (sym m.is) after)
+moved_linked laws q input event rest e d of m over needs l r false at =
+    let ne : r ≢ q = (λ same. both (r == q) (eq-eqb r q same) at) in
+    let other : r ≢ told_of event = (λ same. ne (same ∙ of)) in
+    subst (λ (o : Option Standing). IsLinked r o rest d.carrier) (sym (m.others r ne))
+    (other_linked event rest r (kept_at r e.lines) e.carrier d.carrier other (m.answered.others over r ne) (m.answered.stays over r) (l r))
+
+rested_linked : (q : ℕ) (event : Happening) (rest : List Happening) (e : End) → told_of event ≡ q → kept_at q e.lines ≡ None → AllLinked (event ∷ rest) e →
+    (r : ℕ) (b : Bool) → (r == q) ≡ b → IsLinked r (kept_at r e.lines) rest e.carrier
+rested_linked q event rest e of none l r true at =
+    let same = eqb-true r q at in
+    none_linked event rest r (kept_at r e.lines) e.carrier (ap (λ n. kept_at n e.lines) same ∙ none) (l r)
+rested_linked q event rest e of none l r false at =
+    let other : r ≢ told_of event = (λ same. both (r == q) (eq-eqb r q (same ∙ of)) at) in
+    other_linked event rest r (kept_at r e.lines) e.carrier e.carrier other refl (λ x. x) (l r)
+
+pub session_linked : SessionLaws → (q : ℕ) (input : Input) (event : Happening) (rest : List Happening) (e d : End) → told_of event ≡ q → Hearing q input e d → d.carrier.ended ≡ None →
+    ((s : Standing) → kept_at q e.lines ≡ Some s → needs_link (react s input).next.state.phase ≡ true → open_after q true rest ≡ true → is_open q e.carrier ≡ true) →
+    AllLinked (event ∷ rest) e → AllLinked rest d
+session_linked laws q input event rest e d of (inl m) over needs l = λ r. moved_linked laws q input event rest e d of m over needs l r (r == q) refl
+session_linked laws q input event rest e d of (inr m) over needs l =
+    subst (λ (x : End). AllLinked rest x) (sym m.same) (λ r. rested_linked q event rest e of m.none l r (r == q) refl)
+
+-- ---- lines stay apart
+
+apart_put_by : (r q : ℕ) (x y : Line) (rows : Rows Line) (b : Bool) → (q == r) ≡ b → value_at q rows ≡ None → AreApart rows → AreApart (put r x rows) →
+    AreApart (put r x ((q, y) ∷ rows))
+apart_put_by r q x y rows true e none apart more = rw e (none, apart)
+apart_put_by r q x y rows false e none apart more = rw e (put_none q r x rows none, more)
+
+pub apart_put : (r : ℕ) (x : Line) (rows : Rows Line) → AreApart rows → AreApart (put r x rows)
+apart_put r x [] apart = tt
+apart_put r x ((q, y) ∷ rows) apart = apart_put_by r q x y rows (q == r) refl apart.0 apart.1 (apart_put r x rows apart.1)
+
+apart_push_by : (r q : ℕ) (x y : Line) (rows : Rows Line) (b : Bool) → (q == r) ≡ b → value_at r ((q, y) ∷ rows) ≡ None → value_at q rows ≡ None →
+    (value_at r rows ≡ None → AreApart (rows ++ (r, x) ∷ [])) → AreApart ((q, y) ∷ (rows ++ (r, x) ∷ []))
+apart_push_by r q x y rows true e none alone more = let there : Some y ≡ None = rw e at none in cc
+apart_push_by r q x y rows false e none alone more =
+    let behind : value_at r rows ≡ None = rw e at none in
+    let ne : q ≢ r = (λ same. both (q == r) (eq-eqb q r same) e) in
+    (push_other q r x rows ne ∙ alone, more behind)
+
+pub apart_push : (r : ℕ) (x : Line) (rows : Rows Line) → value_at r rows ≡ None → AreApart rows → AreApart (rows ++ (r, x) ∷ [])
+apart_push r x [] none apart = (refl, tt)
+apart_push r x ((q, y) ∷ rows) none apart = apart_push_by r q x y rows (q == r) refl none apart.0 (λ behind. apart_push r x rows behind apart.1)
+
+-- ---- lines that are of use
+
+pub used_by : (live : Rows Connection) (row : ℕ × Line) (lines : Rows Line) (b : Bool) → is_used live row ≡ b →
+    used_lines live (row ∷ lines) ≡ (if b then row ∷ used_lines live lines else used_lines live lines)
+used_by live row lines b e = ap (λ (c : Bool). if◌then◌else◌ {A = Rows Line} c (row ∷ used_lines live lines) (used_lines live lines)) e
+
+at_row : (q p : ℕ) (y : Line) (rows : Rows Line) (b : Bool) → (p == q) ≡ b → value_at q ((p, y) ∷ rows) ≡ (if b then Some y else value_at q rows)
+at_row q p y rows b e = ap (λ (c : Bool). if◌then◌else◌ {A = Option Line} c (Some y) (value_at q rows)) e
+
+gone_by : (o : Option Connection) (b : Bool) → (is_some o || b) ≡ false → o ≡ None
+gone_by None b h = refl
+gone_by (Some c) b h = cc
+
+-- a line stays, or its connection is gone
+abbrev pub Stays : ℕ → Rows Connection → Rows Line → Type 0
+Stays r live lines = (value_at r (used_lines live lines) ≡ value_at r lines) ⊎ ((value_at r (used_lines live lines) ≡ None) × (value_at r live ≡ None))
+
+used_at_by : (r p : ℕ) (y : Line) (live : Rows Connection) (lines : Rows Line) (b u : Bool) → (p == r) ≡ b → is_used live (p, y) ≡ u → value_at p lines ≡ None → Stays r live lines →
+    Stays r live ((p, y) ∷ lines)
+used_at_by r p y live lines true true e used alone more =
+    inl (ap (value_at r) (used_by live (p, y) lines true used) ∙ at_row r p y (used_lines live lines) true e ∙ sym (at_row r p y lines true e))
+used_at_by r p y live lines false true e used alone more =
+    let here = ap (value_at r) (used_by live (p, y) lines true used) ∙ at_row r p y (used_lines live lines) false e in
+    elim more [
+      | inl same ↦ inl (here ∙ same ∙ sym (at_row r p y lines false e))
+      | inr gone ↦ inr (here ∙ gone.0, gone.1)
+    ]
+used_at_by r p y live lines true false e used alone more =
+    let same = eqb-true p r e in
+    let here = ap (value_at r) (used_by live (p, y) lines false used) in
+    let none : value_at r lines ≡ None = ap (λ n. value_at n lines) (sym same) ∙ alone in
+    let gone : value_at r live ≡ None = ap (λ n. value_at n live) (sym same) ∙ gone_by (value_at p live) (line_waits y) used in
+    inr (
+      elim more [
+        | inl is ↦ here ∙ is ∙ none
+        | inr is ↦ here ∙ is.0
+      ],
+      gone,
+    )
+used_at_by r p y live lines false false e used alone more =
+    let here = ap (value_at r) (used_by live (p, y) lines false used) in
+    elim more [
+      | inl same ↦ inl (here ∙ same ∙ sym (at_row r p y lines false e))
+      | inr gone ↦ inr (here ∙ gone.0, gone.1)
+    ]
+
+pub used_at : (r : ℕ) (live : Rows Connection) (lines : Rows Line) → AreApart lines → Stays r live lines
+used_at r live [] apart = inl refl
+used_at r live ((p, y) ∷ lines) apart = used_at_by r p y live lines (p == r) (is_used live (p, y)) refl refl apart.0 (used_at r live lines apart.1)
+
+-- no line comes about
+used_none : (r : ℕ) (live : Rows Connection) (lines : Rows Line) → AreApart lines → value_at r lines ≡ None → value_at r (used_lines live lines) ≡ None
+used_none r live lines apart none = elim (used_at r live lines apart) [
+  | inl same ↦ same ∙ none
+  | inr gone ↦ gone.0
+]
+
+apart_used_by : (p : ℕ) (y : Line) (live : Rows Connection) (lines : Rows Line) (u : Bool) → is_used live (p, y) ≡ u → value_at p lines ≡ None → AreApart lines → AreApart (used_lines live lines) →
+    AreApart (used_lines live ((p, y) ∷ lines))
+apart_used_by p y live lines true used alone apart more =
+    subst AreApart (sym (used_by live (p, y) lines true used)) (used_none p live lines apart alone, more)
+apart_used_by p y live lines false used alone apart more = subst AreApart (sym (used_by live (p, y) lines false used)) more
+
+pub apart_used : (live : Rows Connection) (lines : Rows Line) → AreApart lines → AreApart (used_lines live lines)
+apart_used live [] apart = tt
+apart_used live ((p, y) ∷ lines) apart = apart_used_by p y live lines (is_used live (p, y)) refl apart.0 apart.1 (apart_used live lines apart.1)
+
+pub apart_joins : (r : ℕ) (s : Standing) (e : End) → value_at r e.lines ≡ None → AreApart e.lines → AreApart (joins r s e).lines
+apart_joins r s e none apart = apart_used e.carrier.live _ (apart_push r (record { session = Some s; waiting = [] }) e.lines none apart)
+
+pub apart_lost : (lines : Rows Line) → AreApart lines → AreApart (all_lost lines)
+apart_lost [] apart = tt
+apart_lost ((r, line) ∷ lines) apart = (lost_at r lines ∙ ap (option_map loses) apart.0, apart_lost lines apart.1)
+
+-- ---- a new session
+
+-- the connection of a session that is new
+joined_here : (q : ℕ) (rest : List Happening) (e : End) → value_at q e.lines ≡ None → IsLinked q (kept_at q e.lines) (told.opened q ∷ rest) e.carrier →
+    open_after q true rest ≡ true → is_open q e.carrier ≡ true
+joined_here q rest e none l h = elim l.fresh [
+  | inl f ↦ f (mono q rest true (false || (q == q)) (λ x. eq-eqb q q refl) h)
+  | inr k ↦ (let no : None ≡ Some k.session = sym (ap session_in none) ∙ k.is in cc)
+]
+
+abbrev pub joined_lines : ℕ → Standing → Rows Line → Rows Line
+joined_lines q s lines = lines ++ (q, record { session = Some s; waiting = [] }) ∷ []
+
+joined_by : (q : ℕ) (rest : List Happening) (e : End) → value_at q e.lines ≡ None → AllLinked (told.opened q ∷ rest) e → (r : ℕ) (b : Bool) → (r == q) ≡ b →
+    Stays r e.carrier.live (joined_lines q awaits e.lines) → IsLinked r (kept_at r (joins q awaits e).lines) rest e.carrier
+joined_by q rest e none l r true at (inl same) =
+    let is = eqb-true r q at in
+    let kept : kept_at r (joins q awaits e).lines ≡ Some awaits =
+    ap session_in (same ∙ ap (λ n. value_at n (joined_lines q awaits e.lines)) is ∙ push_here q (record { session = Some awaits; waiting = [] }) e.lines none) in
+    subst (λ (o : Option Standing). IsLinked r o rest e.carrier) (sym kept) (record {
+      needed = λ s same n h. ap (λ n. is_open n e.carrier) is ∙ joined_here q rest e none (l q) (ap (λ n. open_after n true rest) (sym is) ∙ h);
+      fresh = inl (λ h. ap (λ n. is_open n e.carrier) is ∙ joined_here q rest e none (l q) (mono q rest false true (λ no. refl) (ap (λ n. open_after n false rest) (sym is) ∙ h)));
+    })
+joined_by q rest e none l r true at (inr gone) =
+    let is = eqb-true r q at in
+    let before : kept_at r e.lines ≡ None = ap (λ n. kept_at n e.lines) is ∙ ap session_in none in
+    subst (λ (o : Option Standing). IsLinked r o rest e.carrier) (before ∙ sym (ap session_in gone.0)) (none_linked (told.opened q) rest r (kept_at r e.lines) e.carrier before (l r))
+joined_by q rest e none l r false at (inl same) =
+    let ne : r ≢ q = (λ is. both (r == q) (eq-eqb r q is) at) in
+    let kept : kept_at r e.lines ≡ kept_at r (joins q awaits e).lines = ap session_in (sym (push_other r q _ e.lines ne) ∙ sym same) in
+    subst (λ (o : Option Standing). IsLinked r o rest e.carrier) kept (other_linked (told.opened q) rest r (kept_at r e.lines) e.carrier e.carrier ne refl (λ x. x) (l r))
+joined_by q rest e none l r false at (inr gone) =
+    let ne : r ≢ q = (λ is. both (r == q) (eq-eqb r q is) at) in
+    let before = other_linked (told.opened q) rest r (kept_at r e.lines) e.carrier e.carrier ne refl (λ x. x) (l r) in
+    subst (λ (o : Option Standing). IsLinked r o rest e.carrier) (sym (ap session_in gone.0)) (record {
+      needed = λ s same n h. cc;
+      fresh = elim before.fresh [
+        | inl f ↦ inl f
+        | inr k ↦ (let no : false ≡ true = sym (ap is_some gone.1) ∙ k.live in cc)
+      ];
+    })
+
+joined_linked : (q : ℕ) (rest : List Happening) (e : End) → AreApart e.lines → value_at q e.lines ≡ None → AllLinked (told.opened q ∷ rest) e → AllLinked rest (joins q awaits e)
+joined_linked q rest e apart none l =
+    λ r. joined_by q rest e none l r (r == q) refl (used_at r e.carrier.live (joined_lines q awaits e.lines) (apart_push q _ e.lines none apart))
+
+-- ---- one event
+
+not_opened_by : (read : Result Said SpduFault) → came_as read ≡ opened → ⊥
+not_opened_by (Ok said) e = cc
+not_opened_by (Err fault) e = cc
+
+broken_needs_none : (s : Standing) → needs_link (react s broken).next.state.phase ≡ false
+unfolding react
+broken_needs_none s = refl
+
+-- a session that needs its connection once it is there
+opened_needs : SessionLaws → (q : ℕ) (rest : List Happening) (e : End) (s : Standing) (b : Bool) → needs_link s.state.phase ≡ b → kept_at q e.lines ≡ Some s →
+    IsLinked q (kept_at q e.lines) (told.opened q ∷ rest) e.carrier → needs_link (react s opened).next.state.phase ≡ true → open_after q true rest ≡ true → is_open q e.carrier ≡ true
+opened_needs laws q rest e s true needs is l n h = l.needed s is needs h
+opened_needs laws q rest e s false needs is l n h = elim l.fresh [
+  | inl f ↦ f (mono q rest true (false || (q == q)) (λ x. eq-eqb q q refl) h)
+  | inr k ↦ (
+      let same : k.session ≡ s = (let both_are : Some k.session ≡ Some s = sym k.is ∙ is in cc) in
+      both (is_ended s.state.phase) (ap (λ (x : Standing). is_ended x.state.phase) (sym same) ∙ k.ended) (laws.begun s n needs)
+      )
+]
+
+opened_linked : SessionLaws → (q : ℕ) (rest : List Happening) (e : End) (o : Option Line) → value_at q e.lines ≡ o → AreApart e.lines → (opens q o e).carrier.ended ≡ None →
+    AllLinked (told.opened q ∷ rest) e → AllLinked rest (opens q o e)
+opened_linked laws q rest e None here apart over l = joined_linked q rest e apart here l
+opened_linked laws q rest e (Some line) here apart over l =
+    session_linked laws q opened (told.opened q) rest e (to_session q opened e) refl (session_hears q opened e) over
+    (λ s is n h. opened_needs laws q rest e s (needs_link s.state.phase) refl is (l q) n h) l
+
+hears_linked : SessionLaws → (event : Happening) (rest : List Happening) (e : End) → AreApart e.lines → (hears event e).carrier.ended ≡ None →
+    AllLinked (event ∷ rest) e → AllLinked rest (hears event e)
+hears_linked laws (told.opened q) rest e apart over l = opened_linked laws q rest e (value_at q e.lines) refl apart over l
+hears_linked laws (told.refused q reason) rest e apart over l =
+    session_linked laws q (refused reason) (told.refused q reason) rest e _ refl (session_hears q (refused reason) e) over
+    (λ s is n h. (l q).needed s is (laws.linked s (refused reason) (λ no. cc) n) h) l
+hears_linked laws (told.tsdu q octets) rest e apart over l =
+    session_linked laws q (came octets) (told.tsdu q octets) rest e _ refl (session_hears q (came octets) e) over
+    (λ s is n h. (l q).needed s is (laws.linked s (came octets) (not_opened_by (said_at octets)) n) h) l
+hears_linked laws (told.closed q reason) rest e apart over l =
+    session_linked laws q broken (told.closed q reason) rest e _ refl (session_hears q broken e) over
+    (λ s is n h. both (needs_link (react s broken).next.state.phase) n (broken_needs_none s)) l
+hears_linked laws (told.faulted q fault) rest e apart over l =
+    session_linked laws q broken (told.faulted q fault) rest e _ refl (session_hears q broken e) over
+    (λ s is n h. both (needs_link (react s broken).next.state.phase) n (broken_needs_none s)) l
+
+line_apart : (q : ℕ) (input : Input) (e : End) (o : Option Line) → AreApart e.lines → AreApart (by_line q o input e).lines
+line_apart q input e None apart = apart
+line_apart q input e (Some line) apart = apart_put q (line_by line line.session input) e.lines apart
+
+pub session_apart : (q : ℕ) (input : Input) (e : End) → AreApart e.lines → AreApart (to_session q input e).lines
+session_apart q input e apart = line_apart q input e (value_at q e.lines) apart
+
+opened_apart : (q : ℕ) (e : End) (o : Option Line) → value_at q e.lines ≡ o → AreApart e.lines → AreApart (opens q o e).lines
+opened_apart q e None here apart = apart_joins q awaits e here apart
+opened_apart q e (Some line) here apart = session_apart q opened e apart
+
+hears_apart : (event : Happening) (e : End) → AreApart e.lines → AreApart (hears event e).lines
+hears_apart (told.opened q) e apart = opened_apart q e (value_at q e.lines) refl apart
+hears_apart (told.refused q reason) e apart = session_apart q _ e apart
+hears_apart (told.tsdu q octets) e apart = session_apart q _ e apart
+hears_apart (told.closed q reason) e apart = session_apart q _ e apart
+hears_apart (told.faulted q fault) e apart = session_apart q _ e apart
+
+-- ---- all events
+
+first_is : (event : Happening) (rest : List Happening) (e : End) → e.carrier.events ≡ event ∷ rest → hears_next e ≡ hears event (with_events rest e)
+first_is event rest e h = ap (λ (l : List Happening). hears_first l e) h
+
+rest_is : (event : Happening) (rest : List Happening) (e : End) → e.carrier.events ≡ event ∷ rest → (hears_next e).carrier.events ≡ rest
+rest_is event rest e h = ap (λ (x : End). x.carrier.events) (first_is event rest e h) ∙ (hears_keep event (with_events rest e)).events
+
+first_lasts : (l : List Happening) (e : End) → (hears_first l e).carrier.ended ≡ None → e.carrier.ended ≡ None
+first_lasts [] e h = h
+first_lasts (event ∷ rest) e h = (hears_keep event (with_events rest e)).lasts h
+
+pub times_last : (n : ℕ) (e : End) → (hears_times n e).carrier.ended ≡ None → e.carrier.ended ≡ None
+times_last zero e h = h
+times_last (suc n) e h = first_lasts e.carrier.events e (times_last n (hears_next e) h)
+
+pub times_apart : (n : ℕ) (e : End) → AreApart e.lines → AreApart (hears_times n e).lines
+times_apart zero e apart = apart
+times_apart (suc n) e apart = times_apart n (hears_next e) (next_apart e.carrier.events e apart)
+  where
+    next_apart : (l : List Happening) (e : End) → AreApart e.lines → AreApart (hears_first l e).lines
+    next_apart [] e apart = apart
+    next_apart (event ∷ rest) e apart = hears_apart event (with_events rest e) apart
+
+-- what a carrier has still to tell is no matter
+untold_linked : (rest : List Happening) (r : ℕ) (o : Option Standing) (events : List Happening) (c : Carrier) → IsLinked r o events c → IsLinked r o events (record c { events = rest })
+untold_linked rest r o events c l = record {
+  needed = l.needed;
+  fresh = elim l.fresh [
+    | inl f ↦ inl f
+    | inr k ↦ inr (record { live = k.live; session = k.session; is = k.is; ended = k.ended })
+  ];
+}
+
+pub times_linked : SessionLaws → (l : List Happening) (e : End) → e.carrier.events ≡ l → AreApart e.lines → (hears_times (length l) e).carrier.ended ≡ None → AllLinked l e →
+    AllLinked [] (hears_times (length l) e)
+times_linked laws [] e h apart over l = l
+times_linked laws (event ∷ rest) e h apart over l =
+    let here = with_events rest e in
+    let is = first_is event rest e h in
+    let lasts : (hears event here).carrier.ended ≡ None = ap (λ (x : End). x.carrier.ended) (sym is) ∙ times_last (length rest) (hears_next e) over in
+    let next : AllLinked rest (hears_next e) = subst (λ (x : End). AllLinked rest x) (sym is) (hears_linked laws event rest here apart lasts (λ r. untold_linked rest r (kept_at r e.lines) (event ∷ rest) e.carrier (l r))) in
+    let still : AreApart (hears_next e).lines = subst (λ (x : End). AreApart x.lines) (sym is) (hears_apart event here apart) in
+    times_linked laws rest (hears_next e) (rest_is event rest e h) still over next

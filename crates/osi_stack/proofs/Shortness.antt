@@ -1,0 +1,110 @@
+-- What a session sends is no longer than a TSDU may be.
+use Rattle.std.proofs.Common.{◌≡◌, ℕ, ◌+◌, ◌<◌, ◌≤◌, Bool, true, false, List, [], ◌∷◌, ◌++◌, length, nat_le, nat_lt, refl, sym, ap, subst, arith, length-append, if◌then◌else◌}
+use Rattle.std.proofs.lemmas.Bool.Decides.{nat_tests}
+use Rattle.osi_spdu.specs.Known.{Contents, Units}
+use Rattle.osi_spdu.specs.Kinds.{si_of}
+use Rattle.osi_spdu.specs.Spelling.{length_octets}
+use Rattle.osi_spdu.specs.Writing.{written_item, unit_octets, body_octets, tsdu_octets, UnitFits, TsduFits}
+use Rattle.osi_spdu.specs.declared.kinds.Kind.TheVariants.{GiveTokens}
+use Rattle.osi_spdu.specs.Known.{nothing}
+use Rattle.osi_message.specs.Meanings.{Meaning, DT}
+use Rattle.osi_message.specs.Sendable.{IsSendable}
+use Rattle.osi_message.specs.Written.{unit_with, unit_of, is_second, alone_units, behind_tokens, spelled, written}
+use Rattle.osi_message.proofs.FittingLaws.{HaveRoom, spelled_fits}
+use Rattle.osi_message.proofs.PlainLaws.{data_written}
+use Rattle.osi_message.proofs.SendingLaws.{HaveDigits}
+use Rattle.osi_session.specs.Allowed.{Step, octets_of, most_of, sends, Passed}
+use Rattle.osi_session.specs.Calls.{Call, Accept, Refuse, Data, Give, Please, Minor, MinorConfirm, Major, MajorConfirm, Restart, RestartConfirm, Release, ReleaseAccept, ReleaseRefuse, Abort}
+use Rattle.osi_session.specs.declared.state.State.{State}
+
+indicator_short : (b : Bool) (n : ℕ) → length (length_octets b n) ≤ 3
+indicator_short true n = omega arith
+indicator_short false n = omega arith
+
+item_short : (code : ℕ) (value : List ℕ) → length (written_item code value) ≤ 4 + length value
+item_short code value =
+    let total = length-append (length_octets (nat_lt 254 (length value)) (length value)) value in
+    let few = indicator_short (nat_lt 254 (length value)) (length value) in
+    omega arith
+
+unit_short : (unit : Contents) → UnitFits unit → length (unit_octets unit) < 65540
+unfolding unit_octets
+unit_short unit fits =
+    let few = item_short (si_of unit.kind) (body_octets unit.kind unit.known) in
+    let body : length (body_octets unit.kind unit.known) < 65536 = fits in
+    omega arith
+
+one_short : (unit : Contents) → UnitFits unit → length (tsdu_octets (unit ∷ [])) < 65540 + length unit.information
+unfolding tsdu_octets
+one_short unit fits =
+    let few = unit_short unit fits in
+    let a = length-append (unit_octets unit) (unit.information ++ []) in
+    let b = length-append unit.information [] in
+    omega arith
+
+two_short : (first second : Contents) → UnitFits first → UnitFits second → first.information ≡ [] → length (tsdu_octets (first ∷ second ∷ [])) < 131080 + length second.information
+unfolding tsdu_octets
+two_short first second fits more none =
+    let few = unit_short first fits in
+    let many = unit_short second more in
+    let a = length-append (unit_octets first) (first.information ++ (unit_octets second ++ (second.information ++ []))) in
+    let b = length-append first.information (unit_octets second ++ (second.information ++ [])) in
+    let c = length-append (unit_octets second) (second.information ++ []) in
+    let d = length-append second.information [] in
+    let e = ap length none in
+    omega arith
+
+spelled_short : (m : Meaning) (b : Bool) → is_second m ≡ b → TsduFits (spelled m) → (unit_of m).information ≡ [] → length (written m) ≤ 1048576
+unfolding spelled
+spelled_short m true e fits none =
+    let is : spelled m ≡ behind_tokens (unit_of m) = ap (λ (b : Bool). if◌then◌else◌ {A = Units} b (behind_tokens (unit_of m)) (alone_units (unit_of m))) e in
+    let all : TsduFits (behind_tokens (unit_of m)) = subst TsduFits is fits in
+    let few = two_short (unit_with GiveTokens nothing) (unit_of m) all.0 all.1.0 refl in
+    let no = ap length none in
+    let same = ap (λ (u : Units). length (tsdu_octets u)) is in
+    omega arith
+spelled_short m false e fits none =
+    let is : spelled m ≡ alone_units (unit_of m) = ap (λ (b : Bool). if◌then◌else◌ {A = Units} b (behind_tokens (unit_of m)) (alone_units (unit_of m))) e in
+    let all : TsduFits (alone_units (unit_of m)) = subst TsduFits is fits in
+    let few = one_short (unit_of m) all.0 in
+    let no = ap length none in
+    let same = ap (λ (u : Units). length (tsdu_octets u)) is in
+    omega arith
+
+pub record SpduLaws : Type 0 where
+  pub room : HaveRoom
+  pub digits : HaveDigits
+
+-- a unit with no octets behind it
+pub sent_short : SpduLaws → (m : Meaning) → IsSendable m → (unit_of m).information ≡ [] → length (written m) ≤ 1048576
+sent_short law m h none = spelled_short m (is_second m) refl (spelled_fits law.room law.digits m h.numbered h.addressed h.short) none
+
+data_short : (octets : List ℕ) → nat_le (length octets) 1048572 ≡ true → length (written (DT octets)) ≤ 1048576
+data_short octets h =
+    let same = ap length (data_written octets) in
+    let few : length octets ≤ 1048572 = grind (arith, nat_tests) in
+    omega arith
+
+call_by : SpduLaws → (s : State) (c : Call) → nat_le (length (octets_of c)) (most_of c) ≡ true → IsSendable (sends s c) → length (written (sends s c)) ≤ 1048576
+unfolding unit_of
+call_by law s (Data octets) size h = data_short octets size
+call_by law s (Accept requirements serial sides octets) size h = sent_short law _ h refl
+call_by law s (Refuse octets) size h = sent_short law _ h refl
+call_by law s (Give tokens) size h = sent_short law _ h refl
+call_by law s (Please tokens octets) size h = sent_short law _ h refl
+call_by law s (Minor confirm octets) size h = sent_short law _ h refl
+call_by law s (MinorConfirm n octets) size h = sent_short law _ h refl
+call_by law s (Major octets) size h = sent_short law _ h refl
+call_by law s (MajorConfirm octets) size h = sent_short law _ h refl
+call_by law s (Restart n wishes octets) size h = sent_short law _ h refl
+call_by law s (RestartConfirm sides octets) size h = sent_short law _ h refl
+call_by law s (Release octets) size h = sent_short law _ h refl
+call_by law s (ReleaseAccept octets) size h = sent_short law _ h refl
+call_by law s (ReleaseRefuse octets) size h = sent_short law _ h refl
+call_by law s (Abort octets) size h = sent_short law _ h refl
+
+-- what an accepted call sends
+pub call_short : SpduLaws → (s : State) (c : Call) (x : Step) → Passed s c x → IsSendable x.sent → length (written x.sent) ≤ 1048576
+call_short law s c x passed sendable =
+    let is : x.sent ≡ sends s c = ap (λ (y : Step). y.sent) passed.gives in
+    subst (λ (m : Meaning). length (written m) ≤ 1048576) (sym is) (call_by law s c passed.size (subst IsSendable is sendable))

@@ -1,0 +1,416 @@
+-- What is true of every end, whatever is called and fed.
+use Rattle.std.proofs.Common.{◌≡◌, ◌≢◌, ℕ, zero, suc, ◌+◌, ◌==◌, ◌<◌, ◌≤◌, Bool, true, false, ◌||◌, List, [], ◌∷◌, ◌++◌, length, drop, nat_le, Option, Some, None, is_some, IsSome, option_map, Result, Ok, Err, refl, sym, ap, subst, ◌∙◌, inl, inr, ◌⊎◌, arith, if◌then◌else◌}
+use Rattle.std.proofs.lemmas.Bool.{eqb-true, eq-eqb}
+use Rattle.std.proofs.lemmas.Bool.Decides.{nat_tests}
+use Rattle.osi_tpdu.specs.Packet.{units_of}
+use Rattle.osi_tpdu.specs.Value.{Value}
+use Rattle.osi_tpdu.specs.declared.faults.TpduFault.{TpduFault}
+use Rattle.osi_class.specs.Link.{Standing as Link}
+use Rattle.osi_class.specs.declared.terms.Class.{Class}
+use Rattle.osi_class.specs.declared.terms.Class.TheVariants.{Zero, Two}
+use Rattle.osi_carrier.specs.Calls.{send_error, open_link, may_connect, asks, sent_on, closes, closed_on}
+use Rattle.osi_carrier.specs.Happenings.{Happening}
+use Rattle.osi_carrier.specs.Happenings as told
+use Rattle.osi_carrier.specs.Orderly.{AreUpTo, IsOrderly, connection_of}
+use Rattle.osi_carrier.specs.Packets as carriers
+use Rattle.osi_carrier.specs.React.{react as carrier_react, reacts}
+use Rattle.osi_carrier.specs.Rows.{Rows, value_at, put}
+use Rattle.osi_carrier.specs.State.{Connection, State as Carrier}
+use Rattle.osi_carrier.specs.Told.{is_open, open_after}
+use Rattle.osi_carrier.specs.declared.ends.EndReason.{EndReason}
+use Rattle.osi_carrier.specs.declared.faults.OpenError.{OpenError}
+use Rattle.osi_carrier.specs.declared.faults.SendError.{SendError}
+use Rattle.osi_carrier.proofs.Apart.{beyond, push_here}
+use Rattle.osi_carrier.proofs.AtReferences.{put_up, push_other}
+use Rattle.osi_carrier.proofs.Effects.{How, effect, orderly_packet, orderly_asks, orderly_sent, orderly_closed, orderly_same, orderly_fresh}
+use Rattle.osi_carrier.proofs.ToldOpen.{packet_opens, asks_opens}
+use Rattle.osi_session.specs.Calls.{Call}
+use Rattle.osi_session.specs.Moves.{Input, Standing, called, opened, react}
+use Rattle.osi_session.specs.Sessions.{awaits}
+use Rattle.osi_stack.specs.Calls.{connects, connect_error, after_open, terms_error, calls_with, breaks, carried, without_first, rest_by}
+use Rattle.osi_stack.specs.Feeding.{TakesPackets, Goes, Feeds}
+use Rattle.osi_stack.specs.declared.connecting.Connect.{Connect}
+use Rattle.osi_stack.specs.declared.connecting.ConnectError.{ConnectError}
+use Rattle.osi_session.specs.Shown.{Shown}
+use Rattle.osi_tpdu.specs.Limits.{tsap_octets}
+use Rattle.osi_tpkt.specs.Stream.{ArePackets}
+use Rattle.osi_tpkt.specs.declared.cutting.Fed.{Fed}
+use Rattle.osi_class.specs.declared.terms.Local.{Local}
+use Rattle.osi_carrier.specs.declared.ends.EndReason.TheVariants.{Broken, NoMemory}
+use Rattle.osi_stack.specs.Hearing.{opens, hears, hears_first, hears_next, hears_times, hears_all, with_events, with_carrier, after_packet, ends, all_lost, Starves}
+use Rattle.osi_stack.specs.Links.{needs_link, AreApart, HasLinks, Soundness, IsSound}
+use Rattle.osi_stack.specs.Messages.{kept_at}
+use Rattle.osi_stack.specs.Moving.{line_by, carrier_by, by_line, to_session}
+use Rattle.osi_stack.specs.State.{Line, End, Holding, IsAttended, fresh_end, session_in, waits, is_used, used_lines, joins}
+use Rattle.osi_stack.specs.Transport.{sent_unless, answers_by}
+use Rattle.osi_stack.proofs.Comings.{attended_then}
+use Rattle.osi_stack.proofs.Events.{concluded_carrier, starved_over}
+use Rattle.osi_stack.proofs.Moves.{kept_first}
+use Rattle.osi_stack.proofs.Keeping.{session_keeps}
+use Rattle.osi_stack.proofs.Lifting.{both, packet_is}
+use Rattle.osi_stack.proofs.Linking.{SessionLaws, IsLinked, AllLinked, times_linked, times_apart, times_last, apart_joins, session_linked, session_hears, session_apart, used_by, used_at, Stays, apart_push, mono, joined_lines}
+
+-- ---- how many references were given
+
+rises_by : (r : ℕ) (old new : Carrier) → How r old new → old.given ≤ new.given
+rises_by r old new (inl kept) = let same = kept.given in omega arith
+rises_by r old new (inr (inl joined)) = let more = joined.given in omega arith
+rises_by r old new (inr (inr over)) = let same = over.given in omega arith
+
+units_rise : (units : List Value) (c : Carrier) → c.given ≤ (reacts units c).given
+units_rise [] c = omega arith
+units_rise (unit ∷ units) c =
+    let first = rises_by (connection_of unit c) c (carrier_react unit c) (effect unit c).how in
+    let more = units_rise units (carrier_react unit c) in
+    omega arith
+
+acts_rise : (units : Result (List Value) TpduFault) (c : Carrier) → c.given ≤ (carriers.acts_by units c).given
+acts_rise (Ok units) c = units_rise units c
+acts_rise (Err fault) c = omega arith
+
+packet_rises : (packet : List ℕ) (c : Carrier) → c.given ≤ (carriers.after_packet c packet).given
+unfolding carriers.after_packet
+packet_rises packet c = acts_rise (units_of packet) c
+
+-- ---- references of lines
+
+up_more : (m n : ℕ) (lines : Rows Line) → m ≤ n → AreUpTo m lines → AreUpTo n lines
+up_more m n [] less up = tt
+up_more m n ((r, line) ∷ lines) less up = ((let here = up.0 in omega arith), up_more m n lines less up.1)
+
+up_at_by : (r n : ℕ) (rows : Rows Connection) (b : Bool) → nat_le r n ≡ b → AreUpTo n rows → IsSome (value_at r rows) → r ≤ n
+up_at_by r n rows true e up some = grind (arith, nat_tests)
+up_at_by r n rows false e up some =
+    let above : n < r = grind (arith, nat_tests) in
+    let none = beyond r n rows up above in
+    let no : false ≡ true = sym (ap is_some none) ∙ some in
+    cc
+
+-- a live connection has a reference that was given
+up_at : (r n : ℕ) (rows : Rows Connection) → AreUpTo n rows → IsSome (value_at r rows) → r ≤ n
+up_at r n rows up some = up_at_by r n rows (nat_le r n) refl up some
+
+up_used_by : (n p : ℕ) (y : Line) (live : Rows Connection) (lines : Rows Line) (u : Bool) → is_used live (p, y) ≡ u → (u ≡ true → p ≤ n) → AreUpTo n (used_lines live lines) →
+    AreUpTo n (used_lines live ((p, y) ∷ lines))
+up_used_by n p y live lines true used here more = subst (λ (l : Rows Line). AreUpTo n l) (sym (used_by live (p, y) lines true used)) (here refl, more)
+up_used_by n p y live lines false used here more = subst (λ (l : Rows Line). AreUpTo n l) (sym (used_by live (p, y) lines false used)) more
+
+or_none : (b : Bool) → (b || false) ≡ true → b ≡ true
+or_none true h = refl
+or_none false h = cc
+
+-- a new line is kept only where its connection is live
+up_joined : (n r : ℕ) (s : Standing) (live : Rows Connection) (lines : Rows Line) → AreUpTo n live → AreUpTo n lines → AreUpTo n (used_lines live (joined_lines r s lines))
+up_joined n r s live [] up known =
+    up_used_by n r (record { session = Some s; waiting = [] }) live [] (is_used live (r, record { session = Some s; waiting = [] })) refl
+    (λ used. up_at r n live up (or_none (is_some (value_at r live)) used)) tt
+up_joined n r s live ((p, y) ∷ lines) up known =
+    up_used_by n p y live (joined_lines r s lines) (is_used live (p, y)) refl (λ used. known.0) (up_joined n r s live lines up known.1)
+
+-- ---- what a session leaves of its carrier
+
+pub record Leaves (old new : Carrier) : Type 0 where
+  pub orderly : IsOrderly old → IsOrderly new
+  pub given : new.given ≡ old.given
+
+leaves_same : (c : Carrier) → Leaves c c
+leaves_same c = record { orderly = λ h. h; given = refl }
+
+sent_given : (r : ℕ) (tsdu : List ℕ) (o : Option (ℕ × Link)) (c : Carrier) → (sent_on r tsdu o c).given ≡ c.given
+sent_given r tsdu None c = refl
+sent_given r tsdu (Some link) c = refl
+
+unless_leaves : (o : Option SendError) (r : ℕ) (tsdu : List ℕ) (c : Carrier) → Leaves c (sent_unless o r tsdu c)
+unless_leaves None r tsdu c = record { orderly = orderly_sent r tsdu c; given = sent_given r tsdu (open_link r c) c }
+unless_leaves (Some e) r tsdu c = leaves_same c
+
+closes_given : (r peer reason : ℕ) (class : Option Class) (c : Carrier) → (closes r peer reason class c).given ≡ c.given
+closes_given r peer reason None c = refl
+closes_given r peer reason (Some Two) c = refl
+closes_given r peer reason (Some Zero) c = refl
+
+closed_given : (r reason : ℕ) (o : Option (ℕ × Link)) (c : Carrier) → (closed_on r reason o c).given ≡ c.given
+closed_given r reason None c = refl
+closed_given r reason (Some (peer, link)) c = closes_given r peer reason c.class c
+
+answers_leave : (closing : Bool) (r : ℕ) (tsdu : Option (List ℕ)) (c : Carrier) → Leaves c (answers_by closing r tsdu c)
+answers_leave true r tsdu c = record { orderly = orderly_closed r 128 c; given = closed_given r 128 (open_link r c) c }
+answers_leave false r None c = leaves_same c
+answers_leave false r (Some tsdu) c = unless_leaves (send_error tsdu (open_link r c)) r tsdu c
+
+carrier_leaves : (r : ℕ) (o : Option Standing) (input : Input) (c : Carrier) → Leaves c (carrier_by r o input c)
+carrier_leaves r None input c = leaves_same c
+carrier_leaves r (Some s) input c = answers_leave (react s input).closes r _ c
+
+-- the carrier is orderly, and lines have references that were given
+pub record Fits (e : End) : Type 0 where
+  pub orderly : IsOrderly e.carrier
+  pub known : AreUpTo e.carrier.given e.lines
+
+line_fits : (r : ℕ) (input : Input) (e : End) (o : Option Line) → Fits e → Fits (by_line r o input e)
+line_fits r input e None f = f
+line_fits r input e (Some line) f =
+    let l = carrier_leaves r line.session input e.carrier in
+    record {
+      orderly = l.orderly f.orderly;
+      known = subst (λ n. AreUpTo n (put r (line_by line line.session input) e.lines)) (sym l.given) (put_up e.carrier.given r (line_by line line.session input) e.lines f.known);
+    }
+
+pub session_fits : (r : ℕ) (input : Input) (e : End) → Fits e → Fits (to_session r input e)
+session_fits r input e f = line_fits r input e (value_at r e.lines) f
+
+pub joins_fits : (r : ℕ) (s : Standing) (e : End) → Fits e → Fits (joins r s e)
+joins_fits r s e f = record { orderly = f.orderly; known = up_joined e.carrier.given r s e.carrier.live e.lines f.orderly.up_to f.known }
+
+opens_fits : (r : ℕ) (e : End) (o : Option Line) → Fits e → Fits (opens r o e)
+opens_fits r e None f = joins_fits r awaits e f
+opens_fits r e (Some line) f = session_fits r opened e f
+
+hears_fits : (event : Happening) (e : End) → Fits e → Fits (hears event e)
+hears_fits (told.opened q) e f = opens_fits q e (value_at q e.lines) f
+hears_fits (told.refused q reason) e f = session_fits q _ e f
+hears_fits (told.tsdu q octets) e f = session_fits q _ e f
+hears_fits (told.closed q reason) e f = session_fits q _ e f
+hears_fits (told.faulted q fault) e f = session_fits q _ e f
+
+first_fits : (l : List Happening) (e : End) → Fits e → Fits (hears_first l e)
+first_fits [] e f = f
+first_fits (event ∷ rest) e f =
+    hears_fits event (with_events rest e) (record { orderly = orderly_same e.carrier e.carrier.outgoing rest f.orderly; known = f.known })
+
+times_fits : (n : ℕ) (e : End) → Fits e → Fits (hears_times n e)
+times_fits zero e f = f
+times_fits (suc n) e f = times_fits n (hears_next e) (first_fits e.carrier.events e f)
+
+-- ---- links
+
+-- where nothing is still to be heard
+links_linked : (e : End) → HasLinks e → e.carrier.ended ≡ None → AllLinked [] e
+links_linked e links over = λ r. record { needed = λ s is n h. links over r s is n; fresh = inl (λ h. cc) }
+
+linked_links : (e : End) → (e.carrier.ended ≡ None → AllLinked [] e) → HasLinks e
+linked_links e l over r s is n = (l over r).needed s is n refl
+
+-- ---- a packet
+
+-- what its carrier told is to be heard
+packet_linked : (e : End) (packet : List ℕ) → IsOrderly e.carrier → e.carrier.events ≡ [] → AllLinked [] e → (carriers.after_packet e.carrier packet).ended ≡ None →
+    AllLinked (carriers.after_packet e.carrier packet).events (with_carrier (carriers.after_packet e.carrier packet) e)
+packet_linked e packet orderly none l over =
+    λ r. (
+    let t = packet_opens packet e.carrier r orderly over in
+    let events : (carriers.after_packet e.carrier packet).events ≡ t.told = t.events ∙ ap (λ l. l ++ t.told) none in
+    subst (λ (l : List Happening). IsLinked r (kept_at r e.lines) l (carriers.after_packet e.carrier packet)) (sym events) (record {
+      needed = λ s is n h. (
+          let was = (l r).needed s is n refl in
+          t.is ∙ ap (λ b. open_after r b t.told) was ∙ h
+          );
+      fresh = inl (λ h. t.is ∙ mono r t.told false (is_open r e.carrier) (λ no. cc) h);
+    })
+    )
+
+concludes_lasting : (o : Option EndReason) (e : End) → o ≡ None → (if is_some o then record e { lines = all_lost e.lines } else e) ≡ e
+concludes_lasting None e h = refl
+concludes_lasting (Some reason) e h = cc
+
+pub packet_sound : SessionLaws → (packet : List ℕ) (e : End) → e.carrier.ended ≡ None → e.carrier.events ≡ [] → IsSound e → IsSound (after_packet e packet)
+packet_sound laws packet e lasts none sound over =
+    let s = sound lasts in
+    let c = carriers.after_packet e.carrier packet in
+    let mid = with_carrier c e in
+    let heard = hears_all mid in
+    let is = packet_is e packet in
+    let heard_lasts : heard.carrier.ended ≡ None = sym (ap (λ (x : Carrier). x.ended) (concluded_carrier heard)) ∙ ap (λ (x : End). x.carrier.ended) (sym is) ∙ over in
+    let told_lasts : c.ended ≡ None = times_last (length c.events) mid heard_lasts in
+    let all : AllLinked [] heard = times_linked laws c.events mid refl s.apart heard_lasts (packet_linked e packet s.orderly none (links_linked e s.links lasts) told_lasts) in
+    let f = times_fits (length c.events) mid (record { orderly = orderly_packet packet e.carrier s.orderly; known = up_more e.carrier.given c.given e.lines (packet_rises packet e.carrier) s.known }) in
+    let same : heard ≡ after_packet e packet = sym (concludes_lasting heard.carrier.ended heard heard_lasts) ∙ sym is in
+    subst Soundness same (record {
+      orderly = f.orderly;
+      apart = times_apart (length c.events) mid s.apart;
+      known = f.known;
+      links = linked_links heard (λ x. all);
+    })
+
+-- ---- calls
+
+pub fresh_sound : (is_caller : Bool) (local : Local) → IsSound (fresh_end is_caller local)
+fresh_sound is_caller local over = record {
+  orderly = orderly_fresh is_caller local;
+  apart = tt;
+  known = tt;
+  links = λ lasts r s is n. cc;
+}
+
+called_not_opened : (call : Call) → called call ≡ opened → ⊥
+called_not_opened call e = cc
+
+pub call_sound : SessionLaws → (r : ℕ) (call : Call) (e : End) → IsSound e → IsSound (to_session r (called call) e)
+call_sound laws r call e sound over =
+    let lasts = (session_keeps r (called call) e).lasts over in
+    let s = sound lasts in
+    let f = session_fits r (called call) e (record { orderly = s.orderly; known = s.known }) in
+    let l = links_linked e s.links lasts in
+    let before : AllLinked (told.refused r 0 ∷ []) e = (λ q. record { needed = (l q).needed; fresh = (l q).fresh }) in
+    let all = session_linked laws r (called call) (told.refused r 0) [] e (to_session r (called call) e) refl (session_hears r (called call) e) over
+    (λ t is n h. (l r).needed t is (laws.linked t (called call) (called_not_opened call) n) h) before in
+    record {
+      orderly = f.orderly;
+      apart = session_apart r (called call) e s.apart;
+      known = f.known;
+      links = linked_links (to_session r (called call) e) (λ x. all);
+    }
+
+open_none : (o : Option OpenError) (error : Option ConnectError) → after_open o error ≡ None → o ≡ None
+open_none None error h = refl
+open_none (Some e) error h = cc
+
+-- a caller's session waits for its connection
+asked_linked : (q : ℕ) (s : Standing) (e : End) (c : Carrier) → value_at q e.lines ≡ None → AreApart e.lines → needs_link s.state.phase ≡ false → AllLinked [] e →
+    ((r : ℕ) → is_open r c ≡ is_open r e.carrier) → (r : ℕ) (b : Bool) → (r == q) ≡ b → Stays r c.live (joined_lines q s e.lines) →
+    IsLinked r (kept_at r (used_lines c.live (joined_lines q s e.lines))) [] c
+asked_linked q s e c none apart unneeded l same r true at (inl is) =
+    let here = eqb-true r q at in
+    let kept : kept_at r (used_lines c.live (joined_lines q s e.lines)) ≡ Some s =
+    ap session_in (is ∙ ap (λ n. value_at n (joined_lines q s e.lines)) here ∙ push_here q (record { session = Some s; waiting = [] }) e.lines none) in
+    subst (λ (o : Option Standing). IsLinked r o [] c) (sym kept) (record {
+      needed = λ t is n h. (let one : s ≡ t = cc in both (needs_link s.state.phase) (ap (λ (x : Standing). needs_link x.state.phase) one ∙ n) unneeded);
+      fresh = inl (λ h. cc);
+    })
+asked_linked q s e c none apart unneeded l same r b at (inr gone) =
+    subst (λ (o : Option Standing). IsLinked r o [] c) (sym (ap session_in gone.0)) (record { needed = λ t is n h. cc; fresh = inl (λ h. cc) })
+asked_linked q s e c none apart unneeded l same r false at (inl is) =
+    let ne : r ≢ q = (λ here. both (r == q) (eq-eqb r q here) at) in
+    let kept : kept_at r (used_lines c.live (joined_lines q s e.lines)) ≡ kept_at r e.lines = ap session_in (is ∙ push_other r q _ e.lines ne) in
+    subst (λ (o : Option Standing). IsLinked r o [] c) (sym kept) (record {
+      needed = λ t is n h. same r ∙ (l r).needed t is n h;
+      fresh = inl (λ h. cc);
+    })
+
+pub connect_sound : (c : Connect) (e : End) → connect_error c e ≡ None → IsSound e → IsSound (connects c e)
+connect_sound c e allowed sound over =
+    let s = sound over in
+    let calling = option_map tsap_octets c.calling_tsap in
+    let to = option_map tsap_octets c.called_tsap in
+    let may = open_none (may_connect e.carrier) (terms_error c) allowed in
+    let asked = asks calling to e.carrier in
+    let orderly = orderly_asks calling to e.carrier may s.orderly in
+    let q = e.carrier.given + 1 in
+    let none = beyond q e.carrier.given e.lines s.known (omega arith) in
+    let apart = apart_joins q (calls_with c) (record e { carrier = asked }) none s.apart in
+    let l = asked_linked q (calls_with c) e asked none s.apart refl (links_linked e s.links over) (λ r. asks_opens calling to e.carrier r s.orderly) in
+    let stays = (λ (r : ℕ). used_at r asked.live (joined_lines q (calls_with c) e.lines) (apart_push q (record { session = Some (calls_with c); waiting = [] }) e.lines none s.apart)) in
+    record {
+      orderly = orderly;
+      apart = apart;
+      known = (joins_fits q (calls_with c) (record e { carrier = asked }) (record { orderly = orderly; known = up_more e.carrier.given q e.lines (omega arith) s.known })).known;
+      links = linked_links (connects c e) (λ x r. l r (r == q) refl (stays r));
+    }
+
+-- ---- indications and octets that go
+
+first_up_by : (n r : ℕ) (line : Line) (waiting : List Shown) (lines : Rows Line) → r ≤ n → AreUpTo n lines → AreUpTo n (without_first lines) →
+    AreUpTo n (rest_by r line waiting lines (without_first lines))
+first_up_by n r line [] lines here up more = (here, more)
+first_up_by n r line (shown ∷ waiting) lines here up more = (here, up)
+
+first_up : (n : ℕ) (lines : Rows Line) → AreUpTo n lines → AreUpTo n (without_first lines)
+first_up n [] up = tt
+first_up n ((r, line) ∷ lines) up = first_up_by n r line line.waiting lines up.0 up.1 (first_up n lines up.1)
+
+first_gone_by : (q r : ℕ) (line : Line) (waiting : List Shown) (lines : Rows Line) (b : Bool) → (r == q) ≡ b → value_at q ((r, line) ∷ lines) ≡ None →
+    (value_at q lines ≡ None → value_at q (without_first lines) ≡ None) → value_at q (rest_by r line waiting lines (without_first lines)) ≡ None
+first_gone_by q r line waiting lines true e none more = let there : Some line ≡ None = rw e at none in cc
+first_gone_by q r line [] lines false e none more = rw e (more (rw e at none))
+first_gone_by q r line (shown ∷ waiting) lines false e none more = rw e (rw e at none)
+
+first_gone : (q : ℕ) (lines : Rows Line) → value_at q lines ≡ None → value_at q (without_first lines) ≡ None
+first_gone q [] none = refl
+first_gone q ((r, line) ∷ lines) none = first_gone_by q r line line.waiting lines (r == q) refl none (first_gone q lines)
+
+first_apart_by : (r : ℕ) (line : Line) (waiting : List Shown) (lines : Rows Line) → value_at r lines ≡ None → AreApart lines → AreApart (without_first lines) →
+    AreApart (rest_by r line waiting lines (without_first lines))
+first_apart_by r line [] lines alone apart more = (first_gone r lines alone, more)
+first_apart_by r line (shown ∷ waiting) lines alone apart more = (alone, apart)
+
+first_apart : (lines : Rows Line) → AreApart lines → AreApart (without_first lines)
+first_apart [] apart = tt
+first_apart ((r, line) ∷ lines) apart = first_apart_by r line line.waiting lines apart.0 apart.1 (first_apart lines apart.1)
+
+pub first_sound : (e : End) → IsSound e → IsSound (record e { lines = without_first e.lines })
+first_sound e sound over =
+    let s = sound over in
+    record {
+      orderly = s.orderly;
+      apart = first_apart e.lines s.apart;
+      known = first_up e.carrier.given e.lines s.known;
+      links = λ lasts r t is n. s.links lasts r t (sym (kept_first r e.lines) ∙ is) n;
+    }
+
+pub carried_sound : (octets : ℕ) (e : End) → IsSound e → IsSound (carried octets e)
+carried_sound octets e sound over =
+    let s = sound over in
+    record {
+      orderly = orderly_same e.carrier (drop octets e.carrier.outgoing) e.carrier.events s.orderly;
+      apart = s.apart;
+      known = s.known;
+      links = s.links;
+    }
+
+ended_sound : (e : End) (reason : EndReason) → e.carrier.ended ≡ Some reason → IsSound e
+ended_sound e reason is over = let no : None ≡ Some reason = sym over ∙ is in cc
+
+breaks_by : (o : Option EndReason) (e : End) → e.carrier.ended ≡ o → IsSound (if is_some o then e else ends Broken e)
+breaks_by None e is = ended_sound (ends Broken e) Broken refl
+breaks_by (Some reason) e is = ended_sound e reason is
+
+pub breaks_sound : (e : End) → IsSound (breaks e)
+breaks_sound e = breaks_by e.carrier.ended e refl
+
+-- ---- feeding
+
+lasting_of : (o : Option EndReason) (b : Bool) → (is_some o || b) ≡ false → o ≡ None
+lasting_of None b h = refl
+lasting_of (Some reason) b h = cc
+
+pub packets_sound : SessionLaws → (units : List (List ℕ)) (old new : End) → TakesPackets old units new → IsAttended old → IsSound old → IsSound new
+packets_sound laws [] old new h attended sound = subst IsSound (sym h) sound
+packets_sound laws (u ∷ units) old new h attended sound =
+    let lasts = lasting_of old.carrier.ended (waits old.lines) h.0 in
+    packets_sound laws units (after_packet old u) new h.1 (attended_then (with_carrier (carriers.after_packet old.carrier u) old) (after_packet old u) (packet_is old u))
+    (packet_sound laws u old lasts (attended lasts) sound)
+
+never : (e : End) → is_some e.carrier.ended ≡ true → IsSound e
+never e over lasts = let no : is_some e.carrier.ended ≡ false = ap is_some lasts in both (is_some e.carrier.ended) over no
+
+starved_sound : (e new : End) (packet : List ℕ) → Starves e packet new → IsSound new
+starved_sound e new packet (inl h) = λ lasts.
+    let mid = with_carrier h.0 e in
+    let heard : (hears_all mid).carrier.ended ≡ None = sym (ap (λ (x : Carrier). x.ended) (concluded_carrier (hears_all mid))) ∙ ap (λ (x : End). x.carrier.ended) (sym h.2) ∙ lasts in
+    let told : h.0.ended ≡ None = times_last (length h.0.events) mid heard in
+    let over : is_some h.0.ended ≡ true = ap (λ (c : Carrier). is_some c.ended) h.1.2.ended in
+    let no : is_some h.0.ended ≡ false = ap is_some told in
+    both (is_some h.0.ended) over no
+starved_sound e new packet (inr h) =
+    never new (ap (λ (x : End). is_some x.carrier.ended) h.2.starved ∙ starved_over (with_events h.2.more (hears_times h.2.heard (with_carrier h.0 e))))
+
+none_found : (e new : End) (rest : List ℕ) → (new ≡ ends NoMemory e) ⊎ ((packet : List ℕ) × ArePackets (packet ∷ []) rest [] × Starves e packet new) → IsSound new
+none_found e new rest (inl is) = never new (ap (λ (x : End). is_some x.carrier.ended) is)
+none_found e new rest (inr p) = starved_sound e new p.0 p.2
+
+goes_sound : SessionLaws → (old new : Holding) (piece : List ℕ) (used : ℕ) → Goes old piece used new → IsAttended old.end → IsSound old.end → IsSound new.end
+goes_sound laws old new piece used (inl (inl h)) attended sound = packets_sound laws h.units old.end new.end h.taken attended sound
+goes_sound laws old new piece used (inl (inr h)) attended sound = packets_sound laws h.units old.end new.end h.taken attended sound
+goes_sound laws old new piece used (inr (inl h)) attended sound = never new.end (ap (λ (x : End). is_some x.carrier.ended) h.ended)
+goes_sound laws old new piece used (inr (inr h)) attended sound = none_found h.before new.end h.rest h.how
+
+feeds_by : SessionLaws → (old new : Holding) (piece : List ℕ) (fed : Fed) (o : Option EndReason) (b : Bool) → old.end.carrier.ended ≡ o → waits old.end.lines ≡ b →
+    Feeds old piece fed new → IsAttended old.end → IsSound old.end → IsSound new.end
+feeds_by laws old new piece fed (Some reason) b is waiting h attended sound =
+    subst (λ (x : Holding). IsSound x.end) (sym (h.over (ap is_some is)).1) sound
+feeds_by laws old new piece fed None true is waiting h attended sound = subst (λ (x : Holding). IsSound x.end) (sym (h.waiting is waiting).1) sound
+feeds_by laws old new piece fed None false is waiting h attended sound =
+    goes_sound laws old new piece fed.used (h.goes (ap (λ (o : Option EndReason). is_some o || waits old.end.lines) is ∙ waiting)) attended sound
+
+pub feeds_sound : SessionLaws → (old new : Holding) (piece : List ℕ) (fed : Fed) → Feeds old piece fed new → IsAttended old.end → IsSound old.end → IsSound new.end
+feeds_sound laws old new piece fed h attended sound = feeds_by laws old new piece fed old.end.carrier.ended (waits old.end.lines) refl refl h attended sound

@@ -1,0 +1,31 @@
+use Rattle.std.proofs.Common.{◌≡◌, false, refl}
+use Rattle.osi_session.specs.Moves.{Input, called, taken, unread, opened, refused, broken, is_opened}
+use Rattle.osi_stack.proofs.Soundness.{fresh_sound, connect_sound, call_sound, feeds_sound, first_sound, carried_sound, breaks_sound}
+use Rattle.osi_stack.proofs.Tables.{session_laws}
+use Rattle.osi_stack.proofs.laws.a_session_that_is_called_has_a_connection.Goals as goal
+
+unopened : (input : Input) → (input ≡ opened → ⊥) → is_opened input ≡ false
+unopened (called call) other = refl
+unopened (taken said) other = refl
+unopened (unread fault) other = refl
+unopened opened other = absurd (other refl)
+unopened (refused reason) other = refl
+unopened broken other = refl
+
+pub returns : goal.returns
+returns c =
+    let laws = session_laws (record {
+      over = c.an_ended_session_stays_ended.ensures.over;
+      ended = c.an_ended_session_stays_ended.ensures.ended;
+      closed = c.what_closes_sends_nothing.ensures.ended;
+      waiting = λ s input other. c.where_a_call_is_accepted.ensures.waiting s input (unopened input other);
+    }) in
+    record {
+      begins = fresh_sound;
+      connects = connect_sound;
+      called = call_sound laws;
+      fed = feeds_sound laws;
+      shown = first_sound;
+      carried = carried_sound;
+      broken = breaks_sound;
+    }
