@@ -1,5 +1,5 @@
 -- What C passes, and what it says.
-use Rattle.std.specs.Prelude.{◌≡◌, ℕ, ◌≤◌, Bool, ◌||◌, List, length, Option, Some, None, IsSome, option_map, ◌==◌, nat_le, if◌then◌else◌}
+use Rattle.std.specs.Prelude.{◌≡◌, ℕ, ◌≤◌, ◌||◌, List, length, Option, Some, None, IsSome, option_map, ◌==◌, nat_le, if◌then◌else◌}
 use Rattle.osi_class.specs.declared.terms.Local.{Local}
 use Rattle.osi_tpdu.specs.Limits.{size_code, window_units, tsap_octets}
 use Rattle.osi_spdu.specs.Fields.{unit_bits}

@@ -1,11 +1,10 @@
 -- What the functions that C calls do: `old` and `new` are what the slot holds.
-use Rattle.std.specs.Prelude.{◌≡◌, ℕ, ◌≤◌, ◌+◌, Bool, true, List, [], length, Option, Some, None, option_map}
+use Rattle.std.specs.Prelude.{◌≡◌, ℕ, ◌≤◌, ◌+◌, Bool, List, [], length, Option, Some, None, option_map}
 use Rattle.osi_tpkt.specs.Held.{fresh}
-use Rattle.osi_tpkt.specs.declared.cutting.Fed.{Fed}
 use Rattle.osi_class.specs.declared.terms.Local.{Local}
 use Rattle.osi_carrier.specs.Calls.{kept_in}
 use Rattle.osi_carrier.specs.declared.ends.EndReason.{EndReason}
-use Rattle.osi_message.specs.Tokens.{token_octet, no_token}
+use Rattle.osi_message.specs.Tokens.{token_octet}
 use Rattle.osi_session.specs.Calls.{Call}
 use Rattle.osi_session.specs.Moves.{called}
 use Rattle.osi_session.specs.Numbers.{from_base}
@@ -16,7 +15,7 @@ use Rattle.osi_session.specs.declared.phases.Phase.{Phase}
 use Rattle.osi_stack.specs.Calls.{connect_error, refusal, connects, call_error, table_error, Refuses, held_by, phase_at, numbers_of, first_shown, without_first, carried, breaks}
 use Rattle.osi_stack.specs.Feeding.{Feeds}
 use Rattle.osi_stack.specs.Moving.{to_session}
-use Rattle.osi_stack.specs.State.{End, Holding, fresh_end, session_at}
+use Rattle.osi_stack.specs.State.{End, fresh_end, session_at}
 use Rattle.osi_stack.specs.declared.connecting.Connect.{Connect}
 use Rattle.osi_stack.specs.declared.connecting.ConnectError.{ConnectError}
 use Rattle.osi_c.specs.Arguments.{IsTerms, SaysTerms, IsOpening, SaysOpening}

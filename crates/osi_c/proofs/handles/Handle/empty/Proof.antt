@@ -4,7 +4,7 @@ use Rattle.std.proofs.raw_atomic.Walks.{proved}
 use base.Logic.{emp}
 use base.Fml.{ftrue}
 use types.Kit.{‵, raw, ◌⊛◌, ◌$◌, ◌∵◌, !, qed, done, drop, join, suffices}
-use types.Run.{lit, of_opd, no_more, and_then, returns, enter}
+use types.Run.{lit, no_more, and_then, returns, enter}
 use types.ByLocal.{alloc_all, pass_all, free_all, look_at, sets}
 use types.Part.{agg}
 use denote.RawPtr.{null_ptr}

@@ -18,10 +18,9 @@ use contract.Running.{tables}
 use denote.Exit.{no}
 use denote.Follow.{follows, Part, lends_Part}
 use denote.Memory.{part_at, mem, cell_at, part_of, lone}
-use denote.RattleType.{RattleType}
 use denote.RawPtr.{Ptr, block_ptr, in_a_block}
 use denote.Ref.{MutRef, mut_vals, mut_Tells}
-use denote.Signature.{Slot, plain, mut_ref_to}
+use denote.Signature.{plain, mut_ref_to}
 use denote.Steps.{nothing, opens, heard}
 use denote.Triple.Walked.{says, Stays, stay_dropped, walk_of, ends_at, Goes-spent_ref}
 use Rattle.std.proofs.VecSteps.Shapes.{after}

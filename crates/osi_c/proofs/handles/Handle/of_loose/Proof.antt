@@ -1,5 +1,5 @@
 -- `of_loose` moves the pointer, and what the box owned goes with it.
-use Rattle.std.proofs.Common.{◌≡◌, List, [], ◌∷◌, ◌++◌, refl, sym, subst}
+use Rattle.std.proofs.Common.{List, [], ◌∷◌, ◌++◌, refl, sym, subst}
 use Rattle.std.proofs.raw_atomic.Walks.{proved_at}
 use mir.Val.{Val}
 use base.Logic.{SProp, ent, emp, id⊢}
