@@ -1,19 +1,19 @@
 -- What is told at one end of two carriers was handed in at the other.
-use Rattle.std.proofs.Common.{◌≡◌, ◌≢◌, ℕ, ◌==◌, ◌||◌, Bool, true, false, not, List, [], ◌∷◌, ◌++◌, length, drop, Option, Some, None, is_some, refl, sym, ap, subst, ◌∙◌, ◌⊎◌, inl, inr, append_assoc, if◌then◌else◌}
-use Rattle.std.specs.List.{flat_map, AllByRecursion}
-use Rattle.std.proofs.lemmas.Bool.{eq-eqb, eqb-true, ne_eqb}
+use Rattle.std.proofs.Common.{◌≡◌, ◌≢◌, ℕ, ◌==◌, Bool, true, false, not, List, [], ◌∷◌, ◌++◌, Some, None, is_some, refl, sym, ap, subst, ◌∙◌, inl, inr, append_assoc, if◌then◌else◌}
+use Rattle.std.specs.List.{flat_map}
+use Rattle.std.proofs.lemmas.Bool.{eq-eqb, eqb-true}
 use Rattle.std.proofs.lemmas.List.{append-nil}
-use Rattle.osi_tpdu.specs.Value.{Value, request, confirm, disconnect, disconnected, data0, data2, acknowledge, error}
+use Rattle.osi_tpdu.specs.Value.{Value}
 use Rattle.osi_class.specs.Link.{Standing}
-use Rattle.osi_carrier.specs.Addresses.{AreFor, reference_of, units_of}
-use Rattle.osi_carrier.specs.Between.{Both, side, Between, last_of, units_from, AreBetween, under_way, told_of, answers_in, put_in, is_cut, to_come, Carries, Same, Lost, Loses}
+use Rattle.osi_carrier.specs.Addresses.{AreFor, units_of}
+use Rattle.osi_carrier.specs.Between.{Both, Between, last_of, units_from, under_way, told_of, answers_in, put_in, is_cut, to_come, Carries}
 use Rattle.osi_carrier.specs.Carried.{tsdus_told, tsdus_in, AreAmong}
-use Rattle.osi_carrier.specs.Course.{Place, never, was_given, place_at, connection_in, progress_of, answers_at, told_asked, told_answer, told_opening}
+use Rattle.osi_carrier.specs.Course.{Place, never, was_given, place_at, connection_in, progress_of, told_asked, told_answer, told_opening}
 use Rattle.osi_carrier.specs.Happenings.{Happening, opened, refused, tsdu, closed, faulted}
-use Rattle.osi_carrier.specs.Meeting.{answers_of, is_leaving}
+use Rattle.osi_carrier.specs.Meeting.{is_leaving}
 use Rattle.osi_carrier.specs.Messages.{Message, ask, agree, deny, message, bye, over, messages_after, begun_at, AreLike}
 use Rattle.osi_carrier.specs.Progress.{Progress, not_yet, awaiting, in_use, shutting, gone, behind_arrival, behind_arrivals, behind_put, behind_puts}
-use Rattle.osi_carrier.specs.State.{Connection, asked, linked, closing, State}
+use Rattle.osi_carrier.specs.State.{asked, linked, closing, State}
 use Rattle.osi_carrier.specs.Terms.{Terms, by_two, by_zero, refusing, accepts_in}
 use Rattle.osi_carrier.proofs.Addressing.{units_join, units_same}
 use Rattle.osi_carrier.proofs.MessageLaws.{messages_front}

@@ -1,13 +1,12 @@
 -- Over every list of moves what is told at one end was handed in at the other.
-use Rattle.std.proofs.Common.{◌≡◌, ℕ, ◌+◌, ◌==◌, Bool, true, false, not, List, [], ◌∷◌, ◌++◌, length, drop, Option, Some, None, is_some, refl, sym, ap, subst, ◌∙◌, inl, append_assoc, nat_lt, if◌then◌else◌}
+use Rattle.std.proofs.Common.{◌≡◌, ℕ, ◌+◌, ◌==◌, Bool, true, false, not, List, [], ◌∷◌, ◌++◌, length, drop, Option, None, refl, sym, ap, subst, ◌∙◌, inl, append_assoc, nat_lt, if◌then◌else◌}
 use Rattle.std.specs.List.{flat_map}
 use Rattle.std.proofs.Math.Seq.{drop-append_seam}
 use Rattle.std.proofs.lemmas.List.{append-nil}
 use Rattle.osi_tpdu.specs.Value.{Value}
 use Rattle.osi_class.specs.declared.terms.Local.{Local}
-use Rattle.osi_carrier.specs.Addresses.{reference_of, units_of}
-use Rattle.osi_carrier.specs.Between.{Both, side, Between, last_of, units_from, AreBetween, under_way, told_of, answers_in, Acted, becomes, Took, Same, Lost, fresh_both, fresh_between}
-use Rattle.osi_carrier.specs.Calls.{closed_with}
+use Rattle.osi_carrier.specs.Addresses.{reference_of}
+use Rattle.osi_carrier.specs.Between.{Both, Between, last_of, AreBetween, under_way, told_of, answers_in, Acted, becomes, Took, Same, Lost, fresh_both, fresh_between}
 use Rattle.osi_carrier.specs.Carried.{tsdus_told, tsdus_in, told_in, handed_in, all_told, all_handed_in, AreAmong}
 use Rattle.osi_carrier.specs.Course.{Place, never, was_given, place_at, connection_in, progress_of}
 use Rattle.osi_carrier.specs.Happenings.{Happening}

@@ -1,12 +1,11 @@
 -- Which TSDUs of a connection were handed in, and which were told, over a list of what happened.
-use Rattle.std.specs.Prelude.{◌≡◌, ℕ, ◌==◌, Bool, true, false, not, List, [], ◌∷◌, ◌++◌, length, drop, ◌⊎◌, if◌then◌else◌}
-use Rattle.osi_carrier.specs.Between.{Both, side, Between, AreBetween, under_way}
+use Rattle.std.specs.Prelude.{◌≡◌, ℕ, ◌==◌, Bool, true, false, List, [], ◌∷◌, ◌++◌, length, drop, ◌⊎◌, if◌then◌else◌}
+use Rattle.osi_carrier.specs.Between.{Both}
 use Rattle.osi_carrier.specs.Happenings.{Happening, opened, refused, tsdu, closed, faulted}
-use Rattle.osi_carrier.specs.Journey.{Move, carries, takes, connects, hands_in, closes, tells, ends, breaks, MayAll, moved}
+use Rattle.osi_carrier.specs.Journey.{Move, takes, hands_in, moved}
 use Rattle.osi_carrier.specs.Messages.{Message, ask, agree, deny, message, bye, over}
 use Rattle.osi_carrier.specs.Packets.{after_packet}
 use Rattle.osi_carrier.specs.State.{State}
-use Rattle.osi_carrier.specs.Terms.{Terms}
 
 -- the TSDUs of a connection in events
 abbrev pub tsdus_told : ℕ → List Happening → List (List ℕ)
