@@ -1,0 +1,4 @@
+pub mod Stands
+pub mod Texts
+pub mod Walking
+pub mod Lines

@@ -1,0 +1,10 @@
+use Rattle.std.proofs.Common.{length}
+use Rattle.osi_transcript.specs.Walks.{lines_in, IsSmall}
+use Rattle.osi_transcript.proofs.Lines.{HasPlayed}
+use Rattle.osi_transcript.proofs.playing.play.Given as goal
+
+abbrev pub invariant-lines : goal.invariant-lines
+invariant-lines l = HasPlayed (lines_in l.fn.script) l.fn.pair l.fn.out.items (lines_in l.script) l.pair l.out.items × IsSmall l.script
+
+abbrev pub decreases-lines : goal.decreases-lines
+decreases-lines l = length (lines_in l.script)

@@ -1,0 +1,12 @@
+-- The lines of a script that ask for something.
+use Rattle.std.specs.Prelude.{ℕ, ◌+◌, List, [], ◌∷◌, Option, Some, None, if◌then◌else◌}
+use Rattle.osi_script.specs.Scripts.{lines_of, is_skipped}
+
+-- those of these lines, each with its number; the first has this one
+unfoldable pub numbered : ℕ → List (List ℕ) → List (ℕ × List ℕ)
+numbered number [] = []
+numbered number (line ∷ lines) = if is_skipped line then numbered (number + 1) lines else (number, line) ∷ numbered (number + 1) lines
+
+abbrev pub lines_left : Option (List ℕ) → List (List ℕ)
+lines_left None = []
+lines_left (Some text) = lines_of text

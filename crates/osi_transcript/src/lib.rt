@@ -1,0 +1,11 @@
+//! Runs a script on two ends, and tells what they answered and what their users were shown.
+#![tactic(auto)]
+
+mod asking;
+mod entries;
+mod playing;
+mod standings;
+mod transcripts;
+mod walks;
+
+pub use transcripts::{Transcript, transcribe};

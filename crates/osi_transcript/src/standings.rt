@@ -1,0 +1,87 @@
+//! Where connections stand at the end of a script.
+
+ghost use Rattle.std.specs.Prelude.{◌≡◌, ◌++◌, OnOk};
+ghost use Rattle.osi_session.specs.Phases.{is_ended};
+ghost use Rattle.osi_pair.specs.Ends.{end_at};
+ghost use Rattle.osi_transcript.specs.Standings.{standing_text, standing_texts, phase_text, all_standings};
+
+use crate::asking::named;
+use osi_carrier::Ref;
+use osi_pair::{Pair, Side};
+use osi_script::{Standing, push_standing};
+use osi_session::Phase;
+use osi_stack::Stack;
+use std::alloc::{AllocError, Global};
+
+fn has_ended(phase: Phase) -> bool
+    ensures { result ≡ is_ended phase }
+{
+    matches!(phase, Phase::Ended)
+}
+
+/// Adds the line of where a connection stands, unless it has ended.
+#[tactic(auto, using(crate::proofs::Stands::stand_of), unfolding(crate::specs::Standings::phase_text))]
+fn push_phase(
+    alloc: Global,
+    out: &mut Vec<u8>,
+    side: Side,
+    stack: &Stack,
+    reference: Ref,
+    phase: Phase,
+) -> Result<(), AllocError>
+    ensures { OnOk result (out.new.items ≡ out.old.items ++ phase_text side reference.0 stack.now.end phase) }
+{
+    if has_ended(phase) {
+        return Ok(());
+    }
+    let standing = Standing {
+        side: named(side),
+        reference: reference.0,
+        phase,
+        held: stack.held(reference),
+        next_serial: stack.next_serial(reference),
+        confirmed_below: stack.confirmed_below(reference),
+        lowest_restart: stack.lowest_restart(reference),
+    };
+    push_standing(alloc, out, &standing)?;
+    Ok(())
+}
+
+/// Adds the line of where a connection stands, if there is one.
+#[tactic(auto, unfolding(crate::specs::Standings::standing_text))]
+fn push_one(
+    alloc: Global,
+    out: &mut Vec<u8>,
+    side: Side,
+    stack: &Stack,
+    reference: Ref,
+) -> Result<(), AllocError>
+    ensures { OnOk result (out.new.items ≡ out.old.items ++ standing_text side reference.0 stack.now.end) }
+{
+    match stack.phase(reference) {
+        None => Ok(()),
+        Some(phase) => push_phase(alloc, out, side, stack, reference, phase),
+    }
+}
+
+/// Adds the lines of where the connections of a side stand, by rising reference.
+fn push_side(alloc: Global, out: &mut Vec<u8>, side: Side, stack: &Stack) -> Result<(), AllocError>
+    ensures { OnOk result (out.new.items ≡ out.old.items ++ standing_texts side stack.now.end 65535) }
+{
+    'references: for reference in 0..u16::MAX {
+        push_one(alloc, out, side, stack, Ref(reference + 1))?;
+    }
+    Ok(())
+}
+
+/// Adds the lines of where connections stand, those of the left side first.
+pub(crate) fn push_standings(
+    alloc: Global,
+    out: &mut Vec<u8>,
+    pair: &Pair,
+) -> Result<(), AllocError>
+    ensures { OnOk result (out.new.items ≡ out.old.items ++ all_standings pair.now) }
+{
+    push_side(alloc, out, Side::Left, pair.stack(Side::Left))?;
+    push_side(alloc, out, Side::Right, pair.stack(Side::Right))
+}
