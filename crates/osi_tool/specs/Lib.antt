@@ -1,3 +1,4 @@
 pub mod Capture
 pub mod Show
+pub mod Pairing
 pub mod Words

@@ -1,8 +1,8 @@
 -- The words that the program takes.
-use Rattle.std.specs.Prelude.{ℕ, List, codes, true, Option, option_map}
+use Rattle.std.specs.Prelude.{◌≡◌, ℕ, List, codes, true, Option, Some, option_map}
 use Rattle.clap.specs.Words.{App, Text, new_app, subcommand_of, with_subcommand}
 use Rattle.osi_tool.specs.declared.jobs.Job.{Job}
-use Rattle.osi_tool.specs.declared.jobs.Job.TheVariants.{Show}
+use Rattle.osi_tool.specs.declared.jobs.Job.TheVariants.{Show, Pair}
 
 -- the command `osi`, which wants a subcommand
 abbrev pub top : App
@@ -10,11 +10,16 @@ top = record { top = record (new_app (codes "osi")).top { subcommand_required = 
 
 -- the same with its subcommands
 unfoldable pub osi : App
-osi = with_subcommand top (new_app (codes "show")).top
+osi = with_subcommand (with_subcommand top (new_app (codes "show")).top) (new_app (codes "pair")).top
 
 -- the subcommand of a job
 abbrev pub name_of : Job → List ℕ
 name_of Show = codes "show"
+name_of Pair = codes "pair"
+
+-- the name is that of a job
+abbrev pub IsJob : Option (List ℕ) → Type 0
+IsJob name = (job : Job) × (name ≡ Some (name_of job))
 
 -- the subcommand that clap's matches give for the words
 unfoldable pub named_by : List Text → Option (List ℕ)

@@ -3,4 +3,6 @@
 pub enum Job {
     /// Lists the capture on standard input.
     Show,
+    /// Runs the script on standard input on two ends.
+    Pair,
 }

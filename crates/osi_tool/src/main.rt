@@ -1,13 +1,16 @@
-//! The program `osi`, which reads captures of the OSI session protocol over TPKT.
+//! The program `osi`, which reads captures of the OSI session protocol over TPKT, and runs scripts on
+//! two ends.
 //!
-//! `osi show` lists the capture on standard input. The status is 0 where all of it was read, and 1
-//! where something was refused, which the listing shows. It is 2 where the words, the input or its
-//! digits can't be read, a write failed, or memory ran out; one line on standard error then names it.
+//! `osi show` lists the capture on standard input, and `osi pair` runs the script there and prints its
+//! transcript. The status is 0 where all of it was read, and 1 where something was refused, which the
+//! text shows. It is 2 where the words, the input or its digits can't be read, a write failed, or
+//! memory ran out; one line on standard error then names it.
 #![tactic(auto)]
 
 mod capture;
 mod faults;
 mod jobs;
+mod pairing;
 mod showing;
 #[cfg(test)]
 mod tests;
@@ -40,6 +43,10 @@ fn run<R: Env + Input + Print + AllocGlobal>(rt: &R) -> Result<u8, ProgramFault>
         Ok(Job::Show) => {
             let shown = showing::show(rt.alloc(), &mut rt.reader(), &mut io::writer(rt));
             shown.map_err(ProgramFault::Tool)
+        }
+        Ok(Job::Pair) => {
+            let told = pairing::pair(rt.alloc(), &mut rt.reader(), &mut io::writer(rt));
+            told.map_err(ProgramFault::Tool)
         }
         Err(error) => explain(rt, &error),
     }

@@ -12,7 +12,7 @@ use std::io::{ErrorKind, Read, Write};
 const PIECE: usize = 65536;
 
 /// Reads to the end, or one octet more than the longest input.
-fn read_input<R: Read>(alloc: Global, reader: &mut R) -> Result<Vec<u8>, ToolFault>
+pub(crate) fn read_input<R: Read>(alloc: Global, reader: &mut R) -> Result<Vec<u8>, ToolFault>
     ensures ok { IfOk result (λ input. Consumes (R.remaining reader.old) (R.remaining reader.new) input.items
         × IsRead (R.remaining reader.new) input.items) }
     ensures most { TakesAtMost 16777217 (R.remaining reader.old) (R.remaining reader.new) }

@@ -1,6 +1,6 @@
 ghost use Rattle.std.specs.Prelude.{◌≡◌, ◌≢◌, true, Some, map, codes, option_map, IfOk, IfErr, IfSome, IfNone};
 ghost use Rattle.clap.specs.Words.{app_of, kind_of, takes};
-ghost use Rattle.osi_tool.specs.Words.{osi, name_of, named_by};
+ghost use Rattle.osi_tool.specs.Words.{osi, name_of, named_by, IsJob};
 
 use crate::jobs::Job;
 use clap::error::ErrorKind;
@@ -8,13 +8,42 @@ use clap::{Command, Error};
 use std::alloc::{AllocError, Global};
 use std::convert::AsStr;
 
+/// What a script is made of.
+const SCRIPTS: &str = "\
+A line for each event; empty lines and lines that begin with # are skipped.
+
+  ends CALLER CALLED SIZE WINDOW      the first line: classes 0, 2 or 20 of the left end, which
+                                      calls, and of the right one; TPDU size code 7 to 13;
+                                      window 1 to 15
+  connect UNITS SERIAL SIDES DATA     the left end asks for a connection
+  carry SIDE K                        K octets of a side are carried, or all where there are fewer
+  break KL KR                         the connection breaks: so many octets of the left and of the
+                                      right side can still be carried
+  told SIDE                           a side is told of the break
+
+  SIDE REF accept UNITS SERIAL SIDES DATA
+  SIDE REF refuse DATA                SIDE REF minorconfirm N DATA
+  SIDE REF data DATA                  SIDE REF major DATA
+  SIDE REF give TOKENS                SIDE REF majorconfirm DATA
+  SIDE REF please TOKENS DATA         SIDE REF restart N SIDES DATA
+  SIDE REF minor yes DATA             SIDE REF restartconfirm SIDES DATA
+  SIDE REF minor no DATA              SIDE REF release DATA
+  SIDE REF releaseaccept DATA         SIDE REF releaserefuse DATA
+  SIDE REF abort DATA
+
+SIDE is left or right, REF the number of a connection. DATA is hexadecimal, or - for none. SIDES has
+a letter for the data, minor, major and release token: a for the side that asks, r for the side that
+answers, c for the choice of the side that answers. TOKENS has two digits: 01 data, 04 minor,
+10 major, 40 release. UNITS has four digits: 0001 half-duplex, 0002 duplex, 0008 minor, 0010 major,
+0020 resynchronize, 0080 negotiated release.";
+
 /// The job that the program's words ask for, of which the first is the program's name. A request for
 /// help, and words that name no job, are an error of `clap`.
 pub fn job<'a, S: AsStr>(alloc: Global, words: &'a [S]) -> Result<Job, Error>
     ensures named { IfOk result (λ job. named_by (map S.text words.entry.now) ≡ Some (name_of job)) }
     // Where clap takes the words and names a job's subcommand, the only error is want of memory.
     ensures taken { IfErr result (λ e. takes osi (map S.text words.entry.now) ≡ true →
-        named_by (map S.text words.entry.now) ≡ Some (codes "show") →
+        IsJob (named_by (map S.text words.entry.now)) →
         kind_of e ≡ ErrorKind.OutOfMemory) }
 {
     let mut command = command(alloc)?;
@@ -33,19 +62,25 @@ fn command<'a>(alloc: Global) -> Result<Command<'a>, AllocError>
     ensures { IfOk result (λ command. app_of command ≡ osi) }
 {
     let show = Command::new(alloc, "show").about("List the capture on standard input");
+    let pair = Command::new(alloc, "pair")
+        .about("Run the script on standard input on two ends, and print what they do")
+        .after_help(SCRIPTS);
     Command::new(alloc, "osi")
-        .about("Read captures of the OSI session protocol over TPKT")
+        .about("Read captures of the OSI session protocol over TPKT, and run scripts on two ends")
         .subcommand_required(true)
-        .subcommand(show)
+        .subcommand(show)?
+        .subcommand(pair)
 }
 
 /// The job of a subcommand.
 fn job_named(name: Option<&str>) -> Option<Job>
     ensures some { IfSome result (λ job. option_map (λ s. s.now) name.entry ≡ Some (name_of job)) }
-    ensures none { IfNone result (option_map (λ s. s.now) name.entry ≢ Some (codes "show")) }
+    ensures not_show { IfNone result (option_map (λ s. s.now) name.entry ≢ Some (codes "show")) }
+    ensures not_pair { IfNone result (option_map (λ s. s.now) name.entry ≢ Some (codes "pair")) }
 {
     match name {
         Some("show") => Some(Job::Show),
+        Some("pair") => Some(Job::Pair),
         _ => None,
     }
 }

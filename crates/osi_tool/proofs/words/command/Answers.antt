@@ -14,8 +14,11 @@ unfolding osi
 returns c =
     let top_is : app_of c.subcommand_required.result ≡ top =
     ap app_of_fields c.subcommand_required.ensures
-    ∙ ap (λ f. app_of_fields (record f { subcommand_required = true })) c.about.ensures
-    ∙ ap wanting c.new-2.ensures.app in
+    ∙ ap (λ f. app_of_fields (record f { subcommand_required = true })) c.about-2.ensures
+    ∙ ap wanting c.new-3.ensures.app in
     let show_is : shape_of c.about-show.result ≡ (new_app (codes "show")).top =
     ap shape_of_fields c.about-show.ensures ∙ ap (λ (a : App). a.top) c.new.ensures.app in
-    IfOk-weaker c.subcommand.result _ _ (λ command h. h.shape (search rules) ∙ ap₂ with_subcommand top_is show_is) c.subcommand.ensures
+    let pair_is : shape_of c.after_help-pair.result ≡ (new_app (codes "pair")).top =
+    ap shape_of_fields c.after_help-pair.ensures ∙ ap shape_of_fields c.about.ensures ∙ ap (λ (a : App). a.top) c.new-2.ensures.app in
+    let both = c.in_ok-subcommand.ensures.shape (search rules) ∙ ap₂ with_subcommand top_is show_is in
+    IfOk-weaker c.subcommand-2.result _ _ (λ command h. h.shape (search rules) ∙ ap₂ with_subcommand both pair_is) c.subcommand-2.ensures

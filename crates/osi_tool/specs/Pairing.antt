@@ -1,0 +1,17 @@
+-- What `pair` does, where the reader and the writer tell their octets.
+use Rattle.std.specs.Prelude.{ℕ, ◌≤◌, List, length, Option}
+use Rattle.std.specs.Io.KnownBytes.{Appends}
+use Rattle.osi_script.specs.Scripts.{lines_of}
+use Rattle.osi_transcript.specs.Numbered.{numbered}
+use Rattle.osi_transcript.specs.Playing.{Transcribes}
+
+-- a text of at most 16,777,216 octets is a script, and these lines are its transcript
+pub record Tells (text lines : List ℕ) (status : ℕ) : Type 0 where
+  pub short : length text ≤ 16777216
+  pub told : Transcribes (numbered 1 (lines_of text)) lines status
+
+-- the transcript of the text is written, and nothing else
+pub record Pairs (text : List ℕ) (old new : Option (List ℕ)) (status : ℕ) : Type 0 where
+  pub lines : List ℕ
+  pub tells : Tells text lines status
+  pub written : Appends old new lines
