@@ -72,3 +72,14 @@ packets_most peer (u ∷ units) =
     let more = packets_most peer units in
     let joined = length-append (packet_of (written (unit_of peer u))) (packets (map (unit_of peer) units)) in
     omega arith
+
+-- where a link gives one unit and then none, the link after it
+pub whole_link : (s new : Standing) (unit : Given) → drained s ≡ record { units = unit ∷ (drained new).units; link = (drained new).link } →
+    drained new ≡ record { units = []; link = new } → new ≡ pumped s
+whole_link s new unit first last = sym (ap (λ (d : Drained). d.link) first ∙ ap (λ (d : Drained). d.link) last)
+
+-- and what is written
+pub whole_written : (peer : ℕ) (s new : Standing) (unit : Given) → drained s ≡ record { units = unit ∷ (drained new).units; link = (drained new).link } →
+    drained new ≡ record { units = []; link = new } → unit_of peer unit ∷ [] ≡ written_by peer s
+whole_written peer s new unit first last =
+    sym (ap (λ (d : Drained). map (unit_of peer) d.units) first ∙ ap (λ (d : Drained). unit_of peer unit ∷ map (unit_of peer) d.units) last)

@@ -5,9 +5,7 @@ use Rattle.osi_tpkt.specs.Packet.{packet_of}
 use Rattle.osi_tpdu.specs.Value.{Value, request, confirm, disconnect, disconnected, data0, data2, acknowledge, error, user_data}
 use Rattle.osi_tpdu.specs.Writing.{written, written_header, Fits}
 use Rattle.osi_class.specs.Giving.{header_octets, octets_of}
-use Rattle.osi_class.specs.Link.{FitsAUnit, Given, part0, part2, ack, given, unit_of}
-use Rattle.osi_class.specs.declared.units.Out.{Out}
-use Rattle.osi_class.specs.declared.units.Out.TheVariants.{Data0, Data2, Ack}
+use Rattle.osi_class.specs.Link.{Given, part0, part2, ack, unit_of}
 use Rattle.osi_carrier.specs.State.{packets}
 
 pub one_packet_of : (unit : Value) → packets (unit ∷ []) ≡ packet_of (written unit)
@@ -35,12 +33,6 @@ written_least unit =
     let joined = length-append (written_header unit) (user_data unit) in
     omega arith
 
--- what a link gives goes into a unit of 8,192 octets
-pub given_short : (peer : ℕ) (out : Out) → FitsAUnit out → length (user_data (unit_of peer (given out))) ≤ 8192
-given_short peer (Data0 end octets) fits = omega arith
-given_short peer (Data2 number end octets) fits = let short = fits.1 in omega arith
-given_short peer (Ack number credit) fits = omega arith
-
 -- the octets of a packet with a unit that a link gave: its header, the unit's header, and the data
 pub given_size : (peer : ℕ) (given : Given) → length (packets (unit_of peer given ∷ [])) ≡ 4 + header_octets given + octets_of given
 given_size peer (part0 end octets) =
@@ -54,3 +46,8 @@ given_size peer (ack number credit) =
     let unit = acknowledge credit peer number in
     let one : length (packets (unit ∷ [])) ≡ length (packet_of (written unit)) = ap length (one_packet_of unit) in
     omega arith
+
+pub header_most : (given : Given) → header_octets given ≤ 5
+header_most (part0 end octets) = omega arith
+header_most (part2 number end octets) = omega arith
+header_most (ack number credit) = omega arith

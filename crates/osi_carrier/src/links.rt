@@ -1,6 +1,6 @@
 //! The links of open connections: units that come for them, and units that they give.
 
-ghost use Rattle.std.specs.Prelude.{◌≡◌, ◌≤◌, ◌++◌, None, take, length, IsOk, IfOk, OnOk, OnErr};
+ghost use Rattle.std.specs.Prelude.{◌≡◌, ◌≤◌, ◌++◌, None, true, false, take, length, IsOk, IfOk, OnOk, OnErr};
 ghost use Rattle.osi_tpdu.specs.View.{value};
 ghost use Rattle.osi_class.specs.AnyLink.{any_standing};
 ghost use Rattle.osi_class.specs.Link.{taken, next, with_tsdu};
@@ -18,6 +18,9 @@ use std::alloc::AllocError;
 
 /// The most octets of a packet's header and the header of a DT or AK in it: 4 and 5.
 const MOST_HEADERS: usize = 9;
+
+/// The most octets of a TSDU in one unit.
+const MOST_OCTETS: usize = 8189;
 
 /// What became of a unit that came for an open connection.
 #[derive(Drop)]
@@ -87,6 +90,49 @@ pub fn take_unit(
 /// Hands in a TSDU at a link that gives nothing now, and writes all units that it gives then. Want of
 /// memory changes nothing: the room for the units is made first.
 pub fn send_on(
+    link: &mut AnyLink,
+    peer: u16,
+    tsdu: &[u8],
+    out: &mut BytesMut,
+) -> Result<(), AllocError>
+    requires { next (any_standing link.old) ≡ None }
+    ensures link { OnOk result (any_standing link.new ≡ pumped (with_tsdu (any_standing link.old) tsdu.now)) }
+    ensures ok { OnOk result (out.new.items ≡ out.old.items ++ packets (written_by peer (with_tsdu (any_standing link.old) tsdu.now))) }
+    ensures pumped { OnOk result (next (any_standing link.new) ≡ None) }
+    ensures err { OnErr result ((any_standing link.new ≡ any_standing link.old) × (out.new.items ≡ out.old.items)) }
+{
+    if send_whole(link, peer, tsdu, out) {
+        return Ok(());
+    }
+    send_parts(link, peer, tsdu, out)
+}
+
+/// Writes a TSDU as one unit straight from its octets, where the link gives it so and there is memory.
+/// `false` in all other cases, and then nothing has changed.
+fn send_whole(link: &mut AnyLink, peer: u16, tsdu: &[u8], out: &mut BytesMut) -> bool
+    ensures link { result ≡ true → any_standing link.new ≡ pumped (with_tsdu (any_standing link.old) tsdu.now) }
+    ensures written { result ≡ true → out.new.items ≡ out.old.items ++ packets (written_by peer (with_tsdu (any_standing link.old) tsdu.now)) }
+    ensures pumped { result ≡ true → next (any_standing link.new) ≡ None }
+    ensures none { result ≡ false → (any_standing link.new ≡ any_standing link.old) × (out.new.items ≡ out.old.items) }
+{
+    all_is_given();
+    if tsdu.len() > MOST_OCTETS {
+        return false;
+    }
+    let Ok(()) = out.reserve(tsdu.len() + MOST_HEADERS) else {
+        return false;
+    };
+    let Some(unit) = link.send_whole(tsdu) else {
+        return false;
+    };
+    let Ok(()) = put_given(out, peer, &unit) else {
+        unreachable!()
+    };
+    true
+}
+
+/// Hands in a TSDU of which not all may be sent now, or which takes several units.
+fn send_parts(
     link: &mut AnyLink,
     peer: u16,
     tsdu: &[u8],

@@ -1,7 +1,7 @@
 -- All that a link gives, one unit after the other, until it gives none.
-use Rattle.std.specs.Prelude.{ℕ, zero, suc, ◌+◌, ◌-◌, ◌/◌, List, [], ◌∷◌, length, Option, Some, None}
+use Rattle.std.specs.Prelude.{◌≡◌, ℕ, zero, suc, ◌+◌, ◌-◌, ◌/◌, List, [], ◌∷◌, length, Option, Some, None}
 use Rattle.osi_class.specs.Flow.{Flow}
-use Rattle.osi_class.specs.Link.{Standing, Given, part0, part2, ack, next}
+use Rattle.osi_class.specs.Link.{Standing, Given, part0, part2, ack, next, with_tsdu}
 
 -- how much is left to give: each octet and each TSDU that is to be sent, and each Ack that waits
 abbrev pub left_of_tsdus : List (List ℕ) → ℕ
@@ -56,3 +56,10 @@ octets_in (unit ∷ units) = octets_of unit + octets_in units
 -- in how many parts a TSDU of so many octets is cut: an empty one is one part too
 abbrev pub parts_needed : ℕ → ℕ → ℕ
 parts_needed limit octets = (octets - 1) / limit + 1
+
+-- A TSDU that was put behind the others is given at once and whole, as this unit, and nothing is given
+-- behind it.
+pub record SendsWhole (unit : Given) (tsdu : List ℕ) (old new : Standing) : Type 0 where
+  pub gives : next (with_tsdu old tsdu) ≡ Some (unit, new)
+  pub last : next new ≡ None
+  pub octets : octets_of unit ≡ length tsdu

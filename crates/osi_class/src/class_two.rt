@@ -71,6 +71,26 @@ impl Link for Class2 {
         self.outgoing.add(tsdu)
     }
 
+    fn send_whole<'t>(&mut self, tsdu: &'t [u8]) -> Option<Out<'t>> {
+        if tsdu.len() > self.limit {
+            return None;
+        }
+        if !self.outgoing.is_empty() {
+            return None;
+        }
+        if self.receiving.has_ack() {
+            return None;
+        }
+        if !self.sending.has_credit() {
+            return None;
+        }
+        Some(Out::Data2 {
+            number: self.sending.count_unit(),
+            end: true,
+            octets: tsdu,
+        })
+    }
+
     fn take(&mut self, unit: &Tpdu<'_>) -> Result<(), LinkFault> {
         match unit {
             Tpdu::Dt2(data) => {

@@ -57,6 +57,19 @@ impl Link for Class0 {
         self.outgoing.add(tsdu)
     }
 
+    fn send_whole<'t>(&mut self, tsdu: &'t [u8]) -> Option<Out<'t>> {
+        if tsdu.len() > self.limit {
+            return None;
+        }
+        if !self.outgoing.is_empty() {
+            return None;
+        }
+        Some(Out::Data0 {
+            end: true,
+            octets: tsdu,
+        })
+    }
+
     fn take(&mut self, unit: &Tpdu<'_>) -> Result<(), LinkFault> {
         match unit {
             Tpdu::Dt0(data) => self.incoming.join(data.end, data.user),

@@ -27,6 +27,13 @@ impl Link for AnyLink {
         }
     }
 
+    fn send_whole<'t>(&mut self, tsdu: &'t [u8]) -> Option<Out<'t>> {
+        match self {
+            AnyLink::Zero(link) => link.send_whole(tsdu),
+            AnyLink::Two(link) => link.send_whole(tsdu),
+        }
+    }
+
     fn take(&mut self, unit: &Tpdu<'_>) -> Result<(), LinkFault> {
         match self {
             AnyLink::Zero(link) => link.take(unit),

@@ -121,7 +121,7 @@ impl Model for ReceivingFlow {
 }
 
 impl ReceivingFlow {
-    ghost use Rattle.std.specs.Prelude.{◌≡◌, ◌<◌, ◌≤◌, option_map, IsTrue, IfSome, IfNone};
+    ghost use Rattle.std.specs.Prelude.{◌≡◌, ◌<◌, ◌≤◌, nat_lt, option_map, IsTrue, IfSome, IfNone};
     ghost use Rattle.osi_tpdu.specs.Limits.{window_units};
     ghost use Rattle.osi_class.specs.Flow.{fresh_receiver, is_awaited, after_taken, ack_number, after_acked};
 
@@ -161,6 +161,14 @@ impl ReceivingFlow {
     {
         self.expected = (self.expected + 1) % NUMBERS;
         self.waiting += 1;
+    }
+
+    /// Whether an Ack waits to be given.
+    #[inline(always)]
+    pub fn has_ack(&self) -> bool
+        ensures { result ≡ nat_lt 0 self.now.waiting }
+    {
+        self.waiting > 0
     }
 
     /// The number of the next Ack, 0 to 127, which waits no longer; none where no Ack waits.

@@ -1,4 +1,4 @@
-ghost use Rattle.std.specs.Prelude.{◌≡◌, ◌≤◌, ◌++◌, [], ◌∷◌, IfNone, OnOk, OnErr, option_map};
+ghost use Rattle.std.specs.Prelude.{◌≡◌, ◌≤◌, ◌++◌, [], ◌∷◌, true, IfNone, OnOk, OnErr, option_map};
 ghost use Rattle.osi_class.specs.Tsdus.{give};
 
 use std::alloc::{AllocError, Global};
@@ -51,6 +51,14 @@ impl Outgoing {
             has_more: false,
             queue: VecDeque::new(alloc),
         }
+    }
+
+    /// Whether nothing is to be sent.
+    #[inline(always)]
+    pub fn is_empty(&self) -> bool
+        ensures { result ≡ true → self.now.unsent ≡ [] }
+    {
+        !self.has_more && self.queue.is_empty()
     }
 
     /// Puts a copy of a TSDU behind those that are to be sent.

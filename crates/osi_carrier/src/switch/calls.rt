@@ -81,11 +81,17 @@ impl Switch {
         self.outgoing.as_slice()
     }
 
-    /// The first octets of [`Switch::outgoing`] were carried.
+    /// The first octets of [`Switch::outgoing`] were carried. Where these are all, what is written next
+    /// goes to the front of the buffer.
+    #[tactic(auto, using(std::proofs::lemmas::List::drop_all))]
     pub fn taken(&mut self, octets: usize)
         requires { octets ≤ length self.old.outgoing }
         ensures { self.new ≡ record self.old { outgoing = drop octets self.old.outgoing } }
     {
+        if octets == self.outgoing.len() {
+            self.outgoing.clear();
+            return;
+        }
         self.outgoing.advance(octets);
     }
 

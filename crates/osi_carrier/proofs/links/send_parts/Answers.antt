@@ -5,7 +5,7 @@ use Rattle.osi_class.specs.Link.{Standing, with_tsdu}
 use Rattle.osi_carrier.specs.Pump.{written_by}
 use Rattle.osi_carrier.specs.State.{packets}
 use Rattle.osi_carrier.proofs.Pumping.{packets_most}
-use Rattle.osi_carrier.proofs.links.send_on.Goals as goal
+use Rattle.osi_carrier.proofs.links.send_parts.Goals as goal
 
 pub unreachable-requires : goal.unreachable-requires
 unreachable-requires c =

@@ -1,0 +1,33 @@
+use Rattle.std.proofs.Common.{◌≡◌, ◌<◌, ◌≤◌, [], ◌∷◌, ◌++◌, ap, ◌∙◌, arith}
+use Rattle.osi_class.specs.AnyLink.{any_standing}
+use Rattle.osi_class.specs.Link.{given, unit_of, with_tsdu}
+use Rattle.osi_carrier.specs.State.{packets}
+use Rattle.osi_carrier.proofs.Pumping.{whole_link, whole_written}
+use Rattle.osi_carrier.proofs.Units.{given_size, header_most}
+use Rattle.osi_carrier.proofs.links.send_whole.Goals as goal
+
+pub unreachable-requires : goal.unreachable-requires
+unreachable-requires c =
+    let unit = given c.in-Some.unit in
+    let size = given_size c.args.peer unit in
+    let header = header_most unit in
+    let octets = c.in-Some.ensures.sent.octets in
+    let room = c.in-Ok.ensures.spare.1 in
+    let full = c.in_default-put_given.ensures.full in
+    omega arith
+
+pub returns : goal.returns
+returns c =
+    let old = with_tsdu (any_standing c.args.link.now) c.args.tsdu.now in
+    let new = any_standing c.send_whole.new.self in
+    let unit = given c.in-Some.unit in
+    let sent = c.in-Some.ensures.sent in
+    let least = c.in-Some.ensures.at_least in
+    let first = c.all_is_given.ensures.some old new unit (omega arith) sent.gives in
+    let last = c.all_is_given.ensures.none new sent.last in
+    record {
+      link = λ _. whole_link old new unit first last;
+      written = λ _. c.in-Ok-put_given.ensures.ok ∙ ap (λ l. l ++ packets (unit_of c.args.peer unit ∷ [])) c.in-Ok.ensures.items ∙ ap (λ us. c.args.out.now.items ++ packets us) (whole_written c.args.peer old new unit first last);
+      pumped = λ _. sent.last;
+      none = λ e. cc;
+    }
