@@ -1,5 +1,6 @@
 use crate::faults::ToolFault;
 use crate::jobs::Job;
+use crate::pairing::pair;
 use crate::showing::show;
 use crate::texts::LONGEST_INPUT;
 use crate::words::job;
@@ -193,6 +194,7 @@ fn refused(rt: &HostRuntime, words: &[&str]) -> Option<ErrorKind> {
 #[test]
 fn words_name_a_job(rt: HostRuntime) {
     assert!(rt; matches!(job(rt.alloc(), &["osi", "show"]), Ok(Job::Show)));
+    assert!(rt; matches!(job(rt.alloc(), &["osi", "pair"]), Ok(Job::Pair)));
     assert_eq!(rt;
         refused(&rt, &["osi", "--help"]),
         Some(ErrorKind::DisplayHelp)
@@ -209,5 +211,48 @@ fn words_name_a_job(rt: HostRuntime) {
     assert_eq!(rt;
         refused(&rt, &["osi", "show", "x"]),
         Some(ErrorKind::UnknownArgument)
+    );
+}
+
+const SCRIPT: &str = "ends 0 0 10 4
+connect 0001 0 aaaa -
+carry left 999
+told left
+";
+
+const TOLD: &str = "left connect ok 1
+left carried 14
+line 4 NotBroken
+";
+
+#[test]
+fn a_script_is_run(rt: HostRuntime) {
+    let mut out = Vec::new(rt.alloc());
+    let mut reader = SCRIPT.as_bytes();
+    assert_eq!(rt; pair(rt.alloc(), &mut reader, &mut out), Ok(1));
+    assert!(rt; out.as_slice() == TOLD.as_bytes());
+}
+
+#[test]
+fn a_script_is_not_read_or_its_transcript_not_written(rt: HostRuntime) {
+    let mut out = Vec::new(rt.alloc());
+    let mut reader = Slow {
+        octets: SCRIPT.as_bytes(),
+        fails: true,
+    };
+    assert_eq!(rt;
+        pair(rt.alloc(), &mut reader, &mut out),
+        Err(ToolFault::Input)
+    );
+    assert!(rt; out.is_empty());
+    let mut reader = SCRIPT.as_bytes();
+    assert_eq!(rt;
+        pair(rt.alloc(), &mut reader, &mut Broken),
+        Err(ToolFault::Write)
+    );
+    let mut reader = SCRIPT.as_bytes();
+    assert_eq!(rt;
+        pair(rt.alloc(), &mut reader, &mut Unflushed),
+        Err(ToolFault::Write)
     );
 }
