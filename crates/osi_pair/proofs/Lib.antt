@@ -3,3 +3,4 @@ pub mod Showing
 pub mod Pieces
 pub mod Lists
 pub mod Growing
+pub mod StandingBreak

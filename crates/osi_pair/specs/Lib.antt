@@ -8,3 +8,4 @@ pub mod Carrying
 pub mod Events
 pub mod Running
 pub mod Memory
+pub mod Standing

@@ -14,6 +14,7 @@ mod owned;
 mod pairs;
 mod reach;
 mod sides;
+pub mod standing;
 mod telling;
 
 pub use entries::Entry;

@@ -1,0 +1,180 @@
+-- How two ends stand to the tables of the machine: what each end has is what the tables have of it, and what
+-- is under way between the two is what the tables have under way.
+use Rattle.std.specs.Prelude.{◌≡◌, ℕ, ◌<◌, ◌≤◌, Bool, true, false, List, [], ◌∷◌, ◌++◌, map, length, Option, Some, None, option_map, is_some, Result, Ok, Err}
+use Rattle.std.specs.List.{AllByRecursion}
+use Rattle.osi_carrier.specs.Between.{Between, Both, AreBetween, last_of, under_way}
+use Rattle.osi_carrier.specs.Course.{Place, never, was_given, place_at, connection_in}
+use Rattle.osi_carrier.specs.Messages.{AreLike}
+use Rattle.osi_carrier.specs.Messages as carrier
+use Rattle.osi_carrier.specs.Rows.{value_at}
+use Rattle.osi_carrier.specs.State.{asked, linked, closing}
+use Rattle.osi_carrier.specs.Terms.{terms_of}
+use Rattle.osi_carrier.specs.Terms as between
+use Rattle.osi_carrier.specs.declared.ends.EndReason.{EndReason}
+use Rattle.osi_carrier.specs.declared.ends.EndReason.TheVariants as why
+use Rattle.osi_carrier.specs.declared.faults.OpenError.TheVariants as opening
+use Rattle.osi_class.specs.declared.terms.Class.{Class}
+use Rattle.osi_class.specs.declared.terms.Class.TheVariants as classes
+use Rattle.osi_machine.specs.Core.{Offer}
+use Rattle.osi_machine.specs.Core as machine
+use Rattle.osi_machine.specs.Machine.{Ending, told_of_break, closed_here, no_memory, Refusal, has_ended, negotiating, one_connection, too_many, references_used_up, not_selected, too_long, connect_answered, call_answered, shown_at, ended, connection_at, Step, breaks, HasNumber}
+use Rattle.osi_machine.specs.Machine as entries
+use Rattle.osi_machine.specs.Tables.{Seat, Line, Tables, run, start}
+use Rattle.osi_machine.specs.Worlds.{Message, unit, ask, agree, deny, bye, over, Transport, not_yet, waiting, gone, Terms, accepts, denies}
+use Rattle.osi_machine.specs.Worlds as worlds
+use Rattle.osi_message.specs.Written.{written}
+use Rattle.osi_session.specs.Phases.{is_ended}
+use Rattle.osi_session.specs.Sessions.{awaits}
+use Rattle.osi_stack.specs.State.{Holding, session_at}
+use Rattle.osi_stack.specs.declared.connecting.ConnectError.{ConnectError}
+use Rattle.osi_stack.specs.declared.connecting.ConnectError.TheVariants.{Open, NotSelected, TooLong}
+use Rattle.osi_pair.specs.Asked.{Asked}
+use Rattle.osi_pair.specs.Ends.{TwoEnds, end_at}
+use Rattle.osi_pair.specs.Entries.{Entry, asks, calls, shows, ends}
+use Rattle.osi_pair.specs.Telling.{waiting_in}
+use Rattle.osi_pair.specs.declared.sides.Side.{Side}
+use Rattle.osi_pair.specs.declared.sides.Side.TheVariants.{Left, Right}
+
+-- ---- the words of the one in those of the other
+
+abbrev pub side_in : Side → machine.Side
+side_in Left = machine.Left
+side_in Right = machine.Right
+
+-- the caller's end is the left one
+abbrev pub is_caller : Side → Bool
+is_caller Left = true
+is_caller Right = false
+
+-- two ends of this product end for one of three reasons: the tables have no word for another
+abbrev pub ending_in : EndReason → Option Ending
+ending_in why.Broken = Some told_of_break
+ending_in why.NoMemory = Some no_memory
+ending_in why.Closed = Some closed_here
+ending_in (why.PeerClosed r) = None
+ending_in (why.Fault fault) = None
+
+abbrev pub offer_in : Asked → Offer
+offer_in a = record {
+  requirements = a.requirements;
+  serial = a.serial;
+  wishes = a.wishes;
+  calling_selector = a.calling_selector;
+  called_selector = a.called_selector;
+  octets = a.octets;
+}
+
+-- want of memory is no entry, and the left end is a caller
+abbrev pub refusal_in : ConnectError → Option Refusal
+refusal_in (Open opening.NotCaller) = None
+refusal_in (Open opening.Ended) = Some has_ended
+refusal_in (Open opening.Negotiating) = Some negotiating
+refusal_in (Open opening.OneConnection) = Some one_connection
+refusal_in (Open opening.TooMany) = Some too_many
+refusal_in (Open opening.ReferencesUsedUp) = Some references_used_up
+refusal_in (Open opening.OutOfMemory) = None
+refusal_in NotSelected = Some not_selected
+refusal_in TooLong = Some too_long
+
+abbrev pub answer_in : Result ℕ ConnectError → Option (Option Refusal)
+answer_in (Ok r) = Some None
+answer_in (Err error) = option_map Some (refusal_in error)
+
+-- an entry, where the tables have one for it
+abbrev pub entry_in : Entry → Option entries.Entry
+entry_in (asks wanted answer) = option_map (connect_answered (offer_in wanted)) (answer_in answer)
+entry_in (calls side r call error) = Some (call_answered (side_in side) r call error)
+entry_in (shows side r shown) = Some (shown_at (side_in side) r shown)
+entry_in (ends side r) = option_map (ended (side_in side)) (ending_in r)
+
+abbrev pub terms_in : between.Terms → Terms
+terms_in between.by_two = accepts worlds.class_2
+terms_in between.by_zero = accepts worlds.class_0
+terms_in (between.refusing r) = denies r
+
+abbrev pub class_in : Class → worlds.Class
+class_in classes.Zero = worlds.class_0
+class_in classes.Two = worlds.class_2
+
+abbrev pub transport_in : Place → Transport
+transport_in never = not_yet
+transport_in (was_given None) = gone
+transport_in (was_given (Some asked)) = waiting
+transport_in (was_given (Some (linked peer link))) = worlds.linked
+transport_in (was_given (Some (closing peer))) = worlds.closing
+
+-- a unit goes as the octets of a TSDU
+abbrev pub message_in : Message → carrier.Message
+message_in (unit m) = carrier.message (written m)
+message_in ask = carrier.ask
+message_in agree = carrier.agree
+message_in (deny r) = carrier.deny r
+message_in (bye r) = carrier.bye r
+message_in over = carrier.over
+
+-- ---- two ends as two carriers
+
+abbrev pub carriers_of : TwoEnds → Both
+carriers_of p = record {
+  caller = record { state = p.left.end.carrier; held = p.left.held.octets };
+  called = record { state = p.right.end.carrier; held = p.right.held.octets };
+  reach = option_map (λ r. (r.left, r.right)) p.reach;
+}
+
+-- ---- one connection
+
+-- a side of it: its transport connection; its session, while it is live; one that is gone is over, and
+-- one that was never given awaits a CN
+pub record IsSeated (n : ℕ) (h : Holding) (seat : Seat) : Type 0 where
+  pub transport : seat.transport ≡ transport_in (place_at n h.end.carrier)
+  pub live : is_some (value_at n h.end.carrier.live) ≡ true → session_at n h.end ≡ Some seat.session
+  pub over_now : seat.transport ≡ gone → is_ended seat.session.state.phase ≡ true
+  pub awaiting : seat.transport ≡ not_yet → seat.session ≡ awaits
+
+-- what is under way from a side, while the other lasts
+abbrev pub IsUnderWay : Side → Side → ℕ → TwoEnds → Between → Seat → Type 0
+IsUnderWay side other n p b seat = (end_at other p).end.carrier.ended ≡ None →
+    AreLike (connection_in (place_at n (last_of (is_caller other) b))) (map message_in seat.channel) (under_way (is_caller side) n (carriers_of p) b)
+
+pub record IsLine (n : ℕ) (p : TwoEnds) (b : Between) (l : Line) : Type 0 where
+  pub left : IsSeated n p.left l.own
+  pub right : IsSeated n p.right l.peer
+  pub rightward : IsUnderWay Left Right n p b l.own
+  pub leftward : IsUnderWay Right Left n p b l.peer
+
+pub record HasLine (n : ℕ) (p : TwoEnds) (b : Between) (t : Tables) : Type 0 where
+  pub line : Line
+  pub found : connection_at n t.lines ≡ Some line
+  pub is : IsLine n p b line
+
+-- ---- all of it
+
+-- `b`: what is between the two carriers, from which what is under way is read
+
+pub record Stands (p : TwoEnds) (b : Between) (t : Tables) : Type 0 where
+  pub between : AreBetween (terms_of p.left.end.carrier.local p.right.end.carrier.local) (carriers_of p) b
+  pub terms : t.terms ≡ terms_in (terms_of p.left.end.carrier.local p.right.end.carrier.local)
+  pub broken : t.broken ≡ is_some p.reach
+  pub left_end : option_map Some t.left_end ≡ option_map ending_in p.left.end.carrier.ended
+  pub right_end : option_map Some t.right_end ≡ option_map ending_in p.right.end.carrier.ended
+  pub known : t.known ≡ option_map class_in p.left.end.carrier.class
+  pub journal : map Some t.journal ≡ map entry_in p.journal
+  pub given : length t.lines ≡ p.left.end.carrier.given
+  pub lines : (n : ℕ) → 0 < n → n ≤ length t.lines → HasLine n p b t
+  -- all that was shown is in the journal
+  pub quiet_left : waiting_in p.left.end.lines ≡ []
+  pub quiet_right : waiting_in p.right.end.lines ≡ []
+
+-- ---- at a list of steps
+
+-- Two ends stand at a list of steps: as the tables do after these.
+pub record StandsAt (p : TwoEnds) (steps : List Step) : Type 0 where
+  pub numbered : AllByRecursion HasNumber steps
+  pub now : Between
+  pub stands : Stands p now (run (start (terms_in (terms_of p.left.end.carrier.local p.right.end.carrier.local))) steps)
+
+-- they stand at that list followed by a break, which leaves so much of what was under way
+pub record StandsAtBreak (p : TwoEnds) (steps : List Step) : Type 0 where
+  pub keep_left : ℕ → ℕ
+  pub keep_right : ℕ → ℕ
+  pub stands : StandsAt p (steps ++ breaks keep_left keep_right ∷ [])
