@@ -1,5 +1,5 @@
 -- The lengths of units are kept one after the other, as a loop does.
-use Rattle.std.proofs.Common.{inl, inr, ◌≡◌, ℕ, zero, suc, ◌+◌, ◌<◌, ◌≤◌, List, [], ◌∷◌, ◌++◌, length, take, drop, get_or, set, sym, ap, subst, ◌∙◌, append_assoc, ltb, arith}
+use Rattle.std.proofs.Common.{inl, inr, ◌≡◌, ℕ, zero, suc, ◌+◌, ◌<◌, ◌≤◌, List, [], ◌∷◌, ◌++◌, length, take, drop, get_or, set, refl, sym, ap, subst, ◌∙◌, append_assoc, ltb, arith}
 use Rattle.std.proofs.lemmas.Bool.{cases_Bool, ltb-true, ltb-false}
 use Rattle.std.proofs.lemmas.List.{append-nil, length-set, take_more_set, drop_more, drop_all}
 use Rattle.osi_spdu.specs.Known.{Contents, Units}
@@ -50,6 +50,11 @@ pub keeping_end : (lens : List ℕ) (count : ℕ) (units all : Units) → units 
 keeping_end lens count units all e so_far =
     let all_of : AreLengths (take count lens ++ []) all = so_far.goes [] (subst (λ (us : Units). AreLengths [] us) (sym e) tt) in
     front_enough count lens all (subst (λ (x : List ℕ). AreLengths x all) (append-nil (take count lens)) all_of)
+
+-- the length of one unit is kept
+pub one_kept : (lens more : List ℕ) (body : ℕ) (units : Units) (unit : Contents) → units ≡ unit ∷ [] → length lens ≡ 16 → body ≡ body_length unit → more ≡ set lens 0 body → AreLengths more units
+one_kept lens more body units unit e size is same =
+    keeping_end more 1 [] units refl (keeping_next lens more 0 body units [] units unit e is same (keeping_start lens units size (let n = ap length e in omega arith)))
 
 -- the length of the next unit
 pub record IsNextLength (lens : List ℕ) (count : ℕ) (unit : Contents) (others : Units) : Type 0 where

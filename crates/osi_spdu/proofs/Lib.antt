@@ -6,6 +6,7 @@ pub mod ParamsLaws
 pub mod Loops
 pub mod FormedLaws
 pub mod TsduLaws
+pub mod GroupLengthLaws
 pub mod WritingLoops
 pub mod WritingUnits
 pub mod KeptLengths

@@ -1,5 +1,5 @@
 -- A code that a unit knows is looked up by its number, and then among those that the unit knows.
-use Rattle.std.proofs.Common.{inl, inr, ◌≡◌, ◌||◌, ℕ, Bool, true, false, List, [], ◌∷◌, Option, Some, None, refl, sym, ap, ◌∙◌, eqb, if◌then◌else◌}
+use Rattle.std.proofs.Common.{inl, inr, ◌≡◌, ◌≤◌, ◌<◌, ◌||◌, ℕ, Bool, true, false, List, [], ◌∷◌, Option, Some, None, refl, sym, ap, ◌∙◌, eqb, if◌then◌else◌, arith}
 use Rattle.std.proofs.lemmas.Bool.{cases_Bool, eqb-true, eqb-false, ne_eqb}
 use Rattle.osi_spdu.specs.declared.codes.Code.{Code}
 use Rattle.osi_spdu.specs.Codes.{number_of, is_same, every_code}
@@ -8,10 +8,17 @@ use Rattle.osi_spdu.specs.Writing.{among}
 use Rattle.osi_spdu.specs.Laws.Steps.{named, named_back, same_refl}
 
 -- a number that names no code
-pub unknown : (n : ℕ) → (n ≡ 1 → ⊥) → (n ≡ 5 → ⊥) → (n ≡ 9 → ⊥) → (n ≡ 10 → ⊥) → (n ≡ 11 → ⊥) → (n ≡ 12 → ⊥) → (n ≡ 15 → ⊥) → (n ≡ 16 → ⊥) → (n ≡ 17 → ⊥) → (n ≡ 19 → ⊥) → (n ≡ 20 → ⊥) → (n ≡ 21 → ⊥) → (n ≡ 22 → ⊥) → (n ≡ 23 → ⊥) → (n ≡ 25 → ⊥) → (n ≡ 26 → ⊥) → (n ≡ 27 → ⊥) → (n ≡ 42 → ⊥) → (n ≡ 49 → ⊥) → (n ≡ 50 → ⊥) → (n ≡ 51 → ⊥) → (n ≡ 52 → ⊥) → (n ≡ 193 → ⊥) → (n ≡ 194 → ⊥)
+unknown : (n : ℕ) → (n ≡ 1 → ⊥) → (n ≡ 5 → ⊥) → (n ≡ 9 → ⊥) → (n ≡ 10 → ⊥) → (n ≡ 11 → ⊥) → (n ≡ 12 → ⊥) → (n ≡ 15 → ⊥) → (n ≡ 16 → ⊥) → (n ≡ 17 → ⊥) → (n ≡ 19 → ⊥) → (n ≡ 20 → ⊥) → (n ≡ 21 → ⊥) → (n ≡ 22 → ⊥) → (n ≡ 23 → ⊥) → (n ≡ 25 → ⊥) → (n ≡ 26 → ⊥) → (n ≡ 27 → ⊥) → (n ≡ 42 → ⊥) → (n ≡ 49 → ⊥) → (n ≡ 50 → ⊥) → (n ≡ 51 → ⊥) → (n ≡ 52 → ⊥) → (n ≡ 193 → ⊥) → (n ≡ 194 → ⊥)
     → code_among every_code n ≡ None
 unfolding number_of
 unknown n n1 n5 n9 n10 n11 n12 n15 n16 n17 n19 n20 n21 n22 n23 n25 n26 n27 n42 n49 n50 n51 n52 n193 n194 = rw (ne_eqb 1 n (λ e. n1 (sym e)), ne_eqb 5 n (λ e. n5 (sym e)), ne_eqb 9 n (λ e. n9 (sym e)), ne_eqb 10 n (λ e. n10 (sym e)), ne_eqb 11 n (λ e. n11 (sym e)), ne_eqb 12 n (λ e. n12 (sym e)), ne_eqb 15 n (λ e. n15 (sym e)), ne_eqb 16 n (λ e. n16 (sym e)), ne_eqb 17 n (λ e. n17 (sym e)), ne_eqb 19 n (λ e. n19 (sym e)), ne_eqb 20 n (λ e. n20 (sym e)), ne_eqb 21 n (λ e. n21 (sym e)), ne_eqb 22 n (λ e. n22 (sym e)), ne_eqb 23 n (λ e. n23 (sym e)), ne_eqb 25 n (λ e. n25 (sym e)), ne_eqb 26 n (λ e. n26 (sym e)), ne_eqb 27 n (λ e. n27 (sym e)), ne_eqb 42 n (λ e. n42 (sym e)), ne_eqb 49 n (λ e. n49 (sym e)), ne_eqb 50 n (λ e. n50 (sym e)), ne_eqb 51 n (λ e. n51 (sym e)), ne_eqb 52 n (λ e. n52 (sym e)), ne_eqb 193 n (λ e. n193 (sym e)), ne_eqb 194 n (λ e. n194 (sym e))) refl
+
+pub low_unknown : (n : ℕ) → n ≤ 52 → (n ≡ 1 → ⊥) → (n ≡ 5 → ⊥) → (n ≡ 9 → ⊥) → (n ≡ 10 → ⊥) → (n ≡ 11 → ⊥) → (n ≡ 12 → ⊥) → (n ≡ 15 → ⊥) → (n ≡ 16 → ⊥) → (n ≡ 17 → ⊥) → (n ≡ 19 → ⊥) → (n ≡ 20 → ⊥) → (n ≡ 21 → ⊥) → (n ≡ 22 → ⊥) → (n ≡ 23 → ⊥) → (n ≡ 25 → ⊥) → (n ≡ 26 → ⊥) → (n ≡ 27 → ⊥) → (n ≡ 42 → ⊥) → (n ≡ 49 → ⊥) → (n ≡ 50 → ⊥) → (n ≡ 51 → ⊥) → (n ≡ 52 → ⊥)
+    → code_among every_code n ≡ None
+low_unknown n low n1 n5 n9 n10 n11 n12 n15 n16 n17 n19 n20 n21 n22 n23 n25 n26 n27 n42 n49 n50 n51 n52 = unknown n n1 n5 n9 n10 n11 n12 n15 n16 n17 n19 n20 n21 n22 n23 n25 n26 n27 n42 n49 n50 n51 n52 (λ e. absurd (omega arith)) (λ e. absurd (omega arith))
+
+pub high_unknown : (n : ℕ) → 52 < n → (n ≡ 193 → ⊥) → (n ≡ 194 → ⊥) → code_among every_code n ≡ None
+high_unknown n high n193 n194 = unknown n (λ e. absurd (omega arith)) (λ e. absurd (omega arith)) (λ e. absurd (omega arith)) (λ e. absurd (omega arith)) (λ e. absurd (omega arith)) (λ e. absurd (omega arith)) (λ e. absurd (omega arith)) (λ e. absurd (omega arith)) (λ e. absurd (omega arith)) (λ e. absurd (omega arith)) (λ e. absurd (omega arith)) (λ e. absurd (omega arith)) (λ e. absurd (omega arith)) (λ e. absurd (omega arith)) (λ e. absurd (omega arith)) (λ e. absurd (omega arith)) (λ e. absurd (omega arith)) (λ e. absurd (omega arith)) (λ e. absurd (omega arith)) (λ e. absurd (omega arith)) (λ e. absurd (omega arith)) (λ e. absurd (omega arith)) n193 n194
 
 -- the code, if it is one of these
 abbrev pub if_among : List Code → Option Code → Option Code

@@ -149,19 +149,3 @@ pub taking_end : (taking : Taking) (at : ℕ) (known : Known) (rest : List ℕ) 
 unfolding params_at
 taking_end taking at known [] start before octets e so_far = sym so_far.taken
 taking_end taking at known (b ∷ rest) start before octets e so_far = absurd (omega arith)
-
--- ---- what must be there
-
-pub there_next : (at : ℕ) (codes : List Code) (i : ℕ) (c : Code) (known : Known) → i < length codes → c ≡ get_or codes i c → is_some (known c) ≡ true
-    → all_there at (drop (i + 1) codes) known ≡ all_there at (drop i codes) known
-unfolding all_there
-there_next at codes i c known lt is e = sym (ap (λ (s : List Code). all_there at s known) (drop_more codes i c lt ∙ ap (λ (x : Code). x ∷ drop (i + 1) codes) (sym is)) ∙ rw e refl)
-
-pub there_missing : (at n : ℕ) (codes : List Code) (i : ℕ) (c : Code) (known : Known) → i < length codes → c ≡ get_or codes i c → is_some (known c) ≡ false → n ≡ number_of c
-    → all_there at (drop i codes) known ≡ Err (MissingParameter n at)
-unfolding all_there
-there_missing at n codes i c known lt is e same = ap (λ (s : List Code). all_there at s known) (drop_more codes i c lt ∙ ap (λ (x : Code). x ∷ drop (i + 1) codes) (sym is)) ∙ rw (e, same) refl
-
-pub there_end : (at : ℕ) (codes : List Code) (i : ℕ) (known : Known) → length codes ≤ i → all_there at (drop i codes) known ≡ Ok known
-unfolding all_there
-there_end at codes i known le = ap (λ (s : List Code). all_there at s known) (drop_all i codes le)

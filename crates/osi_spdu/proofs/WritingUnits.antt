@@ -26,6 +26,19 @@ len_next units others unit e =
     let c = length-append unit.information (tsdu_octets others) in
     omega arith
 
+-- ---- one unit
+
+pub one_octets : (units : Units) (unit : Contents) → units ≡ unit ∷ [] → tsdu_octets units ≡ unit_octets unit ++ unit.information
+one_octets units unit e =
+    octets_next units [] unit e
+    ∙ ap (λ (t : List ℕ). unit_octets unit ++ (unit.information ++ t)) (octets_none [] refl) ∙ ap (λ (t : List ℕ). unit_octets unit ++ t) (append-nil unit.information)
+
+pub one_len : (units : Units) (unit : Contents) → units ≡ unit ∷ [] → length (tsdu_octets units) ≡ length (unit_octets unit) + length unit.information
+one_len units unit e = ap length (one_octets units unit e) ∙ length-append (unit_octets unit) unit.information
+
+pub one_fits : (units : Units) (unit : Contents) → units ≡ unit ∷ [] → TsduFits units → UnitFits unit
+one_fits units unit e fits = (let h : TsduFits (unit ∷ []) = subst TsduFits e fits in h.0)
+
 -- ---- counting
 
 -- the octets so far, and those of the units that are left; while units are left there was no information

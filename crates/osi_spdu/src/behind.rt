@@ -1,6 +1,6 @@
 //! The units of category 2 that stand behind the first unit of a TSDU.
 
-ghost use Rattle.std.specs.Prelude.{◌≡◌, ◌≤◌, ◌<◌, ◌+◌, ◌^◌, true, length, Some, None, Err, [], ◌∷◌, option_map, OnOk, IfErr};
+ghost use Rattle.std.specs.Prelude.{◌≡◌, ◌≤◌, ◌<◌, ◌+◌, ◌^◌, true, length, Some, None, Err, [], ◌∷◌, option_map, OnOk, IfErr, IfSome};
 ghost use Rattle.osi_spdu.specs.declared.kinds.Category.TheVariants.{Two};
 ghost use Rattle.osi_spdu.specs.Behind.{AreLeft, left_prop, is_behind};
 ghost use Rattle.osi_spdu.specs.Kinds.{category_of, kind_named};
@@ -55,6 +55,23 @@ impl<'a> Behind<'a> {
             room: 0,
             at: 0,
             rest: &[],
+        }
+    }
+
+    /// The one unit that is left, if no other stands behind it.
+    #[inline(always)]
+    pub(crate) fn only(&self) -> Option<&Spdu<'a>>
+        ensures { IfSome result (λ unit. units_behind self.now ≡ said_by unit.now ∷ []) }
+    {
+        match &self.next {
+            None => None,
+            Some(unit) => {
+                if self.rest.is_empty() {
+                    Some(unit)
+                } else {
+                    None
+                }
+            }
         }
     }
 

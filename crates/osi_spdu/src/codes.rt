@@ -115,10 +115,18 @@ impl Code {
 }
 
 /// The code of this number, if there is one.
-#[tactic(auto, using(crate::proofs::Lookup::unknown), unfolding(crate::specs::Codes::number_of))]
+#[tactic(auto, using(crate::proofs::Lookup::low_unknown, crate::proofs::Lookup::high_unknown), unfolding(crate::specs::Codes::number_of))]
 pub(crate) fn code_numbered(number: u8) -> Option<Code>
     ensures { result ≡ code_among every_code number }
 {
+    // The two high numbers apart: the low ones stand so close that they make one table.
+    if number > 52 {
+        return match number {
+            193 => Some(Code::UserData),
+            194 => Some(Code::ExtendedUserData),
+            _ => None,
+        };
+    }
     match number {
         1 => Some(Code::ConnectionIdentifier),
         5 => Some(Code::ConnectAcceptItem),
@@ -142,8 +150,6 @@ pub(crate) fn code_numbered(number: u8) -> Option<Code>
         50 => Some(Code::Reason),
         51 => Some(Code::CallingSelector),
         52 => Some(Code::CalledSelector),
-        193 => Some(Code::UserData),
-        194 => Some(Code::ExtendedUserData),
         _ => None,
     }
 }

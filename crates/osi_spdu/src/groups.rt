@@ -72,4 +72,11 @@ impl<'a> Group<'a> {
     {
         self.behind
     }
+    /// The units behind the first one, lent.
+    #[inline(always)]
+    pub(crate) fn others(&self) -> &Behind<'a>
+        ensures { units_behind result.now ≡ behind_of self.now }
+    {
+        &self.behind
+    }
 }

@@ -1,5 +1,5 @@
 ghost use Rattle.std.specs.Prelude.{◌≡◌};
-ghost use Rattle.osi_spdu.specs.Kinds.{si_of, category_of, codes_of, members_of, references_of, required_of, may_stand, kind_named};
+ghost use Rattle.osi_spdu.specs.Kinds.{si_of, category_of, codes_of, members_of, references_of, may_stand, kind_named};
 ghost use Rattle.osi_spdu.specs.Reading.{takes_rest, code_among};
 ghost use Rattle.osi_spdu.specs.Writing.{among};
 
@@ -121,7 +121,7 @@ const OF_RESYNCHRONIZE: [Code; 5] = [
     Code::UserData,
 ];
 
-#[tactic(auto, unfolding(crate::specs::Codes::number_of, crate::specs::Kinds::si_of, crate::specs::Kinds::category_of, crate::specs::Kinds::codes_of, crate::specs::Kinds::members_of, crate::specs::Kinds::required_of))]
+#[tactic(auto, unfolding(crate::specs::Codes::number_of, crate::specs::Kinds::si_of, crate::specs::Kinds::category_of, crate::specs::Kinds::codes_of, crate::specs::Kinds::members_of))]
 impl Kind {
     /// The SPDU identifier, the first octet of the unit.
     pub fn si(self) -> u8
@@ -238,7 +238,7 @@ impl Kind {
     }
 
     /// Whether the unit knows the parameter or group, outside its groups.
-    fn knows(self, code: Code) -> bool
+    pub(crate) fn knows(self, code: Code) -> bool
         ensures { result ≡ among (codes_of self) code }
     {
         match code {
@@ -336,21 +336,6 @@ impl Kind {
             Some(code)
         } else {
             None
-        }
-    }
-
-    /// The codes of the parameters that the unit must have.
-    pub(crate) fn required(self) -> &'static [Code]
-        ensures { result.now ≡ required_of self }
-    {
-        match self {
-            Kind::ResynchronizeAck
-            | Kind::MajorSyncPoint
-            | Kind::MajorSyncAck
-            | Kind::MinorSyncPoint
-            | Kind::MinorSyncAck => &[Code::Number],
-            Kind::Resynchronize => &[Code::ResyncType, Code::Number],
-            _ => &[],
         }
     }
 }

@@ -1,8 +1,9 @@
 //! Parameters of one level: of a unit, and of a group in it.
 
-ghost use Rattle.std.specs.Prelude.{◌≡◌, ◌≤◌, ◌<◌, ◌+◌, ◌^◌, length, IfOk};
+ghost use Rattle.std.specs.Prelude.{◌≡◌, ◌≤◌, ◌<◌, ◌+◌, ◌^◌, [], ◌∷◌, length, IfOk};
 ghost use Rattle.osi_spdu.specs.Reading.{Gives, Taking, counted_at, measured_at, parameter_at, stored, in_group, in_unit, params_of, all_there};
-ghost use Rattle.osi_spdu.specs.Kinds.{members_of};
+ghost use Rattle.osi_spdu.specs.Kinds.{members_of, required_of};
+ghost use Rattle.osi_spdu.specs.Known.{nothing};
 ghost use Rattle.osi_spdu.specs.Params.{slots_of};
 ghost use Rattle.osi_spdu.specs.Counted.{measured_of, parameter_of};
 
@@ -199,32 +200,63 @@ fn take_all<'a, L: Level>(
     Ok(())
 }
 
-/// Takes the parameters and groups of a unit. Most units have none.
+/// The parameters and groups of a unit that has some.
 #[inline(always)]
-pub(crate) fn take_parameters<'a>(
+fn some_parameters<'a>(kind: Kind, at: usize, octets: &'a [u8]) -> Result<Params<'a>, SpduFault>
+    requires { at + length octets.now < 2 ^ 64 }
+    ensures { Gives slots_of result (params_of (in_unit kind) at nothing octets.now) }
+{
+    let mut params = Params::none();
+    take_all(&OfUnit { kind }, at, octets, &mut params)?;
+    Ok(params)
+}
+
+/// The parameters and groups of a unit. Most units have none, and then no room is made for them.
+#[inline(always)]
+pub(crate) fn read_parameters<'a>(
     kind: Kind,
     at: usize,
     octets: &'a [u8],
-    params: &mut Params<'a>,
-) -> Result<(), SpduFault>
+) -> Result<Params<'a>, SpduFault>
     requires { at + length octets.now < 2 ^ 64 }
-    ensures { Gives (λ _. slots_of params.new) result
-        (params_of (in_unit kind) at (slots_of params.old) octets.now) }
+    ensures { Gives slots_of result (params_of (in_unit kind) at nothing octets.now) }
 {
     if octets.is_empty() {
-        return Ok(());
+        return Ok(Params::none());
     }
-    take_all(&OfUnit { kind }, at, octets, params)
+    some_parameters(kind, at, octets)
 }
 
-/// Whether the parameters that a unit must have are there.
-pub(crate) fn check_there(at: usize, codes: &[Code], params: &Params) -> Result<(), SpduFault>
-    ensures { Gives (λ _. slots_of params.now) result (all_there at codes.now (slots_of params.now)) }
+/// Whether a parameter that a unit must have is there.
+#[inline(always)]
+#[tactic(auto, unfolding(crate::specs::Reading::all_there))]
+fn is_there(at: usize, code: Code, params: &Params) -> Result<(), SpduFault>
+    ensures { Gives (λ _. slots_of params.now) result (all_there at (code ∷ []) (slots_of params.now)) }
 {
-    'codes: for code in codes {
-        if !params.has(*code) {
-            return Err(SpduFault::MissingParameter(code.number(), at));
-        }
+    if params.has(code) {
+        Ok(())
+    } else {
+        Err(SpduFault::MissingParameter(code.number(), at))
     }
-    Ok(())
+}
+
+/// Whether the parameters that a unit must have are there, lowest code first.
+#[inline(always)]
+#[tactic(auto, unfolding(crate::specs::Reading::all_there, crate::specs::Kinds::required_of))]
+pub(crate) fn check_there(at: usize, kind: Kind, params: &Params) -> Result<(), SpduFault>
+    ensures { Gives (λ _. slots_of params.now) result
+        (all_there at (required_of kind) (slots_of params.now)) }
+{
+    match kind {
+        Kind::Resynchronize => {
+            is_there(at, Code::ResyncType, params)?;
+            is_there(at, Code::Number, params)
+        }
+        Kind::ResynchronizeAck
+        | Kind::MajorSyncPoint
+        | Kind::MajorSyncAck
+        | Kind::MinorSyncPoint
+        | Kind::MinorSyncAck => is_there(at, Code::Number, params),
+        _ => Ok(()),
+    }
 }

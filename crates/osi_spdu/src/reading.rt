@@ -1,7 +1,7 @@
 ghost use Rattle.std.specs.Prelude.{◌≡◌, ◌<◌, ◌+◌, ◌^◌, true, length, Some, IfOk, IsOkAnd};
 ghost use Rattle.osi_spdu.specs.Kinds.{category_of, kind_named, may_stand};
-ghost use Rattle.osi_spdu.specs.Known.{Units, nothing};
-ghost use Rattle.osi_spdu.specs.Params.{known_of, slots_of};
+ghost use Rattle.osi_spdu.specs.Known.{Units};
+ghost use Rattle.osi_spdu.specs.Params.{known_of};
 ghost use Rattle.osi_spdu.specs.Units.{said_by};
 ghost use Rattle.osi_spdu.specs.Writing.{is_formed, IsFormedTsdu, TsduFits};
 ghost use Rattle.osi_spdu.specs.Reading.{Gives, placed_kind, unit_at, next_at, tsdu_at};
@@ -14,7 +14,7 @@ use crate::behind::Behind;
 use crate::faults::SpduFault;
 use crate::groups::Group;
 use crate::kinds::{Category, Kind, kind_named};
-use crate::levels::{check_there, measured_at, take_parameters};
+use crate::levels::{check_there, measured_at, read_parameters};
 use crate::params::Params;
 use crate::units::Spdu;
 
@@ -58,8 +58,7 @@ fn unit_at<'a>(
     octets: &'a [u8],
     params: &mut Params<'a>,
 ) -> Result<Found<'a>, SpduFault>
-    requires empty { slots_of params.old ≡ nothing }
-    requires offset { at + length octets.now < 2 ^ 64 }
+    requires { at + length octets.now < 2 ^ 64 }
     ensures value { Gives (placed_of params.new) result (unit_at second at octets.now) }
     ensures whole { IfOk result (λ f. f.end + length f.rest.now ≡ at + length octets.now) }
     ensures stands { IfOk result (λ f. may_stand second (category_of f.kind) ≡ true) }
@@ -69,8 +68,8 @@ fn unit_at<'a>(
     };
     let kind = placed_kind(second, at, *si)?;
     let counted = measured_at(at, after)?;
-    take_parameters(kind, at + (1 + counted.used), counted.value, params)?;
-    check_there(at, kind.required(), params)?;
+    *params = read_parameters(kind, at + (1 + counted.used), counted.value)?;
+    check_there(at, kind, params)?;
     let end = at + (1 + counted.used + counted.value.len());
     Ok(Found {
         kind,
@@ -87,8 +86,7 @@ fn found_at<'a>(
     octets: &'a [u8],
     params: &mut Params<'a>,
 ) -> Result<Found<'a>, SpduFault>
-    requires empty { slots_of params.old ≡ nothing }
-    requires offset { at + length octets.now < 2 ^ 64 }
+    requires { at + length octets.now < 2 ^ 64 }
     ensures value { Gives (placed_of params.new) result (unit_at second at octets.now) }
     ensures whole { IfOk result (λ f. f.end + length f.rest.now ≡ at + length octets.now) }
     ensures stands { IfOk result (λ f. may_stand second (category_of f.kind) ≡ true) }

@@ -1,16 +1,19 @@
 //! The written form of units: known parameters alone, in rising order of code.
 
-ghost use Rattle.std.specs.Prelude.{◌≡◌, ◌≤◌, ◌<◌, ◌^◌, ◌+◌, ◌*◌, ◌++◌, [], ◌∷◌, length, get_or, set, nat_lt, Ok, OnOk, OnErr, if◌then◌else◌};
+ghost use Rattle.std.specs.Prelude.{◌≡◌, ◌≤◌, ◌<◌, ◌^◌, ◌+◌, ◌*◌, ◌++◌, [], ◌∷◌, true, length, get_or, set, nat_lt, is_some, Ok, OnOk, OnErr, if◌then◌else◌};
 ghost use Rattle.std.specs.List.{flat_map};
 ghost use Rattle.bytes.specs.Filled.{UsesSpare};
 ghost use Rattle.osi_tpkt.specs.Octets.{IsOctets};
-ghost use Rattle.osi_spdu.specs.Codes.{number_of};
+ghost use Rattle.osi_spdu.specs.declared.kinds.Category.TheVariants.{Two};
+ghost use Rattle.osi_spdu.specs.Codes.{number_of, is_group};
+ghost use Rattle.osi_spdu.specs.Kinds.{codes_of, category_of};
+ghost use Rattle.osi_spdu.specs.Known.{Known};
 ghost use Rattle.osi_spdu.specs.Octets.{octets_of};
 ghost use Rattle.osi_spdu.specs.Params.{known_of};
 ghost use Rattle.osi_spdu.specs.Reading.{tsdu_at};
 ghost use Rattle.osi_spdu.specs.Spelling.{length_octets, SpellsTsdu};
-ghost use Rattle.osi_spdu.specs.Writing.{written_code, written_item, member_octets, members_octets, parameter_octets, body_octets, unit_octets, tsdu_octets, UnitFits, TsduFits};
-ghost use Rattle.osi_spdu.specs.UnitLengths.{body_length, AreLengths};
+ghost use Rattle.osi_spdu.specs.Writing.{among, written_code, written_item, member_octets, members_octets, group_octets, parameter_octets, body_octets, unit_octets, tsdu_octets, UnitFits, TsduFits};
+ghost use Rattle.osi_spdu.specs.UnitLengths.{body_length, held, IsHeld, AreHeld, AreLengths};
 ghost use Rattle.osi_spdu.specs.Units.{said_by};
 ghost use Rattle.osi_spdu.specs.Groups.{first_of, behind_of, units_behind, units_of};
 
@@ -78,6 +81,9 @@ fn put_item(out: &mut BytesMut, code: u8, value: Value)
     if value.lent().is_empty() {
         return put_octets(out, code, value.made());
     }
+    if value.made().is_empty() {
+        return put_octets(out, code, value.lent());
+    }
     put_header(out, code, value.len());
     out.extend_reserved(value.made());
     out.extend_reserved(value.lent());
@@ -142,43 +148,104 @@ fn put_members(out: &mut BytesMut, params: &Params, codes: &[Code])
     }
 }
 
-/// How many octets a parameter or a group of a unit is.
+/// How many octets a group of a unit holds, where the unit knows it and it is there.
 #[tactic(auto, unfolding(crate::specs::Writing::group_octets))]
-fn parameter_len(kind: Kind, params: &Params, code: Code) -> usize
-    requires { length (parameter_octets kind (known_of params.now) code (known_of params.now code))
+fn group_len(kind: Kind, params: &Params, group: Code) -> usize
+    requires group { is_group group ≡ true }
+    requires small { length (body_octets kind (known_of params.now)) < 65536 }
+    ensures { among (codes_of kind) group ≡ true → is_some (known_of params.now group) ≡ true →
+        result ≡ length (group_octets kind (known_of params.now) group) }
+{
+    if !kind.knows(group) || params.value(group).is_none() {
+        return 0;
+    }
+    members_len(params, kind.members(group))
+}
+
+/// How many octets each group of a unit of this kind holds. One that is not there does not count.
+#[derive(Clone, Copy)]
+struct GroupLengths {
+    kind: Kind,
+    connection_identifier: usize,
+    connect_accept_item: usize,
+}
+
+impl GroupLengths {
+    /// What the groups of a unit hold.
+    fn of(kind: Kind, params: &Params) -> GroupLengths
+        requires { length (body_octets kind (known_of params.now)) < 65536 }
+        ensures kind { result.kind ≡ kind }
+        ensures value { AreHeld result (known_of params.now) }
+    {
+        GroupLengths {
+            kind,
+            connection_identifier: group_len(kind, params, Code::ConnectionIdentifier),
+            connect_accept_item: group_len(kind, params, Code::ConnectAcceptItem),
+        }
+    }
+
+    /// A unit of category 2 knows no group.
+    fn none(kind: Kind) -> GroupLengths
+        requires { category_of kind ≡ Two }
+        ensures kind { result.kind ≡ kind }
+        ensures value { (known : Known) → AreHeld result known }
+    {
+        GroupLengths {
+            kind,
+            connection_identifier: 0,
+            connect_accept_item: 0,
+        }
+    }
+
+    /// What a group holds.
+    #[tactic(auto, unfolding(crate::specs::UnitLengths::held))]
+    fn held(self, group: Code) -> usize
+        ensures { result ≡ held self group }
+    {
+        match group {
+            Code::ConnectionIdentifier => self.connection_identifier,
+            _ => self.connect_accept_item,
+        }
+    }
+}
+
+/// How many octets a parameter or a group of a unit is.
+fn parameter_len(groups: GroupLengths, params: &Params, code: Code) -> usize
+    requires held { IsHeld groups (known_of params.now) code }
+    requires small { length (parameter_octets groups.kind (known_of params.now) code (known_of params.now code))
         < 65536 }
     ensures { result
-        ≡ length (parameter_octets kind (known_of params.now) code (known_of params.now code)) }
+        ≡ length (parameter_octets groups.kind (known_of params.now) code (known_of params.now code)) }
 {
     let Some(value) = params.value(code) else {
         return 0;
     };
     if code.is_group() {
-        return item_len(members_len(params, kind.members(code)));
+        return item_len(groups.held(code));
     }
     item_len(value.len())
 }
 
 #[tactic(auto, unfolding(crate::specs::Writing::group_octets))]
-fn put_parameter(out: &mut BytesMut, kind: Kind, params: &Params, code: Code)
-    requires small { length (parameter_octets kind (known_of params.now) code (known_of params.now code))
+fn put_parameter(out: &mut BytesMut, groups: GroupLengths, params: &Params, code: Code)
+    requires held { IsHeld groups (known_of params.now) code }
+    requires small { length (parameter_octets groups.kind (known_of params.now) code (known_of params.now code))
         < 65536 }
-    requires room { length (parameter_octets kind (known_of params.now) code (known_of params.now code))
+    requires room { length (parameter_octets groups.kind (known_of params.now) code (known_of params.now code))
         ≤ out.old.spare }
     ensures items { out.new.items ≡ out.old.items
-        ++ parameter_octets kind (known_of params.now) code (known_of params.now code) }
+        ++ parameter_octets groups.kind (known_of params.now) code (known_of params.now code) }
     ensures spare { out.new.spare
-        + length (parameter_octets kind (known_of params.now) code (known_of params.now code))
+        + length (parameter_octets groups.kind (known_of params.now) code (known_of params.now code))
         ≡ out.old.spare }
 {
     let Some(value) = params.value(code) else {
         return;
     };
-    let number = written_code(kind, code, value).number();
+    let number = written_code(groups.kind, code, value).number();
     if code.is_group() {
-        let members = kind.members(code);
-        put_header(out, number, members_len(params, members));
-        put_members(out, params, members);
+        put_header(out, number, groups.held(code));
+        put_members(out, params, groups.kind.members(code));
         return;
     }
     put_item(out, number, value);
@@ -186,34 +253,39 @@ fn put_parameter(out: &mut BytesMut, kind: Kind, params: &Params, code: Code)
 
 /// How many octets the parameters and groups of a unit are.
 #[tactic(auto, unfolding(crate::specs::Writing::body_octets))]
-fn body_len(kind: Kind, params: &Params) -> usize
-    requires { length (body_octets kind (known_of params.now)) < 65536 }
-    ensures { result ≡ length (body_octets kind (known_of params.now)) }
+fn body_len(groups: GroupLengths, params: &Params) -> usize
+    requires held { AreHeld groups (known_of params.now) }
+    requires small { length (body_octets groups.kind (known_of params.now)) < 65536 }
+    ensures { result ≡ length (body_octets groups.kind (known_of params.now)) }
 {
-    let codes = kind.codes();
+    let codes = groups.kind.codes();
     let mut len = 0;
     'codes: for code in codes {
-        len += parameter_len(kind, params, *code);
+        len += parameter_len(groups, params, *code);
     }
     len
 }
 
 #[tactic(auto, unfolding(crate::specs::Writing::body_octets))]
-fn put_body(out: &mut BytesMut, kind: Kind, params: &Params)
-    requires small { length (body_octets kind (known_of params.now)) < 65536 }
-    requires room { length (body_octets kind (known_of params.now)) ≤ out.old.spare }
-    ensures items { out.new.items ≡ out.old.items ++ body_octets kind (known_of params.now) }
-    ensures spare { out.new.spare + length (body_octets kind (known_of params.now)) ≡ out.old.spare }
+fn put_body(out: &mut BytesMut, groups: GroupLengths, params: &Params)
+    requires held { AreHeld groups (known_of params.now) }
+    requires small { length (body_octets groups.kind (known_of params.now)) < 65536 }
+    requires room { length (body_octets groups.kind (known_of params.now)) ≤ out.old.spare }
+    ensures items { out.new.items ≡ out.old.items ++ body_octets groups.kind (known_of params.now) }
+    ensures spare { out.new.spare + length (body_octets groups.kind (known_of params.now))
+        ≡ out.old.spare }
 {
-    let codes = kind.codes();
+    let codes = groups.kind.codes();
     'codes: for code in codes {
-        put_parameter(out, kind, params, *code);
+        put_parameter(out, groups, params, *code);
     }
 }
 
 /// How many octets a unit is, without the user information of a DT.
 #[derive(Clone, Copy)]
 struct UnitLength {
+    /// What each of its groups holds.
+    groups: GroupLengths,
     /// Its parameters and groups.
     body: usize,
     /// With its SI and its length indicator.
@@ -223,33 +295,40 @@ struct UnitLength {
 #[tactic(auto, unfolding(crate::specs::Writing::unit_octets))]
 fn unit_len(unit: &Spdu) -> UnitLength
     requires { UnitFits (said_by unit.now) }
+    ensures kind { result.groups.kind ≡ (said_by unit.now).kind }
+    ensures groups { AreHeld result.groups (said_by unit.now).known }
     ensures body { result.body ≡ body_length (said_by unit.now) }
     ensures value { result.whole ≡ length (unit_octets (said_by unit.now)) }
     ensures short { result.whole < 65540 }
 {
-    let body = body_len(unit.kind(), unit.params());
+    let groups = GroupLengths::of(unit.kind(), unit.params());
+    let body = body_len(groups, unit.params());
     UnitLength {
+        groups,
         body,
         whole: item_len(body),
     }
 }
 
 #[tactic(auto, unfolding(crate::specs::Writing::unit_octets))]
-fn put_unit(out: &mut BytesMut, unit: &Spdu, body: usize)
+fn put_unit(out: &mut BytesMut, unit: &Spdu, groups: GroupLengths, body: usize)
     requires small { UnitFits (said_by unit.now) }
+    requires kind { groups.kind ≡ (said_by unit.now).kind }
+    requires groups { AreHeld groups (said_by unit.now).known }
     requires body { body ≡ body_length (said_by unit.now) }
     requires room { length (unit_octets (said_by unit.now)) ≤ out.old.spare }
     ensures items { out.new.items ≡ out.old.items ++ unit_octets (said_by unit.now) }
     ensures spare { out.new.spare + length (unit_octets (said_by unit.now)) ≡ out.old.spare }
 {
     put_header(out, unit.kind().si(), body);
-    put_body(out, unit.kind(), unit.params());
+    put_body(out, groups, unit.params());
 }
 
-/// How many octets the parameters and groups of the units of a group are, and all its units.
+/// How many octets the first unit of a group is, the parameters of each unit behind it, and all its
+/// units.
 #[derive(Clone, Copy)]
 struct Lengths {
-    first: usize,
+    first: UnitLength,
     behind: [u16; 16],
     all: usize,
 }
@@ -269,8 +348,8 @@ fn kept_length(lengths: &[u16], count: usize) -> usize
     lengths[count] as usize
 }
 
-/// How many octets the units behind the first one are. The length of each is kept.
-fn count_behind(mut behind: Behind, lengths: &mut [u16]) -> usize
+/// How many octets units behind the first one are. The length of each is kept.
+fn count_units(mut behind: Behind, lengths: &mut [u16]) -> usize
     requires fits { TsduFits (units_behind behind) }
     requires room { length lengths.old ≡ 16 }
     ensures value { result ≡ length (tsdu_octets (units_behind behind.entry)) }
@@ -288,18 +367,37 @@ fn count_behind(mut behind: Behind, lengths: &mut [u16]) -> usize
     len
 }
 
+/// How many octets the units behind the first one are. The length of each is kept. Mostly there is
+/// one, which is not copied.
+fn count_behind(behind: &Behind, lengths: &mut [u16]) -> usize
+    requires fits { TsduFits (units_behind behind.now) }
+    requires room { length lengths.old ≡ 16 }
+    ensures value { result ≡ length (tsdu_octets (units_behind behind.now)) }
+    ensures small { result ≤ 2 ^ 63 + 65540 * 16 }
+    ensures lengths { AreLengths lengths.new (units_behind behind.now) }
+{
+    let Some(unit) = behind.only() else {
+        return count_units(*behind, lengths);
+    };
+    let counted = unit_len(unit);
+    keep_length(lengths, 0, counted.body);
+    counted.whole + unit.information().len()
+}
+
 /// Counts the octets of the units, each once.
 fn lengths_of(group: &Group) -> Lengths
     requires { TsduFits (units_of group.now) }
-    ensures first { result.first ≡ body_length (first_of group.now) }
+    ensures first { result.first.body ≡ body_length (first_of group.now) }
+    ensures kind { result.first.groups.kind ≡ (first_of group.now).kind }
+    ensures groups { AreHeld result.first.groups (first_of group.now).known }
     ensures behind { AreLengths result.behind (behind_of group.now) }
     ensures all { result.all ≡ length (tsdu_octets (units_of group.now)) }
 {
     let counted = unit_len(group.first());
     let mut behind = [0u16; 16];
-    let others = count_behind(group.behind(), &mut behind);
+    let others = count_behind(group.others(), &mut behind);
     Lengths {
-        first: counted.body,
+        first: counted,
         behind,
         all: counted.whole + others,
     }
@@ -313,7 +411,7 @@ pub fn written_len(group: &Group) -> usize
     lengths_of(group).all
 }
 
-fn put_behind(out: &mut BytesMut, mut behind: Behind, lengths: &[u16])
+fn put_units(out: &mut BytesMut, mut behind: Behind, lengths: &[u16])
     requires small { TsduFits (units_behind behind) }
     requires lengths { AreLengths lengths.now (units_behind behind) }
     requires kept { length lengths.now ≡ 16 }
@@ -323,23 +421,42 @@ fn put_behind(out: &mut BytesMut, mut behind: Behind, lengths: &[u16])
 {
     let mut count = 0usize;
     'units: while let Some(unit) = behind.next() {
-        put_unit(out, &unit, kept_length(lengths, count));
+        let groups = GroupLengths::none(unit.kind());
+        put_unit(out, &unit, groups, kept_length(lengths, count));
         out.extend_reserved(unit.information());
         count += 1;
     }
 }
 
+fn put_behind(out: &mut BytesMut, behind: &Behind, lengths: &[u16])
+    requires small { TsduFits (units_behind behind.now) }
+    requires lengths { AreLengths lengths.now (units_behind behind.now) }
+    requires kept { length lengths.now ≡ 16 }
+    requires room { length (tsdu_octets (units_behind behind.now)) ≤ out.old.spare }
+    ensures items { out.new.items ≡ out.old.items ++ tsdu_octets (units_behind behind.now) }
+    ensures spare { out.new.spare + length (tsdu_octets (units_behind behind.now)) ≡ out.old.spare }
+{
+    let Some(unit) = behind.only() else {
+        return put_units(out, *behind, lengths);
+    };
+    let groups = GroupLengths::none(unit.kind());
+    put_unit(out, unit, groups, kept_length(lengths, 0));
+    out.extend_reserved(unit.information());
+}
+
 #[tactic(auto, unfolding(crate::specs::Writing::tsdu_octets))]
 fn put_group(out: &mut BytesMut, group: &Group, lengths: &Lengths)
     requires small { TsduFits (units_of group.now) }
-    requires first { lengths.now.first ≡ body_length (first_of group.now) }
+    requires first { lengths.now.first.body ≡ body_length (first_of group.now) }
+    requires kind { lengths.now.first.groups.kind ≡ (first_of group.now).kind }
+    requires groups { AreHeld lengths.now.first.groups (first_of group.now).known }
     requires behind { AreLengths lengths.now.behind (behind_of group.now) }
     requires room { length (tsdu_octets (units_of group.now)) ≤ out.old.spare }
     ensures items { out.new.items ≡ out.old.items ++ tsdu_octets (units_of group.now) }
     ensures spare { out.new.spare + length (tsdu_octets (units_of group.now)) ≡ out.old.spare }
 {
-    put_unit(out, group.first(), lengths.first);
-    put_behind(out, group.behind(), &lengths.behind);
+    put_unit(out, group.first(), lengths.first.groups, lengths.first.body);
+    put_behind(out, group.others(), &lengths.behind);
 }
 
 /// What a slice of octets holds are octets.

@@ -4,4 +4,4 @@ use Rattle.osi_spdu.proofs.WritingLoops.{IsCounting}
 use Rattle.osi_spdu.proofs.writing.body_len.Given as goal
 
 abbrev pub invariant-codes : goal.invariant-codes
-invariant-codes l = IsCounting (λ x. parameter_octets l.kind (known_of l.params) x (known_of l.params x)) l.codes l.code-index l.len
+invariant-codes l = IsCounting (λ x. parameter_octets l.groups.kind (known_of l.params) x (known_of l.params x)) l.codes l.code-index l.len

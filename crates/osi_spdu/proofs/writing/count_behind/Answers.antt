@@ -1,60 +1,24 @@
-use Rattle.std.proofs.Common.{◌≡◌, ◌+◌, ℕ, length, ap, sym, subst, arith}
+use Rattle.std.proofs.Common.{◌≡◌, ℕ, length, ap, sym, ◌∙◌, arith}
 use Rattle.osi_spdu.specs.Groups.{units_behind}
 use Rattle.osi_spdu.specs.Units.{said_by}
-use Rattle.osi_spdu.specs.Writing.{unit_octets}
-use Rattle.osi_spdu.proofs.CanonicalLaws.{behind_formed}
-use Rattle.osi_spdu.proofs.WritingUnits.{IsCountingUnits, counting_start, counts_next, counting_end}
-use Rattle.osi_spdu.proofs.KeptLengths.{keeping_start, keeping_within, keeping_next, keeping_end}
+use Rattle.osi_spdu.proofs.WritingUnits.{one_len, one_fits}
+use Rattle.osi_spdu.proofs.KeptLengths.{one_kept}
 use Rattle.osi_spdu.proofs.writing.count_behind.Goals as goal
 
-pub units-init : goal.units-init
-units-init c =
-    let b = behind_formed c.args.behind in
-    record {
-      so_far = counting_start (units_behind c.args.behind) c.requires.fits b.formed b.behind b.few;
-      small = omega arith;
-      kept = keeping_start c.args.lengths.now (units_behind c.args.behind) c.requires.room b.few;
-    }
-
 pub unit_len-counted-requires : goal.unit_len-counted-requires
-unit_len-counted-requires c = (counts_next (units_behind c.units.behind) c.units.len (said_by c.in-Some.unit) (units_behind c.next.new.self) (units_behind c.args.behind) c.in-Some.ensures.steps c.units.invariant.so_far).fits
-
-pub keep_length-requires-clause-within : goal.keep_length-requires-clause-within
-keep_length-requires-clause-within c = keeping_within c.units.lengths c.units.count (units_behind c.units.behind) (units_behind c.next.new.self) (units_behind c.args.behind) (said_by c.in-Some.unit) c.in-Some.ensures.steps c.units.invariant.kept
+unit_len-counted-requires c = one_fits (units_behind c.args.behind.now) (said_by c.in-Some.unit.now) c.in-Some.ensures c.requires.fits
 
 pub keep_length-requires-clause-small : goal.keep_length-requires-clause-small
 keep_length-requires-clause-small c =
-    let n = counts_next (units_behind c.units.behind) c.units.len (said_by c.in-Some.unit) (units_behind c.next.new.self) (units_behind c.args.behind) c.in-Some.ensures.steps c.units.invariant.so_far in
-    omega (arith, n.fits, c.unit_len-counted.ensures.body)
-
-pub overflow_add-count : goal.overflow_add-count
-overflow_add-count c =
-    let w = keeping_within c.units.lengths c.units.count (units_behind c.units.behind) (units_behind c.next.new.self) (units_behind c.args.behind) (said_by c.in-Some.unit) c.in-Some.ensures.steps c.units.invariant.kept in
-    omega (arith, w, c.units.invariant.kept.size)
-
-pub overflow_add-len : goal.overflow_add-len
-overflow_add-len c =
-    let n = counts_next (units_behind c.units.behind) c.units.len (said_by c.in-Some.unit) (units_behind c.next.new.self) (units_behind c.args.behind) c.in-Some.ensures.steps c.units.invariant.so_far in
-    omega (arith, n.small, c.unit_len-counted.ensures.short)
-
-pub units-preserved : goal.units-preserved
-units-preserved c =
-    let u = said_by c.in-Some.unit in
-    let others = units_behind c.next.new.self in
-    let all = units_behind c.args.behind in
-    let n = counts_next (units_behind c.units.behind) c.units.len u others all c.in-Some.ensures.steps c.units.invariant.so_far in
-    let short = c.unit_len-counted.ensures.short in
-    let is = c.unit_len-counted.ensures.value in
-    let info = ap length c.information.ensures in
-    let same : c.units.len + (c.unit_len-counted.result.whole + length c.information.result.now) ≡ c.units.len + (length (unit_octets u) + length u.information) = omega arith in
-    record {
-      so_far = subst (λ (k : ℕ). IsCountingUnits others k all) (sym same) (n.next (omega arith));
-      small = omega (arith, n.small, short);
-      kept = keeping_next c.units.lengths c.keep_length.new.lengths c.units.count c.unit_len-counted.result.body (units_behind c.units.behind) others all u c.in-Some.ensures.steps c.unit_len-counted.ensures.body c.keep_length.ensures c.units.invariant.kept;
-    }
+    let fits = one_fits (units_behind c.args.behind.now) (said_by c.in-Some.unit.now) c.in-Some.ensures c.requires.fits in
+    omega (arith, fits, c.unit_len-counted.ensures.body)
 
 pub returns-clause-value : goal.returns-clause-value
-returns-clause-value c = counting_end (units_behind c.units.behind) c.units.len (units_behind c.args.behind) c.in_default.ensures.steps.0 c.units.invariant.so_far
+returns-clause-value c =
+    let n = one_len (units_behind c.args.behind.now) (said_by c.in-Some.unit.now) c.in-Some.ensures in
+    let info = ap length c.information.ensures in
+    omega (arith, n, info, c.unit_len-counted.ensures.value)
 
 pub returns-clause-lengths : goal.returns-clause-lengths
-returns-clause-lengths c = keeping_end c.units.lengths c.units.count (units_behind c.units.behind) (units_behind c.args.behind) c.in_default.ensures.steps.0 c.units.invariant.kept
+returns-clause-lengths c =
+    one_kept c.args.lengths.now c.keep_length.new.lengths c.unit_len-counted.result.body (units_behind c.args.behind.now) (said_by c.in-Some.unit.now) c.in-Some.ensures c.requires.room c.unit_len-counted.ensures.body c.keep_length.ensures

@@ -1,9 +1,9 @@
-use Rattle.std.proofs.Common.{ap, length, subst, ℕ, arith}
-use Rattle.osi_spdu.specs.Known.{Units}
+use Rattle.std.proofs.Common.{◌∙◌, ap, length, subst, ℕ, arith}
+use Rattle.osi_spdu.specs.Known.{Contents, Units}
 use Rattle.osi_spdu.specs.Units.{said_by}
 use Rattle.osi_spdu.specs.Groups.{units_behind}
 use Rattle.osi_spdu.specs.Writing.{unit_octets, tsdu_octets}
-use Rattle.osi_spdu.specs.UnitLengths.{AreLengths}
+use Rattle.osi_spdu.specs.UnitLengths.{AreHeld, AreLengths}
 use Rattle.osi_spdu.proofs.WritingUnits.{first_len}
 use Rattle.osi_spdu.proofs.CanonicalLaws.{group_plain}
 use Rattle.osi_spdu.proofs.writing.lengths_of.Goals as goal
@@ -13,8 +13,14 @@ returns-clause-all c =
     let g = c.args.group.now in
     let n = first_len (said_by g.first) (units_behind g.behind) (group_plain g) in
     let first = ap (λ u. length (unit_octets u)) c.first.ensures in
-    let behind = ap (λ us. length (tsdu_octets us)) c.behind.ensures in
+    let behind = ap (λ us. length (tsdu_octets us)) c.others.ensures in
     omega (arith, n, c.unit_len-counted.ensures.value, c.count_behind-others.ensures.value)
 
 pub returns-clause-behind : goal.returns-clause-behind
-returns-clause-behind c = subst (λ (us : Units). AreLengths c.count_behind-others.new.lengths us) c.behind.ensures c.count_behind-others.ensures.lengths
+returns-clause-behind c = subst (λ (us : Units). AreLengths c.count_behind-others.new.lengths us) c.others.ensures c.count_behind-others.ensures.lengths
+
+pub returns-clause-kind : goal.returns-clause-kind
+returns-clause-kind c = c.unit_len-counted.ensures.kind ∙ ap (λ u. u.kind) c.first.ensures
+
+pub returns-clause-groups : goal.returns-clause-groups
+returns-clause-groups c = subst (λ (u : Contents). AreHeld c.unit_len-counted.result.groups u.known) c.first.ensures c.unit_len-counted.ensures.groups

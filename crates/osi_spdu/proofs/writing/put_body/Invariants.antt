@@ -4,4 +4,4 @@ use Rattle.osi_spdu.proofs.WritingLoops.{IsPutting}
 use Rattle.osi_spdu.proofs.writing.put_body.Given as goal
 
 abbrev pub invariant-codes : goal.invariant-codes
-invariant-codes l = IsPutting (λ x. parameter_octets l.kind (known_of l.params) x (known_of l.params x)) l.codes l.code-index l.out.items l.out.spare l.fn.out.items l.fn.out.spare
+invariant-codes l = IsPutting (λ x. parameter_octets l.groups.kind (known_of l.params) x (known_of l.params x)) l.codes l.code-index l.out.items l.out.spare l.fn.out.items l.fn.out.spare

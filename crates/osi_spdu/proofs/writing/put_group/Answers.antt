@@ -1,6 +1,6 @@
 use Rattle.std.proofs.Common.{◌≡◌, ◌++◌, ◌∙◌, ℕ, List, length, ap, sym, subst, arith, append_assoc}
-use Rattle.osi_spdu.specs.Known.{Units}
-use Rattle.osi_spdu.specs.UnitLengths.{body_length, AreLengths}
+use Rattle.osi_spdu.specs.Known.{Contents, Units}
+use Rattle.osi_spdu.specs.UnitLengths.{body_length, AreHeld, AreLengths}
 use Rattle.osi_spdu.specs.Units.{said_by}
 use Rattle.osi_spdu.specs.Groups.{units_behind}
 use Rattle.osi_spdu.specs.Writing.{unit_octets, tsdu_octets}
@@ -15,18 +15,24 @@ put_unit-requires-clause-room c =
     let first = ap (λ x. length (unit_octets x)) c.first.ensures in
     omega (arith, n, c.requires.room)
 
+pub put_unit-requires-clause-kind : goal.put_unit-requires-clause-kind
+put_unit-requires-clause-kind c = c.requires.kind ∙ ap (λ u. u.kind) (sym c.first.ensures)
+
+pub put_unit-requires-clause-groups : goal.put_unit-requires-clause-groups
+put_unit-requires-clause-groups c = subst (λ (u : Contents). AreHeld c.args.lengths.now.first.groups u.known) (sym c.first.ensures) c.requires.groups
+
 pub put_unit-requires-clause-body : goal.put_unit-requires-clause-body
 put_unit-requires-clause-body c = c.requires.first ∙ ap body_length (sym c.first.ensures)
 
 pub put_behind-requires-clause-lengths : goal.put_behind-requires-clause-lengths
-put_behind-requires-clause-lengths c = subst (λ (us : Units). AreLengths c.args.lengths.now.behind us) (sym c.behind.ensures) c.requires.behind
+put_behind-requires-clause-lengths c = subst (λ (us : Units). AreLengths c.args.lengths.now.behind us) (sym c.others.ensures) c.requires.behind
 
 pub put_behind-requires-clause-room : goal.put_behind-requires-clause-room
 put_behind-requires-clause-room c =
     let g = c.args.group.now in
     let n = first_len (said_by g.first) (units_behind g.behind) (group_plain g) in
     let first = ap (λ x. length (unit_octets x)) c.first.ensures in
-    let behind = ap (λ us. length (tsdu_octets us)) c.behind.ensures in
+    let behind = ap (λ us. length (tsdu_octets us)) c.others.ensures in
     omega (arith, n, c.requires.room, c.put_unit.ensures.spare)
 
 pub returns-clause-spare : goal.returns-clause-spare
@@ -34,7 +40,7 @@ returns-clause-spare c =
     let g = c.args.group.now in
     let n = first_len (said_by g.first) (units_behind g.behind) (group_plain g) in
     let first = ap (λ x. length (unit_octets x)) c.first.ensures in
-    let behind = ap (λ us. length (tsdu_octets us)) c.behind.ensures in
+    let behind = ap (λ us. length (tsdu_octets us)) c.others.ensures in
     omega (arith, n, c.put_unit.ensures.spare, c.put_behind.ensures.spare)
 
 pub returns-clause-items : goal.returns-clause-items
@@ -44,7 +50,7 @@ returns-clause-items c =
     let rest = tsdu_octets (units_behind g.behind) in
     let before = c.args.out.now.items in
     let first : unit_octets (said_by c.first.result.now) ≡ unit_octets u = ap unit_octets c.first.ensures in
-    let behind : tsdu_octets (units_behind c.behind.result) ≡ rest = ap tsdu_octets c.behind.ensures in
+    let behind : tsdu_octets (units_behind c.others.result.now) ≡ rest = ap tsdu_octets c.others.ensures in
     c.put_behind.ensures.items ∙ ap (λ (t : List ℕ). c.put_unit.new.out.items ++ t) behind
     ∙ ap (λ (t : List ℕ). t ++ rest) (c.put_unit.ensures.items ∙ ap (λ (t : List ℕ). before ++ t) first) ∙ append_assoc before (unit_octets u) rest
     ∙ ap (λ (t : List ℕ). before ++ t) (sym (first_octets u (units_behind g.behind) (group_plain g)))

@@ -2,7 +2,7 @@ use Rattle.std.proofs.Common.{length, drop}
 use Rattle.osi_spdu.specs.Groups.{units_behind}
 use Rattle.osi_spdu.specs.UnitLengths.{AreLengths}
 use Rattle.osi_spdu.proofs.WritingUnits.{IsPuttingUnits}
-use Rattle.osi_spdu.proofs.writing.put_behind.Given as goal
+use Rattle.osi_spdu.proofs.writing.put_units.Given as goal
 
 abbrev pub invariant-units : goal.invariant-units
 invariant-units l = record {

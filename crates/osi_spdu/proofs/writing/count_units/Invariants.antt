@@ -2,7 +2,7 @@ use Rattle.std.proofs.Common.{◌≤◌, ◌+◌, ◌*◌, ◌^◌, length}
 use Rattle.osi_spdu.specs.Groups.{units_behind}
 use Rattle.osi_spdu.proofs.WritingUnits.{IsCountingUnits}
 use Rattle.osi_spdu.proofs.KeptLengths.{IsKeeping}
-use Rattle.osi_spdu.proofs.writing.count_behind.Given as goal
+use Rattle.osi_spdu.proofs.writing.count_units.Given as goal
 
 abbrev pub invariant-units : goal.invariant-units
 invariant-units l = record {

@@ -1,0 +1,13 @@
+use Rattle.std.proofs.Common.{◌≡◌, ◌<◌, true, List, length, get_or, sym, subst, arith}
+use Rattle.std.specs.List.{flat_map}
+use Rattle.osi_spdu.specs.declared.codes.Code.{Code}
+use Rattle.osi_spdu.specs.declared.codes.Code.TheVariants.{ConnectionIdentifier}
+use Rattle.osi_spdu.specs.Writing.{among}
+use Rattle.osi_spdu.proofs.GroupLengthLaws.{among_at}
+use Rattle.osi_spdu.proofs.writing.body_len.Goals as goal
+
+pub parameter_len-len-requires-clause-held : goal.parameter_len-len-requires-clause-held
+parameter_len-len-requires-clause-held c =
+    let codes = c.codes-codes.result.now in
+    let code = get_or codes c.codes.code-index ConnectionIdentifier in
+    c.requires.held code (subst (λ (s : List Code). among s code ≡ true) c.codes-codes.ensures (among_at codes c.codes.code-index ConnectionIdentifier c.codes-test.true))
