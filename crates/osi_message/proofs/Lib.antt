@@ -1,4 +1,5 @@
 pub mod FittingLaws
+pub mod OctetLaws
 pub mod PlainLaws
 pub mod ReadingLaws
 pub mod SendingLaws

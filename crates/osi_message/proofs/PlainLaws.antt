@@ -1,5 +1,5 @@
 -- Data, points and confirmations as they are written straight.
-use Rattle.std.proofs.Common.{◌≡◌, ◌∙◌, refl, sym, ap, subst, ◌&&◌, nat_le, nat_lt, take, drop, if◌then◌else◌, ℕ, ◌+◌, ◌-◌, ◌*◌, ◌/◌, ◌%◌, ◌≤◌, ◌<◌, ◌==◌, Bool, true, false, List, [], ◌∷◌, ◌++◌, length, Option, Some, None, Result, Ok, eqb, arith}
+use Rattle.std.proofs.Common.{◌≡◌, ◌∙◌, refl, sym, ap, subst, ◌&&◌, nat_le, nat_lt, take, drop, if◌then◌else◌, ℕ, ◌+◌, ◌/◌, ◌%◌, ◌≤◌, ◌<◌, Bool, true, false, List, [], ◌∷◌, ◌++◌, length, Some, None, Result, Ok, eqb, arith}
 use Rattle.std.specs.List.{list_all}
 use Rattle.std.proofs.lemmas.Bool.{ne_eqb, eqb-false, and_parts, leb-true, ltb-true}
 use Rattle.std.proofs.lemmas.List.{take-append-drop, append-nil}
@@ -10,7 +10,7 @@ use Rattle.osi_spdu.specs.Codes.{number_of, is_group}
 use Rattle.osi_spdu.specs.Kinds.{codes_of, si_of}
 use Rattle.osi_spdu.specs.Known.{nothing, put}
 use Rattle.osi_spdu.specs.Values.{significant, six_digits, digits_of, is_digit, is_numeral, decimal_from, decimal, numeral}
-use Rattle.osi_spdu.specs.Writing.{written_code, body_octets, unit_octets, tsdu_octets, group_octets}
+use Rattle.osi_spdu.specs.Writing.{written_code, body_octets, unit_octets, tsdu_octets}
 use Rattle.osi_spdu.specs.Reading.{tsdu_at}
 use Rattle.osi_spdu.specs.declared.faults.SpduFault.{SpduFault}
 use Rattle.osi_message.specs.declared.plain.PlainUnit.{PlainUnit}

@@ -2,9 +2,11 @@
 //! laws.
 
 ghost use Rattle.std.specs.Prelude.{◌≡◌, Ok};
+ghost use Rattle.osi_tpkt.specs.Octets.{IsOctets};
 ghost use Rattle.osi_spdu.specs.Known.{Units};
 ghost use Rattle.osi_spdu.specs.Reading.{tsdu_at};
 ghost use Rattle.osi_message.specs.declared.messages.Message.{Message};
+ghost use Rattle.osi_message.specs.InOctets.{IsInOctets};
 ghost use Rattle.osi_message.specs.Meanings.{Meaning, meant_by};
 ghost use Rattle.osi_message.specs.Numbered.{IsNumbered, AreNumbered};
 ghost use Rattle.osi_message.specs.Reading.{said_by_units};
@@ -22,6 +24,14 @@ pub fn what_is_sent_is_read()
     laws::serial_digits();
     laws::few_octets_fit();
     laws::again();
+}
+
+/// What is sent is octets, where what it says goes into octets.
+pub fn what_is_sent_is_octets()
+    ensures { (m : Meaning) → IsSendable m → IsInOctets m → IsOctets (written m) }
+{
+    laws::serial_digits();
+    laws::few_octets_fit();
 }
 
 /// The numbers in a message are those that a point may have, and so are those in what the units of a

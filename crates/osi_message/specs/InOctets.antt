@@ -1,0 +1,24 @@
+-- Whether what a unit is to say goes into octets.
+use Rattle.std.specs.Prelude.{◌<◌, IfSome}
+use Rattle.osi_tpkt.specs.Octets.{IsOctets}
+use Rattle.osi_message.specs.Meanings.{Meaning, CN, AC, RF, DT, GT, PT, MIP, MIA, MAP, MAA, RS, RA, FN, DN, NF, AB, AA}
+
+-- what its user gave is octets, requirements go into two, a reason into one
+abbrev pub IsInOctets : Meaning → Type 0
+IsInOctets (CN version_2 requirements serial wishes calling called octets) = (requirements < 65536) × IfSome calling IsOctets × IfSome called IsOctets × IsOctets octets
+IsInOctets (AC version_2 requirements serial sides octets) = (requirements < 65536) × IsOctets octets
+IsInOctets (RF reason octets) = (reason < 256) × IsOctets octets
+IsInOctets (DT octets) = IsOctets octets
+IsInOctets (GT tokens) = Unit {0}
+IsInOctets (PT tokens octets) = IsOctets octets
+IsInOctets (MIP confirm n octets) = IsOctets octets
+IsInOctets (MIA n octets) = IsOctets octets
+IsInOctets (MAP n octets) = IsOctets octets
+IsInOctets (MAA n octets) = IsOctets octets
+IsInOctets (RS kind n wishes octets) = IsOctets octets
+IsInOctets (RA n sides octets) = IsOctets octets
+IsInOctets (FN octets) = IsOctets octets
+IsInOctets (DN octets) = IsOctets octets
+IsInOctets (NF octets) = IsOctets octets
+IsInOctets (AB bits octets) = (bits < 256) × IsOctets octets
+IsInOctets AA = Unit {0}
