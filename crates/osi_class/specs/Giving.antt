@@ -1,5 +1,5 @@
 -- All that a link gives, one unit after the other, until it gives none.
-use Rattle.std.specs.Prelude.{◌≡◌, ℕ, zero, suc, ◌+◌, ◌-◌, ◌/◌, List, [], ◌∷◌, length, Option, Some, None}
+use Rattle.std.specs.Prelude.{◌≡◌, ℕ, zero, suc, ◌+◌, ◌-◌, ◌/◌, ◌<◌, ◌≤◌, List, [], ◌∷◌, length, Option, Some, None}
 use Rattle.osi_class.specs.Flow.{Flow}
 use Rattle.osi_class.specs.Link.{Standing, Given, part0, part2, ack, next, with_tsdu}
 
@@ -56,6 +56,17 @@ octets_in (unit ∷ units) = octets_of unit + octets_in units
 -- in how many parts a TSDU of so many octets is cut: an empty one is one part too
 abbrev pub parts_needed : ℕ → ℕ → ℕ
 parts_needed limit octets = (octets - 1) / limit + 1
+
+-- In class 0 data may go at any time; in class 2 where no Ack waits and there is credit.
+abbrev pub MayGo : Option Flow → Type 0
+MayGo None = Unit {0}
+MayGo (Some f) = (f.receiver.waiting ≡ 0) × (0 < f.sender.credit)
+
+-- a TSDU can be given at once and whole: nothing is to be sent before it, and it fits a unit
+pub record GoesWhole (tsdu : List ℕ) (s : Standing) : Type 0 where
+  pub alone : s.ends.unsent ≡ []
+  pub may : MayGo s.flow
+  pub fits : length tsdu ≤ s.ends.limit
 
 -- A TSDU that was put behind the others is given at once and whole, as this unit, and nothing is given
 -- behind it.

@@ -10,12 +10,12 @@ use std::alloc::AllocError;
 /// their order. What a link holds and each call does is stated on its `standing`, which both
 /// classes have; the laws over lists of calls are in [`crate::laws`].
 pub trait Link {
-    ghost use Rattle.std.specs.Prelude.{◌≡◌, ◌≤◌, ◌+◌, ◌*◌, None, length, IfSome, IfNone, OnOk, OnErr, option_map};
+    ghost use Rattle.std.specs.Prelude.{◌≡◌, ◌≤◌, ◌+◌, ◌*◌, None, length, IfSome, IfNone, IsSome, OnOk, OnErr, option_map};
     ghost use Rattle.std.specs.Borrow.{sem};
     ghost use Rattle.std.specs.Io.BufRead.{Rests};
     ghost use Rattle.osi_tpdu.specs.View.{value};
     ghost use Rattle.osi_class.specs.declared.limits.TheConstants.{LONGEST_TSDU};
-    ghost use Rattle.osi_class.specs.Giving.{all_given, octets_in, SendsWhole};
+    ghost use Rattle.osi_class.specs.Giving.{all_given, octets_in, GoesWhole, SendsWhole};
     ghost use Rattle.osi_class.specs.Link.{Standing, with_tsdu, given, taken, needs_memory, next, Gives, Hands, FitsAUnit};
     ghost use Rattle.osi_class.specs.Sound.{IsSound};
     ghost use Rattle.osi_class.specs.Taking.{TakesUnit};
@@ -29,11 +29,13 @@ pub trait Link {
         ensures err { OnErr result (self.new ≡ self.old) }
         ensures limit { (standing self.new).ends.limit ≡ (standing self.old).ends.limit };
 
-    /// The one unit of a TSDU that can go at once and whole, since nothing else is to be given: it
-    /// lends the octets of the TSDU, and none is copied. `None` in all other cases, and then nothing
-    /// has changed: it is to be handed in by [`Link::send_tsdu`].
+    /// The one unit of a TSDU that goes at once and whole, since nothing else is to be given: it lends
+    /// the octets of the TSDU, and none is copied. One is given wherever nothing is to be sent, the
+    /// TSDU fits a unit and, in class 2, no Ack waits and there is credit. `None` in all other cases,
+    /// and then nothing has changed: it is to be handed in by [`Link::send_tsdu`].
     fn send_whole<'t>(&mut self, tsdu: &'t [u8]) -> Option<Out<'t>>
         ensures sent { IfSome result (λ out. SendsWhole (given out) tsdu.now (standing self.old) (standing self.new)) }
+        ensures whole { GoesWhole tsdu.now (standing self.old) → IsSome result }
         ensures fits { IfSome result FitsAUnit }
         ensures none { IfNone result (self.new ≡ self.old) }
         ensures at_least { 123 ≤ (standing self.old).ends.limit };

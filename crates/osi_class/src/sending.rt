@@ -1,4 +1,4 @@
-ghost use Rattle.std.specs.Prelude.{◌≡◌, ◌≤◌, ◌++◌, [], ◌∷◌, true, IfNone, OnOk, OnErr, option_map};
+ghost use Rattle.std.specs.Prelude.{◌≡◌, ◌≢◌, ◌≤◌, ◌++◌, [], ◌∷◌, true, false, IfNone, OnOk, OnErr, option_map};
 ghost use Rattle.osi_class.specs.Tsdus.{give};
 
 use std::alloc::{AllocError, Global};
@@ -56,7 +56,8 @@ impl Outgoing {
     /// Whether nothing is to be sent.
     #[inline(always)]
     pub fn is_empty(&self) -> bool
-        ensures { result ≡ true → self.now.unsent ≡ [] }
+        ensures nothing { result ≡ true → self.now.unsent ≡ [] }
+        ensures something { result ≡ false → self.now.unsent ≢ [] }
     {
         !self.has_more && self.queue.is_empty()
     }
