@@ -1,16 +1,17 @@
 -- Where an end acts, two carriers stand between as they should, whatever has become of them.
-use Rattle.std.proofs.Common.{◌≡◌, ◌≢◌, ℕ, ◌≤◌, ◌||◌, Bool, true, false, not, List, [], ◌++◌, length, Option, Some, None, is_some, IfSome, if◌then◌else◌, refl, sym, ap, subst, ◌∙◌, append_assoc}
+use Rattle.std.proofs.Common.{◌≡◌, ◌≢◌, ℕ, ◌+◌, ◌≤◌, ◌||◌, Bool, true, false, not, List, [], ◌++◌, length, Option, Some, None, is_some, IfSome, if◌then◌else◌, refl, sym, ap, subst, ◌∙◌, append_assoc}
 use Rattle.std.specs.List.{flat_map, AllByRecursion}
 use Rattle.std.proofs.lemmas.List.{append-nil, append_cancel_right}
 use Rattle.osi_tpdu.specs.Value.{Value}
 use Rattle.osi_carrier.specs.Addresses.{units_of, AreFor}
 use Rattle.osi_carrier.specs.Between.{Both, side, reach_of, within_reach, arriving, Between, last_of, units_from, lost_from, IsOnTheWay, AreJoinedBy, AreBetween, is_cut, to_come, under_way, told_of, put_in, Carries, Acted, becomes}
 use Rattle.osi_carrier.specs.Coming.{IsSendable}
-use Rattle.osi_carrier.specs.Course.{place_at, connection_in, BringsTo}
+use Rattle.osi_carrier.specs.Course.{place_at, connection_in, progress_of, BringsTo}
 use Rattle.osi_carrier.specs.Joined.{under_way_for, ActsFor}
 use Rattle.osi_carrier.specs.Messages.{Message, messages_to, messages_after, begun_at, AreLike}
+use Rattle.osi_carrier.specs.Progress.{references_for, class_behind_all, leaves_use}
 use Rattle.osi_carrier.specs.State.{Connection, State, packets}
-use Rattle.osi_carrier.specs.Terms.{Terms, by_two, accepts_in}
+use Rattle.osi_carrier.specs.Terms.{Terms, by_two, accepts_in, class_of}
 use Rattle.osi_carrier.specs.declared.ends.EndReason.{EndReason}
 use Rattle.osi_carrier.proofs.Addressing.{units_join, units_same, units_other}
 use Rattle.osi_carrier.proofs.Bringing.{same_like}
@@ -35,6 +36,10 @@ pub record Steps (terms : Terms) (n : ℕ) (this other next : State) (going comi
   pub after : AreLike (connection_in (place_at n other)) (under_way_for n next other (going ++ units)) (stays ++ put)
   pub brings : BringsTo (accepts_in terms) (place_at n this) (place_at n next) taken arrived put
   pub others_stay : (q : ℕ) → q ≢ n → place_at q next ≡ place_at q this
+  pub given : next.given ≡ this.given + references_for (accepts_in terms) arrived put
+  pub class : next.class ≡ class_behind_all (class_of terms) this.class arrived
+  pub local : next.local ≡ this.local
+  pub keeps : leaves_use (progress_of (place_at n this)) (progress_of (place_at n next)) ≡ false → lost ≡ []
   pub lasts : next.ended ≡ None
 
 -- joined, seen from an end
@@ -66,6 +71,10 @@ steps_two n this other next going coming behind rest taken put cut lasts a =
       after = subst (λ (l : List Value). AreLike (connection_in (place_at n other)) (under_way_for n next other l) (a.stays ++ put)) a.written a.after;
       brings = subst (λ (l : List Value). BringsTo true (place_at n this) (place_at n next) l a.arrived put) same a.brings;
       others_stay = a.others_stay;
+      given = a.given;
+      class = a.class;
+      local = a.local;
+      keeps = a.keeps;
       lasts = lasts;
     }
 
@@ -87,9 +96,10 @@ cut_alive true ended e = refl
 cut_alive false ended e = ap is_some e
 
 -- what is under way from the end that acts
-record OutPart (o : Option Connection) (old new put : List Message) : Type 0 where
+record OutPart (o : Option Connection) (old new lost put : List Message) : Type 0 where
   stays : List Message
   gone : List Message
+  none : lost ≡ [] → gone ≡ []
   before : AreLike o old (stays ++ gone)
   after : AreLike o new (stays ++ put)
 
@@ -103,24 +113,27 @@ if_whole (Some r) put = []
 
 out_part : (end : Bool) (reach : Option (ℕ × ℕ)) (o c d : Option Connection) (n : ℕ) (going lost units : List Value) (stays gone put : List Message) → (reach ≡ None → lost ≡ []) →
     AreLike o (messages_to c (units_of n (going ++ lost)) o) (stays ++ gone) → AreLike o (messages_to d (units_of n ((going ++ lost) ++ units)) o) (stays ++ put) →
-    OutPart o (sum_of o n going (is_some reach) c) (sum_of o n (going_then (reach_of end reach) going units) (is_some reach) d) (if_whole reach put)
+    OutPart o (sum_of o n going (is_some reach) c) (sum_of o n (going_then (reach_of end reach) going units) (is_some reach) d) gone (if_whole reach put)
 out_part end None o c d n going lost units stays gone put none before after =
     let e : going ++ lost ≡ going = ap (λ (l : List Value). going ++ l) (none refl) ∙ append-nil going in
     record {
       stays = stays;
       gone = gone;
+      none = λ h. h;
       before = subst (λ (l : List Value). AreLike o (messages_to c (units_of n l) o) (stays ++ gone)) e before;
       after = subst (λ (l : List Value). AreLike o (messages_to d (units_of n (l ++ units)) o) (stays ++ put)) e after;
     }
 out_part true (Some r) o c d n going lost units stays gone put none before after = record {
   stays = sum_of o n going true c;
   gone = [];
+  none = λ h. refl;
   before = same_like o (sum_of o n going true c) (sum_of o n going true c ++ []) (sym (append-nil (sum_of o n going true c)));
   after = same_like o (sum_of o n going true d) (sum_of o n going true c ++ []) (sym (append-nil (sum_of o n going true c)));
 }
 out_part false (Some r) o c d n going lost units stays gone put none before after = record {
   stays = sum_of o n going true c;
   gone = [];
+  none = λ h. refl;
   before = same_like o (sum_of o n going true c) (sum_of o n going true c ++ []) (sym (append-nil (sum_of o n going true c)));
   after = same_like o (sum_of o n going true d) (sum_of o n going true c ++ []) (sym (append-nil (sum_of o n going true c)));
 }
@@ -225,6 +238,10 @@ carries_caller terms n both b next behind left taken put a alive cut d =
           (same_sum (connection_in (place_at q b.caller)) (connection_in (place_at q next)) (connection_in (place_at q b.called)) (connection_in (place_at q b.called)) q b.coming left
           (is_cut false both) (is_cut false both) (ap connection_in (sym (st.others_stay q apart))) (other_in q n b.coming taken left apart cut st.all_for) refl refl);
       other_places = st.others_stay;
+      given = st.given;
+      class = st.class;
+      local = st.local;
+      keeps = λ e. p.none (st.keeps e);
       there = refl;
       cut = cut;
       lost_still = refl;
@@ -305,6 +322,10 @@ carries_called terms n both b next behind left taken put a alive cut d =
           (same_sum (connection_in (place_at q b.called)) (connection_in (place_at q next)) (connection_in (place_at q b.caller)) (connection_in (place_at q b.caller)) q b.going left
           (is_cut true both) (is_cut true both) (ap connection_in (sym (st.others_stay q apart))) (other_in q n b.going taken left apart cut st.all_for) refl refl);
       other_places = st.others_stay;
+      given = st.given;
+      class = st.class;
+      local = st.local;
+      keeps = λ e. p.none (st.keeps e);
       there = refl;
       cut = cut;
       lost_still = refl;

@@ -50,7 +50,7 @@ less_none end k None e = refl
 less_none true k (Some r) e = cc
 less_none false k (Some r) e = cc
 
-less_some : (end : Bool) (k : ℕ) (reach : Option (ℕ × ℕ)) → is_some reach ≡ is_some (reach_less end k reach)
+pub less_some : (end : Bool) (k : ℕ) (reach : Option (ℕ × ℕ)) → is_some reach ≡ is_some (reach_less end k reach)
 less_some true k None = refl
 less_some false k None = refl
 less_some true k (Some r) = refl
@@ -137,7 +137,11 @@ breaks terms both b k l a whole less less_called =
       loses = λ e n. by_end true (λ x. Loses x n both new b now)
           (loses_of true n both new b now (front_parts (connection_in (place_at n b.called)) n b.going out.done out.left (to_come (is_cut true both) (connection_in (place_at n b.caller))) out.parts))
           (loses_of false n both new b now (front_parts (connection_in (place_at n b.caller)) n b.coming back.done back.left (to_come (is_cut false both) (connection_in (place_at n b.called))) back.parts)) e;
+      cut = λ e h. refl;
+      whole = λ e n h. cc;
       stays = λ e n. by_end true (λ x. place_at n (last_of x now) ≡ place_at n (last_of x b)) refl refl e;
+      given = λ e. by_end true (λ x. (last_of x now).given ≡ (last_of x b).given) refl refl e;
+      class = λ e. by_end true (λ x. (last_of x now).class ≡ (last_of x b).class) refl refl e;
     }
 
 -- ---- at the caller
@@ -219,6 +223,8 @@ over_caller terms p both b k a less =
           (ap (λ (t : Bool). sum_of (connection_in (place_at n b.called)) n b.going (t || is_some both.caller.state.ended) (connection_in (place_at n b.caller))) some)
           (ap (λ (t : Bool). sum_of (connection_in (place_at n b.caller)) n b.coming (t || is_some both.called.state.ended) (connection_in (place_at n b.called))) some) e;
       stays = λ e n. by_end true (λ x. place_at n (last_of x now) ≡ place_at n (last_of x b)) refl refl e;
+      given = λ e. by_end true (λ x. (last_of x now).given ≡ (last_of x b).given) refl refl e;
+      class = λ e. by_end true (λ x. (last_of x now).class ≡ (last_of x b).class) refl refl e;
     }
 
 -- events are told
@@ -239,6 +245,8 @@ tells_caller terms p both b events a =
       lost = λ e. by_end true (λ x. lost_from x now ≡ lost_from x b) refl refl e;
       under = λ e n. by_end true (λ x. under_way x n both b ≡ under_way x n new now) refl refl e;
       stays = λ e n. by_end true (λ x. place_at n (last_of x now) ≡ place_at n (last_of x b)) refl refl e;
+      given = λ e. by_end true (λ x. (last_of x now).given ≡ (last_of x b).given) refl refl e;
+      class = λ e. by_end true (λ x. (last_of x now).class ≡ (last_of x b).class) refl refl e;
     }
 
 -- it ends
@@ -258,7 +266,11 @@ ends_caller terms both b reason a =
       loses = λ e n. by_end true (λ x. Loses x n both new b b)
           (loses_of true n both new b b (front_cut (connection_in (place_at n b.called)) n b.going (is_cut true both) (is_some both.reach || true) (connection_in (place_at n b.caller)) (or_true (is_some both.reach))))
           (loses_of false n both new b b (front_same (under_way false n both b) (under_way false n new b) refl)) e;
+      cut = λ e. by_end true (λ x. is_cut x both ≡ true → is_cut x new ≡ true) (λ h. sym (or_true (is_some both.reach))) (λ h. h) e;
+      whole = λ e n. by_end true (λ x. is_cut x new ≡ false → under_way x n both b ≡ under_way x n new b) (λ h. (let no : true ≡ false = or_true (is_some both.reach) ∙ h in cc)) (λ h. refl) e;
       stays = λ e n. refl;
+      given = λ e. refl;
+      class = λ e. refl;
     }
 
 -- ---- at the called
@@ -340,6 +352,8 @@ over_called terms p both b k a less =
           (ap (λ (t : Bool). sum_of (connection_in (place_at n b.caller)) n b.coming (t || is_some both.called.state.ended) (connection_in (place_at n b.called))) some)
           (ap (λ (t : Bool). sum_of (connection_in (place_at n b.called)) n b.going (t || is_some both.caller.state.ended) (connection_in (place_at n b.caller))) some) e;
       stays = λ e n. by_end false (λ x. place_at n (last_of x now) ≡ place_at n (last_of x b)) refl refl e;
+      given = λ e. by_end false (λ x. (last_of x now).given ≡ (last_of x b).given) refl refl e;
+      class = λ e. by_end false (λ x. (last_of x now).class ≡ (last_of x b).class) refl refl e;
     }
 
 -- events are told
@@ -360,6 +374,8 @@ tells_called terms p both b events a =
       lost = λ e. by_end true (λ x. lost_from x now ≡ lost_from x b) refl refl e;
       under = λ e n. by_end false (λ x. under_way x n both b ≡ under_way x n new now) refl refl e;
       stays = λ e n. by_end false (λ x. place_at n (last_of x now) ≡ place_at n (last_of x b)) refl refl e;
+      given = λ e. by_end false (λ x. (last_of x now).given ≡ (last_of x b).given) refl refl e;
+      class = λ e. by_end false (λ x. (last_of x now).class ≡ (last_of x b).class) refl refl e;
     }
 
 -- it ends
@@ -379,7 +395,11 @@ ends_called terms both b reason a =
       loses = λ e n. by_end false (λ x. Loses x n both new b b)
           (loses_of false n both new b b (front_cut (connection_in (place_at n b.caller)) n b.coming (is_cut false both) (is_some both.reach || true) (connection_in (place_at n b.called)) (or_true (is_some both.reach))))
           (loses_of true n both new b b (front_same (under_way true n both b) (under_way true n new b) refl)) e;
+      cut = λ e. by_end false (λ x. is_cut x both ≡ true → is_cut x new ≡ true) (λ h. sym (or_true (is_some both.reach))) (λ h. h) e;
+      whole = λ e n. by_end false (λ x. is_cut x new ≡ false → under_way x n both b ≡ under_way x n new b) (λ h. (let no : true ≡ false = or_true (is_some both.reach) ∙ h in cc)) (λ h. refl) e;
       stays = λ e n. refl;
+      given = λ e. refl;
+      class = λ e. refl;
     }
 
 -- ---- at either end

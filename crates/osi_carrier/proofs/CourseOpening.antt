@@ -90,6 +90,9 @@ asks_moves s r calling called orderly left supports fits fits_called =
       places = tt;
       carries = record { arrived = []; stays = []; lost = []; told = refl; came = refl; before = refl; after = refl };
       brings = brings_none true not_yet awaiting None (Some asked) (ask ∷ []) refl refl;
+      keeps = λ e. refl;
+      gives = refl;
+      settles = refl;
     }
 
 -- ---- the CC
@@ -145,6 +148,9 @@ accepts_moves_by s r class calling called orderly left fits fits_called =
       places = map-append (λ (row : ℕ × Connection). row.0) r.live ((n, linked n (called_link r.local c)) ∷ []);
       carries = record { arrived = ask ∷ []; stays = []; lost = []; told = refl; came = refl; before = refl; after = refl };
       brings = record { is = refl; more = λ units. refl; may = (refl, tt); becomes = refl };
+      keeps = λ e. refl;
+      gives = refl;
+      settles = refl;
     }
 
 pub accepts_moves : (n : ℕ) (c : Connect) (s r : State) → n ≡ r.given + 1 → IsAskedBy n s.local c → IsOrderly r → r.ended ≡ None → r.is_caller ≡ false → MayTakeTwo r.class →
@@ -226,6 +232,9 @@ accepted_sends n c p s r octets h quiet orderly le at short are =
         after = ap (λ (l : List Message). agree ∷ l) more;
       };
       brings = brings_sent n p.right octets;
+      keeps = λ e. refl;
+      gives = refl;
+      settles = changes.class;
     }
 
 pub accepted_closes : (n : ℕ) (c : Connect) (p : LinkPair) (s r : State) (reason : ℕ) → 0 < n → reason < 256 → IsAccepted n s r c p → r.ended ≡ None → IsOrderly r → n ≤ r.given →
@@ -260,6 +269,9 @@ accepted_closes n c p s r reason some small h quiet orderly le at =
         after = ap (λ (l : List Message). agree ∷ l) (behind_leaving n us reason [] some);
       };
       brings = brings_shut n p.right reason;
+      keeps = λ e. cc;
+      gives = refl;
+      settles = changes.class;
     }
 
 -- ---- the caller takes the CC
@@ -338,6 +350,9 @@ confirm_moves n c p s r h quiet caller two supports le at =
             ∙ ap (λ (ts : List (List ℕ)). messages_after p.right.ends.joining.begun (uncut_units ts)) (nothing_unsent n s r c p h);
       };
       brings = brings_agree n s r c p h;
+      keeps = λ e. refl;
+      gives = refl;
+      settles = refl;
     })
 
 pub withdrawn_moves : (n : ℕ) (c : Connect) (p : LinkPair) (reason : ℕ) (s r : State) → IsAccepted n s r c p → s.ended ≡ None → s.is_caller ≡ true → MayTakeTwo s.class → s.local.class2 ≡ true →
@@ -370,4 +385,7 @@ withdrawn_moves n c p reason s r h quiet caller two supports le at =
         after = ap (λ (ts : List (List ℕ)). map kind_of (messages_after [] (uncut_units ts))) (nothing_unsent n s r c p h);
       };
       brings = brings_agree n s r c p h;
+      keeps = λ e. refl;
+      gives = refl;
+      settles = refl;
     })

@@ -1,20 +1,21 @@
 -- How the course of a connection goes on at each end.
-use Rattle.std.proofs.Common.{◌≡◌, ℕ, ◌+◌, ◌≤◌, ◌==◌, is_none, Bool, true, false, List, [], ◌∷◌, ◌++◌, Option, Some, None, refl, sym, ap, subst, ◌∙◌, arith, nat_lt, if◌then◌else◌}
+use Rattle.std.proofs.Common.{◌≡◌, ℕ, ◌+◌, ◌≤◌, ◌==◌, is_none, Bool, true, false, List, [], ◌∷◌, ◌++◌, map, Option, Some, None, refl, sym, ap, subst, ◌∙◌, arith, nat_lt, if◌then◌else◌}
 use Rattle.std.specs.List.{flat_map, list_any, AllByRecursion}
 use Rattle.std.proofs.lemmas.Bool.{le-ltb, ltb-false}
 use Rattle.osi_tpdu.specs.Value.{Value, request, confirm, disconnect, disconnected, data0, data2, acknowledge, error}
 use Rattle.osi_class.specs.Between.{AreOfClass}
 use Rattle.osi_class.specs.Link.{Given, part0, part2, ack}
 use Rattle.osi_class.specs.declared.terms.Class.{Class}
+use Rattle.osi_class.specs.declared.terms.Class.TheVariants.{Two}
 use Rattle.osi_class.specs.declared.terms.Local.{Local}
 use Rattle.osi_carrier.specs.Addresses.{AreFor, reference_of, asked_by, is_last, dropped, live_behind, live_after, references, requests}
 use Rattle.osi_carrier.specs.Course.{Place, never, was_given, place_at, met, MayTakeTwo, HaveMet, told_opening, CourseCarries, Acts, CourseMoves}
 use Rattle.osi_carrier.specs.Happenings.{Happening}
-use Rattle.osi_carrier.specs.Meeting.{Meeting, talking, left_here, left_there, left_both, waiting_here, waiting_there, parted, mirror, here, addressed, leaving, farewell, rows_with, out, back, Stands, Changes, told_at, messages_back, messages_out, Carries, Moves}
-use Rattle.osi_carrier.specs.Messages.{Message, messages_to, AreLike}
-use Rattle.osi_carrier.specs.Progress.{progress_in, Brings}
+use Rattle.osi_carrier.specs.Meeting.{Meeting, talking, left_here, left_there, left_both, waiting_here, waiting_there, parted, mirror, here, addressed, leaving, farewell, rows_with, out, back, Stands, Changes, told_at, messages_back, messages_out, answers_of, Carries, Moves}
+use Rattle.osi_carrier.specs.Messages.{Message, ask, agree, deny, message, bye, over, messages_to, AreLike}
+use Rattle.osi_carrier.specs.Progress.{Progress, not_yet, awaiting, in_use, shutting, gone, progress_in, may_arrive, asks_in, class_behind_all, leaves_use, Brings}
 use Rattle.osi_carrier.specs.Rows.{Rows, value_at, put, without}
-use Rattle.osi_carrier.specs.State.{Connection, State}
+use Rattle.osi_carrier.specs.State.{Connection, asked, linked, closing, State}
 use Rattle.osi_carrier.proofs.Meetings.{mirror_twice, mirror_stands}
 
 -- ---- places
@@ -197,8 +198,97 @@ carries_mirror n local m new es put c = record {
       (subst (λ (l : List Message). AreLike (here n (mirror (mirror m))) l (c.stays ++ put)) (out_mirror n new) c.after);
 }
 
-pub met_caller : (n : ℕ) (m : Meeting) (s r t : State) (taken : List Value) (put : List Message) → HaveMet s r m → n ≤ s.given → Moves n m s t taken put → CourseMoves true n (met m) s r t taken 0 put
-met_caller n m s r t taken put h le mv = record {
+-- to one that both have had open neither a CR nor a CC comes
+abbrev is_met : Progress → Bool
+is_met not_yet = false
+is_met awaiting = false
+is_met in_use = true
+is_met shutting = true
+is_met gone = true
+
+abbrev is_opening : Message → Bool
+is_opening ask = true
+is_opening agree = true
+is_opening (deny reason) = false
+is_opening (message octets) = false
+is_opening (bye reason) = false
+is_opening over = false
+
+not_opening : (p : Progress) (m : Message) → is_met p ≡ true → may_arrive p m ≡ true → is_opening m ≡ false
+not_opening not_yet m e h = cc
+not_opening awaiting m e h = cc
+not_opening in_use ask e h = cc
+not_opening in_use agree e h = cc
+not_opening shutting ask e h = cc
+not_opening shutting agree e h = cc
+not_opening gone ask e h = cc
+not_opening gone agree e h = cc
+not_opening p (deny reason) e h = refl
+not_opening p (message octets) e h = refl
+not_opening p (bye reason) e h = refl
+not_opening p over e h = refl
+
+-- it asks for nothing and settles no class
+pub record IsIdle (ms : List Message) : Type 0 where
+  pub asks : asks_in ms ≡ 0
+  pub class : (settled held : Option Class) → class_behind_all settled held ms ≡ held
+
+idle_class : (settled held : Option Class) (m : Message) (ms : List Message) → is_opening m ≡ false → IsIdle ms → class_behind_all settled held (m ∷ ms) ≡ held
+idle_class None held m ms e h = h.class None held
+idle_class (Some class) held ask ms e h = cc
+idle_class (Some class) held agree ms e h = cc
+idle_class (Some class) held (deny reason) ms e h = h.class (Some class) held
+idle_class (Some class) held (message octets) ms e h = h.class (Some class) held
+idle_class (Some class) held (bye reason) ms e h = h.class (Some class) held
+idle_class (Some class) held over ms e h = h.class (Some class) held
+
+idle_first : (m : Message) (ms : List Message) → is_opening m ≡ false → IsIdle ms → IsIdle (m ∷ ms)
+idle_first ask ms e h = cc
+idle_first agree ms e h = cc
+idle_first (deny reason) ms e h = record { asks = h.asks; class = λ settled held. idle_class settled held (deny reason) ms refl h }
+idle_first (message octets) ms e h = record { asks = h.asks; class = λ settled held. idle_class settled held (message octets) ms refl h }
+idle_first (bye reason) ms e h = record { asks = h.asks; class = λ settled held. idle_class settled held (bye reason) ms refl h }
+idle_first over ms e h = record { asks = h.asks; class = λ settled held. idle_class settled held over ms refl h }
+
+idle_all : (p : Progress) (ms : List Message) → is_met p ≡ true → AllByRecursion (λ m. may_arrive p m ≡ true) ms → IsIdle ms
+idle_all p [] e h = record { asks = refl; class = λ settled held. refl }
+idle_all p (m ∷ ms) e h = idle_first m ms (not_opening p m e h.0) (idle_all p ms e h.1)
+
+pub idle_messages : (got : List (List ℕ)) → IsIdle (map message got)
+idle_messages [] = record { asks = refl; class = λ settled held. refl }
+idle_messages (octets ∷ got) = idle_first (message octets) (map message got) refl (idle_messages got)
+
+here_met : (n : ℕ) (m : Meeting) → is_met (progress_in (here n m)) ≡ true
+here_met n (talking p) = refl
+here_met n (left_here p us reason) = refl
+here_met n (left_there p us reason) = refl
+here_met n (left_both us reason vs other) = refl
+here_met n (waiting_here us last) = refl
+here_met n (waiting_there us last) = refl
+here_met n parted = refl
+
+none_asked : (n : ℕ) (m : Meeting) (arrived put : List Message) → AllByRecursion (λ x. may_arrive (progress_in (here n m)) x ≡ true) arrived → asks_in put ≡ 0 → 0 ≡ asks_in arrived + asks_in put
+none_asked n m arrived put may none = let idle = (idle_all (progress_in (here n m)) arrived (here_met n m) may).asks in omega arith
+
+class_stays : (n : ℕ) (m : Meeting) (settled held : Option Class) (arrived : List Message) → AllByRecursion (λ x. may_arrive (progress_in (here n m)) x ≡ true) arrived → class_behind_all settled held arrived ≡ held
+class_stays n m settled held arrived may = (idle_all (progress_in (here n m)) arrived (here_met n m) may).class settled held
+
+-- what a unit is answered asks for nothing
+pub answers_plain : (o : Option Connection) (u : Value) → asks_in (answers_of o u) ≡ 0
+answers_plain None u = refl
+answers_plain (Some asked) u = refl
+answers_plain (Some (linked peer link)) (request c) = refl
+answers_plain (Some (linked peer link)) (confirm destination c) = refl
+answers_plain (Some (linked peer link)) (disconnect destination source reason user) = refl
+answers_plain (Some (linked peer link)) (disconnected destination source) = refl
+answers_plain (Some (linked peer link)) (data0 end user) = refl
+answers_plain (Some (linked peer link)) (data2 destination number end user) = refl
+answers_plain (Some (linked peer link)) (acknowledge credit destination number) = refl
+answers_plain (Some (linked peer link)) (error destination cause) = refl
+answers_plain (Some (closing peer)) u = refl
+
+pub met_caller : (n : ℕ) (m : Meeting) (s r t : State) (taken : List Value) (put : List Message) → HaveMet s r m → n ≤ s.given → asks_in put ≡ 0 → Moves n m s t taken put → CourseMoves true n (met m) s r t taken 0 put
+met_caller n m s r t taken put h le none mv = record {
   new = met mv.new;
   units = mv.units;
   events = mv.events;
@@ -214,20 +304,25 @@ met_caller n m s r t taken put h le mv = record {
   places = tt;
   carries = carries_caller n r.local m mv.new mv.events put mv.carries;
   brings = mv.brings;
+  keeps = mv.keeps;
+  gives = none_asked n m mv.carries.arrived put mv.brings.may none;
+  settles = mv.changes.class ∙ sym (class_stays n m (Some Two) s.class mv.carries.arrived mv.brings.may);
 }
 
 -- what was carried, and what units brought
 record CarriesBoth (n : ℕ) (old new : Meeting) (events : List Happening) (taken : List Value) (put : List Message) : Type 0 where
   carries : Carries n old new events put
   brings : Brings true (progress_in (here n old)) (progress_in (here n new)) (here n old) (here n new) taken carries.arrived put
+  keeps : leaves_use (progress_in (here n old)) (progress_in (here n new)) ≡ false → carries.lost ≡ []
 
 turned_carries : (n : ℕ) (m new : Meeting) (es : List Happening) (taken : List Value) (put : List Message) → (c : Carries n (mirror m) new es put) →
-    Brings true (progress_in (here n (mirror m))) (progress_in (here n new)) (here n (mirror m)) (here n new) taken c.arrived put → CarriesBoth n (mirror m) (mirror (mirror new)) es taken put
-turned_carries n m new es taken put c b =
-    subst (λ (x : Meeting). CarriesBoth n (mirror m) x es taken put) (sym (mirror_twice new)) (record { carries = c; brings = b })
+    Brings true (progress_in (here n (mirror m))) (progress_in (here n new)) (here n (mirror m)) (here n new) taken c.arrived put →
+    (leaves_use (progress_in (here n (mirror m))) (progress_in (here n new)) ≡ false → c.lost ≡ []) → CarriesBoth n (mirror m) (mirror (mirror new)) es taken put
+turned_carries n m new es taken put c b k =
+    subst (λ (x : Meeting). CarriesBoth n (mirror m) x es taken put) (sym (mirror_twice new)) (record { carries = c; brings = b; keeps = k })
 
-pub met_called : (n : ℕ) (m : Meeting) (r s t : State) (taken : List Value) (put : List Message) → HaveMet s r m → n ≤ r.given → IsOneAtMost taken → Moves n (mirror m) r t taken put → CourseMoves false n (met m) r s t taken 0 put
-met_called n m r s t taken put h le one mv = record {
+pub met_called : (n : ℕ) (m : Meeting) (r s t : State) (taken : List Value) (put : List Message) → HaveMet s r m → n ≤ r.given → IsOneAtMost taken → asks_in put ≡ 0 → Moves n (mirror m) r t taken put → CourseMoves false n (met m) r s t taken 0 put
+met_called n m r s t taken put h le one none mv = record {
   new = met (mirror mv.new);
   units = mv.units;
   events = mv.events;
@@ -245,6 +340,9 @@ met_called n m r s t taken put h le one mv = record {
       let taken_are : AllByRecursion (IsPlain n) taken =
       plain_front n taken (back n mv.new) (subst (λ (l : List Value). AllByRecursion (IsPlain n) l) (ap (out n) (sym (mirror_twice m)) ∙ mv.back) (plain_out n m h.stands)) in
       ap references mv.changes.live ∙ references_after n taken (here n mv.new) r.live one taken_are mv.goes;
-  carries = carries_mirror n r.local m (mirror mv.new) mv.events put (turned_carries n m mv.new mv.events taken put mv.carries mv.brings).carries;
-  brings = (turned_carries n m mv.new mv.events taken put mv.carries mv.brings).brings;
+  carries = carries_mirror n r.local m (mirror mv.new) mv.events put (turned_carries n m mv.new mv.events taken put mv.carries mv.brings mv.keeps).carries;
+  brings = (turned_carries n m mv.new mv.events taken put mv.carries mv.brings mv.keeps).brings;
+  keeps = (turned_carries n m mv.new mv.events taken put mv.carries mv.brings mv.keeps).keeps;
+  gives = none_asked n (mirror m) (turned_carries n m mv.new mv.events taken put mv.carries mv.brings mv.keeps).carries.arrived put (turned_carries n m mv.new mv.events taken put mv.carries mv.brings mv.keeps).brings.may none;
+  settles = mv.changes.class ∙ sym (class_stays n (mirror m) (Some Two) r.class (turned_carries n m mv.new mv.events taken put mv.carries mv.brings mv.keeps).carries.arrived (turned_carries n m mv.new mv.events taken put mv.carries mv.brings mv.keeps).brings.may);
 }

@@ -20,7 +20,7 @@ use Rattle.osi_carrier.specs.Rows.{Rows, value_at}
 use Rattle.osi_carrier.specs.State.{Connection, asked, linked, closing, State}
 use Rattle.osi_carrier.proofs.Apart.{absent, beyond}
 use Rattle.osi_carrier.proofs.Addressing.{first_of_all, requests_join, behind_join, places_join, places_rest, places_for}
-use Rattle.osi_carrier.proofs.Courses.{given_place, is_given, met_caller, met_called}
+use Rattle.osi_carrier.proofs.Courses.{given_place, is_given, met_caller, met_called, answers_plain}
 use Rattle.osi_carrier.proofs.CourseOpening.{accepts_moves, accepted_sends, accepted_closes, confirm_moves, withdrawn_moves}
 use Rattle.osi_carrier.proofs.Effects.{orderly_unit, orderly_sent, orderly_closed}
 use Rattle.osi_carrier.proofs.JoinedSteps.{all_stand, acts_for, stands_flip, stands_flip_back}
@@ -132,7 +132,7 @@ caller_takes n s r going coming (withdrawing c p reason) u more some j at h e =
     (withdrawn_moves n c p reason s r h j.lasts j.is_caller j.class j.supports here.within here.is)
 caller_takes n s r going coming (met m) u more some j at h e =
     let place = is_given n s (here n m) at in
-    met_caller n m s r (react u s) (u ∷ []) (answers_at (was_given (here n m)) u) h place.within
+    met_caller n m s r (react u s) (u ∷ []) (answers_at (was_given (here n m)) u) h place.within (answers_plain (here n m) u)
     (take_here n s m u more some (let most = j.orderly.given in let le = place.within in omega arith) j.lasts h.class j.orderly place.is h.stands e)
 
 pub caller_takes_one : (s r : State) (going coming rest : List Value) (u : Value) → AreJoined s r going coming → coming ≡ u ∷ rest →
@@ -237,7 +237,7 @@ called_takes n s r going coming rest (met m) u more some j at h cut e =
     let place = is_given n r (here n (mirror m)) at in
     record {
       count = 0;
-      moves = met_called n m r s (react u r) (u ∷ []) (answers_at (was_given (here n (mirror m))) u) h place.within tt
+      moves = met_called n m r s (react u r) (u ∷ []) (answers_at (was_given (here n (mirror m))) u) h place.within tt (answers_plain (here n (mirror m)) u)
           (take_here n r (mirror m) u more some (let most = j.orderly_called.given in let le = place.within in omega arith) j.lasts_called h.class_called j.orderly_called place.is (mirror_stands m h.stands) (ap (out n) (mirror_twice m) ∙ e));
     }
 
@@ -266,7 +266,7 @@ caller_sends_by n s r (accepting c p) link octets quiet orderly at h live le sho
 caller_sends_by n s r (withdrawing c p reason) link octets quiet orderly at h live le short are = let e = given_place n s le ∙ ap was_given live in cc
 caller_sends_by n s r (met m) link octets quiet orderly at h live le short are =
     let place = is_given n s (here n m) at in
-    met_caller n m s r (sent n octets s) [] (message octets ∷ []) h le (send_here n s m link octets (let most = orderly.given in omega arith) quiet orderly place.is (sym place.is ∙ live) h.stands short are)
+    met_caller n m s r (sent n octets s) [] (message octets ∷ []) h le refl (send_here n s m link octets (let most = orderly.given in omega arith) quiet orderly place.is (sym place.is ∙ live) h.stands short are)
 
 caller_closes_by : (n : ℕ) (s r : State) (g : Course) (link : Standing) (reason : ℕ) → 0 < n → reason < 256 → s.ended ≡ None → IsOrderly s → place_at n s ≡ at_end true n g → Holds n s r g → value_at n s.live ≡ Some (linked n link) →
     n ≤ s.given → CourseMoves true n g s r (closed_with n reason s) [] 0 (bye reason ∷ [])
@@ -276,7 +276,7 @@ caller_closes_by n s r (accepting c p) link reason some small quiet orderly at h
 caller_closes_by n s r (withdrawing c p last) link reason some small quiet orderly at h live le = let e = given_place n s le ∙ ap was_given live in cc
 caller_closes_by n s r (met m) link reason some small quiet orderly at h live le =
     let place = is_given n s (here n m) at in
-    met_caller n m s r (closed_with n reason s) [] (bye reason ∷ []) h le (close_here n s m link reason some (let most = orderly.given in omega arith) small quiet h.class orderly place.is (sym place.is ∙ live) h.stands)
+    met_caller n m s r (closed_with n reason s) [] (bye reason ∷ []) h le refl (close_here n s m link reason some (let most = orderly.given in omega arith) small quiet h.class orderly place.is (sym place.is ∙ live) h.stands)
 
 called_sends_by : (n : ℕ) (s r : State) (g : Course) (link : Standing) (octets : List ℕ) → r.ended ≡ None → IsOrderly r → place_at n r ≡ at_end false n g → Holds n s r g → value_at n r.live ≡ Some (linked n link) →
     n ≤ r.given → IsShortTsdu octets → IsOctets octets → CourseMoves false n g r s (sent n octets r) [] 0 (message octets ∷ [])
@@ -287,7 +287,7 @@ called_sends_by n s r (accepting c p) link octets quiet orderly at h live le sho
 called_sends_by n s r (withdrawing c p reason) link octets quiet orderly at h live le short are = let e = given_place n r le ∙ ap was_given live in cc
 called_sends_by n s r (met m) link octets quiet orderly at h live le short are =
     let place = is_given n r (here n (mirror m)) at in
-    met_called n m r s (sent n octets r) [] (message octets ∷ []) h le tt
+    met_called n m r s (sent n octets r) [] (message octets ∷ []) h le tt refl
     (send_here n r (mirror m) link octets (let most = orderly.given in omega arith) quiet orderly place.is (sym place.is ∙ live) (mirror_stands m h.stands) short are)
 
 called_closes_by : (n : ℕ) (s r : State) (g : Course) (link : Standing) (reason : ℕ) → 0 < n → reason < 256 → r.ended ≡ None → IsOrderly r → place_at n r ≡ at_end false n g → Holds n s r g → value_at n r.live ≡ Some (linked n link) →
@@ -299,7 +299,7 @@ called_closes_by n s r (accepting c p) link reason some small quiet orderly at h
 called_closes_by n s r (withdrawing c p last) link reason some small quiet orderly at h live le = let e = given_place n r le ∙ ap was_given live in cc
 called_closes_by n s r (met m) link reason some small quiet orderly at h live le =
     let place = is_given n r (here n (mirror m)) at in
-    met_called n m r s (closed_with n reason r) [] (bye reason ∷ []) h le tt
+    met_called n m r s (closed_with n reason r) [] (bye reason ∷ []) h le tt refl
     (close_here n r (mirror m) link reason some (let most = orderly.given in omega arith) small quiet h.class_called orderly place.is (sym place.is ∙ live) (mirror_stands m h.stands))
 
 -- a live connection has a reference that was given, and its peer's number is that one

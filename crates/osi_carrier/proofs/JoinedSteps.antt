@@ -1,5 +1,5 @@
 -- Where one end of two joined carriers acts, each connection stands as it should.
-use Rattle.std.proofs.Common.{◌≡◌, ◌≢◌, ℕ, ◌<◌, ◌==◌, Bool, true, false, not, List, ◌++◌, Option, refl, sym, ap, subst, ◌∙◌}
+use Rattle.std.proofs.Common.{◌≡◌, ◌≢◌, ℕ, ◌+◌, ◌<◌, ◌==◌, Bool, true, false, not, List, [], ◌++◌, Option, refl, sym, ap, subst, ◌∙◌}
 use Rattle.std.specs.List.{flat_map}
 use Rattle.std.proofs.lemmas.Bool.{eqb-true, eq-eqb}
 use Rattle.std.proofs.lemmas.List.{append-nil, append_cancel_left}
@@ -8,10 +8,11 @@ use Rattle.osi_class.specs.Between.{LinkPair}
 use Rattle.osi_class.specs.declared.terms.Local.{Local}
 use Rattle.osi_tpdu.specs.Value.{Connect}
 use Rattle.osi_carrier.specs.Addresses.{units_of, AreFor}
-use Rattle.osi_carrier.specs.Course.{Place, place_at, connection_in, at_end, messages_from, told_opening, Course, unasked, asking, accepting, withdrawing, met, from_end, IsAskedBy, IsAccepted, HoldsAt, called_local, Acts, BringsTo, CourseMoves}
+use Rattle.osi_carrier.specs.Course.{Place, place_at, connection_in, at_end, messages_from, told_opening, Course, unasked, asking, accepting, withdrawing, met, from_end, IsAskedBy, IsAccepted, HoldsAt, called_local, Acts, BringsTo, CourseMoves, progress_of}
 use Rattle.osi_carrier.specs.Happenings.{Happening}
 use Rattle.osi_carrier.specs.Joined.{StandsBetween, under_way_for, ActsFor}
 use Rattle.osi_carrier.specs.Messages.{Message, messages_to, AreLike}
+use Rattle.osi_carrier.specs.Progress.{leaves_use}
 use Rattle.osi_carrier.specs.State.{Connection, State}
 use Rattle.osi_carrier.proofs.Addressing.{units_join, units_same, units_other}
 use Rattle.osi_carrier.proofs.Openings.{caller_link}
@@ -185,4 +186,9 @@ acts_for end n asked this other next going coming rest taken put s cut all mv =
       written_for = mv.acts.all_for;
       brings = subst (λ (x : Place). BringsTo true x (place_at n next) taken c.arrived put) (sym s.place)
           (subst (λ (x : Place). BringsTo true (at_end end n s.course) x taken c.arrived put) (sym mv.place) mv.brings);
+      given = mv.given ∙ ap (λ (k : ℕ). this.given + k) mv.gives;
+      class = mv.settles;
+      local = mv.acts.local;
+      keeps = subst (λ (x : Place). leaves_use (progress_of x) (progress_of (place_at n next)) ≡ false → c.lost ≡ []) (sym s.place)
+          (subst (λ (x : Place). leaves_use (progress_of (at_end end n s.course)) (progress_of x) ≡ false → c.lost ≡ []) (sym mv.place) mv.keeps);
     }

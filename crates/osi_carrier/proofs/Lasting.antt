@@ -34,7 +34,7 @@ pub record PacketLaws : Type 0 where
   pub front : (r more : List ℕ) → IsPartial (r ++ more) → IsPartial r
   pub proper : (r : List ℕ) → IsPartial r → IsOnePacket r → ⊥
 
-behind_same : (b x y : List ℕ) → b ++ x ≡ b ++ y → x ≡ y
+pub behind_same : (b x y : List ℕ) → b ++ x ≡ b ++ y → x ≡ y
 behind_same [] x y e = e
 behind_same (n ∷ b) x y e = behind_same b x y (ap (drop 1) e)
 
@@ -69,15 +69,15 @@ packet_over : (unit : List ℕ) (s : State) → is_some s.ended ≡ true → is_
 unfolding after_packet
 packet_over unit s h = acts_over (units_of unit) s h
 
-packets_over : (units : List (List ℕ)) (s : State) → is_some s.ended ≡ true → is_some (all_done (map packet units) s).ended ≡ true
+pub packets_over : (units : List (List ℕ)) (s : State) → is_some s.ended ≡ true → is_some (all_done (map packet units) s).ended ≡ true
 packets_over [] s h = h
 packets_over (unit ∷ units) s h = packets_over units (after_packet s unit) (packet_over unit s h)
 
-map_joined : (us vs : List (List ℕ)) → map packet (us ++ vs) ≡ map packet us ++ map packet vs
+pub map_joined : (us vs : List (List ℕ)) → map packet (us ++ vs) ≡ map packet us ++ map packet vs
 map_joined [] vs = refl
 map_joined (u ∷ us) vs = ap (λ l. packet u ∷ l) (map_joined us vs)
 
-tells_ended : (event : Option Happening) (old new : State) → Tells event old new → new.ended ≡ old.ended
+pub tells_ended : (event : Option Happening) (old new : State) → Tells event old new → new.ended ≡ old.ended
 tells_ended None old new h = ap (λ (s : State). s.ended) h.1
 tells_ended (Some event) old new h = ap (λ (s : State). s.ended) (sym h)
 
@@ -88,11 +88,11 @@ over_call old (telling event) new none over h = tells_ended event old.state new.
 over_call old (carrying octets) new none over h = ap (λ (x : Carrying). x.state.ended) (sym h)
 over_call old (calling call) new none over h = absurd cc
 
-none_first : (a b : List UserCall) → a ++ b ≡ [] → (a ≡ []) × (b ≡ [])
+pub none_first : (a b : List UserCall) → a ++ b ≡ [] → (a ≡ []) × (b ≡ [])
 none_first [] b e = (refl, e)
 none_first (x ∷ a) b e = absurd cc
 
-over_calls : (old : Carrying) (calls : List Call) (new : Carrying) → flat_map called_in calls ≡ [] → is_some old.state.ended ≡ true → CallsAlong old calls new →
+pub over_calls : (old : Carrying) (calls : List Call) (new : Carrying) → flat_map called_in calls ≡ [] → is_some old.state.ended ≡ true → CallsAlong old calls new →
     new.state.ended ≡ old.state.ended
 over_calls old [] new none over h = ap (λ (x : Carrying). x.state.ended) h
 over_calls old (call ∷ calls) new none over h =
@@ -115,10 +115,10 @@ parted_lasts : (old : Carrying) (us vs more : List (List ℕ)) → us ≡ vs ++ 
 parted_lasts old us vs more all lasts =
     ap (λ (s : State). s.ended) (sym (all_joined (map packet vs) (map packet more) old.state) ∙ ap (λ l. all_done l old.state) (sym (map_joined vs more) ∙ ap (map packet) (sym all))) ∙ lasts
 
-never : {B : Type 0} (s : State) → is_some s.ended ≡ true → s.ended ≡ None → B
+pub never : {B : Type 0} (s : State) → is_some s.ended ≡ true → s.ended ≡ None → B
 never s over none = let e : is_some s.ended ≡ false = ap is_some none in absurd cc
 
-fault_behind : (at : ℕ) (r t : List ℕ) (f : TpktFault) → IsFaultOf at r f → IsFaultOf at (r ++ t) f
+pub fault_behind : (at : ℕ) (r t : List ℕ) (f : TpktFault) → IsFaultOf at r f → IsFaultOf at (r ++ t) f
 fault_behind at r t (BadVersion offset) h =
     let counted = length-append r t in
     let some = h.0.0 in
@@ -136,7 +136,7 @@ no_fault laws at [] r t rest f fault partial h = partial_no_fault at r f (laws.f
 no_fault laws at (u ∷ ws) r t rest f fault partial h = end_no_packet at (r ++ t) (Faulty f) (fault_behind at r t f fault) u h.0 h.1 h.2 h.3
 
 -- the octets up to the packet that stopped stand in front of those that were used
-front_used : (b : Bool) (piece : List ℕ) (used within : ℕ) → within ≤ length piece → used ≡ (if b then length piece else within) →
+pub front_used : (b : Bool) (piece : List ℕ) (used within : ℕ) → within ≤ length piece → used ≡ (if b then length piece else within) →
     (t : List ℕ) × (take used piece ≡ take within piece ++ t)
 front_used true piece used within bound e = (drop within piece, take_all used piece (omega arith) ∙ sym (take-append-drop within piece))
 front_used false piece used within bound e = ([], ap (λ n. take n piece) e ∙ sym (append-nil (take within piece)))

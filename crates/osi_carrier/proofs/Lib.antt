@@ -31,6 +31,7 @@ pub mod JoinedMoves
 pub mod JoinedAsks
 pub mod JoinedCalls
 pub mod Lasting
+pub mod Outcomes
 pub mod OnTheWay
 pub mod Acting
 pub mod Linked
@@ -45,5 +46,6 @@ pub mod Terms
 pub mod Emptied
 pub mod Journeys
 pub mod Holdings
-pub mod Amongs
+pub mod Firsts
 pub mod Tellings
+pub mod Having

@@ -110,6 +110,7 @@ take_talking n s p g gs some few quiet class orderly at a e =
       stands = t.passes.stay_open;
       carries = talking_takes n p (unit_of n g) gs a t;
       brings = brings_given n g p.left t.link a.left.handed t.taken;
+      keeps = λ e. refl;
     }
 
 take_behind : (n : ℕ) (s : State) (p : LinkPair) (hs : List Given) (reason : ℕ) (g : Given) (gs : List Given) → 0 < n → n < 65536 → s.ended ≡ None → s.class ≡ Some Two → IsOrderly s →
@@ -132,6 +133,7 @@ take_behind n s p hs reason g gs some few quiet class orderly at a two e =
       stands = (t.passes.stay_open, class_join hs given two (class_end p.rightward given t.passes.stay_open.agree.agree.class));
       carries = behind_takes n p hs reason g gs some a e t;
       brings = brings_given n g p.left t.link a.left.handed t.taken;
+      keeps = λ e. refl;
     }
 
 take_leaving : (n : ℕ) (s : State) (p : LinkPair) (hs : List Given) (reason : ℕ) → 0 < n → n < 65536 → s.ended ≡ None → s.class ≡ Some Two → IsOrderly s →
@@ -151,6 +153,7 @@ take_leaving n s p hs reason some few quiet class orderly at two e = record {
   stands = two;
   carries = leaving_takes n p hs reason some e;
   brings = brings_bye n reason p.left (λ units. ap (λ (m : Message). m ∷ messages_after [] units) (parting_is n reason some));
+  keeps = λ e. cc;
 }
 
 -- the unit that was taken is the oldest
@@ -202,6 +205,7 @@ take_here n s (left_here p (g ∷ gs) reason) unit rest some few quiet class ord
       stands = (h.0, h.1.1);
       carries = left_ignores n p g gs reason;
       brings = brings_ignored n g;
+      keeps = λ e. refl;
     })
 take_here n s (left_both hs reason [] other) unit rest some few quiet class orderly at h b =
     at_head n (left_both hs reason [] other) s (leaving n other) unit [] rest [] refl b refl (record {
@@ -218,6 +222,7 @@ take_here n s (left_both hs reason [] other) unit rest some few quiet class orde
       stands = h.0;
       carries = both_takes n hs reason other some;
       brings = brings_crossed n other (λ units. ap (λ (m : Message). m ∷ messages_after [] units) (parting_is n other some));
+      keeps = λ e. refl;
     })
 take_here n s (left_both hs reason (g ∷ gs) other) unit rest some few quiet class orderly at h b =
     at_head n (left_both hs reason (g ∷ gs) other) s (unit_of n g) unit (addressed n gs ++ leaving n other ∷ []) rest [] refl b refl (record {
@@ -234,6 +239,7 @@ take_here n s (left_both hs reason (g ∷ gs) other) unit rest some few quiet cl
       stands = (h.0, h.1.1);
       carries = both_ignores n hs reason g gs other;
       brings = brings_ignored n g;
+      keeps = λ e. refl;
     })
 take_here n s (waiting_here [] None) unit rest some few quiet class orderly at h b =
     at_head n (waiting_here [] None) s (disconnected n n) unit [] rest [] refl b refl (record {
@@ -250,6 +256,7 @@ take_here n s (waiting_here [] None) unit rest some few quiet class orderly at h
       stands = tt;
       carries = waiting_over n;
       brings = record { is = refl; more = λ units. refl; may = (refl, tt); becomes = refl };
+      keeps = λ e. refl;
     })
 take_here n s (waiting_here [] (Some reason)) unit rest some few quiet class orderly at h b =
     at_head n (waiting_here [] (Some reason)) s (leaving n reason) unit [] rest [] refl b refl (record {
@@ -266,6 +273,7 @@ take_here n s (waiting_here [] (Some reason)) unit rest some few quiet class ord
       stands = tt;
       carries = waiting_crossed n reason some;
       brings = brings_crossed n reason (λ units. ap (λ (m : Message). m ∷ messages_after [] units) (parting_is n reason some));
+      keeps = λ e. refl;
     })
 take_here n s (waiting_here (g ∷ gs) last) unit rest some few quiet class orderly at h b =
     at_head n (waiting_here (g ∷ gs) last) s (unit_of n g) unit (addressed n gs ++ farewell n last ∷ []) rest [] refl b refl (record {
@@ -282,6 +290,7 @@ take_here n s (waiting_here (g ∷ gs) last) unit rest some few quiet class orde
       stands = h.1;
       carries = waiting_ignores n g gs last;
       brings = brings_ignored n g;
+      keeps = λ e. refl;
     })
 take_here n s (waiting_there hs last) unit rest some few quiet class orderly at h b = cc
 take_here n s parted unit rest some few quiet class orderly at h b = cc
@@ -306,6 +315,7 @@ send_here n s (talking p) link octets few quiet orderly at is h short are =
       stands = passes.stay_open;
       carries = talking_sends n p octets h passes.rightward passes.leftward passes.stay_open;
       brings = brings_sent n p.left octets;
+      keeps = λ e. refl;
     }
 send_here n s (left_there p hs reason) link octets few quiet orderly at is h short are =
     let passes = sends_passes true p octets h.0 short are in
@@ -324,6 +334,7 @@ send_here n s (left_there p hs reason) link octets few quiet orderly at is h sho
       stands = (passes.stay_open, class_join hs given h.1 (class_end p.rightward given passes.stay_open.agree.agree.class));
       carries = behind_sends n p hs reason octets;
       brings = brings_sent n p.left octets;
+      keeps = λ e. refl;
     }
 send_here n s (left_here p gs reason) link octets few quiet orderly at is h short are = cc
 send_here n s (left_both hs reason gs other) link octets few quiet orderly at is h short are = cc
@@ -347,6 +358,7 @@ close_here n s (talking p) link reason some few small quiet class orderly at is 
   stands = (h, h.agree.agree_back.class);
   carries = talking_closes n p reason some;
   brings = brings_shut n p.left reason;
+  keeps = λ e. cc;
 }
 close_here n s (left_there p hs other) link reason some few small quiet class orderly at is h = record {
   new = left_both hs reason p.leftward other;
@@ -362,6 +374,7 @@ close_here n s (left_there p hs other) link reason some few small quiet class or
   stands = (h.1, h.0.agree.agree_back.class);
   carries = behind_closes n p hs reason other some;
   brings = brings_shut n p.left reason;
+  keeps = λ e. cc;
 }
 close_here n s (left_here p gs other) link reason some few small quiet class orderly at is h = cc
 close_here n s (left_both hs own gs other) link reason some few small quiet class orderly at is h = cc

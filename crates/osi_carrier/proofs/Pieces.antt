@@ -181,7 +181,7 @@ reads_one nothing old (calling call) new h lasts =
 
 -- ---- calls one after the other
 
-packets_joined : (us vs : List (List ℕ)) (s m t r : List ℕ) → ArePackets us s m → ArePackets vs (m ++ t) r → ArePackets (us ++ vs) (s ++ t) r
+pub packets_joined : (us vs : List (List ℕ)) (s m t r : List ℕ) → ArePackets us s m → ArePackets vs (m ++ t) r → ArePackets (us ++ vs) (s ++ t) r
 packets_joined [] vs s m t r h k = subst (λ x. ArePackets vs (x ++ t) r) (sym h) k
 packets_joined (u ∷ us) vs s m t r h k =
     (h.0, h.1 ++ t, h.2, ap (λ x. x ++ t) h.3 ∙ append_assoc h.0 h.1 t, packets_joined us vs h.1 m t r h.4 k)
@@ -190,7 +190,7 @@ pub all_joined : (xs ys : List Act) (s : State) → all_done (xs ++ ys) s ≡ al
 all_joined [] ys s = refl
 all_joined (x ∷ xs) ys s = all_joined xs ys (does x s)
 
-back_joined : (e f : List Happening) (o p : List ℕ) (s : State) → put_back (e ++ f) (o ++ p) s ≡ put_back e o (put_back f p s)
+pub back_joined : (e f : List Happening) (o p : List ℕ) (s : State) → put_back (e ++ f) (o ++ p) s ≡ put_back e o (put_back f p s)
 back_joined e f o p s =
     ap (λ l. record s { events = l; outgoing = (o ++ p) ++ s.outgoing }) (append_assoc e f s.events)
     ∙ ap (λ l. record s { events = e ++ (f ++ s.events); outgoing = l }) (append_assoc o p s.outgoing)

@@ -28,7 +28,7 @@ use Rattle.osi_carrier.proofs.Addressing.{units_same}
 use Rattle.osi_carrier.proofs.AtReferences.{without_other}
 use Rattle.osi_carrier.proofs.Bringing.{same_like, brings_none}
 use Rattle.osi_carrier.proofs.CourseOpening.{push_places, react_request}
-use Rattle.osi_carrier.proofs.Courses.{given_place}
+use Rattle.osi_carrier.proofs.Courses.{given_place, none_more}
 use Rattle.osi_carrier.proofs.Effects.{free_of}
 use Rattle.osi_carrier.proofs.JoinedCalls.{next_never}
 use Rattle.osi_carrier.proofs.Linked.{with_queues}
@@ -96,6 +96,10 @@ asks_first reason s r going coming calling to j empty none back left fits fits_t
             (under_at n t r (was_given (Some asked)) never (going ++ request d ∷ []) (request d ∷ []) now_there there (ap (λ (l : List Value). l ++ request d ∷ []) none) all);
         brings = brings_refused n s t never (was_given (Some asked)) [] [] (ask ∷ []) here now_there (brings_none false not_yet awaiting None (Some asked) (ask ∷ []) refl refl);
         others_stay = λ q apart. push_places s t asked q refl refl apart;
+        given = refl;
+        class = refl;
+        local = refl;
+        keeps = λ e. refl;
         lasts = j.lasts;
       };
       joined = record {
@@ -163,6 +167,10 @@ refuses reason s r going coming rest c j live is back some a cut =
             (under_at n t s never (was_given (Some asked)) (coming ++ put ∷ []) (put ∷ []) here there (ap (λ (l : List Value). l ++ put ∷ []) back) (refl, tt));
         brings = brings_refused n r t never never (request c ∷ []) (ask ∷ []) (deny reason ∷ []) here here (record { is = refl; more = λ units. refl; may = (refl, tt); becomes = refl });
         others_stay = λ q apart. refl;
+        given = none_more r.given;
+        class = refl;
+        local = refl;
+        keeps = λ e. refl;
         lasts = j.lasts_called;
       };
       joined = record {
@@ -220,6 +228,10 @@ is_refused reason s r going coming rest j live none is some cut =
         after = same_like (connection_in (place_at n r)) (under_way_for n t r (going ++ [])) [] (under_at n t r (was_given None) never (going ++ []) [] now_there there (append-nil going ∙ none) tt);
         brings = brings_refused n s t (was_given (Some asked)) (was_given None) (u ∷ []) (deny reason ∷ []) [] here now_there (record { is = refl; more = λ units. refl; may = (refl, tt); becomes = refl });
         others_stay = λ q apart. ap (λ (v : Option Connection). if◌then◌else◌ {A = Place} (nat_lt s.given q) never (was_given v)) (without_other q n s.live apart);
+        given = none_more s.given;
+        class = refl;
+        local = refl;
+        keeps = λ e. refl;
         lasts = j.lasts;
       };
       joined = record {

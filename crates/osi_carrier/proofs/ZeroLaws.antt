@@ -30,6 +30,7 @@ use Rattle.osi_carrier.specs.declared.ends.EndReason.TheVariants.{Closed}
 use Rattle.osi_carrier.proofs.Acting.{JoinedAt, Does}
 use Rattle.osi_carrier.proofs.Bringing.{same_like, brings_sent}
 use Rattle.osi_carrier.proofs.Changes.{open_is_linked}
+use Rattle.osi_carrier.proofs.Courses.{none_more}
 use Rattle.osi_carrier.proofs.Linked.{with_queues}
 use Rattle.osi_carrier.proofs.MeetingMessages.{pair_messages}
 use Rattle.osi_carrier.proofs.Meetings.{open_mirror, addressed_join}
@@ -214,6 +215,10 @@ accept_sends s r going coming c p octets j one other none is h short are =
             (now ∙ ap (λ (l : List Message). agree ∷ l) (ap (map message) (sym passes.rightward) ∙ map-append message (under_way (swapped p)) (octets ∷ [])));
         brings = brings_at r next (was_given (Some (linked 1 p.right))) place [] [] (message octets ∷ []) here now_there (brings_sent 1 p.right octets);
         others_stay = λ m apart. put_places r next (linked 1 link) m refl refl apart;
+        given = none_more r.given;
+        class = refl;
+        local = refl;
+        keeps = λ e. refl;
         lasts = other.lasts;
       };
       joined = record {

@@ -21,7 +21,7 @@ use Rattle.osi_carrier.specs.Meeting.{addressed}
 use Rattle.osi_carrier.specs.Messages.{Message, ask, agree, message, messages_to, messages_after, uncut_units}
 use Rattle.osi_carrier.specs.Negotiation.{proposal, acceptance, opened_link, agreed_size, confirmed}
 use Rattle.osi_carrier.specs.OpenLinks.{AreOpen, after_take, after_send}
-use Rattle.osi_carrier.specs.Progress.{not_yet, awaiting}
+use Rattle.osi_carrier.specs.Progress.{not_yet, awaiting, references_for}
 use Rattle.osi_carrier.specs.Pump.{pumped}
 use Rattle.osi_carrier.specs.React.{react, in_class, in_zero, to_only, to_connection, taking, settles, pumps, handed_out, answers, accepts, opens, has_peer, is_full}
 use Rattle.osi_carrier.specs.Rows.{Rows, value_at, put}
@@ -36,6 +36,7 @@ use Rattle.osi_carrier.proofs.AtReferences.{put_other}
 use Rattle.osi_carrier.proofs.Bringing.{same_like, brings_none, brings_sent, brings_given}
 use Rattle.osi_carrier.proofs.Changes.{linked_takes, open_is_linked}
 use Rattle.osi_carrier.proofs.CourseOpening.{push_places, react_request, confirm_to}
+use Rattle.osi_carrier.proofs.Courses.{none_more, IsIdle, idle_messages}
 use Rattle.osi_carrier.proofs.MeetingMessages.{pair_messages, told_tsdus}
 use Rattle.osi_carrier.proofs.Meetings.{addressed_join}
 use Rattle.osi_carrier.proofs.Proposals.{proposal_sendable, proposed_source, source_is, selects_zero, confirms_zero, answer_zero_sendable, opens_zero}
@@ -130,6 +131,10 @@ asks_first s r going coming calling to caller called terms one other none back f
             (under_is t r (was_given (Some asked)) never (going ++ request d ∷ []) (request d ∷ []) now_there there (ap (λ (l : List Value). l ++ request d ∷ []) none) all);
         brings = brings_at s t never (was_given (Some asked)) [] [] (ask ∷ []) here now_there (brings_none true not_yet awaiting None (Some asked) (ask ∷ []) refl refl);
         others_stay = λ q apart. push_places s t asked q refl refl (λ e. apart (e ∙ ap (λ (g : ℕ). g + 1) one.given));
+        given = refl;
+        class = refl;
+        local = refl;
+        keeps = λ e. refl;
         lasts = one.lasts;
       };
       joined = record {
@@ -222,6 +227,10 @@ request_taken s r going coming rest c caller called terms one other is back a cu
             (under_is t s place (was_given (Some asked)) (coming ++ confirm 1 answer ∷ []) (confirm 1 answer ∷ []) now_there there (ap (λ (l : List Value). l ++ confirm 1 answer ∷ []) back) (refl, tt));
         brings = brings_at r t never place (request c ∷ []) (ask ∷ []) (agree ∷ []) here now_there (record { is = refl; more = λ units. refl; may = (refl, tt); becomes = refl });
         others_stay = λ q apart. push_places r t (linked c.source link) q refl refl (λ e. apart (e ∙ ap (λ (g : ℕ). g + 1) other.given));
+        given = refl;
+        class = refl;
+        local = refl;
+        keeps = λ e. refl;
         lasts = other.lasts;
       };
       joined = record {
@@ -293,6 +302,10 @@ confirm_taken s r going coming rest c p caller called terms one other none is h 
         brings = brings_at s t (was_given (Some asked)) place (confirm 1 answer ∷ []) (agree ∷ []) [] here now_there
             (record { is = refl; more = λ units. ap (λ (b : List ℕ). agree ∷ messages_after b units) (sym begun); may = (refl, tt); becomes = refl });
         others_stay = λ q apart. put_places s t (linked 1 link) q refl refl apart;
+        given = none_more s.given;
+        class = refl;
+        local = refl;
+        keeps = λ e. refl;
         lasts = one.lasts;
       };
       joined = record {
@@ -352,6 +365,9 @@ pub record Talked (this other next : State) (going coming rest taken : List Valu
   pub coming_is : addressed 1 old.leftward ≡ taken ++ addressed 1 new.leftward
   pub open_links : AreOpen false new
 
+given_idle : (g : ℕ) (ms : List Message) → IsIdle ms → g ≡ g + references_for true ms []
+given_idle g ms h = let none = h.asks in omega arith
+
 pub talk_takes : (this other : State) (going coming rest : List Value) (p : LinkPair) (g : Given) (gs : List Given) → Talks this other going coming p → coming ≡ unit_of 1 g ∷ rest → p.leftward ≡ g ∷ gs →
     Talked this other (react (unit_of 1 g) this) going coming rest (unit_of 1 g ∷ []) [] p
 talk_takes this other going coming rest p g gs h cut e =
@@ -390,6 +406,10 @@ talk_takes this other going coming rest p g gs h cut e =
             (is ∙ ap (map message) (sym same) ∙ sym (append-nil (map message (under_way p))));
         brings = brings_at this next (was_given (Some (linked 1 p.left))) place (unit_of 1 g ∷ []) (map message got) [] here now_there (brings_given 1 g p.left t.link a.left.handed t.taken);
         others_stay = λ q apart. put_places this next (linked 1 link) q refl refl apart;
+        given = given_idle this.given (map message got) (idle_messages got);
+        class = sym ((idle_messages got).class (Some Zero) this.class);
+        local = refl;
+        keeps = λ e. refl;
         lasts = h.here.lasts;
       };
       here = one;
@@ -438,6 +458,10 @@ talk_sends this other going coming p octets h short are =
             (is ∙ ap (map message) (sym passes.rightward) ∙ map-append message (under_way p) (octets ∷ []));
         brings = brings_at this next (was_given (Some (linked 1 p.left))) place [] [] (message octets ∷ []) here now_there (brings_sent 1 p.left octets);
         others_stay = λ q apart. put_places this next (linked 1 link) q refl refl apart;
+        given = none_more this.given;
+        class = refl;
+        local = refl;
+        keeps = λ e. refl;
         lasts = h.here.lasts;
       };
       here = one;

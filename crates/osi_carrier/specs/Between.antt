@@ -1,6 +1,6 @@
 -- Two carriers and the octets between them, whatever was called, and whatever has become of them and of
 -- the byte connection.
-use Rattle.std.specs.Prelude.{◌≡◌, ◌≢◌, ℕ, ◌-◌, ◌≤◌, ◌||◌, Bool, true, false, not, List, [], ◌∷◌, ◌++◌, length, take, drop, Option, Some, None, is_some, IfSome, if◌then◌else◌}
+use Rattle.std.specs.Prelude.{◌≡◌, ◌≢◌, ℕ, ◌+◌, ◌-◌, ◌≤◌, ◌||◌, Bool, true, false, not, List, [], ◌∷◌, ◌++◌, length, take, drop, Option, Some, None, is_some, IfSome, if◌then◌else◌}
 use Rattle.std.specs.List.{flat_map, AllByRecursion}
 use Rattle.osi_tpkt.specs.Packet.{IsPartial}
 use Rattle.osi_tpdu.specs.Value.{Value}
@@ -10,15 +10,16 @@ use Rattle.osi_class.specs.declared.terms.Local.{Local}
 use Rattle.osi_carrier.specs.Addresses.{reference_of, units_of}
 use Rattle.osi_carrier.specs.Calls.{fresh_state}
 use Rattle.osi_carrier.specs.Coming.{IsSendable}
-use Rattle.osi_carrier.specs.Course.{Place, never, was_given, place_at, connection_in, answers_at, told_opening, BringsTo}
+use Rattle.osi_carrier.specs.Course.{Place, never, was_given, place_at, connection_in, answers_at, told_opening, progress_of, BringsTo}
 use Rattle.osi_carrier.specs.Happenings.{Happening, refused}
 use Rattle.osi_carrier.specs.Joined.{AreJoined, IsEmpty}
 use Rattle.osi_carrier.specs.Messages.{Message, deny, messages_after, uncut_units, unsent_at, begun_at, AreLike}
 use Rattle.osi_carrier.specs.Packets.{after_packet}
+use Rattle.osi_carrier.specs.Progress.{references_for, class_behind_all, leaves_use}
 use Rattle.osi_carrier.specs.React.{react}
 use Rattle.osi_carrier.specs.Refusing.{AreRefusing}
 use Rattle.osi_carrier.specs.State.{Connection, State, packets, ends}
-use Rattle.osi_carrier.specs.Terms.{Terms, by_two, by_zero, refusing, accepts_in}
+use Rattle.osi_carrier.specs.Terms.{Terms, by_two, by_zero, refusing, accepts_in, class_of}
 use Rattle.osi_carrier.specs.Zero.{AreJoinedZero}
 use Rattle.osi_carrier.specs.declared.ends.EndReason.{EndReason}
 
@@ -161,6 +162,12 @@ pub record Carries (terms : Terms) (end : Bool) (n : ℕ) (old new : Both) (b c 
   pub brings : BringsTo (accepts_in terms) (place_at n (last_of end b)) (place_at n (last_of end c)) taken arrived put
   pub others : (q : ℕ) → q ≢ n → (from : Bool) → under_way from q old b ≡ under_way from q new c
   pub other_places : (q : ℕ) → q ≢ n → place_at q (last_of end c) ≡ place_at q (last_of end b)
+  -- it gave a reference for each connection that it asked for or accepted, and agreed the class
+  pub given : (last_of end c).given ≡ (last_of end b).given + references_for (accepts_in terms) arrived put
+  pub class : (last_of end c).class ≡ class_behind_all (class_of terms) (last_of end b).class arrived
+  pub local : (last_of end c).local ≡ (last_of end b).local
+  -- of what is under way from it some is lost only where the connection is open no more
+  pub keeps : leaves_use (progress_of (place_at n (last_of end b))) (progress_of (place_at n (last_of end c))) ≡ false → gone ≡ []
   pub there : last_of (not end) c ≡ last_of (not end) b
   -- the units that are on the way to it are those behind what it took
   pub cut : units_from (not end) b ≡ taken ++ units_from (not end) c
@@ -196,6 +203,8 @@ pub record Same (terms : Terms) (old new : Both) (b : Between) : Type 0 where
   pub lost : (end : Bool) → lost_from end now ≡ lost_from end b
   pub under : (end : Bool) (n : ℕ) → under_way end n old b ≡ under_way end n new now
   pub stays : (end : Bool) (n : ℕ) → place_at n (last_of end now) ≡ place_at n (last_of end b)
+  pub given : (end : Bool) → (last_of end now).given ≡ (last_of end b).given
+  pub class : (end : Bool) → (last_of end now).class ≡ (last_of end b).class
 
 abbrev pub reach_less : Bool → ℕ → Option (ℕ × ℕ) → Option (ℕ × ℕ)
 reach_less end k None = None
@@ -246,7 +255,12 @@ pub record Lost (terms : Terms) (old new : Both) (b : Between) : Type 0 where
   pub between : AreBetween terms new now
   pub units : (end : Bool) → units_from end b ++ lost_from end b ≡ units_from end now ++ lost_from end now
   pub loses : (end : Bool) (n : ℕ) → Loses end n old new b now
+  -- what was cut off stays so, and from an end that is not cut off nothing was lost
+  pub cut : (end : Bool) → is_cut end old ≡ true → is_cut end new ≡ true
+  pub whole : (end : Bool) (n : ℕ) → is_cut end new ≡ false → under_way end n old b ≡ under_way end n new now
   pub stays : (end : Bool) (n : ℕ) → place_at n (last_of end now) ≡ place_at n (last_of end b)
+  pub given : (end : Bool) → (last_of end now).given ≡ (last_of end b).given
+  pub class : (end : Bool) → (last_of end now).class ≡ (last_of end b).class
 
 -- ---- nothing is on the way
 

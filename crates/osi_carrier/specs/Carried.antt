@@ -1,5 +1,5 @@
 -- Which TSDUs of a connection were handed in, and which were told, over a list of what happened.
-use Rattle.std.specs.Prelude.{◌≡◌, ℕ, ◌==◌, Bool, true, false, List, [], ◌∷◌, ◌++◌, length, drop, ◌⊎◌, if◌then◌else◌}
+use Rattle.std.specs.Prelude.{◌≡◌, ℕ, ◌==◌, Bool, true, false, List, [], ◌∷◌, ◌++◌, length, drop, if◌then◌else◌}
 use Rattle.osi_carrier.specs.Between.{Both}
 use Rattle.osi_carrier.specs.Happenings.{Happening, opened, refused, tsdu, closed, faulted}
 use Rattle.osi_carrier.specs.Journey.{Move, takes, hands_in, moved}
@@ -50,8 +50,7 @@ abbrev pub all_handed_in : Bool → ℕ → List Move → List (List ℕ)
 all_handed_in end n [] = []
 all_handed_in end n (m ∷ ms) = handed_in end n m ++ all_handed_in end n ms
 
--- each of these, in their order, is one of those
-abbrev pub AreAmong : List (List ℕ) → List (List ℕ) → Type 0
-AreAmong [] others = Unit {0}
-AreAmong (x ∷ xs) [] = ⊥
-AreAmong (x ∷ xs) (y ∷ ys) = ((x ≡ y) × AreAmong xs ys) ⊎ AreAmong (x ∷ xs) ys
+-- these are the first of those, in their order
+pub record AreFirstOf (some all : List (List ℕ)) : Type 0 where
+  pub more : List (List ℕ)
+  pub is : all ≡ some ++ more

@@ -17,7 +17,7 @@ use Rattle.osi_carrier.specs.Meeting as meeting
 use Rattle.osi_carrier.specs.Messages.{Message, ask, agree, deny, message, bye, over, messages_to, AreLike}
 use Rattle.osi_carrier.specs.Negotiation.{proposal_by, acceptance, agreed_size, opened_link}
 use Rattle.osi_carrier.specs.OpenLinks.{AreOpen}
-use Rattle.osi_carrier.specs.Progress.{Progress, not_yet, progress_in, Brings}
+use Rattle.osi_carrier.specs.Progress.{Progress, not_yet, progress_in, asks_in, class_behind_all, leaves_use, Brings}
 use Rattle.osi_carrier.specs.Rows.{value_at}
 use Rattle.osi_carrier.specs.State.{Connection, asked, linked, closing, State, packets}
 
@@ -214,3 +214,6 @@ pub record CourseMoves (end : Bool) (n : ℕ) (old : Course) (this other next : 
   pub places : KeepsPlaces end this next taken
   pub carries : CourseCarries end n (called_local end this other) old new events put
   pub brings : BringsTo true (at_end end n old) (at_end end n new) taken carries.arrived put
+  pub keeps : leaves_use (progress_of (at_end end n old)) (progress_of (at_end end n new)) ≡ false → carries.lost ≡ []
+  pub gives : asked ≡ asks_in carries.arrived + asks_in put
+  pub settles : next.class ≡ class_behind_all (Some Two) this.class carries.arrived

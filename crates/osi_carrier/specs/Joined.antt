@@ -1,14 +1,16 @@
 -- Two carriers that both support class 2, and the units between them: a caller's and a called end's.
-use Rattle.std.specs.Prelude.{◌≡◌, ◌≢◌, ℕ, ◌+◌, ◌<◌, Bool, true, false, not, List, [], ◌∷◌, ◌++◌, length, None}
+use Rattle.std.specs.Prelude.{◌≡◌, ◌≢◌, ℕ, ◌+◌, ◌<◌, Bool, true, false, not, List, [], ◌∷◌, ◌++◌, length, Some, None}
 use Rattle.std.specs.List.{flat_map, AllByRecursion}
 use Rattle.osi_tpdu.specs.Value.{Value, request, confirm, disconnect, disconnected, data0, data2, acknowledge, error}
 use Rattle.osi_class.specs.Link.{Standing}
+use Rattle.osi_class.specs.declared.terms.Class.TheVariants.{Two}
 use Rattle.osi_carrier.specs.Addresses.{AreFor, reference_of, units_of, live_behind, references, requests, behind}
 use Rattle.osi_carrier.specs.Coming.{IsSendable}
-use Rattle.osi_carrier.specs.Course.{place_at, connection_in, Course, at_end, from_end, MayTakeTwo, HoldsAt, called_local, told_opening, BringsTo}
+use Rattle.osi_carrier.specs.Course.{place_at, connection_in, Course, at_end, from_end, MayTakeTwo, HoldsAt, called_local, told_opening, progress_of, BringsTo}
 use Rattle.osi_carrier.specs.Happenings.{Happening}
 use Rattle.osi_carrier.specs.Messages.{Message, messages_to, AreLike}
 use Rattle.osi_carrier.specs.Orderly.{IsOrderly}
+use Rattle.osi_carrier.specs.Progress.{references_for, class_behind_all, leaves_use}
 use Rattle.osi_carrier.specs.State.{State, packets}
 
 -- How a connection stands at an end (`this`) and the other, with these units on the way from this end
@@ -86,6 +88,10 @@ pub record ActsFor (n : ℕ) (this other next : State) (going coming behind rest
   pub all_for : AreFor n taken
   pub written_for : AreFor n units
   pub brings : BringsTo true (place_at n this) (place_at n next) taken arrived put
+  pub given : next.given ≡ this.given + references_for true arrived put
+  pub class : next.class ≡ class_behind_all (Some Two) this.class arrived
+  pub local : next.local ≡ this.local
+  pub keeps : leaves_use (progress_of (place_at n this)) (progress_of (place_at n next)) ≡ false → lost ≡ []
 
 -- what the caller did (it was `caller` and is `next`), and that the two are joined then
 pub record CallerDid (n : ℕ) (caller called next : State) (going coming rest : List Value) (put : List Message) : Type 0 where

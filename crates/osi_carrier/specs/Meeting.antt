@@ -12,7 +12,7 @@ use Rattle.osi_carrier.specs.Happenings.{Happening, tsdu, closed}
 use Rattle.osi_carrier.specs.Messages.{Message, ask, agree, deny, message, bye, over, messages_to, AreLike}
 use Rattle.osi_carrier.specs.OpenLinks.{AreOpen}
 use Rattle.osi_carrier.specs.Orderly.{IsOrderly}
-use Rattle.osi_carrier.specs.Progress.{Brings, progress_in}
+use Rattle.osi_carrier.specs.Progress.{Brings, progress_in, leaves_use}
 use Rattle.osi_carrier.specs.Rows.{Rows, value_at, put, without}
 use Rattle.osi_carrier.specs.State.{Connection, asked, linked, closing, State, packets}
 
@@ -192,3 +192,4 @@ pub record Moves (n : ℕ) (old : Meeting) (s t : State) (taken : List Value) (p
   pub stands : Stands new
   pub carries : Carries n old new events put
   pub brings : Brings true (progress_in (here n old)) (progress_in (here n new)) (here n old) (here n new) taken carries.arrived put
+  pub keeps : leaves_use (progress_in (here n old)) (progress_in (here n new)) ≡ false → carries.lost ≡ []

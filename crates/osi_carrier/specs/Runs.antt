@@ -115,3 +115,9 @@ pub record AreAlike (a : Carrying) (xs : List Call) (b : Carrying) (ys : List Ca
   pub octets : a.held.octets ≡ b.held.octets
   pub offset : a.held.offset ≡ b.held.offset
   pub state : put_back (flat_map told_in xs) (flat_map carried_in xs) a.state ≡ put_back (flat_map told_in ys) (flat_map carried_in ys) b.state
+
+-- two carriers that ended so: neither holds anything
+pub record EndAlike (a : Carrying) (xs : List Call) (b : Carrying) (ys : List Call) : Type 0 where
+  pub octets : a.held.octets ≡ []
+  pub octets_too : b.held.octets ≡ []
+  pub state : put_back (flat_map told_in xs) (flat_map carried_in xs) a.state ≡ put_back (flat_map told_in ys) (flat_map carried_in ys) b.state

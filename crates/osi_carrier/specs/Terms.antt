@@ -1,6 +1,8 @@
 -- What a caller and a called end come to, by what each supports: the answer to every CR between them.
-use Rattle.std.specs.Prelude.{◌≡◌, ℕ, Bool, true, false, ◌&&◌, List, Option, None, if◌then◌else◌}
+use Rattle.std.specs.Prelude.{◌≡◌, ℕ, Bool, true, false, ◌&&◌, List, Option, Some, None, if◌then◌else◌}
 use Rattle.osi_tpdu.specs.Value.{Connect}
+use Rattle.osi_class.specs.declared.terms.Class.{Class}
+use Rattle.osi_class.specs.declared.terms.Class.TheVariants.{Zero, Two}
 use Rattle.osi_class.specs.declared.terms.Local.{Local}
 use Rattle.osi_carrier.specs.Course.{IsTsap}
 use Rattle.osi_carrier.specs.Negotiation.{proposes_zero, proposal}
@@ -24,6 +26,12 @@ abbrev pub accepts_in : Terms → Bool
 accepts_in by_two = true
 accepts_in by_zero = true
 accepts_in (refusing reason) = false
+
+-- the class that they agree on, if any
+abbrev pub class_of : Terms → Option Class
+class_of by_two = Some Two
+class_of by_zero = Some Zero
+class_of (refusing reason) = None
 
 -- a CR that the caller wrote before a class held
 pub record IsProposed (n : ℕ) (caller : Local) (c : Connect) : Type 0 where

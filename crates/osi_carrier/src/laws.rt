@@ -1,6 +1,6 @@
 //! Laws of carriers. Each function does nothing: its clauses are the laws.
 
-ghost use Rattle.std.specs.Prelude.{◌≡◌, ◌<◌, ◌≤◌, ◌^◌, ◌==◌, ◌&&◌, not, ◌⊎◌, ℕ, Bool, List, [], Option, Some, None};
+ghost use Rattle.std.specs.Prelude.{◌≡◌, ◌≢◌, ◌<◌, ◌≤◌, ◌^◌, ◌==◌, ◌&&◌, not, ◌⊎◌, ℕ, Bool, List, [], Option, Some, None};
 ghost use Rattle.std.specs.List.{flat_map};
 ghost use Rattle.osi_tpkt.specs.Packet.{IsPartial};
 ghost use Rattle.osi_tpdu.specs.Value.{Value};
@@ -11,7 +11,7 @@ ghost use Rattle.osi_carrier.specs.Orderly.{IsOrderly, ChangesOne, connection_of
 ghost use Rattle.osi_carrier.specs.Packets.{Carrying, after_packet};
 ghost use Rattle.osi_carrier.specs.React.{react};
 ghost use Rattle.osi_carrier.specs.Rows.{value_at};
-ghost use Rattle.osi_carrier.specs.Runs.{Call, CallsAlong, Reads, AreAlike, called_in, used_in};
+ghost use Rattle.osi_carrier.specs.Runs.{Call, CallsAlong, Reads, AreAlike, EndAlike, called_in, used_in};
 ghost use Rattle.osi_carrier.specs.State.{State, ends};
 ghost use Rattle.osi_carrier.specs.Told.{TellsOpen, is_open};
 ghost use Rattle.osi_carrier.specs.declared.ends.EndReason.{EndReason};
@@ -53,7 +53,8 @@ pub fn no_reference_is_given_twice()
 /// held and used acted, each whole and in order, with the user's calls between them, and nothing else
 /// did. So where the user only takes events and octets away, the pieces in which the octets came do not
 /// matter; and where they did not end the carrier in one list of pieces, they do in no other, but for
-/// want of memory.
+/// want of memory. Where they end it, they end it for the same reason and leave it the same, whatever the
+/// pieces, want of memory aside.
 pub fn the_pieces_do_not_matter()
     ensures calls { (old new : Carrying) (calls : List Call) → CallsAlong old calls new → new.state.ended ≡ None → Reads old calls new }
     ensures pieces { (old a b : Carrying) (xs ys : List Call) → IsPartial old.held.octets → old.held.offset < 2 ^ 64 →
@@ -62,6 +63,10 @@ pub fn the_pieces_do_not_matter()
     ensures lasts { (old a b : Carrying) (xs ys : List Call) → IsPartial old.held.octets → old.state.ended ≡ None →
         CallsAlong old xs a → CallsAlong old ys b → flat_map called_in xs ≡ [] → flat_map called_in ys ≡ [] →
         flat_map used_in xs ≡ flat_map used_in ys → a.state.ended ≡ None → (b.state.ended ≡ None) ⊎ (b.state.ended ≡ Some NoMemory) }
+    ensures ends { (old a b : Carrying) (xs ys : List Call) → IsPartial old.held.octets → old.held.offset < 2 ^ 64 → old.state.ended ≡ None →
+        CallsAlong old xs a → CallsAlong old ys b → flat_map called_in xs ≡ [] → flat_map called_in ys ≡ [] →
+        flat_map used_in xs ≡ flat_map used_in ys → a.state.ended ≢ None → a.state.ended ≢ Some NoMemory → b.state.ended ≢ Some NoMemory →
+        EndAlike a xs b ys }
 {
     a_prefix_of_a_packet();
     a_stream_has_one_cut();

@@ -18,7 +18,7 @@ ghost use Rattle.osi_carrier.specs.declared.ends.EndReason.TheVariants.{Closed, 
 ghost use Rattle.osi_tpkt.specs.Packet.{IsPacket, IsFaultOf, packet_of};
 ghost use Rattle.osi_tpkt.specs.declared.faults.TpktFault.{TpktFault};
 ghost use Rattle.osi_carrier.specs.Calls.{fresh_state, may_connect, asks, sent, closed_with};
-ghost use Rattle.osi_carrier.specs.Carried.{tsdus_in, all_told, all_handed_in, AreAmong};
+ghost use Rattle.osi_carrier.specs.Carried.{tsdus_in, all_told, all_handed_in, AreFirstOf};
 ghost use Rattle.osi_carrier.specs.Coming.{IsSendable, AreComing, TakesSome};
 ghost use Rattle.osi_carrier.specs.Course.{place_at, answers_at, IsTsap};
 ghost use Rattle.osi_carrier.specs.Joined.{AreJoined, CallerDid, CalledDid, IsEmpty, under_way_for};
@@ -30,7 +30,7 @@ ghost use Rattle.osi_carrier.specs.Messages.{Message, ask, message, bye};
 ghost use Rattle.osi_carrier.specs.Packets.{Carrying, Feeds, after_packet, Acts, Starves};
 ghost use Rattle.osi_carrier.specs.React.{react};
 ghost use Rattle.osi_carrier.specs.Rows.{value_at};
-ghost use Rattle.osi_carrier.specs.State.{State, linked, packets, ends};
+ghost use Rattle.osi_carrier.specs.State.{Connection, asked, State, linked, packets, ends};
 
 /// A connection of class 2 that both carriers have had open, seen from one of them. The oldest unit
 /// that is under way to it is taken, and no fault comes of it, nor an end: it is a DT or an AK that
@@ -129,7 +129,9 @@ pub fn two_carriers_stay_linked()
 /// connection breaks. A packet is one unit, and of what the other wrote comes neither an end nor a fault. What
 /// was under way to the end that acts arrived and was told, or still is; what is under way from it stays, and
 /// what is put comes behind, but for what a close takes away; an end and a break take the last of what is
-/// under way, and after a break nothing that is put arrives. In class 0 a close ends the carrier.
+/// under way, and after a break nothing that is put arrives. A reference is given for each connection that
+/// is asked for or accepted, and no other, and a CC or a CR that is accepted settles the class. In class 0 a
+/// close ends the carrier.
 pub fn whatever_becomes_of_two_carriers()
     ensures begins { (caller called : Local) → AreBetween (terms_of caller called) (fresh_both caller called) (fresh_between caller called) }
     ensures taken { (terms : Terms) (end : Bool) (both : Both) (b : Between) (packet octets behind : List ℕ) → AreBetween terms both b →
@@ -183,16 +185,27 @@ pub fn what_an_end_holds()
 /// Over every list of what can happen to two new carriers: calls at both, octets that are handed over in
 /// whatever pieces, packets that are taken, events that are told, ends and a break, in any order in which they
 /// may happen. The TSDUs that are told at one end for a connection are, in their order and with their octets,
-/// of those that were under way to it and then those that were handed in at the other, and no others. The two
+/// the first of those that were under way to it and then of those that were handed in at the other. The two
 /// then stand between as they should; and an end has ended for no other reason than the list gives: a close of the connection of class 0,
 /// or an end of its own. So neither ends by what the other wrote.
 pub fn what_no_list_of_calls_can_do()
     ensures stays { (caller called : Local) (moves : List Move) → MayAll moves (fresh_both caller called) →
         StayBetween (terms_of caller called) moves (fresh_both caller called) }
     ensures told { (caller called : Local) (moves : List Move) (from : Bool) (n : ℕ) → MayAll moves (fresh_both caller called) →
-        AreAmong (all_told (not from) n moves (fresh_both caller called)) (all_handed_in from n moves) }
+        AreFirstOf (all_told (not from) n moves (fresh_both caller called)) (all_handed_in from n moves) }
     ensures told_on { (terms : Terms) (moves : List Move) (both : Both) (b : Between) (from : Bool) (n : ℕ) → AreBetween terms both b → MayAll moves both →
-        AreAmong (all_told (not from) n moves both) (tsdus_in (under_way from n both b) ++ all_handed_in from n moves) }
+        AreFirstOf (all_told (not from) n moves both) (tsdus_in (under_way from n both b) ++ all_handed_in from n moves) }
     ensures goes_on { (terms : Terms) (moves : List Move) (both : Both) (b : Between) → AreBetween terms both b → MayAll moves both →
         StayBetween terms moves both }
+{}
+
+/// What two carriers have. For a reference that the caller did not give nothing is under way, and the called
+/// end gave none that the caller did not; before a class holds, each connection that is live at the caller
+/// awaits its answer.
+pub fn what_two_carriers_have()
+    ensures ahead { (terms : Terms) (both : Both) (b : Between) (end : Bool) (n : ℕ) → AreBetween terms both b → b.caller.given < n → under_way end n both b ≡ [] }
+    ensures behind { (terms : Terms) (both : Both) (b : Between) → AreBetween terms both b → b.called.given ≤ b.caller.given }
+    ensures awaits { (terms : Terms) (both : Both) (b : Between) (n : ℕ) (x : Connection) → AreBetween terms both b → b.caller.class ≡ None →
+        value_at n b.caller.live ≡ Some x → x ≡ asked }
+    ensures roles { (terms : Terms) (both : Both) (b : Between) → AreBetween terms both b → (b.caller.is_caller ≡ true) × (b.called.is_caller ≡ false) }
 {}

@@ -1,4 +1,4 @@
-use Rattle.std.proofs.Common.{◌≡◌, ◌<◌, ◌≤◌, [], ◌∷◌, ◌++◌, ap, ◌∙◌, arith}
+use Rattle.std.proofs.Common.{[], ◌∷◌, ◌++◌, ap, ◌∙◌, arith}
 use Rattle.osi_class.specs.AnyLink.{any_standing}
 use Rattle.osi_class.specs.Link.{given, unit_of, with_tsdu}
 use Rattle.osi_carrier.specs.State.{packets}
