@@ -8,7 +8,8 @@ use Rattle.std.proofs.lemmas.List.Quantifiers.{position-Some}
 use Rattle.osi_carrier.specs.Rows.{Rows}
 use Rattle.osi_session.specs.Shown.{Shown}
 use Rattle.osi_stack.specs.Calls.{first_by, first_shown, rest_by, without_first, TellsOf}
-use Rattle.osi_stack.specs.State.{Line, line_waits}
+use Rattle.osi_stack.specs.State.{Line, line_waits, waits}
+use Rattle.osi_stack.proofs.Lifting.{or_first, or_second}
 
 -- ---- nothing waits
 
@@ -46,6 +47,11 @@ none_at ((r, l) ∷ rows) h = none_by r l rows (line_waits l) refl (none_at rows
 
 pub none_waits : (rows : Rows Line) → position (λ row. line_waits row.1) rows ≡ None → IsNone rows
 none_waits rows e = none_at rows (grind (arith, common_steps))
+
+pub quiet_none : (rows : Rows Line) → waits rows ≡ false → IsNone rows
+quiet_none [] h = record { shown = refl; rest = refl }
+quiet_none ((r, l) ∷ rows) h =
+    none_cons r l rows (quiet_line l (or_first (line_waits l) (waits rows) h)) (quiet_none rows (or_second (line_waits l) (waits rows) h))
 
 -- ---- the first that waits
 

@@ -140,7 +140,7 @@ concludes_by false e all = all
 attends_all : ((units : Units) → HasNumbers (taken (said_by_units units))) → (e : End) → AllCameAbout e.lines → AllCameAbout (attends e).lines
 attends_all law e all = concludes_by (is_some (hears_all e).carrier.ended) (hears_all e) (times_all law (length e.carrier.events) e all)
 
-packet_all : ((units : Units) → HasNumbers (taken (said_by_units units))) → (packet : List ℕ) (e : End) → AllCameAbout e.lines → AllCameAbout (after_packet e packet).lines
+pub packet_all : ((units : Units) → HasNumbers (taken (said_by_units units))) → (packet : List ℕ) (e : End) → AllCameAbout e.lines → AllCameAbout (after_packet e packet).lines
 packet_all law packet e all =
     subst (λ (x : End). AllCameAbout x.lines) (sym (packet_is e packet)) (attends_all law (with_carrier (carriers.after_packet e.carrier packet) e) all)
 

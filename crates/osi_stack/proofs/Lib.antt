@@ -16,3 +16,6 @@ pub mod Folds
 pub mod Shortness
 pub mod Answering
 pub mod Attending
+pub mod Rising
+pub mod Waiting
+pub mod Settling

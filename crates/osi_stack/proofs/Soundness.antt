@@ -57,24 +57,24 @@ rises_by r old new (inl kept) = let same = kept.given in omega arith
 rises_by r old new (inr (inl joined)) = let more = joined.given in omega arith
 rises_by r old new (inr (inr over)) = let same = over.given in omega arith
 
-units_rise : (units : List Value) (c : Carrier) → c.given ≤ (reacts units c).given
+pub units_rise : (units : List Value) (c : Carrier) → c.given ≤ (reacts units c).given
 units_rise [] c = omega arith
 units_rise (unit ∷ units) c =
     let first = rises_by (connection_of unit c) c (carrier_react unit c) (effect unit c).how in
     let more = units_rise units (carrier_react unit c) in
     omega arith
 
-acts_rise : (units : Result (List Value) TpduFault) (c : Carrier) → c.given ≤ (carriers.acts_by units c).given
+pub acts_rise : (units : Result (List Value) TpduFault) (c : Carrier) → c.given ≤ (carriers.acts_by units c).given
 acts_rise (Ok units) c = units_rise units c
 acts_rise (Err fault) c = omega arith
 
-packet_rises : (packet : List ℕ) (c : Carrier) → c.given ≤ (carriers.after_packet c packet).given
+pub packet_rises : (packet : List ℕ) (c : Carrier) → c.given ≤ (carriers.after_packet c packet).given
 unfolding carriers.after_packet
 packet_rises packet c = acts_rise (units_of packet) c
 
 -- ---- references of lines
 
-up_more : (m n : ℕ) (lines : Rows Line) → m ≤ n → AreUpTo m lines → AreUpTo n lines
+pub up_more : (m n : ℕ) (lines : Rows Line) → m ≤ n → AreUpTo m lines → AreUpTo n lines
 up_more m n [] less up = tt
 up_more m n ((r, line) ∷ lines) less up = ((let here = up.0 in omega arith), up_more m n lines less up.1)
 
@@ -138,7 +138,7 @@ answers_leave true r tsdu c = record { orderly = orderly_closed r 128 c; given =
 answers_leave false r None c = leaves_same c
 answers_leave false r (Some tsdu) c = unless_leaves (send_error tsdu (open_link r c)) r tsdu c
 
-carrier_leaves : (r : ℕ) (o : Option Standing) (input : Input) (c : Carrier) → Leaves c (carrier_by r o input c)
+pub carrier_leaves : (r : ℕ) (o : Option Standing) (input : Input) (c : Carrier) → Leaves c (carrier_by r o input c)
 carrier_leaves r None input c = leaves_same c
 carrier_leaves r (Some s) input c = answers_leave (react s input).closes r _ c
 
@@ -178,7 +178,7 @@ first_fits [] e f = f
 first_fits (event ∷ rest) e f =
     hears_fits event (with_events rest e) (record { orderly = orderly_same e.carrier e.carrier.outgoing rest f.orderly; known = f.known })
 
-times_fits : (n : ℕ) (e : End) → Fits e → Fits (hears_times n e)
+pub times_fits : (n : ℕ) (e : End) → Fits e → Fits (hears_times n e)
 times_fits zero e f = f
 times_fits (suc n) e f = times_fits n (hears_next e) (first_fits e.carrier.events e f)
 
@@ -261,7 +261,7 @@ call_sound laws r call e sound over =
       links = linked_links (to_session r (called call) e) (λ x. all);
     }
 
-open_none : (o : Option OpenError) (error : Option ConnectError) → after_open o error ≡ None → o ≡ None
+pub open_none : (o : Option OpenError) (error : Option ConnectError) → after_open o error ≡ None → o ≡ None
 open_none None error h = refl
 open_none (Some e) error h = cc
 
@@ -369,7 +369,7 @@ breaks_sound e = breaks_by e.carrier.ended e refl
 
 -- ---- feeding
 
-lasting_of : (o : Option EndReason) (b : Bool) → (is_some o || b) ≡ false → o ≡ None
+pub lasting_of : (o : Option EndReason) (b : Bool) → (is_some o || b) ≡ false → o ≡ None
 lasting_of None b h = refl
 lasting_of (Some reason) b h = cc
 

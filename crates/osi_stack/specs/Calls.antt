@@ -144,6 +144,10 @@ call_error r call e = if not (has_given r e.carrier) then Some error.NoSuchConne
 abbrev pub table_error : ℕ → Call → End → Option CallError
 table_error r call e = if not (has_given r e.carrier) then Some error.NoSuchConnection else session_error (session_at r e) call
 
+-- an error as the rules give it: want of memory comes where they give none
+abbrev pub by_rule : CallError → Option CallError
+by_rule e = if is_memory e then None else Some e
+
 -- ---- what a session holds
 
 abbrev pub held_by : Option Standing → Tokens

@@ -10,3 +10,4 @@ pub mod Links
 pub mod Calls
 pub mod Fetching
 pub mod Folds
+pub mod Settled

@@ -1,6 +1,6 @@
 -- One end of a byte connection: the carrier, and for each of its connections a session.
 use Rattle.std.specs.Prelude.{◌≡◌, ℕ, Bool, true, false, not, ◌&&◌, ◌||◌, List, [], ◌∷◌, ◌++◌, Option, Some, None, is_some, length, ◌==◌, if◌then◌else◌}
-use Rattle.std.specs.List.{list_any, filter}
+use Rattle.std.specs.List.{list_any, count_by, filter}
 use Rattle.osi_tpkt.specs.Held.{Held}
 use Rattle.osi_class.specs.declared.terms.Local.{Local}
 use Rattle.osi_carrier.specs.Calls.{fresh_state}
@@ -48,6 +48,10 @@ line_waits line = not (length line.waiting == 0)
 -- an indication waits
 abbrev pub waits : Rows Line → Bool
 waits lines = list_any (λ row. line_waits row.1) lines
+
+-- for how many connections one does
+abbrev pub how_many_wait : Rows Line → ℕ
+how_many_wait lines = count_by (λ row. line_waits row.1) lines
 
 -- ---- a new connection
 

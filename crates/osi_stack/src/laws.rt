@@ -1,11 +1,12 @@
 //! Laws of one end. Each function does nothing: its clauses are the laws.
 
-ghost use Rattle.std.specs.Prelude.{◌≡◌, ◌≤◌, ℕ, Bool, List, [], None, is_some, false, true, length, take};
+ghost use Rattle.std.specs.Prelude.{◌≡◌, ◌<◌, ◌≤◌, ℕ, Bool, List, [], None, IsSome, is_some, false, true, length, take};
 ghost use Rattle.osi_tpkt.specs.declared.cutting.Fed.{Fed};
 ghost use Rattle.osi_tpdu.specs.Value.{Value};
 ghost use Rattle.osi_tpdu.specs.Writing.{written};
 ghost use Rattle.osi_carrier.specs.Coming.{IsSendable, AreComing};
 ghost use Rattle.osi_carrier.specs.Course.{Place};
+ghost use Rattle.osi_carrier.specs.Orderly.{RiseFrom};
 ghost use Rattle.osi_carrier.specs.React.{react as carrier_react};
 ghost use Rattle.osi_carrier.specs.Rows.{Rows, value_at};
 ghost use Rattle.osi_carrier.specs.State.{Connection};
@@ -19,9 +20,10 @@ ghost use Rattle.osi_class.specs.declared.terms.Local.{Local};
 ghost use Rattle.osi_stack.specs.Coming.{after_unit, TakesSome};
 ghost use Rattle.osi_stack.specs.Feeding.{Feeds};
 ghost use Rattle.osi_stack.specs.Hearing.{after_packet, all_lost};
-ghost use Rattle.osi_stack.specs.Messages.{Message, IsWhole, Acts, effect_at, told_at, CanHear, Arrives, kept_at, Becomes, Says, AreLost, all_waiting, IsFirstOf};
+ghost use Rattle.osi_stack.specs.Messages.{Message, Effect, begins, IsWhole, Acts, effect_at, told_at, CanHear, Arrives, kept_at, Becomes, Says, AreLost, all_waiting, IsFirstOf};
 ghost use Rattle.osi_stack.specs.Moving.{to_session};
-ghost use Rattle.osi_stack.specs.State.{Line, End, Holding, IsAttended, fresh_end, waits, used_lines};
+ghost use Rattle.osi_stack.specs.Settled.{IsSettled};
+ghost use Rattle.osi_stack.specs.State.{Line, End, Holding, IsAttended, fresh_end, session_at, waits, used_lines};
 
 use osi_message::laws::what_is_sent_is_read;
 use osi_session::laws::{
@@ -86,6 +88,7 @@ pub fn a_session_that_is_called_has_a_connection()
     ensures shown { (e : End) → IsSound e → IsSound (record e { lines = without_first e.lines }) }
     ensures carried { (octets : ℕ) (e : End) → IsSound e → IsSound (carried octets e) }
     ensures broken { (e : End) → IsSound (breaks e) }
+    ensures heard { (e : End) (unit : Value) → IsSendable unit → e.carrier.ended ≡ None → IsAttended e → IsSound e → IsSound (after_unit e unit) }
 {
     an_ended_session_stays_ended();
     what_closes_sends_nothing();
@@ -101,6 +104,7 @@ pub fn a_session_is_what_its_inputs_made_it()
     ensures fed { (old new : Holding) (piece : List ℕ) (fed : Fed) → Feeds old piece fed new → AllCameAbout old.end.lines → AllCameAbout new.end.lines }
     ensures shown { (lines : Rows Line) → AllCameAbout lines → AllCameAbout (without_first lines) }
     ensures broken { (e : End) → AllCameAbout e.lines → AllCameAbout (breaks e).lines }
+    ensures heard { (e : End) (unit : Value) → IsSendable unit → AllCameAbout e.lines → AllCameAbout (after_unit e unit).lines }
 {
     what_happens_has_numbers();
 }
@@ -110,6 +114,53 @@ pub fn a_session_is_what_its_inputs_made_it()
 pub fn a_call_is_answered_by_its_session()
     ensures { (r : ℕ) (call : Call) (e : End) → HasSerial call → e.carrier.ended ≡ None → Soundness e → AllCameAbout e.lines →
         call_error r call e ≡ table_error r call e }
+{
+    few_octets_fit();
+    serial_digits();
+    numbers_stay_in_order();
+    what_is_sent_can_be_sent();
+    what_an_accepted_call_passed();
+    where_a_call_is_accepted();
+}
+
+/// The lines of an end stand in the order in which their references were given, whatever is called, told and
+/// lost, and whatever message arrives: a connection that begins has a reference above those given before. So
+/// what is told first is that of the lowest reference.
+pub fn lines_rise_by_reference()
+    ensures begins { (is_caller : Bool) (local : Local) → RiseFrom 0 (fresh_end is_caller local).lines }
+    ensures connects { (c : Connect) (e : End) → Soundness e → RiseFrom 0 e.lines → RiseFrom 0 (connects c e).lines }
+    ensures called { (r : ℕ) (call : Call) (e : End) → RiseFrom 0 e.lines → RiseFrom 0 (to_session r (called call) e).lines }
+    ensures arrives { (r : ℕ) (effect : Effect) (unit : Value) (e new : End) → Arrives r effect unit e new → Soundness e →
+        (effect ≡ begins → e.carrier.given < r) → RiseFrom 0 e.lines → RiseFrom 0 new.lines }
+    ensures shown { (lines : Rows Line) → RiseFrom 0 lines → RiseFrom 0 (without_first lines) }
+    ensures broken { (e : End) → RiseFrom 0 e.lines → RiseFrom 0 (breaks e).lines }
+{}
+
+/// So between any two calls, whatever was called, fed, told and lost, what [`IsSettled`] says is true of an end:
+/// also once it has ended, when none of its connections is live. A stack keeps it.
+///
+/// [`IsSettled`]: ../specs/Settled.antt
+pub fn an_end_is_settled_between_calls()
+    ensures begins { (is_caller : Bool) (local : Local) → IsSettled (fresh_end is_caller local) }
+    ensures connects { (c : Connect) (e : End) → connect_error c e ≡ None → IsSettled e → IsSettled (connects c e) }
+    ensures called { (r : ℕ) (call : Call) (e : End) → HasSerial call → IsSettled e → IsSettled (to_session r (called call) e) }
+    ensures fed { (old new : Holding) (piece : List ℕ) (fed : Fed) → Feeds old piece fed new → IsSettled old.end → IsSettled new.end }
+    ensures shown { (e : End) → IsSettled e → IsSettled (record e { lines = without_first e.lines }) }
+    ensures carried { (octets : ℕ) (e : End) → IsSettled e → IsSettled (carried octets e) }
+    ensures broken { (e : End) → IsSettled e → IsSettled (breaks e) }
+    ensures over { (r : ℕ) (e : End) → IsSettled e → IsSome e.carrier.ended → session_at r e ≡ None }
+{
+    an_ended_session_stays_ended();
+    what_closes_sends_nothing();
+    where_a_call_is_accepted();
+    what_happens_has_numbers();
+}
+
+/// So between any two calls, also once an end has ended, a call is answered as the table of its session says,
+/// and once it has ended none is accepted.
+pub fn a_call_of_a_settled_end_is_answered_by_its_session()
+    ensures answered { (r : ℕ) (call : Call) (e : End) → HasSerial call → IsSettled e → call_error r call e ≡ table_error r call e }
+    ensures over { (r : ℕ) (call : Call) (e : End) → IsSettled e → IsSome e.carrier.ended → IsSome (call_error r call e) }
 {
     few_octets_fit();
     serial_digits();

@@ -1,6 +1,6 @@
 //! The sessions of one end, each with what its user is still to be shown.
 
-ghost use Rattle.std.specs.Prelude.{◌≡◌, ◌<◌, ◌++◌, ◌∷◌, ◌==◌, [], length, take, position, is_some, Some, None, IfOk, IfErr, OnOk, OnErr, option_map};
+ghost use Rattle.std.specs.Prelude.{◌≡◌, ◌+◌, ◌<◌, ◌++◌, ◌∷◌, ◌==◌, [], true, false, cond, length, take, position, is_some, Some, None, IfOk, IfErr, OnOk, OnErr, option_map};
 ghost use Rattle.std.specs.VecDeque.{deque_len, deque_capacity};
 ghost use Rattle.osi_carrier.specs.Rows.{value_at, place_of};
 ghost use Rattle.osi_session.specs.Calls.{called_by};
@@ -9,7 +9,7 @@ ghost use Rattle.osi_session.specs.Shown.{Lost, shown_by};
 ghost use Rattle.osi_stack.specs.Calls.{move_refusal, session_refusal, session_error, Refuses, first_shown, without_first, TellsOf};
 ghost use Rattle.osi_stack.specs.Hearing.{loses, all_lost};
 ghost use Rattle.osi_stack.specs.Moving.{answers, line_by, carrier_by, to_session};
-ghost use Rattle.osi_stack.specs.State.{line_waits, waits, is_used, used_lines, session_in};
+ghost use Rattle.osi_stack.specs.State.{line_waits, waits, how_many_wait, is_used, used_lines, session_in};
 ghost use Rattle.osi_stack.specs.Telling.{told_input};
 
 use crate::hearing::{hear, shows_loss};
@@ -210,19 +210,24 @@ impl Line {
     }
 }
 
-/// The connections of one end, in the order in which their references were given.
+/// The connections of one end, in the order in which their references were given, and for how many of
+/// them an indication waits: so a packet costs the same with few connections and with many.
 #[derive(Drop)]
 pub struct Lines {
     rows: Vec<Line>,
+    waiting: usize,
 }
 
 impl Model for Lines {
+    ghost use Rattle.std.specs.Prelude.{◌≡◌};
     ghost use Rattle.osi_carrier.specs.Rows.{Rows};
-    ghost use Rattle.osi_stack.specs.State.{Line};
+    ghost use Rattle.osi_stack.specs.State.{Line, how_many_wait};
 
     ghost Value = { Rows Line };
 
     ghost view = { λ l. l.rows.items };
+
+    ghost invariant = { λ l. l.waiting ≡ how_many_wait l.rows.items };
 }
 
 /// The place of a reference among rows.
@@ -239,11 +244,31 @@ fn first_place(rows: &[Line]) -> Option<usize>
     rows.iter().position(|line| line.waits())
 }
 
-/// Whether an indication waits.
-fn any_waits(rows: &[Line]) -> bool
-    ensures { result ≡ waits rows.now }
+/// For how many connections an indication waits.
+fn count_waiting(rows: &[Line]) -> usize
+    ensures { result ≡ how_many_wait rows.now }
 {
-    rows.iter().any(|line| line.waits())
+    let mut waiting = 0;
+    'lines: for line in rows {
+        if line.waits() {
+            waiting += 1;
+        }
+    }
+    waiting
+}
+
+/// For how many of so many lines an indication waits, where one did or did not and now does or does
+/// not.
+fn recount(waiting: usize, lines: usize, before: bool, after: bool) -> usize
+    requires some { before ≡ true → 0 < waiting }
+    requires room { before ≡ false → waiting < lines }
+    ensures { result + cond before 1 0 ≡ waiting + cond after 1 0 }
+{
+    match (before, after) {
+        (false, true) => waiting + 1,
+        (true, false) => waiting - 1,
+        (false, false) | (true, true) => waiting,
+    }
 }
 
 /// Drops those that are gone and for which nothing waits.
@@ -269,6 +294,7 @@ impl Lines {
     {
         Lines {
             rows: Vec::new(alloc),
+            waiting: 0,
         }
     }
 
@@ -276,7 +302,7 @@ impl Lines {
     pub fn wait(&self) -> bool
         ensures { result ≡ waits self.now }
     {
-        any_waits(self.rows.as_slice())
+        self.waiting > 0
     }
 
     /// Whether a connection has this reference.
@@ -301,14 +327,20 @@ impl Lines {
         ensures shown { option_map (λ p. (p.0.0, shown_by p.1)) result ≡ first_shown self.old }
         ensures rest { self.new ≡ without_first self.old }
     {
+        if self.waiting == 0 {
+            return None;
+        }
         let Some(place) = first_place(self.rows.as_slice()) else {
             return None;
         };
+        let lines = self.rows.len();
         let line = &mut self.rows[place];
         let reference = line.reference();
         let Some(indication) = line.next() else {
             return None;
         };
+        let after = line.waits();
+        self.waiting = recount(self.waiting, lines, true, after);
         Some((Ref(reference), indication))
     }
 
@@ -329,7 +361,13 @@ impl Lines {
         let Some(place) = place_in(self.rows.as_slice(), reference) else {
             return Ok(());
         };
-        self.rows[place].hear(alloc, told, carrier)
+        let lines = self.rows.len();
+        let line = &mut self.rows[place];
+        let before = line.waits();
+        let result = line.hear(alloc, told, carrier);
+        let after = line.waits();
+        self.waiting = recount(self.waiting, lines, before, after);
+        result
     }
 
     /// A call of the user of the session of a reference.
@@ -348,7 +386,13 @@ impl Lines {
         let Some(place) = place_in(self.rows.as_slice(), reference) else {
             return Err(CallError::Ended);
         };
-        self.rows[place].call(request, carrier)
+        let lines = self.rows.len();
+        let line = &mut self.rows[place];
+        let before = line.waits();
+        let result = line.call(request, carrier);
+        let after = line.waits();
+        self.waiting = recount(self.waiting, lines, before, after);
+        result
     }
 
     /// The carrier has ended, and all sessions are lost.
@@ -356,6 +400,7 @@ impl Lines {
         ensures { self.new ≡ all_lost self.old }
     {
         lose_each(&mut self.rows);
+        self.waiting = count_waiting(self.rows.as_slice());
     }
 
     /// How many connections there are.
@@ -370,10 +415,11 @@ impl Lines {
         ensures ok { OnOk result (self.new ≡ self.old ++ line ∷ []) }
         ensures err { OnErr result (self.new ≡ self.old) }
     {
-        match self.rows.push(line) {
-            Ok(()) => Ok(()),
-            Err(_) => Err(AllocError),
-        }
+        let Ok(()) = self.rows.push(line) else {
+            return Err(AllocError);
+        };
+        self.waiting = count_waiting(self.rows.as_slice());
+        Ok(())
     }
 
     /// The first connections, so many.
@@ -381,6 +427,7 @@ impl Lines {
         ensures { self.new ≡ take len self.old }
     {
         self.rows.truncate(len);
+        self.waiting = count_waiting(self.rows.as_slice());
     }
 
     /// Drops those that are gone and for which nothing waits.
@@ -388,5 +435,6 @@ impl Lines {
         ensures { self.new ≡ used_lines carrier.now.state.live self.old }
     {
         drop_unused(&mut self.rows, carrier);
+        self.waiting = count_waiting(self.rows.as_slice());
     }
 }

@@ -1,5 +1,8 @@
 use crate::connecting::{Connect, ConnectError};
 use crate::hub::Hub;
+use crate::laws::{
+    a_call_of_a_settled_end_is_answered_by_its_session, an_end_is_settled_between_calls,
+};
 use osi_carrier::{Carrier, EndReason, Ref};
 use osi_class::Local;
 use osi_session::{CallError, Indication, Phase, Request};
@@ -20,23 +23,23 @@ impl Model for Stack {
 
     ghost Value = { Holding };
 
-    ghost use Rattle.osi_stack.specs.State.{IsAttended};
+    ghost use Rattle.osi_stack.specs.Settled.{IsSettled};
 
     ghost view = { λ s. s.hub };
 
-    ghost invariant = { λ s. IsAttended s.hub.end };
+    ghost invariant = { λ s. IsSettled s.hub.end };
 }
 
 impl Stack {
-    ghost use Rattle.std.specs.Prelude.{◌≡◌, ◌+◌, ◌*◌, ◌≤◌, true, false, None, OnOk, OnErr, IfOk, IfErr, option_map, length};
+    ghost use Rattle.std.specs.Prelude.{◌≡◌, ◌+◌, ◌*◌, ◌≤◌, true, false, None, IsSome, OnOk, OnErr, IfOk, IfErr, option_map, length};
     ghost use Rattle.osi_tpkt.specs.Held.{fresh};
     ghost use Rattle.osi_carrier.specs.Calls.{kept_in};
-    ghost use Rattle.osi_message.specs.Tokens.{named, token_octet};
+    ghost use Rattle.osi_message.specs.Tokens.{named, no_token, token_octet};
     ghost use Rattle.osi_spdu.specs.Fields.{bits_of};
     ghost use Rattle.osi_session.specs.Calls.{called_by};
     ghost use Rattle.osi_session.specs.Moves.{called};
     ghost use Rattle.osi_session.specs.Shown.{shown_by};
-    ghost use Rattle.osi_stack.specs.Calls.{connect_error, refusal, connects, call_error, table_error, Refuses, held_by, phase_at, numbers_of, first_shown, without_first, carried, breaks};
+    ghost use Rattle.osi_stack.specs.Calls.{connect_error, refusal, connects, call_error, table_error, Refuses, by_rule, held_by, phase_at, numbers_of, first_shown, without_first, carried, breaks};
     ghost use Rattle.osi_stack.specs.Feeding.{Feeds};
     ghost use Rattle.osi_stack.specs.Moving.{to_session};
     ghost use Rattle.osi_stack.specs.State.{fresh_end, session_at};
@@ -45,6 +48,7 @@ impl Stack {
     pub fn caller(alloc: Global, local: Local) -> Self
         ensures { result ≡ record { end = fresh_end true local; held = fresh } }
     {
+        an_end_is_settled_between_calls();
         Stack {
             hub: Hub::new(alloc, Carrier::caller(alloc, local)),
         }
@@ -54,6 +58,7 @@ impl Stack {
     pub fn called(alloc: Global, local: Local) -> Self
         ensures { result ≡ record { end = fresh_end false local; held = fresh } }
     {
+        an_end_is_settled_between_calls();
         Stack {
             hub: Hub::new(alloc, Carrier::called(alloc, local)),
         }
@@ -66,19 +71,27 @@ impl Stack {
         ensures reference { IfOk result (λ r. r.0 ≡ self.old.end.carrier.given + 1) }
         ensures allowed { OnOk result (connect_error connect.now self.old.end ≡ None) }
         ensures refused { IfErr result (λ e. refusal e ≡ connect_error connect.now self.old.end) }
+        ensures over { OnOk result (self.old.end.carrier.ended ≡ None) }
         ensures err { OnErr result (self.new ≡ self.old) }
     {
+        an_end_is_settled_between_calls();
         self.hub.connect(connect)
     }
 
-    /// A call of the user of a connection (X.225 section 7). Each error changes nothing, and want of
-    /// memory comes only where no other error does.
+    /// A call of the user of a connection (X.225 section 7), which the table of its session answers. Each
+    /// error changes nothing, and want of memory comes only where no other error does. Once the end has
+    /// ended no call is accepted.
     pub fn call(&mut self, reference: Ref, request: Request) -> Result<(), CallError>
         ensures ok { OnOk result (self.new ≡ record self.old { end = to_session reference.0 (called (called_by request.entry)) self.old.end }) }
         ensures allowed { OnOk result (call_error reference.0 (called_by request.entry) self.old.end ≡ None) }
         ensures refused { IfErr result (λ e. Refuses e (table_error reference.0 (called_by request.entry) self.old.end) (call_error reference.0 (called_by request.entry) self.old.end)) }
+        ensures table { OnOk result (table_error reference.0 (called_by request.entry) self.old.end ≡ None) }
+        ensures answered { IfErr result (λ e. by_rule e ≡ table_error reference.0 (called_by request.entry) self.old.end) }
+        ensures over { OnOk result (self.old.end.carrier.ended ≡ None) }
         ensures err { OnErr result (self.new ≡ self.old) }
     {
+        an_end_is_settled_between_calls();
+        a_call_of_a_settled_end_is_answered_by_its_session();
         self.hub.call(reference, request)
     }
 
@@ -91,6 +104,7 @@ impl Stack {
     pub fn feed(&mut self, piece: &[u8]) -> Fed
         ensures { Feeds self.old piece.now result self.new }
     {
+        an_end_is_settled_between_calls();
         if self.hub.has_ended() {
             return Fed {
                 used: piece.len(),
@@ -116,14 +130,18 @@ impl Stack {
         ensures shown { option_map (λ p. (p.0.0, shown_by p.1)) result ≡ first_shown self.old.end.lines }
         ensures rest { self.new ≡ record self.old { end = record self.old.end { lines = without_first self.old.end.lines } } }
     {
+        an_end_is_settled_between_calls();
         self.hub.next_indication()
     }
 
-    /// The tokens that this end holds; none for a connection that is gone or never was.
+    /// The tokens that this end holds; none for a connection that is gone or never was, and none once the
+    /// end has ended.
     pub fn held(&self, reference: Ref) -> TokenSet
         ensures octet { bits_of result ≡ token_octet (held_by (session_at reference.0 self.now.end)) }
         ensures set { named (bits_of result) ≡ held_by (session_at reference.0 self.now.end) }
+        ensures over { IsSome self.now.end.carrier.ended → named (bits_of result) ≡ no_token }
     {
+        an_end_is_settled_between_calls();
         self.hub.held(reference)
     }
 
@@ -170,6 +188,7 @@ impl Stack {
         requires { octets ≤ length self.old.end.carrier.outgoing }
         ensures { self.new ≡ record self.old { end = carried octets self.old.end } }
     {
+        an_end_is_settled_between_calls();
         self.hub.taken(octets);
     }
 
@@ -177,6 +196,7 @@ impl Stack {
     pub fn broken(&mut self)
         ensures { self.new ≡ record self.old { end = breaks self.old.end } }
     {
+        an_end_is_settled_between_calls();
         self.hub.break_off();
     }
 

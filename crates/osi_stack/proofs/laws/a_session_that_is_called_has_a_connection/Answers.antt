@@ -1,6 +1,8 @@
-use Rattle.std.proofs.Common.{◌≡◌, false, refl}
+use Rattle.std.proofs.Common.{◌≡◌, false, refl, subst}
 use Rattle.osi_session.specs.Moves.{Input, called, taken, unread, opened, refused, broken, is_opened}
-use Rattle.osi_stack.proofs.Soundness.{fresh_sound, connect_sound, call_sound, feeds_sound, first_sound, carried_sound, breaks_sound}
+use Rattle.osi_stack.specs.Links.{IsSound}
+use Rattle.osi_stack.proofs.Comings.{packet_is_unit}
+use Rattle.osi_stack.proofs.Soundness.{packet_sound, fresh_sound, connect_sound, call_sound, feeds_sound, first_sound, carried_sound, breaks_sound}
 use Rattle.osi_stack.proofs.Tables.{session_laws}
 use Rattle.osi_stack.proofs.laws.a_session_that_is_called_has_a_connection.Goals as goal
 
@@ -28,4 +30,5 @@ returns c =
       shown = first_sound;
       carried = carried_sound;
       broken = breaks_sound;
+      heard = λ e unit sendable lasts attended sound. subst IsSound (packet_is_unit e unit sendable) (packet_sound laws _ e lasts (attended lasts) sound);
     }

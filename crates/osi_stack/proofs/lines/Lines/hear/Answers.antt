@@ -1,9 +1,10 @@
-use Rattle.std.proofs.Common.{◌≡◌, ℕ, Some, None, get_or, sym, ap, ◌∙◌}
+use Rattle.std.proofs.Common.{rules, length, ◌≡◌, ℕ, Some, None, get_or, sym, ap, ◌∙◌}
 use Rattle.osi_carrier.specs.Rows.{Rows, place_of}
 use Rattle.osi_stack.specs.State.{Line}
 use Rattle.osi_stack.specs.Telling.{told_input}
 use Rattle.osi_stack.proofs.Found.{unheard, heard_rows}
 use Rattle.osi_stack.proofs.Losing.{stopped_rows}
+use Rattle.osi_stack.proofs.Waiting.{room_of}
 use Rattle.osi_stack.proofs.lines.Lines.hear.Goals as goal
 
 pub returns-in_default-clause-ok : goal.returns-in_default-clause-ok
@@ -14,17 +15,27 @@ returns-in_default-clause-ok c =
 
 pub returns-clause-ok : goal.returns-clause-ok
 returns-clause-ok c =
-    let row = c.index_mut.result.now in
+    let row = c.index_mut-line.result.now in
     let some : place_of c.args.reference c.args.self.now ≡ Some c.in-Some.place =
     ap (λ (l : Rows Line). place_of c.args.reference l) (sym (c.as_slice.ensures.value ∙ c.self.view_is)) ∙ sym c.place_in.ensures ∙ c.in-Some.is in
-    let here = c.index_mut.ensures.value ∙ ap (λ (l : Rows Line). get_or l c.in-Some.place row) c.self.view_is in
-    heard_rows c.hear.result c.args.reference c.args.self.now c.self.inside.rows.items c.in-Some.place row c.hear.new.self c.args.carrier.now c.hear.new.carrier
-    (told_input c.args.told) some here c.self.view_is c.hear.ensures.ok c.hear.ensures.carrier
+    let here = c.index_mut-line.ensures.value ∙ ap (λ (l : Rows Line). get_or l c.in-Some.place row) c.self.view_is in
+    heard_rows c.hear-result.result c.args.reference c.args.self.now c.self.inside.rows.items c.in-Some.place row c.hear-result.new.self c.args.carrier.now c.hear-result.new.carrier
+    (told_input c.args.told) some here c.self.view_is c.hear-result.ensures.ok c.hear-result.ensures.carrier
 
 pub returns-clause-lost : goal.returns-clause-lost
 returns-clause-lost c =
-    let row = c.index_mut.result.now in
+    let row = c.index_mut-line.result.now in
     let some : place_of c.args.reference c.args.self.now ≡ Some c.in-Some.place =
     ap (λ (l : Rows Line). place_of c.args.reference l) (sym (c.as_slice.ensures.value ∙ c.self.view_is)) ∙ sym c.place_in.ensures ∙ c.in-Some.is in
-    let here = c.index_mut.ensures.value ∙ ap (λ (l : Rows Line). get_or l c.in-Some.place row) c.self.view_is in
-    stopped_rows c.hear.result c.args.reference c.args.self.now c.self.inside.rows.items c.in-Some.place row c.hear.new.self some here c.self.view_is c.hear.ensures.lost
+    let here = c.index_mut-line.ensures.value ∙ ap (λ (l : Rows Line). get_or l c.in-Some.place row) c.self.view_is in
+    stopped_rows c.hear-result.result c.args.reference c.args.self.now c.self.inside.rows.items c.in-Some.place row c.hear-result.new.self some here c.self.view_is c.hear-result.ensures.lost
+
+pub recount-self-inside-requires-clause-room : goal.recount-self-inside-requires-clause-room
+recount-self-inside-requires-clause-room c = λ h.
+    let row = c.index_mut-line.result.now in
+    let some : place_of c.args.reference c.args.self.now ≡ Some c.in-Some.place =
+    ap (λ (l : Rows Line). place_of c.args.reference l) (sym (c.as_slice.ensures.value ∙ c.self.view_is)) ∙ sym c.place_in.ensures ∙ c.in-Some.is in
+    let here = c.index_mut-line.ensures.value ∙ ap (λ (l : Rows Line). get_or l c.in-Some.place row) c.self.view_is in
+    let lines : c.len-lines.result ≡ length c.self.inside.rows.items = search rules in
+    room_of c.args.reference c.args.self.now c.self.inside.rows.items c.in-Some.place row c.self.inside.waiting c.len-lines.result some here c.self.view_is
+    c.self.invariant lines (sym c.waits-before.ensures ∙ h)

@@ -3,8 +3,9 @@ use Rattle.osi_session.specs.Shown.{shown_by}
 use Rattle.osi_session.specs.declared.indications.Indication.{Indication}
 use Rattle.osi_carrier.specs.Rows.{Rows}
 use Rattle.osi_stack.specs.Calls.{TellsOf}
-use Rattle.osi_stack.specs.State.{Line, line_waits}
+use Rattle.osi_stack.specs.State.{Line, line_waits, how_many_wait}
 use Rattle.osi_stack.proofs.FirstShown.{none_waits, first_is, told_some, told_first}
+use Rattle.osi_stack.proofs.Waiting.{none_counted}
 use Rattle.osi_stack.proofs.lines.Lines.next.Goals as goal
 
 pub returns-in_default-clause-shown : goal.returns-in_default-clause-shown
@@ -51,3 +52,11 @@ returns-clause-rest c =
     let here = c.index_mut-line.ensures.value ∙ ap (λ (l : Rows Line). get_or l c.in-Some.place row) c.self.view_is in
     let told = subst (λ (o : Option Indication). TellsOf (option_map shown_by o) row c.next.new.self) c.in-Some-next.is c.next.ensures in
     (told_first c.args.self.now c.self.inside.rows.items c.in-Some.place row c.next.new.self (shown_by c.in-Some-next.indication) some here c.self.view_is told).rest
+
+pub returns-then-self-eq0-clause-shown : goal.returns-then-self-eq0-clause-shown
+returns-then-self-eq0-clause-shown c =
+    sym (none_counted c.self.inside.waiting c.args.self.now (c.self.invariant ∙ ap how_many_wait c.self.view_is) c.if-self-eq0.true).shown
+
+pub returns-then-self-eq0-clause-rest : goal.returns-then-self-eq0-clause-rest
+returns-then-self-eq0-clause-rest c =
+    sym (none_counted c.self.inside.waiting c.args.self.now (c.self.invariant ∙ ap how_many_wait c.self.view_is) c.if-self-eq0.true).rest

@@ -1,0 +1,281 @@
+-- What is true of every end between any two calls stays so.
+use Rattle.std.proofs.Common.{◌≡◌, ℕ, ◌+◌, ◌≤◌, ◌<◌, Bool, true, false, ◌||◌, not, List, [], ◌∷◌, length, drop, Option, Some, None, Result, Ok, Err, arith, is_some, IsSome, option_map, refl, sym, ap, subst, ◌∙◌, inl, inr, ◌⊎◌, if◌then◌else◌}
+use Rattle.std.specs.Prelude.{OnOk, OnErr, IfErr}
+use Rattle.osi_tpdu.specs.Limits.{tsap_octets}
+use Rattle.osi_tpdu.specs.Packet.{units_of}
+use Rattle.osi_tpdu.specs.Value.{Value}
+use Rattle.osi_tpdu.specs.declared.faults.TpduFault.{TpduFault}
+use Rattle.osi_class.specs.declared.terms.Local.{Local}
+use Rattle.osi_spdu.specs.Known.{Units}
+use Rattle.osi_message.specs.Reading.{said_by_units}
+use Rattle.osi_tpkt.specs.Stream.{ArePackets}
+use Rattle.osi_tpkt.specs.declared.cutting.Fed.{Fed}
+use Rattle.osi_carrier.specs.Calls.{may_connect, asks, ended_by}
+use Rattle.osi_carrier.specs.Orderly.{IsOrderly}
+use Rattle.osi_carrier.specs.Packets as carriers
+use Rattle.osi_carrier.specs.React.{reacts}
+use Rattle.osi_carrier.specs.Rows.{Rows, value_at}
+use Rattle.osi_carrier.specs.State.{Connection, State as Carrier}
+use Rattle.osi_carrier.specs.declared.ends.EndReason.{EndReason}
+use Rattle.osi_carrier.specs.declared.ends.EndReason.TheVariants.{Broken, NoMemory}
+use Rattle.osi_carrier.proofs.Effects.{free_of, orderly_fresh, orderly_units, orderly_packet, orderly_asks, orderly_end, orderly_ended, orderly_same}
+use Rattle.osi_session.specs.Calls.{Call, HasSerial}
+use Rattle.osi_session.specs.Moves.{Input, Standing, called, taken}
+use Rattle.osi_session.specs.Sessions.{is_memory}
+use Rattle.osi_session.specs.Runs.{HasNumbers}
+use Rattle.osi_session.specs.declared.faults.CallError.{CallError}
+use Rattle.osi_session.specs.declared.faults.CallError.TheVariants as error
+use Rattle.osi_stack.specs.Calls.{connects, connect_error, terms_error, breaks, carried, without_first, has_given, call_error, table_error, session_refusal, session_error, RefusesBy, Refuses, by_rule}
+use Rattle.osi_stack.specs.Feeding.{stops, TakesPackets, Goes, Feeds}
+use Rattle.osi_stack.specs.Hearing.{hears_all, hears_times, with_events, with_carrier, attends, after_packet, ends, starves, Starves}
+use Rattle.osi_stack.specs.Moving.{by_line, to_session}
+use Rattle.osi_stack.specs.State.{Line, End, Holding, IsAttended, fresh_end, session_in, session_at, waits}
+use Rattle.osi_stack.specs.Settled.{IsSettled}
+use Rattle.osi_stack.specs.declared.connecting.Connect.{Connect}
+use Rattle.osi_stack.proofs.Answering.{Below, answered_is}
+use Rattle.osi_stack.proofs.Attending.{session_attended, connect_attended, breaks_attended, feeds_attended}
+use Rattle.osi_stack.proofs.Folds.{connect_all, call_all, feeds_all, told_all, breaks_all}
+use Rattle.osi_stack.proofs.Comings.{attended_then}
+use Rattle.osi_stack.proofs.Events.{concluded_carrier}
+use Rattle.osi_stack.proofs.Lifting.{both, or_first, or_second, packet_is}
+use Rattle.osi_stack.proofs.Linking.{SessionLaws}
+use Rattle.osi_stack.proofs.Soundness.{Fits, carrier_leaves, times_fits, up_more, units_rise, packet_rises, lasting_of, open_none, packet_sound, packets_sound, fresh_sound, connect_sound, call_sound, feeds_sound, first_sound, carried_sound, breaks_sound}
+use Rattle.osi_stack.specs.Links.{IsSound}
+
+-- ---- calls
+
+line_orderly : (r : ℕ) (input : Input) (e : End) (o : Option Line) → IsOrderly e.carrier → IsOrderly (by_line r o input e).carrier
+line_orderly r input e None h = h
+line_orderly r input e (Some line) h = (carrier_leaves r line.session input e.carrier).orderly h
+
+pub session_orderly : (r : ℕ) (input : Input) (e : End) → IsOrderly e.carrier → IsOrderly (to_session r input e).carrier
+session_orderly r input e h = line_orderly r input e (value_at r e.lines) h
+
+pub connect_orderly : (c : Connect) (e : End) → connect_error c e ≡ None → IsOrderly e.carrier → IsOrderly (connects c e).carrier
+connect_orderly c e allowed h =
+    orderly_asks (option_map tsap_octets c.calling_tsap) (option_map tsap_octets c.called_tsap) e.carrier (open_none (may_connect e.carrier) (terms_error c) allowed) h
+
+breaks_by : (b : Bool) (e : End) → IsOrderly e.carrier → IsOrderly (if b then e else ends Broken e).carrier
+breaks_by true e h = h
+breaks_by false e h = orderly_end Broken e.carrier h
+
+pub breaks_orderly : (e : End) → IsOrderly e.carrier → IsOrderly (breaks e).carrier
+breaks_orderly e h = breaks_by (is_some e.carrier.ended) e h
+
+-- ---- packets
+
+attends_orderly : (e : End) → Fits e → IsOrderly (attends e).carrier
+attends_orderly e f = subst IsOrderly (sym (concluded_carrier (hears_all e))) (times_fits (length e.carrier.events) e f).orderly
+
+packet_orderly : (packet : List ℕ) (e : End) → Fits e → IsOrderly (after_packet e packet).carrier
+packet_orderly packet e f =
+    let c = carriers.after_packet e.carrier packet in
+    subst (λ (x : End). IsOrderly x.carrier) (sym (packet_is e packet))
+    (attends_orderly (with_carrier c e) (record {
+      orderly = orderly_packet packet e.carrier f.orderly;
+      known = up_more e.carrier.given c.given e.lines (packet_rises packet e.carrier) f.known;
+    }))
+
+fits_of : (e : End) → e.carrier.ended ≡ None → IsSound e → Fits e
+fits_of e lasts sound = let s = sound lasts in record { orderly = s.orderly; known = s.known }
+
+packets_orderly : SessionLaws → (units : List (List ℕ)) (old new : End) → TakesPackets old units new → IsAttended old → IsSound old → IsOrderly old.carrier → IsOrderly new.carrier
+packets_orderly laws [] old new h attended sound o = subst (λ (x : End). IsOrderly x.carrier) (sym h) o
+packets_orderly laws (u ∷ units) old new h attended sound o =
+    let lasts = lasting_of old.carrier.ended (waits old.lines) h.0 in
+    packets_orderly laws units (after_packet old u) new h.1 (attended_then (with_carrier (carriers.after_packet old.carrier u) old) (after_packet old u) (packet_is old u))
+    (packet_sound laws u old lasts (attended lasts) sound) (packet_orderly u old (fits_of old lasts sound))
+
+-- ---- want of memory
+
+record Grows (old new : Carrier) : Type 0 where
+  orderly : IsOrderly new
+  given : old.given ≤ new.given
+
+grows_out : (units : List Value) (old new : Carrier) → carriers.RunsOut old units new → IsOrderly old → Grows old new
+grows_out units old new h o = record {
+  orderly = subst IsOrderly (sym h.ended) (orderly_end NoMemory (reacts h.done old) (orderly_units h.done old o));
+  given = subst (λ (c : Carrier). old.given ≤ c.given) (sym h.ended) (units_rise h.done old);
+}
+
+grows_by : (units : Result (List Value) TpduFault) (old new : Carrier) → carriers.ActsBy units old new → IsOrderly old → Grows old new
+grows_by (Ok units) old new (inl is) o = record {
+  orderly = subst IsOrderly (sym is) (orderly_units units old o);
+  given = subst (λ (c : Carrier). old.given ≤ c.given) (sym is) (units_rise units old);
+}
+grows_by (Ok units) old new (inr h) o = grows_out units old new h o
+grows_by (Err fault) old new is o = record {
+  orderly = subst IsOrderly (sym is) (orderly_end _ old o);
+  given = subst (λ (c : Carrier). old.given ≤ c.given) (sym is) (omega arith);
+}
+
+grown_fits : (e : End) (c : Carrier) → Grows e.carrier c → Fits e → Fits (with_carrier c e)
+grown_fits e c g f = record { orderly = g.orderly; known = up_more e.carrier.given c.given e.lines g.given f.known }
+
+starves_orderly : (e : End) → IsOrderly e.carrier → IsOrderly (starves e).carrier
+starves_orderly e h = orderly_ended NoMemory e.carrier h
+
+starved_orderly : (e new : End) (packet : List ℕ) → Starves e packet new → Fits e → IsOrderly new.carrier
+starved_orderly e new packet (inl h) f =
+    subst (λ (x : End). IsOrderly x.carrier) (sym h.2) (attends_orderly (with_carrier h.0 e) (grown_fits e h.0 (grows_out h.1.0 e.carrier h.0 h.1.2 f.orderly) f))
+starved_orderly e new packet (inr h) f =
+    let mid = hears_times h.2.heard (with_carrier h.0 e) in
+    let fits = times_fits h.2.heard (with_carrier h.0 e) (grown_fits e h.0 (grows_by (units_of packet) e.carrier h.0 h.1 f.orderly) f) in
+    subst (λ (x : End). IsOrderly x.carrier) (sym h.2.starved) (starves_orderly (with_events h.2.more mid) (orderly_same mid.carrier mid.carrier.outgoing h.2.more fits.orderly))
+
+none_found : (e new : End) (rest : List ℕ) → (new ≡ ends NoMemory e) ⊎ ((packet : List ℕ) × ArePackets (packet ∷ []) rest [] × Starves e packet new) → Fits e → IsOrderly new.carrier
+none_found e new rest (inl is) f = subst (λ (x : End). IsOrderly x.carrier) (sym is) (orderly_end NoMemory e.carrier f.orderly)
+none_found e new rest (inr p) f = starved_orderly e new p.0 p.2 f
+
+-- ---- feeding
+
+-- packets of which none stopped
+before_fits : SessionLaws → (units : List (List ℕ)) (old before : End) → TakesPackets old units before → stops before ≡ false → IsAttended old → IsSound old → IsOrderly old.carrier → Fits before
+before_fits laws units old before h quiet attended sound o =
+    fits_of before (lasting_of before.carrier.ended (waits before.lines) quiet) (packets_sound laws units old before h attended sound)
+
+goes_orderly : SessionLaws → (old new : Holding) (piece : List ℕ) (used : ℕ) → Goes old piece used new → IsAttended old.end → IsSound old.end → IsOrderly old.end.carrier →
+    IsOrderly new.end.carrier
+goes_orderly laws old new piece used (inl (inl h)) attended sound o = packets_orderly laws h.units old.end new.end h.taken attended sound o
+goes_orderly laws old new piece used (inl (inr h)) attended sound o = packets_orderly laws h.units old.end new.end h.taken attended sound o
+goes_orderly laws old new piece used (inr (inl h)) attended sound o =
+    subst (λ (x : End). IsOrderly x.carrier) (sym h.ended) (orderly_end _ h.before.carrier (before_fits laws h.units old.end h.before h.taken h.quiet attended sound o).orderly)
+goes_orderly laws old new piece used (inr (inr h)) attended sound o =
+    none_found h.before new.end h.rest h.how (before_fits laws h.units old.end h.before h.taken h.quiet attended sound o)
+
+feeds_by : SessionLaws → (old new : Holding) (piece : List ℕ) (fed : Fed) (o : Option EndReason) (b : Bool) → old.end.carrier.ended ≡ o → waits old.end.lines ≡ b →
+    Feeds old piece fed new → IsAttended old.end → IsSound old.end → IsOrderly old.end.carrier → IsOrderly new.end.carrier
+feeds_by laws old new piece fed (Some reason) b is waiting h attended sound orderly =
+    subst (λ (x : Holding). IsOrderly x.end.carrier) (sym (h.over (ap is_some is)).1) orderly
+feeds_by laws old new piece fed None true is waiting h attended sound orderly = subst (λ (x : Holding). IsOrderly x.end.carrier) (sym (h.waiting is waiting).1) orderly
+feeds_by laws old new piece fed None false is waiting h attended sound orderly =
+    goes_orderly laws old new piece fed.used (h.goes (ap (λ (o : Option EndReason). is_some o || waits old.end.lines) is ∙ waiting)) attended sound orderly
+
+pub feeds_orderly : SessionLaws → (old new : Holding) (piece : List ℕ) (fed : Fed) → Feeds old piece fed new → IsAttended old.end → IsSound old.end → IsOrderly old.end.carrier →
+    IsOrderly new.end.carrier
+feeds_orderly laws old new piece fed h attended sound orderly = feeds_by laws old new piece fed old.end.carrier.ended (waits old.end.lines) refl refl h attended sound orderly
+
+-- ---- what is true of every end
+
+-- what the laws of one end say
+pub record Steps : Type 0 where
+  pub laws : SessionLaws
+  pub units : (units : Units) → HasNumbers (taken (said_by_units units))
+
+pub fresh_settled : (is_caller : Bool) (local : Local) → IsSettled (fresh_end is_caller local)
+fresh_settled is_caller local = record {
+  attended = λ over. refl;
+  orderly = orderly_fresh is_caller local;
+  sound = fresh_sound is_caller local;
+  came = tt;
+}
+
+pub connect_settled : (c : Connect) (e : End) → connect_error c e ≡ None → IsSettled e → IsSettled (connects c e)
+connect_settled c e allowed s = record {
+  attended = connect_attended c e s.attended;
+  orderly = connect_orderly c e allowed s.orderly;
+  sound = connect_sound c e allowed s.sound;
+  came = connect_all c e s.came;
+}
+
+pub call_settled : SessionLaws → (r : ℕ) (call : Call) (e : End) → HasSerial call → IsSettled e → IsSettled (to_session r (called call) e)
+call_settled laws r call e serial s = record {
+  attended = session_attended r (called call) e s.attended;
+  orderly = session_orderly r (called call) e s.orderly;
+  sound = call_sound laws r call e s.sound;
+  came = call_all r call e serial s.came;
+}
+
+pub feeds_settled : Steps → (old new : Holding) (piece : List ℕ) (fed : Fed) → Feeds old piece fed new → IsSettled old.end → IsSettled new.end
+feeds_settled steps old new piece fed h s = record {
+  attended = feeds_attended old new piece fed h s.attended;
+  orderly = feeds_orderly steps.laws old new piece fed h s.attended s.sound s.orderly;
+  sound = feeds_sound steps.laws old new piece fed h s.attended s.sound;
+  came = feeds_all steps.units old new piece fed h s.came;
+}
+
+pub first_settled : (e : End) → IsSettled e → IsSettled (record e { lines = without_first e.lines })
+first_settled e s = record { attended = s.attended; orderly = s.orderly; sound = first_sound e s.sound; came = told_all e.lines s.came }
+
+pub carried_settled : (octets : ℕ) (e : End) → IsSettled e → IsSettled (carried octets e)
+carried_settled octets e s = record {
+  attended = s.attended;
+  orderly = orderly_same e.carrier (drop octets e.carrier.outgoing) e.carrier.events s.orderly;
+  sound = carried_sound octets e s.sound;
+  came = s.came;
+}
+
+pub breaks_settled : (e : End) → IsSettled e → IsSettled (breaks e)
+breaks_settled e s = record {
+  attended = breaks_attended e s.attended;
+  orderly = breaks_orderly e s.orderly;
+  sound = breaks_sound e;
+  came = breaks_all e s.came;
+}
+
+-- ---- after the end
+
+-- no connection is live
+pub none_at : (r : ℕ) (e : End) → IsOrderly e.carrier → IsSome e.carrier.ended → session_at r e ≡ None
+none_at r e o over = ap (λ (live : Rows Connection). if is_some (value_at r live) then session_in (value_at r e.lines) else None) (o.over over)
+
+table_by : Below → (r : ℕ) (call : Call) (e : End) (o : Option EndReason) → e.carrier.ended ≡ o → HasSerial call → IsSettled e → call_error r call e ≡ table_error r call e
+table_by law r call e None is serial s = answered_is law r call e serial is (s.sound is) s.came
+table_by law r call e (Some reason) is serial s =
+    let none = none_at r e s.orderly (ap is_some is) in
+    ap (λ (o : Option Standing). if not (has_given r e.carrier) then Some error.NoSuchConnection else session_refusal r o call e.carrier) none
+    ∙ sym (ap (λ (o : Option Standing). if not (has_given r e.carrier) then Some error.NoSuchConnection else session_error o call) none)
+
+pub table_is : Below → (r : ℕ) (call : Call) (e : End) → HasSerial call → IsSettled e → call_error r call e ≡ table_error r call e
+table_is law r call e serial s = table_by law r call e e.carrier.ended refl serial s
+
+given_or : (b : Bool) → IsSome (if not b then Some error.NoSuchConnection else Some error.Ended)
+given_or true = refl
+given_or false = refl
+
+-- no call is accepted
+pub over_is : (r : ℕ) (call : Call) (e : End) → IsSettled e → IsSome e.carrier.ended → IsSome (call_error r call e)
+over_is r call e s over =
+    subst (λ (o : Option Standing). IsSome (if not (has_given r e.carrier) then Some error.NoSuchConnection else session_refusal r o call e.carrier))
+    (sym (none_at r e s.orderly over)) (given_or (has_given r e.carrier))
+
+-- ---- for the calls of a stack
+
+pub settled_by : {A F : Type 0} (result : Result A F) (old new next : Holding) → OnOk result (new ≡ next) → OnErr result (new ≡ old) → IsSettled old.end → IsSettled next.end →
+    IsSettled new.end
+settled_by (Ok x) old new next ok err was is = subst (λ (h : Holding). IsSettled h.end) (sym ok) is
+settled_by (Err e) old new next ok err was is = subst (λ (h : Holding). IsSettled h.end) (sym err) was
+
+pub settled_connect : {A F : Type 0} (result : Result A F) (c : Connect) (old new : Holding) → OnOk result (new ≡ record old { end = connects c old.end }) →
+    OnOk result (connect_error c old.end ≡ None) → OnErr result (new ≡ old) → IsSettled old.end → IsSettled new.end
+settled_connect (Ok x) c old new ok allowed err was = subst (λ (h : Holding). IsSettled h.end) (sym ok) (connect_settled c old.end allowed was)
+settled_connect (Err e) c old new ok allowed err was = subst (λ (h : Holding). IsSettled h.end) (sym err) was
+
+refused_by : (b : Bool) (e : CallError) (first all : Option CallError) → all ≡ first → RefusesBy b e first all → (if b then None else Some e) ≡ first
+refused_by true e first all same h = sym h
+refused_by false e first all same h = sym h ∙ same
+
+pub answered_by_table : {A : Type 0} (result : Result A CallError) (first all : Option CallError) → all ≡ first → IfErr result (λ e. Refuses e first all) →
+    IfErr result (λ e. by_rule e ≡ first)
+answered_by_table (Ok x) first all same h = tt
+answered_by_table (Err e) first all same h = refused_by (is_memory e) e first all same h
+
+unended : (o : Option EndReason) → is_some o ≡ false → o ≡ None
+unended None h = refl
+unended (Some reason) h = cc
+
+pub connects_while : {A F : Type 0} (result : Result A F) (c : Connect) (e : End) → OnOk result (connect_error c e ≡ None) → OnOk result (e.carrier.ended ≡ None)
+connects_while (Ok x) c e allowed = unended e.carrier.ended (free_of e.carrier (open_none (may_connect e.carrier) (terms_error c) allowed)).lasts
+connects_while (Err f) c e allowed = tt
+
+-- what is read is fed
+pub feeds_of : (old new : Holding) (piece : List ℕ) (used : ℕ) → stops old.end ≡ false → Goes old piece used new → used ≤ length piece → (0 < length piece → 0 < used) →
+    Feeds old piece (record { used = used; whole = waits new.end.lines }) new
+feeds_of old new piece used quiet goes bound progress = record {
+  over = λ some. absurd (both (is_some old.end.carrier.ended) some (or_first (is_some old.end.carrier.ended) (waits old.end.lines) quiet));
+  waiting = λ lasts waiting. absurd (both (waits old.end.lines) waiting (or_second (is_some old.end.carrier.ended) (waits old.end.lines) quiet));
+  goes = λ still. goes;
+  whole = refl;
+  bound = bound;
+  progress = λ none. progress;
+}

@@ -1,0 +1,7 @@
+use Rattle.std.proofs.Common.{sym, ap, nat_lt, ◌∙◌}
+use Rattle.osi_stack.specs.State.{waits}
+use Rattle.osi_stack.proofs.Waiting.{waits_counted}
+use Rattle.osi_stack.proofs.lines.Lines.wait.Goals as goal
+
+pub returns : goal.returns
+returns c = ap (nat_lt 0) c.self.invariant ∙ sym (waits_counted c.self.inside.rows.items) ∙ ap waits c.self.view_is
