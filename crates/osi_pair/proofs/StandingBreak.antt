@@ -5,17 +5,19 @@ use Rattle.std.proofs.Math.Seq.{take-append_seam}
 use Rattle.std.proofs.lemmas.List.{length-map, map-append}
 use Rattle.osi_class.specs.declared.terms.Local.{Local}
 use Rattle.osi_carrier.specs.Between.{Between, Both, AreBetween, Lost, under_way, broken_at, fresh_both, fresh_between}
-use Rattle.osi_carrier.specs.Course.{connection_in}
-use Rattle.osi_carrier.specs.Messages.{AreLike, kind_of}
+use Rattle.osi_carrier.specs.Course.{progress_of}
+use Rattle.osi_carrier.specs.Messages.{kind_of}
 use Rattle.osi_carrier.specs.Messages as carrier
-use Rattle.osi_carrier.specs.State.{Connection, asked, linked, closing}
+use Rattle.osi_carrier.specs.Progress.{Progress, not_yet, awaiting, in_use, shutting}
+use Rattle.osi_carrier.specs.Progress as progress
 use Rattle.osi_carrier.specs.Terms.{Terms, terms_of}
 use Rattle.osi_machine.specs.Machine.{connection_at, Step, breaks, HasNumber}
 use Rattle.osi_machine.specs.Tables.{Seat, Line, Tables, cut_channels, step, run, start}
 use Rattle.osi_machine.specs.Worlds.{Message}
 use Rattle.osi_pair.specs.Ends.{TwoEnds, sent_by, after_break, fresh_ends}
-use Rattle.osi_pair.specs.Standing.{terms_in, carriers_of, message_in, IsSeated, IsLine, Stands, StandsAt, StandsAtBreak}
-use Rattle.osi_stack.specs.State.{Holding}
+use Rattle.osi_pair.specs.Standing.{terms_in, carriers_of, AreAlike, message_in, IsSeated, IsLine, IsInOrder, Stands, StandsAt, StandsAtBreak}
+use Rattle.osi_stack.specs.Links.{IsSound}
+use Rattle.osi_stack.specs.State.{Holding, fresh_end}
 use Rattle.osi_pair.specs.declared.sides.Side.TheVariants.{Left, Right}
 
 -- what is proved of two carriers
@@ -58,26 +60,30 @@ map_take f zero xs = refl
 map_take f (suc k) [] = refl
 map_take f (suc k) (x ∷ xs) = ap (λ r. f x ∷ r) (map_take f k xs)
 
-like_take : (c : Option Connection) (xs ys gone : List carrier.Message) → AreLike c xs (ys ++ gone) → AreLike c (take (length ys) xs) ys
-like_take None xs ys gone h = ap (take (length ys)) h ∙ take-append_seam ys gone
-like_take (Some asked) xs ys gone h = ap (take (length ys)) h ∙ take-append_seam ys gone
-like_take (Some (linked peer link)) xs ys gone h = ap (take (length ys)) h ∙ take-append_seam ys gone
-like_take (Some (closing peer)) xs ys gone h =
+kinds_take : (xs ys gone : List carrier.Message) → map kind_of xs ≡ map kind_of (ys ++ gone) → map kind_of (take (length ys) xs) ≡ map kind_of ys
+kinds_take xs ys gone h =
     map_take kind_of (length ys) xs ∙ ap (take (length ys)) (h ∙ map-append kind_of ys gone)
     ∙ ap (λ (k : ℕ). take k (map kind_of ys ++ map kind_of gone)) (sym (length-map ys kind_of)) ∙ take-append_seam (map kind_of ys) (map kind_of gone)
+
+like_take : (g : Progress) (xs ys gone : List carrier.Message) → AreAlike g xs (ys ++ gone) → AreAlike g (take (length ys) xs) ys
+like_take not_yet xs ys gone h = ap (take (length ys)) h ∙ take-append_seam ys gone
+like_take awaiting xs ys gone h = ap (take (length ys)) h ∙ take-append_seam ys gone
+like_take in_use xs ys gone h = ap (take (length ys)) h ∙ take-append_seam ys gone
+like_take shutting xs ys gone h = kinds_take xs ys gone h
+like_take progress.gone xs ys gone h = kinds_take xs ys gone h
 
 -- ---- one connection
 
 still_seated : (n : ℕ) (h : Holding) (seat : Seat) (ms : List Message) → IsSeated n h seat → IsSeated n h (record seat { channel = ms })
-still_seated n h seat ms s = record { transport = s.transport; live = s.live; over_now = s.over_now; awaiting = s.awaiting }
+still_seated n h seat ms s = record { transport = s.transport; live = s.live; kept = s.kept; over_now = s.over_now; awaiting = s.awaiting; octets = s.octets }
 
 -- what is left of what is under way
-left_over : (c d : Option Connection) (ms : List Message) (before after gone : List carrier.Message) → before ≡ after ++ gone → d ≡ c → AreLike c (map message_in ms) before
-    → AreLike d (map message_in (take (length after) ms)) after
+left_over : (c d : Progress) (ms : List Message) (before after gone : List carrier.Message) → before ≡ after ++ gone → d ≡ c → AreAlike c (map message_in ms) before
+    → AreAlike d (map message_in (take (length after) ms)) after
 left_over c d ms before after gone e q h =
-    subst (λ (x : Option Connection). AreLike x (map message_in (take (length after) ms)) after) (sym q)
-    (subst (λ (xs : List carrier.Message). AreLike c xs after) (sym (map_take message_in (length after) ms))
-    (like_take c (map message_in ms) after gone (subst (AreLike c (map message_in ms)) e h)))
+    subst (λ (x : Progress). AreAlike x (map message_in (take (length after) ms)) after) (sym q)
+    (subst (λ (xs : List carrier.Message). AreAlike c xs after) (sym (map_take message_in (length after) ms))
+    (like_take c (map message_in ms) after gone (subst (AreAlike c (map message_in ms)) e h)))
 
 -- how many messages a break leaves
 abbrev left_from : Bool → ℕ → TwoEnds → Between → ℕ
@@ -89,9 +95,9 @@ break_line n k l p b line lost h = record {
   left = still_seated n p.left line.own (take (left_from true n (after_break k l p) lost.now) line.own.channel) h.left;
   right = still_seated n p.right line.peer (take (left_from false n (after_break k l p) lost.now) line.peer.channel) h.right;
   rightward = λ e. left_over _ _ line.own.channel _ (under_way true n (carriers_of (after_break k l p)) lost.now) (lost.loses true n).gone (lost.loses true n).all
-      (ap connection_in (lost.stays false n)) (h.rightward e);
+      (ap progress_of (lost.stays false n)) (h.rightward e);
   leftward = λ e. left_over _ _ line.peer.channel _ (under_way false n (carriers_of (after_break k l p)) lost.now) (lost.loses false n).gone (lost.loses false n).all
-      (ap connection_in (lost.stays true n)) (h.leftward e);
+      (ap progress_of (lost.stays true n)) (h.leftward e);
 }
 
 -- ---- a break
@@ -123,11 +129,20 @@ break_stands laws p b t k l s none =
         between = lost.between;
         terms = s.terms;
         broken = refl;
+        caller = s.caller;
         left_end = s.left_end;
         right_end = s.right_end;
         known = s.known;
         journal = s.journal;
         given = cut_count left right 1 t.lines ∙ s.given;
+        given_then = lost.given true ∙ s.given_then;
+        class_then = lost.class true ∙ s.class_then;
+        given_back = subst (λ (m : ℕ). p.right.end.carrier.given ≤ m) (sym (cut_count left right 1 t.lines)) s.given_back;
+        over_left = s.over_left;
+        over_right = s.over_right;
+        lost_right = s.lost_right;
+        order_left = s.order_left;
+        order_right = s.order_right;
         lines = λ n a c.
             let h = s.lines n a (subst (λ (m : ℕ). n ≤ m) (cut_count left right 1 t.lines) c) in
             record {
@@ -142,7 +157,7 @@ break_stands laws p b t k l s none =
 
 -- ---- at a list of steps
 
-run_behind : (t : Tables) (xs ys : List Step) → run t (xs ++ ys) ≡ run (run t xs) ys
+pub run_behind : (t : Tables) (xs ys : List Step) → run t (xs ++ ys) ≡ run (run t xs) ys
 run_behind t [] ys = refl
 run_behind t (x ∷ xs) ys = run_behind (step t x) xs ys
 
@@ -166,22 +181,38 @@ break_at laws p steps k l s none =
 
 -- ---- nothing has happened
 
-fresh_stands : (caller called : Local) → AreBetween (terms_of caller called) (fresh_both caller called) (fresh_between caller called)
+-- a new end is in order
+abbrev pub FreshSound : Type 0
+FreshSound = (is_caller : Bool) (local : Local) → IsSound (fresh_end is_caller local)
+
+fresh_order : FreshSound → (is_caller : Bool) (local : Local) → IsInOrder (fresh_end is_caller local)
+fresh_order sound is_caller local = record { heard = refl; sound = sound is_caller local refl; rising = tt; came = tt }
+
+fresh_stands : FreshSound → (caller called : Local) → AreBetween (terms_of caller called) (fresh_both caller called) (fresh_between caller called)
     → Stands (fresh_ends caller called) (fresh_between caller called) (start (terms_in (terms_of caller called)))
-fresh_stands caller called h = record {
+fresh_stands sound caller called h = record {
   between = h;
   terms = refl;
   broken = refl;
+  caller = refl;
   left_end = refl;
   right_end = refl;
   known = refl;
   journal = refl;
   given = refl;
+  given_then = refl;
+  class_then = refl;
+  given_back = omega arith;
+  over_left = λ e. refl;
+  over_right = λ e. refl;
+  lost_right = λ e n. refl;
+  order_left = λ e. fresh_order sound true caller;
+  order_right = λ e. fresh_order sound false called;
   lines = λ n a c. absurd (omega arith);
   quiet_left = refl;
   quiet_right = refl;
 }
 
-pub fresh_at : (caller called : Local) → AreBetween (terms_of caller called) (fresh_both caller called) (fresh_between caller called)
+pub fresh_at : FreshSound → (caller called : Local) → AreBetween (terms_of caller called) (fresh_both caller called) (fresh_between caller called)
     → StandsAt (fresh_ends caller called) []
-fresh_at caller called h = record { numbered = tt; now = fresh_between caller called; stands = fresh_stands caller called h }
+fresh_at sound caller called h = record { numbered = tt; now = fresh_between caller called; stands = fresh_stands sound caller called h }

@@ -1,5 +1,7 @@
 -- What users ask for, and copies of it in memory.
-use Rattle.std.specs.Prelude.{ℕ, List, [], Option, option_map}
+use Rattle.std.specs.Prelude.{◌<◌, ℕ, List, [], Option, option_map, IfSome}
+use Rattle.osi_tpkt.specs.Octets.{IsOctets}
+use Rattle.osi_carrier.specs.Course.{IsTsap}
 use Rattle.osi_message.specs.Tokens.{named}
 use Rattle.osi_spdu.specs.Fields.{bits_of, unit_bits}
 use Rattle.osi_spdu.specs.declared.settings.TokenSetting.{TokenSetting}
@@ -34,6 +36,15 @@ asked_of c = record {
   called_selector = called_octets c;
   octets = c.user_data.now;
 }
+
+-- what each that is asked for in memory has: a number that a point may have, and octets
+pub record CanBeAsked (c : Connect) : Type 0 where
+  pub serial : c.serial.number < 1000000
+  pub calling : IsTsap (option_map tsap_octets c.calling_tsap)
+  pub called : IsTsap (option_map tsap_octets c.called_tsap)
+  pub calling_selector : IfSome (calling_octets c) IsOctets
+  pub called_selector : IfSome (called_octets c) IsOctets
+  pub octets : IsOctets c.user_data.now
 
 -- a copy in memory
 abbrev pub asked_by : OwnedConnect → Asked

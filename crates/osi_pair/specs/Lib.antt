@@ -9,3 +9,5 @@ pub mod Events
 pub mod Running
 pub mod Memory
 pub mod Standing
+pub mod Promises
+pub mod Advancing

@@ -1,11 +1,15 @@
 -- How two ends stand to the tables of the machine: what each end has is what the tables have of it, and what
 -- is under way between the two is what the tables have under way.
-use Rattle.std.specs.Prelude.{◌≡◌, ℕ, ◌<◌, ◌≤◌, Bool, true, false, List, [], ◌∷◌, ◌++◌, map, length, Option, Some, None, option_map, is_some, Result, Ok, Err}
+use Rattle.std.specs.Prelude.{◌≡◌, ℕ, ◌<◌, ◌≤◌, Bool, true, false, List, [], ◌∷◌, ◌++◌, map, length, Option, Some, None, option_map, is_some, IsSome, IfSome, Result, Ok, Err}
 use Rattle.std.specs.List.{AllByRecursion}
+use Rattle.osi_tpkt.specs.Held.{Held}
 use Rattle.osi_carrier.specs.Between.{Between, Both, AreBetween, last_of, under_way}
-use Rattle.osi_carrier.specs.Course.{Place, never, was_given, place_at, connection_in}
-use Rattle.osi_carrier.specs.Messages.{AreLike}
+use Rattle.osi_carrier.specs.Course.{Place, never, was_given, place_at, progress_of}
+use Rattle.osi_carrier.specs.Messages.{kind_of}
 use Rattle.osi_carrier.specs.Messages as carrier
+use Rattle.osi_carrier.specs.Orderly.{RiseFrom}
+use Rattle.osi_carrier.specs.Progress.{Progress, shutting}
+use Rattle.osi_carrier.specs.Progress as progress
 use Rattle.osi_carrier.specs.Rows.{value_at}
 use Rattle.osi_carrier.specs.State.{asked, linked, closing}
 use Rattle.osi_carrier.specs.Terms.{terms_of}
@@ -17,19 +21,25 @@ use Rattle.osi_class.specs.declared.terms.Class.{Class}
 use Rattle.osi_class.specs.declared.terms.Class.TheVariants as classes
 use Rattle.osi_machine.specs.Core.{Offer}
 use Rattle.osi_machine.specs.Core as machine
-use Rattle.osi_machine.specs.Machine.{Ending, told_of_break, closed_here, no_memory, Refusal, has_ended, negotiating, one_connection, too_many, references_used_up, not_selected, too_long, connect_answered, call_answered, shown_at, ended, connection_at, Step, breaks, HasNumber}
+use Rattle.osi_machine.specs.Machine.{Ending, told_of_break, closed_here, no_memory, Refusal, has_ended, negotiating, one_connection, too_many, references_used_up, not_selected, too_long, connect_answered, call_answered, shown_at, ended, connection_at, Step, delivers, breaks, HasNumber}
 use Rattle.osi_machine.specs.Machine as entries
 use Rattle.osi_machine.specs.Tables.{Seat, Line, Tables, run, start}
 use Rattle.osi_machine.specs.Worlds.{Message, unit, ask, agree, deny, bye, over, Transport, not_yet, waiting, gone, Terms, accepts, denies}
 use Rattle.osi_machine.specs.Worlds as worlds
+use Rattle.osi_message.specs.InOctets.{IsInOctets}
 use Rattle.osi_message.specs.Written.{written}
+use Rattle.osi_session.specs.Moves.{Standing}
 use Rattle.osi_session.specs.Phases.{is_ended}
 use Rattle.osi_session.specs.Sessions.{awaits}
-use Rattle.osi_stack.specs.State.{Holding, session_at}
+use Rattle.osi_stack.specs.Folds.{AllCameAbout}
+use Rattle.osi_stack.specs.Hearing.{after_packet}
+use Rattle.osi_stack.specs.Links.{Soundness}
+use Rattle.osi_stack.specs.Messages.{kept_at}
+use Rattle.osi_stack.specs.State.{End, Holding, session_at}
 use Rattle.osi_stack.specs.declared.connecting.ConnectError.{ConnectError}
 use Rattle.osi_stack.specs.declared.connecting.ConnectError.TheVariants.{Open, NotSelected, TooLong}
 use Rattle.osi_pair.specs.Asked.{Asked}
-use Rattle.osi_pair.specs.Ends.{TwoEnds, end_at}
+use Rattle.osi_pair.specs.Ends.{TwoEnds, end_at, with_end}
 use Rattle.osi_pair.specs.Entries.{Entry, asks, calls, shows, ends}
 use Rattle.osi_pair.specs.Telling.{waiting_in}
 use Rattle.osi_pair.specs.declared.sides.Side.{Side}
@@ -123,18 +133,33 @@ carriers_of p = record {
 
 -- ---- one connection
 
--- a side of it: its transport connection; its session, while it is live; one that is gone is over, and
--- one that was never given awaits a CN
+-- it is closing, or gone
+abbrev pub is_parting : Transport → Bool
+is_parting worlds.closing = true
+is_parting gone = true
+is_parting transport = false
+
+-- a side of it: its transport connection; its session, while it is live, and also as long as it is kept
+-- once it is gone; one that parts is over, and one that was never given awaits a CN
 pub record IsSeated (n : ℕ) (h : Holding) (seat : Seat) : Type 0 where
   pub transport : seat.transport ≡ transport_in (place_at n h.end.carrier)
   pub live : is_some (value_at n h.end.carrier.live) ≡ true → session_at n h.end ≡ Some seat.session
-  pub over_now : seat.transport ≡ gone → is_ended seat.session.state.phase ≡ true
+  pub kept : (s : Standing) → kept_at n h.end.lines ≡ Some s → s ≡ seat.session
+  pub over_now : is_parting seat.transport ≡ true → is_ended seat.session.state.phase ≡ true
   pub awaiting : seat.transport ≡ not_yet → seat.session ≡ awaits
+  -- the CN that waits goes into octets
+  pub octets : IfSome seat.session.waiting IsInOctets
+
+-- The same messages; of one kind where the taker is closing or has closed: it takes no TSDU any more.
+abbrev pub AreAlike : Progress → List carrier.Message → List carrier.Message → Type 0
+AreAlike shutting some others = map kind_of some ≡ map kind_of others
+AreAlike progress.gone some others = map kind_of some ≡ map kind_of others
+AreAlike taker some others = some ≡ others
 
 -- what is under way from a side, while the other lasts
 abbrev pub IsUnderWay : Side → Side → ℕ → TwoEnds → Between → Seat → Type 0
 IsUnderWay side other n p b seat = (end_at other p).end.carrier.ended ≡ None →
-    AreLike (connection_in (place_at n (last_of (is_caller other) b))) (map message_in seat.channel) (under_way (is_caller side) n (carriers_of p) b)
+    AreAlike (progress_of (place_at n (last_of (is_caller other) b))) (map message_in seat.channel) (under_way (is_caller side) n (carriers_of p) b)
 
 pub record IsLine (n : ℕ) (p : TwoEnds) (b : Between) (l : Line) : Type 0 where
   pub left : IsSeated n p.left l.own
@@ -147,6 +172,17 @@ pub record HasLine (n : ℕ) (p : TwoEnds) (b : Between) (t : Tables) : Type 0 w
   pub found : connection_at n t.lines ≡ Some line
   pub is : IsLine n p b line
 
+-- ---- an end
+
+-- what is true of an end while it lasts: it has heard what its carrier told; its connections and sessions
+-- go together; its lines stand in the order in which their references were given; and each session is what
+-- its inputs made of it
+pub record IsInOrder (e : End) : Type 0 where
+  pub heard : e.carrier.events ≡ []
+  pub sound : Soundness e
+  pub rising : RiseFrom 0 e.lines
+  pub came : AllCameAbout e.lines
+
 -- ---- all of it
 
 -- `b`: what is between the two carriers, from which what is under way is read
@@ -155,12 +191,25 @@ pub record Stands (p : TwoEnds) (b : Between) (t : Tables) : Type 0 where
   pub between : AreBetween (terms_of p.left.end.carrier.local p.right.end.carrier.local) (carriers_of p) b
   pub terms : t.terms ≡ terms_in (terms_of p.left.end.carrier.local p.right.end.carrier.local)
   pub broken : t.broken ≡ is_some p.reach
+  pub caller : p.left.end.carrier.is_caller ≡ true
   pub left_end : option_map Some t.left_end ≡ option_map ending_in p.left.end.carrier.ended
   pub right_end : option_map Some t.right_end ≡ option_map ending_in p.right.end.carrier.ended
   pub known : t.known ≡ option_map class_in p.left.end.carrier.class
   pub journal : map Some t.journal ≡ map entry_in p.journal
   pub given : length t.lines ≡ p.left.end.carrier.given
+  -- an end keeps the references and the class
+  pub given_then : b.caller.given ≡ p.left.end.carrier.given
+  pub class_then : b.caller.class ≡ p.left.end.carrier.class
+  -- the called end gives no reference that the caller did not
+  pub given_back : p.right.end.carrier.given ≤ length t.lines
   pub lines : (n : ℕ) → 0 < n → n ≤ length t.lines → HasLine n p b t
+  -- no connection of an end that has ended is live
+  pub over_left : IsSome p.left.end.carrier.ended → p.left.end.carrier.live ≡ []
+  pub over_right : IsSome p.right.end.carrier.ended → p.right.end.carrier.live ≡ []
+  -- nor is a session of it kept
+  pub lost_right : IsSome p.right.end.carrier.ended → (n : ℕ) → kept_at n p.right.end.lines ≡ None
+  pub order_left : p.left.end.carrier.ended ≡ None → IsInOrder p.left.end
+  pub order_right : p.right.end.carrier.ended ≡ None → IsInOrder p.right.end
   -- all that was shown is in the journal
   pub quiet_left : waiting_in p.left.end.lines ≡ []
   pub quiet_right : waiting_in p.right.end.lines ≡ []
@@ -173,8 +222,36 @@ pub record StandsAt (p : TwoEnds) (steps : List Step) : Type 0 where
   pub now : Between
   pub stands : Stands p now (run (start (terms_in (terms_of p.left.end.carrier.local p.right.end.carrier.local))) steps)
 
+-- they stand at that list followed by the end of a side that is told of the break
+pub record StandsAtEnd (side : Side) (p : TwoEnds) (steps : List Step) : Type 0 where
+  pub keep : ℕ → ℕ
+  pub stands : StandsAt p (steps ++ entries.ends (side_in side) told_of_break keep ∷ [])
+
+-- a side is told of the break: no step where it had ended before, and else its end
+abbrev pub StandsAtTold : (before : Option EndReason) → Side → TwoEnds → List Step → Type 0
+StandsAtTold (Some reason) side p steps = StandsAt p steps
+StandsAtTold None side p steps = StandsAtEnd side p steps
+
 -- they stand at that list followed by a break, which leaves so much of what was under way
 pub record StandsAtBreak (p : TwoEnds) (steps : List Step) : Type 0 where
   pub keep_left : ℕ → ℕ
   pub keep_right : ℕ → ℕ
   pub stands : StandsAt p (steps ++ breaks keep_left keep_right ∷ [])
+
+-- ---- a packet that an end holds first is taken
+
+-- what it holds then is behind it
+abbrev pub packet_taken : Side → List ℕ → Held → TwoEnds → TwoEnds
+packet_taken side packet held p = with_end side (record { end = after_packet (end_at side p).end packet; held = held }) p
+
+-- deliveries to a side
+abbrev pub AreDeliveries : machine.Side → List Step → Type 0
+AreDeliveries side [] = Unit {0}
+AreDeliveries side (delivers taker r keep ∷ steps) = (taker ≡ side) × AreDeliveries side steps
+AreDeliveries side (step ∷ steps) = ⊥
+
+-- they stand at that list followed by deliveries to a side
+pub record StandsAtDeliveries (side : Side) (p : TwoEnds) (steps : List Step) : Type 0 where
+  pub more : List Step
+  pub are : AreDeliveries (side_in side) more
+  pub stands : StandsAt p (steps ++ more)

@@ -108,7 +108,7 @@ impl OwnedConnect {
 }
 
 /// The user data of a call; none for a Give.
-fn user_data<'a>(request: Request<'a>) -> &'a [u8]
+pub(crate) fn user_data<'a>(request: Request<'a>) -> &'a [u8]
     ensures { result.now ≡ octets_of (called_by request.entry) }
 {
     match request {

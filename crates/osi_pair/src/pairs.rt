@@ -2,7 +2,9 @@ use crate::ends::Ends;
 use crate::entries::Entry;
 use crate::events::{Applied, Event};
 use crate::faults::{PairError, RunError};
+use crate::octets::can_happen;
 use crate::sides::Side;
+use crate::standing::{how_two_ends_are_called, how_two_ends_stand};
 use osi_class::Local;
 use osi_stack::Stack;
 use std::alloc::Global;
@@ -26,16 +28,21 @@ impl Model for Pair {
 }
 
 impl Pair {
-    ghost use Rattle.std.specs.Prelude.{◌≡◌, None, map, IfOk, IfErr, OnOk, OnErr};
+    ghost use Rattle.std.specs.Prelude.{◌≡◌, List, [], None, map, IfOk, IfErr, OnOk, OnErr};
+    ghost use Rattle.osi_machine.specs.Machine.{Step};
+    ghost use Rattle.osi_pair.specs.Advancing.{StandsAfter};
     ghost use Rattle.osi_pair.specs.Ends.{fresh_ends, end_at};
     ghost use Rattle.osi_pair.specs.Entries.{entry_by};
     ghost use Rattle.osi_pair.specs.Events.{misfit, error_by_rule, Does, DoAll, CarriesAsMuch, Adds};
     ghost use Rattle.osi_pair.specs.Running.{StopsAt};
+    ghost use Rattle.osi_pair.specs.Standing.{StandsAt};
 
     /// Two ends on which nothing has happened.
     pub fn new(alloc: Global, left: Local, right: Local) -> Self
-        ensures { result ≡ fresh_ends left right }
+        ensures value { result ≡ fresh_ends left right }
+        ensures stands { StandsAt result [] }
     {
+        how_two_ends_stand();
         Pair {
             ends: Ends::new(alloc, left, right),
         }
@@ -48,6 +55,9 @@ impl Pair {
     /// comes of it; it carries fewer than it was asked to where there is no memory for what the
     /// journal may have to say of more. After an [`Event::Break`] only those can be carried that it
     /// leaves, and an [`Event::Told`] ends an end that has not ended.
+    ///
+    /// For each list of steps of the machine at which the two ends stood, they stand at that list
+    /// followed by the steps of this event; of a carry nothing of the kind is said.
     #[tactic(auto, using(crate::proofs::Growing::does_add))]
     pub fn apply(&mut self, event: &Event) -> Result<Applied, PairError>
         ensures does { IfOk result (λ applied. Does event.now self.old applied.carried self.new) }
@@ -56,7 +66,11 @@ impl Pair {
         ensures refused { IfErr result (λ error. error_by_rule error ≡ misfit event.now self.old) }
         ensures err { OnErr result (self.new ≡ self.old) }
         ensures journal { OnOk result (Adds self.old.journal self.new.journal) }
+        ensures stands { OnOk result ((steps : List Step) → StandsAt self.old steps → StandsAfter event.now self.old self.new steps) }
     {
+        can_happen(event);
+        how_two_ends_stand();
+        how_two_ends_are_called();
         let carried = self.ends.apply(event)?;
         Ok(Applied { carried })
     }

@@ -1,19 +1,62 @@
 //! How two ends stand to the machine of whole messages. Each function does nothing: its clauses are the
 //! laws.
 
-ghost use Rattle.std.specs.Prelude.{◌≡◌, ℕ, List, [], None};
+ghost use Rattle.std.specs.Prelude.{◌≡◌, ℕ, List, [], ◌∷◌, ◌++◌, None, true, is_some};
+ghost use Rattle.osi_tpkt.specs.Octets.{IsOctets};
 ghost use Rattle.osi_class.specs.declared.terms.Local.{Local};
-ghost use Rattle.osi_machine.specs.Machine.{Step};
-ghost use Rattle.osi_pair.specs.Ends.{TwoEnds, fresh_ends, after_break};
-ghost use Rattle.osi_pair.specs.Standing.{StandsAt, StandsAtBreak};
+ghost use Rattle.osi_session.specs.Allowed.{octets_of};
+ghost use Rattle.osi_session.specs.Calls.{Call, HasSerial};
+ghost use Rattle.osi_machine.specs.Machine.{Step, connects, calls};
+ghost use Rattle.osi_stack.specs.declared.connecting.Connect.{Connect};
+ghost use Rattle.osi_pair.specs.Asked.{asked_of, CanBeAsked};
+ghost use Rattle.osi_pair.specs.Ends.{TwoEnds, end_at, fresh_ends, after_connect, after_call, after_break};
+ghost use Rattle.osi_pair.specs.Events.{TellsBreak};
+ghost use Rattle.osi_pair.specs.Standing.{side_in, offer_in, StandsAt, StandsAtBreak, StandsAtTold};
+ghost use Rattle.osi_pair.specs.declared.sides.Side.{Side};
 
-use osi_carrier::two_carriers::whatever_becomes_of_two_carriers;
+use osi_carrier::two_carriers::{what_two_carriers_have, whatever_becomes_of_two_carriers};
+use osi_machine::laws::{what_is_under_way_can_be_sent, what_stands_at_a_reference};
+use osi_message::laws::what_is_sent_is_octets;
+use osi_session::laws::{what_an_accepted_call_passed, what_is_sent_can_be_sent};
+use osi_stack::laws::{
+    a_call_is_answered_by_its_session, a_session_is_what_its_inputs_made_it,
+    a_session_that_is_called_has_a_connection, all_that_is_told_is_heard, lines_rise_by_reference,
+    what_a_call_says,
+};
 
 /// Two ends on which nothing has happened stand at the empty list of steps of the machine. Where two ends
-/// stand at a list of steps, and the byte connection breaks, they stand at that list followed by one break.
+/// stand at a list of steps, and the byte connection breaks, they stand at that list followed by one break;
+/// and where it has broken, and a side is told of that, they stand at that list followed by the end of that
+/// side, or at the same list where it had ended.
 pub fn how_two_ends_stand()
     ensures begins { (caller called : Local) → StandsAt (fresh_ends caller called) [] }
     ensures broken { (p : TwoEnds) (steps : List Step) (k l : ℕ) → StandsAt p steps → p.reach ≡ None → StandsAtBreak (after_break k l p) steps }
+    ensures tells { (side : Side) (old new : TwoEnds) (steps : List Step) → StandsAt old steps → is_some old.reach ≡ true → TellsBreak side old new →
+        StandsAtTold (end_at side old).end.carrier.ended side new steps }
 {
     whatever_becomes_of_two_carriers();
+    a_session_that_is_called_has_a_connection();
+}
+
+/// Where two ends stand at a list of steps, and the user of the left end asks for a connection, or the user of a
+/// connection calls, they stand at that list followed by what was asked, accepted or refused.
+pub fn how_two_ends_are_called()
+    ensures connects { (p : TwoEnds) (steps : List Step) (c : Connect) → CanBeAsked c → StandsAt p steps →
+        StandsAt (after_connect c p) (steps ++ connects (offer_in (asked_of c)) ∷ []) }
+    ensures calls { (p : TwoEnds) (steps : List Step) (side : Side) (r : ℕ) (call : Call) → HasSerial call → IsOctets (octets_of call) → StandsAt p steps →
+        StandsAt (after_call side r call p) (steps ++ calls (side_in side) r call ∷ []) }
+{
+    whatever_becomes_of_two_carriers();
+    what_a_call_says();
+    a_call_is_answered_by_its_session();
+    a_session_that_is_called_has_a_connection();
+    a_session_is_what_its_inputs_made_it();
+    all_that_is_told_is_heard();
+    lines_rise_by_reference();
+    what_is_sent_is_octets();
+    what_is_sent_can_be_sent();
+    what_an_accepted_call_passed();
+    what_is_under_way_can_be_sent();
+    what_stands_at_a_reference();
+    what_two_carriers_have();
 }

@@ -1,0 +1,196 @@
+-- What an end that acted for a connection leaves under way for it, and two ends whose journal says more.
+use Rattle.std.proofs.Common.{◌≡◌, refl, sym, ◌∙◌, ap, subst, ℕ, zero, suc, ◌<◌, ◌≤◌, Bool, true, false, nat_le, nat_lt, if◌then◌else◌, List, [], ◌∷◌, ◌++◌, length, map, Option, Some, None, option_map, is_some, IsSome, arith}
+use Rattle.std.proofs.lemmas.Bool.{lt-ltb, leb-true, leb-false}
+use Rattle.std.proofs.lemmas.Bool.Decides.{nat_tests}
+use Rattle.std.proofs.lemmas.List.{map-append}
+use Rattle.std.specs.List.{AllByRecursion}
+use Rattle.osi_carrier.specs.Between.{Between, Carries, last_of, under_way, put_in}
+use Rattle.osi_carrier.specs.Course.{Place, never, was_given, place_at, progress_of}
+use Rattle.osi_carrier.specs.Messages as carrier
+use Rattle.osi_carrier.specs.Progress.{Progress}
+use Rattle.osi_carrier.specs.Rows.{value_at}
+use Rattle.osi_carrier.specs.State.{State as Carrier}
+use Rattle.osi_carrier.specs.Terms.{Terms, terms_of}
+use Rattle.osi_machine.specs.Machine.{connection_at, Step, HasNumber}
+use Rattle.osi_machine.specs.Machine as entries
+use Rattle.osi_machine.specs.Tables.{Seat, Line, Tables, noted as noted_in, step, run, start}
+use Rattle.osi_machine.specs.Worlds.{Message, put}
+use Rattle.osi_stack.specs.State.{Holding}
+use Rattle.osi_pair.specs.Ends.{TwoEnds, end_at, noted}
+use Rattle.osi_pair.specs.Entries.{Entry}
+use Rattle.osi_pair.specs.Sides.{other}
+use Rattle.osi_pair.specs.Standing.{is_caller, terms_in, carriers_of, message_in, entry_in, AreAlike, IsUnderWay, IsInOrder, IsLine, Stands, StandsAt}
+use Rattle.osi_pair.specs.Telling.{waiting_in}
+use Rattle.osi_pair.specs.declared.reach.Reach.{Reach}
+use Rattle.osi_pair.specs.declared.sides.Side.{Side}
+use Rattle.osi_pair.specs.declared.sides.Side.TheVariants.{Left, Right}
+use Rattle.osi_pair.proofs.StandingSides.{alike_trans, alike_same, alike_at, like_alike, alike_put}
+
+-- ---- what is under way from the end that acted
+
+reach_in : (p : TwoEnds) (broken : Bool) → broken ≡ is_some p.reach → is_some (carriers_of p).reach ≡ broken
+reach_in p broken e = mapped p.reach ∙ sym e
+  where
+    mapped : (o : Option Reach) → is_some {T = ℕ × ℕ} (option_map (λ r. (r.left, r.right)) o) ≡ is_some o
+    mapped None = refl
+    mapped (Some r) = refl
+
+put_now : (p : TwoEnds) (broken : Bool) (ms : List carrier.Message) → broken ≡ is_some p.reach → put_in (carriers_of p) ms ≡ (if broken then [] else ms)
+put_now p broken ms e = ap (λ (b : Bool). if◌then◌else◌ {A = List carrier.Message} b [] ms) (reach_in p broken e)
+
+pub out_way : (terms : Terms) (side : Side) (r : ℕ) (p new : TwoEnds) (b c : Between) (more channel : List Message) (broken : Bool) (seat : Seat) →
+    (k : Carries terms (is_caller side) r (carriers_of p) (carriers_of new) b c [] (map message_in more)) → broken ≡ is_some p.reach → k.gone ≡ [] →
+    end_at (other side) new ≡ end_at (other side) p →
+    ((end_at (other side) p).end.carrier.ended ≡ None →
+    AreAlike (progress_of (place_at r (last_of (is_caller (other side)) b))) (map message_in channel) (under_way (is_caller side) r (carriers_of p) b)) →
+    seat.channel ≡ put broken more channel → IsUnderWay side (other side) r new c seat
+out_way terms Left r p new b c more channel broken seat k reach none there was is = λ e.
+    alike_at (progress_of (place_at r b.called)) (progress_of (place_at r c.called)) _ _ (ap (λ (s : Carrier). progress_of (place_at r s)) (sym k.there))
+    (alike_trans (progress_of (place_at r b.called)) _ _ _ (alike_same (progress_of (place_at r b.called)) _ _ (ap (map message_in) is))
+    (alike_put (progress_of (place_at r b.called)) broken channel more (under_way true r (carriers_of p) b) (under_way true r (carriers_of new) c) k.stays k.gone
+    (was (ap (λ (x : Holding). x.end.carrier.ended) (sym there) ∙ e)) (like_alike (place_at r b.called) _ _ k.before) none
+    (alike_trans (progress_of (place_at r b.called)) _ _ _ (like_alike (place_at r b.called) _ _ k.after)
+    (alike_same (progress_of (place_at r b.called)) _ _ (ap (λ (l : List carrier.Message). k.stays ++ l) (put_now p broken (map message_in more) reach))))))
+out_way terms Right r p new b c more channel broken seat k reach none there was is = λ e.
+    alike_at (progress_of (place_at r b.caller)) (progress_of (place_at r c.caller)) _ _ (ap (λ (s : Carrier). progress_of (place_at r s)) (sym k.there))
+    (alike_trans (progress_of (place_at r b.caller)) _ _ _ (alike_same (progress_of (place_at r b.caller)) _ _ (ap (map message_in) is))
+    (alike_put (progress_of (place_at r b.caller)) broken channel more (under_way false r (carriers_of p) b) (under_way false r (carriers_of new) c) k.stays k.gone
+    (was (ap (λ (x : Holding). x.end.carrier.ended) (sym there) ∙ e)) (like_alike (place_at r b.caller) _ _ k.before) none
+    (alike_trans (progress_of (place_at r b.caller)) _ _ _ (like_alike (place_at r b.caller) _ _ k.after)
+    (alike_same (progress_of (place_at r b.caller)) _ _ (ap (λ (l : List carrier.Message). k.stays ++ l) (put_now p broken (map message_in more) reach))))))
+
+-- ---- what is under way to it
+
+-- nothing arrived
+came_same : (g h : Progress) (ch old now arrived : List carrier.Message) → g ≡ h → arrived ≡ [] → AreAlike g ch old → AreAlike h old (arrived ++ now) → AreAlike h ch now
+came_same g h ch old now arrived e none was came =
+    alike_trans h ch old now (alike_at g h ch old e was) (alike_trans h old (arrived ++ now) now came (alike_same h (arrived ++ now) now (ap (λ (l : List carrier.Message). l ++ now) none)))
+
+pub back_way : (terms : Terms) (side : Side) (r : ℕ) (p new : TwoEnds) (b c : Between) (messages : List carrier.Message) (seat : Seat) →
+    (k : Carries terms (is_caller side) r (carriers_of p) (carriers_of new) b c [] messages) →
+    progress_of (place_at r (last_of (is_caller side) b)) ≡ progress_of (place_at r (last_of (is_caller side) c)) →
+    AreAlike (progress_of (place_at r (last_of (is_caller side) b))) (map message_in seat.channel) (under_way (is_caller (other side)) r (carriers_of p) b) →
+    IsUnderWay (other side) side r new c seat
+back_way terms Left r p new b c messages seat k same was = λ e.
+    came_same (progress_of (place_at r b.caller)) (progress_of (place_at r c.caller)) (map message_in seat.channel) (under_way false r (carriers_of p) b) (under_way false r (carriers_of new) c) k.arrived
+    same k.brings.is was (like_alike (place_at r c.caller) _ _ k.came)
+back_way terms Right r p new b c messages seat k same was = λ e.
+    came_same (progress_of (place_at r b.called)) (progress_of (place_at r c.called)) (map message_in seat.channel) (under_way true r (carriers_of p) b) (under_way true r (carriers_of new) c) k.arrived
+    same k.brings.is was (like_alike (place_at r c.called) _ _ k.came)
+
+-- ---- places
+
+pub place_given : (r : ℕ) (c : Carrier) → r ≤ c.given → place_at r c ≡ was_given (value_at r c.live)
+place_given r c h =
+    let no : nat_lt c.given r ≡ false = grind (arith, nat_tests) in
+    ap (λ (b : Bool). if◌then◌else◌ {A = Place} b never (was_given (value_at r c.live))) no
+
+pub place_ahead : (r : ℕ) (c : Carrier) → c.given < r → place_at r c ≡ never
+place_ahead r c h = ap (λ (b : Bool). if◌then◌else◌ {A = Place} b never (was_given (value_at r c.live))) (lt-ltb c.given r h)
+
+-- ---- an end of two that stand
+
+pub record OfEnd (side : Side) (p : TwoEnds) (b : Between) (t : Tables) : Type 0 where
+  pub given : (end_at side p).end.carrier.given ≤ length t.lines
+  pub order : (end_at side p).end.carrier.ended ≡ None → IsInOrder (end_at side p).end
+  pub over : IsSome (end_at side p).end.carrier.ended → (end_at side p).end.carrier.live ≡ []
+  pub quiet : waiting_in (end_at side p).end.lines ≡ []
+  pub lives : (end_at side p).end.carrier.ended ≡ None → (end_at side p).end.carrier ≡ last_of (is_caller side) b
+
+pub of_end : (side : Side) (p : TwoEnds) (b : Between) (t : Tables) → Stands p b t → OfEnd side p b t
+of_end Left p b t s = record {
+  given = let e = s.given in omega arith;
+  order = s.order_left;
+  over = s.over_left;
+  quiet = s.quiet_left;
+  lives = λ e. s.between.lives true e;
+}
+of_end Right p b t s = record {
+  given = s.given_back;
+  order = s.order_right;
+  over = s.over_right;
+  quiet = s.quiet_right;
+  lives = λ e. s.between.lives false e;
+}
+
+-- ---- a line of two that stand
+
+pub record There (r : ℕ) (p : TwoEnds) (b : Between) (t : Tables) (l : Line) : Type 0 where
+  pub some : 0 < r
+  pub within : r ≤ length t.lines
+  pub is : IsLine r p b l
+
+there_by : (k : ℕ) (p : TwoEnds) (b : Between) (t : Tables) (l : Line) (fits : Bool) → nat_le (suc k) (length t.lines) ≡ fits → (length t.lines < suc k → connection_at (suc k) t.lines ≡ None) →
+    Stands p b t → connection_at (suc k) t.lines ≡ Some l → There (suc k) p b t l
+there_by k p b t l true e none s at =
+    let within : suc k ≤ length t.lines = leb-true (suc k) (length t.lines) e in
+    let h = s.lines (suc k) (omega arith) within in
+    let same : h.line ≡ l = (let x = sym h.found ∙ at in cc) in
+    record { some = omega arith; within = within; is = subst (IsLine (suc k) p b) same h.is }
+there_by k p b t l false e none s at = let no = sym at ∙ none (leb-false (suc k) (length t.lines) e) in absurd cc
+
+abbrev pub NoneBeyond : Type 0
+NoneBeyond = (q : ℕ) (lines : List Line) → length lines < q → connection_at q lines ≡ None
+
+pub there : NoneBeyond → (r : ℕ) (p : TwoEnds) (b : Between) (t : Tables) (l : Line) → Stands p b t → connection_at r t.lines ≡ Some l → There r p b t l
+there none zero p b t l s at = absurd cc
+there none (suc k) p b t l s at = there_by k p b t l (nat_le (suc k) (length t.lines)) refl (none (suc k) t.lines) s at
+
+-- ---- the journal says more
+
+says_more : (es : List entries.Entry) (js : List Entry) (x : entries.Entry) (e : Entry) → map Some es ≡ map entry_in js → entry_in e ≡ Some x →
+    map Some (es ++ x ∷ []) ≡ map entry_in (js ++ e ∷ [])
+says_more es js x e h is =
+    map-append Some es (x ∷ []) ∙ ap (λ (l : List (Option entries.Entry)). l ++ Some x ∷ []) h ∙ ap (λ (o : Option entries.Entry). map entry_in js ++ o ∷ []) (sym is)
+    ∙ sym (map-append entry_in js (e ∷ []))
+
+pub more_said : (p : TwoEnds) (b : Between) (t : Tables) (e : Entry) (x : entries.Entry) → entry_in e ≡ Some x → Stands p b t → Stands (noted (e ∷ []) p) b (noted_in (x ∷ []) t)
+more_said p b t e x is s = record {
+  between = s.between;
+  terms = s.terms;
+  broken = s.broken;
+  caller = s.caller;
+  left_end = s.left_end;
+  right_end = s.right_end;
+  known = s.known;
+  journal = says_more t.journal p.journal x e s.journal is;
+  given = s.given;
+  given_then = s.given_then;
+  class_then = s.class_then;
+  given_back = s.given_back;
+  lines = λ n a c. let h = s.lines n a c in record { line = h.line; found = h.found; is = record { left = h.is.left; right = h.is.right; rightward = h.is.rightward; leftward = h.is.leftward } };
+  over_left = s.over_left;
+  over_right = s.over_right;
+  lost_right = s.lost_right;
+  order_left = s.order_left;
+  order_right = s.order_right;
+  quiet_left = s.quiet_left;
+  quiet_right = s.quiet_right;
+}
+
+-- ---- one more step
+
+run_one : (t : Tables) (xs : List Step) (x : Step) → run t (xs ++ x ∷ []) ≡ step (run t xs) x
+run_one t [] x = refl
+run_one t (y ∷ xs) x = run_one (step t y) xs x
+
+number_one : (xs : List Step) (x : Step) → AllByRecursion HasNumber xs → HasNumber x → AllByRecursion HasNumber (xs ++ x ∷ [])
+number_one [] x a h = (h, tt)
+number_one (y ∷ xs) x a h = (a.0, number_one xs x a.1 h)
+
+pub record StandsOn (p : TwoEnds) (t : Tables) : Type 0 where
+  pub now : Between
+  pub stands : Stands p now t
+
+abbrev pub begun_with : TwoEnds → Tables
+begun_with p = start (terms_in (terms_of p.left.end.carrier.local p.right.end.carrier.local))
+
+pub one_step : (p new : TwoEnds) (steps : List Step) (x : Step) → HasNumber x →
+    terms_of new.left.end.carrier.local new.right.end.carrier.local ≡ terms_of p.left.end.carrier.local p.right.end.carrier.local → AllByRecursion HasNumber steps →
+    StandsOn new (step (run (begun_with p) steps) x) → StandsAt new (steps ++ x ∷ [])
+one_step p new steps x number same numbered h = record {
+  numbered = number_one steps x numbered number;
+  now = h.now;
+  stands = subst (λ (k : Terms). Stands new h.now (run (start (terms_in k)) (steps ++ x ∷ []))) (sym same)
+      (subst (Stands new h.now) (sym (run_one (start (terms_in (terms_of p.left.end.carrier.local p.right.end.carrier.local))) steps x)) h.stands);
+}

@@ -1,0 +1,137 @@
+-- A call is answered as the machine answers it.
+use Rattle.std.proofs.Common.{◌≡◌, refl, sym, ◌∙◌, ap, subst, ℕ, zero, suc, ◌<◌, ◌≤◌, ◌&&◌, Bool, true, false, not, nat_le, nat_lt, if◌then◌else◌, length, Option, Some, None, is_some, IsSome, Err, arith}
+use Rattle.std.proofs.lemmas.Bool.{lt-ltb, le-leb, leb-true, leb-false}
+use Rattle.std.proofs.lemmas.Bool.Decides.{nat_tests}
+use Rattle.osi_carrier.specs.Between.{Between}
+use Rattle.osi_carrier.specs.Course.{was_given, place_at}
+use Rattle.osi_carrier.specs.Rows.{value_at}
+use Rattle.osi_carrier.specs.State.{Connection, asked, linked, closing, State as Carrier}
+use Rattle.osi_carrier.specs.declared.ends.EndReason.{EndReason}
+use Rattle.osi_machine.specs.Machine.{connection_at, is_given}
+use Rattle.osi_machine.specs.Tables.{Seat, Line, Tables, seen_from, side_of}
+use Rattle.osi_machine.specs.Worlds.{gone, not_yet}
+use Rattle.osi_session.specs.Allowed.{Answer, may_call, octets_of, most_of, met, sized, allowed}
+use Rattle.osi_session.specs.Calls.{Call, HasSerial}
+use Rattle.osi_session.specs.Moves.{Standing, called, answered, react}
+use Rattle.osi_session.specs.Phases.{is_ended, is_over}
+use Rattle.osi_session.specs.declared.faults.CallError.{CallError}
+use Rattle.osi_session.specs.declared.faults.CallError.TheVariants as error
+use Rattle.osi_session.specs.declared.phases.Phase.{Phase}
+use Rattle.osi_session.specs.declared.phases.Phase.TheVariants.{Ended}
+use Rattle.osi_stack.specs.Calls.{has_given, session_refusal, session_error, call_error, table_error}
+use Rattle.osi_stack.specs.Folds.{AllCameAbout}
+use Rattle.osi_stack.specs.Links.{Soundness}
+use Rattle.osi_stack.specs.State.{End, Holding, session_in, session_at}
+use Rattle.osi_pair.specs.Ends.{TwoEnds, end_at}
+use Rattle.osi_pair.specs.Standing.{side_in, transport_in, is_parting, IsSeated, Stands}
+use Rattle.osi_pair.specs.declared.sides.Side.{Side}
+use Rattle.osi_pair.proofs.StandingActs.{OfEnd, of_end, there, NoneBeyond, place_given, place_ahead}
+use Rattle.osi_pair.proofs.StandingSides.{seen}
+
+-- what the machine answers, by the line of the reference
+abbrev pub seat_error : Seat → Call → Option CallError
+seat_error seat call = if is_given seat.transport then (react seat.session (called call)).error else Some error.NoSuchConnection
+
+abbrev pub line_error : Option Line → Call → Option CallError
+line_error None call = Some error.NoSuchConnection
+line_error (Some l) call = seat_error l.own call
+
+-- ---- a session that is over
+
+ended_over : (p : Phase) → is_ended p ≡ true → is_over p ≡ true
+ended_over Ended e = refl
+ended_over _ e = absurd cc
+
+pub ended_refuses : (s : Standing) (call : Call) → is_ended s.state.phase ≡ true → (react s (called call)).error ≡ Some error.Ended
+unfolding react allowed
+ended_refuses s call e =
+    let rest : Answer = if◌then◌else◌ {A = Answer} (not (may_call s.state.phase call)) (Err error.BadState) (sized (nat_le (length (octets_of call)) (most_of call)) (met s.state call)) in
+    ap (λ (b : Bool). (answered s (if◌then◌else◌ {A = Answer} b (Err error.Ended) rest)).error) (ended_over s.state.phase e)
+
+-- ---- a reference
+
+not_given : (r : ℕ) (c : Carrier) → c.given < r → has_given r c ≡ false
+not_given r c h = let no : nat_le r c.given ≡ false = grind (arith, nat_tests) in after (nat_lt 0 r) no
+  where
+    after : (b : Bool) → nat_le r c.given ≡ false → (b && nat_le r c.given) ≡ false
+    after true e = e
+    after false e = refl
+
+was_there : (r : ℕ) (c : Carrier) → 0 < r → r ≤ c.given → has_given r c ≡ true
+was_there r c some h = ap (λ (b : Bool). b && nat_le r c.given) (lt-ltb 0 r some) ∙ le-leb r c.given h
+
+by_given : (r : ℕ) (call : Call) (e : End) (b : Bool) → has_given r e.carrier ≡ b → table_error r call e ≡ (if not b then Some error.NoSuchConnection else session_error (session_at r e) call)
+by_given r call e b h = ap (λ (x : Bool). if◌then◌else◌ {A = Option CallError} (not x) (Some error.NoSuchConnection) (session_error (session_at r e) call)) h
+
+pub no_such : (r : ℕ) (call : Call) (e : End) → e.carrier.given < r → table_error r call e ≡ Some error.NoSuchConnection
+no_such r call e h = by_given r call e false (not_given r e.carrier h)
+
+pub session_gone : (r : ℕ) (e : End) → value_at r e.carrier.live ≡ None → session_at r e ≡ None
+session_gone r e h = ap (λ (o : Option Connection). if◌then◌else◌ {A = Option Standing} (is_some o) (session_in (value_at r e.lines)) None) h
+
+live_given : (x : Connection) → is_given (transport_in (was_given (Some x))) ≡ true
+live_given asked = refl
+live_given (linked peer link) = refl
+live_given (closing peer) = refl
+
+seat_by : (r : ℕ) (h : Holding) (seat : Seat) (call : Call) (o : Option Connection) → 0 < r → r ≤ h.end.carrier.given → value_at r h.end.carrier.live ≡ o → IsSeated r h seat →
+    table_error r call h.end ≡ seat_error seat call
+seat_by r h seat call None some within at s =
+    let place : place_at r h.end.carrier ≡ was_given None = place_given r h.end.carrier within ∙ ap was_given at in
+    let transport : seat.transport ≡ gone = s.transport ∙ ap transport_in place in
+    by_given r call h.end true (was_there r h.end.carrier some within) ∙ ap (λ (o : Option Standing). session_error o call) (session_gone r h.end at)
+    ∙ sym (ended_refuses seat.session call (over_gone s transport))
+    ∙ sym (ap (λ (t : _). if◌then◌else◌ {A = Option CallError} (is_given t) (react seat.session (called call)).error (Some error.NoSuchConnection)) transport)
+  where
+    over_gone : IsSeated r h seat → seat.transport ≡ gone → is_ended seat.session.state.phase ≡ true
+    over_gone x e = x.over_now (ap is_parting e)
+seat_by r h seat call (Some x) some within at s =
+    let place : place_at r h.end.carrier ≡ was_given (Some x) = place_given r h.end.carrier within ∙ ap was_given at in
+    let given : is_given seat.transport ≡ true = ap is_given (s.transport ∙ ap transport_in place) ∙ live_given x in
+    by_given r call h.end true (was_there r h.end.carrier some within) ∙ ap (λ (o : Option Standing). session_error o call) (s.live (ap is_some at))
+    ∙ sym (ap (λ (b : Bool). if◌then◌else◌ {A = Option CallError} b (react seat.session (called call)).error (Some error.NoSuchConnection)) given)
+
+seat_at : (r : ℕ) (h : Holding) (seat : Seat) (call : Call) (given : Bool) → 0 < r → nat_le r h.end.carrier.given ≡ given → IsSeated r h seat → table_error r call h.end ≡ seat_error seat call
+seat_at r h seat call true some e s = seat_by r h seat call (value_at r h.end.carrier.live) some (leb-true r h.end.carrier.given e) refl s
+seat_at r h seat call false some e s =
+    let above = leb-false r h.end.carrier.given e in
+    let transport : seat.transport ≡ not_yet = s.transport ∙ ap transport_in (place_ahead r h.end.carrier above) in
+    no_such r call h.end above ∙ sym (ap (λ (t : _). if◌then◌else◌ {A = Option CallError} (is_given t) (react seat.session (called call)).error (Some error.NoSuchConnection)) transport)
+
+-- ---- at two ends that stand
+
+none_there : (r : ℕ) (side : Side) (p : TwoEnds) (b : Between) (t : Tables) (call : Call) → Stands p b t → connection_at r t.lines ≡ None → table_error r call (end_at side p).end ≡ Some error.NoSuchConnection
+none_there zero side p b t call s at = refl
+none_there (suc k) side p b t call s at = by_fit (nat_le (suc k) (length t.lines)) refl
+  where
+    by_fit : (fits : Bool) → nat_le (suc k) (length t.lines) ≡ fits → table_error (suc k) call (end_at side p).end ≡ Some error.NoSuchConnection
+    by_fit true e = let h = s.lines (suc k) (omega arith) (leb-true (suc k) (length t.lines) e) in let no = sym at ∙ h.found in absurd cc
+    by_fit false e = let above = leb-false (suc k) (length t.lines) e in let few = (of_end side p b t s).given in no_such (suc k) call (end_at side p).end (omega arith)
+
+table_at : NoneBeyond → (r : ℕ) (side : Side) (p : TwoEnds) (b : Between) (t : Tables) (call : Call) (o : Option Line) → Stands p b t → connection_at r t.lines ≡ o →
+    table_error r call (end_at side p).end ≡ line_error (side_of (side_in side) o) call
+table_at none r side p b t call None s at = none_there r side p b t call s at
+table_at none r side p b t call (Some l) s at =
+    let h = there none r p b t l s at in
+    seat_at r (end_at side p) (seen_from (side_in side) l).own call (nat_le r (end_at side p).end.carrier.given) h.some refl (seen side r p b l h.is).own
+
+-- what the carrier says makes no difference
+abbrev pub Answered : Type 0
+Answered = (r : ℕ) (call : Call) (e : End) → HasSerial call → e.carrier.ended ≡ None → Soundness e → AllCameAbout e.lines → call_error r call e ≡ table_error r call e
+
+table_alone : Answered → (r : ℕ) (side : Side) (p : TwoEnds) (b : Between) (t : Tables) (call : Call) (ended : Option EndReason) → HasSerial call → OfEnd side p b t →
+    (end_at side p).end.carrier.ended ≡ ended → call_error r call (end_at side p).end ≡ table_error r call (end_at side p).end
+table_alone answers r side p b t call None serial h is =
+    let o = h.order is in answers r call (end_at side p).end serial is o.sound o.came
+table_alone answers r side p b t call (Some reason) serial h is =
+    let e : End = (end_at side p).end in
+    let none : value_at r e.carrier.live ≡ None = ap (value_at r) (h.over (subst (λ (o : Option EndReason). IsSome o) (sym is) refl)) in
+    let gone_now : session_at r e ≡ None = session_gone r e none in
+    ap (λ (o : Option Standing). if◌then◌else◌ {A = Option CallError} (not (has_given r e.carrier)) (Some error.NoSuchConnection) (session_refusal r o call e.carrier)) gone_now
+    ∙ sym (ap (λ (o : Option Standing). if◌then◌else◌ {A = Option CallError} (not (has_given r e.carrier)) (Some error.NoSuchConnection) (session_error o call)) gone_now)
+
+pub answer_same : NoneBeyond → Answered → (r : ℕ) (side : Side) (p : TwoEnds) (b : Between) (t : Tables) (call : Call) → HasSerial call → Stands p b t →
+    call_error r call (end_at side p).end ≡ line_error (side_of (side_in side) (connection_at r t.lines)) call
+answer_same none answers r side p b t call serial s =
+    table_alone answers r side p b t call (end_at side p).end.carrier.ended serial (of_end side p b t s) refl
+    ∙ table_at none r side p b t call (connection_at r t.lines) s refl

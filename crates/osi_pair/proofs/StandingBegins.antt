@@ -1,0 +1,147 @@
+-- A CR arrives and is accepted: the connection has a new session, which awaits a CN.
+use Rattle.std.proofs.Common.{◌≡◌, ◌≢◌, ℕ, ◌<◌, ◌≤◌, Bool, true, false, if◌then◌else◌, List, [], ◌∷◌, ◌++◌, map, Option, Some, None, is_some, nat_lt, refl, sym, ap, subst, ◌∙◌, inl, inr, arith}
+use Rattle.std.proofs.lemmas.Bool.Decides.{nat_tests}
+use Rattle.osi_tpkt.specs.Held.{Held}
+use Rattle.osi_tpdu.specs.Value.{Value}
+use Rattle.osi_carrier.specs.Addresses.{reference_of}
+use Rattle.osi_carrier.specs.Between.{Between}
+use Rattle.osi_carrier.specs.Course.{Place, never, was_given, place_at, progress_of}
+use Rattle.osi_carrier.specs.Messages as carrier
+use Rattle.osi_carrier.specs.Progress.{not_yet, in_use, leaves_use}
+use Rattle.osi_carrier.specs.Rows.{Rows, value_at}
+use Rattle.osi_carrier.specs.State.{Connection, State, asked, linked, closing}
+use Rattle.osi_carrier.proofs.Apart.{push_here, beyond}
+use Rattle.osi_carrier.proofs.AtReferences.{push_other}
+use Rattle.osi_machine.specs.Machine.{delivers, learns}
+use Rattle.osi_machine.specs.Tables.{Tables, seen_from, end_of, step, unseen}
+use Rattle.osi_session.specs.Moves.{Standing}
+use Rattle.osi_session.specs.Sessions.{awaits}
+use Rattle.osi_stack.specs.Links.{AreApart}
+use Rattle.osi_stack.specs.Messages.{told_all, kept_at}
+use Rattle.osi_stack.specs.State.{Line, session_in, is_used, used_lines}
+use Rattle.osi_stack.proofs.Linking.{used_by, used_at, Stays, apart_push}
+use Rattle.osi_stack.proofs.Moves.{used_live}
+use Rattle.osi_pair.specs.Ends.{TwoEnds, end_at}
+use Rattle.osi_pair.specs.Standing.{side_in, is_caller, carriers_of, Stands}
+use Rattle.osi_pair.specs.Telling.{waiting_in}
+use Rattle.osi_pair.specs.declared.sides.Side.{Side}
+use Rattle.osi_pair.proofs.StandingArrived.{PacketActs}
+use Rattle.osi_pair.proofs.StandingFinish.{terms_at, DidAt, TablesAfter, line_then, is_agree, last_is, order_of, finish, known_then}
+use Rattle.osi_pair.proofs.StandingRests.{step_opens, tables_delivered, is_awaited, learns_row, rests, turn_rests, sends_then}
+use Rattle.osi_pair.proofs.StandingResting.{acted_end, line_at, EndThen, NextFor, was_at, transport_before, out_row, back_one}
+use Rattle.osi_pair.proofs.StandingRows.{Row, begins, before, after, arrived_in}
+use Rattle.osi_pair.proofs.StandingSeats.{transport_by, lives_in, live_there, HasSession}
+
+-- ---- lines with a new one, of which those are dropped that are of no use
+
+abbrev pub new_line : Line
+new_line = record { session = Some awaits; waiting = [] }
+
+abbrev pub joined : ℕ → Rows Line → Rows Line
+joined n lines = lines ++ (n, new_line) ∷ []
+
+none_first : {A B : Type 0} (f : A → B) (xs : List A) (ys : List B) → map f xs ++ ys ≡ [] → xs ≡ []
+none_first f [] ys e = refl
+none_first f (x ∷ xs) ys e = cc
+
+none_second : {A B : Type 0} (f : A → B) (xs : List A) (ys : List B) → map f xs ++ ys ≡ [] → ys ≡ []
+none_second f [] ys e = e
+none_second f (x ∷ xs) ys e = cc
+
+joined_waits : (n : ℕ) (lines : Rows Line) → waiting_in lines ≡ [] → waiting_in (joined n lines) ≡ []
+joined_waits n [] e = refl
+joined_waits n ((r, line) ∷ lines) e =
+    ap (λ w. map (λ shown. (r, shown)) w ++ waiting_in (joined n lines)) (none_first (λ shown. (r, shown)) line.waiting (waiting_in lines) e)
+    ∙ joined_waits n lines (none_second (λ shown. (r, shown)) line.waiting (waiting_in lines) e)
+
+used_waits_by : (live : Rows Connection) (r : ℕ) (line : Line) (lines : Rows Line) (b : Bool) → is_used live (r, line) ≡ b → waiting_in ((r, line) ∷ lines) ≡ [] → waiting_in (used_lines live lines) ≡ [] →
+    waiting_in (used_lines live ((r, line) ∷ lines)) ≡ []
+used_waits_by live r line lines true u e more =
+    ap waiting_in (used_by live (r, line) lines true u) ∙ ap (λ w. map (λ shown. (r, shown)) w ++ waiting_in (used_lines live lines)) (none_first (λ shown. (r, shown)) line.waiting (waiting_in lines) e) ∙ more
+used_waits_by live r line lines false u e more = ap waiting_in (used_by live (r, line) lines false u) ∙ more
+
+pub used_waits : (live : Rows Connection) (lines : Rows Line) → waiting_in lines ≡ [] → waiting_in (used_lines live lines) ≡ []
+used_waits live [] e = refl
+used_waits live ((r, line) ∷ lines) e = used_waits_by live r line lines (is_used live (r, line)) refl e (used_waits live lines (none_second (λ shown. (r, shown)) line.waiting (waiting_in lines) e))
+
+pub begun_waits : (n : ℕ) (live : Rows Connection) (lines : Rows Line) → waiting_in lines ≡ [] → waiting_in (used_lines live (joined n lines)) ≡ []
+begun_waits n live lines e = used_waits live (joined n lines) (joined_waits n lines e)
+
+-- the new one
+pub begun_here : (n : ℕ) (live : Rows Connection) (lines : Rows Line) → value_at n lines ≡ None → is_some (value_at n live) ≡ true → kept_at n (used_lines live (joined n lines)) ≡ Some awaits
+begun_here n live lines none lives = ap session_in (used_live n live (joined n lines) lives ∙ push_here n new_line lines none)
+
+-- all others
+pub begun_live : (n q : ℕ) (live : Rows Connection) (lines : Rows Line) → q ≢ n → is_some (value_at q live) ≡ true → kept_at q (used_lines live (joined n lines)) ≡ kept_at q lines
+begun_live n q live lines apart lives = ap session_in (used_live q live (joined n lines) lives ∙ push_other q n new_line lines apart)
+
+kept_by : (n q : ℕ) (live : Rows Connection) (lines : Rows Line) (x : Standing) → q ≢ n → Stays q live (joined n lines) → kept_at q (used_lines live (joined n lines)) ≡ Some x → kept_at q lines ≡ Some x
+kept_by n q live lines x apart (inl same) h = ap session_in (sym (push_other q n new_line lines apart)) ∙ ap session_in (sym same) ∙ h
+kept_by n q live lines x apart (inr gone) h = let no_way : None ≡ Some x = sym (ap session_in gone.0) ∙ h in cc
+
+pub begun_kept : (n q : ℕ) (live : Rows Connection) (lines : Rows Line) (x : Standing) → q ≢ n → value_at n lines ≡ None → AreApart lines → kept_at q (used_lines live (joined n lines)) ≡ Some x → kept_at q lines ≡ Some x
+begun_kept n q live lines x apart none all h = kept_by n q live lines x apart (used_at q live (joined n lines) (apart_push n new_line lines none all)) h
+
+-- ---- the reference is new
+
+new_by : (n : ℕ) (s : State) (b : Bool) → nat_lt s.given n ≡ b → progress_of (place_at n s) ≡ not_yet → s.given < n
+new_by n s true e h = grind (arith, nat_tests)
+new_by n s false e h =
+    absurd (no_new (value_at n s.live) (sym (ap (λ (b : Bool). progress_of (if◌then◌else◌ {A = Place} b never (was_given (value_at n s.live)))) e) ∙ h))
+  where
+    no_new : (o : Option Connection) → progress_of (was_given o) ≡ not_yet → ⊥
+    no_new None h = cc
+    no_new (Some asked) h = cc
+    no_new (Some (linked peer link)) h = cc
+    no_new (Some (closing peer)) h = cc
+
+pub new_at : (n : ℕ) (s : State) → progress_of (place_at n s) ≡ not_yet → s.given < n
+new_at n s h = new_by n s (nat_lt s.given n) refl h
+
+-- ---- two ends
+
+abbrev pub begun_lines : Side → TwoEnds → Value → ℕ → Rows Line
+begun_lines s p u n = used_lines (told_all u (end_at s p).end).carrier.live (joined n (end_at s p).end.lines)
+
+pub begins_unit : (s : Side) (p : TwoEnds) (b : Between) (t : Tables) (packet : List ℕ) (h : Held) → Stands p b t → (end_at s p).end.carrier.ended ≡ None → end_of (side_in s) t ≡ None →
+    (pa : PacketActs (terms_at p) (is_caller s) (carriers_of p) b packet h.octets) →
+    (d : DidAt s p b (acted_end pa.unit (begun_lines s p pa.unit (reference_of pa.unit)) (end_at s p).end) h (reference_of pa.unit)) → d.row ≡ begins → d.now.called.given ≤ d.now.caller.given →
+    EndThen s p (acted_end pa.unit (begun_lines s p pa.unit (reference_of pa.unit)) (end_at s p).end) →
+    NextFor s p b t pa.unit h (begun_lines s p pa.unit (reference_of pa.unit)) (reference_of pa.unit) [] (step t (delivers (side_in s) (reference_of pa.unit) (λ r. 0))) d.now
+begins_unit s p b t packet h old alive lasting pa d row behind new =
+    let n = reference_of pa.unit in
+    let was = (end_at s p).end in
+    let e = acted_end pa.unit (begun_lines s p pa.unit n) was in
+    let live = (told_all pa.unit was).carrier.live in
+    let order = order_of s p b t old alive in
+    let stood : progress_of (place_at n was.carrier) ≡ not_yet = ap (λ (c : State). progress_of (place_at n c)) (sym (was_at s p b t old alive)) ∙ d.stood ∙ ap before row in
+    let none : value_at n was.lines ≡ None = beyond n was.carrier.given was.lines order.sound.known (new_at n was.carrier stood) in
+    let stands : progress_of (place_at n e.carrier) ≡ in_use = ap (λ (c : State). progress_of (place_at n c)) (sym (last_is s p b e h n d new.lasts)) ∙ d.stands ∙ ap after row in
+    let lives : is_some (value_at n e.carrier.live) ≡ true = live_there n e.carrier (ap lives_in stands) in
+    let at = line_at s n p b t old pa.first.named pa.first.given in
+    let l = at.line in
+    let one : arrived_in d.row ≡ carrier.ask ∷ [] = ap arrived_in row in
+    let sp = back_one s p b e h n l carrier.ask d at.is alive one in
+    let tr = transport_before s p b t e h n l old alive d at.is in
+    let line = line_then d.row l.own.session (sends_then d.row t.broken l.own.channel) sp.others l in
+    let known = learns t.terms l.own.transport sp.first t.known in
+    let turn = turn_rests (terms_at p) t.terms t.broken 0 d.row l sp.first sp.others carrier.ask old.terms tr d.is (ap rests row) one sp.is in
+    let is = step_opens t (side_in s) n (λ r. 0) l sp.first sp.others (unseen line) lasting at.found sp.parts turn refl in
+    let session : l.own.session ≡ awaits = at.is.here.awaiting (tr ∙ ap (λ (r : Row). transport_by (before r)) row) in
+    finish s p b t (step t (delivers (side_in s) n (λ r. 0))) e h n [] l l.own.session (sends_then d.row t.broken l.own.channel) sp.others old alive d new.lasts new.local new.role pa.first.given behind new.order new.waits
+    (record {
+      sessions = λ q apart lives. begun_live n q live was.lines apart lives;
+      kept = λ q apart x kept. begun_kept n q live was.lines x apart none order.sound.apart kept;
+    })
+    (subst (λ (x : Standing). HasSession n e.lines (after d.row) x) (sym session) (subst (λ (r : Row). HasSession n e.lines (after r) awaits) (sym row)
+    (let k = begun_here n live was.lines none lives in
+    record {
+      live = λ x. k;
+      kept = λ y given. (let two : Some awaits ≡ Some y = sym k ∙ given in let same : awaits ≡ y = cc in sym same);
+      over_now = λ x. cc;
+      awaiting = λ x. refl;
+      octets = tt;
+    }))) at.is
+    (record { out = λ lives. out_row s p b t e h n l old d at.is (ap (λ (r : Row). leaves_use (before r) (after r)) row) lives; back = sp.stays })
+    (subst (λ (u : Tables). TablesAfter s n t u [] line) (sym is) (tables_delivered s n (seen_from (side_in s) l) t known (unseen line) at.found))
+    (ap (λ (u : Tables). u.known) is ∙ learns_row d.row l.own.transport t.terms sp.first t.known tr (ap is_awaited row) ∙ known_then s p b t e h n old alive d new.lasts pa.first.given (ap is_agree row))

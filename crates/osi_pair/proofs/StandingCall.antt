@@ -1,0 +1,398 @@
+-- A call of the user of an end is a call of the machine.
+use Rattle.std.proofs.Common.{◌≡◌, ◌≢◌, refl, sym, ◌∙◌, ap, subst, ℕ, zero, suc, ◌<◌, ◌≤◌, ◌==◌, Bool, true, false, nat_lt, if◌then◌else◌, List, [], ◌∷◌, ◌++◌, length, map, Option, Some, None, is_some, IsSome, IfSome, Ok, Err}
+use Rattle.std.proofs.lemmas.Bool.{eqb-true, eq-eqb}
+use Rattle.std.proofs.lemmas.List.{append-nil}
+use Rattle.osi_tpkt.specs.Octets.{IsOctets}
+use Rattle.osi_class.specs.Between.{IsShortTsdu}
+use Rattle.osi_class.specs.Link.{Standing as Link}
+use Rattle.osi_carrier.specs.Between.{Both, Between, AreBetween, Acted, Carries, becomes, last_of}
+use Rattle.osi_carrier.specs.Between as two
+use Rattle.osi_carrier.specs.Calls.{open_link, link_of, sent, sent_on}
+use Rattle.osi_carrier.specs.Course.{Place, never, was_given, place_at, progress_of}
+use Rattle.osi_carrier.specs.Messages as carrier
+use Rattle.osi_carrier.specs.Orderly.{RiseFrom}
+use Rattle.osi_carrier.specs.Progress.{Progress, in_use, leaves_use}
+use Rattle.osi_carrier.specs.Rows.{Rows, value_at, put}
+use Rattle.osi_carrier.specs.State.{Connection, asked, linked, closing, State as Carrier}
+use Rattle.osi_carrier.specs.Terms.{Terms, terms_of}
+use Rattle.osi_carrier.specs.declared.ends.EndReason.{EndReason}
+use Rattle.osi_carrier.proofs.Apart.{put_here}
+use Rattle.osi_carrier.proofs.AtReferences.{put_other}
+use Rattle.osi_machine.specs.AsTables.{IsTableRun, AreSoundLines}
+use Rattle.osi_machine.specs.Machine.{connection_at, with_connection, call_answered, is_given}
+use Rattle.osi_machine.specs.Machine as entries
+use Rattle.osi_machine.specs.Tables.{Seat, Line, Tables, seen_from, side_of, stays, made, after_call, call_in, step}
+use Rattle.osi_machine.specs.Tables as tables
+use Rattle.osi_machine.specs.Worlds.{Message, unit, replied}
+use Rattle.osi_machine.specs.Worlds as worlds
+use Rattle.osi_message.specs.InOctets.{IsInOctets}
+use Rattle.osi_message.specs.Meanings.{Meaning}
+use Rattle.osi_message.specs.Sendable.{IsSendable}
+use Rattle.osi_message.specs.Written.{written}
+use Rattle.osi_session.specs.Allowed.{Step, Answer, allowed, octets_of}
+use Rattle.osi_session.specs.Calls.{Call, HasSerial}
+use Rattle.osi_session.specs.Moves.{Standing, called, answered, react}
+use Rattle.osi_session.specs.Shown.{Shown}
+use Rattle.osi_session.specs.Sound.{IsSound as IsSoundState}
+use Rattle.osi_session.specs.declared.faults.CallError.{CallError}
+use Rattle.osi_session.specs.declared.state.State.{State}
+use Rattle.osi_stack.specs.Calls.{call_error}
+use Rattle.osi_stack.specs.Folds.{AllCameAbout}
+use Rattle.osi_stack.specs.Links.{IsSound}
+use Rattle.osi_stack.specs.Messages.{puts, put_by, Says}
+use Rattle.osi_stack.specs.Moving.{line_after, to_session}
+use Rattle.osi_stack.specs.State.{End, Holding, session_in, session_at, IsAttended}
+use Rattle.osi_stack.specs.State as stack
+use Rattle.osi_pair.specs.Ends.{TwoEnds, end_at, with_end, noted, called_by_error}
+use Rattle.osi_pair.specs.Entries.{calls}
+use Rattle.osi_pair.specs.Sides.{other}
+use Rattle.osi_pair.specs.Standing.{side_in, is_caller, carriers_of, transport_in, is_parting, IsSeated, IsLine, HasLine, IsInOrder, Stands}
+use Rattle.osi_pair.specs.Telling.{waiting_in}
+use Rattle.osi_pair.specs.declared.sides.Side.{Side}
+use Rattle.osi_pair.specs.declared.sides.Side.TheVariants.{Left, Right}
+use Rattle.osi_pair.proofs.StandingActs.{out_way, back_way, place_given, OfEnd, of_end, NoneBeyond, more_said, StandsOn}
+use Rattle.osi_pair.proofs.StandingAnswer.{line_error, Answered}
+use Rattle.osi_pair.proofs.StandingSides.{SeenLine, seen, as_line, seen_twice, IsLeft, other_line, same_place}
+
+-- what the crates below say
+pub record CallLaws : Type 0 where
+  pub handed_in : (terms : Terms) (end : Bool) (both : Both) (b : Between) (n peer : ℕ) (link : Link) (tsdu : List ℕ) → AreBetween terms both b →
+      (two.side end both).state.ended ≡ None → value_at n (two.side end both).state.live ≡ Some (linked peer link) → IsShortTsdu tsdu → IsOctets tsdu →
+      Acted terms end n both (becomes end (sent n tsdu (two.side end both).state) (two.side end both).held both) b [] (carrier.message tsdu ∷ [])
+  pub says : (r : ℕ) (call : Call) (e : End) → call_error r call e ≡ None → Says r call e (to_session r (called call) e)
+  pub answers : Answered
+  pub sound : (r : ℕ) (call : Call) (e : End) → IsSound e → IsSound (to_session r (called call) e)
+  pub attended : (r : ℕ) (call : Call) (e : End) → IsAttended e → IsAttended (to_session r (called call) e)
+  pub rising : (r : ℕ) (call : Call) (e : End) → RiseFrom 0 e.lines → RiseFrom 0 (to_session r (called call) e).lines
+  pub came : (r : ℕ) (call : Call) (e : End) → HasSerial call → AllCameAbout e.lines → AllCameAbout (to_session r (called call) e).lines
+  pub octets : (m : Meaning) → IsSendable m → IsInOctets m → IsOctets (written m)
+  pub sendable : (s : State) (c : Call) (x : Step) → IsSoundState s → HasSerial c → allowed s c ≡ Ok x → IsSendable x.sent
+  pub says_octets : (s : State) (c : Call) (x : Step) → allowed s c ≡ Ok x → IsOctets (octets_of c) → IsInOctets x.sent
+  pub sound_lines : (t : Tables) → IsTableRun t → AreSoundLines t
+  pub same : (r : ℕ) (lines : List Line) (old new : Line) → connection_at r lines ≡ Some old → connection_at r (with_connection r new lines) ≡ Some new
+  pub apart : (q r : ℕ) (lines : List Line) (new : Line) → (q ≡ r → ⊥) → connection_at q (with_connection r new lines) ≡ connection_at q lines
+  pub count : (r : ℕ) (lines : List Line) (new : Line) → length (with_connection r new lines) ≡ length lines
+  pub none : NoneBeyond
+
+-- ---- a refused call
+
+put_nothing : (broken : Bool) (channel : List Message) → worlds.put broken [] channel ≡ channel
+put_nothing true channel = refl
+put_nothing false channel = append-nil channel
+
+made_rest : (broken : Bool) (l : Line) (a : Answer) (e : CallError) → (answered l.own.session a).error ≡ Some e → made broken (answered l.own.session a) l ≡ l
+made_rest broken l (Ok x) e h = absurd cc
+made_rest broken l (Err x) e h = ap (λ (ms : List Message). record l { own = record l.own { channel = ms } }) (put_nothing broken l.own.channel)
+
+refused_line : (broken : Bool) (call : Call) (l : Line) (e : CallError) → (react l.own.session (called call)).error ≡ Some e → after_call broken call l ≡ l
+unfolding react
+refused_line broken call l e h = made_rest broken l (allowed l.own.session.state call) e h
+
+stays_same : (t : Tables) (side : Side) (r : ℕ) (l : Line) → connection_at r t.lines ≡ Some l → stays t (side_in side) r (seen_from (side_in side) l) ≡ t
+stays_same t side zero l at = absurd cc
+stays_same t side (suc k) l at = ap (λ (ls : List Line). record t { lines = ls }) (ap (λ (x : Line). with_connection (suc k) x t.lines) (seen_twice side l) ∙ same_place k l t.lines at)
+
+refused_by : (b : Bool) (t moved : Tables) (side : Side) (r : ℕ) (call : Call) (other_error : Option CallError) (first : Option CallError) (e : CallError) → (b ≡ true → first ≡ Some e → moved ≡ t) →
+    (if b then first else other_error) ≡ Some e →
+    (if b then tables.noted (call_answered (side_in side) r call first ∷ []) moved else tables.noted (call_answered (side_in side) r call other_error ∷ []) t)
+    ≡ tables.noted (call_answered (side_in side) r call (Some e) ∷ []) t
+refused_by true t moved side r call other_error first e same h =
+    ap (λ (o : Option CallError). tables.noted (call_answered (side_in side) r call o ∷ []) moved) h
+    ∙ ap (λ (u : Tables). tables.noted (call_answered (side_in side) r call (Some e) ∷ []) u) (same refl h)
+refused_by false t moved side r call other_error first e same h = ap (λ (o : Option CallError). tables.noted (call_answered (side_in side) r call o ∷ []) t) h
+
+refused_step : (t : Tables) (side : Side) (r : ℕ) (call : Call) (o : Option Line) (e : CallError) → connection_at r t.lines ≡ o → line_error (side_of (side_in side) o) call ≡ Some e →
+    call_in t (side_in side) r call (side_of (side_in side) o) ≡ tables.noted (call_answered (side_in side) r call (Some e) ∷ []) t
+refused_step t side r call None e at h = ap (λ (x : Option CallError). tables.noted (call_answered (side_in side) r call x ∷ []) t) h
+refused_step t side r call (Some l) e at h =
+    let x : Line = seen_from (side_in side) l in
+    refused_by (is_given x.own.transport) t (stays t (side_in side) r (after_call t.broken call x)) side r call _ (react x.own.session (called call)).error e
+    (λ given error. ap (stays t (side_in side) r) (refused_line t.broken call x e error) ∙ stays_same t side r l at) h
+
+with_same : (side : Side) (p : TwoEnds) → with_end side (end_at side p) p ≡ p
+with_same Left p = refl
+with_same Right p = refl
+
+-- what a call does, by its answer
+abbrev pub after_by : Option CallError → Side → ℕ → Call → TwoEnds → TwoEnds
+after_by o side r call p = noted (calls side r call o ∷ []) (with_end side (called_by_error o r call (end_at side p)) p)
+
+pub refused_stands : (p : TwoEnds) (b : Between) (t : Tables) (side : Side) (r : ℕ) (call : Call) (e : CallError) → Stands p b t → line_error (side_of (side_in side) (connection_at r t.lines)) call ≡ Some e →
+    StandsOn (after_by (Some e) side r call p) (step t (entries.calls (side_in side) r call))
+refused_stands p b t side r call e s h =
+    let new : Stands (noted (calls side r call (Some e) ∷ []) p) b (tables.noted (call_answered (side_in side) r call (Some e) ∷ []) t) =
+    more_said p b t (calls side r call (Some e)) (call_answered (side_in side) r call (Some e)) refl s in
+    record {
+      now = b;
+      stands = subst (Stands (after_by (Some e) side r call p) b) (sym (refused_step t side r call (connection_at r t.lines) e refl h))
+          (subst (λ (x : TwoEnds). Stands (noted (calls side r call (Some e) ∷ []) x) b (tables.noted (call_answered (side_in side) r call (Some e) ∷ []) t)) (sym (with_same side p)) new);
+    }
+
+-- ---- the carrier of an accepted call
+
+pub record OpenAt (r : ℕ) (c : Carrier) : Type 0 where
+  pub lasts : c.ended ≡ None
+  pub peer : ℕ
+  pub link : Link
+  pub at : value_at r c.live ≡ Some (linked peer link)
+  pub is : open_link r c ≡ Some (peer, link)
+
+open_by : (r : ℕ) (c : Carrier) (ended : Option EndReason) (o : Option Connection) → c.ended ≡ ended → value_at r c.live ≡ o → IsSome (open_link r c) → OpenAt r c
+open_by r c (Some reason) o e at h =
+    let none : open_link r c ≡ None = ap (λ (x : Option EndReason). if◌then◌else◌ {A = Option (ℕ × Link)} (is_some x) None (link_of (value_at r c.live))) e in
+    let no : IsSome {T = ℕ × Link} None = subst (λ (x : Option (ℕ × Link)). IsSome x) none h in
+    absurd cc
+open_by r c None o e at h =
+    let is : open_link r c ≡ link_of o =
+    ap (λ (x : Option EndReason). if◌then◌else◌ {A = Option (ℕ × Link)} (is_some x) None (link_of (value_at r c.live))) e ∙ ap link_of at in
+    by_link o at is (subst (λ (x : Option (ℕ × Link)). IsSome x) is h)
+  where
+    by_link : (x : Option Connection) → value_at r c.live ≡ x → open_link r c ≡ link_of x → IsSome (link_of x) → OpenAt r c
+    by_link None a is h = absurd cc
+    by_link (Some asked) a is h = absurd cc
+    by_link (Some (linked peer link)) a is h = record { lasts = e; peer = peer; link = link; at = a; is = is }
+    by_link (Some (closing peer)) a is h = absurd cc
+
+-- what it leaves of the carrier
+pub record SentOn (r : ℕ) (c new : Carrier) : Type 0 where
+  pub is_caller : new.is_caller ≡ c.is_caller
+  pub local : new.local ≡ c.local
+  pub class : new.class ≡ c.class
+  pub given : new.given ≡ c.given
+  pub ended : new.ended ≡ c.ended
+  pub peer : ℕ
+  pub link : Link
+  pub live : new.live ≡ put r (linked peer link) c.live
+
+sent_is : (r : ℕ) (tsdu : List ℕ) (c : Carrier) (peer : ℕ) (link : Link) → open_link r c ≡ Some (peer, link) → SentOn r c (sent r tsdu c)
+sent_is r tsdu c peer link is =
+    subst (λ (o : Option (ℕ × Link)). SentOn r c (sent_on r tsdu o c)) (sym is)
+    (record { is_caller = refl; local = refl; class = refl; given = refl; ended = refl; peer = peer; link = _; live = refl })
+
+-- ---- the end of an accepted call
+
+abbrev pub now_of : ℕ → Call → Holding → Holding
+now_of r call h = record h { end = to_session r (called call) h.end }
+
+-- what is so of it
+pub record Called (r : ℕ) (call : Call) (h : Holding) : Type 0 where
+  pub session : Standing
+  pub was : session_at r h.end ≡ Some session
+  pub granted : Step
+  pub accepted : allowed session.state call ≡ Ok granted
+  pub reply : (react session (called call)).reply ≡ Some granted.sent
+  pub waits : (react session (called call)).next.waiting ≡ session.waiting
+  pub short : length (written granted.sent) ≤ 1048576
+  pub opened : OpenAt r h.end.carrier
+  pub is : (now_of r call h).end.carrier ≡ sent r (written granted.sent) h.end.carrier
+  pub kept : SentOn r h.end.carrier (now_of r call h).end.carrier
+  pub line : stack.Line
+  pub found : value_at r h.end.lines ≡ Some line
+  pub line_now : stack.Line
+  pub session_now : line_now.session ≡ Some (react session (called call)).next
+  pub waiting_now : line_now.waiting ≡ line.waiting
+  pub lines : (now_of r call h).end.lines ≡ put r line_now h.end.lines
+
+pub called_is : CallLaws → (r : ℕ) (call : Call) (h : Holding) → call_error r call h.end ≡ None → Called r call h
+called_is laws r call h none =
+    let s = laws.says r call h.end none in
+    let g = s.granted in
+    let session = s.acts.session in
+    let open_now : OpenAt r h.end.carrier = open_by r h.end.carrier h.end.carrier.ended (value_at r h.end.carrier.live) refl refl g.opened in
+    let is : (now_of r call h).end.carrier ≡ sent r (written g.step.sent) h.end.carrier =
+    s.acts.carrier ∙ ap (λ (b : Bool). puts r (put_by b (react session (called call)).reply) h.end.carrier) g.closes
+    ∙ ap (λ (o : Option Meaning). puts r (put_by false o) h.end.carrier) g.reply in
+    record {
+      session = session;
+      was = s.live;
+      granted = g.step;
+      accepted = g.accepted;
+      reply = g.reply;
+      waits = ap (λ (x : Standing). x.waiting) g.next;
+      short = g.short;
+      opened = open_now;
+      is = is;
+      kept = subst (SentOn r h.end.carrier) (sym is) (sent_is r (written g.step.sent) h.end.carrier open_now.peer open_now.link open_now.is);
+      line = s.acts.line;
+      found = s.acts.here;
+      line_now = line_after s.acts.line (react session (called call));
+      session_now = refl;
+      waiting_now = ap (λ (l : List Shown). s.acts.line.waiting ++ l) g.shown ∙ append-nil s.acts.line.waiting;
+      lines = s.acts.lines;
+    }
+
+value_now : (r : ℕ) (call : Call) (h : Holding) (c : Called r call h) → value_at r (now_of r call h).end.carrier.live ≡ Some (linked c.kept.peer c.kept.link)
+value_now r call h c = ap (value_at r) c.kept.live ∙ put_here r (linked c.kept.peer c.kept.link) (linked c.opened.peer c.opened.link) h.end.carrier.live c.opened.at
+
+place_now : (r : ℕ) (call : Call) (h : Holding) (c : Called r call h) → r ≤ h.end.carrier.given → place_at r (now_of r call h).end.carrier ≡ was_given (Some (linked c.kept.peer c.kept.link))
+place_now r call h c within =
+    place_given r (now_of r call h).end.carrier (subst (λ (n : ℕ). r ≤ n) (sym c.kept.given) within) ∙ ap was_given (value_now r call h c)
+
+place_then : (r : ℕ) (call : Call) (h : Holding) (c : Called r call h) → r ≤ h.end.carrier.given → place_at r h.end.carrier ≡ was_given (Some (linked c.opened.peer c.opened.link))
+place_then r call h c within = place_given r h.end.carrier within ∙ ap was_given c.opened.at
+
+line_found : (r : ℕ) (call : Call) (h : Holding) (c : Called r call h) → value_at r (now_of r call h).end.lines ≡ Some c.line_now
+line_found r call h c = ap (value_at r) c.lines ∙ put_here r c.line_now c.line h.end.lines c.found
+
+pub session_now_is : (r : ℕ) (e : End) (x : Connection) (l : stack.Line) → value_at r e.carrier.live ≡ Some x → value_at r e.lines ≡ Some l → session_at r e ≡ l.session
+session_now_is r e x l live at =
+    ap (λ (o : Option Connection). if◌then◌else◌ {A = Option Standing} (is_some o) (session_in (value_at r e.lines)) None) live ∙ ap session_in at
+
+-- the session of the seat is the one that was called
+pub seat_session : (r : ℕ) (call : Call) (h : Holding) (seat : Seat) (c : Called r call h) → IsSeated r h seat → seat.session ≡ c.session
+seat_session r call h seat c s = let e : Some seat.session ≡ Some c.session = sym (s.live (ap is_some c.opened.at)) ∙ c.was in cc
+
+seat_now : (r : ℕ) (call : Call) (h : Holding) (broken : Bool) (x : Line) (c : Called r call h) → r ≤ h.end.carrier.given → IsSeated r h x.own → IsSeated r (now_of r call h) (after_call broken call x).own
+seat_now r call h broken x c within s =
+    let same : x.own.session ≡ c.session = seat_session r call h x.own c s in
+    let transport : x.own.transport ≡ worlds.linked = s.transport ∙ ap transport_in (place_then r call h c within) in
+    let session : Option Standing = Some (react x.own.session (called call)).next in
+    let now : c.line_now.session ≡ session = c.session_now ∙ ap (λ (y : Standing). Some (react y (called call)).next) (sym same) in
+    record {
+      transport = transport ∙ ap transport_in (sym (place_now r call h c within));
+      live = λ e. session_now_is r (now_of r call h).end (linked c.kept.peer c.kept.link) c.line_now (value_now r call h c) (line_found r call h c) ∙ now;
+      kept = λ y e. let is : Some y ≡ session = sym e ∙ ap session_in (line_found r call h c) ∙ now in cc;
+      over_now = λ e. let no : false ≡ true = sym (ap is_parting transport) ∙ e in absurd cc;
+      awaiting = λ e. let no : worlds.linked ≡ worlds.not_yet = sym transport ∙ e in absurd cc;
+      octets = subst (λ (o : Option Meaning). IfSome o IsInOctets)
+          (sym (ap (λ (y : Standing). (react y (called call)).next.waiting) same ∙ c.waits ∙ ap (λ (y : Standing). y.waiting) (sym same))) s.octets;
+    }
+
+left_alone : (q r : ℕ) (call : Call) (h : Holding) → Called r call h → q ≢ r → IsLeft q h (now_of r call h)
+left_alone q r call h c apart =
+    let g : Holding = now_of r call h in
+    let live : value_at q g.end.carrier.live ≡ value_at q h.end.carrier.live = ap (value_at q) c.kept.live ∙ put_other q r (linked c.kept.peer c.kept.link) h.end.carrier.live apart in
+    let line : value_at q g.end.lines ≡ value_at q h.end.lines = ap (value_at q) c.lines ∙ put_other q r c.line_now h.end.lines apart in
+    record {
+      place = ap (λ (n : ℕ). if◌then◌else◌ {A = Place} (nat_lt n q) never (was_given (value_at q g.end.carrier.live))) c.kept.given
+          ∙ ap (λ (o : Option Connection). if◌then◌else◌ {A = Place} (nat_lt h.end.carrier.given q) never (was_given o)) live;
+      live = live;
+      line = λ e. line;
+      kept = λ s e. sym (ap session_in line) ∙ e;
+    }
+
+-- ---- the two of an accepted call
+
+abbrev pub new_of : Side → ℕ → Call → TwoEnds → TwoEnds
+new_of side r call p = with_end side (now_of r call (end_at side p)) p
+
+end_is : (side : Side) (r : ℕ) (call : Call) (p : TwoEnds) → end_at side (new_of side r call p) ≡ now_of r call (end_at side p)
+end_is Left r call p = refl
+end_is Right r call p = refl
+
+other_is : (side : Side) (r : ℕ) (call : Call) (p : TwoEnds) → end_at (other side) (new_of side r call p) ≡ end_at (other side) p
+other_is Left r call p = refl
+other_is Right r call p = refl
+
+abbrev pub terms_now : TwoEnds → Terms
+terms_now p = terms_of p.left.end.carrier.local p.right.end.carrier.local
+
+abbrev pub MayAct : Side → ℕ → Call → TwoEnds → Between → Meaning → Type 0
+MayAct side r call p b m = Acted (terms_now p) (is_caller side) r (carriers_of p) (carriers_of (new_of side r call p)) b [] (carrier.message (written m) ∷ [])
+
+pub acted_at : CallLaws → (side : Side) (r : ℕ) (call : Call) (p : TwoEnds) (b : Between) (t : Tables) (c : Called r call (end_at side p)) → Stands p b t → IsOctets (written c.granted.sent) →
+    MayAct side r call p b c.granted.sent
+acted_at laws Left r call p b t c s octets =
+    subst (λ (x : Carrier). Acted (terms_now p) true r (carriers_of p) (becomes true x p.left.held.octets (carriers_of p)) b [] (carrier.message (written c.granted.sent) ∷ [])) (sym c.is)
+    (laws.handed_in (terms_now p) true (carriers_of p) b r c.opened.peer c.opened.link (written c.granted.sent) s.between c.opened.lasts c.opened.at c.short octets)
+acted_at laws Right r call p b t c s octets =
+    subst (λ (x : Carrier). Acted (terms_now p) false r (carriers_of p) (becomes false x p.right.held.octets (carriers_of p)) b [] (carrier.message (written c.granted.sent) ∷ [])) (sym c.is)
+    (laws.handed_in (terms_now p) false (carriers_of p) b r c.opened.peer c.opened.link (written c.granted.sent) s.between c.opened.lasts c.opened.at c.short octets)
+
+pub lasts_now : (r : ℕ) (call : Call) (h : Holding) → Called r call h → (now_of r call h).end.carrier.ended ≡ None
+lasts_now r call h c = c.kept.ended ∙ c.opened.lasts
+
+-- the end that acted is as it last was
+pub lives_now : (side : Side) (r : ℕ) (call : Call) (p : TwoEnds) (b : Between) (m : Meaning) (a : MayAct side r call p b m) → (now_of r call (end_at side p)).end.carrier.ended ≡ None →
+    (now_of r call (end_at side p)).end.carrier ≡ last_of (is_caller side) a.now
+lives_now Left r call p b m a e = a.between.lives true e
+lives_now Right r call p b m a e = a.between.lives false e
+
+progress_then : (side : Side) (r : ℕ) (call : Call) (p : TwoEnds) (b : Between) (t : Tables) (c : Called r call (end_at side p)) → OfEnd side p b t → r ≤ (end_at side p).end.carrier.given →
+    progress_of (place_at r (last_of (is_caller side) b)) ≡ in_use
+progress_then side r call p b t c o within = ap (λ (s : Carrier). progress_of (place_at r s)) (sym (o.lives c.opened.lasts)) ∙ ap progress_of (place_then r call (end_at side p) c within)
+
+progress_now : (side : Side) (r : ℕ) (call : Call) (p : TwoEnds) (b : Between) (c : Called r call (end_at side p)) (a : MayAct side r call p b c.granted.sent) → r ≤ (end_at side p).end.carrier.given →
+    progress_of (place_at r (last_of (is_caller side) a.now)) ≡ in_use
+progress_now side r call p b c a within =
+    ap (λ (s : Carrier). progress_of (place_at r s)) (sym (lives_now side r call p b c.granted.sent a (lasts_now r call (end_at side p) c))) ∙ ap progress_of (place_now r call (end_at side p) c within)
+
+none_gone : (g h : Progress) (gone : List carrier.Message) → g ≡ in_use → h ≡ in_use → (leaves_use g h ≡ false → gone ≡ []) → gone ≡ []
+none_gone g h gone a b keeps = keeps (ap (λ (x : Progress). leaves_use x h) a ∙ ap (λ (x : Progress). leaves_use in_use x) b)
+
+line_acts : (side : Side) (r : ℕ) (call : Call) (p : TwoEnds) (b : Between) (t : Tables) (x : Line) (c : Called r call (end_at side p)) (a : MayAct side r call p b c.granted.sent) → OfEnd side p b t →
+    t.broken ≡ is_some p.reach → r ≤ (end_at side p).end.carrier.given → SeenLine side r p b x → SeenLine side r (new_of side r call p) a.now (after_call t.broken call x)
+line_acts side r call p b t x c a o broken within h =
+    let same : x.own.session ≡ c.session = seat_session r call (end_at side p) x.own c h.own in
+    let sends : (react x.own.session (called call)).reply ≡ Some c.granted.sent = ap (λ (y : Standing). (react y (called call)).reply) same ∙ c.reply in
+    let before = progress_then side r call p b t c o within in
+    let after = progress_now side r call p b c a within in
+    record {
+      own = subst (λ (y : Holding). IsSeated r y (after_call t.broken call x).own) (sym (end_is side r call p)) (seat_now r call (end_at side p) t.broken x c within h.own);
+      peer = subst (λ (y : Holding). IsSeated r y x.peer) (sym (other_is side r call p)) h.peer;
+      out = out_way (terms_now p) side r p (new_of side r call p) b a.now (unit c.granted.sent ∷ []) x.own.channel t.broken (after_call t.broken call x).own a.carries broken
+          (none_gone _ _ a.carries.gone before after a.carries.keeps) (other_is side r call p) h.out (ap (λ (y : Option Meaning). worlds.put t.broken (replied y) x.own.channel) sends);
+      back = back_way (terms_now p) side r p (new_of side r call p) b a.now (carrier.message (written c.granted.sent) ∷ []) x.peer a.carries (before ∙ sym after) (h.back c.opened.lasts);
+    }
+
+-- ---- each line
+
+abbrev pub tables_now : Tables → Side → ℕ → Call → Line → Tables
+tables_now t side r call l = stays t (side_in side) r (after_call t.broken call (seen_from (side_in side) l))
+
+pub line_by : (here : Bool) (laws : CallLaws) (side : Side) (r n : ℕ) (call : Call) (p : TwoEnds) (b : Between) (t : Tables) (l : Line) (c : Called r call (end_at side p)) (a : MayAct side r call p b c.granted.sent) →
+    (n == r) ≡ here → Stands p b t → connection_at r t.lines ≡ Some l → IsLine r p b l → r ≤ (end_at side p).end.carrier.given → 0 < n → n ≤ length t.lines →
+    HasLine n (new_of side r call p) a.now (tables_now t side r call l)
+line_by true laws side r n call p b t l c a e s at is within some few =
+    let x : Line = seen_from (side_in side) l in
+    let y : Line = after_call t.broken call x in
+    let new : HasLine r (new_of side r call p) a.now (tables_now t side r call l) = record {
+      line = seen_from (side_in side) y;
+      found = laws.same r t.lines l (seen_from (side_in side) y) at;
+      is = as_line side r (new_of side r call p) a.now y (line_acts side r call p b t x c a (of_end side p b t s) s.broken within (seen side r p b l is));
+    } in
+    subst (λ (m : ℕ). HasLine m (new_of side r call p) a.now (tables_now t side r call l)) (sym (eqb-true n r e)) new
+line_by false laws side r n call p b t l c a e s at is within some few =
+    let h = s.lines n some few in
+    let apart : n ≢ r = λ same. let no = sym e ∙ eq-eqb n r same in cc in
+    let left : IsLeft n (end_at side p) (end_at side (new_of side r call p)) =
+    subst (IsLeft n (end_at side p)) (sym (end_is side r call p)) (left_alone n r call (end_at side p) c apart) in
+    record {
+      line = h.line;
+      found = laws.apart n r t.lines _ apart ∙ h.found;
+      is = subst (IsLine n (new_of side r call p) a.now) (seen_twice side h.line)
+          (as_line side n (new_of side r call p) a.now (seen_from (side_in side) h.line)
+          (other_line (terms_now p) side n r p (new_of side r call p) b a.now [] (carrier.message (written c.granted.sent) ∷ []) (seen_from (side_in side) h.line) a.carries apart
+          (other_is side r call p) c.opened.lasts left (seen side n p b h.line h.is)));
+    }
+
+-- ---- what waits
+
+quiet_by : (r q : ℕ) (x y z : stack.Line) (lines : Rows stack.Line) (b : Bool) → (q == r) ≡ b → y.waiting ≡ x.waiting → value_at r ((q, z) ∷ lines) ≡ Some x →
+    (value_at r lines ≡ Some x → waiting_in (put r y lines) ≡ waiting_in lines) → waiting_in (put r y ((q, z) ∷ lines)) ≡ waiting_in ((q, z) ∷ lines)
+quiet_by r q x y z lines true e same at more =
+    let here : z ≡ x = (let is : Some z ≡ Some x = sym (ap (λ (b : Bool). if◌then◌else◌ {A = Option stack.Line} b (Some z) (value_at r lines)) e) ∙ at in cc) in
+    ap (λ (b : Bool). waiting_in (if◌then◌else◌ {A = Rows stack.Line} b ((q, y) ∷ lines) ((q, z) ∷ put r y lines))) e
+    ∙ ap (λ (w : List Shown). map (λ shown. (q, shown)) w ++ waiting_in lines) (same ∙ ap (λ (l : stack.Line). l.waiting) (sym here))
+quiet_by r q x y z lines false e same at more =
+    let there_is : value_at r lines ≡ Some x = sym (ap (λ (b : Bool). if◌then◌else◌ {A = Option stack.Line} b (Some z) (value_at r lines)) e) ∙ at in
+    ap (λ (b : Bool). waiting_in (if◌then◌else◌ {A = Rows stack.Line} b ((q, y) ∷ lines) ((q, z) ∷ put r y lines))) e
+    ∙ ap (λ (w : List (ℕ × Shown)). map (λ shown. (q, shown)) z.waiting ++ w) (more there_is)
+
+quiet_put : (r : ℕ) (x y : stack.Line) (lines : Rows stack.Line) → y.waiting ≡ x.waiting → value_at r lines ≡ Some x → waiting_in (put r y lines) ≡ waiting_in lines
+quiet_put r x y [] same at = refl
+quiet_put r x y ((q, z) ∷ lines) same at = quiet_by r q x y z lines (q == r) refl same at (quiet_put r x y lines same)
+
+pub quiet_now : (r : ℕ) (call : Call) (h : Holding) → Called r call h → waiting_in h.end.lines ≡ [] → waiting_in (now_of r call h).end.lines ≡ []
+quiet_now r call h c quiet = ap waiting_in c.lines ∙ quiet_put r c.line c.line_now h.end.lines c.waiting_now c.found ∙ quiet
+
+pub order_now : CallLaws → (r : ℕ) (call : Call) (h : Holding) → HasSerial call → IsInOrder h.end → (now_of r call h).end.carrier.ended ≡ None → IsInOrder (now_of r call h).end
+order_now laws r call h serial o lasts = record {
+  heard = laws.attended r call h.end (λ e. o.heard) lasts;
+  sound = laws.sound r call h.end (λ e. o.sound) lasts;
+  rising = laws.rising r call h.end o.rising;
+  came = laws.came r call h.end serial o.came;
+}
+
+pub over_now : (r : ℕ) (call : Call) (h : Holding) → Called r call h → IsSome (now_of r call h).end.carrier.ended → (now_of r call h).end.carrier.live ≡ []
+over_now r call h c e = let no : IsSome {T = EndReason} None = subst (λ (o : Option EndReason). IsSome o) (lasts_now r call h c) e in absurd cc

@@ -1,0 +1,194 @@
+-- Two ends stand after a call as the tables do after theirs.
+use Rattle.std.proofs.Common.{◌≡◌, refl, sym, ◌∙◌, ap, subst, ℕ, ◌≤◌, ◌==◌, ◌&&◌, Bool, true, false, not, nat_le, nat_lt, if◌then◌else◌, List, [], ◌∷◌, ◌++◌, length, Option, Some, None, option_map, IsSome}
+use Rattle.std.proofs.lemmas.Bool.{leb-true}
+use Rattle.osi_tpkt.specs.Octets.{IsOctets}
+use Rattle.osi_class.specs.declared.terms.Local.{Local}
+use Rattle.osi_carrier.specs.Between.{Between, AreBetween}
+use Rattle.osi_carrier.specs.State.{State as Carrier}
+use Rattle.osi_carrier.specs.Terms.{terms_of}
+use Rattle.osi_carrier.specs.declared.ends.EndReason.{EndReason}
+use Rattle.osi_machine.specs.AsTables.{IsTableRun, IsSoundSeat, IsSoundLine}
+use Rattle.osi_machine.specs.Machine.{connection_at, with_connection, call_answered, is_given, Step}
+use Rattle.osi_machine.specs.Machine as entries
+use Rattle.osi_machine.specs.Tables.{Seat, Line, Tables, seen_from, side_of, after_call, call_in, step, run}
+use Rattle.osi_machine.specs.Tables as tables
+use Rattle.osi_message.specs.Written.{written}
+use Rattle.osi_session.specs.Allowed.{octets_of}
+use Rattle.osi_session.specs.Calls.{Call, HasSerial}
+use Rattle.osi_session.specs.Moves.{Standing, called, react}
+use Rattle.osi_session.specs.Sound.{IsSound as IsSoundState}
+use Rattle.osi_session.specs.declared.faults.CallError.{CallError}
+use Rattle.osi_session.specs.declared.faults.CallError.TheVariants as error
+use Rattle.osi_stack.specs.Calls.{has_given, session_refusal, call_error}
+use Rattle.osi_stack.specs.Messages.{kept_at}
+use Rattle.osi_stack.specs.State.{Holding, session_at}
+use Rattle.osi_pair.specs.Ends.{TwoEnds, end_at}
+use Rattle.osi_pair.specs.Ends as ends
+use Rattle.osi_pair.specs.Entries.{calls}
+use Rattle.osi_pair.specs.Standing.{side_in, terms_in, class_in, ending_in, carriers_of, Stands, StandsAt}
+use Rattle.osi_pair.specs.declared.sides.Side.{Side}
+use Rattle.osi_pair.specs.declared.sides.Side.TheVariants.{Left, Right}
+use Rattle.osi_pair.proofs.StandingActs.{There, there, more_said, StandsOn, begun_with, one_step}
+use Rattle.osi_pair.proofs.StandingAnswer.{line_error, answer_same}
+use Rattle.osi_pair.proofs.StandingCall.{CallLaws, refused_stands, after_by, now_of, new_of, tables_now, Called, called_is, seat_session, MayAct, acted_at, lasts_now, lives_now, line_by, quiet_now, order_now, over_now}
+use Rattle.osi_pair.proofs.StandingSides.{seen}
+
+-- ---- at the left end, and at the right
+
+-- an end that acts has not ended
+lost_now : (r : ℕ) (call : Call) (h : Holding) → Called r call h → IsSome (now_of r call h).end.carrier.ended → (n : ℕ) → kept_at n (now_of r call h).end.lines ≡ None
+lost_now r call h c e n = let no : IsSome {T = EndReason} None = subst (λ (o : Option EndReason). IsSome o) (lasts_now r call h c) e in absurd cc
+
+stand_left : (laws : CallLaws) (r : ℕ) (call : Call) (p : TwoEnds) (b : Between) (t : Tables) (l : Line) (c : Called r call p.left) (a : MayAct Left r call p b c.granted.sent) → HasSerial call → Stands p b t →
+    connection_at r t.lines ≡ Some l → There r p b t l → r ≤ p.left.end.carrier.given → Stands (new_of Left r call p) a.now (tables_now t Left r call l)
+stand_left laws r call p b t l c a serial s at th within =
+    let g : Holding = now_of r call p.left in
+    let lasts = lasts_now r call p.left c in
+    let lives : g.end.carrier ≡ a.now.caller = lives_now Left r call p b c.granted.sent a lasts in
+    let count = laws.count r t.lines (seen_from (side_in Left) (after_call t.broken call (seen_from (side_in Left) l))) in
+    record {
+      between = subst (λ (x : Local). AreBetween (terms_of x p.right.end.carrier.local) (carriers_of (new_of Left r call p)) a.now) (sym c.kept.local) a.between;
+      terms = s.terms ∙ ap (λ (x : Local). terms_in (terms_of x p.right.end.carrier.local)) (sym c.kept.local);
+      broken = s.broken;
+      caller = c.kept.is_caller ∙ s.caller;
+      left_end = s.left_end ∙ ap (option_map ending_in) (sym c.kept.ended);
+      right_end = s.right_end;
+      known = s.known ∙ ap (option_map class_in) (sym c.kept.class);
+      journal = s.journal;
+      given = count ∙ s.given ∙ sym c.kept.given;
+      given_then = ap (λ (x : Carrier). x.given) (sym lives);
+      class_then = ap (λ (x : Carrier). x.class) (sym lives);
+      given_back = subst (λ (n : ℕ). p.right.end.carrier.given ≤ n) (sym count) s.given_back;
+      lines = λ n some few. line_by (n == r) laws Left r n call p b t l c a refl s at th.is within some (subst (λ (m : ℕ). n ≤ m) count few);
+      over_left = over_now r call p.left c;
+      over_right = s.over_right;
+      lost_right = s.lost_right;
+      order_left = λ e. order_now laws r call p.left serial (s.order_left c.opened.lasts) e;
+      order_right = s.order_right;
+      quiet_left = quiet_now r call p.left c s.quiet_left;
+      quiet_right = s.quiet_right;
+    }
+
+stand_right : (laws : CallLaws) (r : ℕ) (call : Call) (p : TwoEnds) (b : Between) (t : Tables) (l : Line) (c : Called r call p.right) (a : MayAct Right r call p b c.granted.sent) → HasSerial call → Stands p b t →
+    connection_at r t.lines ≡ Some l → There r p b t l → r ≤ p.right.end.carrier.given → Stands (new_of Right r call p) a.now (tables_now t Right r call l)
+stand_right laws r call p b t l c a serial s at th within =
+    let g : Holding = now_of r call p.right in
+    let count = laws.count r t.lines (seen_from (side_in Right) (after_call t.broken call (seen_from (side_in Right) l))) in
+    record {
+      between = subst (λ (x : Local). AreBetween (terms_of p.left.end.carrier.local x) (carriers_of (new_of Right r call p)) a.now) (sym c.kept.local) a.between;
+      terms = s.terms ∙ ap (λ (x : Local). terms_in (terms_of p.left.end.carrier.local x)) (sym c.kept.local);
+      broken = s.broken;
+      caller = s.caller;
+      left_end = s.left_end;
+      right_end = s.right_end ∙ ap (option_map ending_in) (sym c.kept.ended);
+      known = s.known;
+      journal = s.journal;
+      given = count ∙ s.given;
+      given_then = ap (λ (x : Carrier). x.given) a.carries.there ∙ s.given_then;
+      class_then = ap (λ (x : Carrier). x.class) a.carries.there ∙ s.class_then;
+      given_back = subst (λ (n : ℕ). g.end.carrier.given ≤ n) (sym count) (subst (λ (n : ℕ). n ≤ length t.lines) (sym c.kept.given) s.given_back);
+      lines = λ n some few. line_by (n == r) laws Right r n call p b t l c a refl s at th.is within some (subst (λ (m : ℕ). n ≤ m) count few);
+      over_left = s.over_left;
+      over_right = over_now r call p.right c;
+      lost_right = λ e n. lost_now r call p.right c e n;
+      order_left = s.order_left;
+      order_right = λ e. order_now laws r call p.right serial (s.order_right c.opened.lasts) e;
+      quiet_left = s.quiet_left;
+      quiet_right = quiet_now r call p.right c s.quiet_right;
+    }
+
+stand_at : (laws : CallLaws) (side : Side) (r : ℕ) (call : Call) (p : TwoEnds) (b : Between) (t : Tables) (l : Line) (c : Called r call (end_at side p)) (a : MayAct side r call p b c.granted.sent) → HasSerial call →
+    Stands p b t → connection_at r t.lines ≡ Some l → There r p b t l → r ≤ (end_at side p).end.carrier.given → Stands (new_of side r call p) a.now (tables_now t side r call l)
+stand_at laws Left r call p b t l c a serial s at th within = stand_left laws r call p b t l c a serial s at th within
+stand_at laws Right r call p b t l c a serial s at th within = stand_right laws r call p b t l c a serial s at th within
+
+-- ---- the step of the tables
+
+record Accepted (t : Tables) (side : Side) (r : ℕ) (call : Call) (o : Option Line) : Type 0 where
+  line : Line
+  found : o ≡ Some line
+  is : call_in t (side_in side) r call (side_of (side_in side) o) ≡ tables.noted (call_answered (side_in side) r call None ∷ []) (tables_now t side r call line)
+
+given_by : (b : Bool) (first : Option CallError) (e : CallError) (f : Option CallError → Tables) (other : Tables) → (if b then first else Some e) ≡ None → (if b then f first else other) ≡ f None
+given_by true first e f other h = ap f h
+given_by false first e f other h = absurd cc
+
+accepted_step : (t : Tables) (side : Side) (r : ℕ) (call : Call) (o : Option Line) → line_error (side_of (side_in side) o) call ≡ None → Accepted t side r call o
+accepted_step t side r call None h = absurd cc
+accepted_step t side r call (Some l) h =
+    let x : Line = seen_from (side_in side) l in
+    record {
+      line = l;
+      found = refl;
+      is = given_by (is_given x.own.transport) (react x.own.session (called call)).error error.NoSuchConnection
+          (λ o. tables.noted (call_answered (side_in side) r call o ∷ []) (tables_now t side r call l)) (tables.noted (call_answered (side_in side) r call (Some error.NoSuchConnection) ∷ []) t) h;
+    }
+
+-- ---- what is sent
+
+sound_seat : (side : Side) (l : Line) → IsSoundLine l → IsSoundSeat (seen_from (side_in side) l).own
+sound_seat Left l h = h.own
+sound_seat Right l h = h.peer
+
+sent_octets : (laws : CallLaws) (side : Side) (r : ℕ) (call : Call) (p : TwoEnds) (b : Between) (t : Tables) (l : Line) (c : Called r call (end_at side p)) → IsTableRun t → HasSerial call →
+    IsOctets (octets_of call) → connection_at r t.lines ≡ Some l → There r p b t l → IsOctets (written c.granted.sent)
+sent_octets laws side r call p b t l c tabled serial octets at th =
+    let x : Line = seen_from (side_in side) l in
+    let same : x.own.session ≡ c.session = seat_session r call (end_at side p) x.own c (seen side r p b l th.is).own in
+    let sound : IsSoundState c.session.state = subst (λ (y : Standing). IsSoundState y.state) same (sound_seat side l (laws.sound_lines t tabled r l at)).sound in
+    laws.octets c.granted.sent (laws.sendable c.session.state call c.granted sound serial c.accepted) (laws.says_octets c.session.state call c.granted c.accepted octets)
+
+-- ---- a reference that was given
+
+has_by : (b : Bool) (o : Option CallError) → (if not b then Some error.NoSuchConnection else o) ≡ None → b ≡ true
+has_by true o h = refl
+has_by false o h = absurd cc
+
+within_by : (a b : Bool) → (a && b) ≡ true → b ≡ true
+within_by true b h = h
+within_by false b h = absurd cc
+
+within_given : (r : ℕ) (call : Call) (h : Holding) → call_error r call h.end ≡ None → r ≤ h.end.carrier.given
+within_given r call h none =
+    leb-true r h.end.carrier.given (within_by (nat_lt 0 r) (nat_le r h.end.carrier.given)
+    (has_by (has_given r h.end.carrier) (session_refusal r (session_at r h.end) call h.end.carrier) none))
+
+-- ---- a call
+
+accepted_stands : (laws : CallLaws) (side : Side) (r : ℕ) (call : Call) (p : TwoEnds) (b : Between) (t : Tables) → IsTableRun t → HasSerial call → IsOctets (octets_of call) → Stands p b t →
+    call_error r call (end_at side p).end ≡ None → line_error (side_of (side_in side) (connection_at r t.lines)) call ≡ None → StandsOn (after_by None side r call p) (step t (entries.calls (side_in side) r call))
+accepted_stands laws side r call p b t tabled serial octets s none fine =
+    let c = called_is laws r call (end_at side p) none in
+    let d = accepted_step t side r call (connection_at r t.lines) fine in
+    let th = there laws.none r p b t d.line s d.found in
+    let a = acted_at laws side r call p b t c s (sent_octets laws side r call p b t d.line c tabled serial octets d.found th) in
+    let on = stand_at laws side r call p b t d.line c a serial s d.found th (within_given r call (end_at side p) none) in
+    record {
+      now = a.now;
+      stands = subst (Stands (after_by None side r call p) a.now) (sym d.is)
+          (more_said (new_of side r call p) a.now (tables_now t side r call d.line) (calls side r call None) (call_answered (side_in side) r call None) refl on);
+    }
+
+call_by : (laws : CallLaws) (side : Side) (r : ℕ) (call : Call) (p : TwoEnds) (b : Between) (t : Tables) (o : Option CallError) → call_error r call (end_at side p).end ≡ o → IsTableRun t → HasSerial call →
+    IsOctets (octets_of call) → Stands p b t → StandsOn (after_by o side r call p) (step t (entries.calls (side_in side) r call))
+call_by laws side r call p b t None is tabled serial octets s =
+    accepted_stands laws side r call p b t tabled serial octets s is (sym (answer_same laws.none laws.answers r side p b t call serial s) ∙ is)
+call_by laws side r call p b t (Some e) is tabled serial octets s =
+    refused_stands p b t side r call e s (sym (answer_same laws.none laws.answers r side p b t call serial s) ∙ is)
+
+-- the ends stay what they support
+local_by : (laws : CallLaws) (side : Side) (r : ℕ) (call : Call) (p : TwoEnds) (o : Option CallError) → call_error r call (end_at side p).end ≡ o →
+    terms_of (after_by o side r call p).left.end.carrier.local (after_by o side r call p).right.end.carrier.local ≡ terms_of p.left.end.carrier.local p.right.end.carrier.local
+local_by laws Left r call p None e = ap (λ (x : Local). terms_of x p.right.end.carrier.local) (called_is laws r call p.left e).kept.local
+local_by laws Right r call p None e = ap (λ (x : Local). terms_of p.left.end.carrier.local x) (called_is laws r call p.right e).kept.local
+local_by laws Left r call p (Some x) e = refl
+local_by laws Right r call p (Some x) e = refl
+
+pub call_at : CallLaws → (p : TwoEnds) (steps : List Step) (side : Side) (r : ℕ) (call : Call) → HasSerial call → IsOctets (octets_of call) → StandsAt p steps →
+    StandsAt (ends.after_call side r call p) (steps ++ entries.calls (side_in side) r call ∷ [])
+call_at laws p steps side r call serial octets s =
+    let t : Tables = run (begun_with p) steps in
+    let tabled : IsTableRun t = record { agreed = _; steps = steps; numbered = s.numbered; reached = refl } in
+    let o = call_error r call (end_at side p).end in
+    one_step p (after_by o side r call p) steps (entries.calls (side_in side) r call) serial (local_by laws side r call p o refl) s.numbered
+    (call_by laws side r call p s.now t o refl tabled serial octets s.stands)

@@ -1,0 +1,74 @@
+-- What an event is to two ends that stand.
+use Rattle.std.proofs.Common.{◌≡◌, refl, sym, ◌∙◌, ap, subst, ℕ, zero, suc, ◌<◌, ◌≤◌, Bool, true, false, List, [], ◌∷◌, ◌++◌, length, take, Option, Some, None, is_some, arith}
+use Rattle.osi_tpkt.specs.Octets.{IsOctets}
+use Rattle.osi_tpdu.specs.Limits.{tsap_octets}
+use Rattle.osi_tpdu.specs.declared.tsaps.Tsap.{Tsap}
+use Rattle.osi_machine.specs.Machine.{Step, connects, calls}
+use Rattle.osi_session.specs.Allowed.{octets_of}
+use Rattle.osi_session.specs.Calls.{Call as Asked, HasSerial, called_by}
+use Rattle.osi_session.specs.Calls as call
+use Rattle.osi_session.specs.declared.requests.Request.{Request}
+use Rattle.osi_session.specs.declared.requests.Request.TheVariants as request
+use Rattle.osi_stack.specs.declared.connecting.Connect.{Connect as Wanted}
+use Rattle.osi_pair.specs.Advancing.{CanHappen, StandsAfter}
+use Rattle.osi_pair.specs.Asked.{asked_of, CanBeAsked}
+use Rattle.osi_pair.specs.Asked as here
+use Rattle.osi_pair.specs.Ends.{TwoEnds, end_at, after_connect, after_call, after_break}
+use Rattle.osi_pair.specs.Events.{TellsBreak, misfit, misfit_break, misfit_told, Does}
+use Rattle.osi_pair.specs.Standing.{side_in, offer_in, StandsAt, StandsAtBreak, StandsAtTold}
+use Rattle.osi_pair.specs.declared.events.Event.{Event}
+use Rattle.osi_pair.specs.declared.events.Event.TheVariants.{Connect, Call, Carry, Break, Told}
+use Rattle.osi_pair.specs.declared.faults.PairError.{PairError}
+use Rattle.osi_pair.specs.declared.reach.Reach.{Reach}
+use Rattle.osi_pair.specs.declared.sides.Side.{Side}
+
+-- ---- what is asked for
+
+pub serial_small : (r : Request) → HasSerial (called_by r)
+serial_small (request.Accept requirements serial sides user) = let few = serial.small in omega arith
+serial_small _ = tt
+
+pub same_octets : (c : Asked) → here.octets_of c ≡ octets_of c
+same_octets (call.Accept requirements serial sides octets) = refl
+same_octets _ = refl
+
+few_taken : (n : ℕ) (xs : List ℕ) → length (take n xs) ≤ n
+few_taken zero xs = omega arith
+few_taken (suc n) [] = omega arith
+few_taken (suc n) (x ∷ xs) = let few = few_taken n xs in omega arith
+
+pub address_short : (t : Tsap) → length (tsap_octets t) ≤ 32
+address_short t = let few = few_taken t.len t.octets in let most = t.at_most in omega arith
+
+pub wanted_small : (c : Wanted) → c.serial.number < 1000000
+wanted_small c = let few = c.serial.small in omega arith
+
+-- ---- an event
+
+pub record EventLaws : Type 0 where
+  pub connects : (p : TwoEnds) (steps : List Step) (c : Wanted) → CanBeAsked c → StandsAt p steps → StandsAt (after_connect c p) (steps ++ connects (offer_in (asked_of c)) ∷ [])
+  pub calls : (p : TwoEnds) (steps : List Step) (side : Side) (r : ℕ) (c : Asked) → HasSerial c → IsOctets (octets_of c) → StandsAt p steps →
+      StandsAt (after_call side r c p) (steps ++ calls (side_in side) r c ∷ [])
+  pub broken : (p : TwoEnds) (steps : List Step) (k l : ℕ) → StandsAt p steps → p.reach ≡ None → StandsAtBreak (after_break k l p) steps
+  pub tells : (side : Side) (old new : TwoEnds) (steps : List Step) → StandsAt old steps → is_some old.reach ≡ true → TellsBreak side old new →
+      StandsAtTold (end_at side old).end.carrier.ended side new steps
+
+unbroken : (o : Option Reach) → misfit_break o ≡ None → o ≡ None
+unbroken None e = refl
+unbroken (Some r) e = cc
+
+is_broken : (o : Option Reach) → misfit_told o ≡ None → is_some o ≡ true
+is_broken None e = cc
+is_broken (Some r) e = refl
+
+pub event_stands : EventLaws → (event : Event) (old new : TwoEnds) (octets : ℕ) (steps : List Step) → CanHappen event → misfit event old ≡ None → Does event old octets new → StandsAt old steps →
+    StandsAfter event old new steps
+event_stands laws (Connect asked) old new octets steps can fits does s =
+    subst (λ (p : TwoEnds). StandsAt p (steps ++ connects (offer_in (asked_of asked)) ∷ [])) (sym does.0) (laws.connects old steps asked can s)
+event_stands laws (Call side reference request) old new octets steps can fits does s =
+    subst (λ (p : TwoEnds). StandsAt p (steps ++ calls (side_in side) reference.0 (called_by request) ∷ [])) (sym does.0)
+    (laws.calls old steps side reference.0 (called_by request) can.0 can.1 s)
+event_stands laws (Carry side most) old new octets steps can fits does s = tt
+event_stands laws (Break left right) old new octets steps can fits does s =
+    subst (λ (p : TwoEnds). StandsAtBreak p steps) (sym does.0) (laws.broken old steps left right s (unbroken old.reach fits))
+event_stands laws (Told side) old new octets steps can fits does s = laws.tells side old new steps s (is_broken old.reach fits) does.0

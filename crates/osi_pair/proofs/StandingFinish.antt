@@ -1,0 +1,267 @@
+-- An end took a unit of a connection: what is left to say of its carrier, where its session is known.
+use Rattle.std.proofs.Common.{◌≡◌, ◌≢◌, ℕ, ◌<◌, ◌≤◌, Bool, true, false, nat_lt, if◌then◌else◌, List, [], ◌++◌, map, Option, Some, None, is_some, option_map, refl, sym, ap, subst, ◌∙◌, arith}
+use Rattle.std.proofs.lemmas.Bool.Decides.{nat_tests}
+use Rattle.osi_tpkt.specs.Held.{Held}
+use Rattle.osi_class.specs.declared.terms.Class.{Class}
+use Rattle.osi_carrier.specs.Between.{Between, last_of, under_way}
+use Rattle.osi_carrier.specs.Course.{Place, never, was_given, place_at, progress_of}
+use Rattle.osi_carrier.specs.Messages.{bye, over}
+use Rattle.osi_carrier.specs.Messages as carrier
+use Rattle.osi_carrier.specs.Progress.{Progress, not_yet, references_for, class_behind_all}
+use Rattle.osi_carrier.specs.Rows.{value_at}
+use Rattle.osi_carrier.specs.State.{Connection, State, asked, linked, closing}
+use Rattle.osi_carrier.specs.Terms.{Terms, by_two, by_zero, refusing, accepts_in, class_of, terms_of}
+use Rattle.osi_machine.specs.Machine.{shown_at}
+use Rattle.osi_machine.specs.Tables.{Line, Tables}
+use Rattle.osi_machine.specs.Worlds.{Message}
+use Rattle.osi_session.specs.Moves.{Standing}
+use Rattle.osi_session.specs.Shown.{Shown}
+use Rattle.osi_stack.specs.Messages.{kept_at}
+use Rattle.osi_stack.specs.State.{End, Holding}
+use Rattle.osi_pair.specs.Ends.{TwoEnds, end_at}
+use Rattle.osi_pair.specs.Sides.{other}
+use Rattle.osi_pair.specs.Standing.{side_in, is_caller, class_in, carriers_of, message_in, AreAlike, IsSeated, IsInOrder, Stands}
+use Rattle.osi_pair.specs.Telling.{waiting_in}
+use Rattle.osi_pair.specs.declared.sides.Side.{Side}
+use Rattle.osi_pair.specs.declared.sides.Side.TheVariants.{Left, Right}
+use Rattle.osi_pair.proofs.StandingArrived.{UnitActs}
+use Rattle.osi_pair.proofs.StandingRows.{Row, quiet, still, begins, refuses, agrees, denies, tells, leaves, ignores, ends, before, after, arrived_in, put_for, is_row}
+use Rattle.osi_pair.proofs.StandingSeats.{transport_by, value_same, HasSession, seat_of_session}
+use Rattle.osi_pair.proofs.StandingTurned.{IsSeen, with_holding, holding_here, holding_there, Others, LinesAfter, Turned}
+
+-- ---- references and the class
+
+-- a connection that ends gives no reference and no class
+refs_row : (terms : Terms) (row : Row) → is_row terms row → (before row ≡ not_yet → ⊥) → references_for (accepts_in terms) (arrived_in row) (put_for row) ≡ 0
+refs_row terms begins is f = absurd (f refl)
+refs_row terms (refuses reason) is f = absurd (f refl)
+refs_row by_two quiet is f = refl
+refs_row by_two still is f = refl
+refs_row by_two agrees is f = refl
+refs_row by_two (denies reason) is f = absurd is
+refs_row by_two (tells octets) is f = refl
+refs_row by_two (leaves reason) is f = refl
+refs_row by_two (ignores octets) is f = refl
+refs_row by_zero quiet is f = refl
+refs_row by_zero still is f = refl
+refs_row by_zero agrees is f = refl
+refs_row by_zero (denies reason) is f = absurd is
+refs_row by_zero (tells octets) is f = refl
+refs_row by_zero (leaves reason) is f = refl
+refs_row by_zero (ignores octets) is f = refl
+refs_row (refusing why) quiet is f = absurd is
+refs_row (refusing why) still is f = absurd is
+refs_row (refusing why) agrees is f = absurd is
+refs_row (refusing why) (denies reason) is f = refl
+refs_row (refusing why) (tells octets) is f = absurd is
+refs_row (refusing why) (leaves reason) is f = absurd is
+refs_row (refusing why) (ignores octets) is f = absurd is
+refs_row (refusing why) (ends m) is f = absurd is
+refs_row by_two (ends (bye reason)) is f = refl
+refs_row by_two (ends over) is f = refl
+refs_row by_two (ends carrier.ask) is f = absurd is
+refs_row by_two (ends carrier.agree) is f = absurd is
+refs_row by_two (ends (carrier.deny why)) is f = absurd is
+refs_row by_two (ends (carrier.message octets)) is f = absurd is
+refs_row by_zero (ends (bye reason)) is f = refl
+refs_row by_zero (ends over) is f = refl
+refs_row by_zero (ends carrier.ask) is f = absurd is
+refs_row by_zero (ends carrier.agree) is f = absurd is
+refs_row by_zero (ends (carrier.deny why)) is f = absurd is
+refs_row by_zero (ends (carrier.message octets)) is f = absurd is
+
+abbrev pub is_agree : Row → Bool
+is_agree agrees = true
+is_agree row = false
+
+class_row : (terms : Terms) (row : Row) (held : Option Class) → is_row terms row → is_agree row ≡ false → (before row ≡ not_yet → ⊥) → class_behind_all (class_of terms) held (arrived_in row) ≡ held
+class_row terms begins held is a f = absurd (f refl)
+class_row terms (refuses reason) held is a f = absurd (f refl)
+class_row terms agrees held is a f = cc
+class_row terms quiet held is a f = refl
+class_row terms still held is a f = refl
+class_row by_two (denies reason) held is a f = absurd is
+class_row by_two (tells octets) held is a f = refl
+class_row by_two (leaves reason) held is a f = refl
+class_row by_two (ignores octets) held is a f = refl
+class_row by_zero (denies reason) held is a f = absurd is
+class_row by_zero (tells octets) held is a f = refl
+class_row by_zero (leaves reason) held is a f = refl
+class_row by_zero (ignores octets) held is a f = refl
+class_row (refusing why) (denies reason) held is a f = refl
+class_row (refusing why) (tells octets) held is a f = absurd is
+class_row (refusing why) (leaves reason) held is a f = absurd is
+class_row (refusing why) (ignores octets) held is a f = absurd is
+class_row (refusing why) (ends m) held is a f = absurd is
+class_row by_two (ends (bye reason)) held is a f = refl
+class_row by_two (ends over) held is a f = refl
+class_row by_two (ends carrier.ask) held is a f = absurd is
+class_row by_two (ends carrier.agree) held is a f = absurd is
+class_row by_two (ends (carrier.deny why)) held is a f = absurd is
+class_row by_two (ends (carrier.message octets)) held is a f = absurd is
+class_row by_zero (ends (bye reason)) held is a f = refl
+class_row by_zero (ends over) held is a f = refl
+class_row by_zero (ends carrier.ask) held is a f = absurd is
+class_row by_zero (ends carrier.agree) held is a f = absurd is
+class_row by_zero (ends (carrier.deny why)) held is a f = absurd is
+class_row by_zero (ends (carrier.message octets)) held is a f = absurd is
+
+given_not_new : (n : ℕ) (s : State) (b : Bool) → nat_lt s.given n ≡ b → n ≤ s.given → progress_of (place_at n s) ≡ not_yet → ⊥
+given_not_new n s true e le h = let more : s.given < n = grind (arith, nat_tests) in absurd (omega arith)
+given_not_new n s false e le h =
+    new_value (value_at n s.live) (sym (ap (λ (b : Bool). progress_of (if◌then◌else◌ {A = Place} b never (was_given (value_at n s.live)))) e) ∙ h)
+  where
+    new_value : (o : Option Connection) → progress_of (was_given o) ≡ not_yet → ⊥
+    new_value None h = cc
+    new_value (Some asked) h = cc
+    new_value (Some (linked peer link)) h = cc
+    new_value (Some (closing peer)) h = cc
+
+-- ---- what is left to say
+
+-- the tables have this line, and their users were shown this
+pub record TablesAfter (s : Side) (n : ℕ) (t u : Tables) (shown : List Shown) (line : Line) : Type 0 where
+  pub terms : u.terms ≡ t.terms
+  pub broken : u.broken ≡ t.broken
+  pub left_end : u.left_end ≡ t.left_end
+  pub right_end : u.right_end ≡ t.right_end
+  pub journal : u.journal ≡ t.journal ++ map (shown_at (side_in s) n) shown
+  pub lines : LinesAfter s n line t u
+
+-- the connection then, seen from the end that acted
+abbrev pub line_then : Row → Standing → List Message → List Message → Line → Line
+line_then row x channel back l = record {
+  own = record { transport = transport_by (after row); session = x; channel = channel };
+  peer = record l.peer { channel = back };
+}
+
+-- the sessions of all other connections
+pub record OtherSessions (s : Side) (p : TwoEnds) (e : End) (n : ℕ) : Type 0 where
+  pub sessions : (q : ℕ) → q ≢ n → is_some (value_at q e.carrier.live) ≡ true → kept_at q e.lines ≡ kept_at q (end_at s p).end.lines
+  pub kept : (q : ℕ) → q ≢ n → (x : Standing) → kept_at q e.lines ≡ Some x → kept_at q (end_at s p).end.lines ≡ Some x
+
+abbrev pub terms_at : TwoEnds → Terms
+terms_at p = terms_of p.left.end.carrier.local p.right.end.carrier.local
+
+abbrev pub DidAt : Side → TwoEnds → Between → End → Held → ℕ → Type 0
+DidAt s p b e h n = UnitActs (terms_at p) (is_caller s) (is_caller (other s)) (carriers_of p) b n (carriers_of (with_holding s e h p))
+
+pub last_is : (s : Side) (p : TwoEnds) (b : Between) (e : End) (h : Held) (n : ℕ) → (d : DidAt s p b e h n) → e.carrier.ended ≡ None → last_of (is_caller s) d.now ≡ e.carrier
+last_is Left p b e h n d lasts = sym (d.between.lives true lasts)
+last_is Right p b e h n d lasts = sym (d.between.lives false lasts)
+
+was_last : (s : Side) (p : TwoEnds) (b : Between) (t : Tables) → Stands p b t → (end_at s p).end.carrier.ended ≡ None → last_of (is_caller s) b ≡ (end_at s p).end.carrier
+was_last Left p b t old alive = sym (old.between.lives true alive)
+was_last Right p b t old alive = sym (old.between.lives false alive)
+
+pub order_of : (s : Side) (p : TwoEnds) (b : Between) (t : Tables) → Stands p b t → (end_at s p).end.carrier.ended ≡ None → IsInOrder (end_at s p).end
+order_of Left p b t old alive = old.order_left alive
+order_of Right p b t old alive = old.order_right alive
+
+others_then : (s : Side) (p : TwoEnds) (b : Between) (t : Tables) (e : End) (h : Held) (n : ℕ) → Stands p b t → (end_at s p).end.carrier.ended ≡ None → (d : DidAt s p b e h n) → e.carrier.ended ≡ None →
+    IsInOrder e → OtherSessions s p e n → Others s p b e h d.now n
+others_then s p b t e h n old alive d lasts order o =
+    let last = last_is s p b e h n d lasts in
+    let was = was_last s p b t old alive in
+    let places : (q : ℕ) → q ≢ n → place_at q e.carrier ≡ place_at q (end_at s p).end.carrier =
+    λ q apart. ap (place_at q) (sym last) ∙ d.other_places q apart ∙ ap (place_at q) was in
+    record {
+      places = places;
+      lives = λ q apart. value_same q e.carrier (end_at s p).end.carrier order.sound.orderly (order_of s p b t old alive).sound.orderly (places q apart);
+      sessions = o.sessions;
+      kept = o.kept;
+      ways = d.others;
+      last = d.other_places;
+      there = d.there;
+    }
+
+-- what is under way then, each way
+pub record WaysThen (s : Side) (p : TwoEnds) (b : Between) (e : End) (h : Held) (n : ℕ) (d : DidAt s p b e h n) (sends comes : List Message) : Type 0 where
+  pub out : (end_at (other s) p).end.carrier.ended ≡ None →
+      AreAlike (progress_of (place_at n (last_of (is_caller (other s)) d.now))) (map message_in sends) (under_way (is_caller s) n (carriers_of (with_holding s e h p)) d.now)
+  pub back : AreAlike (after d.row) (map message_in comes) (under_way (is_caller (other s)) n (carriers_of (with_holding s e h p)) d.now)
+
+seen_then : (s : Side) (p : TwoEnds) (b : Between) (t : Tables) (e : End) (h : Held) (n : ℕ) (l : Line) (x : Standing) (channel back : List Message) → (d : DidAt s p b e h n) → e.carrier.ended ≡ None → IsInOrder e →
+    HasSession n e.lines (after d.row) x → IsSeen s n p b l → WaysThen s p b e h n d channel back → IsSeen s n (with_holding s e h p) d.now (line_then d.row x channel back l)
+seen_then s p b t e h n l x channel back d lasts order hs i w = record {
+  here = subst (λ (y : Holding). IsSeated n y (line_then d.row x channel back l).own) (sym (holding_here s e h p))
+      (seat_of_session n e h (after d.row) x channel order.sound.orderly (ap (λ (c : State). progress_of (place_at n c)) (sym (last_is s p b e h n d lasts)) ∙ d.stands) hs);
+  there = subst (λ (y : Holding). IsSeated n y (line_then d.row x channel back l).peer) (sym (holding_there s e h p))
+      (record { transport = i.there.transport; live = i.there.live; kept = i.there.kept; over_now = i.there.over_now; awaiting = i.there.awaiting; octets = i.there.octets });
+  out = λ alive. w.out (ap (λ (y : Holding). y.end.carrier.ended) (sym (holding_there s e h p)) ∙ alive);
+  back = λ alive. subst (λ (g : Progress). AreAlike g (map message_in back) (under_way (is_caller (other s)) n (carriers_of (with_holding s e h p)) d.now)) (sym d.stands) w.back;
+}
+
+-- of an end that took a unit all that is said of one that acted
+pub finish : (s : Side) (p : TwoEnds) (b : Between) (t u : Tables) (e : End) (h : Held) (n : ℕ) (shown : List Shown) (l : Line) (x : Standing) (channel back : List Message) → Stands p b t →
+    (end_at s p).end.carrier.ended ≡ None → (d : DidAt s p b e h n) → e.carrier.ended ≡ None → e.carrier.local ≡ (end_at s p).end.carrier.local → e.carrier.is_caller ≡ (end_at s p).end.carrier.is_caller →
+    n ≤ b.caller.given → d.now.called.given ≤ d.now.caller.given → IsInOrder e → waiting_in e.lines ≡ [] → OtherSessions s p e n → HasSession n e.lines (after d.row) x → IsSeen s n p b l →
+    WaysThen s p b e h n d channel back → TablesAfter s n t u shown (line_then d.row x channel back l) → u.known ≡ option_map class_in (with_holding s e h p).left.end.carrier.class →
+    Turned s p b t e h d.now u n shown
+finish Left p b t u e h n shown l x channel back old alive d lasts local role named behind order none o hs i w a known =
+    let last = last_is Left p b e h n d lasts in
+    let was = was_last Left p b t old alive in
+    let new : before d.row ≡ not_yet → ⊥ = λ f. given_not_new n b.caller (nat_lt b.caller.given n) refl named (d.stood ∙ f) in
+    let refs = refs_row (terms_at p) d.row d.is new in
+    let same : d.now.caller.given ≡ b.caller.given = let more = d.given in omega arith in
+    let given : e.carrier.given ≡ p.left.end.carrier.given = ap (λ (c : State). c.given) (sym last) ∙ same ∙ old.given_then in
+    record {
+      between = d.between;
+      lasts = lasts;
+      local = local;
+      is_caller = role;
+      known = known;
+      given = given;
+      given_then = ap (λ (c : State). c.given) last;
+      class_then = ap (λ (c : State). c.class) last;
+      given_back = old.given_back;
+      terms = a.terms;
+      broken = a.broken;
+      left_end = a.left_end;
+      right_end = a.right_end;
+      journal = a.journal;
+      line = line_then d.row x channel back l;
+      lines = a.lines;
+      is = seen_then Left p b t e h n l x channel back d lasts order hs i w;
+      others = others_then Left p b t e h n old alive d lasts order o;
+      order = order;
+      quiet = none;
+    }
+finish Right p b t u e h n shown l x channel back old alive d lasts local role named behind order none o hs i w a known =
+    let last = last_is Right p b e h n d lasts in
+    let there : d.now.caller.given ≡ p.left.end.carrier.given = d.given_there ∙ old.given_then in
+    let here : d.now.called.given ≡ e.carrier.given = ap (λ (c : State). c.given) last in
+    let count = old.given in
+    record {
+      between = d.between;
+      lasts = lasts;
+      local = local;
+      is_caller = role;
+      known = known;
+      given = refl;
+      given_then = there;
+      class_then = d.class_there ∙ old.class_then;
+      given_back = omega arith;
+      terms = a.terms;
+      broken = a.broken;
+      left_end = a.left_end;
+      right_end = a.right_end;
+      journal = a.journal;
+      line = line_then d.row x channel back l;
+      lines = a.lines;
+      is = seen_then Right p b t e h n l x channel back d lasts order hs i w;
+      others = others_then Right p b t e h n old alive d lasts order o;
+      order = order;
+      quiet = none;
+    }
+
+-- ---- the class
+
+-- where no CC came the class is known as before
+pub known_then : (s : Side) (p : TwoEnds) (b : Between) (t : Tables) (e : End) (h : Held) (n : ℕ) → Stands p b t → (end_at s p).end.carrier.ended ≡ None → (d : DidAt s p b e h n) → e.carrier.ended ≡ None →
+    n ≤ b.caller.given → is_agree d.row ≡ false → t.known ≡ option_map class_in (with_holding s e h p).left.end.carrier.class
+known_then Left p b t e h n old alive d lasts named row =
+    let new : before d.row ≡ not_yet → ⊥ = λ f. given_not_new n b.caller (nat_lt b.caller.given n) refl named (d.stood ∙ f) in
+    let same : e.carrier.class ≡ b.caller.class = ap (λ (c : State). c.class) (sym (last_is Left p b e h n d lasts)) ∙ d.class ∙ class_row (terms_at p) d.row b.caller.class d.is row new in
+    old.known ∙ ap (option_map class_in) (sym old.class_then) ∙ ap (option_map class_in) (sym same)
+known_then Right p b t e h n old alive d lasts named row = old.known

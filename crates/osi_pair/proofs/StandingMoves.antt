@@ -1,0 +1,198 @@
+-- A message arrives, and a session makes its move, which sends nothing and closes nothing.
+use Rattle.std.proofs.Common.{◌≡◌, ◌≢◌, ℕ, ◌≤◌, Bool, true, false, List, [], ◌∷◌, map, Option, Some, None, IfSome, option_map, refl, sym, ap, subst, ◌∙◌}
+use Rattle.std.proofs.lemmas.List.{append-nil}
+use Rattle.osi_tpkt.specs.Held.{Held}
+use Rattle.osi_carrier.specs.Addresses.{reference_of}
+use Rattle.osi_carrier.specs.Between.{Between, last_of, under_way}
+use Rattle.osi_carrier.specs.Course.{place_at, progress_of}
+use Rattle.osi_carrier.specs.Messages as carrier
+use Rattle.osi_carrier.specs.Progress.{leaves_use}
+use Rattle.osi_carrier.specs.Rows.{Rows, value_at}
+use Rattle.osi_machine.specs.Machine.{connection_at, delivers, learns}
+use Rattle.osi_machine.specs.Tables.{Seat, Line as TableLine, Turn, Tables, seen_from, end_of, step, hears, without_first, message_taken}
+use Rattle.osi_machine.specs.Worlds.{Message, unit, ask, agree, deny, bye, over, put, replied}
+use Rattle.osi_machine.specs.Worlds as worlds
+use Rattle.osi_message.specs.InOctets.{IsInOctets}
+use Rattle.osi_message.specs.Sendable.{said_of}
+use Rattle.osi_message.specs.Meanings.{Meaning}
+use Rattle.osi_session.specs.Moves.{Input, taken, opened, refused, broken as broken_off, Standing, react}
+use Rattle.osi_session.specs.Phases.{is_ended}
+use Rattle.osi_session.specs.Sessions.{awaits}
+use Rattle.osi_stack.specs.Messages.{kept_at}
+use Rattle.osi_stack.specs.State.{Line, End}
+use Rattle.osi_pair.specs.Ends.{TwoEnds, end_at}
+use Rattle.osi_pair.specs.Sides.{other}
+use Rattle.osi_pair.specs.Standing.{side_in, is_caller, class_in, carriers_of, message_in, AreAlike, is_parting, Stands}
+use Rattle.osi_pair.specs.Telling.{quieted}
+use Rattle.osi_pair.specs.declared.sides.Side.{Side}
+use Rattle.osi_pair.proofs.StandingArrived.{PacketActs}
+use Rattle.osi_pair.proofs.StandingFinish.{terms_at, DidAt, TablesAfter, OtherSessions, line_then, finish}
+use Rattle.osi_pair.proofs.StandingHeard.{lines_then, kept_other, session_then}
+use Rattle.osi_pair.proofs.StandingRests.{step_opens, tables_delivered, sends_then, seat_now}
+use Rattle.osi_pair.proofs.StandingResting.{acted_end, EndThen, NextFor, transport_before, out_row}
+use Rattle.osi_pair.proofs.StandingRows.{Row, quiet, still, begins, refuses, agrees, denies, tells, leaves, ignores, ends, before, after, arrived_in}
+use Rattle.osi_pair.proofs.StandingSeats.{transport_by, HasSession}
+use Rattle.osi_pair.proofs.StandingTurned.{IsSeen, with_holding}
+
+-- ---- the turn of the tables
+
+-- what happens to the session
+abbrev pub heard_by : Row → Message → Input
+heard_by agrees m = opened
+heard_by (denies reason) m = refused reason
+heard_by (tells octets) (unit u) = taken (said_of u)
+heard_by row m = broken_off
+
+-- the rows in which it makes its move
+abbrev pub is_move : Row → Bool
+is_move agrees = true
+is_move (denies reason) = true
+is_move (tells octets) = true
+is_move row = false
+
+alone_is : (x y : carrier.Message) → x ∷ [] ≡ y ∷ [] → x ≡ y
+alone_is x y e = cc
+
+turn_agrees : (broken : Bool) (terms : worlds.Terms) (keep : ℕ) (x : Standing) (channel : List Message) (peer : Seat) (m : Message) → message_in m ≡ carrier.agree →
+    message_taken broken terms keep worlds.waiting (record { own = seat_now worlds.waiting x channel; peer = peer }) m ≡ hears broken worlds.linked opened (record { own = seat_now worlds.waiting x channel; peer = peer })
+turn_agrees broken terms keep x channel peer agree e = refl
+turn_agrees broken terms keep x channel peer ask e = cc
+turn_agrees broken terms keep x channel peer (unit u) e = cc
+turn_agrees broken terms keep x channel peer (deny why) e = cc
+turn_agrees broken terms keep x channel peer (bye why) e = cc
+turn_agrees broken terms keep x channel peer over e = cc
+
+turn_denies : (broken : Bool) (terms : worlds.Terms) (keep : ℕ) (x : Standing) (channel : List Message) (peer : Seat) (reason : ℕ) (m : Message) → message_in m ≡ carrier.deny reason →
+    message_taken broken terms keep worlds.waiting (record { own = seat_now worlds.waiting x channel; peer = peer }) m ≡ hears broken worlds.gone (refused reason) (record { own = seat_now worlds.waiting x channel; peer = peer })
+turn_denies broken terms keep x channel peer reason (deny why) e =
+    let same : why ≡ reason = cc in
+    ap (λ (k : ℕ). hears broken worlds.gone (refused k) (record { own = seat_now worlds.waiting x channel; peer = peer })) same
+turn_denies broken terms keep x channel peer reason ask e = cc
+turn_denies broken terms keep x channel peer reason (unit u) e = cc
+turn_denies broken terms keep x channel peer reason agree e = cc
+turn_denies broken terms keep x channel peer reason (bye why) e = cc
+turn_denies broken terms keep x channel peer reason over e = cc
+
+turn_tells : (broken : Bool) (terms : worlds.Terms) (keep : ℕ) (x : Standing) (channel : List Message) (peer : Seat) (octets : List ℕ) (m : Message) → message_in m ≡ carrier.message octets →
+    message_taken broken terms keep worlds.linked (record { own = seat_now worlds.linked x channel; peer = peer }) m ≡ hears broken worlds.linked (heard_by (tells octets) m) (record { own = seat_now worlds.linked x channel; peer = peer })
+turn_tells broken terms keep x channel peer octets (unit u) e = refl
+turn_tells broken terms keep x channel peer octets ask e = cc
+turn_tells broken terms keep x channel peer octets agree e = cc
+turn_tells broken terms keep x channel peer octets (deny why) e = cc
+turn_tells broken terms keep x channel peer octets (bye why) e = cc
+turn_tells broken terms keep x channel peer octets over e = cc
+
+turn_by : (broken : Bool) (terms : worlds.Terms) (keep : ℕ) (row : Row) (x : Standing) (channel : List Message) (peer : Seat) (m : Message) (got : carrier.Message) → is_move row ≡ true →
+    arrived_in row ≡ got ∷ [] → AreAlike (before row) (message_in m ∷ []) (got ∷ []) →
+    message_taken broken terms keep (transport_by (before row)) (record { own = seat_now (transport_by (before row)) x channel; peer = peer }) m ≡
+    hears broken (transport_by (after row)) (heard_by row m) (record { own = seat_now (transport_by (before row)) x channel; peer = peer })
+turn_by broken terms keep agrees x channel peer m got is e a = turn_agrees broken terms keep x channel peer m (alone_is _ _ (a ∙ sym e))
+turn_by broken terms keep (denies reason) x channel peer m got is e a = turn_denies broken terms keep x channel peer reason m (alone_is _ _ (a ∙ sym e))
+turn_by broken terms keep (tells octets) x channel peer m got is e a = turn_tells broken terms keep x channel peer octets m (alone_is _ _ (a ∙ sym e))
+turn_by broken terms keep quiet x channel peer m got is e a = cc
+turn_by broken terms keep still x channel peer m got is e a = cc
+turn_by broken terms keep begins x channel peer m got is e a = cc
+turn_by broken terms keep (refuses reason) x channel peer m got is e a = cc
+turn_by broken terms keep (leaves reason) x channel peer m got is e a = cc
+turn_by broken terms keep (ignores octets) x channel peer m got is e a = cc
+turn_by broken terms keep (ends last) x channel peer m got is e a = cc
+
+-- the turn, where the move sends this
+abbrev pub turn_then : Row → Input → Bool → Option Meaning → Standing → List Message → List Message → TableLine → Turn
+turn_then row input broken reply x channel back l = record {
+  line = line_then row (react x input).next (put broken (replied reply) channel) back l;
+  shown = (react x input).shown;
+  closes = (react x input).closes;
+}
+
+pub turn_moves : (broken : Bool) (terms : worlds.Terms) (keep : ℕ) (row : Row) (l : TableLine) (m : Message) (xs : List Message) (got : carrier.Message) → l.own.transport ≡ transport_by (before row) → is_move row ≡ true →
+    arrived_in row ≡ got ∷ [] → AreAlike (before row) (message_in m ∷ []) (got ∷ []) →
+    message_taken broken terms keep l.own.transport (without_first l xs) m ≡ turn_then row (heard_by row m) broken (react l.own.session (heard_by row m)).reply l.own.session l.own.channel xs l
+turn_moves broken terms keep row l m xs got f is e a =
+    ap (λ (tr : worlds.Transport). message_taken broken terms keep tr (record { own = seat_now tr l.own.session l.own.channel; peer = record l.peer { channel = xs } }) m) f
+    ∙ turn_by broken terms keep row l.own.session l.own.channel (record l.peer { channel = xs }) m got is e a
+
+stays_in_use : (row : Row) → is_move row ≡ true → leaves_use (before row) (after row) ≡ false
+stays_in_use agrees e = refl
+stays_in_use (denies reason) e = refl
+stays_in_use (tells octets) e = refl
+stays_in_use quiet e = cc
+stays_in_use still e = cc
+stays_in_use begins e = cc
+stays_in_use (refuses reason) e = cc
+stays_in_use (leaves reason) e = cc
+stays_in_use (ignores octets) e = cc
+stays_in_use (ends m) e = cc
+
+sends_none : (row : Row) (broken : Bool) (channel : List Message) → is_move row ≡ true → sends_then row broken channel ≡ put broken [] channel
+sends_none agrees true channel e = refl
+sends_none agrees false channel e = sym (append-nil channel)
+sends_none (denies reason) true channel e = refl
+sends_none (denies reason) false channel e = sym (append-nil channel)
+sends_none (tells octets) true channel e = refl
+sends_none (tells octets) false channel e = sym (append-nil channel)
+sends_none quiet broken channel e = cc
+sends_none still broken channel e = cc
+sends_none begins broken channel e = cc
+sends_none (refuses reason) broken channel e = cc
+sends_none (leaves reason) broken channel e = cc
+sends_none (ignores octets) broken channel e = cc
+sends_none (ends m) broken channel e = cc
+
+-- ---- the sessions of all others
+
+moved_others : (s : Side) (p : TwoEnds) (e : End) (n : ℕ) (line : Line) (x : Standing) (input : Input) → e.lines ≡ quieted (lines_then n line x input (end_at s p).end.lines) → OtherSessions s p e n
+moved_others s p e n line x input is =
+    let other : (q : ℕ) → q ≢ n → kept_at q e.lines ≡ kept_at q (end_at s p).end.lines =
+    λ q apart. ap (kept_at q) is ∙ kept_other n q line x input (end_at s p).end.lines apart in
+    record { sessions = λ q apart lives. other q apart; kept = λ q apart y h. sym (other q apart) ∙ h }
+
+-- ---- two ends
+
+-- the line of the end, its session, and what is known of its move
+pub record MovesBy (s : Side) (p : TwoEnds) (n : ℕ) (x : Standing) (row : Row) (input : Input) : Type 0 where
+  pub line : Line
+  pub here : value_at n (end_at s p).end.lines ≡ Some line
+  pub is : line.session ≡ Some x
+  pub reply : (react x input).reply ≡ None
+  pub closes : (react x input).closes ≡ false
+  pub ended : is_parting (transport_by (after row)) ≡ true → is_ended (react x input).next.state.phase ≡ true
+  pub waits : transport_by (after row) ≡ worlds.not_yet → (react x input).next ≡ awaits
+  pub octets : IfSome (react x input).next.waiting IsInOctets
+
+abbrev pub moved_lines : (s : Side) (p : TwoEnds) (n : ℕ) (x : Standing) (row : Row) (input : Input) → MovesBy s p n x row input → Rows Line
+moved_lines s p n x row input k = quieted (lines_then n k.line x input (end_at s p).end.lines)
+
+pub move_unit : (s : Side) (p : TwoEnds) (b : Between) (t : Tables) (packet : List ℕ) (h : Held) (got : carrier.Message) (l : TableLine) (m : Message) (xs : List Message) (row : Row) → Stands p b t →
+    (end_at s p).end.carrier.ended ≡ None → end_of (side_in s) t ≡ None → (pa : PacketActs (terms_at p) (is_caller s) (carriers_of p) b packet h.octets) →
+    connection_at (reference_of pa.unit) t.lines ≡ Some (seen_from (side_in s) l) → IsSeen s (reference_of pa.unit) p b l → l.peer.channel ≡ m ∷ xs →
+    (k : MovesBy s p (reference_of pa.unit) l.own.session row (heard_by row m)) →
+    (d : DidAt s p b (acted_end pa.unit (moved_lines s p (reference_of pa.unit) l.own.session row (heard_by row m) k) (end_at s p).end) h (reference_of pa.unit)) → d.row ≡ row →
+    arrived_in row ≡ got ∷ [] → is_move row ≡ true → AreAlike (before row) (message_in m ∷ []) (got ∷ []) →
+    AreAlike (after row) (map message_in xs) (under_way (is_caller (other s)) (reference_of pa.unit) (carriers_of (with_holding s (acted_end pa.unit (moved_lines s p (reference_of pa.unit) l.own.session row (heard_by row m) k) (end_at s p).end) h p)) d.now) →
+    d.now.called.given ≤ d.now.caller.given → EndThen s p (acted_end pa.unit (moved_lines s p (reference_of pa.unit) l.own.session row (heard_by row m) k) (end_at s p).end) →
+    learns t.terms l.own.transport m t.known ≡ option_map class_in (with_holding s (acted_end pa.unit (moved_lines s p (reference_of pa.unit) l.own.session row (heard_by row m) k) (end_at s p).end) h p).left.end.carrier.class →
+    NextFor s p b t pa.unit h (moved_lines s p (reference_of pa.unit) l.own.session row (heard_by row m) k) (reference_of pa.unit) (react l.own.session (heard_by row m)).shown
+    (step t (delivers (side_in s) (reference_of pa.unit) (λ r. 0))) d.now
+move_unit s p b t packet h got l m xs row old alive lasting pa found seen first k d same one move alike back behind new known =
+    let n = reference_of pa.unit in
+    let x = l.own.session in
+    let input = heard_by row m in
+    let e = acted_end pa.unit (moved_lines s p n x row input k) (end_at s p).end in
+    let tr : l.own.transport ≡ transport_by (before row) = transport_before s p b t e h n l old alive d seen ∙ ap (λ (r : Row). transport_by (before r)) same in
+    let turn = turn_then row input t.broken None x l.own.channel xs l in
+    let taken_is : message_taken t.broken t.terms 0 l.own.transport (without_first l xs) m ≡ turn =
+    turn_moves t.broken t.terms 0 row l m xs got tr move one alike ∙ ap (λ (r : Option Meaning). turn_then row input t.broken r x l.own.channel xs l) k.reply in
+    let is = step_opens t (side_in s) n (λ r. 0) l m xs turn lasting found first taken_is k.closes in
+    let steady : leaves_use (before d.row) (after d.row) ≡ false = ap (λ (r : Row). leaves_use (before r) (after r)) same ∙ stays_in_use row move in
+    finish s p b t (step t (delivers (side_in s) n (λ r. 0))) e h n (react x input).shown l (react x input).next (put t.broken [] l.own.channel) xs old alive d new.lasts new.local new.role pa.first.given behind new.order new.waits
+    (moved_others s p e n k.line x input refl)
+    (subst (λ (r : Row). HasSession n e.lines (after r) (react x input).next) (sym same) (session_then n k.line x input (end_at s p).end.lines (after row) k.here k.is k.ended k.waits k.octets)) seen
+    (record {
+      out = λ lives. subst (λ (ms : List Message). AreAlike (progress_of (place_at n (last_of (is_caller (other s)) d.now))) (map message_in ms) (under_way (is_caller s) n (carriers_of (with_holding s e h p)) d.now))
+          (ap (λ (r : Row). sends_then r t.broken l.own.channel) same ∙ sends_none row t.broken l.own.channel move) (out_row s p b t e h n l old d seen steady lives);
+      back = subst (λ (r : Row). AreAlike (after r) (map message_in xs) (under_way (is_caller (other s)) n (carriers_of (with_holding s e h p)) d.now)) (sym same) back;
+    })
+    (subst (λ (r : Row). TablesAfter s n t (step t (delivers (side_in s) n (λ r. 0))) (react x input).shown (line_then r (react x input).next (put t.broken [] l.own.channel) xs l)) (sym same)
+    (subst (λ (u : Tables). TablesAfter s n t u (react x input).shown turn.line) (sym is) (tables_delivered s n (seen_from (side_in s) l) t (learns t.terms l.own.transport m t.known) turn found)))
+    (ap (λ (u : Tables). u.known) is ∙ known)

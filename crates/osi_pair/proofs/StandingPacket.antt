@@ -1,0 +1,374 @@
+-- A packet is taken at an end with which no session acts, or one begins: it is no step of the tables, or one
+-- delivery.
+use Rattle.std.proofs.Common.{◌≡◌, ◌≢◌, ℕ, ◌<◌, ◌≤◌, Bool, true, false, not, List, [], ◌∷◌, ◌++◌, map, Option, Some, None, is_some, option_map, refl, sym, ap, subst, ◌∙◌, ◌⊎◌, inl, inr}
+use Rattle.std.specs.List.{AllByRecursion}
+use Rattle.std.proofs.lemmas.List.{append-nil}
+use Rattle.osi_tpkt.specs.Held.{Held}
+use Rattle.osi_tpkt.specs.Packet.{IsPacket}
+use Rattle.osi_tpdu.specs.Value.{Value}
+use Rattle.osi_carrier.specs.Addresses.{reference_of}
+use Rattle.osi_carrier.specs.Between.{Both, side, Between, last_of, AreBetween}
+use Rattle.osi_carrier.specs.Coming.{IsSendable}
+use Rattle.osi_carrier.specs.Course.{place_at, progress_of}
+use Rattle.osi_carrier.specs.Happenings.{opened}
+use Rattle.osi_carrier.specs.Packets as carriers
+use Rattle.osi_carrier.specs.Messages as carrier
+use Rattle.osi_carrier.specs.Orderly.{RiseFrom}
+use Rattle.osi_carrier.specs.Progress.{leaves_use, not_yet}
+use Rattle.osi_carrier.specs.React.{react as carrier_react}
+use Rattle.osi_carrier.specs.Rows.{Rows, value_at}
+use Rattle.osi_carrier.specs.State.{State}
+use Rattle.osi_carrier.specs.Terms.{Terms, terms_of}
+use Rattle.osi_class.specs.declared.terms.Local.{Local}
+use Rattle.osi_carrier.proofs.Apart.{beyond}
+use Rattle.osi_machine.specs.Core as machine
+use Rattle.osi_machine.specs.Machine.{Ending, Step, connects, calls, delivers, breaks, HasNumber}
+use Rattle.osi_machine.specs.Machine.{ends as ends_side}
+use Rattle.osi_machine.specs.Tables.{Tables, end_of, step, run, start}
+use Rattle.osi_machine.specs.Worlds.{Message}
+use Rattle.osi_session.specs.Sessions.{awaits}
+use Rattle.osi_session.specs.Shown.{Shown}
+use Rattle.osi_stack.specs.Coming.{after_unit, carries_out}
+use Rattle.osi_stack.specs.Folds.{AllCameAbout}
+use Rattle.osi_stack.specs.Hearing.{after_packet, attends, concludes, opens}
+use Rattle.osi_stack.specs.Links.{IsSound}
+use Rattle.osi_stack.specs.Messages.{told_all}
+use Rattle.osi_stack.specs.State.{Line, End, Holding, IsAttended, joins}
+use Rattle.osi_stack.proofs.Rising.{rise_joins}
+use Rattle.osi_pair.specs.Ends.{TwoEnds, end_at}
+use Rattle.osi_pair.specs.Entries.{Entry}
+use Rattle.osi_pair.specs.Standing.{side_in, is_caller, terms_in, ending_in, carriers_of, packet_taken, AreDeliveries, StandsAtDeliveries, IsInOrder, Stands, StandsAt}
+use Rattle.osi_pair.specs.Telling.{waiting_in, quieted}
+use Rattle.osi_pair.specs.declared.sides.Side.{Side}
+use Rattle.osi_pair.specs.declared.sides.Side.TheVariants.{Left, Right}
+use Rattle.osi_pair.proofs.StandingArrived.{CarrierLaws, PacketActs, packet_acts}
+use Rattle.osi_pair.proofs.StandingBegins.{begun_lines, begun_waits, begins_unit, new_at}
+use Rattle.osi_pair.proofs.StandingFinish.{terms_at, DidAt, is_agree, last_is, order_of}
+use Rattle.osi_pair.proofs.StandingHeard.{carried_out, nothing_heard, one_told, lasting}
+use Rattle.osi_pair.proofs.StandingQuiet.{quiet_same}
+use Rattle.osi_pair.proofs.StandingRests.{is_awaited, rests, sends_then}
+use Rattle.osi_pair.proofs.StandingResting.{acted_end, did_at, same_row, was_at, is_rest, EndThen, quiet_unit, rest_unit}
+use Rattle.osi_pair.proofs.StandingRows.{Row, quiet, still, begins, refuses, agrees, denies, tells, leaves, ignores, ends, before, after, arrived_in, told_for}
+use Rattle.osi_pair.proofs.StandingTurned.{with_holding, turned_pair, turned_stands}
+
+-- what is proved of two carriers and of one end
+pub record PacketLaws : Type 0 where
+  pub two : CarrierLaws
+  pub behind : (terms : Terms) (both : Both) (b : Between) → AreBetween terms both b → b.called.given ≤ b.caller.given
+  pub roles : (terms : Terms) (both : Both) (b : Between) → AreBetween terms both b → (b.caller.is_caller ≡ true) × (b.called.is_caller ≡ false)
+  pub sound : (e : End) (unit : Value) → IsSendable unit → e.carrier.ended ≡ None → IsAttended e → IsSound e → IsSound (after_unit e unit)
+  pub came : (e : End) (unit : Value) → IsSendable unit → AllCameAbout e.lines → AllCameAbout (after_unit e unit).lines
+
+-- Behind a packet that showed nothing the two ends stand at these deliveries more.
+pub record StandsBehind (s : Side) (p : TwoEnds) (t : Tables) (packet : List ℕ) (h : Held) : Type 0 where
+  pub more : List Step
+  pub are : AreDeliveries (side_in s) more
+  pub now : Between
+  pub end : End
+  pub n : ℕ
+  pub same : after_packet (end_at s p).end packet ≡ end
+  pub local : end.carrier.local ≡ (end_at s p).end.carrier.local
+  pub stands : Stands (turned_pair s end h n [] p) now (run t more)
+
+-- ---- the end
+
+none_of : (o : Option Ending) → option_map Some o ≡ None → o ≡ None
+none_of None e = refl
+none_of (Some x) e = cc
+
+pub lasting_in : (s : Side) (p : TwoEnds) (b : Between) (t : Tables) → Stands p b t → (end_at s p).end.carrier.ended ≡ None → end_of (side_in s) t ≡ None
+lasting_in Left p b t old alive = none_of t.left_end (old.left_end ∙ ap (option_map ending_in) alive)
+lasting_in Right p b t old alive = none_of t.right_end (old.right_end ∙ ap (option_map ending_in) alive)
+
+pub quiet_of : (s : Side) (p : TwoEnds) (b : Between) (t : Tables) → Stands p b t → waiting_in (end_at s p).end.lines ≡ []
+quiet_of Left p b t old = old.quiet_left
+quiet_of Right p b t old = old.quiet_right
+
+same_role : PacketLaws → (s : Side) (p : TwoEnds) (b : Between) (t : Tables) (e : End) (h : Held) (n : ℕ) → Stands p b t → (end_at s p).end.carrier.ended ≡ None → (d : DidAt s p b e h n) → e.carrier.ended ≡ None →
+    e.carrier.is_caller ≡ (end_at s p).end.carrier.is_caller
+same_role laws Left p b t e h n old alive d lasts =
+    ap (λ (c : State). c.is_caller) (sym (last_is Left p b e h n d lasts)) ∙ (laws.roles _ _ d.now d.between).0 ∙ sym (laws.roles _ _ b old.between).0 ∙ ap (λ (c : State). c.is_caller) (was_at Left p b t old alive)
+same_role laws Right p b t e h n old alive d lasts =
+    ap (λ (c : State). c.is_caller) (sym (last_is Right p b e h n d lasts)) ∙ (laws.roles _ _ d.now d.between).1 ∙ sym (laws.roles _ _ b old.between).1 ∙ ap (λ (c : State). c.is_caller) (was_at Right p b t old alive)
+
+-- it is in order behind the packet
+order_then : PacketLaws → (s : Side) (p : TwoEnds) (b : Between) (t : Tables) (u : Value) (e : End) → Stands p b t → (end_at s p).end.carrier.ended ≡ None → IsSendable u → attends (carries_out u (end_at s p).end) ≡ e → e.carrier.ended ≡ None →
+    e.carrier.events ≡ [] → RiseFrom 0 e.lines → IsInOrder e
+order_then laws s p b t u e old alive sendable is lasts heard rising =
+    let was = order_of s p b t old alive in
+    record {
+      heard = heard;
+      sound = subst IsSound is (laws.sound (end_at s p).end u sendable alive (λ x. was.heard) (λ x. was.sound)) lasts;
+      rising = rising;
+      came = subst (λ (x : End). AllCameAbout x.lines) is (laws.came (end_at s p).end u sendable was.came);
+    }
+
+-- ---- no session acts
+
+-- where the lines are as they were
+rest_end : PacketLaws → (s : Side) (p : TwoEnds) (b : Between) (t : Tables) (packet : List ℕ) (h : Held) → Stands p b t → (end_at s p).end.carrier.ended ≡ None →
+    (pa : PacketActs (terms_at p) (is_caller s) (carriers_of p) b packet h.octets) → after_packet (end_at s p).end packet ≡ acted_end pa.unit (end_at s p).end.lines (end_at s p).end →
+    attends (carries_out pa.unit (end_at s p).end) ≡ acted_end pa.unit (end_at s p).end.lines (end_at s p).end → (carrier_react pa.unit (end_at s p).end.carrier).ended ≡ None →
+    (carrier_react pa.unit (end_at s p).end.carrier).local ≡ (end_at s p).end.carrier.local →
+    EndThen s p (acted_end pa.unit (end_at s p).end.lines (end_at s p).end)
+rest_end laws s p b t packet h old alive pa same heard lasts local =
+    let e = acted_end pa.unit (end_at s p).end.lines (end_at s p).end in
+    record {
+      lasts = lasts;
+      local = local;
+      role = same_role laws s p b t e h (reference_of pa.unit) old alive (did_at s p b packet h (end_at s p).end.lines pa) lasts;
+      order = order_then laws s p b t pa.unit e old alive pa.sendable heard lasts refl (order_of s p b t old alive).rising;
+      waits = quiet_of s p b t old;
+    }
+
+-- what a row is, which is not answered, and of which no session hears
+record IsQuietRow (row : Row) (n : ℕ) : Type 0 where
+  none : arrived_in row ≡ []
+  same : before row ≡ after row
+  rest : is_rest row ≡ true
+  agree : is_agree row ≡ false
+  stays : leaves_use (before row) (after row) ≡ false
+  sends : (broken : Bool) (channel : List Message) → sends_then row broken channel ≡ channel
+  told : told_for n row ≡ []
+
+record IsRestRow (row : Row) (n : ℕ) : Type 0 where
+  got : carrier.Message
+  one : arrived_in row ≡ got ∷ []
+  rest : is_rest row ≡ true
+  resting : rests row ≡ true
+  agree : is_agree row ≡ false
+  awaited : is_awaited row ≡ false
+  stays : leaves_use (before row) (after row) ≡ false
+  told : told_for n row ≡ []
+
+quiet_row : (n : ℕ) → IsQuietRow quiet n
+quiet_row n = record { none = refl; same = refl; rest = refl; agree = refl; stays = refl; sends = λ b c. refl; told = refl }
+
+still_row : (n : ℕ) → IsQuietRow still n
+still_row n = record { none = refl; same = refl; rest = refl; agree = refl; stays = refl; sends = λ b c. refl; told = refl }
+
+refuses_row : (n reason : ℕ) → IsRestRow (refuses reason) n
+refuses_row n reason = record { got = carrier.ask; one = refl; rest = refl; resting = refl; agree = refl; awaited = refl; stays = refl; told = refl }
+
+ignores_row : (n : ℕ) (octets : List ℕ) → IsRestRow (ignores octets) n
+ignores_row n octets = record { got = carrier.message octets; one = refl; rest = refl; resting = refl; agree = refl; awaited = refl; stays = refl; told = refl }
+
+ends_row : (n : ℕ) (m : carrier.Message) → IsRestRow (ends m) n
+ends_row n m = record { got = m; one = refl; rest = refl; resting = refl; agree = refl; awaited = refl; stays = refl; told = refl }
+
+-- ---- what the carrier did, at the end of a side
+
+record ActsAt (s : Side) (p : TwoEnds) (packet : List ℕ) (u : Value) (n : ℕ) (row : Row) : Type 0 where
+  acts : carriers.after_packet (end_at s p).end.carrier packet ≡ carrier_react u (end_at s p).end.carrier
+  events : (carrier_react u (end_at s p).end.carrier).events ≡ told_for n row
+  lasts : (carrier_react u (end_at s p).end.carrier).ended ≡ None
+  local : (carrier_react u (end_at s p).end.carrier).local ≡ (end_at s p).end.carrier.local
+
+acts_at : (s : Side) (p : TwoEnds) (b : Between) (packet : List ℕ) (h : Held) → (pa : PacketActs (terms_at p) (is_caller s) (carriers_of p) b packet h.octets) →
+    ActsAt s p packet pa.unit (reference_of pa.unit) pa.did.row
+acts_at Left p b packet h pa = record { acts = pa.acts; events = pa.events; lasts = pa.lasts; local = pa.local }
+acts_at Right p b packet h pa = record { acts = pa.acts; events = pa.events; lasts = pa.lasts; local = pa.local }
+
+-- ---- the packet
+
+quiet_packet : PacketLaws → (s : Side) (p : TwoEnds) (b : Between) (t : Tables) (packet : List ℕ) (h : Held) → Stands p b t → (end_at s p).end.carrier.ended ≡ None →
+    (pa : PacketActs (terms_at p) (is_caller s) (carriers_of p) b packet h.octets) → IsQuietRow pa.did.row (reference_of pa.unit) → StandsBehind s p t packet h
+quiet_packet laws s p b t packet h old alive pa q =
+    let n = reference_of pa.unit in
+    let was = (end_at s p).end in
+    let e = acted_end pa.unit was.lines was in
+    let f = acts_at s p b packet h pa in
+    let same = nothing_heard was packet pa.unit f.acts (f.events ∙ q.told) f.lasts in
+    let heard = sym (carried_out was packet pa.unit f.acts) ∙ same in
+    let new = rest_end laws s p b t packet h old alive pa same heard f.lasts f.local in
+    let d = did_at s p b packet h was.lines pa in
+    let row = same_row s p b packet h was.lines pa in
+    let x = quiet_unit s p b t packet h old alive pa d (ap arrived_in row ∙ q.none) (ap before row ∙ q.same ∙ sym (ap after row)) (ap is_rest row ∙ q.rest) (ap is_agree row ∙ q.agree)
+    (ap (λ (r : Row). leaves_use (before r) (after r)) row ∙ q.stays) (λ broken channel. ap (λ (r : Row). sends_then r broken channel) row ∙ q.sends broken channel) (laws.behind _ _ d.now d.between) new in
+    record {
+      more = [];
+      are = tt;
+      now = d.now;
+      end = e;
+      n = n;
+      same = same;
+      local = f.local;
+      stands = turned_stands s p b t e h d.now t n [] old alive x;
+    }
+
+rest_packet : PacketLaws → (s : Side) (p : TwoEnds) (b : Between) (t : Tables) (packet : List ℕ) (h : Held) → Stands p b t → (end_at s p).end.carrier.ended ≡ None →
+    (pa : PacketActs (terms_at p) (is_caller s) (carriers_of p) b packet h.octets) → IsRestRow pa.did.row (reference_of pa.unit) → StandsBehind s p t packet h
+rest_packet laws s p b t packet h old alive pa q =
+    let n = reference_of pa.unit in
+    let was = (end_at s p).end in
+    let e = acted_end pa.unit was.lines was in
+    let f = acts_at s p b packet h pa in
+    let same = nothing_heard was packet pa.unit f.acts (f.events ∙ q.told) f.lasts in
+    let heard = sym (carried_out was packet pa.unit f.acts) ∙ same in
+    let new = rest_end laws s p b t packet h old alive pa same heard f.lasts f.local in
+    let d = did_at s p b packet h was.lines pa in
+    let row = same_row s p b packet h was.lines pa in
+    let x = rest_unit s p b t packet h q.got old alive (lasting_in s p b t old alive) pa d (ap arrived_in row ∙ q.one) (ap is_rest row ∙ q.rest) (ap rests row ∙ q.resting) (ap is_agree row ∙ q.agree)
+    (ap is_awaited row ∙ q.awaited) (ap (λ (r : Row). leaves_use (before r) (after r)) row ∙ q.stays) (laws.behind _ _ d.now d.between) new in
+    record {
+      more = delivers (side_in s) n (λ r. 0) ∷ [];
+      are = (refl, tt);
+      now = d.now;
+      end = e;
+      n = n;
+      same = same;
+      local = f.local;
+      stands = turned_stands s p b t e h d.now (step t (delivers (side_in s) n (λ r. 0))) n [] old alive x;
+    }
+
+-- a session begins
+opens_new : (n : ℕ) (lines : Rows Line) (e : End) → value_at n lines ≡ None → opens n (value_at n lines) e ≡ joins n awaits e
+opens_new n lines e none = ap (λ (o : Option Line). opens n o e) none
+
+begins_packet : PacketLaws → (s : Side) (p : TwoEnds) (b : Between) (t : Tables) (packet : List ℕ) (h : Held) → Stands p b t → (end_at s p).end.carrier.ended ≡ None →
+    (pa : PacketActs (terms_at p) (is_caller s) (carriers_of p) b packet h.octets) → pa.did.row ≡ begins → StandsBehind s p t packet h
+begins_packet laws s p b t packet h old alive pa begun =
+    let n = reference_of pa.unit in
+    let was = (end_at s p).end in
+    let lines = begun_lines s p pa.unit n in
+    let e = acted_end pa.unit lines was in
+    let f = acts_at s p b packet h pa in
+    let d = did_at s p b packet h lines pa in
+    let row : d.row ≡ begins = same_row s p b packet h lines pa ∙ begun in
+    let order = order_of s p b t old alive in
+    let stood : progress_of (place_at n was.carrier) ≡ not_yet = ap (λ (c : State). progress_of (place_at n c)) (sym (was_at s p b t old alive)) ∙ d.stood ∙ ap before row in
+    let above = new_at n was.carrier stood in
+    let none : value_at n was.lines ≡ None = beyond n was.carrier.given was.lines order.sound.known above in
+    let told : (carrier_react pa.unit was.carrier).events ≡ opened n ∷ [] = f.events ∙ ap (told_for n) begun in
+    let same : after_packet was packet ≡ e =
+    one_told was packet pa.unit (opened n) f.acts told ∙ ap concludes (opens_new n was.lines (told_all pa.unit was) none) ∙ lasting (joins n awaits (told_all pa.unit was)) f.lasts in
+    let heard = sym (carried_out was packet pa.unit f.acts) ∙ same in
+    let new : EndThen s p e = record {
+      lasts = f.lasts;
+      local = f.local;
+      role = same_role laws s p b t e h n old alive d f.lasts;
+      order = order_then laws s p b t pa.unit e old alive pa.sendable heard f.lasts refl (rise_joins was.carrier.given n awaits (told_all pa.unit was) above order.sound.known order.rising);
+      waits = begun_waits n (told_all pa.unit was).carrier.live was.lines (quiet_of s p b t old);
+    } in
+    let x = begins_unit s p b t packet h old alive (lasting_in s p b t old alive) pa d row (laws.behind _ _ d.now d.between) new in
+    record {
+      more = delivers (side_in s) n (λ r. 0) ∷ [];
+      are = (refl, tt);
+      now = d.now;
+      end = e;
+      n = n;
+      same = same;
+      local = f.local;
+      stands = turned_stands s p b t e h d.now (step t (delivers (side_in s) n (λ r. 0))) n [] old alive x;
+    }
+
+-- ---- by row
+
+-- a session hears of it
+abbrev pub is_heard : Row → Bool
+is_heard agrees = true
+is_heard (denies reason) = true
+is_heard (tells octets) = true
+is_heard (leaves reason) = true
+is_heard row = false
+
+quiet_told : (n : ℕ) (row : Row) → told_for n row ≡ [] → is_heard row ≡ false
+quiet_told n quiet e = refl
+quiet_told n still e = refl
+quiet_told n begins e = cc
+quiet_told n (refuses reason) e = refl
+quiet_told n agrees e = cc
+quiet_told n (denies reason) e = cc
+quiet_told n (tells octets) e = cc
+quiet_told n (leaves reason) e = cc
+quiet_told n (ignores octets) e = refl
+quiet_told n (ends m) e = refl
+
+-- which of the three a row is, of which no session hears
+abbrev Kind : Row → ℕ → Type 0
+Kind row n = IsQuietRow row n ⊎ (IsRestRow row n ⊎ (row ≡ begins))
+
+not_heard : true ≡ false → ⊥
+not_heard e = cc
+
+kind_of : (n : ℕ) (row : Row) → is_heard row ≡ false → Kind row n
+kind_of n quiet e = inl (quiet_row n)
+kind_of n still e = inl (still_row n)
+kind_of n begins e = inr (inr refl)
+kind_of n (refuses reason) e = inr (inl (refuses_row n reason))
+kind_of n (ignores octets) e = inr (inl (ignores_row n octets))
+kind_of n (ends m) e = inr (inl (ends_row n m))
+kind_of n agrees e = absurd (not_heard e)
+kind_of n (denies reason) e = absurd (not_heard e)
+kind_of n (tells octets) e = absurd (not_heard e)
+kind_of n (leaves reason) e = absurd (not_heard e)
+
+by_kind : PacketLaws → (s : Side) (p : TwoEnds) (b : Between) (t : Tables) (packet : List ℕ) (h : Held) → Stands p b t → (end_at s p).end.carrier.ended ≡ None →
+    (pa : PacketActs (terms_at p) (is_caller s) (carriers_of p) b packet h.octets) → Kind pa.did.row (reference_of pa.unit) → StandsBehind s p t packet h
+by_kind laws s p b t packet h old alive pa (inl q) = quiet_packet laws s p b t packet h old alive pa q
+by_kind laws s p b t packet h old alive pa (inr (inl q)) = rest_packet laws s p b t packet h old alive pa q
+by_kind laws s p b t packet h old alive pa (inr (inr e)) = begins_packet laws s p b t packet h old alive pa e
+
+-- a packet of which no session that is there hears
+pub unheard_packet : PacketLaws → (s : Side) (p : TwoEnds) (b : Between) (t : Tables) (packet : List ℕ) (h : Held) → Stands p b t → (end_at s p).end.carrier.ended ≡ None →
+    (pa : PacketActs (terms_at p) (is_caller s) (carriers_of p) b packet h.octets) → is_heard pa.did.row ≡ false → StandsBehind s p t packet h
+unheard_packet laws s p b t packet h old alive pa e = by_kind laws s p b t packet h old alive pa (kind_of (reference_of pa.unit) pa.did.row e)
+
+-- ---- at a list of steps
+
+run_behind : (t : Tables) (xs ys : List Step) → run t (xs ++ ys) ≡ run (run t xs) ys
+run_behind t [] ys = refl
+run_behind t (x ∷ xs) ys = run_behind (step t x) xs ys
+
+-- deliveries have no number
+numbered_behind : (s : machine.Side) (xs ys : List Step) → AllByRecursion HasNumber xs → AreDeliveries s ys → AllByRecursion HasNumber (xs ++ ys)
+numbered_behind s [] [] a d = tt
+numbered_behind s [] (delivers q r keep ∷ ys) a d = (tt, numbered_behind s [] ys tt d.1)
+numbered_behind s [] (connects o ∷ ys) a d = absurd d
+numbered_behind s [] (calls q r c ∷ ys) a d = absurd d
+numbered_behind s [] (breaks k l ∷ ys) a d = absurd d
+numbered_behind s [] (ends_side q e keep ∷ ys) a d = absurd d
+numbered_behind s (x ∷ xs) ys a d = (a.0, numbered_behind s xs ys a.1 d)
+
+terms_then : (s : Side) (p : TwoEnds) (a : End) (h : Held) → a.carrier.local ≡ (end_at s p).end.carrier.local → terms_at (with_holding s a h p) ≡ terms_at p
+terms_then Left p a h e = ap (λ (l : Local). terms_of l p.right.end.carrier.local) e
+terms_then Right p a h e = ap (λ (l : Local). terms_of p.left.end.carrier.local l) e
+
+-- nothing was shown
+shown_nothing : (s : Side) (p : TwoEnds) (a e : End) (h : Held) (n : ℕ) → a ≡ e → turned_pair s e h n [] p ≡ with_holding s a h p
+shown_nothing Left p a e h n same =
+    ap (λ (j : List Entry). record (with_holding Left e h p) { journal = j }) (append-nil p.journal) ∙ ap (λ (x : End). with_holding Left x h p) (sym same)
+shown_nothing Right p a e h n same =
+    ap (λ (j : List Entry). record (with_holding Right e h p) { journal = j }) (append-nil p.journal) ∙ ap (λ (x : End). with_holding Right x h p) (sym same)
+
+both_carrier : (s : Side) (p : TwoEnds) → (side (is_caller s) (carriers_of p)).state ≡ (end_at s p).end.carrier
+both_carrier Left p = refl
+both_carrier Right p = refl
+
+both_held : (s : Side) (p : TwoEnds) → (side (is_caller s) (carriers_of p)).held ≡ (end_at s p).held.octets
+both_held Left p = refl
+both_held Right p = refl
+
+pub untold_at : PacketLaws → (p : TwoEnds) (steps : List Step) (s : Side) (packet octets : List ℕ) (h : Held) → StandsAt p steps → (end_at s p).end.carrier.ended ≡ None → IsPacket packet octets →
+    (end_at s p).held.octets ≡ octets ++ h.octets → (carriers.after_packet (end_at s p).end.carrier packet).events ≡ [] → StandsAtDeliveries s (packet_taken s packet h p) steps
+untold_at laws p steps s packet octets h at alive is cut none =
+    let first = start (terms_in (terms_at p)) in
+    let t = run first steps in
+    let c = both_carrier s p in
+    let pa = packet_acts laws.two (terms_at p) (is_caller s) (carriers_of p) at.now packet octets h.octets at.stands.between (ap (λ (x : State). x.ended) c ∙ alive)
+    (ap (λ (x : State). x.events) c ∙ (order_of s p at.now t at.stands alive).heard) is (both_held s p ∙ cut) in
+    let f = acts_at s p at.now packet h pa in
+    let told : told_for (reference_of pa.unit) pa.did.row ≡ [] = sym f.events ∙ ap (λ (x : State). x.events) (sym f.acts) ∙ none in
+    let b = unheard_packet laws s p at.now t packet h at.stands alive pa (quiet_told (reference_of pa.unit) pa.did.row told) in
+    let a = after_packet (end_at s p).end packet in
+    let terms = terms_then s p a h (ap (λ (x : End). x.carrier.local) b.same ∙ b.local) in
+    record {
+      more = b.more;
+      are = b.are;
+      stands = record {
+        numbered = numbered_behind (side_in s) steps b.more at.numbered b.are;
+        now = b.now;
+        stands = subst (λ (u : Tables). Stands (with_holding s a h p) b.now u) (sym (run_behind first steps b.more) ∙ ap (λ (x : Terms). run (start (terms_in x)) (steps ++ b.more)) (sym terms))
+            (subst (λ (q : TwoEnds). Stands q b.now (run t b.more)) (shown_nothing s p a b.end h b.n b.same) b.stands);
+      };
+    }

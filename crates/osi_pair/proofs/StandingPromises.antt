@@ -1,0 +1,240 @@
+-- Two ends that stand at a list of steps promise what the machine promises.
+use Rattle.std.proofs.Common.{◌≡◌, refl, sym, ◌∙◌, ap, subst, ℕ, zero, suc, ◌+◌, ◌<◌, ◌≤◌, Bool, true, false, ◌&&◌, List, [], ◌∷◌, ◌++◌, length, map, Option, Some, None, option_map, is_some, IsSome, inl, inr, ◌⊎◌, if◌then◌else◌, arith}
+use Rattle.std.proofs.lemmas.Bool.{cases_lt}
+use Rattle.std.specs.List.{list_any}
+use Rattle.osi_carrier.proofs.Apart.{absent, beyond}
+use Rattle.osi_carrier.specs.Rows.{Rows, value_at}
+use Rattle.osi_carrier.specs.State.{Connection}
+use Rattle.osi_carrier.specs.Terms.{terms_of}
+use Rattle.osi_carrier.specs.declared.ends.EndReason.{EndReason}
+use Rattle.osi_machine.specs.AsTables.{IsTableRun, OfEachLine, HoldNoneTwice, AreNoFaults, AreAgreed, IsSeenInBoth, LosesAsItEnds, AreOffered, offers_in}
+use Rattle.osi_machine.specs.AsTables as tables
+use Rattle.osi_machine.specs.Core.{Offer}
+use Rattle.osi_machine.specs.Floor.{State, Token, data_token, minor, major, release, has, no_token}
+use Rattle.osi_machine.specs.Machine.{Ending, IsLegal, Step, connection_at}
+use Rattle.osi_machine.specs.Machine as entries
+use Rattle.osi_machine.specs.Runs.{is_loss, loses}
+use Rattle.osi_machine.specs.Tables.{Line, Tables, end_of, run, start}
+use Rattle.osi_machine.specs.Views.{Told, told_of}
+use Rattle.osi_session.specs.Moves.{Standing}
+use Rattle.osi_stack.specs.Calls.{held_by, numbers_of}
+use Rattle.osi_stack.specs.State.{Holding, session_at, session_in}
+use Rattle.osi_pair.specs.Ends.{TwoEnds, end_at}
+use Rattle.osi_pair.specs.Entries.{Entry}
+use Rattle.osi_pair.specs.Promises.{with_word, journal_in, IsLegalJournal, WasAskedFor, AllWereAskedFor, told_at, OfEachConnection, HaveOneHolder, AgreeUnlessDuplex, IsShownAsAsked, IsSeenThere, confirmed_at, ConfirmedIsSeen, ShowNoFault, EndsForFewReasons, ending_of, LoseAsTheyEnd}
+use Rattle.osi_pair.specs.Standing.{side_in, entry_in, ending_in, terms_in, HasLine, IsInOrder, Stands, StandsAt}
+use Rattle.osi_pair.specs.declared.sides.Side.{Side}
+use Rattle.osi_pair.specs.declared.sides.Side.TheVariants.{Left, Right}
+
+-- ---- plain facts
+
+first_same : {A : Type 0} (x y : A) (xs ys : List A) → x ∷ xs ≡ y ∷ ys → x ≡ y
+first_same x y xs ys e = cc
+
+rest_same : {A : Type 0} (x y : A) (xs ys : List A) → x ∷ xs ≡ y ∷ ys → xs ≡ ys
+rest_same x y xs ys e = cc
+
+some_same : {A : Type 0} (x y : A) → Some x ≡ Some y → x ≡ y
+some_same x y e = cc
+
+and_false : (b : Bool) → (b && false) ≡ false
+and_false true = refl
+and_false false = refl
+
+-- ---- the journal
+
+words_by : (js : List entries.Entry) (es : List Entry) → map Some js ≡ map entry_in es → journal_in es ≡ js
+words_by [] [] e = refl
+words_by [] (x ∷ es) e = absurd (cc)
+words_by (j ∷ js) [] e = absurd (cc)
+words_by (j ∷ js) (x ∷ es) e =
+    ap (λ (o : Option entries.Entry). with_word o (journal_in es)) (sym (first_same (Some j) (entry_in x) (map Some js) (map entry_in es) e))
+    ∙ ap (λ (l : List entries.Entry). j ∷ l) (words_by js es (rest_same (Some j) (entry_in x) (map Some js) (map entry_in es) e))
+
+-- ---- the tables at which two ends stand
+
+abbrev tables_at : TwoEnds → List Step → Tables
+tables_at p steps = run (start (terms_in (terms_of p.left.end.carrier.local p.right.end.carrier.local))) steps
+
+is_run : (p : TwoEnds) (steps : List Step) → StandsAt p steps → IsTableRun (tables_at p steps)
+is_run p steps h = record {
+  agreed = terms_in (terms_of p.left.end.carrier.local p.right.end.carrier.local);
+  steps = steps;
+  numbered = h.numbered;
+  reached = refl;
+}
+
+journal_at : (p : TwoEnds) (steps : List Step) → StandsAt p steps → journal_in p.journal ≡ (tables_at p steps).journal
+journal_at p steps h = words_by (tables_at p steps).journal p.journal h.stands.journal
+
+pub legal_journal : ((t : Tables) (h : IsTableRun t) → IsLegal h.agreed t.journal) → (p : TwoEnds) (steps : List Step) → StandsAt p steps → IsLegalJournal p
+unfolding is_run
+legal_journal legal p steps h = record {
+  words = ap (λ (l : List entries.Entry). map Some l) (journal_at p steps h) ∙ h.stands.journal;
+  legal = subst (λ (l : List entries.Entry). IsLegal (terms_in (terms_of p.left.end.carrier.local p.right.end.carrier.local)) l) (sym (journal_at p steps h))
+      (legal (tables_at p steps) (is_run p steps h));
+}
+
+-- ---- connections
+
+-- what is said of the tables by reference, of the journal that two ends have
+line_at : (r : ℕ) (p : TwoEnds) (steps : List Step) (h : StandsAt p steps) → 0 < r → r ≤ p.left.end.carrier.given → HasLine r p h.now (tables_at p steps)
+line_at r p steps h above within = h.stands.lines r above (let same = h.stands.given in omega arith)
+
+pub all_asked : ((t : Tables) → IsTableRun t → AreOffered t) → (p : TwoEnds) (steps : List Step) → StandsAt p steps → AllWereAskedFor p
+all_asked offered p steps h r above within =
+    let line = line_at r p steps h above within in
+    let offer = offered (tables_at p steps) (is_run p steps h) r line.line line.found in
+    record {
+      offer = offer.offer;
+      found = ap (λ (l : List entries.Entry). connection_at r (offers_in l)) (journal_at p steps h) ∙ offer.found;
+    }
+
+-- what the tables say of each connection is so of the two ends
+of_each : (P : State → State → Told → Told → Type 0) (Q : ℕ → Told → Told → Type 0) (p : TwoEnds) (steps : List Step) (h : StandsAt p steps) →
+    ((r : ℕ) (line : HasLine r p h.now (tables_at p steps)) (left right : Told) → P line.line.own.session.state line.line.peer.session.state left right → Q r left right) →
+    OfEachLine P (tables_at p steps) → OfEachConnection Q p
+of_each P Q p steps h follows all r o above within found =
+    let line = line_at r p steps h above within in
+    let same = journal_at p steps h in
+    subst (λ (l : List entries.Entry). Q r (told_of (side_in Left) r o l) (told_of (side_in Right) r o l)) (sym same)
+    (follows r line (told_of (side_in Left) r o (tables_at p steps).journal) (told_of (side_in Right) r o (tables_at p steps).journal)
+    (all r line.line o line.found (ap (λ (l : List entries.Entry). connection_at r (offers_in l)) (sym same) ∙ found)))
+
+pub agreement : ((t : Tables) → IsTableRun t → OfEachLine AreAgreed t) → (p : TwoEnds) (steps : List Step) → StandsAt p steps → OfEachConnection AgreeUnlessDuplex p
+agreement all p steps h = of_each AreAgreed AgreeUnlessDuplex p steps h (λ r line left right said. said) (all (tables_at p steps) (is_run p steps h))
+
+pub duplex : ((t : Tables) → IsTableRun t → OfEachLine tables.IsShownAsAsked t) → (p : TwoEnds) (steps : List Step) → StandsAt p steps → OfEachConnection IsShownAsAsked p
+duplex all p steps h = of_each tables.IsShownAsAsked IsShownAsAsked p steps h (λ r line left right said. said) (all (tables_at p steps) (is_run p steps h))
+
+pub no_fault : ((t : Tables) → IsTableRun t → OfEachLine AreNoFaults t) → (p : TwoEnds) (steps : List Step) → StandsAt p steps → OfEachConnection ShowNoFault p
+no_fault all p steps h = of_each AreNoFaults ShowNoFault p steps h (λ r line left right said. said) (all (tables_at p steps) (is_run p steps h))
+
+-- ---- what an end says of a connection
+
+-- a reference that was not given has no session
+no_session : (r : ℕ) (h : Holding) → value_at r h.end.carrier.live ≡ None → session_at r h.end ≡ None
+no_session r h e = ap (λ (o : Option Connection). if is_some o then session_in (value_at r h.end.lines) else None) e
+
+outside_by : (r most : ℕ) (h : Holding) (ended : Option EndReason) → h.end.carrier.ended ≡ ended → (IsSome h.end.carrier.ended → h.end.carrier.live ≡ []) →
+    (h.end.carrier.ended ≡ None → IsInOrder h.end) → h.end.carrier.given ≤ most → (r ≡ 0) ⊎ (most < r) → value_at r h.end.carrier.live ≡ None
+outside_by r most h None e over order given (inl none) = absent r 0 h.end.carrier.live (omega arith) (order e).sound.orderly.rise
+outside_by r most h None e over order given (inr above) = beyond r h.end.carrier.given h.end.carrier.live (order e).sound.orderly.up_to (omega arith)
+outside_by r most h (Some why) e over order given out =
+    ap (λ (rows : Rows Connection). value_at r rows) (over (subst (λ (o : Option EndReason). IsSome o) (sym e) refl))
+
+outside : (side : Side) (r : ℕ) (p : TwoEnds) (steps : List Step) → StandsAt p steps → (r ≡ 0) ⊎ (p.left.end.carrier.given < r) → session_at r (end_at side p).end ≡ None
+outside Left r p steps h out = no_session r p.left
+    (outside_by r p.left.end.carrier.given p.left p.left.end.carrier.ended refl h.stands.over_left h.stands.order_left (omega arith) out)
+outside Right r p steps h out = no_session r p.right
+    (outside_by r p.left.end.carrier.given p.right p.right.end.carrier.ended refl h.stands.over_right h.stands.order_right
+    (let back = h.stands.given_back in let same = h.stands.given in omega arith) out)
+
+-- what an end says is what the tables have, or nothing
+data Says (n : ℕ) (h : Holding) (s : Standing) : Type 0 where
+  of_none : session_at n h.end ≡ None → Says n h s
+  of_some : session_at n h.end ≡ Some s → Says n h s
+
+says_by : (n : ℕ) (h : Holding) (s : Standing) (live : Bool) → is_some (value_at n h.end.carrier.live) ≡ live →
+    (is_some (value_at n h.end.carrier.live) ≡ true → session_at n h.end ≡ Some s) → Says n h s
+says_by n h s true e seated = of_some (seated e)
+says_by n h s false e seated = of_none (ap (λ (b : Bool). if b then session_in (value_at n h.end.lines) else None) e)
+
+-- ---- tokens
+
+has_none : (t : Token) → has no_token t ≡ false
+has_none data_token = refl
+has_none minor = refl
+has_none major = refl
+has_none release = refl
+
+none_holds : (o other : Option Standing) (t : Token) → o ≡ None → (has (held_by o) t && has (held_by other) t) ≡ false
+none_holds o other t e = ap (λ (x : Option Standing). has (held_by x) t && has (held_by other) t) e ∙ ap (λ (b : Bool). b && has (held_by other) t) (has_none t)
+
+other_holds_none : (o other : Option Standing) (t : Token) → other ≡ None → (has (held_by o) t && has (held_by other) t) ≡ false
+other_holds_none o other t e = ap (λ (x : Option Standing). has (held_by o) t && has (held_by x) t) e
+    ∙ ap (λ (b : Bool). has (held_by o) t && b) (has_none t) ∙ and_false (has (held_by o) t)
+
+one_holds : (n : ℕ) (left right : Holding) (s q : Standing) (t : Token) → Says n left s → Says n right q → (has s.state.held t && has q.state.held t) ≡ false →
+    (has (held_by (session_at n left.end)) t && has (held_by (session_at n right.end)) t) ≡ false
+one_holds n left right s q t (of_none e) other none = none_holds (session_at n left.end) (session_at n right.end) t e
+one_holds n left right s q t (of_some e) (of_none f) none = other_holds_none (session_at n left.end) (session_at n right.end) t f
+one_holds n left right s q t (of_some e) (of_some f) none =
+    ap (λ (x : Option Standing). has (held_by x) t && has (held_by (session_at n right.end)) t) e
+    ∙ ap (λ (x : Option Standing). has (held_by (Some s)) t && has (held_by x) t) f ∙ none
+
+-- a reference that was given, or none
+within : (r most : ℕ) → ((r ≡ 0) ⊎ (most < r)) ⊎ ((0 < r) × (r ≤ most))
+within zero most = inl (inl refl)
+within (suc r) most = by (cases_lt most (suc r))
+  where
+    by : (most < suc r) ⊎ (suc r ≤ most) → ((suc r ≡ 0) ⊎ (most < suc r)) ⊎ ((0 < suc r) × (suc r ≤ most))
+    by (inl above) = inl (inr above)
+    by (inr given) = inr ((let up : 0 < suc r = omega arith in up), given)
+
+pub one_holder : ((t : Tables) → IsTableRun t → OfEachLine HoldNoneTwice t) → ((t : Tables) → IsTableRun t → AreOffered t) →
+    (p : TwoEnds) (steps : List Step) → StandsAt p steps → HaveOneHolder p
+one_holder holder offered p steps h r t = by (within r p.left.end.carrier.given)
+  where
+    by : ((r ≡ 0) ⊎ (p.left.end.carrier.given < r)) ⊎ ((0 < r) × (r ≤ p.left.end.carrier.given)) →
+        (has (held_by (session_at r p.left.end)) t && has (held_by (session_at r p.right.end)) t) ≡ false
+    by (inl out) = none_holds (session_at r p.left.end) (session_at r p.right.end) t (outside Left r p steps h out)
+    by (inr given) =
+        let line = line_at r p steps h given.0 given.1 in
+        let offer = offered (tables_at p steps) (is_run p steps h) r line.line line.found in
+        one_holds r p.left p.right line.line.own.session line.line.peer.session t
+        (says_by r p.left line.line.own.session (is_some (value_at r p.left.end.carrier.live)) refl line.is.left.live)
+        (says_by r p.right line.line.peer.session (is_some (value_at r p.right.end.carrier.live)) refl line.is.right.live)
+        (holder (tables_at p steps) (is_run p steps h) r line.line offer.offer line.found offer.found t)
+
+-- ---- confirmed points
+
+-- V(A) as an end says it is that of the tables, or 0
+no_more : (n : ℕ) (h : Holding) (s : Standing) → Says n h s → (numbers_of (session_at n h.end)).confirmed ≤ s.state.numbers.confirmed
+no_more n h s (of_none e) = let zero_then : (numbers_of (session_at n h.end)).confirmed ≡ 0 = ap (λ (o : Option Standing). (numbers_of o).confirmed) e in omega arith
+no_more n h s (of_some e) =
+    let same : (numbers_of (session_at n h.end)).confirmed ≡ s.state.numbers.confirmed = ap (λ (o : Option Standing). (numbers_of o).confirmed) e in omega arith
+
+fewer_seen : (low high : ℕ) (own other : Told) → low ≤ high → IsSeenThere high own other → IsSeenThere low own other
+fewer_seen low high own other le seen before n kind octets begins below asking = seen before n kind octets begins (omega arith) asking
+
+pub confirmed_is_seen : ((t : Tables) → IsTableRun t → OfEachLine IsSeenInBoth t) → (p : TwoEnds) (steps : List Step) → StandsAt p steps →
+    OfEachConnection (ConfirmedIsSeen p) p
+confirmed_is_seen all p steps h = of_each IsSeenInBoth (ConfirmedIsSeen p) p steps h follows (all (tables_at p steps) (is_run p steps h))
+  where
+    follows : (r : ℕ) (line : HasLine r p h.now (tables_at p steps)) (left right : Told) →
+        IsSeenInBoth line.line.own.session.state line.line.peer.session.state left right → ConfirmedIsSeen p r left right
+    follows r line left right seen =
+        let own = no_more r p.left line.line.own.session
+        (says_by r p.left line.line.own.session (is_some (value_at r p.left.end.carrier.live)) refl line.is.left.live) in
+        let peer = no_more r p.right line.line.peer.session
+        (says_by r p.right line.line.peer.session (is_some (value_at r p.right.end.carrier.live)) refl line.is.right.live) in (
+          fewer_seen (confirmed_at Left r p) line.line.own.session.state.numbers.confirmed left right own seen.0,
+          fewer_seen (confirmed_at Right r p) line.line.peer.session.state.numbers.confirmed right left peer seen.1,
+        )
+
+-- ---- the end of an end
+
+has_word : (t : Option Ending) (o : Option EndReason) (why : EndReason) → option_map Some t ≡ option_map ending_in o → o ≡ Some why → is_some (ending_in why) ≡ true
+has_word None o why h is = let no : None ≡ Some (ending_in why) = h ∙ ap (λ (x : Option EndReason). option_map ending_in x) is in absurd (cc)
+has_word (Some x) o why h is =
+    let same : Some (Some x) ≡ Some (ending_in why) = h ∙ ap (λ (x : Option EndReason). option_map ending_in x) is in
+    ap (λ (e : Option Ending). is_some e) (sym (some_same (Some x) (ending_in why) same))
+
+pub few_reasons : (p : TwoEnds) (steps : List Step) → StandsAt p steps → EndsForFewReasons p
+few_reasons p steps h Left why is = has_word (tables_at p steps).left_end p.left.end.carrier.ended why h.stands.left_end is
+few_reasons p steps h Right why is = has_word (tables_at p steps).right_end p.right.end.carrier.ended why h.stands.right_end is
+
+same_end : (t : Option Ending) (o : Option EndReason) → option_map Some t ≡ option_map ending_in o → t ≡ ending_of o
+same_end None None h = refl
+same_end None (Some why) h = absurd (cc)
+same_end (Some x) None h = absurd (cc)
+same_end (Some x) (Some why) h = some_same (Some x) (ending_in why) h
+
+pub losses : ((t : Tables) → IsTableRun t → LosesAsItEnds t) → (p : TwoEnds) (steps : List Step) → StandsAt p steps → LoseAsTheyEnd p
+losses lost p steps h Left shown =
+    ap (λ (o : Option Ending). loses o) (sym (same_end (tables_at p steps).left_end p.left.end.carrier.ended h.stands.left_end))
+    ∙ lost (tables_at p steps) (is_run p steps h) (side_in Left) (ap (λ (l : List entries.Entry). list_any (is_loss (side_in Left)) l) (sym (journal_at p steps h)) ∙ shown)
+losses lost p steps h Right shown =
+    ap (λ (o : Option Ending). loses o) (sym (same_end (tables_at p steps).right_end p.right.end.carrier.ended h.stands.right_end))
+    ∙ lost (tables_at p steps) (is_run p steps h) (side_in Right) (ap (λ (l : List entries.Entry). list_any (is_loss (side_in Right)) l) (sym (journal_at p steps h)) ∙ shown)

@@ -1,0 +1,112 @@
+-- The lines of an end, when all that waited was shown.
+use Rattle.std.proofs.Common.{◌≡◌, ℕ, ◌==◌, Bool, true, false, if◌then◌else◌, List, [], ◌∷◌, ◌++◌, map, Option, Some, None, option_map, refl, sym, ap, ◌∙◌}
+use Rattle.std.proofs.lemmas.Bool.{eqb-true}
+use Rattle.std.proofs.lemmas.List.{append-nil}
+use Rattle.osi_carrier.specs.Orderly.{RiseFrom, AreUpTo}
+use Rattle.osi_carrier.specs.Rows.{Rows, value_at, put}
+use Rattle.osi_session.specs.Moves.{Move}
+use Rattle.osi_session.specs.Shown.{Shown}
+use Rattle.osi_stack.specs.Folds.{AllCameAbout}
+use Rattle.osi_stack.specs.Links.{AreApart}
+use Rattle.osi_stack.specs.Messages.{kept_at}
+use Rattle.osi_stack.specs.Moving.{line_after}
+use Rattle.osi_stack.specs.State.{Line, End, session_in}
+use Rattle.osi_pair.specs.Standing.{IsInOrder}
+use Rattle.osi_pair.specs.Telling.{waiting_in, quieted}
+
+abbrev pub quiet_line : Line → Line
+quiet_line line = record line { waiting = [] }
+
+value_by : (n r : ℕ) (line : Line) (lines : Rows Line) (b : Bool) → (r == n) ≡ b → value_at n (quieted lines) ≡ option_map quiet_line (value_at n lines) →
+    value_at n (quieted ((r, line) ∷ lines)) ≡ option_map quiet_line (value_at n ((r, line) ∷ lines))
+value_by n r line lines true e more = rw e refl
+value_by n r line lines false e more = rw e more
+
+pub quiet_value : (n : ℕ) (lines : Rows Line) → value_at n (quieted lines) ≡ option_map quiet_line (value_at n lines)
+quiet_value n [] = refl
+quiet_value n ((r, line) ∷ lines) = value_by n r line lines (r == n) refl (quiet_value n lines)
+
+quiet_session : (o : Option Line) → session_in (option_map quiet_line o) ≡ session_in o
+quiet_session None = refl
+quiet_session (Some line) = refl
+
+pub quiet_kept : (n : ℕ) (lines : Rows Line) → kept_at n (quieted lines) ≡ kept_at n lines
+quiet_kept n lines = ap session_in (quiet_value n lines) ∙ quiet_session (value_at n lines)
+
+pub quiet_waits : (lines : Rows Line) → waiting_in (quieted lines) ≡ []
+quiet_waits [] = refl
+quiet_waits ((r, line) ∷ lines) = quiet_waits lines
+
+none_first : {A B : Type 0} (f : A → B) (xs : List A) (ys : List B) → map f xs ++ ys ≡ [] → xs ≡ []
+none_first f [] ys e = refl
+none_first f (x ∷ xs) ys e = cc
+
+none_second : {A B : Type 0} (f : A → B) (xs : List A) (ys : List B) → map f xs ++ ys ≡ [] → ys ≡ []
+none_second f [] ys e = e
+none_second f (x ∷ xs) ys e = cc
+
+pub quiet_same : (lines : Rows Line) → waiting_in lines ≡ [] → quieted lines ≡ lines
+quiet_same [] e = refl
+quiet_same ((r, line) ∷ lines) e =
+    let here : line.waiting ≡ [] = none_first (λ shown. (r, shown)) line.waiting (waiting_in lines) e in
+    let more = quiet_same lines (none_second (λ shown. (r, shown)) line.waiting (waiting_in lines) e) in
+    ap (λ (w : List Shown). (r, record line { waiting = w }) ∷ quieted lines) (sym here) ∙ ap (λ (rows : Rows Line). (r, line) ∷ rows) more
+
+-- ---- an end stays in order
+
+quiet_none : (o : Option Line) → o ≡ None → option_map quiet_line o ≡ None
+quiet_none o e = ap (option_map quiet_line) e
+
+quiet_apart : (lines : Rows Line) → AreApart lines → AreApart (quieted lines)
+quiet_apart [] h = tt
+quiet_apart ((r, line) ∷ lines) h = (quiet_value r lines ∙ quiet_none (value_at r lines) h.0, quiet_apart lines h.1)
+
+quiet_up : (n : ℕ) (lines : Rows Line) → AreUpTo n lines → AreUpTo n (quieted lines)
+quiet_up n [] h = tt
+quiet_up n ((r, line) ∷ lines) h = (h.0, quiet_up n lines h.1)
+
+quiet_rise : (n : ℕ) (lines : Rows Line) → RiseFrom n lines → RiseFrom n (quieted lines)
+quiet_rise n [] h = tt
+quiet_rise n ((r, line) ∷ lines) h = (h.0, quiet_rise r lines h.1)
+
+quiet_came : (lines : Rows Line) → AllCameAbout lines → AllCameAbout (quieted lines)
+quiet_came [] h = tt
+quiet_came ((r, line) ∷ lines) h = (h.0, quiet_came lines h.1)
+
+pub quiet_order : (e : End) → IsInOrder e → IsInOrder (record e { lines = quieted e.lines })
+quiet_order e o = record {
+  heard = o.heard;
+  sound = record {
+    orderly = o.sound.orderly;
+    apart = quiet_apart e.lines o.sound.apart;
+    known = quiet_up e.carrier.given e.lines o.sound.known;
+    links = λ alive r s is needs. o.sound.links alive r s (sym (quiet_kept r e.lines) ∙ is) needs;
+  };
+  rising = quiet_rise 0 e.lines o.rising;
+  came = quiet_came e.lines o.came;
+}
+
+-- ---- what one session shows
+
+abbrev of_one : ℕ → List Shown → List (ℕ × Shown)
+of_one n shown = map (λ x. (n, x)) shown
+
+put_by : (n r : ℕ) (line there : Line) (move : Move) (lines : Rows Line) (b : Bool) → (r == n) ≡ b → waiting_in ((r, there) ∷ lines) ≡ [] → value_at n ((r, there) ∷ lines) ≡ Some line →
+    (value_at n lines ≡ Some line → waiting_in (put n (line_after line move) lines) ≡ of_one n move.shown) → waiting_in (put n (line_after line move) ((r, there) ∷ lines)) ≡ of_one n move.shown
+put_by n r line there move lines true e none is more =
+    let same : r ≡ n = eqb-true r n e in
+    let first : line.waiting ≡ [] = (let found : Some there ≡ Some line = rw e at is in let eq : there ≡ line = cc in ap (λ (l : Line). l.waiting) (sym eq) ∙ none_first (λ shown. (r, shown)) there.waiting (waiting_in lines) none) in
+    let rest = none_second (λ shown. (r, shown)) there.waiting (waiting_in lines) none in
+    ap waiting_in (ap (λ (c : Bool). if◌then◌else◌ {A = Rows Line} c ((r, line_after line move) ∷ lines) ((r, there) ∷ put n (line_after line move) lines)) e)
+    ∙ ap (λ (l : List (ℕ × Shown)). map (λ shown. (r, shown)) (line.waiting ++ move.shown) ++ l) rest ∙ append-nil (map (λ shown. (r, shown)) (line.waiting ++ move.shown))
+    ∙ ap (λ (w : List Shown). map (λ shown. (r, shown)) (w ++ move.shown)) first ∙ ap (λ (q : ℕ). of_one q move.shown) same
+put_by n r line there move lines false e none is more =
+    let first = none_first (λ shown. (r, shown)) there.waiting (waiting_in lines) none in
+    let found : value_at n lines ≡ Some line = rw e at is in
+    ap waiting_in (ap (λ (c : Bool). if◌then◌else◌ {A = Rows Line} c ((r, line_after line move) ∷ lines) ((r, there) ∷ put n (line_after line move) lines)) e)
+    ∙ ap (λ (w : List Shown). map (λ shown. (r, shown)) w ++ waiting_in (put n (line_after line move) lines)) first ∙ more found
+
+pub put_waits : (n : ℕ) (line : Line) (move : Move) (lines : Rows Line) → waiting_in lines ≡ [] → value_at n lines ≡ Some line → waiting_in (put n (line_after line move) lines) ≡ of_one n move.shown
+put_waits n line move [] none is = cc
+put_waits n line move ((r, there) ∷ lines) none is =
+    put_by n r line there move lines (r == n) refl none is (λ f. put_waits n line move lines (none_second (λ shown. (r, shown)) there.waiting (waiting_in lines) none) f)

@@ -1,0 +1,236 @@
+-- Two ends stand as they should behind a unit with which no session acts.
+use Rattle.std.proofs.Common.{◌≡◌, ℕ, ◌<◌, ◌≤◌, Bool, true, false, List, [], ◌∷◌, ◌++◌, map, Option, Some, None, is_some, option_map, refl, sym, ap, subst, ◌∙◌, arith}
+use Rattle.std.proofs.lemmas.List.{append-nil}
+use Rattle.osi_tpkt.specs.Held.{Held}
+use Rattle.osi_tpdu.specs.Value.{Value}
+use Rattle.osi_carrier.specs.Addresses.{reference_of}
+use Rattle.osi_carrier.specs.Between.{Between, last_of, under_way, put_in}
+use Rattle.osi_carrier.specs.Course.{Place, place_at, connection_in, progress_of}
+use Rattle.osi_carrier.specs.Messages.{AreLike}
+use Rattle.osi_carrier.specs.Messages as carrier
+use Rattle.osi_carrier.specs.Progress.{Progress, leaves_use}
+use Rattle.osi_carrier.specs.Rows.{Rows}
+use Rattle.osi_carrier.specs.State.{State}
+use Rattle.osi_machine.specs.Machine.{connection_at, delivers, learns}
+use Rattle.osi_machine.specs.Tables.{Line as TableLine, Tables, seen_from, end_of, step, unseen}
+use Rattle.osi_machine.specs.Worlds.{Message}
+use Rattle.osi_session.specs.Moves.{Standing}
+use Rattle.osi_session.specs.Shown.{Shown}
+use Rattle.osi_stack.specs.Messages.{told_all}
+use Rattle.osi_stack.specs.State.{Line, End}
+use Rattle.osi_pair.specs.Ends.{TwoEnds, end_at}
+use Rattle.osi_pair.specs.Sides.{other}
+use Rattle.osi_pair.specs.Standing.{side_in, is_caller, carriers_of, message_in, AreAlike, IsInOrder, Stands}
+use Rattle.osi_pair.specs.Telling.{waiting_in}
+use Rattle.osi_pair.specs.declared.reach.Reach.{Reach}
+use Rattle.osi_pair.specs.declared.sides.Side.{Side}
+use Rattle.osi_pair.specs.declared.sides.Side.TheVariants.{Left, Right}
+use Rattle.osi_pair.proofs.StandingArrived.{PacketActs}
+use Rattle.osi_pair.proofs.StandingFinish.{terms_at, DidAt, TablesAfter, OtherSessions, is_agree, line_then, finish, known_then}
+use Rattle.osi_pair.proofs.StandingRests.{step_opens, tables_delivered, tables_rest, is_awaited, learns_row, turn_rests, answer_for, unless_broken, put_unless, answers_same, rests, sends_then}
+use Rattle.osi_pair.proofs.StandingRows.{Row, quiet, still, begins, refuses, agrees, denies, tells, leaves, ignores, ends, before, after, arrived_in, put_for}
+use Rattle.osi_pair.proofs.StandingSeats.{transport_by, transport_at, HasSession, session_of_seat}
+use Rattle.osi_pair.proofs.StandingTurned.{IsSeen, seen, seen_twice, with_holding, Turned}
+use Rattle.osi_pair.proofs.StandingWays.{shuts, out_keeps, back_stays, Split, back_comes}
+
+-- ---- the end that took the unit
+
+-- its carrier acted, and told nothing any more; its lines are these
+abbrev pub acted_end : Value → Rows Line → End → End
+acted_end u lines e = record { carrier = (told_all u e).carrier; lines = lines }
+
+pub did_at : (s : Side) (p : TwoEnds) (b : Between) (packet : List ℕ) (h : Held) (lines : Rows Line) → (pa : PacketActs (terms_at p) (is_caller s) (carriers_of p) b packet h.octets) →
+    DidAt s p b (acted_end pa.unit lines (end_at s p).end) h (reference_of pa.unit)
+did_at Left p b packet h lines pa = pa.did
+did_at Right p b packet h lines pa = pa.did
+
+pub same_row : (s : Side) (p : TwoEnds) (b : Between) (packet : List ℕ) (h : Held) (lines : Rows Line) → (pa : PacketActs (terms_at p) (is_caller s) (carriers_of p) b packet h.octets) →
+    (did_at s p b packet h lines pa).row ≡ pa.did.row
+unfolding did_at
+same_row Left p b packet h lines pa = refl
+same_row Right p b packet h lines pa = refl
+
+-- ---- its connection
+
+pub record FoundLine (s : Side) (n : ℕ) (p : TwoEnds) (b : Between) (t : Tables) : Type 0 where
+  pub line : TableLine
+  pub found : connection_at n t.lines ≡ Some (seen_from (side_in s) line)
+  pub is : IsSeen s n p b line
+
+-- what stands at a reference that the caller gave
+pub line_at : (s : Side) (n : ℕ) (p : TwoEnds) (b : Between) (t : Tables) → Stands p b t → 0 < n → n ≤ b.caller.given → FoundLine s n p b t
+line_at s n p b t old some le =
+    let count = old.given in
+    let kept = old.given_then in
+    let has = old.lines n some (omega arith) in
+    record {
+      line = seen_from (side_in s) has.line;
+      found = has.found ∙ ap (λ (l : TableLine). Some l) (sym (seen_twice (side_in s) has.line));
+      is = seen s n p b has.line has.is;
+    }
+
+-- ---- its session stays
+
+session_gone : (n : ℕ) (lines : Rows Line) (m : carrier.Message) (x : Standing) → HasSession n lines (before (ends m)) x → HasSession n lines (after (ends m)) x
+session_gone n lines m x h = record { live = λ e. cc; kept = h.kept; over_now = λ e. h.over_now refl; awaiting = λ e. cc; octets = h.octets }
+
+-- the rows in which a session does nothing, and none begins
+abbrev pub is_rest : Row → Bool
+is_rest quiet = true
+is_rest still = true
+is_rest (refuses reason) = true
+is_rest (ignores octets) = true
+is_rest (ends m) = true
+is_rest row = false
+
+pub session_rests : (n : ℕ) (lines : Rows Line) (row : Row) (x : Standing) → is_rest row ≡ true → HasSession n lines (before row) x → HasSession n lines (after row) x
+session_rests n lines quiet x e h = h
+session_rests n lines still x e h = h
+session_rests n lines begins x e h = cc
+session_rests n lines (refuses reason) x e h = h
+session_rests n lines agrees x e h = cc
+session_rests n lines (denies reason) x e h = cc
+session_rests n lines (tells octets) x e h = cc
+session_rests n lines (leaves reason) x e h = cc
+session_rests n lines (ignores octets) x e h = h
+session_rests n lines (ends m) x e h = session_gone n lines m x h
+
+-- ---- what is under way from it
+
+map_some : {A B : Type 0} (f : A → B) (o : Option A) → is_some (option_map f o) ≡ is_some o
+map_some f None = refl
+map_some f (Some x) = refl
+
+pub broken_is : (p : TwoEnds) (b : Between) (t : Tables) → Stands p b t → t.broken ≡ is_some (carriers_of p).reach
+broken_is p b t old = old.broken ∙ sym (map_some (λ (x : Reach). (x.left, x.right)) p.reach)
+
+none_sent : (broken : Bool) (channel : List Message) → channel ≡ channel ++ unless_broken broken []
+none_sent true channel = sym (append-nil channel)
+none_sent false channel = sym (append-nil channel)
+
+pub sends_is : (row : Row) (broken : Bool) (channel : List Message) → leaves_use (before row) (after row) ≡ false → sends_then row broken channel ≡ channel ++ unless_broken broken (answer_for row)
+sends_is quiet broken channel e = none_sent broken channel
+sends_is still broken channel e = none_sent broken channel
+sends_is begins broken channel e = put_unless broken (answer_for begins) channel
+sends_is (refuses reason) broken channel e = put_unless broken (answer_for (refuses reason)) channel
+sends_is agrees broken channel e = none_sent broken channel
+sends_is (denies reason) broken channel e = none_sent broken channel
+sends_is (tells octets) broken channel e = none_sent broken channel
+sends_is (leaves reason) broken channel e = cc
+sends_is (ignores octets) broken channel e = none_sent broken channel
+sends_is (ends m) broken channel e = none_sent broken channel
+
+pub out_row : (s : Side) (p : TwoEnds) (b : Between) (t : Tables) (e : End) (h : Held) (n : ℕ) (l : TableLine) → Stands p b t → (d : DidAt s p b e h n) → IsSeen s n p b l → leaves_use (before d.row) (after d.row) ≡ false →
+    (end_at (other s) p).end.carrier.ended ≡ None →
+    AreAlike (progress_of (place_at n (last_of (is_caller (other s)) d.now))) (map message_in (sends_then d.row t.broken l.own.channel)) (under_way (is_caller s) n (carriers_of (with_holding s e h p)) d.now)
+out_row s p b t e h n l old d i stays alive =
+    let there = place_at n (last_of (is_caller (other s)) b) in
+    let new = under_way (is_caller s) n (carriers_of (with_holding s e h p)) d.now in
+    let puts = unless_broken t.broken (answer_for d.row) in
+    let all : AreAlike (progress_of there) (map message_in (l.own.channel ++ puts)) new =
+    out_keeps there l.own.channel puts (under_way (is_caller s) n (carriers_of p) b) new d.stays d.gone (put_in (carriers_of p) (put_for d.row)) (i.out alive) d.out_before d.out_after (d.keeps stays)
+    (answers_same t.broken (is_some (carriers_of p).reach) d.row (broken_is p b t old)) in
+    subst (λ (q : Place). AreAlike (progress_of q) (map message_in (sends_then d.row t.broken l.own.channel)) new) (sym (d.there n))
+    (subst (λ (ms : List Message). AreAlike (progress_of there) (map message_in ms) new) (sym (sends_is d.row t.broken l.own.channel stays)) all)
+
+-- ---- what is under way to it
+
+-- no message arrived
+pub back_none : (s : Side) (p : TwoEnds) (b : Between) (e : End) (h : Held) (n : ℕ) (l : TableLine) → (d : DidAt s p b e h n) → IsSeen s n p b l → (end_at s p).end.carrier.ended ≡ None → arrived_in d.row ≡ [] →
+    before d.row ≡ after d.row → AreAlike (after d.row) (map message_in l.peer.channel) (under_way (is_caller (other s)) n (carriers_of (with_holding s e h p)) d.now)
+back_none s p b e h n l d i alive none same =
+    let now = place_at n (last_of (is_caller s) d.now) in
+    let new = under_way (is_caller (other s)) n (carriers_of (with_holding s e h p)) d.now in
+    subst (λ (g : Progress). AreAlike g (map message_in l.peer.channel) new) d.stands
+    (back_stays (progress_of (place_at n (last_of (is_caller s) b))) now (map message_in l.peer.channel) (under_way (is_caller (other s)) n (carriers_of p) b) new
+    (λ x. ap shuts (d.stands ∙ sym same ∙ sym d.stood) ∙ x) (i.back alive)
+    (subst (λ (ms : List carrier.Message). AreLike (connection_in now) (under_way (is_caller (other s)) n (carriers_of p) b) (ms ++ new)) none d.came))
+
+-- one did
+pub back_one : (s : Side) (p : TwoEnds) (b : Between) (e : End) (h : Held) (n : ℕ) (l : TableLine) (got : carrier.Message) → (d : DidAt s p b e h n) → IsSeen s n p b l → (end_at s p).end.carrier.ended ≡ None →
+    arrived_in d.row ≡ got ∷ [] →
+    Split (before d.row) (after d.row) l.peer.channel got (under_way (is_caller (other s)) n (carriers_of (with_holding s e h p)) d.now)
+back_one s p b e h n l got d i alive one =
+    let new = under_way (is_caller (other s)) n (carriers_of (with_holding s e h p)) d.now in
+    back_comes d.row (place_at n (last_of (is_caller s) b)) (place_at n (last_of (is_caller s) d.now)) l.peer.channel got (under_way (is_caller (other s)) n (carriers_of p) b) new d.stood d.stands (i.back alive)
+    (subst (λ (ms : List carrier.Message). AreLike (connection_in (place_at n (last_of (is_caller s) d.now))) (under_way (is_caller (other s)) n (carriers_of p) b) (ms ++ new)) one d.came)
+
+-- ---- all of it
+
+-- what is said of the end that took it beside its connection
+pub record EndThen (s : Side) (p : TwoEnds) (e : End) : Type 0 where
+  pub lasts : e.carrier.ended ≡ None
+  pub local : e.carrier.local ≡ (end_at s p).end.carrier.local
+  pub role : e.carrier.is_caller ≡ (end_at s p).end.carrier.is_caller
+  pub order : IsInOrder e
+  pub waits : waiting_in e.lines ≡ []
+
+same_sessions : (s : Side) (p : TwoEnds) (u : Value) (n : ℕ) → OtherSessions s p (acted_end u (end_at s p).end.lines (end_at s p).end) n
+same_sessions s p u n = record { sessions = λ q apart is. refl; kept = λ q apart x is. is }
+
+pub was_at : (s : Side) (p : TwoEnds) (b : Between) (t : Tables) → Stands p b t → (end_at s p).end.carrier.ended ≡ None → last_of (is_caller s) b ≡ (end_at s p).end.carrier
+was_at Left p b t old alive = sym (old.between.lives true alive)
+was_at Right p b t old alive = sym (old.between.lives false alive)
+
+-- the session of its connection before
+pub session_before : (s : Side) (p : TwoEnds) (b : Between) (t : Tables) (e : End) (h : Held) (n : ℕ) (l : TableLine) → Stands p b t → (end_at s p).end.carrier.ended ≡ None → (d : DidAt s p b e h n) → IsSeen s n p b l →
+    HasSession n (end_at s p).end.lines (before d.row) l.own.session
+session_before s p b t e h n l old alive d i =
+    session_of_seat n (end_at s p) l.own (before d.row) (ap (λ (c : State). progress_of (place_at n c)) (sym (was_at s p b t old alive)) ∙ d.stood) i.here
+
+pub transport_before : (s : Side) (p : TwoEnds) (b : Between) (t : Tables) (e : End) (h : Held) (n : ℕ) (l : TableLine) → Stands p b t → (end_at s p).end.carrier.ended ≡ None → (d : DidAt s p b e h n) → IsSeen s n p b l →
+    l.own.transport ≡ transport_by (before d.row)
+transport_before s p b t e h n l old alive d i =
+    i.here.transport ∙ transport_at (place_at n (end_at s p).end.carrier) (before d.row) (ap (λ (c : State). progress_of (place_at n c)) (sym (was_at s p b t old alive)) ∙ d.stood)
+
+line_same : (row : Row) (l : TableLine) → l.own.transport ≡ transport_by (after row) → line_then row l.own.session l.own.channel l.peer.channel l ≡ l
+line_same row l e = ap (λ tr. record { own = record { transport = tr; session = l.own.session; channel = l.own.channel }; peer = l.peer }) (sym e)
+
+abbrev pub NextFor : Side → TwoEnds → Between → Tables → Value → Held → Rows Line → ℕ → List Shown → Tables → Between → Type 0
+NextFor s p b t u h lines n shown new now = Turned s p b t (acted_end u lines (end_at s p).end) h now new n shown
+
+-- no message arrived: the tables stay
+pub quiet_unit : (s : Side) (p : TwoEnds) (b : Between) (t : Tables) (packet : List ℕ) (h : Held) → Stands p b t → (end_at s p).end.carrier.ended ≡ None →
+    (pa : PacketActs (terms_at p) (is_caller s) (carriers_of p) b packet h.octets) → (d : DidAt s p b (acted_end pa.unit (end_at s p).end.lines (end_at s p).end) h (reference_of pa.unit)) →
+    arrived_in d.row ≡ [] → before d.row ≡ after d.row → is_rest d.row ≡ true → is_agree d.row ≡ false → leaves_use (before d.row) (after d.row) ≡ false →
+    ((broken : Bool) (channel : List Message) → sends_then d.row broken channel ≡ channel) → d.now.called.given ≤ d.now.caller.given →
+    EndThen s p (acted_end pa.unit (end_at s p).end.lines (end_at s p).end) →
+    NextFor s p b t pa.unit h (end_at s p).end.lines (reference_of pa.unit) [] t d.now
+quiet_unit s p b t packet h old alive pa d none same rest agree stays sends behind new =
+    let n = reference_of pa.unit in
+    let e = acted_end pa.unit (end_at s p).end.lines (end_at s p).end in
+    let at = line_at s n p b t old pa.first.named pa.first.given in
+    let l = at.line in
+    let tr = transport_before s p b t e h n l old alive d at.is ∙ ap transport_by same in
+    finish s p b t t e h n [] l l.own.session l.own.channel l.peer.channel old alive d new.lasts new.local new.role pa.first.given behind new.order new.waits (same_sessions s p pa.unit n)
+    (session_rests n (end_at s p).end.lines d.row l.own.session rest (session_before s p b t e h n l old alive d at.is)) at.is
+    (record {
+      out = λ lives. subst (λ (ms : List Message). AreAlike (progress_of (place_at n (last_of (is_caller (other s)) d.now))) (map message_in ms) (under_way (is_caller s) n (carriers_of (with_holding s e h p)) d.now))
+          (sends t.broken l.own.channel) (out_row s p b t e h n l old d at.is stays lives);
+      back = back_none s p b e h n l d at.is alive none same;
+    })
+    (subst (λ (m : TableLine). TablesAfter s n t t [] m) (sym (line_same d.row l tr)) (tables_rest s n l t at.found))
+    (known_then s p b t e h n old alive d new.lasts pa.first.given agree)
+
+-- one arrived, and no session heard of it
+pub rest_unit : (s : Side) (p : TwoEnds) (b : Between) (t : Tables) (packet : List ℕ) (h : Held) (got : carrier.Message) → Stands p b t → (end_at s p).end.carrier.ended ≡ None → end_of (side_in s) t ≡ None →
+    (pa : PacketActs (terms_at p) (is_caller s) (carriers_of p) b packet h.octets) → (d : DidAt s p b (acted_end pa.unit (end_at s p).end.lines (end_at s p).end) h (reference_of pa.unit)) →
+    arrived_in d.row ≡ got ∷ [] → is_rest d.row ≡ true → rests d.row ≡ true → is_agree d.row ≡ false → is_awaited d.row ≡ false → leaves_use (before d.row) (after d.row) ≡ false → d.now.called.given ≤ d.now.caller.given →
+    EndThen s p (acted_end pa.unit (end_at s p).end.lines (end_at s p).end) →
+    NextFor s p b t pa.unit h (end_at s p).end.lines (reference_of pa.unit) [] (step t (delivers (side_in s) (reference_of pa.unit) (λ r. 0))) d.now
+rest_unit s p b t packet h got old alive lasting pa d one rest resting agree awaited stays behind new =
+    let n = reference_of pa.unit in
+    let e = acted_end pa.unit (end_at s p).end.lines (end_at s p).end in
+    let at = line_at s n p b t old pa.first.named pa.first.given in
+    let l = at.line in
+    let sp = back_one s p b e h n l got d at.is alive one in
+    let tr = transport_before s p b t e h n l old alive d at.is in
+    let line = line_then d.row l.own.session (sends_then d.row t.broken l.own.channel) sp.others l in
+    let known = learns t.terms l.own.transport sp.first t.known in
+    let turn = turn_rests (terms_at p) t.terms t.broken 0 d.row l sp.first sp.others got old.terms tr d.is resting one sp.is in
+    let is = step_opens t (side_in s) n (λ r. 0) l sp.first sp.others (unseen line) lasting at.found sp.parts turn refl in
+    finish s p b t (step t (delivers (side_in s) n (λ r. 0))) e h n [] l l.own.session (sends_then d.row t.broken l.own.channel) sp.others old alive d new.lasts new.local new.role pa.first.given behind new.order new.waits
+    (same_sessions s p pa.unit n) (session_rests n (end_at s p).end.lines d.row l.own.session rest (session_before s p b t e h n l old alive d at.is)) at.is
+    (record { out = λ lives. out_row s p b t e h n l old d at.is stays lives; back = sp.stays })
+    (subst (λ (u : Tables). TablesAfter s n t u [] line) (sym is) (tables_delivered s n (seen_from (side_in s) l) t known (unseen line) at.found))
+    (ap (λ (u : Tables). u.known) is ∙ learns_row d.row l.own.transport t.terms sp.first t.known tr awaited ∙ known_then s p b t e h n old alive d new.lasts pa.first.given agree)

@@ -1,0 +1,122 @@
+-- A side of a connection: what it is by how far its connection is, and its session.
+use Rattle.std.proofs.Common.{◌≡◌, ℕ, ◌<◌, Bool, true, false, nat_lt, if◌then◌else◌, List, Option, Some, None, is_some, IfSome, refl, sym, ap, ◌∙◌, arith}
+use Rattle.std.proofs.lemmas.Bool.Decides.{nat_tests}
+use Rattle.osi_tpkt.specs.Held.{Held}
+use Rattle.osi_carrier.specs.Course.{Place, never, was_given, place_at, progress_of}
+use Rattle.osi_carrier.specs.Orderly.{IsOrderly}
+use Rattle.osi_carrier.specs.Progress.{Progress, not_yet, awaiting, in_use, shutting}
+use Rattle.osi_carrier.specs.Progress as progress
+use Rattle.osi_carrier.specs.Rows.{Rows, value_at}
+use Rattle.osi_carrier.specs.State.{Connection, asked, linked, closing, State}
+use Rattle.osi_carrier.proofs.Apart.{beyond}
+use Rattle.osi_machine.specs.Tables.{Seat}
+use Rattle.osi_machine.specs.Worlds.{Message, Transport}
+use Rattle.osi_machine.specs.Worlds as worlds
+use Rattle.osi_message.specs.InOctets.{IsInOctets}
+use Rattle.osi_session.specs.Moves.{Standing}
+use Rattle.osi_session.specs.Phases.{is_ended}
+use Rattle.osi_session.specs.Sessions.{awaits}
+use Rattle.osi_stack.specs.Messages.{kept_at}
+use Rattle.osi_stack.specs.State.{Line, End, Holding, session_in, session_at}
+use Rattle.osi_pair.specs.Standing.{transport_in, is_parting, IsSeated}
+
+-- ---- by how far the connection is
+
+abbrev pub transport_by : Progress → Transport
+transport_by not_yet = worlds.not_yet
+transport_by awaiting = worlds.waiting
+transport_by in_use = worlds.linked
+transport_by shutting = worlds.closing
+transport_by progress.gone = worlds.gone
+
+abbrev pub lives_in : Progress → Bool
+lives_in not_yet = false
+lives_in awaiting = true
+lives_in in_use = true
+lives_in shutting = true
+lives_in progress.gone = false
+
+transport_place : (p : Place) → transport_in p ≡ transport_by (progress_of p)
+transport_place never = refl
+transport_place (was_given None) = refl
+transport_place (was_given (Some asked)) = refl
+transport_place (was_given (Some (linked peer link))) = refl
+transport_place (was_given (Some (closing peer))) = refl
+
+pub transport_at : (p : Place) (g : Progress) → progress_of p ≡ g → transport_in p ≡ transport_by g
+transport_at p g e = transport_place p ∙ ap transport_by e
+
+lives_value : (o : Option Connection) → lives_in (progress_of (was_given o)) ≡ is_some o
+lives_value None = refl
+lives_value (Some asked) = refl
+lives_value (Some (linked peer link)) = refl
+lives_value (Some (closing peer)) = refl
+
+place_by : (n : ℕ) (s : State) (b : Bool) → nat_lt s.given n ≡ b → place_at n s ≡ (if b then never else was_given (value_at n s.live))
+place_by n s b e = ap (λ (c : Bool). if◌then◌else◌ {A = Place} c never (was_given (value_at n s.live))) e
+
+live_by : (n : ℕ) (s : State) (b : Bool) → nat_lt s.given n ≡ b → lives_in (progress_of (place_at n s)) ≡ true → is_some (value_at n s.live) ≡ true
+live_by n s true e h = let no_way : false ≡ true = sym (ap (λ p. lives_in (progress_of p)) (place_by n s true e)) ∙ h in cc
+live_by n s false e h = sym (lives_value (value_at n s.live)) ∙ sym (ap (λ p. lives_in (progress_of p)) (place_by n s false e)) ∙ h
+
+-- where it lives there is a row
+pub live_there : (n : ℕ) (s : State) → lives_in (progress_of (place_at n s)) ≡ true → is_some (value_at n s.live) ≡ true
+live_there n s h = live_by n s (nat_lt s.given n) refl h
+
+lives_by : (n : ℕ) (s : State) (b : Bool) → nat_lt s.given n ≡ b → IsOrderly s → is_some (value_at n s.live) ≡ true → lives_in (progress_of (place_at n s)) ≡ true
+lives_by n s true e o h =
+    let above : s.given < n = grind (arith, nat_tests) in
+    let none = beyond n s.given s.live o.up_to above in
+    let no_way : false ≡ true = sym (ap is_some none) ∙ h in
+    cc
+lives_by n s false e o h = ap (λ p. lives_in (progress_of p)) (place_by n s false e) ∙ lives_value (value_at n s.live) ∙ h
+
+pub lives_there : (n : ℕ) (s : State) → IsOrderly s → is_some (value_at n s.live) ≡ true → lives_in (progress_of (place_at n s)) ≡ true
+lives_there n s o h = lives_by n s (nat_lt s.given n) refl o h
+
+-- the rows of two carriers at one place
+value_by : (n : ℕ) (s t : State) (b c : Bool) → nat_lt s.given n ≡ b → nat_lt t.given n ≡ c → IsOrderly s → IsOrderly t → place_at n s ≡ place_at n t → value_at n s.live ≡ value_at n t.live
+value_by n s t true true e f o q h =
+    let above : s.given < n = grind (arith, nat_tests) in
+    let higher : t.given < n = grind (arith, nat_tests) in
+    beyond n s.given s.live o.up_to above ∙ sym (beyond n t.given t.live q.up_to higher)
+value_by n s t true false e f o q h = let no_way : never ≡ was_given (value_at n t.live) = sym (place_by n s true e) ∙ h ∙ place_by n t false f in cc
+value_by n s t false true e f o q h = let no_way : was_given (value_at n s.live) ≡ never = sym (place_by n s false e) ∙ h ∙ place_by n t true f in cc
+value_by n s t false false e f o q h = let same : was_given (value_at n s.live) ≡ was_given (value_at n t.live) = sym (place_by n s false e) ∙ h ∙ place_by n t false f in cc
+
+pub value_same : (n : ℕ) (s t : State) → IsOrderly s → IsOrderly t → place_at n s ≡ place_at n t → value_at n s.live ≡ value_at n t.live
+value_same n s t o q h = value_by n s t (nat_lt s.given n) (nat_lt t.given n) refl refl o q h
+
+-- ---- the session
+
+pub record HasSession (n : ℕ) (lines : Rows Line) (g : Progress) (x : Standing) : Type 0 where
+  pub live : lives_in g ≡ true → kept_at n lines ≡ Some x
+  pub kept : (y : Standing) → kept_at n lines ≡ Some y → y ≡ x
+  pub over_now : is_parting (transport_by g) ≡ true → is_ended x.state.phase ≡ true
+  pub awaiting : transport_by g ≡ worlds.not_yet → x ≡ awaits
+  pub octets : IfSome x.waiting IsInOctets
+
+pub live_session : (n : ℕ) (e : End) → is_some (value_at n e.carrier.live) ≡ true → session_at n e ≡ kept_at n e.lines
+live_session n e h = ap (λ (b : Bool). if◌then◌else◌ {A = Option Standing} b (session_in (value_at n e.lines)) None) h
+
+pub session_of_seat : (n : ℕ) (h : Holding) (seat : Seat) (g : Progress) → progress_of (place_at n h.end.carrier) ≡ g → IsSeated n h seat → HasSession n h.end.lines g seat.session
+session_of_seat n h seat g e i =
+    let tr : seat.transport ≡ transport_by g = i.transport ∙ transport_at (place_at n h.end.carrier) g e in
+    record {
+      live = λ l. (let is = live_there n h.end.carrier (ap lives_in e ∙ l) in sym (live_session n h.end is) ∙ i.live is);
+      kept = i.kept;
+      over_now = λ o. i.over_now (ap is_parting tr ∙ o);
+      awaiting = λ a. i.awaiting (tr ∙ a);
+      octets = i.octets;
+    }
+
+pub seat_of_session : (n : ℕ) (e : End) (h : Held) (g : Progress) (x : Standing) (channel : List Message) → IsOrderly e.carrier → progress_of (place_at n e.carrier) ≡ g → HasSession n e.lines g x →
+    IsSeated n (record { end = e; held = h }) (record { transport = transport_by g; session = x; channel = channel })
+seat_of_session n e h g x channel o p s = record {
+  transport = sym (transport_at (place_at n e.carrier) g p);
+  live = λ is. live_session n e is ∙ s.live (ap lives_in (sym p) ∙ lives_there n e.carrier o is);
+  kept = s.kept;
+  over_now = s.over_now;
+  awaiting = s.awaiting;
+  octets = s.octets;
+}

@@ -1,0 +1,12 @@
+use Rattle.osi_pair.proofs.StandingEvent.{wanted_small}
+use Rattle.osi_pair.proofs.octets.can_be_asked.Goals as goal
+
+pub returns : goal.returns
+returns c = record {
+  serial = wanted_small c.args.connect.now;
+  calling = c.is_address.ensures;
+  called = c.is_address-2.ensures;
+  calling_selector = c.some_are_octets.ensures;
+  called_selector = c.some_are_octets-2.ensures;
+  octets = c.are_octets.ensures;
+}

@@ -1,0 +1,10 @@
+use Rattle.std.proofs.Common.{subst}
+use Rattle.osi_tpkt.specs.Octets.{IsOctets}
+use Rattle.osi_pair.proofs.StandingEvent.{address_short}
+use Rattle.osi_pair.proofs.octets.is_short.Goals as goal
+
+pub returns-clause-short : goal.returns-clause-short
+returns-clause-short c = address_short c.args.tsap
+
+pub returns-clause-octets : goal.returns-clause-octets
+returns-clause-octets c = subst IsOctets c.octets.ensures.value c.are_octets.ensures

@@ -1,0 +1,26 @@
+-- What an event is to two ends that stand at a list of steps of the machine.
+use Rattle.std.specs.Prelude.{ℕ, List, [], ◌∷◌, ◌++◌}
+use Rattle.osi_tpkt.specs.Octets.{IsOctets}
+use Rattle.osi_machine.specs.Machine.{Step, connects, calls}
+use Rattle.osi_session.specs.Allowed.{octets_of}
+use Rattle.osi_session.specs.Calls.{HasSerial, called_by}
+use Rattle.osi_pair.specs.Asked.{asked_of, CanBeAsked}
+use Rattle.osi_pair.specs.Ends.{TwoEnds, end_at}
+use Rattle.osi_pair.specs.Standing.{side_in, offer_in, StandsAt, StandsAtBreak, StandsAtTold}
+use Rattle.osi_pair.specs.declared.events.Event.{Event}
+use Rattle.osi_pair.specs.declared.events.Event.TheVariants.{Connect, Call, Carry, Break, Told}
+
+-- what users ask for in memory has octets, and numbers that a point may have
+abbrev pub CanHappen : Event → Type 0
+CanHappen (Connect asked) = CanBeAsked asked
+CanHappen (Call side reference request) = HasSerial (called_by request) × IsOctets (octets_of (called_by request))
+CanHappen event = Unit {0}
+
+-- where the old ones stood at these steps, the new ones stand at these and those of the event; of octets that
+-- are carried nothing is said here
+abbrev pub StandsAfter : Event → TwoEnds → TwoEnds → List Step → Type 0
+StandsAfter (Connect asked) old new steps = StandsAt new (steps ++ connects (offer_in (asked_of asked)) ∷ [])
+StandsAfter (Call side reference request) old new steps = StandsAt new (steps ++ calls (side_in side) reference.0 (called_by request) ∷ [])
+StandsAfter (Carry side most) old new steps = Unit {0}
+StandsAfter (Break left right) old new steps = StandsAtBreak new steps
+StandsAfter (Told side) old new steps = StandsAtTold (end_at side old).end.carrier.ended side new steps

@@ -1,0 +1,101 @@
+-- What the users of two ends may rely on, read from what they can see: the journal, and what each end
+-- says of its connections.
+use Rattle.std.specs.Prelude.{◌≡◌, ℕ, ◌<◌, ◌≤◌, Bool, true, false, ◌&&◌, List, [], ◌∷◌, ◌++◌, map, Option, Some, None, is_some}
+use Rattle.std.specs.List.{list_any}
+use Rattle.osi_carrier.specs.Terms.{terms_of}
+use Rattle.osi_carrier.specs.declared.ends.EndReason.{EndReason}
+use Rattle.osi_machine.specs.AsTables.{offers_in}
+use Rattle.osi_machine.specs.Core.{Offer}
+use Rattle.osi_machine.specs.Floor.{Token, has}
+use Rattle.osi_machine.specs.Histories.{Item, Point, PointKind, Begins, Agree}
+use Rattle.osi_machine.specs.Machine.{Ending, IsLegal, connection_at}
+use Rattle.osi_machine.specs.Machine as entries
+use Rattle.osi_machine.specs.Runs.{is_loss, loses}
+use Rattle.osi_machine.specs.Views.{Told, told_of}
+use Rattle.osi_stack.specs.Calls.{held_by, numbers_of}
+use Rattle.osi_stack.specs.State.{session_at}
+use Rattle.osi_pair.specs.Ends.{TwoEnds, end_at}
+use Rattle.osi_pair.specs.Entries.{Entry}
+use Rattle.osi_pair.specs.Standing.{side_in, entry_in, ending_in, terms_in}
+use Rattle.osi_pair.specs.declared.sides.Side.{Side}
+use Rattle.osi_pair.specs.declared.sides.Side.TheVariants.{Left, Right}
+
+-- ---- the journal in the words of the machine
+
+abbrev pub with_word : {A : Type 0} → Option A → List A → List A
+with_word None entries = entries
+with_word (Some entry) entries = entry ∷ entries
+
+abbrev pub journal_in : List Entry → List entries.Entry
+journal_in [] = []
+journal_in (e ∷ es) = with_word (entry_in e) (journal_in es)
+
+-- each entry has such a word, and the journal is one of what two users may do and see
+pub record IsLegalJournal (p : TwoEnds) : Type 0 where
+  pub words : map Some (journal_in p.journal) ≡ map entry_in p.journal
+  pub legal : IsLegal (terms_in (terms_of p.left.end.carrier.local p.right.end.carrier.local)) (journal_in p.journal)
+
+-- ---- connections, by the references that the left end gave
+
+-- what was asked for with a connection
+pub record WasAskedFor (r : ℕ) (p : TwoEnds) : Type 0 where
+  pub offer : Offer
+  pub found : connection_at r (offers_in (journal_in p.journal)) ≡ Some offer
+
+abbrev pub AllWereAskedFor : TwoEnds → Type 0
+AllWereAskedFor p = (r : ℕ) → 0 < r → r ≤ p.left.end.carrier.given → WasAskedFor r p
+
+-- what a side's entries for a connection tell, which was asked for so
+abbrev pub told_at : Side → ℕ → Offer → TwoEnds → Told
+told_at side r o p = told_of (side_in side) r o (journal_in p.journal)
+
+-- said of what both sides tell of each connection
+abbrev pub OfEachConnection : (ℕ → Told → Told → Type 0) → TwoEnds → Type 0
+OfEachConnection P p = (r : ℕ) (o : Offer) → 0 < r → r ≤ p.left.end.carrier.given → connection_at r (offers_in (journal_in p.journal)) ≡ Some o →
+    P r (told_at Left r o p) (told_at Right r o p)
+
+-- ---- what is promised
+
+-- of each connection no token is held by both
+abbrev pub HaveOneHolder : TwoEnds → Type 0
+HaveOneHolder p = (r : ℕ) (t : Token) → (has (held_by (session_at r p.left.end)) t && has (held_by (session_at r p.right.end)) t) ≡ false
+
+-- one of the two views begins with the other, unless duplex is selected: so each point that is in both has
+-- the same number, kind and octets, and the same items before it
+abbrev pub AgreeUnlessDuplex : ℕ → Told → Told → Type 0
+AgreeUnlessDuplex r left right = left.duplex ≡ false → right.duplex ≡ false → Agree left.view right.view
+
+-- with duplex, the data that a side is shown is how the data that the other asked to send begins
+abbrev pub IsShownAsAsked : ℕ → Told → Told → Type 0
+IsShownAsAsked r left right =
+    (left.duplex ≡ true → Begins left.indicated right.requested) × (right.duplex ≡ true → Begins right.indicated left.requested)
+
+-- each point in the view of a side with a number below this is in the view of the other, behind the same
+-- items; unless the other has asked for a restart and has seen no answer
+abbrev pub IsSeenThere : ℕ → Told → Told → Type 0
+IsSeenThere confirmed own other =
+    (before : List Item) (n : ℕ) (kind : PointKind) (octets : List ℕ) → Begins (before ++ Point n kind octets ∷ []) own.view →
+    n < confirmed → other.asking ≡ false → Begins (before ++ Point n kind octets ∷ []) other.view
+
+-- V(A), as an end says it of a connection
+abbrev pub confirmed_at : Side → ℕ → TwoEnds → ℕ
+confirmed_at side r p = (numbers_of (session_at r (end_at side p).end)).confirmed
+
+abbrev pub ConfirmedIsSeen : TwoEnds → ℕ → Told → Told → Type 0
+ConfirmedIsSeen p r left right = IsSeenThere (confirmed_at Left r p) left right × IsSeenThere (confirmed_at Right r p) right left
+
+-- neither user is shown a fault, of this side or of the other
+abbrev pub ShowNoFault : ℕ → Told → Told → Type 0
+ShowNoFault r left right = (left.faulted ≡ false) × (right.faulted ≡ false)
+
+-- an end that has ended was told of the break, had no memory, or has closed
+abbrev pub EndsForFewReasons : TwoEnds → Type 0
+EndsForFewReasons p = (side : Side) (why : EndReason) → (end_at side p).end.carrier.ended ≡ Some why → is_some (ending_in why) ≡ true
+
+abbrev pub ending_of : Option EndReason → Option Ending
+ending_of None = None
+ending_of (Some why) = ending_in why
+
+-- a user is shown a loss only where his end was told of the break or had no memory
+abbrev pub LoseAsTheyEnd : TwoEnds → Type 0
+LoseAsTheyEnd p = (side : Side) → list_any (is_loss (side_in side)) (journal_in p.journal) ≡ true → loses (ending_of (end_at side p).end.carrier.ended) ≡ true

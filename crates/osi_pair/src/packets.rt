@@ -1,0 +1,31 @@
+//! How two ends stand to the machine of whole messages where an end takes a packet. Each function does
+//! nothing: its clauses are the laws.
+
+ghost use Rattle.std.specs.Prelude.{◌≡◌, ℕ, List, [], ◌++◌, None};
+ghost use Rattle.osi_tpkt.specs.Held.{Held};
+ghost use Rattle.osi_tpkt.specs.Packet.{IsPacket};
+ghost use Rattle.osi_carrier.specs.Packets.{after_packet};
+ghost use Rattle.osi_machine.specs.Machine.{Step};
+ghost use Rattle.osi_pair.specs.Ends.{TwoEnds, end_at};
+ghost use Rattle.osi_pair.specs.Standing.{packet_taken, StandsAt, StandsAtDeliveries};
+ghost use Rattle.osi_pair.specs.declared.sides.Side.{Side};
+
+use osi_carrier::two_carriers::{what_two_carriers_have, whatever_becomes_of_two_carriers};
+use osi_stack::laws::{
+    a_session_is_what_its_inputs_made_it, a_session_that_is_called_has_a_connection,
+};
+
+/// Where two ends stand at a list of steps of the machine, and an end that has not ended takes the packet
+/// that it holds first, of which its carrier tells it nothing, they stand at that list followed by deliveries
+/// to that end: a part of a TSDU and an AK bring no message; what comes to a connection that is closing, and a
+/// CR that is refused, are each taken as one.
+pub fn what_an_untold_packet_does()
+    ensures { (p : TwoEnds) (steps : List Step) (side : Side) (packet octets : List ℕ) (held : Held) → StandsAt p steps →
+        (end_at side p).end.carrier.ended ≡ None → IsPacket packet octets → (end_at side p).held.octets ≡ octets ++ held.octets →
+        (after_packet (end_at side p).end.carrier packet).events ≡ [] → StandsAtDeliveries side (packet_taken side packet held p) steps }
+{
+    whatever_becomes_of_two_carriers();
+    what_two_carriers_have();
+    a_session_is_what_its_inputs_made_it();
+    a_session_that_is_called_has_a_connection();
+}

@@ -1,0 +1,33 @@
+//! What the users of two ends may rely on. The function does nothing: its clauses are the laws.
+
+ghost use Rattle.std.specs.Prelude.{List};
+ghost use Rattle.osi_machine.specs.Machine.{Step};
+ghost use Rattle.osi_pair.specs.Ends.{TwoEnds};
+ghost use Rattle.osi_pair.specs.Promises.{AgreeUnlessDuplex, AllWereAskedFor, ConfirmedIsSeen, EndsForFewReasons, HaveOneHolder, IsLegalJournal, IsShownAsAsked, LoseAsTheyEnd, OfEachConnection, ShowNoFault};
+ghost use Rattle.osi_pair.specs.Standing.{StandsAt};
+
+use osi_machine::laws::{the_tables_are_the_machine, what_two_tables_tell};
+
+/// What the users of two ends that stand at a list of steps may rely on, read from the journal and from what
+/// each end says of its connections. The journal is one of what two users may do and see by the machine. Of
+/// each connection no token is held by both ends. Unless duplex is selected, one of the two views that the
+/// journal tells begins with the other, so that each synchronization point that both users have seen has the
+/// same number, kind and octets, and the same items before it; with duplex, the data that a user is shown is
+/// how the data that the other asked to send begins. Each point in the view of a side with a number below
+/// its V(A) is in the view of the other, unless the other has asked for a restart and has seen no answer.
+/// Neither user is shown a fault, of this side or of the other; an end ends only by a break, want of memory,
+/// or its own close; and a user is shown a loss only where his end was told of a break or had no memory.
+pub fn what_two_ends_tell()
+    ensures legal_journal { (p : TwoEnds) (steps : List Step) → StandsAt p steps → IsLegalJournal p }
+    ensures asked { (p : TwoEnds) (steps : List Step) → StandsAt p steps → AllWereAskedFor p }
+    ensures one_holder { (p : TwoEnds) (steps : List Step) → StandsAt p steps → HaveOneHolder p }
+    ensures agreement { (p : TwoEnds) (steps : List Step) → StandsAt p steps → OfEachConnection AgreeUnlessDuplex p }
+    ensures duplex { (p : TwoEnds) (steps : List Step) → StandsAt p steps → OfEachConnection IsShownAsAsked p }
+    ensures confirmed_is_seen { (p : TwoEnds) (steps : List Step) → StandsAt p steps → OfEachConnection (ConfirmedIsSeen p) p }
+    ensures no_fault { (p : TwoEnds) (steps : List Step) → StandsAt p steps → OfEachConnection ShowNoFault p }
+    ensures ends { (p : TwoEnds) (steps : List Step) → StandsAt p steps → EndsForFewReasons p }
+    ensures lost { (p : TwoEnds) (steps : List Step) → StandsAt p steps → LoseAsTheyEnd p }
+{
+    the_tables_are_the_machine();
+    what_two_tables_tell();
+}
