@@ -113,35 +113,33 @@ def sides(s):
     return "".join("arc"[side] for side in (s.data, s.minor, s.major, s.release))
 
 
-def text(i):
-    """The words of an indication (docs/SCRIPTS.md)."""
-    words, user_data = NAMES[i.tag], data(of(i.user_data))
+def fields(i):
+    """What stands between the name of an indication and its user data."""
     if i.tag in (CONNECT, CONNECTED):
         number = i.number if i.has_number else "-"
-        return f"{words} units {i.requirements:04x} serial {number} sides {sides(i.sides)} data {user_data}"
-    if i.tag == REFUSED_BY_TRANSPORT:
-        return f"{words} {i.reason}"
-    if i.tag == REFUSED_BY_SESSION:
-        return f"{words} {i.reason} data {user_data}"
+        return f" units {i.requirements:04x} serial {number} sides {sides(i.sides)}"
+    if i.tag in (REFUSED_BY_TRANSPORT, REFUSED_BY_SESSION):
+        return f" {i.reason}"
+    if i.tag in (GIVEN, ASKED):
+        return f" {i.tokens:02x}"
+    if i.tag == MINOR:
+        return f" {i.number} confirm {'yes' if i.confirm else 'no'}"
+    if i.tag in (MINOR_CONFIRMED, MAJOR):
+        return f" {i.number}"
+    if i.tag in (RESTART, RESTARTED):
+        return f" {i.number} sides {sides(i.sides)}"
+    if i.tag == PEER_ABORT:
+        return f" {i.reason:02x}"
+    return f" {FAULTS[i.fault.fault]}" if i.tag == BAD_UNIT else ""
+
+
+def text(i):
+    """The words of an indication (docs/SCRIPTS.md)."""
+    words, user_data = NAMES[i.tag] + fields(i), data(of(i.user_data))
     if i.tag == DATA:
         return f"{words} {user_data}"
-    if i.tag == GIVEN:
-        return f"{words} {i.tokens:02x}"
-    if i.tag == ASKED:
-        return f"{words} {i.tokens:02x} data {user_data}"
-    if i.tag == MINOR:
-        return f"{words} {i.number} confirm {'yes' if i.confirm else 'no'} data {user_data}"
-    if i.tag in (MINOR_CONFIRMED, MAJOR):
-        return f"{words} {i.number} data {user_data}"
-    if i.tag in (RESTART, RESTARTED):
-        return f"{words} {i.number} sides {sides(i.sides)} data {user_data}"
-    if i.tag == LOST:
-        return words
-    if i.tag == PEER_ABORT:
-        return f"{words} {i.reason:02x}"
-    if i.tag == BAD_UNIT:
-        return f"{words} {FAULTS[i.fault.fault]}"
-    return f"{words} data {user_data}"
+    has_none = i.tag in (REFUSED_BY_TRANSPORT, GIVEN) or i.tag >= LOST
+    return words if has_none else f"{words} data {user_data}"
 
 
 class Client:

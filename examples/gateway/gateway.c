@@ -57,22 +57,32 @@ static void write_sides(FILE *log, osi_sides s)
     fprintf(log, " sides %c%c%c%c", letters[s.data], letters[s.minor], letters[s.major], letters[s.release]);
 }
 
-static void write_opening(FILE *log, const osi_indication *i)
+static bool is_one_of(const osi_indication *i, uint32_t first, uint32_t second)
 {
-    fprintf(log, " units %04x serial ", i->requirements);
-    if (i->has_number)
-        fprintf(log, "%u", i->number);
-    else
-        putc('-', log);
-    write_sides(log, i->sides);
-    write_data(log, " data", i->user_data);
+    return i->tag == first || i->tag == second;
 }
 
-static const char *fault_name(uint8_t fault)
+/* What stands between the name of an indication and its user data. */
+static void write_fields(FILE *log, const osi_indication *i)
 {
-    static const char *const names[] = {"",           "Spelling",  "Unexpected", "NotSelected",
-                                        "TokenHeld", "BadNumber", "BadTokens"};
-    return names[fault];
+    static const char *const faults[] = {"",          "Spelling",  "Unexpected", "NotSelected",
+                                         "TokenHeld", "BadNumber", "BadTokens"};
+    if (is_one_of(i, OSI_CONNECT, OSI_CONNECTED))
+        fprintf(log, i->has_number ? " units %04x serial %u" : " units %04x serial -", i->requirements, i->number);
+    if (is_one_of(i, OSI_REFUSED_BY_TRANSPORT, OSI_REFUSED_BY_SESSION))
+        fprintf(log, " %u", i->reason);
+    if (is_one_of(i, OSI_GIVEN, OSI_ASKED))
+        fprintf(log, " %02x", i->tokens);
+    if (is_one_of(i, OSI_MINOR, OSI_MINOR_CONFIRMED) || is_one_of(i, OSI_RESTART, OSI_RESTARTED) || i->tag == OSI_MAJOR)
+        fprintf(log, " %u", i->number);
+    if (i->tag == OSI_MINOR)
+        fputs(i->confirm ? " confirm yes" : " confirm no", log);
+    if (is_one_of(i, OSI_CONNECT, OSI_CONNECTED) || is_one_of(i, OSI_RESTART, OSI_RESTARTED))
+        write_sides(log, i->sides);
+    if (i->tag == OSI_PEER_ABORT)
+        fprintf(log, " %02x", i->reason);
+    if (i->tag == OSI_BAD_UNIT)
+        fprintf(log, " %s", faults[i->fault.fault]);
 }
 
 static void write_shown(FILE *log, const osi_indication *i)
@@ -84,54 +94,11 @@ static void write_shown(FILE *log, const osi_indication *i)
         "ProviderAbort Peer", "ProviderAbort Unit",
     };
     fputs(names[i->tag], log);
-    switch (i->tag) {
-    case OSI_CONNECT:
-    case OSI_CONNECTED:
-        write_opening(log, i);
-        break;
-    case OSI_REFUSED_BY_TRANSPORT:
-        fprintf(log, " %u", i->reason);
-        break;
-    case OSI_REFUSED_BY_SESSION:
-        fprintf(log, " %u", i->reason);
-        write_data(log, " data", i->user_data);
-        break;
-    case OSI_DATA_SHOWN:
+    write_fields(log, i);
+    if (i->tag == OSI_DATA_SHOWN)
         write_data(log, "", i->user_data);
-        break;
-    case OSI_GIVEN:
-        fprintf(log, " %02x", i->tokens);
-        break;
-    case OSI_ASKED:
-        fprintf(log, " %02x", i->tokens);
+    else if (i->tag < OSI_LOST && !is_one_of(i, OSI_REFUSED_BY_TRANSPORT, OSI_GIVEN))
         write_data(log, " data", i->user_data);
-        break;
-    case OSI_MINOR:
-        fprintf(log, " %u confirm %s", i->number, i->confirm ? "yes" : "no");
-        write_data(log, " data", i->user_data);
-        break;
-    case OSI_MINOR_CONFIRMED:
-    case OSI_MAJOR:
-        fprintf(log, " %u", i->number);
-        write_data(log, " data", i->user_data);
-        break;
-    case OSI_RESTART:
-    case OSI_RESTARTED:
-        fprintf(log, " %u", i->number);
-        write_sides(log, i->sides);
-        write_data(log, " data", i->user_data);
-        break;
-    case OSI_LOST:
-        break;
-    case OSI_PEER_ABORT:
-        fprintf(log, " %02x", i->reason);
-        break;
-    case OSI_BAD_UNIT:
-        fprintf(log, " %s", fault_name(i->fault.fault));
-        break;
-    default:
-        write_data(log, " data", i->user_data);
-    }
     putc('\n', log);
 }
 

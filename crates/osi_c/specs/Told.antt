@@ -1,5 +1,5 @@
 -- What an indication in C says.
-use Rattle.std.specs.Prelude.{◌≡◌, ℕ, not, Option, Some, None, ◌==◌, if◌then◌else◌}
+use Rattle.std.specs.Prelude.{◌≡◌, ℕ, Bool, true, false, not, Option, Some, None, ◌==◌, if◌then◌else◌}
 use Rattle.osi_spdu.specs.declared.faults.SpduFault.{SpduFault}
 use Rattle.osi_spdu.specs.declared.faults.SpduFault.TheVariants.{UnknownSi, LengthPastEnd, MissingParameter, DuplicateParameter, BadValue, BadConcatenation, TrailingOctets}
 use Rattle.osi_session.specs.Shown.{Shown, Connect, Connected, RefusedByTransport, RefusedBySession, Data, Given, Asked, Minor, MinorConfirmed, Major, MajorConfirmed, Restart, Restarted, Release, Released, ReleaseRefused, Aborted, Lost, PeerAbort, BadUnit}
@@ -31,6 +31,27 @@ SaysFault f (BadTokens si) = (f.fault ≡ 6) × (f.si ≡ si)
 -- a serial number, where one is named
 abbrev pub serial_in : OsiIndication → Option ℕ
 serial_in i = if i.has_number == 0 then None else Some i.number
+
+-- which indications tell of the opening of a connection
+abbrev pub is_opening : Shown → Bool
+is_opening (Connect _ _ _ _) = true
+is_opening (Connected _ _ _ _) = true
+is_opening (RefusedByTransport _) = true
+is_opening (RefusedBySession _ _) = true
+is_opening _ = false
+
+-- which tell of a point, by its number
+abbrev pub is_point : Shown → Bool
+is_point (Minor _ _ _) = true
+is_point (MinorConfirmed _ _) = true
+is_point (Major _ _) = true
+is_point _ = false
+
+-- which tell of a restart
+abbrev pub is_restart : Shown → Bool
+is_restart (Restart _ _ _) = true
+is_restart (Restarted _ _ _) = true
+is_restart _ = false
 
 -- which indication it is, and what it says
 abbrev pub Says : OsiIndication → Shown → Type 0

@@ -1,10 +1,10 @@
 //! What the user of a connection is shown, for C.
 
-ghost use Rattle.std.specs.Prelude.{◌≡◌, ◌==◌, not, Some, option_map};
+ghost use Rattle.std.specs.Prelude.{◌≡◌, ◌==◌, not, Some, option_map, true};
 ghost use Rattle.osi_spdu.specs.Fields.{bits_of, unit_bits};
 ghost use Rattle.osi_session.specs.Shown.{shown_by, abort_shown};
 ghost use Rattle.osi_c.specs.Arguments.{side_of, wish_of, sides_of, wishes_of};
-ghost use Rattle.osi_c.specs.Told.{SaysSpelling, SaysFault, serial_in, Says};
+ghost use Rattle.osi_c.specs.Told.{SaysSpelling, SaysFault, serial_in, is_opening, is_point, is_restart, Says};
 
 use crate::arguments::OsiSides;
 use bitflags::Flags;
@@ -204,9 +204,9 @@ fn aborted<'a>(reference: u16, cause: AbortCause) -> OsiIndication<'a>
     }
 }
 
-/// What the user of a connection is shown.
-pub(crate) fn tell(reference: u16, indication: &Indication) -> OsiIndication<'_>
-    ensures { (result.reference ≡ reference) × Says result (shown_by indication.now) }
+/// What is said of an opening: a CN, an AC or a refusal. No other indication comes here.
+fn tell_opening(reference: u16, indication: &Indication) -> OsiIndication<'_>
+    ensures { is_opening (shown_by indication.now) ≡ true → (result.reference ≡ reference) × Says result (shown_by indication.now) }
 {
     match indication {
         Indication::Connect {
@@ -235,15 +235,15 @@ pub(crate) fn tell(reference: u16, indication: &Indication) -> OsiIndication<'_>
             reason: *reason,
             ..plain(reference, 4, user_data.as_slice())
         },
-        Indication::Data { user_data } => plain(reference, 5, user_data.as_slice()),
-        Indication::Given { tokens } => OsiIndication {
-            tokens: tokens.bits(),
-            ..plain(reference, 6, &[])
-        },
-        Indication::Asked { tokens, user_data } => OsiIndication {
-            tokens: tokens.bits(),
-            ..plain(reference, 7, user_data.as_slice())
-        },
+        _ => nothing(),
+    }
+}
+
+/// What is said with the number of a point. No other indication comes here.
+fn tell_point(reference: u16, indication: &Indication) -> OsiIndication<'_>
+    ensures { is_point (shown_by indication.now) ≡ true → (result.reference ≡ reference) × Says result (shown_by indication.now) }
+{
+    match indication {
         Indication::Minor {
             number,
             confirm,
@@ -261,7 +261,16 @@ pub(crate) fn tell(reference: u16, indication: &Indication) -> OsiIndication<'_>
             number: *number,
             ..plain(reference, 10, user_data.as_slice())
         },
-        Indication::MajorConfirmed { user_data } => plain(reference, 11, user_data.as_slice()),
+        _ => nothing(),
+    }
+}
+
+/// What is said with the number of a point and who is to hold the tokens. No other indication comes
+/// here.
+fn tell_restart(reference: u16, indication: &Indication) -> OsiIndication<'_>
+    ensures { is_restart (shown_by indication.now) ≡ true → (result.reference ≡ reference) × Says result (shown_by indication.now) }
+{
+    match indication {
         Indication::Restart {
             number,
             wishes,
@@ -280,6 +289,34 @@ pub(crate) fn tell(reference: u16, indication: &Indication) -> OsiIndication<'_>
             sides: side_codes(*sides),
             ..plain(reference, 13, user_data.as_slice())
         },
+        _ => nothing(),
+    }
+}
+
+/// What the user of a connection is shown.
+pub(crate) fn tell(reference: u16, indication: &Indication) -> OsiIndication<'_>
+    ensures { (result.reference ≡ reference) × Says result (shown_by indication.now) }
+{
+    match indication {
+        Indication::Connect { .. }
+        | Indication::Connected { .. }
+        | Indication::RefusedByTransport { .. }
+        | Indication::RefusedBySession { .. } => tell_opening(reference, indication),
+        Indication::Data { user_data } => plain(reference, 5, user_data.as_slice()),
+        Indication::Given { tokens } => OsiIndication {
+            tokens: tokens.bits(),
+            ..plain(reference, 6, &[])
+        },
+        Indication::Asked { tokens, user_data } => OsiIndication {
+            tokens: tokens.bits(),
+            ..plain(reference, 7, user_data.as_slice())
+        },
+        Indication::Minor { .. } | Indication::MinorConfirmed { .. } | Indication::Major { .. } =>
+            tell_point(reference, indication),
+        Indication::MajorConfirmed { user_data } => plain(reference, 11, user_data.as_slice()),
+        Indication::Restart { .. } | Indication::Restarted { .. } => {
+            tell_restart(reference, indication)
+        }
         Indication::Release { user_data } => plain(reference, 14, user_data.as_slice()),
         Indication::Released { user_data } => plain(reference, 15, user_data.as_slice()),
         Indication::ReleaseRefused { user_data } => plain(reference, 16, user_data.as_slice()),
