@@ -4,8 +4,11 @@
 # make lib: builds the library for C, into build/: libosi.a, libosi.so and osi.pc. make install PREFIX=.. puts them,
 # with include/osi.h, where the compiler finds them. make gateways: builds the program and the library, and builds and
 # runs the programs of examples/gateway (scripts/gateways does so with what was built before).
-.PHONY: all test edits bench lib install gateways
+# make trials: builds the same and runs what is proved against hostile octets, want of memory and breaks
+# (docs/TRIALS.md); make trials PART=--part runs a part of it. make fuzz SECONDS=60 SEED=1 feeds ends octets at random.
+.PHONY: all test edits bench lib install gateways trials fuzz
 PREFIX ?= /usr/local
+SECONDS ?= 60
 
 all:
 	cd crates/osi_tool && rt run -- --help > out.log 2>&1 || { cat out.log; exit 1; }
@@ -34,3 +37,10 @@ install: lib
 
 gateways: all lib
 	scripts/gateways
+
+trials: all lib
+	cd crates/osi_trial && rt lib > out.log 2>&1 || { cat out.log; exit 1; }
+	scripts/trials $(PART)
+
+fuzz: lib
+	scripts/trials --fuzz $(SECONDS) $(SEED)

@@ -1,0 +1,100 @@
+/* Wrong ends, to see that the trials find them: linked in front of the library (-Wl,--wrap), each
+ * function does what it should, but for the one wrong thing that TRIALS_WRONG names. */
+#include "osi.h"
+
+#include <stdlib.h>
+#include <string.h>
+
+static bool is_wrong(const char *name)
+{
+    static const char *wrong;
+    if (wrong == NULL)
+        wrong = getenv("TRIALS_WRONG") == NULL ? "" : getenv("TRIALS_WRONG");
+    return strcmp(wrong, name) == 0;
+}
+
+uint8_t __real_osi_held(osi_end *end, uint16_t reference);
+uint8_t __wrap_osi_held(osi_end *end, uint16_t reference);
+uint32_t __real_osi_feed(osi_end *end, const uint8_t *piece, size_t length, osi_fed *fed);
+uint32_t __wrap_osi_feed(osi_end *end, const uint8_t *piece, size_t length, osi_fed *fed);
+uint32_t __real_osi_fetch(osi_end *end);
+uint32_t __wrap_osi_fetch(osi_end *end);
+size_t __real_osi_kept(osi_end *end);
+size_t __wrap_osi_kept(osi_end *end);
+uint32_t __real_osi_data(osi_end *end, uint16_t reference, const uint8_t *data, size_t length);
+uint32_t __wrap_osi_data(osi_end *end, uint16_t reference, const uint8_t *data, size_t length);
+uint32_t __real_osi_confirmed_below(osi_end *end, uint16_t reference);
+uint32_t __wrap_osi_confirmed_below(osi_end *end, uint16_t reference);
+void __real_osi_free(osi_end *end);
+void __wrap_osi_free(osi_end *end);
+void __real_osi_outgoing(osi_end *end, osi_octets *octets);
+void __wrap_osi_outgoing(osi_end *end, osi_octets *octets);
+
+uint8_t __wrap_osi_held(osi_end *end, uint16_t reference)
+{
+    uint8_t held = __real_osi_held(end, reference);
+    bool more = is_wrong("given_and_held") && osi_phase(end, reference) == OSI_PHASE_READY;
+    return more ? held | OSI_TOKEN_DATA : held;
+}
+
+uint32_t __wrap_osi_feed(osi_end *end, const uint8_t *piece, size_t length, osi_fed *fed)
+{
+    static unsigned long pieces;
+    uint64_t detail;
+    bool lost = is_wrong("an_octet_is_lost") && ++pieces % 50 == 0 && length > 0;
+    uint32_t code = __real_osi_feed(end, piece, lost ? length - 1 : length, fed);
+    fed->used += lost && fed->used == length - 1;
+    if (is_wrong("the_end_uses_nothing") && osi_ended(end, &detail) != OSI_END_NONE)
+        fed->used = 0;
+    if (is_wrong("nothing_waits"))
+        fed->waits = false;
+    return code;
+}
+
+uint32_t __wrap_osi_fetch(osi_end *end)
+{
+    static unsigned long times;
+    if (is_wrong("an_indication_is_lost") && ++times % 7 == 0)
+        __real_osi_fetch(end);
+    return __real_osi_fetch(end);
+}
+
+size_t __wrap_osi_kept(osi_end *end)
+{
+    return __real_osi_kept(end) + (is_wrong("more_is_kept") ? (size_t)65 << 20 : 0);
+}
+
+uint32_t __wrap_osi_data(osi_end *end, uint16_t reference, const uint8_t *data, size_t length)
+{
+    if (is_wrong("always_no_memory"))
+        return OSI_NO_MEMORY;
+    uint32_t code = __real_osi_data(end, reference, data, length);
+    if (code == OSI_NO_MEMORY && is_wrong("a_refused_call_is_done"))
+        __real_osi_data(end, reference, data, length);
+    return code;
+}
+
+uint32_t __wrap_osi_confirmed_below(osi_end *end, uint16_t reference)
+{
+    uint32_t below = __real_osi_confirmed_below(end, reference);
+    return is_wrong("confirmed_unseen") && below < osi_next_serial(end, reference) ? osi_next_serial(end, reference)
+                                                                                   : below;
+}
+
+void __wrap_osi_free(osi_end *end)
+{
+    if (is_wrong("nothing_is_freed"))
+        *end = (osi_end)OSI_END;
+    __real_osi_free(end);
+}
+
+void __wrap_osi_outgoing(osi_end *end, osi_octets *octets)
+{
+    static uint8_t copy[1 << 16];
+    __real_osi_outgoing(end, octets);
+    if (!is_wrong("another_reference_is_sent") || octets->length < 10 || octets->length > sizeof copy)
+        return;
+    memcpy(copy, octets->at, octets->length);
+    copy[9] ^= 1;
+    octets->at = copy;
+}
