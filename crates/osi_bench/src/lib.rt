@@ -5,8 +5,10 @@ mod carriers;
 mod links;
 mod moved;
 mod sessions;
+mod stacks;
 mod tsdus;
 mod units;
+mod writes;
 
 use osi_tpkt::Cutter;
 use std::alloc::Global;
@@ -83,6 +85,16 @@ pub extern "C" fn osi_bench_tsdus(tsdu: &[u8], rounds: usize) -> u64 {
     sum.number()
 }
 
+/// Reads a TSDU, writes its units so many times, and answers a number of the octets; 0 where it holds
+/// no units.
+#[unsafe(no_mangle)]
+pub extern "C" fn osi_bench_writes(alloc: Global, tsdu: &[u8], rounds: usize) -> u64 {
+    match writes::written(alloc, tsdu, rounds) {
+        Some(number) => number,
+        None => 0,
+    }
+}
+
 /// Moves a TSDU so many times over a pair of links of class 2, or of class 0, and answers a number
 /// of what was handed out.
 #[unsafe(no_mangle)]
@@ -125,6 +137,24 @@ pub extern "C" fn osi_bench_carriers(
 ) -> u64 {
     match carriers::over_carriers(alloc, tsdu, rounds, connections, piece, class_two) {
         Some(moved) => moved.number(),
+        None => 0,
+    }
+}
+
+/// Does so many rounds of data, and where points are made of a point and its confirmation, over a pair
+/// of stacks with so many connections, in class 2 or in class 0, and answers a number of what their
+/// users were shown.
+#[unsafe(no_mangle)]
+pub extern "C" fn osi_bench_stacks(
+    alloc: Global,
+    data: &[u8],
+    rounds: usize,
+    connections: u16,
+    class_two: bool,
+    points: bool,
+) -> u64 {
+    match stacks::over_stacks(alloc, data, rounds, connections, class_two, points) {
+        Some(number) => number,
         None => 0,
     }
 }

@@ -1,0 +1,318 @@
+/* A carrier by hand: many connections on one byte connection, with the transport units that they take and give. */
+#ifndef CARRIER_H
+#define CARRIER_H
+#include <stdbool.h>
+#include <stdint.h>
+#include <stdlib.h>
+#include <string.h>
+
+#define LARGEST 8192
+#define LONGEST 1048576
+#define WINDOW 15
+#define NUMBERS 128
+#define MOST_LIVE 64
+#define HEADER 4
+
+/* Octets on the heap, with the room that was taken for them; those before `first` were taken. */
+struct octets {
+    uint8_t *at;
+    size_t first;
+    size_t length;
+    size_t room;
+};
+
+struct link {
+    unsigned reference, peer;
+    /* What is to be sent and has no credit yet: octets of TSDUs, and where each ends. */
+    struct octets unsent;
+    size_t ends[WINDOW];
+    size_t count;
+    /* The TSDU that is being joined. */
+    struct octets begun;
+    unsigned next, unacknowledged, credit, expected;
+};
+
+/* One TSDU that waits to be taken: none other is begun to be read before. */
+struct event {
+    bool waits;
+    unsigned reference;
+    struct octets tsdu;
+};
+
+struct carrier {
+    bool class_two, ended;
+    struct link live[MOST_LIVE];
+    size_t connections;
+    struct octets held, outgoing;
+    struct event event;
+};
+
+/* Makes room behind what is there, and gives the place. */
+static uint8_t *room_for(struct octets *o, size_t n)
+{
+    if (n > o->room - o->length) {
+        if (o->first > 0 && n <= o->room - (o->length - o->first)) {
+            memmove(o->at, o->at + o->first, o->length - o->first);
+        } else {
+            size_t room = 2 * o->room > o->length + n ? 2 * o->room : o->length + n;
+            uint8_t *at = malloc(room);
+            if (at == NULL)
+                abort();
+            if (o->length > o->first)
+                memcpy(at, o->at + o->first, o->length - o->first);
+            free(o->at);
+            o->at = at;
+            o->room = room;
+        }
+        o->length -= o->first;
+        o->first = 0;
+    }
+    o->length += n;
+    return o->at + o->length - n;
+}
+
+static void append(struct octets *o, const uint8_t *more, size_t n)
+{
+    if (n > 0)
+        memcpy(room_for(o, n), more, n);
+}
+
+static void drop(struct octets *o, size_t n)
+{
+    o->first += n;
+    if (o->first == o->length)
+        o->first = o->length = 0;
+}
+
+static struct link *find(struct carrier *c, unsigned reference)
+{
+    for (size_t i = 0; i < c->connections; i++)
+        if (c->live[i].reference == reference)
+            return &c->live[i];
+    return NULL;
+}
+
+/* ---- what is written */
+
+static uint8_t *put_header(struct carrier *c, size_t unit)
+{
+    uint8_t *at = room_for(&c->outgoing, HEADER + unit);
+    at[0] = 3;
+    at[1] = 0;
+    at[2] = (uint8_t)((HEADER + unit) >> 8);
+    at[3] = (uint8_t)(HEADER + unit);
+    return at + HEADER;
+}
+
+static void put_data(struct carrier *c, struct link *l, const uint8_t *user, size_t n, bool end)
+{
+    uint8_t *at = put_header(c, n + (c->class_two ? 5 : 3));
+    if (!c->class_two) {
+        at[0] = 2;
+        at[1] = 0xF0;
+        at[2] = end ? 0x80 : 0;
+        memcpy(at + 3, user, n);
+        return;
+    }
+    at[0] = 4;
+    at[1] = 0xF0;
+    at[2] = (uint8_t)(l->peer >> 8);
+    at[3] = (uint8_t)l->peer;
+    at[4] = (uint8_t)((end ? 0x80 : 0) | l->next);
+    memcpy(at + 5, user, n);
+    l->next = (l->next + 1) % NUMBERS;
+    l->unacknowledged += 1;
+    l->credit -= 1;
+}
+
+static void put_ack(struct carrier *c, struct link *l)
+{
+    uint8_t *at = put_header(c, 5);
+    at[0] = 4;
+    at[1] = 0x60 | WINDOW;
+    at[2] = (uint8_t)(l->peer >> 8);
+    at[3] = (uint8_t)l->peer;
+    at[4] = (uint8_t)l->expected;
+}
+
+/* Writes as much of a TSDU as the credit allows, and answers how much of it. */
+static size_t put_parts(struct carrier *c, struct link *l, const uint8_t *tsdu, size_t n, bool *all)
+{
+    size_t limit = LARGEST - (c->class_two ? 5 : 3), done = 0;
+    *all = false;
+    while (!*all && (!c->class_two || l->credit > 0)) {
+        size_t part = n - done > limit ? limit : n - done;
+        *all = done + part == n;
+        put_data(c, l, tsdu + done, part, *all);
+        done += part;
+    }
+    return done;
+}
+
+/* Writes what is unsent, as far as the credit allows. */
+static void pump(struct carrier *c, struct link *l)
+{
+    while (l->count > 0 && l->credit > 0) {
+        bool all;
+        size_t done = put_parts(c, l, l->unsent.at + l->unsent.first, l->ends[0], &all);
+        drop(&l->unsent, done);
+        l->ends[0] -= done;
+        if (!all)
+            return;
+        l->count -= 1;
+        memmove(l->ends, l->ends + 1, l->count * sizeof l->ends[0]);
+    }
+}
+
+/* Writes what the credit allows straight out of the TSDU, and keeps a copy of the rest. */
+static bool send_tsdu(struct carrier *c, unsigned reference, const uint8_t *tsdu, size_t n)
+{
+    struct link *l = find(c, reference);
+    bool all = false;
+    size_t done = 0;
+    if (l == NULL || c->ended || n > LONGEST || l->count == WINDOW)
+        return false;
+    if (l->count == 0)
+        done = put_parts(c, l, tsdu, n, &all);
+    if (all)
+        return true;
+    append(&l->unsent, tsdu + done, n - done);
+    l->ends[l->count++] = n - done;
+    return true;
+}
+
+/* ---- what is taken */
+
+static bool join(struct carrier *c, struct link *l, const uint8_t *user, size_t n, bool end)
+{
+    static const struct octets none = {NULL, 0, 0, 0};
+    if (n > LONGEST - l->begun.length)
+        return false;
+    append(&l->begun, user, n);
+    if (!end)
+        return true;
+    c->event = (struct event){true, l->reference, l->begun};
+    l->begun = none;
+    return true;
+}
+
+static bool acknowledge(struct carrier *c, struct link *l, unsigned number, unsigned credit)
+{
+    unsigned left = (l->next + NUMBERS - number) % NUMBERS;
+    if (left > l->unacknowledged || credit < l->credit + left)
+        return false;
+    l->unacknowledged = left;
+    l->credit = credit - left;
+    pump(c, l);
+    return true;
+}
+
+/* One unit at the front; how many octets it has, or 0 where it is refused. */
+static size_t take_tpdu(struct carrier *c, const uint8_t *unit, size_t n)
+{
+    struct link *l;
+    size_t header = (size_t)unit[0] + 1;
+    if (header > n || header < 3)
+        return 0;
+    if (!c->class_two) {
+        l = &c->live[0];
+        return unit[1] == 0xF0 && header == 3 && (unit[2] & 0x7F) == 0 && join(c, l, unit + 3, n - 3, unit[2] == 0x80) ? n : 0;
+    }
+    if (header != 5 || (l = find(c, (unsigned)unit[2] << 8 | unit[3])) == NULL)
+        return 0;
+    if ((unit[1] & 0xF0) == 0x60)
+        return unit[4] < NUMBERS && acknowledge(c, l, unit[4], unit[1] & 0x0F) ? header : 0;
+    if (unit[1] != 0xF0 || (unit[4] & 0x7F) != l->expected || !join(c, l, unit + 5, n - 5, unit[4] >= 0x80))
+        return 0;
+    l->expected = (l->expected + 1) % NUMBERS;
+    put_ack(c, l);
+    return n;
+}
+
+static void take_packet(struct carrier *c, const uint8_t *unit, size_t n)
+{
+    while (n > 0 && !c->ended) {
+        size_t used = take_tpdu(c, unit, n);
+        c->ended = used == 0;
+        unit += used;
+        n -= used;
+    }
+}
+
+/* The length of the packet at the front, where its header stands; 0 where it is refused. */
+static size_t packet_length(const uint8_t *at)
+{
+    size_t n = (size_t)at[2] << 8 | at[3];
+    return at[0] == 3 && n >= 7 ? n : 0;
+}
+
+/* Completes the packet of which octets are held, as far as the piece goes, and answers the octets used. */
+static size_t complete(struct carrier *c, const uint8_t *piece, size_t n)
+{
+    size_t used = 0, length;
+    if (c->held.length < HEADER) {
+        used = n < HEADER - c->held.length ? n : HEADER - c->held.length;
+        append(&c->held, piece, used);
+        if (c->held.length < HEADER)
+            return used;
+    }
+    length = packet_length(c->held.at);
+    c->ended = length == 0;
+    if (c->ended)
+        return used;
+    size_t more = length - c->held.length < n - used ? length - c->held.length : n - used;
+    append(&c->held, piece + used, more);
+    if (c->held.length == length) {
+        take_packet(c, c->held.at + HEADER, length - HEADER);
+        c->held.length = 0;
+    }
+    return used + more;
+}
+
+/* Takes the packets of a piece, each where it lies, up to one by which a TSDU came; answers the octets used. */
+static size_t feed(struct carrier *c, const uint8_t *piece, size_t n)
+{
+    size_t used = 0;
+    if (c->event.waits)
+        return 0;
+    while (used < n && !c->ended && !c->event.waits) {
+        size_t left = n - used, length;
+        if (c->held.length > 0 || left < HEADER) {
+            used += complete(c, piece + used, left);
+            continue;
+        }
+        length = packet_length(piece + used);
+        c->ended = length == 0;
+        if (length > left) {
+            append(&c->held, piece + used, left);
+            return n;
+        }
+        take_packet(c, piece + used + HEADER, length > 0 ? length - HEADER : 0);
+        used += length;
+    }
+    return c->ended ? n : used;
+}
+
+static struct carrier *carrier_of(size_t connections, bool class_two)
+{
+    struct carrier *c = calloc(1, sizeof *c);
+    if (c == NULL)
+        abort();
+    c->class_two = class_two;
+    c->connections = connections;
+    for (size_t i = 0; i < connections; i++)
+        c->live[i] = (struct link){.reference = (unsigned)i + 1, .peer = (unsigned)i + 1, .credit = WINDOW};
+    return c;
+}
+
+static void close_carrier(struct carrier *c)
+{
+    for (size_t i = 0; i < c->connections; i++) {
+        free(c->live[i].unsent.at);
+        free(c->live[i].begun.at);
+    }
+    free(c->held.at);
+    free(c->outgoing.at);
+    free(c);
+}
+#endif

@@ -1,0 +1,259 @@
+/* Data, minor points and their confirmations over a pair of stacks, whose octets go from one to the other: the proved
+   ones and the same by hand, a carrier and a session for each of its connections. */
+#include <stdio.h>
+#include <time.h>
+#include "carrier.h"
+#include "session.h"
+
+/* A slice is passed as a pointer and a length; the allocator passes nothing. */
+uint64_t osi_bench_stacks(const uint8_t *data, size_t length, size_t rounds, uint16_t connections, bool class_two, bool points);
+
+/* One indication that waits to be shown: what comes behind it is not read before. */
+struct stack {
+    struct carrier *carrier;
+    struct session sessions[MOST_LIVE];
+    bool waits;
+    unsigned reference;
+    struct indication shown;
+};
+
+/* The session of a reference, which is that of its link. */
+static struct session *session_of(struct stack *s, unsigned reference)
+{
+    struct link *l = find(s->carrier, reference);
+    return l == NULL ? NULL : &s->sessions[l - s->carrier->live];
+}
+
+/* Sends what a call made, and frees it. */
+static bool sent(struct stack *s, unsigned reference, enum error e, struct owned tsdu)
+{
+    bool good = e == OK && send_tsdu(s->carrier, reference, tsdu.at, tsdu.length);
+    if (e == OK)
+        free(tsdu.at);
+    return good;
+}
+
+static bool stack_data(struct stack *s, unsigned reference, struct slice data)
+{
+    struct session *session = session_of(s, reference);
+    struct owned tsdu;
+    return session != NULL && sent(s, reference, call_data(session, data, &tsdu), tsdu);
+}
+
+static bool stack_minor(struct stack *s, unsigned reference)
+{
+    static const struct slice none = {NULL, 0};
+    struct session *session = session_of(s, reference);
+    struct owned tsdu;
+    return session != NULL && sent(s, reference, call_minor(session, 1, none, &tsdu), tsdu);
+}
+
+static bool stack_confirm(struct stack *s, unsigned reference, uint32_t number)
+{
+    static const struct slice none = {NULL, 0};
+    struct session *session = session_of(s, reference);
+    struct owned tsdu;
+    return session != NULL && sent(s, reference, call_confirm(session, number, none, &tsdu), tsdu);
+}
+
+/* The session of a TSDU that came takes it: what it shows waits, and its reply is sent. */
+static void hear(struct stack *s)
+{
+    struct event event = s->carrier->event;
+    struct session *session = session_of(s, event.reference);
+    struct taken t;
+    s->carrier->event.waits = false;
+    if (session == NULL || take(session, event.tsdu.at, event.tsdu.length, &t) != OK)
+        abort();
+    free(event.tsdu.at);
+    if (t.reply.at) {
+        send_tsdu(s->carrier, event.reference, t.reply.at, t.reply.length);
+        free(t.reply.at);
+    }
+    s->waits = t.first.kind != SHOWN_NONE;
+    s->reference = event.reference;
+    s->shown = t.first;
+}
+
+/* Takes the packets of a piece up to one by which something is shown; answers the octets used. */
+static size_t feed_stack(struct stack *s, const uint8_t *piece, size_t n)
+{
+    size_t used = 0;
+    while (used < n && !s->waits && !s->carrier->ended) {
+        used += feed(s->carrier, piece + used, n - used);
+        if (s->carrier->event.waits)
+            hear(s);
+    }
+    return used;
+}
+
+/* ---- a pair */
+
+struct ends {
+    struct stack caller, called;
+    uint64_t messages, octets;
+};
+
+static void carry(struct stack *from, struct stack *to, struct ends *e)
+{
+    struct octets *out = &from->carrier->outgoing;
+    while (out->length > out->first) {
+        drop(out, feed_stack(to, out->at + out->first, out->length - out->first));
+        if (to->waits) {
+            e->messages += 1;
+            e->octets += to->shown.data.length;
+            free(to->shown.data.at);
+            to->waits = false;
+        }
+    }
+}
+
+static void exchange(struct ends *e)
+{
+    do {
+        carry(&e->caller, &e->called, e);
+        carry(&e->called, &e->caller, e);
+    } while (e->caller.carrier->outgoing.length > e->caller.carrier->outgoing.first);
+}
+
+/* Half-duplex and minor synchronize on each connection, base 0; the caller holds both tokens. */
+static void open_stack(struct stack *s, size_t connections, bool class_two, bool is_caller)
+{
+    memset(s, 0, sizeof *s);
+    s->carrier = carrier_of(connections, class_two);
+    for (size_t i = 0; i < connections; i++) {
+        struct session *session = &s->sessions[i];
+        session->is_caller = is_caller;
+        session->phase = READY;
+        session->units = 0x0009;
+        session->available = DATA_TOKEN | MINOR_TOKEN;
+        session->held = is_caller ? DATA_TOKEN | MINOR_TOKEN : 0;
+    }
+}
+
+static bool one_round(struct ends *e, unsigned reference, struct slice data, bool points)
+{
+    uint32_t number;
+    if (!stack_data(&e->caller, reference, data))
+        return false;
+    exchange(e);
+    if (!points)
+        return true;
+    number = session_of(&e->caller, reference)->next;
+    if (!stack_minor(&e->caller, reference))
+        return false;
+    exchange(e);
+    if (!stack_confirm(&e->called, reference, number))
+        return false;
+    exchange(e);
+    return true;
+}
+
+/* So many rounds over connections that take turns. */
+static uint64_t stacks_by_hand(const uint8_t *octets, size_t length, size_t rounds, uint16_t connections, bool class_two,
+                               bool points)
+{
+    struct ends *e = calloc(1, sizeof *e);
+    struct slice data = {octets, length};
+    uint64_t answer;
+    if (e == NULL)
+        abort();
+    open_stack(&e->caller, connections, class_two, true);
+    open_stack(&e->called, connections, class_two, false);
+    for (size_t i = 0; i < rounds && one_round(e, (unsigned)(i % connections) + 1, data, points); i++)
+        continue;
+    answer = e->messages * 1000003 + e->octets;
+    close_carrier(e->caller.carrier);
+    close_carrier(e->called.carrier);
+    free(e);
+    return answer;
+}
+
+/* The time that this process has had of a processor, so that other work on the machine counts less. */
+static double now(void)
+{
+    struct timespec t;
+    clock_gettime(CLOCK_PROCESS_CPUTIME_ID, &t);
+    return (double)t.tv_sec + (double)t.tv_nsec * 1e-9;
+}
+
+typedef uint64_t job(const uint8_t *, size_t, size_t, uint16_t, bool, bool);
+
+#define JOBS 2
+#define RUNS 31
+#define LONGEST_DATA 100000
+
+static job *const jobs[JOBS] = {osi_bench_stacks, stacks_by_hand};
+
+static uint64_t expected(size_t n, size_t rounds, bool points)
+{
+    return rounds * (points ? 3 : 1) * 1000003 + rounds * n;
+}
+
+/* The least time of many runs of each job, which take turns; false where an answer is wrong. */
+static bool timed(double best[JOBS], const uint8_t *data, size_t n, size_t rounds, uint16_t connections, bool class_two,
+                  bool points)
+{
+    bool good = true;
+    best[0] = best[1] = 1e9;
+    for (int i = 0; i < RUNS * JOBS; i++) {
+        int k = i % JOBS;
+        double start = now(), taken;
+        good = jobs[k](data, n, rounds, connections, class_two, points) == expected(n, rounds, points) && good;
+        taken = now() - start;
+        best[k] = taken < best[k] ? taken : best[k];
+    }
+    return good;
+}
+
+/* One line: messages and MB of user data a second and ns a message. What it takes to open the connections and to go a
+   first round on each is left out. The time of our message is kept in `first` where it is 0, and the last column is the
+   time beside that. */
+static bool report(const uint8_t *data, size_t n, size_t rounds, uint16_t connections, bool class_two, bool points,
+                   double *first)
+{
+    double all[JOBS], opening[JOBS], messages = (double)rounds * (points ? 3 : 1);
+    bool good = timed(opening, data, n, connections, connections, class_two, points)
+        && timed(all, data, n, connections + rounds, connections, class_two, points);
+    for (int k = 0; k < JOBS; k++)
+        all[k] -= opening[k];
+    if (*first == 0)
+        *first = all[0];
+    printf("%5d %11u %6s %7zu", class_two ? 2 : 0, (unsigned)connections, points ? "points" : "data", n);
+    for (int k = 0; k < JOBS; k++)
+        printf(" %10.0f %7.0f %9.1f", messages / all[k], (double)n * (double)rounds / all[k] / 1e6, all[k] / messages * 1e9);
+    printf(" %6.2f %6.2f\n", all[1] / all[0], all[0] / *first);
+    return good;
+}
+
+/* With the words `job class connections data|points octets rounds` one job runs once, to be counted. */
+static int once(char **words, const uint8_t *data)
+{
+    size_t n = strtoul(words[5], NULL, 10), rounds = strtoul(words[6], NULL, 10);
+    bool points = words[4][0] == 'p';
+    job *run = jobs[strcmp(words[1], "proved") == 0 ? 0 : 1];
+    return run(data, n, rounds, (uint16_t)atoi(words[3]), words[2][0] == '2', points) == expected(n, rounds, points) ? 0 : 1;
+}
+
+int main(int count, char **words)
+{
+    static const size_t lengths[] = {1, 100, 1000, 100000}, rounds[] = {8000, 8000, 8000, 256};
+    static uint8_t data[LONGEST_DATA];
+    bool good = true;
+    for (size_t i = 0; i < LONGEST_DATA; i++)
+        data[i] = (uint8_t)(i * 31);
+    if (count == 7)
+        return once(words, data);
+    printf("%5s %11s %6s %7s %10s %7s %9s %10s %7s %9s %6s %6s\n", "class", "connections", "round", "octets", "messages/s", "MB/s",
+           "ns each", "C", "MB/s", "ns each", "/ C", "to 1");
+    for (int points = 0; points < 2; points++)
+        for (int i = 0; good && i < 4; i++) {
+            double of_class_zero = 0, of_one = 0;
+            good = report(data, lengths[i], rounds[i], 1, false, points, &of_class_zero)
+                && report(data, lengths[i], rounds[i], 1, true, points, &of_one)
+                && report(data, lengths[i], rounds[i], MOST_LIVE, true, points, &of_one);
+        }
+    if (!good)
+        fprintf(stderr, "the answers differ\n");
+    return good ? 0 : 1;
+}

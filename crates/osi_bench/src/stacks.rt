@@ -1,0 +1,218 @@
+//! Data, minor synchronization points and their confirmations over a pair of stacks, of which the
+//! caller sends data and points and the called end confirms. All octets between them go out of one and
+//! into the other.
+
+use bitflags::Flags;
+use osi_carrier::Ref;
+use osi_class::Local;
+use osi_session::{Indication, Request, Sides};
+use osi_spdu::{Requirements, Serial, Side, TokenSetting, Wish};
+use osi_stack::{Connect, Stack};
+use osi_tpdu::{SizeCode, Window};
+use std::alloc::Global;
+
+/// Half-duplex and minor synchronize.
+const UNITS: u16 = 0x0009;
+
+/// The caller holds each token.
+const WISHES: TokenSetting = TokenSetting {
+    data_token: Wish::Asker,
+    minor: Wish::Asker,
+    major: Wish::Asker,
+    release: Wish::Asker,
+};
+
+/// The caller holds each token.
+const SIDES: Sides = Sides {
+    data_token: Side::Asker,
+    minor: Side::Asker,
+    major: Side::Asker,
+    release: Side::Asker,
+};
+
+/// A point that asks for its confirmation.
+const MINOR: Request = Request::Minor {
+    confirm: true,
+    user_data: &[],
+};
+
+/// What users were shown: indications of data, of points and of confirmations, and the octets of data,
+/// each modulo 2^64.
+#[derive(Clone, Copy)]
+struct Shown {
+    messages: u64,
+    octets: u64,
+}
+
+/// The two ends, and what their users were shown.
+#[derive(Drop)]
+struct Ends {
+    caller: Stack,
+    called: Stack,
+    shown: Shown,
+}
+
+/// With one indication more.
+fn with(shown: Shown, indication: &Indication) -> Shown {
+    let octets = match indication {
+        Indication::Data { user_data } => user_data.as_slice().len() as u64,
+        Indication::Minor { .. } | Indication::MinorConfirmed { .. } => 0,
+        _ => return shown,
+    };
+    Shown {
+        messages: shown.messages.wrapping_add(1),
+        octets: shown.octets.wrapping_add(octets),
+    }
+}
+
+/// Carries what is to be carried, up to what shows an indication; false where nothing was.
+fn carry_some(from: &mut Stack, to: &mut Stack, shown: &mut Shown) -> bool {
+    let octets = from.outgoing();
+    if octets.is_empty() {
+        return false;
+    }
+    let fed = to.feed(octets);
+    from.taken(fed.used);
+    if fed.whole
+        && let Some((_, indication)) = to.next_indication()
+    {
+        *shown = with(*shown, &indication);
+    }
+    true
+}
+
+/// Carries all that is to be carried.
+fn carry(from: &mut Stack, to: &mut Stack, shown: &mut Shown) {
+    for _ in 0..=from.outgoing().len() {
+        if !carry_some(from, to, shown) {
+            return;
+        }
+    }
+}
+
+/// Carries both ways until the caller has nothing more to be carried, at most so many times.
+fn exchange(ends: &mut Ends, times: usize) {
+    for _ in 0..=times {
+        carry(&mut ends.caller, &mut ends.called, &mut ends.shown);
+        carry(&mut ends.called, &mut ends.caller, &mut ends.shown);
+        if ends.caller.outgoing().is_empty() {
+            return;
+        }
+    }
+}
+
+/// One class, the largest size and the largest window.
+fn local(class_two: bool) -> Option<Local> {
+    Some(Local {
+        class0: !class_two,
+        class2: class_two,
+        size: SizeCode::new(13)?,
+        window: Window::new(15)?,
+    })
+}
+
+/// A connection whose first point has number 0.
+fn asked<'a>(serial: Serial) -> Connect<'a> {
+    Connect {
+        requirements: Requirements::from_bits_retain(UNITS),
+        serial,
+        wishes: WISHES,
+        calling_tsap: None,
+        called_tsap: None,
+        calling_selector: None,
+        called_selector: None,
+        user_data: &[],
+    }
+}
+
+/// Accepts it.
+fn accepted<'a>(serial: Serial) -> Request<'a> {
+    Request::Accept {
+        requirements: Requirements::from_bits_retain(UNITS),
+        serial,
+        sides: SIDES,
+        user_data: &[],
+    }
+}
+
+/// Opens one more connection.
+fn open_one(ends: &mut Ends, serial: Serial) -> Option<()> {
+    let reference = ends.caller.connect(&asked(serial)).ok()?;
+    exchange(ends, 3);
+    ends.called.call(reference, accepted(serial)).ok()?;
+    exchange(ends, 3);
+    Some(())
+}
+
+/// Sends data on a connection.
+fn data(ends: &mut Ends, reference: Ref, user_data: &[u8]) -> Option<()> {
+    ends.caller
+        .call(reference, Request::Data { user_data })
+        .ok()?;
+    exchange(ends, user_data.len());
+    Some(())
+}
+
+/// A point on a connection, and its confirmation.
+fn confirmed(ends: &mut Ends, reference: Ref) -> Option<()> {
+    let number = ends.caller.next_serial(reference);
+    ends.caller.call(reference, MINOR).ok()?;
+    exchange(ends, 3);
+    let confirm = Request::MinorConfirm {
+        number,
+        user_data: &[],
+    };
+    ends.called.call(reference, confirm).ok()?;
+    exchange(ends, 3);
+    Some(())
+}
+
+/// Data, and where points are made a point and its confirmation.
+fn round(ends: &mut Ends, reference: Ref, user_data: &[u8], points: bool) -> Option<()> {
+    data(ends, reference, user_data)?;
+    if points {
+        confirmed(ends, reference)?;
+    }
+    Some(())
+}
+
+/// Two ends with so many connections.
+fn connected(alloc: Global, connections: u16, class_two: bool) -> Option<Ends> {
+    let mut ends = Ends {
+        caller: Stack::caller(alloc, local(class_two)?),
+        called: Stack::called(alloc, local(class_two)?),
+        shown: Shown {
+            messages: 0,
+            octets: 0,
+        },
+    };
+    let serial = Serial::new(0)?;
+    for _ in 0..connections {
+        open_one(&mut ends, serial)?;
+    }
+    Some(ends)
+}
+
+/// So many rounds over a pair of stacks with so many connections, at most 64, which take turns: a
+/// number of what their users were shown.
+pub(crate) fn over_stacks(
+    alloc: Global,
+    user_data: &[u8],
+    rounds: usize,
+    connections: u16,
+    class_two: bool,
+    points: bool,
+) -> Option<u64> {
+    let mut ends = connected(alloc, connections, class_two)?;
+    let mut reference = 0u16;
+    for _ in 0..rounds {
+        reference = if reference < connections {
+            reference + 1
+        } else {
+            1
+        };
+        round(&mut ends, Ref(reference), user_data, points)?;
+    }
+    let Shown { messages, octets } = ends.shown;
+    Some(messages.wrapping_mul(1_000_003).wrapping_add(octets))
+}
