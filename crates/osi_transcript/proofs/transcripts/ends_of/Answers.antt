@@ -24,5 +24,5 @@ returns-in-Some-Ends c =
         size = ap size_code c.local-in-Some-Ends.ensures.size;
         window = ap window_units c.local-in-Some-Ends.ensures.window;
       };
-      fresh = c.new.ensures;
+      fresh = c.new.ensures.value;
     })
