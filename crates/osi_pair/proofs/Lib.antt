@@ -15,6 +15,7 @@ pub mod StandingQuiet
 pub mod StandingHeard
 pub mod StandingMoves
 pub mod StandingBegins
+pub mod StandingShown
 pub mod StandingPacket
 pub mod Growing
 pub mod StandingBreak

@@ -250,6 +250,19 @@ AreDeliveries side [] = Unit {0}
 AreDeliveries side (delivers taker r keep ∷ steps) = (taker ≡ side) × AreDeliveries side steps
 AreDeliveries side (step ∷ steps) = ⊥
 
+-- deliveries to a side, and then perhaps its end for want of memory
+abbrev pub AreArrivals : machine.Side → List Step → Type 0
+AreArrivals side [] = Unit {0}
+AreArrivals side (delivers taker r keep ∷ steps) = (taker ≡ side) × AreArrivals side steps
+AreArrivals side (entries.ends taker reason keep ∷ steps) = (taker ≡ side) × (reason ≡ no_memory) × (steps ≡ [])
+AreArrivals side (step ∷ steps) = ⊥
+
+-- they stand at that list followed by what arrives at a side
+pub record StandsAtArrivals (side : Side) (p : TwoEnds) (steps : List Step) : Type 0 where
+  pub more : List Step
+  pub are : AreArrivals (side_in side) more
+  pub stands : StandsAt p (steps ++ more)
+
 -- they stand at that list followed by deliveries to a side
 pub record StandsAtDeliveries (side : Side) (p : TwoEnds) (steps : List Step) : Type 0 where
   pub more : List Step

@@ -1,0 +1,24 @@
+-- An end took a packet, or ended: how two ends stand when its users were shown all that came of it.
+use Rattle.std.specs.Prelude.{◌≡◌, List, None}
+use Rattle.osi_tpkt.specs.Held.{Held}
+use Rattle.osi_carrier.specs.Between.{Between}
+use Rattle.osi_machine.specs.Machine.{Step}
+use Rattle.osi_machine.specs.Tables.{Tables, run}
+use Rattle.osi_stack.specs.State.{End}
+use Rattle.osi_pair.specs.Ends.{TwoEnds, end_at, noted}
+use Rattle.osi_pair.specs.Standing.{side_in, AreArrivals, Stands}
+use Rattle.osi_pair.specs.Telling.{waiting_in, quieted, told_entries}
+use Rattle.osi_pair.specs.declared.sides.Side.{Side}
+use Rattle.osi_pair.proofs.StandingTurned.{with_holding}
+
+-- The end of a side, which had not ended, is this; its users were shown all that waits, and the journal says so.
+abbrev pub shown_pair : Side → End → Held → TwoEnds → TwoEnds
+shown_pair s e h p = noted (told_entries s None e.carrier.ended (waiting_in e.lines)) (with_holding s (record e { lines = quieted e.lines }) h p)
+
+-- They stand then at these steps more.
+pub record StandsShown (s : Side) (p : TwoEnds) (t : Tables) (e : End) (h : Held) : Type 0 where
+  pub more : List Step
+  pub are : AreArrivals (side_in s) more
+  pub now : Between
+  pub local : e.carrier.local ≡ (end_at s p).end.carrier.local
+  pub stands : Stands (shown_pair s e h p) now (run t more)
