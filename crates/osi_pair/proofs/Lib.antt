@@ -17,6 +17,7 @@ pub mod StandingMoves
 pub mod StandingBegins
 pub mod StandingShown
 pub mod StandingPacket
+pub mod StandingTaken
 pub mod Growing
 pub mod StandingBreak
 pub mod StandingLost

@@ -67,6 +67,8 @@ pub record StandsBehind (s : Side) (p : TwoEnds) (t : Tables) (packet : List ℕ
   pub end : End
   pub n : ℕ
   pub same : after_packet (end_at s p).end packet ≡ end
+  pub lasts : end.carrier.ended ≡ None
+  pub waits : waiting_in end.lines ≡ []
   pub local : end.carrier.local ≡ (end_at s p).end.carrier.local
   pub stands : Stands (turned_pair s end h n [] p) now (run t more)
 
@@ -192,6 +194,8 @@ quiet_packet laws s p b t packet h old alive pa q =
       end = e;
       n = n;
       same = same;
+      lasts = f.lasts;
+      waits = new.waits;
       local = f.local;
       stands = turned_stands s p b t e h d.now t n [] old alive x;
     }
@@ -217,6 +221,8 @@ rest_packet laws s p b t packet h old alive pa q =
       end = e;
       n = n;
       same = same;
+      lasts = f.lasts;
+      waits = new.waits;
       local = f.local;
       stands = turned_stands s p b t e h d.now (step t (delivers (side_in s) n (λ r. 0))) n [] old alive x;
     }
@@ -258,6 +264,8 @@ begins_packet laws s p b t packet h old alive pa begun =
       end = e;
       n = n;
       same = same;
+      lasts = f.lasts;
+      waits = new.waits;
       local = f.local;
       stands = turned_stands s p b t e h d.now (step t (delivers (side_in s) n (λ r. 0))) n [] old alive x;
     }
@@ -316,7 +324,7 @@ unheard_packet laws s p b t packet h old alive pa e = by_kind laws s p b t packe
 
 -- ---- at a list of steps
 
-run_behind : (t : Tables) (xs ys : List Step) → run t (xs ++ ys) ≡ run (run t xs) ys
+pub run_behind : (t : Tables) (xs ys : List Step) → run t (xs ++ ys) ≡ run (run t xs) ys
 run_behind t [] ys = refl
 run_behind t (x ∷ xs) ys = run_behind (step t x) xs ys
 
@@ -330,7 +338,7 @@ numbered_behind s [] (breaks k l ∷ ys) a d = absurd d
 numbered_behind s [] (ends_side q e keep ∷ ys) a d = absurd d
 numbered_behind s (x ∷ xs) ys a d = (a.0, numbered_behind s xs ys a.1 d)
 
-terms_then : (s : Side) (p : TwoEnds) (a : End) (h : Held) → a.carrier.local ≡ (end_at s p).end.carrier.local → terms_at (with_holding s a h p) ≡ terms_at p
+pub terms_then : (s : Side) (p : TwoEnds) (a : End) (h : Held) → a.carrier.local ≡ (end_at s p).end.carrier.local → terms_at (with_holding s a h p) ≡ terms_at p
 terms_then Left p a h e = ap (λ (l : Local). terms_of l p.right.end.carrier.local) e
 terms_then Right p a h e = ap (λ (l : Local). terms_of p.left.end.carrier.local l) e
 
@@ -341,11 +349,11 @@ shown_nothing Left p a e h n same =
 shown_nothing Right p a e h n same =
     ap (λ (j : List Entry). record (with_holding Right e h p) { journal = j }) (append-nil p.journal) ∙ ap (λ (x : End). with_holding Right x h p) (sym same)
 
-both_carrier : (s : Side) (p : TwoEnds) → (side (is_caller s) (carriers_of p)).state ≡ (end_at s p).end.carrier
+pub both_carrier : (s : Side) (p : TwoEnds) → (side (is_caller s) (carriers_of p)).state ≡ (end_at s p).end.carrier
 both_carrier Left p = refl
 both_carrier Right p = refl
 
-both_held : (s : Side) (p : TwoEnds) → (side (is_caller s) (carriers_of p)).held ≡ (end_at s p).held.octets
+pub both_held : (s : Side) (p : TwoEnds) → (side (is_caller s) (carriers_of p)).held ≡ (end_at s p).held.octets
 both_held Left p = refl
 both_held Right p = refl
 

@@ -1,0 +1,108 @@
+-- A packet is taken: how two ends stand at a list of steps, when its users were shown what came of it.
+use Rattle.std.proofs.Common.{◌≡◌, ℕ, Bool, false, List, [], ◌∷◌, ◌++◌, Option, Some, None, refl, sym, ap, subst, ◌∙◌}
+use Rattle.std.specs.List.{AllByRecursion}
+use Rattle.osi_tpkt.specs.Held.{Held}
+use Rattle.osi_tpkt.specs.Packet.{IsPacket}
+use Rattle.osi_carrier.specs.Addresses.{reference_of}
+use Rattle.osi_carrier.specs.Between.{Between}
+use Rattle.osi_carrier.specs.Rows.{Rows}
+use Rattle.osi_carrier.specs.State.{State}
+use Rattle.osi_carrier.specs.Terms.{Terms}
+use Rattle.osi_carrier.specs.declared.ends.EndReason.{EndReason}
+use Rattle.osi_machine.specs.AsTables.{IsTableRun}
+use Rattle.osi_machine.specs.Core as machine
+use Rattle.osi_machine.specs.Machine.{Step, connects, calls, delivers, breaks, HasNumber}
+use Rattle.osi_machine.specs.Machine.{ends as ends_side}
+use Rattle.osi_machine.specs.Tables.{Tables, run, start}
+use Rattle.osi_session.specs.Shown.{Shown}
+use Rattle.osi_stack.specs.Hearing.{after_packet}
+use Rattle.osi_stack.specs.State.{Line, End}
+use Rattle.osi_pair.specs.Ends.{TwoEnds, end_at, noted}
+use Rattle.osi_pair.specs.Standing.{side_in, is_caller, terms_in, carriers_of, AreDeliveries, AreArrivals, StandsAtArrivals, Stands, StandsAt}
+use Rattle.osi_pair.specs.Telling.{waiting_in, quieted, told_entries}
+use Rattle.osi_pair.specs.declared.sides.Side.{Side}
+use Rattle.osi_pair.proofs.StandingArrived.{PacketActs, packet_acts}
+use Rattle.osi_pair.proofs.StandingFinish.{terms_at, order_of}
+use Rattle.osi_pair.proofs.StandingPacket.{PacketLaws, StandsBehind, is_heard, unheard_packet, terms_then, run_behind, both_carrier, both_held}
+use Rattle.osi_pair.proofs.StandingQuiet.{quiet_same}
+use Rattle.osi_pair.proofs.StandingShown.{shown_pair, StandsShown}
+use Rattle.osi_pair.proofs.StandingTurned.{with_holding, turned_pair}
+
+-- ---- nothing is shown
+
+are_arrivals : (s : machine.Side) (xs : List Step) → AreDeliveries s xs → AreArrivals s xs
+are_arrivals s [] d = tt
+are_arrivals s (delivers q r keep ∷ xs) d = (d.0, are_arrivals s xs d.1)
+are_arrivals s (connects o ∷ xs) d = absurd d
+are_arrivals s (calls q r c ∷ xs) d = absurd d
+are_arrivals s (breaks k l ∷ xs) d = absurd d
+are_arrivals s (ends_side q e keep ∷ xs) d = absurd d
+
+-- an end that lasts, and of which nothing waits
+pub shown_nothing : (s : Side) (p : TwoEnds) (e : End) (h : Held) (n : ℕ) → e.carrier.ended ≡ None → waiting_in e.lines ≡ [] → shown_pair s e h p ≡ turned_pair s e h n [] p
+shown_nothing s p e h n lasts waits =
+    ap (λ (o : Option EndReason). noted (told_entries s None o (waiting_in e.lines)) (with_holding s (record e { lines = quieted e.lines }) h p)) lasts
+    ∙ ap (λ (w : List (ℕ × Shown)). noted (told_entries s None None w) (with_holding s (record e { lines = quieted e.lines }) h p)) waits
+    ∙ ap (λ (l : Rows Line). noted [] (with_holding s (record e { lines = l }) h p)) (quiet_same e.lines waits)
+
+behind_shown : (s : Side) (p : TwoEnds) (t : Tables) (packet : List ℕ) (h : Held) → StandsBehind s p t packet h → StandsShown s p t (after_packet (end_at s p).end packet) h
+behind_shown s p t packet h b =
+    subst (λ (e : End). StandsShown s p t e h) (sym b.same)
+    (record {
+      more = b.more;
+      are = are_arrivals (side_in s) b.more b.are;
+      now = b.now;
+      local = b.local;
+      stands = subst (λ (q : TwoEnds). Stands q b.now (run t b.more)) (sym (shown_nothing s p b.end h b.n b.lasts b.waits)) b.stands;
+    })
+
+-- a packet of which no session hears
+pub unheard_shown : PacketLaws → (s : Side) (p : TwoEnds) (b : Between) (t : Tables) (packet : List ℕ) (h : Held) → Stands p b t → (end_at s p).end.carrier.ended ≡ None →
+    (pa : PacketActs (terms_at p) (is_caller s) (carriers_of p) b packet h.octets) → is_heard pa.did.row ≡ false → StandsShown s p t (after_packet (end_at s p).end packet) h
+unheard_shown laws s p b t packet h old alive pa e = behind_shown s p t packet h (unheard_packet laws s p b t packet h old alive pa e)
+
+-- ---- at a list of steps
+
+abbrev pub tables_at : TwoEnds → List Step → Tables
+tables_at p steps = run (start (terms_in (terms_at p))) steps
+
+pub is_run : (p : TwoEnds) (steps : List Step) → StandsAt p steps → IsTableRun (tables_at p steps)
+is_run p steps at = record { agreed = _; steps = steps; numbered = at.numbered; reached = refl }
+
+-- what arrives has no number
+numbered_then : (s : machine.Side) (xs ys : List Step) → AllByRecursion HasNumber xs → AreArrivals s ys → AllByRecursion HasNumber (xs ++ ys)
+numbered_then s [] [] a d = tt
+numbered_then s [] (delivers q r keep ∷ ys) a d = (tt, numbered_then s [] ys tt d.1)
+numbered_then s [] (ends_side q e keep ∷ ys) a d = subst (λ (l : List Step). AllByRecursion HasNumber (ends_side q e keep ∷ l)) (sym d.2) (tt, tt)
+numbered_then s [] (connects o ∷ ys) a d = absurd d
+numbered_then s [] (calls q r c ∷ ys) a d = absurd d
+numbered_then s [] (breaks k l ∷ ys) a d = absurd d
+numbered_then s (x ∷ xs) ys a d = (a.0, numbered_then s xs ys a.1 d)
+
+terms_shown : (s : Side) (p : TwoEnds) (e : End) (h : Held) → e.carrier.local ≡ (end_at s p).end.carrier.local → terms_at (shown_pair s e h p) ≡ terms_at p
+terms_shown s p e h same = terms_noted s p e h ∙ terms_then s p (record e { lines = quieted e.lines }) h same
+  where
+    terms_noted : (s : Side) (p : TwoEnds) (e : End) (h : Held) → terms_at (shown_pair s e h p) ≡ terms_at (with_holding s (record e { lines = quieted e.lines }) h p)
+    terms_noted s p e h = refl
+
+pub arrivals_at : (s : Side) (p : TwoEnds) (steps : List Step) (e : End) (h : Held) → StandsAt p steps → StandsShown s p (tables_at p steps) e h → StandsAtArrivals s (shown_pair s e h p) steps
+arrivals_at s p steps e h at x =
+    let terms = terms_shown s p e h x.local in
+    record {
+      more = x.more;
+      are = x.are;
+      stands = record {
+        numbered = numbered_then (side_in s) steps x.more at.numbered x.are;
+        now = x.now;
+        stands = subst (λ (u : Tables). Stands (shown_pair s e h p) x.now u)
+            (sym (run_behind (start (terms_in (terms_at p))) steps x.more) ∙ ap (λ (k : Terms). run (start (terms_in k)) (steps ++ x.more)) (sym terms)) x.stands;
+      };
+    }
+
+-- what an end does that lasts, of a packet that it holds first
+pub packet_at : PacketLaws → (s : Side) (p : TwoEnds) (steps : List Step) (packet octets : List ℕ) (h : Held) → (at : StandsAt p steps) → (end_at s p).end.carrier.ended ≡ None →
+    IsPacket packet octets → (end_at s p).held.octets ≡ octets ++ h.octets → PacketActs (terms_at p) (is_caller s) (carriers_of p) at.now packet h.octets
+packet_at laws s p steps packet octets h at alive is cut =
+    let c = both_carrier s p in
+    packet_acts laws.two (terms_at p) (is_caller s) (carriers_of p) at.now packet octets h.octets at.stands.between (ap (λ (x : State). x.ended) c ∙ alive)
+    (ap (λ (x : State). x.events) c ∙ (order_of s p at.now (tables_at p steps) at.stands alive).heard) is (both_held s p ∙ cut)
