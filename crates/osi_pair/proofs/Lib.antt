@@ -18,6 +18,7 @@ pub mod StandingBegins
 pub mod StandingShown
 pub mod StandingPacket
 pub mod StandingTaken
+pub mod StandingHanded
 pub mod Growing
 pub mod StandingBreak
 pub mod StandingLost

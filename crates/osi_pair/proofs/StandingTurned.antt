@@ -85,7 +85,7 @@ other_seated s p b e h c n q seat apart o i = record {
   octets = i.octets;
 }
 
-way_same : (g k : Progress) (ms xs ys : List carrier.Message) → k ≡ g → xs ≡ ys → AreAlike g ms xs → AreAlike k ms ys
+pub way_same : (g k : Progress) (ms xs ys : List carrier.Message) → k ≡ g → xs ≡ ys → AreAlike g ms xs → AreAlike k ms ys
 way_same g k ms xs ys e f h = subst (λ (x : Progress). AreAlike x ms ys) (sym e) (subst (λ (l : List carrier.Message). AreAlike g ms l) f h)
 
 other_seen : (s : Side) (p : TwoEnds) (b : Between) (e : End) (h : Held) (c : Between) (n q : ℕ) (l : Line) → q ≢ n → (end_at s p).end.carrier.ended ≡ None → Others s p b e h c n →

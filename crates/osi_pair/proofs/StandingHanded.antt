@@ -1,0 +1,251 @@
+-- Octets of a side are handed over to the other: no step of the machine.
+use Rattle.std.proofs.Common.{◌≡◌, ℕ, ◌-◌, ◌≤◌, Bool, true, false, not, List, [], ◌++◌, length, take, drop, min, Option, Some, None, is_some, option_map, IfSome, refl, sym, ap, subst, ◌∙◌, arith}
+use Rattle.std.proofs.lemmas.List.{length-take, length-drop}
+use Rattle.osi_tpkt.specs.Held.{Held}
+use Rattle.osi_carrier.specs.Between.{Between, Both, AreBetween, IsOnTheWay, Same, side, with_side, last_of, units_from, lost_from, arriving, reach_of, within_reach, reach_less, under_way, handed_over}
+use Rattle.osi_carrier.specs.Course.{place_at, progress_of}
+use Rattle.osi_carrier.specs.Terms.{Terms, terms_of}
+use Rattle.osi_machine.specs.Machine.{Step}
+use Rattle.osi_machine.specs.Tables.{Seat, Line, Tables, run, start}
+use Rattle.osi_stack.specs.Calls.{carried}
+use Rattle.osi_stack.specs.State.{End, Holding}
+use Rattle.osi_pair.specs.Ends.{TwoEnds, end_at, with_end, reachable}
+use Rattle.osi_pair.specs.Reaching.{within, reach_after}
+use Rattle.osi_pair.specs.Sides.{other}
+use Rattle.osi_pair.specs.Standing.{is_caller, carriers_of, message_in, IsSeated, IsLine, HasLine, IsInOrder, terms_in, Stands, StandsAt}
+use Rattle.osi_pair.specs.declared.reach.Reach.{Reach}
+use Rattle.osi_pair.specs.declared.sides.Side.{Side}
+use Rattle.osi_pair.specs.declared.sides.Side.TheVariants.{Left, Right}
+use Rattle.osi_pair.proofs.StandingFinish.{terms_at}
+use Rattle.osi_pair.proofs.StandingTurned.{way_same}
+
+-- ---- what an end holds
+
+abbrev pub with_held : Side → Held → TwoEnds → TwoEnds
+with_held s h p = with_end s (record (end_at s p) { held = h }) p
+
+abbrev holding : Bool → List ℕ → Both → Both
+holding end octets both = with_side end (record (side end both) { held = octets }) both
+
+-- what an end holds that has ended is of no account
+held_between : (terms : Terms) (end : Bool) (both : Both) (b : Between) (octets : List ℕ) → AreBetween terms both b → ((side end both).state.ended ≡ None → octets ≡ (side end both).held) →
+    AreBetween terms (holding end octets both) b
+held_between terms true both b octets a same = record {
+  lives = lives_by;
+  joined = a.joined;
+  comes = comes_by;
+  unbroken = a.unbroken;
+  bound = bound_by;
+}
+  where
+    lives_by : (way : Bool) → (side way (holding true octets both)).state.ended ≡ None → (side way (holding true octets both)).state ≡ last_of way b
+    lives_by true e = a.lives true e
+    lives_by false e = a.lives false e
+
+    comes_by : (way : Bool) → (side (not way) (holding true octets both)).state.ended ≡ None →
+        IsOnTheWay (side (not way) (holding true octets both)).held (arriving way (holding true octets both)) (units_from way b) (lost_from way b)
+    comes_by true e = a.comes true e
+    comes_by false e = subst (λ (l : List ℕ). IsOnTheWay l (arriving false both) (units_from false b) (lost_from false b)) (sym (same e)) (a.comes false e)
+
+    bound_by : (way : Bool) → IfSome (reach_of way both.reach) (λ k. k ≤ length (side way (holding true octets both)).state.outgoing)
+    bound_by true = a.bound true
+    bound_by false = a.bound false
+held_between terms false both b octets a same = record {
+  lives = lives_by;
+  joined = a.joined;
+  comes = comes_by;
+  unbroken = a.unbroken;
+  bound = bound_by;
+}
+  where
+    lives_by : (way : Bool) → (side way (holding false octets both)).state.ended ≡ None → (side way (holding false octets both)).state ≡ last_of way b
+    lives_by true e = a.lives true e
+    lives_by false e = a.lives false e
+
+    comes_by : (way : Bool) → (side (not way) (holding false octets both)).state.ended ≡ None →
+        IsOnTheWay (side (not way) (holding false octets both)).held (arriving way (holding false octets both)) (units_from way b) (lost_from way b)
+    comes_by true e = subst (λ (l : List ℕ). IsOnTheWay l (arriving true both) (units_from true b) (lost_from true b)) (sym (same e)) (a.comes true e)
+    comes_by false e = a.comes false e
+
+    bound_by : (way : Bool) → IfSome (reach_of way both.reach) (λ k. k ≤ length (side way (holding false octets both)).state.outgoing)
+    bound_by true = a.bound true
+    bound_by false = a.bound false
+
+-- ---- octets are handed over
+
+-- so many of a side, and the other end holds this then
+abbrev pub handed : Side → ℕ → Held → TwoEnds → TwoEnds
+handed Left k h p = record p { left = record p.left { end = carried k p.left.end }; right = record p.right { held = h }; reach = reach_after Left k p.reach }
+handed Right k h p = record p { left = record p.left { held = h }; right = record p.right { end = carried k p.right.end }; reach = reach_after Right k p.reach }
+
+-- what it holds if it lasts
+abbrev pub HoldsMore : Side → ℕ → Held → TwoEnds → Type 0
+HoldsMore f k h p = (end_at (other f) p).end.carrier.ended ≡ None → h.octets ≡ (end_at (other f) p).held.octets ++ take k (end_at f p).end.carrier.outgoing
+
+abbrev pub CarriedLaw : Type 0
+CarriedLaw = (terms : Terms) (end : Bool) (both : Both) (b : Between) (k : ℕ) → AreBetween terms both b → k ≤ length (arriving end both) → Same terms both (handed_over end k both) b
+
+abbrev reach_in : Option Reach → Option (ℕ × ℕ)
+reach_in o = option_map (λ (r : Reach). (r.left, r.right)) o
+
+seat_sent : (n k : ℕ) (h : Holding) (seat : Seat) → IsSeated n h seat → IsSeated n (record h { end = carried k h.end }) seat
+seat_sent n k h seat i = record { transport = i.transport; live = i.live; kept = i.kept; over_now = i.over_now; awaiting = i.awaiting; octets = i.octets }
+
+seat_held : (n : ℕ) (h : Holding) (held : Held) (seat : Seat) → IsSeated n h seat → IsSeated n (record h { held = held }) seat
+seat_held n h held seat i = record { transport = i.transport; live = i.live; kept = i.kept; over_now = i.over_now; awaiting = i.awaiting; octets = i.octets }
+
+order_sent : (k : ℕ) (e : End) → IsInOrder e → IsInOrder (carried k e)
+order_sent k e o = record {
+  heard = o.heard;
+  sound = record {
+    orderly = record { rise = o.sound.orderly.rise; up_to = o.sound.orderly.up_to; given = o.sound.orderly.given; live = o.sound.orderly.live; over = o.sound.orderly.over };
+    apart = o.sound.apart;
+    known = o.sound.known;
+    links = o.sound.links;
+  };
+  rising = o.rising;
+  came = o.came;
+}
+
+-- ---- how far octets reach
+
+count_left : (o : Option Reach) (octets : List ℕ) → length (within_reach (reach_of true (reach_in o)) octets) ≡ within o Left (length octets)
+count_left None octets = refl
+count_left (Some r) octets = let l = length-take r.left octets in omega arith
+
+count_right : (o : Option Reach) (octets : List ℕ) → length (within_reach (reach_of false (reach_in o)) octets) ≡ within o Right (length octets)
+count_right None octets = refl
+count_right (Some r) octets = let l = length-take r.right octets in omega arith
+
+-- what arrives is what can be carried
+pub arriving_count : (f : Side) (p : TwoEnds) → length (arriving (is_caller f) (carriers_of p)) ≡ reachable f p
+arriving_count Left p = count_left p.reach p.left.end.carrier.outgoing
+arriving_count Right p = count_right p.reach p.right.end.carrier.outgoing
+
+less_left : (k : ℕ) (o : Option Reach) → reach_less true k (reach_in o) ≡ reach_in (reach_after Left k o)
+less_left k None = refl
+less_left k (Some r) = refl
+
+less_right : (k : ℕ) (o : Option Reach) → reach_less false k (reach_in o) ≡ reach_in (reach_after Right k o)
+less_right k None = refl
+less_right k (Some r) = refl
+
+still_reach : (f : Side) (k : ℕ) (o : Option Reach) → is_some (reach_after f k o) ≡ is_some o
+still_reach f k None = refl
+still_reach f k (Some r) = refl
+
+-- ---- two ends
+
+pub record StandsHanded (p : TwoEnds) (t : Tables) : Type 0 where
+  pub now : Between
+  pub stands : Stands p now t
+
+handed_left : CarriedLaw → (p : TwoEnds) (b : Between) (t : Tables) (k : ℕ) (h : Held) → Stands p b t → k ≤ length (arriving true (carriers_of p)) → HoldsMore Left k h p →
+    StandsHanded (handed Left k h p) t
+handed_left law p b t k h old le more =
+    let same = law (terms_at p) true (carriers_of p) b k old.between le in
+    let new = handed Left k h p in
+    let reached : Both = record (handed_over true k (carriers_of p)) { reach = reach_in (reach_after Left k p.reach) } in
+    let there : AreBetween (terms_at p) reached same.now =
+    subst (λ (r : Option (ℕ × ℕ)). AreBetween (terms_at p) (record (handed_over true k (carriers_of p)) { reach = r }) same.now) (less_left k p.reach) same.between in
+    let going : (n : ℕ) → under_way true n (carriers_of p) b ≡ under_way true n (carriers_of new) same.now =
+    λ n. same.under true n ∙ ap (λ (r : Option (ℕ × ℕ)). under_way true n (record (handed_over true k (carriers_of p)) { reach = r }) same.now) (less_left k p.reach) in
+    let coming : (n : ℕ) → under_way false n (carriers_of p) b ≡ under_way false n (carriers_of new) same.now =
+    λ n. same.under false n ∙ ap (λ (r : Option (ℕ × ℕ)). under_way false n (record (handed_over true k (carriers_of p)) { reach = r }) same.now) (less_left k p.reach) in
+    record {
+      now = same.now;
+      stands = record {
+        between = held_between (terms_at p) false reached same.now h.octets there more;
+        terms = old.terms;
+        broken = old.broken ∙ sym (still_reach Left k p.reach);
+        caller = old.caller;
+        left_end = old.left_end;
+        right_end = old.right_end;
+        known = old.known;
+        journal = old.journal;
+        given = old.given;
+        given_then = same.given true ∙ old.given_then;
+        class_then = same.class true ∙ old.class_then;
+        given_back = old.given_back;
+        lines = λ n a c.
+            let was = old.lines n a c in
+            record {
+              line = was.line;
+              found = was.found;
+              is = record {
+                left = seat_sent n k p.left was.line.own was.is.left;
+                right = seat_held n p.right h was.line.peer was.is.right;
+                rightward = λ e. way_same _ _ _ _ _ (ap progress_of (same.stays false n)) (going n) (was.is.rightward e);
+                leftward = λ e. way_same _ _ _ _ _ (ap progress_of (same.stays true n)) (coming n) (was.is.leftward e);
+              };
+            };
+        over_left = old.over_left;
+        over_right = old.over_right;
+        lost_right = old.lost_right;
+        order_left = λ e. order_sent k p.left.end (old.order_left e);
+        order_right = old.order_right;
+        quiet_left = old.quiet_left;
+        quiet_right = old.quiet_right;
+      };
+    }
+
+handed_right : CarriedLaw → (p : TwoEnds) (b : Between) (t : Tables) (k : ℕ) (h : Held) → Stands p b t → k ≤ length (arriving false (carriers_of p)) → HoldsMore Right k h p →
+    StandsHanded (handed Right k h p) t
+handed_right law p b t k h old le more =
+    let same = law (terms_at p) false (carriers_of p) b k old.between le in
+    let new = handed Right k h p in
+    let reached : Both = record (handed_over false k (carriers_of p)) { reach = reach_in (reach_after Right k p.reach) } in
+    let there : AreBetween (terms_at p) reached same.now =
+    subst (λ (r : Option (ℕ × ℕ)). AreBetween (terms_at p) (record (handed_over false k (carriers_of p)) { reach = r }) same.now) (less_right k p.reach) same.between in
+    let going : (n : ℕ) → under_way true n (carriers_of p) b ≡ under_way true n (carriers_of new) same.now =
+    λ n. same.under true n ∙ ap (λ (r : Option (ℕ × ℕ)). under_way true n (record (handed_over false k (carriers_of p)) { reach = r }) same.now) (less_right k p.reach) in
+    let coming : (n : ℕ) → under_way false n (carriers_of p) b ≡ under_way false n (carriers_of new) same.now =
+    λ n. same.under false n ∙ ap (λ (r : Option (ℕ × ℕ)). under_way false n (record (handed_over false k (carriers_of p)) { reach = r }) same.now) (less_right k p.reach) in
+    record {
+      now = same.now;
+      stands = record {
+        between = held_between (terms_at p) true reached same.now h.octets there more;
+        terms = old.terms;
+        broken = old.broken ∙ sym (still_reach Right k p.reach);
+        caller = old.caller;
+        left_end = old.left_end;
+        right_end = old.right_end;
+        known = old.known;
+        journal = old.journal;
+        given = old.given;
+        given_then = same.given true ∙ old.given_then;
+        class_then = same.class true ∙ old.class_then;
+        given_back = old.given_back;
+        lines = λ n a c.
+            let was = old.lines n a c in
+            record {
+              line = was.line;
+              found = was.found;
+              is = record {
+                left = seat_held n p.left h was.line.own was.is.left;
+                right = seat_sent n k p.right was.line.peer was.is.right;
+                rightward = λ e. way_same _ _ _ _ _ (ap progress_of (same.stays false n)) (going n) (was.is.rightward e);
+                leftward = λ e. way_same _ _ _ _ _ (ap progress_of (same.stays true n)) (coming n) (was.is.leftward e);
+              };
+            };
+        over_left = old.over_left;
+        over_right = old.over_right;
+        lost_right = old.lost_right;
+        order_left = old.order_left;
+        order_right = λ e. order_sent k p.right.end (old.order_right e);
+        quiet_left = old.quiet_left;
+        quiet_right = old.quiet_right;
+      };
+    }
+
+-- ---- at a list of steps
+
+pub handed_at : CarriedLaw → (f : Side) (p : TwoEnds) (steps : List Step) (k : ℕ) (h : Held) → StandsAt p steps → k ≤ reachable f p → HoldsMore f k h p → StandsAt (handed f k h p) steps
+handed_at law Left p steps k h at le more =
+    let few = arriving_count Left p in
+    let x = handed_left law p at.now (run (start (terms_in (terms_at p))) steps) k h at.stands (omega arith) more in
+    record { numbered = at.numbered; now = x.now; stands = x.stands }
+handed_at law Right p steps k h at le more =
+    let few = arriving_count Right p in
+    let x = handed_right law p at.now (run (start (terms_in (terms_at p))) steps) k h at.stands (omega arith) more in
+    record { numbered = at.numbered; now = x.now; stands = x.stands }
