@@ -23,6 +23,7 @@ pub mod StandingHanded
 pub mod Growing
 pub mod StandingBreak
 pub mod StandingLost
+pub mod StandingEnded
 pub mod StandingTold
 pub mod StandingSides
 pub mod StandingActs

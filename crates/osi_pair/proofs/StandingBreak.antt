@@ -78,7 +78,7 @@ still_seated : (n : ℕ) (h : Holding) (seat : Seat) (ms : List Message) → IsS
 still_seated n h seat ms s = record { transport = s.transport; live = s.live; kept = s.kept; over_now = s.over_now; awaiting = s.awaiting; octets = s.octets }
 
 -- what is left of what is under way
-left_over : (c d : Progress) (ms : List Message) (before after gone : List carrier.Message) → before ≡ after ++ gone → d ≡ c → AreAlike c (map message_in ms) before
+pub left_over : (c d : Progress) (ms : List Message) (before after gone : List carrier.Message) → before ≡ after ++ gone → d ≡ c → AreAlike c (map message_in ms) before
     → AreAlike d (map message_in (take (length after) ms)) after
 left_over c d ms before after gone e q h =
     subst (λ (x : Progress). AreAlike x (map message_in (take (length after) ms)) after) (sym q)

@@ -10,8 +10,6 @@ use Rattle.osi_carrier.specs.Course.{never, was_given, place_at}
 use Rattle.osi_carrier.specs.Orderly.{RiseFrom, AreUpTo}
 use Rattle.osi_carrier.specs.Rows.{Rows, value_at, without}
 use Rattle.osi_carrier.specs.State.{Connection}
-use Rattle.osi_carrier.specs.State as carriers
-use Rattle.osi_carrier.specs.declared.ends.EndReason.TheVariants.{Broken}
 use Rattle.osi_carrier.proofs.Apart.{absent, beyond}
 use Rattle.osi_carrier.proofs.AtReferences.{without_other}
 use Rattle.osi_machine.specs.Machine.{connection_at, shown_at}
@@ -29,7 +27,7 @@ use Rattle.osi_stack.specs.State.{Holding, session_in, session_at}
 use Rattle.osi_stack.specs.State as stack
 use Rattle.osi_stack.proofs.Lifting.{both}
 use Rattle.osi_stack.proofs.Moves.{are_lost}
-use Rattle.osi_pair.specs.Entries.{Entry, shows, ends}
+use Rattle.osi_pair.specs.Entries.{Entry}
 use Rattle.osi_pair.specs.Standing.{entry_in, side_in, is_parting, transport_in, IsSeated, IsInOrder}
 use Rattle.osi_pair.specs.Telling.{waiting_in, quieted, shown_entries}
 use Rattle.osi_pair.specs.declared.sides.Side.{Side}
@@ -315,9 +313,6 @@ pub record IsTold (old : Holding) (lines : Rows stack.Line) (first : List (ℕ �
   pub shown : waiting_in (all_lost old.end.lines) ≡ first ++ waiting_in lines
   pub same : quieted lines ≡ quieted (all_lost old.end.lines)
   pub most : (waiting_in lines ≡ []) ⊎ (length first ≡ 81)
-
-abbrev pub told_end : Holding → Rows stack.Line → Holding
-told_end h lines = record h { end = record { carrier = carriers.ends Broken h.end.carrier; lines = lines } }
 
 abbrev pub AllSeated : Side → ℕ → Holding → Tables → Type 0
 AllSeated who given h t = (n : ℕ) → 0 < n → n ≤ length t.lines → (l : Line) × (connection_at n t.lines ≡ Some l) × IsSeated n h (seen_from (side_in who) l).own
