@@ -17,6 +17,9 @@ pub mod StandingMoves
 pub mod StandingMoved
 pub mod StandingBegins
 pub mod StandingShown
+pub mod StandingActed
+pub mod StandingSends
+pub mod StandingCloses
 pub mod StandingPacket
 pub mod StandingTaken
 pub mod StandingHanded

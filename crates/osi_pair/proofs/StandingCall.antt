@@ -164,7 +164,7 @@ pub record SentOn (r : ℕ) (c new : Carrier) : Type 0 where
   pub link : Link
   pub live : new.live ≡ put r (linked peer link) c.live
 
-sent_is : (r : ℕ) (tsdu : List ℕ) (c : Carrier) (peer : ℕ) (link : Link) → open_link r c ≡ Some (peer, link) → SentOn r c (sent r tsdu c)
+pub sent_is : (r : ℕ) (tsdu : List ℕ) (c : Carrier) (peer : ℕ) (link : Link) → open_link r c ≡ Some (peer, link) → SentOn r c (sent r tsdu c)
 sent_is r tsdu c peer link is =
     subst (λ (o : Option (ℕ × Link)). SentOn r c (sent_on r tsdu o c)) (sym is)
     (record { is_caller = refl; local = refl; class = refl; given = refl; ended = refl; peer = peer; link = _; live = refl })

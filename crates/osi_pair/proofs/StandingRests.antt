@@ -140,7 +140,7 @@ pub put_unless : (broken : Bool) (ms channel : List Message) → put broken ms c
 put_unless true ms channel = sym (append-nil channel)
 put_unless false ms channel = refl
 
-unless_same : (broken whole : Bool) (ms : List Message) (ys : Sent) → broken ≡ whole → map message_in ms ≡ ys → map message_in (unless_broken broken ms) ≡ (if whole then [] else ys)
+pub unless_same : (broken whole : Bool) (ms : List Message) (ys : Sent) → broken ≡ whole → map message_in ms ≡ ys → map message_in (unless_broken broken ms) ≡ (if whole then [] else ys)
 unless_same true true ms ys e h = refl
 unless_same false false ms ys e h = h
 unless_same true false ms ys e h = cc

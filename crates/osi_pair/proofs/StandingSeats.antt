@@ -52,7 +52,7 @@ lives_value (Some asked) = refl
 lives_value (Some (linked peer link)) = refl
 lives_value (Some (closing peer)) = refl
 
-place_by : (n : ℕ) (s : State) (b : Bool) → nat_lt s.given n ≡ b → place_at n s ≡ (if b then never else was_given (value_at n s.live))
+pub place_by : (n : ℕ) (s : State) (b : Bool) → nat_lt s.given n ≡ b → place_at n s ≡ (if b then never else was_given (value_at n s.live))
 place_by n s b e = ap (λ (c : Bool). if◌then◌else◌ {A = Place} c never (was_given (value_at n s.live))) e
 
 live_by : (n : ℕ) (s : State) (b : Bool) → nat_lt s.given n ≡ b → lives_in (progress_of (place_at n s)) ≡ true → is_some (value_at n s.live) ≡ true

@@ -1,0 +1,279 @@
+-- The carrier of an end acts for a connection that is open there: nothing is taken, and its session makes no
+-- move. How two ends stand then.
+use Rattle.std.proofs.Common.{◌≡◌, ◌≢◌, ℕ, ◌<◌, ◌≤◌, Bool, true, false, nat_lt, if◌then◌else◌, List, [], ◌++◌, length, map, Option, Some, None, option_map, refl, sym, ap, subst, ◌∙◌, arith}
+use Rattle.std.proofs.lemmas.Bool.Decides.{nat_tests}
+use Rattle.std.proofs.lemmas.List.{append-nil}
+use Rattle.osi_carrier.specs.Between.{Between, AreBetween, Carries, last_of, under_way, put_in}
+use Rattle.osi_carrier.specs.Course.{Place, never, was_given, place_at, connection_in, progress_of}
+use Rattle.osi_carrier.specs.Messages.{AreLike}
+use Rattle.osi_carrier.specs.Messages as carrier
+use Rattle.osi_carrier.specs.Orderly.{IsOrderly}
+use Rattle.osi_carrier.specs.Progress.{Progress, in_use, progress_in, leaves_use}
+use Rattle.osi_carrier.specs.Rows.{value_at, put}
+use Rattle.osi_carrier.specs.State.{Connection, State}
+use Rattle.osi_carrier.proofs.Apart.{beyond, put_here}
+use Rattle.osi_carrier.proofs.AtReferences.{put_other}
+use Rattle.osi_machine.specs.Machine.{connection_at}
+use Rattle.osi_machine.specs.Tables.{Line, Tables, seen_from, stays}
+use Rattle.osi_machine.specs.Worlds.{Message}
+use Rattle.osi_machine.proofs.Places.{with_same, with_other, with_count, none_there}
+use Rattle.osi_stack.specs.Hearing.{with_carrier}
+use Rattle.osi_stack.specs.State.{End, Holding}
+use Rattle.osi_pair.specs.Ends.{TwoEnds, end_at}
+use Rattle.osi_pair.specs.Entries.{Entry}
+use Rattle.osi_pair.specs.Sides.{other}
+use Rattle.osi_pair.specs.Standing.{side_in, is_caller, class_in, carriers_of, message_in, AreAlike, IsSeated, IsInOrder, Stands}
+use Rattle.osi_pair.specs.declared.sides.Side.{Side}
+use Rattle.osi_pair.specs.declared.sides.Side.TheVariants.{Left, Right}
+use Rattle.osi_pair.proofs.StandingActs.{StandsOn, there}
+use Rattle.osi_pair.proofs.StandingFinish.{terms_at, order_of}
+use Rattle.osi_pair.proofs.StandingSeats.{transport_by, HasSession, place_by, session_of_seat, seat_of_session}
+use Rattle.osi_pair.proofs.StandingTurned.{IsSeen, seen, seen_twice, with_holding, holding_here, holding_there, Others, LinesAfter, Turned, turned_pair, turned_stands}
+use Rattle.osi_pair.proofs.StandingWays.{back_stays, shuts}
+
+-- ---- the carrier
+
+-- Its connection is this far now; all other connections are as they were.
+pub record ActsOn (n : ℕ) (g : Progress) (old new : State) : Type 0 where
+  pub is_caller : new.is_caller ≡ old.is_caller
+  pub local : new.local ≡ old.local
+  pub class : new.class ≡ old.class
+  pub given : new.given ≡ old.given
+  pub lasts : new.ended ≡ None
+  pub connection : Connection
+  pub live : new.live ≡ put n connection old.live
+  pub progress : progress_in (Some connection) ≡ g
+
+live_place_by : (n : ℕ) (s : State) (x : Connection) (b : Bool) → nat_lt s.given n ≡ b → IsOrderly s → value_at n s.live ≡ Some x → place_at n s ≡ was_given (Some x)
+live_place_by n s x true e o h =
+    let above : s.given < n = grind (arith, nat_tests) in
+    let none = beyond n s.given s.live o.up_to above in
+    let no_way : None ≡ Some x = sym none ∙ h in
+    cc
+live_place_by n s x false e o h = place_by n s false e ∙ ap was_given h
+
+-- where a row is there
+pub live_place : (n : ℕ) (s : State) (x : Connection) → IsOrderly s → value_at n s.live ≡ Some x → place_at n s ≡ was_given (Some x)
+live_place n s x o h = live_place_by n s x (nat_lt s.given n) refl o h
+
+-- ---- the end
+
+abbrev pub end_with : Side → State → TwoEnds → End
+end_with s c p = with_carrier c (end_at s p).end
+
+abbrev pub pair_with : Side → State → TwoEnds → TwoEnds
+pair_with s c p = with_holding s (end_with s c p) (end_at s p).held p
+
+-- what is under way for the connection, seen from the end that acted, and for all others
+pub record WaysAt (s : Side) (n : ℕ) (p new : TwoEnds) (b c : Between) (put : List carrier.Message) : Type 0 where
+  pub stays : List carrier.Message
+  pub gone : List carrier.Message
+  pub came : AreLike (connection_in (place_at n (last_of (is_caller s) c))) (under_way (is_caller (other s)) n (carriers_of p) b) (under_way (is_caller (other s)) n (carriers_of new) c)
+  pub before : AreLike (connection_in (place_at n (last_of (is_caller (other s)) b))) (under_way (is_caller s) n (carriers_of p) b) (stays ++ gone)
+  pub after : AreLike (connection_in (place_at n (last_of (is_caller (other s)) b))) (under_way (is_caller s) n (carriers_of new) c) (stays ++ put_in (carriers_of p) put)
+  pub keeps : leaves_use (progress_of (place_at n (last_of (is_caller s) b))) (progress_of (place_at n (last_of (is_caller s) c))) ≡ false → gone ≡ []
+  pub others : (q : ℕ) → q ≢ n → (from : Bool) → under_way from q (carriers_of p) b ≡ under_way from q (carriers_of new) c
+  pub other_places : (q : ℕ) → q ≢ n → place_at q (last_of (is_caller s) c) ≡ place_at q (last_of (is_caller s) b)
+  pub there : last_of (is_caller (other s)) c ≡ last_of (is_caller (other s)) b
+
+pub ways_at : (s : Side) (n : ℕ) (p new : TwoEnds) (b c : Between) (put : List carrier.Message) → Carries (terms_at p) (is_caller s) n (carriers_of p) (carriers_of new) b c [] put → WaysAt s n p new b c put
+ways_at Left n p new b c put k = record {
+  stays = k.stays;
+  gone = k.gone;
+  came = subst (λ (l : List carrier.Message). AreLike (connection_in (place_at n c.caller)) (under_way false n (carriers_of p) b) (l ++ under_way false n (carriers_of new) c)) k.brings.is k.came;
+  before = k.before;
+  after = k.after;
+  keeps = k.keeps;
+  others = k.others;
+  other_places = k.other_places;
+  there = k.there;
+}
+ways_at Right n p new b c put k = record {
+  stays = k.stays;
+  gone = k.gone;
+  came = subst (λ (l : List carrier.Message). AreLike (connection_in (place_at n c.called)) (under_way true n (carriers_of p) b) (l ++ under_way true n (carriers_of new) c)) k.brings.is k.came;
+  before = k.before;
+  after = k.after;
+  keeps = k.keeps;
+  others = k.others;
+  other_places = k.other_places;
+  there = k.there;
+}
+
+-- The end of a side has this carrier: what is known of it, where this was put.
+pub record CarrierActs (s : Side) (p : TwoEnds) (b : Between) (n : ℕ) (g : Progress) (c : State) (put : List carrier.Message) : Type 0 where
+  pub on : ActsOn n g (end_at s p).end.carrier c
+  pub was : Connection
+  pub at : value_at n (end_at s p).end.carrier.live ≡ Some was
+  pub used : progress_in (Some was) ≡ in_use
+  pub now : Between
+  pub between : AreBetween (terms_at p) (carriers_of (pair_with s c p)) now
+  pub ways : WaysAt s n p (pair_with s c p) b now put
+
+last_was : (s : Side) (p : TwoEnds) (b : Between) (t : Tables) → Stands p b t → (end_at s p).end.carrier.ended ≡ None → last_of (is_caller s) b ≡ (end_at s p).end.carrier
+last_was Left p b t old alive = sym (old.between.lives true alive)
+last_was Right p b t old alive = sym (old.between.lives false alive)
+
+last_now : (s : Side) (p : TwoEnds) (b : Between) (n : ℕ) (g : Progress) (c : State) (put : List carrier.Message) → (a : CarrierActs s p b n g c put) → last_of (is_caller s) a.now ≡ c
+last_now Left p b n g c put a = sym (a.between.lives true a.on.lasts)
+last_now Right p b n g c put a = sym (a.between.lives false a.on.lasts)
+
+-- how far the connection was, and is
+pub stood_in_use : (s : Side) (p : TwoEnds) (b : Between) (t : Tables) (n : ℕ) (g : Progress) (c : State) (put : List carrier.Message) → Stands p b t → (end_at s p).end.carrier.ended ≡ None → CarrierActs s p b n g c put →
+    progress_of (place_at n (last_of (is_caller s) b)) ≡ in_use
+stood_in_use s p b t n g c put old alive a =
+    ap (λ (x : State). progress_of (place_at n x)) (last_was s p b t old alive) ∙ ap progress_of (live_place n (end_at s p).end.carrier a.was (order_of s p b t old alive).sound.orderly a.at) ∙ a.used
+
+here_now : (s : Side) (p : TwoEnds) (b : Between) (n : ℕ) (g : Progress) (c : State) (put : List carrier.Message) → CarrierActs s p b n g c put → IsInOrder (end_with s c p) → progress_of (place_at n c) ≡ g
+here_now s p b n g c ms a order =
+    ap progress_of (live_place n c a.on.connection order.sound.orderly (ap (value_at n) a.on.live ∙ put_here n a.on.connection a.was (end_at s p).end.carrier.live a.at)) ∙ a.on.progress
+
+pub stands_now : (s : Side) (p : TwoEnds) (b : Between) (n : ℕ) (g : Progress) (c : State) (put : List carrier.Message) → (a : CarrierActs s p b n g c put) → IsInOrder (end_with s c p) →
+    progress_of (place_at n (last_of (is_caller s) a.now)) ≡ g
+stands_now s p b n g c put a order = ap (λ (x : State). progress_of (place_at n x)) (last_now s p b n g c put a) ∙ here_now s p b n g c put a order
+
+-- ---- all other connections
+
+other_place : (q n : ℕ) (g : Progress) (old new : State) → ActsOn n g old new → q ≢ n → place_at q new ≡ place_at q old
+other_place q n g old new a apart = by_rows (nat_lt old.given q) refl
+  where
+    same : nat_lt new.given q ≡ nat_lt old.given q
+    same = ap (λ (k : ℕ). nat_lt k q) a.given
+
+    by_rows : (b : Bool) → nat_lt old.given q ≡ b → place_at q new ≡ place_at q old
+    by_rows b e = place_by q new b (same ∙ e) ∙ ap (λ (o : Option Connection). if◌then◌else◌ {A = Place} b never (was_given o)) (ap (value_at q) a.live ∙ put_other q n a.connection old.live apart) ∙ sym (place_by q old b e)
+
+others_stay : (s : Side) (p : TwoEnds) (b : Between) (n : ℕ) (g : Progress) (c : State) (put : List carrier.Message) → (a : CarrierActs s p b n g c put) → Others s p b (end_with s c p) (end_at s p).held a.now n
+others_stay s p b n g c ms a = record {
+  places = λ q apart. other_place q n g (end_at s p).end.carrier c a.on apart;
+  lives = λ q apart. ap (value_at q) a.on.live ∙ put_other q n a.on.connection (end_at s p).end.carrier.live apart;
+  sessions = λ q apart lives. refl;
+  kept = λ q apart x h. h;
+  ways = a.ways.others;
+  last = a.ways.other_places;
+  there = λ q. ap (place_at q) a.ways.there;
+}
+
+-- ---- the connection
+
+-- it is this far, and this is under way from it
+abbrev pub acted_line : Progress → List Message → Line → Line
+acted_line g channel l = record {
+  own = record { transport = transport_by g; session = l.own.session; channel = channel };
+  peer = l.peer;
+}
+
+-- what is under way from the end that acted, while the other lasts
+abbrev pub OutNow : Side → ℕ → TwoEnds → Between → TwoEnds → Between → List Message → Type 0
+OutNow s n p b new c channel = (end_at (other s) p).end.carrier.ended ≡ None →
+    AreAlike (progress_of (place_at n (last_of (is_caller (other s)) b))) (map message_in channel) (under_way (is_caller s) n (carriers_of new) c)
+
+in_use_lasts : (g : Progress) → g ≡ in_use → shuts g ≡ true → (h : Bool) → h ≡ true
+in_use_lasts g e f h = let no_way : false ≡ true = sym (ap shuts e) ∙ f in cc
+
+seen_acts : (s : Side) (p : TwoEnds) (b : Between) (t : Tables) (n : ℕ) (g : Progress) (c : State) (put : List carrier.Message) (channel : List Message) (l : Line) → Stands p b t → (end_at s p).end.carrier.ended ≡ None →
+    (a : CarrierActs s p b n g c put) → IsInOrder (end_with s c p) → IsSeen s n p b l → HasSession n (end_at s p).end.lines g l.own.session → OutNow s n p b (pair_with s c p) a.now channel →
+    IsSeen s n (pair_with s c p) a.now (acted_line g channel l)
+seen_acts s p b t n g c put channel l old alive a order i x out =
+    let e = end_with s c p in
+    let h = (end_at s p).held in
+    let stood = stood_in_use s p b t n g c put old alive a in
+    record {
+      here = subst (λ (y : Holding). IsSeated n y (acted_line g channel l).own) (sym (holding_here s e h p))
+          (seat_of_session n e h g l.own.session channel order.sound.orderly (here_now s p b n g c put a order) x);
+      there = subst (λ (y : Holding). IsSeated n y l.peer) (sym (holding_there s e h p)) i.there;
+      out = λ lives. subst (λ (y : State). AreAlike (progress_of (place_at n y)) (map message_in channel) (under_way (is_caller s) n (carriers_of (pair_with s c p)) a.now)) (sym a.ways.there)
+          (out (ap (λ (y : Holding). y.end.carrier.ended) (sym (holding_there s e h p)) ∙ lives));
+      back = λ lives. back_stays (progress_of (place_at n (last_of (is_caller s) b))) (place_at n (last_of (is_caller s) a.now)) (map message_in l.peer.channel)
+          (under_way (is_caller (other s)) n (carriers_of p) b) (under_way (is_caller (other s)) n (carriers_of (pair_with s c p)) a.now)
+          (λ f. in_use_lasts (progress_of (place_at n (last_of (is_caller s) b))) stood f (shuts (progress_of (place_at n (last_of (is_caller s) a.now))))) (i.back alive) a.ways.came;
+    }
+
+-- ---- two ends
+
+lines_stay : (s : Side) (n : ℕ) (l line : Line) (t : Tables) → connection_at n t.lines ≡ Some (seen_from (side_in s) l) → LinesAfter s n line t (stays t (side_in s) n line)
+lines_stay s n l line t found = record {
+  count = with_count n t.lines (seen_from (side_in s) line);
+  found = with_same n t.lines (seen_from (side_in s) l) (seen_from (side_in s) line) found;
+  others = λ q apart. with_other q n t.lines (seen_from (side_in s) line) apart;
+}
+
+turned_acts : (s : Side) (p : TwoEnds) (b : Between) (t : Tables) (n : ℕ) (g : Progress) (c : State) (put : List carrier.Message) (l line : Line) → Stands p b t →
+    (a : CarrierActs s p b n g c put) → IsInOrder (end_with s c p) → connection_at n t.lines ≡ Some (seen_from (side_in s) l) → IsSeen s n (pair_with s c p) a.now line →
+    Turned s p b t (end_with s c p) (end_at s p).held a.now (stays t (side_in s) n line) n []
+turned_acts Left p b t n g c put l line old a order found i =
+    let last = last_now Left p b n g c put a in
+    record {
+      between = a.between;
+      lasts = a.on.lasts;
+      local = a.on.local;
+      is_caller = a.on.is_caller;
+      known = old.known ∙ ap (option_map class_in) (sym a.on.class);
+      given = a.on.given;
+      given_then = ap (λ (x : State). x.given) last;
+      class_then = ap (λ (x : State). x.class) last;
+      given_back = old.given_back;
+      terms = refl;
+      broken = refl;
+      left_end = refl;
+      right_end = refl;
+      journal = sym (append-nil t.journal);
+      line = line;
+      lines = lines_stay Left n l line t found;
+      is = i;
+      others = others_stay Left p b n g c put a;
+      order = order;
+      quiet = old.quiet_left;
+    }
+turned_acts Right p b t n g c put l line old a order found i =
+    record {
+      between = a.between;
+      lasts = a.on.lasts;
+      local = a.on.local;
+      is_caller = a.on.is_caller;
+      known = old.known;
+      given = refl;
+      given_then = ap (λ (x : State). x.given) a.ways.there ∙ old.given_then;
+      class_then = ap (λ (x : State). x.class) a.ways.there ∙ old.class_then;
+      given_back = subst (λ (k : ℕ). k ≤ length t.lines) (sym a.on.given) old.given_back;
+      terms = refl;
+      broken = refl;
+      left_end = refl;
+      right_end = refl;
+      journal = sym (append-nil t.journal);
+      line = line;
+      lines = lines_stay Right n l line t found;
+      is = i;
+      others = others_stay Right p b n g c put a;
+      order = order;
+      quiet = old.quiet_right;
+    }
+
+nothing_noted : (s : Side) (e : End) (p : TwoEnds) (n : ℕ) → turned_pair s e (end_at s p).held n [] p ≡ with_holding s e (end_at s p).held p
+nothing_noted Left e p n = ap (λ (j : List Entry). record (with_holding Left e p.left.held p) { journal = j }) (append-nil p.journal)
+nothing_noted Right e p n = ap (λ (j : List Entry). record (with_holding Right e p.right.held p) { journal = j }) (append-nil p.journal)
+
+-- the line that stands at a reference, seen from a side
+pub seen_at : (s : Side) (p : TwoEnds) (b : Between) (t : Tables) (n : ℕ) (l : Line) → Stands p b t → connection_at n t.lines ≡ Some (seen_from (side_in s) l) → IsSeen s n p b l
+seen_at s p b t n l old found =
+    let h = there none_there n p b t (seen_from (side_in s) l) old found in
+    subst (λ (x : Line). IsSeen s n p b x) (seen_twice (side_in s) l) (seen s n p b (seen_from (side_in s) l) h.is)
+
+-- the session of an open connection
+pub session_in_use : (s : Side) (p : TwoEnds) (b : Between) (t : Tables) (n : ℕ) (x : Connection) (l : Line) → Stands p b t → (end_at s p).end.carrier.ended ≡ None → value_at n (end_at s p).end.carrier.live ≡ Some x →
+    progress_in (Some x) ≡ in_use → IsSeen s n p b l → HasSession n (end_at s p).end.lines in_use l.own.session
+session_in_use s p b t n x l old alive at used i =
+    session_of_seat n (end_at s p) l.own in_use (ap progress_of (live_place n (end_at s p).end.carrier x (order_of s p b t old alive).sound.orderly at) ∙ used) i.here
+
+pub acted_stands : (s : Side) (p : TwoEnds) (b : Between) (t : Tables) (n : ℕ) (g : Progress) (c : State) (put : List carrier.Message) (channel : List Message) (l : Line) → Stands p b t →
+    (end_at s p).end.carrier.ended ≡ None → (a : CarrierActs s p b n g c put) → IsInOrder (end_with s c p) → connection_at n t.lines ≡ Some (seen_from (side_in s) l) →
+    HasSession n (end_at s p).end.lines g l.own.session → OutNow s n p b (pair_with s c p) a.now channel →
+    StandsOn (pair_with s c p) (stays t (side_in s) n (acted_line g channel l))
+acted_stands s p b t n g c put channel l old alive a order found x out =
+    let line = acted_line g channel l in
+    let i = seen_acts s p b t n g c put channel l old alive a order (seen_at s p b t n l old found) x out in
+    record {
+      now = a.now;
+      stands = subst (λ (q : TwoEnds). Stands q a.now (stays t (side_in s) n line)) (nothing_noted s (end_with s c p) p n)
+          (turned_stands s p b t (end_with s c p) (end_at s p).held a.now (stays t (side_in s) n line) n [] old alive (turned_acts s p b t n g c put l line old a order found i));
+    }

@@ -1,0 +1,125 @@
+-- An end closes an open connection of class 2: the tables put that, and of what was under way from it they keep
+-- what was written.
+use Rattle.std.proofs.Common.{◌≡◌, ℕ, Bool, true, false, List, [], ◌∷◌, length, map, take, Option, Some, None, is_some, refl, sym, subst, arith}
+use Rattle.osi_class.specs.Link.{Standing as Link}
+use Rattle.osi_class.specs.declared.terms.Class.{Class}
+use Rattle.osi_class.specs.declared.terms.Class.TheVariants.{Zero, Two}
+use Rattle.osi_carrier.specs.Between.{Between, AreBetween, Acted, last_of, under_way, put_in}
+use Rattle.osi_carrier.specs.Calls.{closes, closed_on, closed_with}
+use Rattle.osi_carrier.specs.Course.{place_at, progress_of}
+use Rattle.osi_carrier.specs.Messages as carrier
+use Rattle.osi_carrier.specs.Progress.{in_use, shutting}
+use Rattle.osi_carrier.specs.Rows.{value_at}
+use Rattle.osi_carrier.specs.State.{State, linked, closing}
+use Rattle.osi_carrier.specs.Terms.{Terms, by_two}
+use Rattle.osi_machine.specs.Machine.{connection_at}
+use Rattle.osi_machine.specs.Tables.{Line, Tables, seen_from, stays, closed}
+use Rattle.osi_machine.specs.Worlds.{Message, bye, put}
+use Rattle.osi_session.specs.Phases.{is_ended}
+use Rattle.osi_session.specs.Moves.{Standing}
+use Rattle.osi_stack.specs.State.{Line as StackLine}
+use Rattle.osi_carrier.specs.Rows.{Rows}
+use Rattle.osi_pair.specs.Ends.{TwoEnds, end_at}
+use Rattle.osi_pair.specs.Sides.{other}
+use Rattle.osi_pair.specs.Standing.{side_in, is_caller, carriers_of, message_in, AreAlike, IsInOrder, Stands}
+use Rattle.osi_pair.specs.declared.sides.Side.{Side}
+use Rattle.osi_pair.specs.declared.sides.Side.TheVariants.{Left, Right}
+use Rattle.osi_pair.proofs.StandingActed.{ActsOn, CarrierActs, end_with, pair_with, ways_at, acted_stands, seen_at, session_in_use}
+use Rattle.osi_pair.proofs.StandingActs.{StandsOn}
+use Rattle.osi_pair.proofs.StandingArrived.{CarrierLaws}
+use Rattle.osi_pair.proofs.StandingFinish.{terms_at}
+use Rattle.osi_pair.proofs.StandingRests.{unless_broken, put_unless, unless_same}
+use Rattle.osi_pair.proofs.StandingResting.{broken_is}
+use Rattle.osi_pair.proofs.StandingSeats.{HasSession}
+use Rattle.osi_pair.proofs.StandingSends.{open_is}
+use Rattle.osi_pair.proofs.StandingTurned.{IsSeen}
+use Rattle.osi_pair.proofs.StandingWays.{out_cuts}
+
+-- ---- the carrier
+
+-- one that lasts behind it is not of class 0
+closes_acts : (n : ℕ) (c : State) (peer reason : ℕ) (link : Link) (class : Option Class) → (closes n peer reason class c).ended ≡ None → ActsOn n shutting c (closes n peer reason class c)
+closes_acts n c peer reason link (Some Zero) lasts = absurd cc
+closes_acts n c peer reason link (Some Two) lasts = record { is_caller = refl; local = refl; class = refl; given = refl; lasts = lasts; connection = closing peer; live = refl; progress = refl }
+closes_acts n c peer reason link None lasts = record { is_caller = refl; local = refl; class = refl; given = refl; lasts = lasts; connection = closing peer; live = refl; progress = refl }
+
+pub closed_acts : (n : ℕ) (c : State) (peer reason : ℕ) (link : Link) → c.ended ≡ None → value_at n c.live ≡ Some (linked peer link) → (closed_with n reason c).ended ≡ None → ActsOn n shutting c (closed_with n reason c)
+closed_acts n c peer reason link alive at lasts =
+    let is = open_is n c peer link alive at in
+    subst (λ (o : Option (ℕ × Link)). ActsOn n shutting c (closed_on n reason o c)) (sym is)
+    (closes_acts n c peer reason link c.class (subst (λ (o : Option (ℕ × Link)). (closed_on n reason o c).ended ≡ None) is lasts))
+
+abbrev pub CloseActs : Side → TwoEnds → Between → ℕ → Type 0
+CloseActs s p b n = CarrierActs s p b n shutting (closed_with n 128 (end_at s p).end.carrier) (carrier.bye 128 ∷ [])
+
+in_two : (p : TwoEnds) (b : Between) (t : Tables) → Stands p b t → terms_at p ≡ by_two → AreBetween by_two (carriers_of p) b
+in_two p b t old two = subst (λ (x : Terms). AreBetween x (carriers_of p) b) two old.between
+
+abbrev ActedBy : Bool → TwoEnds → TwoEnds → Between → ℕ → Terms → Type 0
+ActedBy end p new b n x = Acted x end n (carriers_of p) (carriers_of new) b [] (carrier.bye 128 ∷ [])
+
+pub close_acts : CarrierLaws → (s : Side) (p : TwoEnds) (b : Between) (t : Tables) (n peer : ℕ) (link : Link) → Stands p b t → (end_at s p).end.carrier.ended ≡ None → terms_at p ≡ by_two →
+    value_at n (end_at s p).end.carrier.live ≡ Some (linked peer link) → CloseActs s p b n
+close_acts laws Left p b t n peer link old alive two at =
+    let new = pair_with Left (closed_with n 128 p.left.end.carrier) p in
+    let a = subst (ActedBy true p new b n) (sym two) (laws.closed true (carriers_of p) b n peer link 128 (in_two p b t old two) alive at (omega arith)) in
+    record {
+      on = closed_acts n p.left.end.carrier peer 128 link alive at a.lasts;
+      was = linked peer link;
+      at = at;
+      used = refl;
+      now = a.now;
+      between = a.between;
+      ways = ways_at Left n p new b a.now (carrier.bye 128 ∷ []) a.carries;
+    }
+close_acts laws Right p b t n peer link old alive two at =
+    let new = pair_with Right (closed_with n 128 p.right.end.carrier) p in
+    let a = subst (ActedBy false p new b n) (sym two) (laws.closed false (carriers_of p) b n peer link 128 (in_two p b t old two) alive at (omega arith)) in
+    record {
+      on = closed_acts n p.right.end.carrier peer 128 link alive at a.lasts;
+      was = linked peer link;
+      at = at;
+      used = refl;
+      now = a.now;
+      between = a.between;
+      ways = ways_at Right n p new b a.now (carrier.bye 128 ∷ []) a.carries;
+    }
+
+-- ---- what is under way from it
+
+out_closes : (s : Side) (p : TwoEnds) (b : Between) (t : Tables) (n : ℕ) (l : Line) → Stands p b t → (a : CloseActs s p b n) → IsSeen s n p b l → (end_at (other s) p).end.carrier.ended ≡ None →
+    AreAlike (progress_of (place_at n (last_of (is_caller (other s)) b))) (map message_in (put t.broken (bye 128 ∷ []) (take (length a.ways.stays) l.own.channel)))
+    (under_way (is_caller s) n (carriers_of (pair_with s (closed_with n 128 (end_at s p).end.carrier) p)) a.now)
+out_closes s p b t n l old a i lives =
+    let place = place_at n (last_of (is_caller (other s)) b) in
+    let new = under_way (is_caller s) n (carriers_of (pair_with s (closed_with n 128 (end_at s p).end.carrier) p)) a.now in
+    let left = carrier.bye 128 ∷ [] in
+    subst (λ (ms : List Message). AreAlike (progress_of place) (map message_in ms) new) (sym (put_unless t.broken (bye 128 ∷ []) (take (length a.ways.stays) l.own.channel)))
+    (out_cuts place l.own.channel (unless_broken t.broken (bye 128 ∷ [])) (under_way (is_caller s) n (carriers_of p) b) new a.ways.stays a.ways.gone (put_in (carriers_of p) left)
+    (i.out lives) a.ways.before a.ways.after (unless_same t.broken (is_some (carriers_of p).reach) (bye 128 ∷ []) left (broken_is p b t old) refl))
+
+-- ---- two ends
+
+session_shuts : (n : ℕ) (lines : Rows StackLine) (x : Standing) → is_ended x.state.phase ≡ true → HasSession n lines in_use x → HasSession n lines shutting x
+session_shuts n lines x ended h = record { live = λ e. h.live refl; kept = h.kept; over_now = λ e. ended; awaiting = λ e. cc; octets = h.octets }
+
+-- behind a close they stand, where so much is kept of what was under way
+pub record ClosesOn (s : Side) (p : TwoEnds) (t : Tables) (n : ℕ) (l : Line) : Type 0 where
+  pub keep : ℕ
+  pub on : StandsOn (pair_with s (closed_with n 128 (end_at s p).end.carrier) p) (stays t (side_in s) n (closed t.broken keep l))
+  pub lasts : (closed_with n 128 (end_at s p).end.carrier).ended ≡ None
+
+-- an end closes a connection whose session has ended, and is in order then
+pub closes_stand : CarrierLaws → (s : Side) (p : TwoEnds) (b : Between) (t : Tables) (n peer : ℕ) (link : Link) (l : Line) → Stands p b t → (end_at s p).end.carrier.ended ≡ None → terms_at p ≡ by_two →
+    value_at n (end_at s p).end.carrier.live ≡ Some (linked peer link) → connection_at n t.lines ≡ Some (seen_from (side_in s) l) → is_ended l.own.session.state.phase ≡ true →
+    IsInOrder (end_with s (closed_with n 128 (end_at s p).end.carrier) p) → ClosesOn s p t n l
+closes_stand laws s p b t n peer link l old alive two at found ended order =
+    let c = closed_with n 128 (end_at s p).end.carrier in
+    let a = close_acts laws s p b t n peer link old alive two at in
+    let i = seen_at s p b t n l old found in
+    let x = session_shuts n (end_at s p).end.lines l.own.session ended (session_in_use s p b t n (linked peer link) l old alive at refl i) in
+    record {
+      keep = length a.ways.stays;
+      on = acted_stands s p b t n shutting c (carrier.bye 128 ∷ []) (put t.broken (bye 128 ∷ []) (take (length a.ways.stays) l.own.channel)) l old alive a order found x (out_closes s p b t n l old a i);
+      lasts = a.on.lasts;
+    }

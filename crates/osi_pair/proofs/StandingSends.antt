@@ -1,0 +1,122 @@
+-- An end sends a unit on an open connection: the tables put it.
+use Rattle.std.proofs.Common.{◌≡◌, ℕ, Bool, true, false, if◌then◌else◌, List, [], ◌∷◌, map, Option, Some, None, is_some, refl, sym, ap, subst, ◌∙◌}
+use Rattle.osi_tpkt.specs.Octets.{IsOctets}
+use Rattle.osi_class.specs.Between.{IsShortTsdu}
+use Rattle.osi_class.specs.Link.{Standing as Link}
+use Rattle.osi_carrier.specs.Between.{Between, last_of, under_way, put_in}
+use Rattle.osi_carrier.specs.Calls.{open_link, link_of, sent}
+use Rattle.osi_carrier.specs.Course.{place_at, progress_of}
+use Rattle.osi_carrier.specs.Messages as carrier
+use Rattle.osi_carrier.specs.Progress.{Progress, in_use, leaves_use}
+use Rattle.osi_carrier.specs.Rows.{value_at}
+use Rattle.osi_carrier.specs.State.{State, linked}
+use Rattle.osi_carrier.specs.declared.ends.EndReason.{EndReason}
+use Rattle.osi_machine.specs.Machine.{connection_at}
+use Rattle.osi_machine.specs.Tables.{Line, Tables, seen_from, stays, puts}
+use Rattle.osi_machine.specs.Worlds.{Message, Transport, unit, put}
+use Rattle.osi_machine.specs.Worlds as worlds
+use Rattle.osi_message.specs.Meanings.{Meaning}
+use Rattle.osi_message.specs.Written.{written}
+use Rattle.osi_pair.specs.Ends.{TwoEnds, end_at}
+use Rattle.osi_pair.specs.Sides.{other}
+use Rattle.osi_pair.specs.Standing.{side_in, is_caller, carriers_of, message_in, AreAlike, IsInOrder, Stands}
+use Rattle.osi_pair.specs.declared.sides.Side.{Side}
+use Rattle.osi_pair.specs.declared.sides.Side.TheVariants.{Left, Right}
+use Rattle.osi_pair.proofs.StandingActed.{ActsOn, CarrierActs, end_with, pair_with, ways_at, acted_line, acted_stands, seen_at, session_in_use, stood_in_use, stands_now, live_place}
+use Rattle.osi_pair.proofs.StandingActs.{StandsOn}
+use Rattle.osi_pair.proofs.StandingArrived.{CarrierLaws}
+use Rattle.osi_pair.proofs.StandingCall.{sent_is}
+use Rattle.osi_pair.proofs.StandingFinish.{terms_at, order_of}
+use Rattle.osi_pair.proofs.StandingRests.{unless_broken, put_unless, unless_same}
+use Rattle.osi_pair.proofs.StandingResting.{broken_is}
+use Rattle.osi_pair.proofs.StandingSeats.{transport_at}
+use Rattle.osi_pair.proofs.StandingTurned.{IsSeen}
+use Rattle.osi_pair.proofs.StandingWays.{out_keeps}
+
+-- ---- the carrier
+
+pub open_is : (n : ℕ) (c : State) (peer : ℕ) (link : Link) → c.ended ≡ None → value_at n c.live ≡ Some (linked peer link) → open_link n c ≡ Some (peer, link)
+open_is n c peer link alive at =
+    ap (λ (x : Option EndReason). if◌then◌else◌ {A = Option (ℕ × Link)} (is_some x) None (link_of (value_at n c.live))) alive ∙ ap link_of at
+
+pub sent_acts : (n : ℕ) (tsdu : List ℕ) (c : State) (peer : ℕ) (link : Link) → c.ended ≡ None → value_at n c.live ≡ Some (linked peer link) → ActsOn n in_use c (sent n tsdu c)
+sent_acts n tsdu c peer link alive at =
+    let k = sent_is n tsdu c peer link (open_is n c peer link alive at) in
+    record {
+      is_caller = k.is_caller;
+      local = k.local;
+      class = k.class;
+      given = k.given;
+      lasts = k.ended ∙ alive;
+      connection = linked k.peer k.link;
+      live = k.live;
+      progress = refl;
+    }
+
+abbrev pub SendActs : Side → TwoEnds → Between → ℕ → List ℕ → Type 0
+SendActs s p b n tsdu = CarrierActs s p b n in_use (sent n tsdu (end_at s p).end.carrier) (carrier.message tsdu ∷ [])
+
+pub send_acts : CarrierLaws → (s : Side) (p : TwoEnds) (b : Between) (t : Tables) (n peer : ℕ) (link : Link) (tsdu : List ℕ) → Stands p b t → (end_at s p).end.carrier.ended ≡ None →
+    value_at n (end_at s p).end.carrier.live ≡ Some (linked peer link) → IsShortTsdu tsdu → IsOctets tsdu → SendActs s p b n tsdu
+send_acts laws Left p b t n peer link tsdu old alive at short octets =
+    let a = laws.handed_in (terms_at p) true (carriers_of p) b n peer link tsdu old.between alive at short octets in
+    record {
+      on = sent_acts n tsdu p.left.end.carrier peer link alive at;
+      was = linked peer link;
+      at = at;
+      used = refl;
+      now = a.now;
+      between = a.between;
+      ways = ways_at Left n p (pair_with Left (sent n tsdu p.left.end.carrier) p) b a.now (carrier.message tsdu ∷ []) a.carries;
+    }
+send_acts laws Right p b t n peer link tsdu old alive at short octets =
+    let a = laws.handed_in (terms_at p) false (carriers_of p) b n peer link tsdu old.between alive at short octets in
+    record {
+      on = sent_acts n tsdu p.right.end.carrier peer link alive at;
+      was = linked peer link;
+      at = at;
+      used = refl;
+      now = a.now;
+      between = a.between;
+      ways = ways_at Right n p (pair_with Right (sent n tsdu p.right.end.carrier) p) b a.now (carrier.message tsdu ∷ []) a.carries;
+    }
+
+-- ---- what is under way from it
+
+stays_open : (g h : Progress) → g ≡ in_use → h ≡ in_use → leaves_use g h ≡ false
+stays_open g h e f = ap (λ (x : Progress). leaves_use x h) e ∙ ap (λ (x : Progress). leaves_use in_use x) f
+
+out_sends : (s : Side) (p : TwoEnds) (b : Between) (t : Tables) (n : ℕ) (m : Meaning) (l : Line) → Stands p b t → (end_at s p).end.carrier.ended ≡ None → (a : SendActs s p b n (written m)) →
+    IsInOrder (end_with s (sent n (written m) (end_at s p).end.carrier) p) → IsSeen s n p b l → (end_at (other s) p).end.carrier.ended ≡ None →
+    AreAlike (progress_of (place_at n (last_of (is_caller (other s)) b))) (map message_in (put t.broken (unit m ∷ []) l.own.channel))
+    (under_way (is_caller s) n (carriers_of (pair_with s (sent n (written m) (end_at s p).end.carrier) p)) a.now)
+out_sends s p b t n m l old alive a order i lives =
+    let c = sent n (written m) (end_at s p).end.carrier in
+    let place = place_at n (last_of (is_caller (other s)) b) in
+    let new = under_way (is_caller s) n (carriers_of (pair_with s c p)) a.now in
+    let sends = carrier.message (written m) ∷ [] in
+    let none = a.ways.keeps (stays_open _ _ (stood_in_use s p b t n in_use c sends old alive a) (stands_now s p b n in_use c sends a order)) in
+    subst (λ (ms : List Message). AreAlike (progress_of place) (map message_in ms) new) (sym (put_unless t.broken (unit m ∷ []) l.own.channel))
+    (out_keeps place l.own.channel (unless_broken t.broken (unit m ∷ [])) (under_way (is_caller s) n (carriers_of p) b) new a.ways.stays a.ways.gone (put_in (carriers_of p) sends)
+    (i.out lives) a.ways.before a.ways.after none (unless_same t.broken (is_some (carriers_of p).reach) (unit m ∷ []) sends (broken_is p b t old) refl))
+
+-- ---- two ends
+
+line_sends : (broken : Bool) (m : Meaning) (l : Line) → l.own.transport ≡ worlds.linked → acted_line in_use (put broken (unit m ∷ []) l.own.channel) l ≡ puts broken (unit m ∷ []) l
+line_sends broken m l e =
+    ap (λ (tr : Transport). record { own = record { transport = tr; session = l.own.session; channel = put broken (unit m ∷ []) l.own.channel }; peer = l.peer }) (sym e)
+
+-- an end sends a unit, and is in order then
+pub sends_stand : CarrierLaws → (s : Side) (p : TwoEnds) (b : Between) (t : Tables) (n peer : ℕ) (link : Link) (m : Meaning) (l : Line) → Stands p b t → (end_at s p).end.carrier.ended ≡ None →
+    value_at n (end_at s p).end.carrier.live ≡ Some (linked peer link) → IsShortTsdu (written m) → IsOctets (written m) → connection_at n t.lines ≡ Some (seen_from (side_in s) l) →
+    IsInOrder (end_with s (sent n (written m) (end_at s p).end.carrier) p) →
+    StandsOn (pair_with s (sent n (written m) (end_at s p).end.carrier) p) (stays t (side_in s) n (puts t.broken (unit m ∷ []) l))
+sends_stand laws s p b t n peer link m l old alive at short octets found order =
+    let c = sent n (written m) (end_at s p).end.carrier in
+    let a = send_acts laws s p b t n peer link (written m) old alive at short octets in
+    let i = seen_at s p b t n l old found in
+    let x = session_in_use s p b t n (linked peer link) l old alive at refl i in
+    let open_now : l.own.transport ≡ worlds.linked =
+    i.here.transport ∙ transport_at (place_at n (end_at s p).end.carrier) in_use (ap progress_of (live_place n (end_at s p).end.carrier (linked peer link) (order_of s p b t old alive).sound.orderly at)) in
+    subst (λ (y : Line). StandsOn (pair_with s c p) (stays t (side_in s) n y)) (line_sends t.broken m l open_now)
+    (acted_stands s p b t n in_use c (carrier.message (written m) ∷ []) (put t.broken (unit m ∷ []) l.own.channel) l old alive a order found x (out_sends s p b t n m l old alive a order i))
