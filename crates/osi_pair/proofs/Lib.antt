@@ -23,6 +23,7 @@ pub mod StandingCloses
 pub mod StandingPacket
 pub mod StandingTaken
 pub mod StandingHanded
+pub mod StandingPackets
 pub mod Growing
 pub mod StandingBreak
 pub mod StandingLost

@@ -37,11 +37,11 @@ pub quiet_waits : (lines : Rows Line) → waiting_in (quieted lines) ≡ []
 quiet_waits [] = refl
 quiet_waits ((r, line) ∷ lines) = quiet_waits lines
 
-none_first : {A B : Type 0} (f : A → B) (xs : List A) (ys : List B) → map f xs ++ ys ≡ [] → xs ≡ []
+pub none_first : {A B : Type 0} (f : A → B) (xs : List A) (ys : List B) → map f xs ++ ys ≡ [] → xs ≡ []
 none_first f [] ys e = refl
 none_first f (x ∷ xs) ys e = cc
 
-none_second : {A B : Type 0} (f : A → B) (xs : List A) (ys : List B) → map f xs ++ ys ≡ [] → ys ≡ []
+pub none_second : {A B : Type 0} (f : A → B) (xs : List A) (ys : List B) → map f xs ++ ys ≡ [] → ys ≡ []
 none_second f [] ys e = e
 none_second f (x ∷ xs) ys e = cc
 

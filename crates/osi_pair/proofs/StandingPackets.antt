@@ -1,0 +1,249 @@
+-- Packets that an end takes one after the other, of which none stops but perhaps the last.
+use Rattle.std.proofs.Common.{◌≡◌, ℕ, ◌≤◌, ◌==◌, ◌||◌, Bool, true, false, not, List, [], ◌∷◌, ◌++◌, length, map, Option, Some, None, is_some, refl, sym, ap, subst, ◌∙◌, if◌then◌else◌, arith}
+use Rattle.std.proofs.lemmas.List.{append-nil, append_assoc}
+use Rattle.osi_tpkt.specs.Held.{Held}
+use Rattle.osi_tpkt.specs.Packet.{IsPacket}
+use Rattle.osi_tpkt.specs.Stream.{ArePackets}
+use Rattle.osi_carrier.specs.Rows.{Rows}
+use Rattle.osi_carrier.specs.declared.ends.EndReason.{EndReason}
+use Rattle.osi_carrier.specs.declared.ends.EndReason.TheVariants.{NoMemory}
+use Rattle.osi_machine.specs.Core as machine
+use Rattle.osi_machine.specs.Machine.{Ending, no_memory, Step, connects, calls, delivers, breaks}
+use Rattle.osi_machine.specs.Machine.{ends as ends_side}
+use Rattle.osi_machine.specs.Tables.{Tables, end_of, after_end, marked_ended, step, run, start}
+use Rattle.osi_session.specs.Shown.{Shown}
+use Rattle.osi_stack.specs.Feeding.{TakesPackets, stops}
+use Rattle.osi_stack.specs.Hearing.{after_packet, ends, Starves}
+use Rattle.osi_stack.specs.State.{Line, End, Holding, waits}
+use Rattle.osi_stack.proofs.FirstShown.{quiet_none}
+use Rattle.osi_stack.proofs.Lifting.{or_first, or_second}
+use Rattle.osi_pair.specs.Ends.{TwoEnds, end_at, noted}
+use Rattle.osi_pair.specs.Entries.{Entry}
+use Rattle.osi_pair.specs.Sides.{other}
+use Rattle.osi_pair.specs.Standing.{side_in, terms_in, AreDeliveries, AreArrivals, StandsAt, StandsAtArrivals}
+use Rattle.osi_pair.specs.Telling.{waiting_in, quieted, told_entries}
+use Rattle.osi_pair.specs.declared.reach.Reach.{Reach}
+use Rattle.osi_pair.specs.declared.sides.Side.{Side}
+use Rattle.osi_pair.specs.declared.sides.Side.TheVariants.{Left, Right}
+use Rattle.osi_pair.proofs.StandingBreak.{run_behind}
+use Rattle.osi_pair.proofs.StandingFinish.{terms_at}
+use Rattle.osi_pair.proofs.StandingHanded.{CarriedLaw, with_held, handed, handed_at}
+use Rattle.osi_pair.proofs.StandingPacket.{lasting_in, quiet_of}
+use Rattle.osi_pair.proofs.StandingQuiet.{none_first, none_second, quiet_same}
+use Rattle.osi_pair.proofs.StandingShown.{shown_pair}
+use Rattle.osi_pair.proofs.StandingTurned.{with_holding, holding_here}
+use Rattle.osi_pair.proofs.Waiting.{none_waits}
+use Rattle.osi_pair.specs.Reaching.{reach_after}
+
+-- THE LAWS OF ONE PACKET. Where two ends stand at a list of steps, and a side that lasts takes the packet that
+-- it holds first, or finds no memory for it, or ends for want of memory, they stand at that list followed by
+-- what arrives at the side, when its users were shown what came of it.
+pub record PacketStands : Type 0 where
+  pub told : (p : TwoEnds) (steps : List Step) (s : Side) (packet octets : List ℕ) (h : Held) → StandsAt p steps → (end_at s p).end.carrier.ended ≡ None →
+      IsPacket packet octets → (end_at s p).held.octets ≡ octets ++ h.octets → StandsAtArrivals s (shown_pair s (after_packet (end_at s p).end packet) h p) steps
+  pub starved : (p : TwoEnds) (steps : List Step) (s : Side) (packet octets : List ℕ) (new : End) (h : Held) → StandsAt p steps → (end_at s p).end.carrier.ended ≡ None →
+      IsPacket packet octets → (end_at s p).held.octets ≡ octets ++ h.octets → Starves (end_at s p).end packet new → StandsAtArrivals s (shown_pair s new h p) steps
+  pub ended : (p : TwoEnds) (steps : List Step) (s : Side) (h : Held) → StandsAt p steps → (end_at s p).end.carrier.ended ≡ None →
+      StandsAtArrivals s (shown_pair s (ends NoMemory (end_at s p).end) h p) steps
+
+-- THEIR BOUND: of what came of it no more waits than is shown at once.
+pub record FewWait : Type 0 where
+  pub told : (p : TwoEnds) (steps : List Step) (s : Side) (packet octets : List ℕ) (h : Held) → StandsAt p steps → (end_at s p).end.carrier.ended ≡ None →
+      IsPacket packet octets → (end_at s p).held.octets ≡ octets ++ h.octets → length (waiting_in (after_packet (end_at s p).end packet).lines) ≤ 81
+  pub starved : (p : TwoEnds) (steps : List Step) (s : Side) (packet octets : List ℕ) (new : End) (h : Held) → StandsAt p steps → (end_at s p).end.carrier.ended ≡ None →
+      IsPacket packet octets → (end_at s p).held.octets ≡ octets ++ h.octets → Starves (end_at s p).end packet new → length (waiting_in new.lines) ≤ 81
+  pub ended : (p : TwoEnds) (steps : List Step) (s : Side) → StandsAt p steps → (end_at s p).end.carrier.ended ≡ None →
+      length (waiting_in (ends NoMemory (end_at s p).end).lines) ≤ 81
+
+-- an end is this, and its users are shown all that waits at once
+pub record StandsFew (s : Side) (p : TwoEnds) (steps : List Step) (e : End) (h : Held) : Type 0 where
+  pub stands : StandsAtArrivals s (shown_pair s e h p) steps
+  pub few : length (waiting_in e.lines) ≤ 81
+
+pub record TakenLaws : Type 0 where
+  pub told : (p : TwoEnds) (steps : List Step) (s : Side) (packet octets : List ℕ) (h : Held) → StandsAt p steps → (end_at s p).end.carrier.ended ≡ None →
+      IsPacket packet octets → (end_at s p).held.octets ≡ octets ++ h.octets → StandsFew s p steps (after_packet (end_at s p).end packet) h
+  pub starved : (p : TwoEnds) (steps : List Step) (s : Side) (packet octets : List ℕ) (new : End) (h : Held) → StandsAt p steps → (end_at s p).end.carrier.ended ≡ None →
+      IsPacket packet octets → (end_at s p).held.octets ≡ octets ++ h.octets → Starves (end_at s p).end packet new → StandsFew s p steps new h
+  pub ended : (p : TwoEnds) (steps : List Step) (s : Side) (h : Held) → StandsAt p steps → (end_at s p).end.carrier.ended ≡ None → StandsFew s p steps (ends NoMemory (end_at s p).end) h
+
+pub taken_laws : PacketStands → FewWait → TakenLaws
+taken_laws laws few = record {
+  told = λ p steps s packet octets h at alive is cut.
+      record { stands = laws.told p steps s packet octets h at alive is cut; few = few.told p steps s packet octets h at alive is cut };
+  starved = λ p steps s packet octets new h at alive is cut st.
+      record { stands = laws.starved p steps s packet octets new h at alive is cut st; few = few.starved p steps s packet octets new h at alive is cut st };
+  ended = λ p steps s h at alive. record { stands = laws.ended p steps s h at alive; few = few.ended p steps s at alive };
+}
+
+-- ---- what waits
+
+pub none_waiting : (lines : Rows Line) → waits lines ≡ false → waiting_in lines ≡ []
+none_waiting lines e = none_waits lines (quiet_none lines e).shown
+
+pub still_waits : (lines : Rows Line) → waiting_in lines ≡ [] → waits lines ≡ false
+still_waits [] e = refl
+still_waits ((r, line) ∷ lines) e =
+    ap (λ (w : List Shown). not (length w == 0) || waits lines) (none_first (λ shown. (r, shown)) line.waiting (waiting_in lines) e)
+    ∙ still_waits lines (none_second (λ shown. (r, shown)) line.waiting (waiting_in lines) e)
+
+lasts_of : (o : Option EndReason) → is_some o ≡ false → o ≡ None
+lasts_of None e = refl
+lasts_of (Some reason) e = cc
+
+-- an end that does not stop lasts, and nothing waits
+pub stops_not : (e : End) → stops e ≡ false → e.carrier.ended ≡ None
+stops_not e h = lasts_of e.carrier.ended (or_first (is_some e.carrier.ended) (waits e.lines) h)
+
+pub stops_quiet : (e : End) → stops e ≡ false → waiting_in e.lines ≡ []
+stops_quiet e h = none_waiting e.lines (or_second (is_some e.carrier.ended) (waits e.lines) h)
+
+pub goes_on : (e : End) → e.carrier.ended ≡ None → waiting_in e.lines ≡ [] → stops e ≡ false
+goes_on e lasts quiet = ap (λ (o : Option EndReason). is_some o || waits e.lines) lasts ∙ still_waits e.lines quiet
+
+noted_none : (p : TwoEnds) → noted [] p ≡ p
+noted_none p = ap (λ (j : List Entry). record p { journal = j }) (append-nil p.journal)
+
+-- where nothing is shown and the end lasts
+pub shown_plain : (s : Side) (e : End) (h : Held) (p : TwoEnds) → e.carrier.ended ≡ None → waiting_in e.lines ≡ [] → shown_pair s e h p ≡ with_holding s e h p
+shown_plain s e h p lasts quiet =
+    ap (λ (o : Option EndReason). noted (told_entries s None o (waiting_in e.lines)) (with_holding s (record e { lines = quieted e.lines }) h p)) lasts
+    ∙ ap (λ (l : List (ℕ × Shown)). noted (told_entries s None None l) (with_holding s (record e { lines = quieted e.lines }) h p)) quiet
+    ∙ noted_none (with_holding s (record e { lines = quieted e.lines }) h p)
+    ∙ ap (λ (l : Rows Line). with_holding s (record e { lines = l }) h p) (quiet_same e.lines quiet)
+
+pub shown_again : (s : Side) (e a : End) (h g : Held) (p : TwoEnds) → shown_pair s e h (with_holding s a g p) ≡ shown_pair s e h p
+shown_again Left e a h g p = refl
+shown_again Right e a h g p = refl
+
+-- ---- what an end holds
+
+none_less : (f : Side) (o : Option Reach) → reach_after f 0 o ≡ o
+none_less f None = refl
+none_less Left (Some r) = ap (λ (n : ℕ). Some (record r { left = n })) (omega arith)
+none_less Right (Some r) = ap (λ (n : ℕ). Some (record r { right = n })) (omega arith)
+
+-- it may be kept in whatever way
+pub held_at : CarriedLaw → (s : Side) (p : TwoEnds) (steps : List Step) (h : Held) → StandsAt p steps → ((end_at s p).end.carrier.ended ≡ None → h.octets ≡ (end_at s p).held.octets) →
+    StandsAt (with_held s h p) steps
+held_at law Left p steps h at same =
+    subst (λ (o : Option Reach). StandsAt (record (with_held Left h p) { reach = o }) steps) (none_less Right p.reach)
+    (handed_at law Right p steps 0 h at (omega arith) (λ lasts. same lasts ∙ sym (append-nil p.left.held.octets)))
+held_at law Right p steps h at same =
+    subst (λ (o : Option Reach). StandsAt (record (with_held Right h p) { reach = o }) steps) (none_less Left p.reach)
+    (handed_at law Left p steps 0 h at (omega arith) (λ lasts. same lasts ∙ sym (append-nil p.right.held.octets)))
+
+-- ---- what arrives
+
+end_there : (who : machine.Side) (t : Tables) (why : Ending) (keep : ℕ → ℕ) → end_of who (after_end who why keep t) ≡ Some why
+end_there machine.Left t why keep = refl
+end_there machine.Right t why keep = refl
+
+over_by : (who : machine.Side) (t : Tables) (keep : ℕ → ℕ) (o : Option Ending) → end_of who t ≡ o → end_of who (step t (ends_side who no_memory keep)) ≡ None → ⊥
+over_by who t keep None e h =
+    let is : step t (ends_side who no_memory keep) ≡ after_end who no_memory keep t = ap (λ (o : Option Ending). if is_some o || false then t else after_end who no_memory keep t) e in
+    let two : Some no_memory ≡ None = sym (end_there who t no_memory keep) ∙ ap (end_of who) (sym is) ∙ h in
+    cc
+over_by who t keep (Some why) e h =
+    let is : step t (ends_side who no_memory keep) ≡ t = ap (λ (o : Option Ending). if is_some o || false then t else after_end who no_memory keep t) e in
+    let two : Some why ≡ None = sym e ∙ ap (end_of who) (sym is) ∙ h in
+    cc
+
+over_then : (who taker : machine.Side) (t : Tables) (reason : Ending) (keep : ℕ → ℕ) (more : List Step) → AreArrivals who (ends_side taker reason keep ∷ more) →
+    end_of who (run (step t (ends_side taker reason keep)) more) ≡ None → ⊥
+over_then who taker t reason keep more are h =
+    over_by who t keep (end_of who t) refl
+    (ap (λ (q : machine.Side). end_of who (step t (ends_side q no_memory keep))) (sym are.0)
+    ∙ ap (λ (r : Ending). end_of who (step t (ends_side taker r keep))) (sym are.1)
+    ∙ ap (λ (l : List Step). end_of who (run (step t (ends_side taker reason keep)) l)) (sym are.2) ∙ h)
+
+-- where the side lasts, deliveries
+arrivals_alive : (who : machine.Side) (t : Tables) (more : List Step) → AreArrivals who more → end_of who (run t more) ≡ None → AreDeliveries who more
+arrivals_alive who t [] are e = tt
+arrivals_alive who t (delivers taker r keep ∷ more) are e = (are.0, arrivals_alive who (step t (delivers taker r keep)) more are.1 e)
+arrivals_alive who t (ends_side taker reason keep ∷ more) are e = absurd (over_then who taker t reason keep more are e)
+arrivals_alive who t (connects o ∷ more) are e = absurd are
+arrivals_alive who t (calls q r c ∷ more) are e = absurd are
+arrivals_alive who t (breaks k l ∷ more) are e = absurd are
+
+pub alive_deliveries : (s : Side) (p : TwoEnds) (steps more : List Step) → StandsAt p (steps ++ more) → (end_at s p).end.carrier.ended ≡ None → AreArrivals (side_in s) more →
+    AreDeliveries (side_in s) more
+alive_deliveries s p steps more at alive are =
+    let first = start (terms_in (terms_at p)) in
+    arrivals_alive (side_in s) (run first steps) more are
+    (ap (end_of (side_in s)) (sym (run_behind first steps more)) ∙ lasting_in s p at.now (run first (steps ++ more)) at.stands alive)
+
+deliveries_then : (who : machine.Side) (xs ys : List Step) → AreDeliveries who xs → AreArrivals who ys → AreArrivals who (xs ++ ys)
+deliveries_then who [] ys are more = more
+deliveries_then who (delivers taker r keep ∷ xs) ys are more = (are.0, deliveries_then who xs ys are.1 more)
+deliveries_then who (ends_side taker reason keep ∷ xs) ys are more = absurd are
+deliveries_then who (connects o ∷ xs) ys are more = absurd are
+deliveries_then who (calls q r c ∷ xs) ys are more = absurd are
+deliveries_then who (breaks k l ∷ xs) ys are more = absurd are
+
+-- deliveries, and then what arrives more
+pub join_arrivals : (s : Side) (p : TwoEnds) (steps more : List Step) → AreDeliveries (side_in s) more → StandsAtArrivals s p (steps ++ more) → StandsAtArrivals s p steps
+join_arrivals s p steps more are x = record {
+  more = more ++ x.more;
+  are = deliveries_then (side_in s) more x.more are x.are;
+  stands = subst (StandsAt p) (append_assoc steps more x.more) x.stands;
+}
+
+pub no_more : (s : Side) (p : TwoEnds) (steps : List Step) → StandsAt p steps → StandsAtArrivals s p steps
+no_more s p steps at = record { more = []; are = tt; stands = subst (StandsAt p) (sym (append-nil steps)) at }
+
+-- ---- packets one after the other
+
+-- a packet behind which the end goes on
+pub record GoesOn (s : Side) (p : TwoEnds) (steps : List Step) (e : End) (h : Held) : Type 0 where
+  pub more : List Step
+  pub are : AreDeliveries (side_in s) more
+  pub stands : StandsAt (with_holding s e h p) (steps ++ more)
+  pub here : end_at s (with_holding s e h p) ≡ record { end = e; held = h }
+  pub lasts : (end_at s (with_holding s e h p)).end.carrier.ended ≡ None
+
+pub still_goes : (s : Side) (p : TwoEnds) (steps : List Step) (e : End) (h : Held) → stops e ≡ false → StandsAtArrivals s (shown_pair s e h p) steps → GoesOn s p steps e h
+still_goes s p steps e h quiet x =
+    let at : StandsAt (with_holding s e h p) (steps ++ x.more) =
+    subst (λ (q : TwoEnds). StandsAt q (steps ++ x.more)) (shown_plain s e h p (stops_not e quiet) (stops_quiet e quiet)) x.stands in
+    let here : end_at s (with_holding s e h p) ≡ record { end = e; held = h } = holding_here s e h p in
+    let lasts : (end_at s (with_holding s e h p)).end.carrier.ended ≡ None = ap (λ (y : Holding). y.end.carrier.ended) here ∙ stops_not e quiet in
+    record {
+      more = x.more;
+      are = alive_deliveries s (with_holding s e h p) steps x.more at lasts x.are;
+      stands = at;
+      here = here;
+      lasts = lasts;
+    }
+
+-- what comes behind it
+pub behind : (s : Side) (p : TwoEnds) (steps : List Step) (e : End) (g : Held) (new : End) (h : Held) → (x : GoesOn s p steps e g) →
+    StandsFew s (with_holding s e g p) (steps ++ x.more) new h → StandsFew s p steps new h
+behind s p steps e g new h x y = record {
+  stands = join_arrivals s (shown_pair s new h p) steps x.more x.are
+      (subst (λ (b : TwoEnds). StandsAtArrivals s b (steps ++ x.more)) (shown_again s new e h g p) y.stands);
+  few = y.few;
+}
+
+pub packets_stand : TakenLaws → CarriedLaw → (units : List (List ℕ)) (s : Side) (p : TwoEnds) (steps : List Step) (new : End) (h : Held) → StandsAt p steps →
+    (end_at s p).end.carrier.ended ≡ None → TakesPackets (end_at s p).end units new → ArePackets units (end_at s p).held.octets h.octets → StandsFew s p steps new h
+packets_stand laws law [] s p steps new h at alive taken packets =
+    let quiet = quiet_of s p at.now (run (start (terms_in (terms_at p))) steps) at.stands in
+    subst (λ (e : End). StandsFew s p steps e h) (sym taken)
+    (record {
+      stands = subst (λ (q : TwoEnds). StandsAtArrivals s q steps) (sym (shown_plain s (end_at s p).end h p alive quiet))
+          (no_more s (with_held s h p) steps (held_at law s p steps h at (λ lasts. sym packets)));
+      few = let none : length (waiting_in (end_at s p).end.lines) ≡ 0 = ap length quiet in omega arith;
+    })
+packets_stand laws law (u ∷ []) s p steps new h at alive taken packets =
+    subst (λ (e : End). StandsFew s p steps e h) (sym taken.1)
+    (laws.told p steps s u packets.0 h at alive packets.2 (packets.3 ∙ ap (λ (l : List ℕ). packets.0 ++ l) packets.4))
+packets_stand laws law (u ∷ v ∷ units) s p steps new h at alive taken packets =
+    let e = after_packet (end_at s p).end u in
+    let g : Held = record (end_at s p).held { octets = packets.1 } in
+    let q = with_holding s e g p in
+    let x = still_goes s p steps e g taken.1.0 (laws.told p steps s u packets.0 g at alive packets.2 packets.3).stands in
+    behind s p steps e g new h x
+    (packets_stand laws law (v ∷ units) s q (steps ++ x.more) new h x.stands x.lasts
+    (subst (λ (b : Holding). TakesPackets b.end (v ∷ units) new) (sym x.here) taken.1)
+    (subst (λ (b : Holding). ArePackets (v ∷ units) b.held.octets h.octets) (sym x.here) packets.4))
