@@ -23,8 +23,8 @@ use Rattle.osi_pair.specs.declared.reach.Reach.{Reach}
 use Rattle.osi_pair.specs.declared.sides.Side.{Side}
 use Rattle.osi_pair.specs.declared.sides.Side.TheVariants.{Left, Right}
 use Rattle.osi_pair.proofs.StandingBreak.{run_behind}
-use Rattle.osi_pair.proofs.StandingEnded.{ended_holding, ended_pair, left_at_end, ended_stands}
-use Rattle.osi_pair.proofs.StandingLost.{IsTold}
+use Rattle.osi_pair.proofs.StandingEnded.{ended_holding, ended_pair, left_at_end, may_end, shown_then, ended_stands}
+use Rattle.osi_pair.proofs.StandingLost.{none_kept, IsTold}
 
 -- ---- the step
 
@@ -38,13 +38,13 @@ one_end who t keep none broken =
     (ap (λ (o : Option Ending). is_some o || not t.broken) none ∙ ap not broken)
 
 abbrev told_end : Holding → Rows stack.Line → Holding
-told_end h lines = ended_holding Broken lines h.held h
+told_end h lines = ended_holding Broken h.end.carrier lines h.held
 
 abbrev told_left : TwoEnds → Rows stack.Line → List Entry → TwoEnds
-told_left p lines journal = ended_pair Left Broken lines p.left.held journal p
+told_left p lines journal = ended_pair Left Broken p.left.end.carrier lines p.left.held journal p
 
 abbrev told_right : TwoEnds → Rows stack.Line → List Entry → TwoEnds
-told_right p lines journal = ended_pair Right Broken lines p.right.held journal p
+told_right p lines journal = ended_pair Right Broken p.right.end.carrier lines p.right.held journal p
 
 -- ---- at a list of steps
 
@@ -59,7 +59,8 @@ left_at p steps lines first journal s broken none told said =
     let begin : Tables = start (terms_in (terms_of p.left.end.carrier.local p.right.end.carrier.local)) in
     let t = run begin steps in
     let keep = left_at_end Left (told_left p lines journal) s.now in
-    let done = ended_stands Left p s.now t Broken told_of_break lines p.left.held first journal s.stands none refl told said in
+    let done = ended_stands Left p s.now t p.left.end p.left.held s.now Broken told_of_break lines p.left.held first journal s.stands (may_end Left p s.now t s.stands none) refl
+    (λ n. none_kept n p.left.end.lines lines told.same) (shown_then Left p s.now t lines first s.stands none told) said in
     let lasts : end_of machine.Left t ≡ None = none_of t.left_end (s.stands.left_end ∙ ap (option_map ending_in) none) in
     let is = one_end machine.Left t keep lasts (s.stands.broken ∙ broken) in
     record {
@@ -78,7 +79,8 @@ right_at p steps lines first journal s broken none told said =
     let begin : Tables = start (terms_in (terms_of p.left.end.carrier.local p.right.end.carrier.local)) in
     let t = run begin steps in
     let keep = left_at_end Right (told_right p lines journal) s.now in
-    let done = ended_stands Right p s.now t Broken told_of_break lines p.right.held first journal s.stands none refl told said in
+    let done = ended_stands Right p s.now t p.right.end p.right.held s.now Broken told_of_break lines p.right.held first journal s.stands (may_end Right p s.now t s.stands none) refl
+    (λ n. none_kept n p.right.end.lines lines told.same) (shown_then Right p s.now t lines first s.stands none told) said in
     let lasts : end_of machine.Right t ≡ None = none_of t.right_end (s.stands.right_end ∙ ap (option_map ending_in) none) in
     let is = one_end machine.Right t keep lasts (s.stands.broken ∙ broken) in
     record {
