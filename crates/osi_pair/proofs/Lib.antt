@@ -20,6 +20,7 @@ pub mod StandingShown
 pub mod StandingActed
 pub mod StandingSends
 pub mod StandingCloses
+pub mod StandingAnswers
 pub mod StandingPacket
 pub mod StandingTaken
 pub mod StandingHanded

@@ -76,7 +76,7 @@ pub record CallLaws : Type 0 where
 
 -- ---- a refused call
 
-put_nothing : (broken : Bool) (channel : List Message) → worlds.put broken [] channel ≡ channel
+pub put_nothing : (broken : Bool) (channel : List Message) → worlds.put broken [] channel ≡ channel
 put_nothing true channel = refl
 put_nothing false channel = append-nil channel
 

@@ -17,7 +17,8 @@ use Rattle.osi_machine.specs.Tables.{Line, Tables, seen_from, stays, closed}
 use Rattle.osi_machine.specs.Worlds.{Message, bye, put}
 use Rattle.osi_session.specs.Phases.{is_ended}
 use Rattle.osi_session.specs.Moves.{Standing}
-use Rattle.osi_stack.specs.State.{Line as StackLine}
+use Rattle.osi_stack.specs.Hearing.{with_carrier}
+use Rattle.osi_stack.specs.State.{Holding, Line as StackLine}
 use Rattle.osi_carrier.specs.Rows.{Rows}
 use Rattle.osi_pair.specs.Ends.{TwoEnds, end_at}
 use Rattle.osi_pair.specs.Sides.{other}
@@ -32,7 +33,7 @@ use Rattle.osi_pair.proofs.StandingRests.{unless_broken, put_unless, unless_same
 use Rattle.osi_pair.proofs.StandingResting.{broken_is}
 use Rattle.osi_pair.proofs.StandingSeats.{HasSession}
 use Rattle.osi_pair.proofs.StandingSends.{open_is}
-use Rattle.osi_pair.proofs.StandingTurned.{IsSeen}
+use Rattle.osi_pair.proofs.StandingTurned.{IsSeen, with_holding}
 use Rattle.osi_pair.proofs.StandingWays.{out_cuts}
 
 -- ---- the carrier
@@ -103,16 +104,15 @@ out_closes s p b t n l old a i lives =
 session_shuts : (n : ℕ) (lines : Rows StackLine) (x : Standing) → is_ended x.state.phase ≡ true → HasSession n lines in_use x → HasSession n lines shutting x
 session_shuts n lines x ended h = record { live = λ e. h.live refl; kept = h.kept; over_now = λ e. ended; awaiting = λ e. cc; octets = h.octets }
 
--- behind a close they stand, where so much is kept of what was under way
-pub record ClosesOn (s : Side) (p : TwoEnds) (t : Tables) (n : ℕ) (l : Line) : Type 0 where
+-- behind a close of the end of a side, which is this, they stand, where so much is kept of what was under way
+pub record ClosesOn (s : Side) (p : TwoEnds) (t : Tables) (n : ℕ) (l : Line) (y : Holding) : Type 0 where
   pub keep : ℕ
-  pub on : StandsOn (pair_with s (closed_with n 128 (end_at s p).end.carrier) p) (stays t (side_in s) n (closed t.broken keep l))
-  pub lasts : (closed_with n 128 (end_at s p).end.carrier).ended ≡ None
+  pub on : StandsOn (with_holding s (with_carrier (closed_with n 128 y.end.carrier) y.end) y.held p) (stays t (side_in s) n (closed t.broken keep l))
 
 -- an end closes a connection whose session has ended, and is in order then
 pub closes_stand : CarrierLaws → (s : Side) (p : TwoEnds) (b : Between) (t : Tables) (n peer : ℕ) (link : Link) (l : Line) → Stands p b t → (end_at s p).end.carrier.ended ≡ None → terms_at p ≡ by_two →
     value_at n (end_at s p).end.carrier.live ≡ Some (linked peer link) → connection_at n t.lines ≡ Some (seen_from (side_in s) l) → is_ended l.own.session.state.phase ≡ true →
-    IsInOrder (end_with s (closed_with n 128 (end_at s p).end.carrier) p) → ClosesOn s p t n l
+    IsInOrder (end_with s (closed_with n 128 (end_at s p).end.carrier) p) → ClosesOn s p t n l (end_at s p)
 closes_stand laws s p b t n peer link l old alive two at found ended order =
     let c = closed_with n 128 (end_at s p).end.carrier in
     let a = close_acts laws s p b t n peer link old alive two at in
@@ -121,5 +121,19 @@ closes_stand laws s p b t n peer link l old alive two at found ended order =
     record {
       keep = length a.ways.stays;
       on = acted_stands s p b t n shutting c (carrier.bye 128 ∷ []) (put t.broken (bye 128 ∷ []) (take (length a.ways.stays) l.own.channel)) l old alive a order found x (out_closes s p b t n l old a i);
-      lasts = a.on.lasts;
     }
+
+-- the end of the side is this
+pub closes_from : CarrierLaws → (s : Side) (p : TwoEnds) (b : Between) (t : Tables) (n peer : ℕ) (link : Link) (l : Line) (y : Holding) → end_at s p ≡ y → Stands p b t → terms_at p ≡ by_two →
+    connection_at n t.lines ≡ Some (seen_from (side_in s) l) → is_ended l.own.session.state.phase ≡ true → y.end.carrier.ended ≡ None → value_at n y.end.carrier.live ≡ Some (linked peer link) →
+    IsInOrder (with_carrier (closed_with n 128 y.end.carrier) y.end) → ClosesOn s p t n l y
+closes_from laws s p b t n peer link l y e old two found over =
+    subst (λ (y : Holding). y.end.carrier.ended ≡ None → value_at n y.end.carrier.live ≡ Some (linked peer link) → IsInOrder (with_carrier (closed_with n 128 y.end.carrier) y.end) → ClosesOn s p t n l y) e
+    (λ alive at order. closes_stand laws s p b t n peer link l old alive two at found over order)
+
+-- what it leaves of the carrier
+pub close_is : CarrierLaws → (s : Side) (p : TwoEnds) (b : Between) (t : Tables) (n peer : ℕ) (link : Link) (y : Holding) → end_at s p ≡ y → Stands p b t → terms_at p ≡ by_two →
+    y.end.carrier.ended ≡ None → value_at n y.end.carrier.live ≡ Some (linked peer link) → ActsOn n shutting y.end.carrier (closed_with n 128 y.end.carrier)
+close_is laws s p b t n peer link y e old two =
+    subst (λ (y : Holding). y.end.carrier.ended ≡ None → value_at n y.end.carrier.live ≡ Some (linked peer link) → ActsOn n shutting y.end.carrier (closed_with n 128 y.end.carrier)) e
+    (λ alive at. (close_acts laws s p b t n peer link old alive two at).on)

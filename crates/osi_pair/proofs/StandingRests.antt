@@ -37,7 +37,7 @@ step_is t s r keep l x xs alive found first =
 abbrev pub delivered : Tables → machine.Side → ℕ → Option worlds.Class → Turn → Tables
 delivered t s r known turn = noted (map (shown_at s r) turn.shown) (stays (record t { known = known }) s r turn.line)
 
-open_by : (t : Tables) (s : machine.Side) (r : ℕ) (keep : ℕ → ℕ) (turn : Turn) → turn.closes ≡ false → after_turn t s r keep turn ≡ noted (map (shown_at s r) turn.shown) (stays t s r turn.line)
+pub open_by : (t : Tables) (s : machine.Side) (r : ℕ) (keep : ℕ → ℕ) (turn : Turn) → turn.closes ≡ false → after_turn t s r keep turn ≡ noted (map (shown_at s r) turn.shown) (stays t s r turn.line)
 open_by t s r keep turn e =
     ap (λ (b : Bool). if◌then◌else◌ {A = Tables} b (closes_by t.known (noted (map (shown_at s r) turn.shown) t) s r keep turn.line) (noted (map (shown_at s r) turn.shown) (stays t s r turn.line))) e
 

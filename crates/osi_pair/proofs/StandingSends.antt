@@ -17,6 +17,8 @@ use Rattle.osi_machine.specs.Worlds.{Message, Transport, unit, put}
 use Rattle.osi_machine.specs.Worlds as worlds
 use Rattle.osi_message.specs.Meanings.{Meaning}
 use Rattle.osi_message.specs.Written.{written}
+use Rattle.osi_stack.specs.Hearing.{with_carrier}
+use Rattle.osi_stack.specs.State.{Holding}
 use Rattle.osi_pair.specs.Ends.{TwoEnds, end_at}
 use Rattle.osi_pair.specs.Sides.{other}
 use Rattle.osi_pair.specs.Standing.{side_in, is_caller, carriers_of, message_in, AreAlike, IsInOrder, Stands}
@@ -30,7 +32,7 @@ use Rattle.osi_pair.proofs.StandingFinish.{terms_at, order_of}
 use Rattle.osi_pair.proofs.StandingRests.{unless_broken, put_unless, unless_same}
 use Rattle.osi_pair.proofs.StandingResting.{broken_is}
 use Rattle.osi_pair.proofs.StandingSeats.{transport_at}
-use Rattle.osi_pair.proofs.StandingTurned.{IsSeen}
+use Rattle.osi_pair.proofs.StandingTurned.{IsSeen, with_holding}
 use Rattle.osi_pair.proofs.StandingWays.{out_keeps}
 
 -- ---- the carrier
@@ -120,3 +122,13 @@ sends_stand laws s p b t n peer link m l old alive at short octets found order =
     i.here.transport ∙ transport_at (place_at n (end_at s p).end.carrier) in_use (ap progress_of (live_place n (end_at s p).end.carrier (linked peer link) (order_of s p b t old alive).sound.orderly at)) in
     subst (λ (y : Line). StandsOn (pair_with s c p) (stays t (side_in s) n y)) (line_sends t.broken m l open_now)
     (acted_stands s p b t n in_use c (carrier.message (written m) ∷ []) (put t.broken (unit m ∷ []) l.own.channel) l old alive a order found x (out_sends s p b t n m l old alive a order i))
+
+-- the end of the side is this
+pub sends_from : CarrierLaws → (s : Side) (p : TwoEnds) (b : Between) (t : Tables) (n peer : ℕ) (link : Link) (m : Meaning) (l : Line) (y : Holding) → end_at s p ≡ y → Stands p b t →
+    IsShortTsdu (written m) → IsOctets (written m) → connection_at n t.lines ≡ Some (seen_from (side_in s) l) → y.end.carrier.ended ≡ None → value_at n y.end.carrier.live ≡ Some (linked peer link) →
+    IsInOrder (with_carrier (sent n (written m) y.end.carrier) y.end) →
+    StandsOn (with_holding s (with_carrier (sent n (written m) y.end.carrier) y.end) y.held p) (stays t (side_in s) n (puts t.broken (unit m ∷ []) l))
+sends_from laws s p b t n peer link m l y e old short octets found =
+    subst (λ (y : Holding). y.end.carrier.ended ≡ None → value_at n y.end.carrier.live ≡ Some (linked peer link) → IsInOrder (with_carrier (sent n (written m) y.end.carrier) y.end) →
+    StandsOn (with_holding s (with_carrier (sent n (written m) y.end.carrier) y.end) y.held p) (stays t (side_in s) n (puts t.broken (unit m ∷ []) l))) e
+    (λ alive at order. sends_stand laws s p b t n peer link m l old alive at short octets found order)

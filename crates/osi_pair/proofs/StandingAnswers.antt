@@ -1,0 +1,250 @@
+-- A session moved, and sends a unit, or closes its connection of class 2: how two ends stand when that was done,
+-- and its user was shown what the move shows.
+use Rattle.std.proofs.Common.{◌≡◌, ℕ, zero, suc, Bool, true, false, if◌then◌else◌, List, [], ◌∷◌, ◌++◌, map, Option, Some, None, option_map, refl, sym, ap, subst, ◌∙◌, ◌⊎◌, inl, inr}
+use Rattle.std.proofs.lemmas.List.{append-nil}
+use Rattle.osi_tpkt.specs.Held.{Held}
+use Rattle.osi_carrier.specs.Calls.{open_link, sent, sent_on, closes, closed_on, closed_with}
+use Rattle.osi_carrier.specs.Orderly.{AreUpTo}
+use Rattle.osi_carrier.specs.Progress.{in_use, gone}
+use Rattle.osi_carrier.specs.Rows.{Rows}
+use Rattle.osi_carrier.specs.State.{State as Carrier}
+use Rattle.osi_carrier.specs.Terms.{by_two}
+use Rattle.osi_carrier.specs.declared.ends.EndReason.{EndReason}
+use Rattle.osi_class.specs.Link.{Standing as Link}
+use Rattle.osi_class.specs.declared.terms.Class.{Class}
+use Rattle.osi_class.specs.declared.terms.Class.TheVariants.{Zero, Two}
+use Rattle.osi_machine.specs.Core as machine
+use Rattle.osi_machine.specs.Machine.{connection_at, delivers, shown_at, replaced, with_connection}
+use Rattle.osi_machine.specs.Machine as entries
+use Rattle.osi_machine.specs.Tables.{Line as TableLine, Turn, Tables, seen_from, stays, puts, closed, closes_by, noted as noted_in, after_turn, step}
+use Rattle.osi_machine.specs.Worlds.{Message, unit, put, replied}
+use Rattle.osi_machine.specs.Worlds as worlds
+use Rattle.osi_message.specs.Meanings.{Meaning}
+use Rattle.osi_message.specs.Written.{written}
+use Rattle.osi_session.specs.Phases.{is_ended}
+use Rattle.osi_session.specs.Shown.{Shown}
+use Rattle.osi_stack.specs.Hearing.{after_packet, concludes, with_carrier}
+use Rattle.osi_stack.specs.Links.{IsSound}
+use Rattle.osi_stack.specs.Messages.{kept_at}
+use Rattle.osi_stack.specs.Moving.{answers}
+use Rattle.osi_stack.specs.State.{Line, End, Holding}
+use Rattle.osi_stack.specs.Transport.{answers_by}
+use Rattle.osi_stack.proofs.Moves.{handed}
+use Rattle.osi_pair.specs.Ends.{TwoEnds, end_at}
+use Rattle.osi_pair.specs.Entries.{Entry}
+use Rattle.osi_pair.specs.Standing.{side_in, IsInOrder, Stands}
+use Rattle.osi_pair.specs.Telling.{waiting_in, quieted, shown_entries, end_entries, told_entries}
+use Rattle.osi_pair.specs.declared.sides.Side.{Side}
+use Rattle.osi_pair.specs.declared.sides.Side.TheVariants.{Left, Right}
+use Rattle.osi_pair.proofs.StandingActs.{StandsOn}
+use Rattle.osi_pair.proofs.StandingArrived.{CarrierLaws}
+use Rattle.osi_pair.proofs.StandingCall.{put_nothing}
+use Rattle.osi_pair.proofs.StandingCloses.{closes_from, close_is}
+use Rattle.osi_pair.proofs.StandingFinish.{terms_at, order_of, line_then}
+use Rattle.osi_pair.proofs.StandingHeard.{lasting}
+use Rattle.osi_pair.proofs.StandingMoved.{Moving, move_of, loud_lines, moved_end, IsLinkedAt, known_by, moved_line, turn_of, moved_tables, HasMoved}
+use Rattle.osi_pair.proofs.StandingMoves.{is_move}
+use Rattle.osi_pair.proofs.StandingPacket.{terms_then}
+use Rattle.osi_pair.proofs.StandingQuiet.{quiet_kept}
+use Rattle.osi_pair.proofs.StandingRests.{open_by}
+use Rattle.osi_pair.proofs.StandingRows.{Row, quiet, still, begins, refuses, agrees, denies, tells, leaves, ignores, ends, after}
+use Rattle.osi_pair.proofs.StandingSends.{open_is, sent_acts, sends_from}
+use Rattle.osi_pair.proofs.StandingShown.{StandsShown, shown_pair}
+use Rattle.osi_pair.proofs.StandingTurned.{with_holding, turned_pair}
+
+-- ---- the two ends when the session has moved
+
+turned_here : (s : Side) (e : End) (h : Held) (n : ℕ) (shown : List Shown) (p : TwoEnds) → end_at s (turned_pair s e h n shown p) ≡ record { end = e; held = h }
+turned_here Left e h n shown p = refl
+turned_here Right e h n shown p = refl
+
+-- the end as it then stands, with the carrier as it acted, and where all that waits still waits
+abbrev pub answered_end : Carrier → Rows Line → End
+answered_end c lines = record { carrier = c; lines = lines }
+
+told_is : (s : Side) (n : ℕ) (shown : List Shown) (ended : Option EndReason) (waits : List (ℕ × Shown)) → ended ≡ None → waits ≡ map (λ x. (n, x)) shown →
+    shown_entries s (map (λ x. (n, x)) shown) ≡ told_entries s None ended waits
+told_is s n shown ended waits lasts e =
+    ap (shown_entries s) (sym e) ∙ sym (append-nil (shown_entries s waits)) ∙ ap (λ (o : Option EndReason). shown_entries s waits ++ end_entries s None o) (sym lasts)
+
+shown_is : (s : Side) (p : TwoEnds) (e : End) (h : Held) (n : ℕ) (shown : List Shown) (c : Carrier) (lines : Rows Line) → c.ended ≡ None → waiting_in lines ≡ map (λ x. (n, x)) shown →
+    with_holding s (answered_end c (quieted lines)) h (turned_pair s e h n shown p) ≡ shown_pair s (answered_end c lines) h p
+shown_is Left p e h n shown c lines lasts waits =
+    ap (λ (es : List Entry). record (with_holding Left (answered_end c (quieted lines)) h p) { journal = p.journal ++ es }) (told_is Left n shown c.ended (waiting_in lines) lasts waits)
+shown_is Right p e h n shown c lines lasts waits =
+    ap (λ (es : List Entry). record (with_holding Right (answered_end c (quieted lines)) h p) { journal = p.journal ++ es }) (told_is Right n shown c.ended (waiting_in lines) lasts waits)
+
+-- it is in order, as it was where it has the connections that its sessions need
+order_then : (e : End) (c : Carrier) (lines : Rows Line) → e.lines ≡ quieted lines → c.ended ≡ None → c.given ≡ e.carrier.given → c.events ≡ e.carrier.events → IsInOrder e → IsSound (answered_end c lines) → IsInOrder (with_carrier c e)
+order_then e c lines same lasts given events was sound =
+    let x = sound lasts in
+    record {
+      heard = events ∙ was.heard;
+      sound = record {
+        orderly = x.orderly;
+        apart = was.sound.apart;
+        known = subst (λ (k : ℕ). AreUpTo k e.lines) (sym given) was.sound.known;
+        links = λ alive r y kept needs. x.links alive r y (sym (quiet_kept r lines) ∙ ap (kept_at r) (sym same) ∙ kept) needs;
+      };
+      rising = was.rising;
+      came = was.came;
+    }
+
+sent_events : (n : ℕ) (tsdu : List ℕ) (c : Carrier) (peer : ℕ) (link : Link) → open_link n c ≡ Some (peer, link) → (sent n tsdu c).events ≡ c.events
+sent_events n tsdu c peer link is = ap (λ (o : Option (ℕ × Link)). (sent_on n tsdu o c).events) is
+
+closes_events : (n : ℕ) (c : Carrier) (peer reason : ℕ) (class : Option Class) → (closes n peer reason class c).events ≡ c.events
+closes_events n c peer reason (Some Zero) = refl
+closes_events n c peer reason (Some Two) = refl
+closes_events n c peer reason None = refl
+
+closed_events : (n reason : ℕ) (c : Carrier) (peer : ℕ) (link : Link) → open_link n c ≡ Some (peer, link) → (closed_with n reason c).events ≡ c.events
+closed_events n reason c peer link is = ap (λ (o : Option (ℕ × Link)). (closed_on n reason o c).events) is ∙ closes_events n c peer reason c.class
+
+-- ---- the tables
+
+replaced_twice : (r : ℕ) (x y : TableLine) (ls : List TableLine) → replaced r y (replaced r x ls) ≡ replaced r y ls
+replaced_twice r x y [] = refl
+replaced_twice zero x y (l ∷ ls) = refl
+replaced_twice (suc r) x y (l ∷ ls) = ap (λ (more : List TableLine). l ∷ more) (replaced_twice r x y ls)
+
+with_twice : (r : ℕ) (x y : TableLine) (ls : List TableLine) → with_connection r y (with_connection r x ls) ≡ with_connection r y ls
+with_twice zero x y ls = refl
+with_twice (suc r) x y ls = replaced_twice r x y ls
+
+-- a line that was another in between
+stays_twice : (t : Tables) (s : machine.Side) (n : ℕ) (es : List entries.Entry) (x y : TableLine) → stays (noted_in es (stays t s n x)) s n y ≡ noted_in es (stays t s n y)
+stays_twice t s n es x y = ap (λ (ls : List TableLine). noted_in es (record t { lines = ls })) (with_twice n (seen_from s x) (seen_from s y) t.lines)
+
+closing_by : (t : Tables) (s : machine.Side) (n : ℕ) (keep : ℕ → ℕ) (turn : Turn) → turn.closes ≡ true → after_turn t s n keep turn ≡ closes_by t.known (noted_in (map (shown_at s n) turn.shown) t) s n keep turn.line
+closing_by t s n keep turn e =
+    ap (λ (b : Bool). if◌then◌else◌ {A = Tables} b (closes_by t.known (noted_in (map (shown_at s n) turn.shown) t) s n keep turn.line) (noted_in (map (shown_at s n) turn.shown) (stays t s n turn.line))) e
+
+-- the line where this is sent
+abbrev pub line_with : Bool → Moving → Option Meaning → TableLine
+line_with broken m reply = line_then m.row (move_of m).next (put broken (replied reply) m.seen.own.channel) m.rest m.seen
+
+-- the delivery, where the move sends a unit
+answered_step : (s : Side) (p : TwoEnds) (t : Tables) (packet : List ℕ) (h : Held) (v : HasMoved s p t packet h) (x : Meaning) (keep : ℕ → ℕ) → (move_of v.m).closes ≡ false → (move_of v.m).reply ≡ Some x →
+    step t (delivers (side_in s) v.m.n keep) ≡ stays (moved_tables s t v.m) (side_in s) v.m.n (puts t.broken (unit x ∷ []) (moved_line v.m))
+answered_step s p t packet h v x keep open_still reply =
+    let m = v.m in
+    let t0 = record t { known = known_by t m } in
+    let es = map (shown_at (side_in s) m.n) (move_of m).shown in
+    v.steps keep ∙ open_by t0 (side_in s) m.n keep (turn_of t.broken m) open_still
+    ∙ ap (λ (o : Option Meaning). noted_in es (stays t0 (side_in s) m.n (line_with t.broken m o))) reply
+    ∙ sym (stays_twice t0 (side_in s) m.n es (moved_line m) (puts t.broken (unit x ∷ []) (moved_line m)))
+
+-- the delivery, where the move closes
+closed_step : (s : Side) (p : TwoEnds) (t : Tables) (packet : List ℕ) (h : Held) (v : HasMoved s p t packet h) (keep : ℕ) → known_by t v.m ≡ Some worlds.class_2 → (move_of v.m).closes ≡ true → (move_of v.m).reply ≡ None →
+    step t (delivers (side_in s) v.m.n (λ r. keep)) ≡ stays (moved_tables s t v.m) (side_in s) v.m.n (closed t.broken keep (moved_line v.m))
+closed_step s p t packet h v keep known closing reply =
+    let m = v.m in
+    let t0 = record t { known = known_by t m } in
+    let es = map (shown_at (side_in s) m.n) (move_of m).shown in
+    v.steps (λ r. keep) ∙ closing_by t0 (side_in s) m.n (λ r. keep) (turn_of t.broken m) closing
+    ∙ ap (λ (o : Option worlds.Class). closes_by o (noted_in es t0) (side_in s) m.n (λ r. keep) (turn_of t.broken m).line) known
+    ∙ ap (λ (o : Option Meaning). noted_in es (stays t0 (side_in s) m.n (closed t.broken keep (line_with t.broken m o)))) reply
+    ∙ ap (λ (ms : List Message). noted_in es (stays t0 (side_in s) m.n (closed t.broken keep (line_then m.row (move_of m).next ms m.rest m.seen)))) (put_nothing t.broken m.seen.own.channel)
+    ∙ sym (stays_twice t0 (side_in s) m.n es (moved_line m) (closed t.broken keep (moved_line m)))
+
+-- ---- the connection of a move that sends or closes is open
+
+move_ends : (row : Row) → is_move row ≡ true → (after row ≡ in_use) ⊎ (after row ≡ gone)
+move_ends agrees e = inl refl
+move_ends (denies reason) e = inr refl
+move_ends (tells octets) e = inl refl
+move_ends quiet e = cc
+move_ends still e = cc
+move_ends begins e = cc
+move_ends (refuses reason) e = cc
+move_ends (leaves reason) e = cc
+move_ends (ignores octets) e = cc
+move_ends (ends m) e = cc
+
+some_none : (o : Option Meaning) (x : Meaning) → o ≡ Some x → o ≡ None → ⊥
+some_none o x e f = cc
+
+linked_sends : (s : Side) (p : TwoEnds) (t : Tables) (packet : List ℕ) (h : Held) (v : HasMoved s p t packet h) (x : Meaning) → (move_of v.m).reply ≡ Some x → ((after v.m.row ≡ in_use) ⊎ (after v.m.row ≡ gone)) →
+    IsLinkedAt v.m.n (moved_end s p v.unit v.m).carrier
+linked_sends s p t packet h v x reply (inl e) = v.opened e
+linked_sends s p t packet h v x reply (inr e) = absurd (some_none (move_of v.m).reply x reply (v.silent e).0)
+
+linked_closes : (s : Side) (p : TwoEnds) (t : Tables) (packet : List ℕ) (h : Held) (v : HasMoved s p t packet h) → (move_of v.m).closes ≡ true → ((after v.m.row ≡ in_use) ⊎ (after v.m.row ≡ gone)) →
+    IsLinkedAt v.m.n (moved_end s p v.unit v.m).carrier
+linked_closes s p t packet h v closing (inl e) = v.opened e
+linked_closes s p t packet h v closing (inr e) = let no_way : true ≡ false = sym closing ∙ (v.silent e).1 in cc
+
+-- the end is in order before it sends or closes
+moved_order : (s : Side) (p : TwoEnds) (t : Tables) (packet : List ℕ) (h : Held) (v : HasMoved s p t packet h) → IsInOrder (moved_end s p v.unit v.m)
+moved_order s p t packet h v =
+    let e = moved_end s p v.unit v.m in
+    let p1 = turned_pair s e h v.m.n (move_of v.m).shown p in
+    let here = turned_here s e h v.m.n (move_of v.m).shown p in
+    subst (λ (y : Holding). IsInOrder y.end) here (order_of s p1 v.now (moved_tables s t v.m) v.stands (ap (λ (y : Holding). y.end.carrier.ended) here ∙ v.lasts))
+
+-- ---- the packet
+
+-- the carrier did this, and the delivery left these tables
+finish_shown : (s : Side) (p : TwoEnds) (t : Tables) (packet : List ℕ) (h : Held) (v : HasMoved s p t packet h) (c : Carrier) (keep : ℕ → ℕ) (u : Tables) →
+    after_packet (end_at s p).end packet ≡ answered_end c (loud_lines s p v.m) → c.ended ≡ None → c.local ≡ (moved_end s p v.unit v.m).carrier.local → step t (delivers (side_in s) v.m.n keep) ≡ u →
+    StandsOn (with_holding s (with_carrier c (moved_end s p v.unit v.m)) h (turned_pair s (moved_end s p v.unit v.m) h v.m.n (move_of v.m).shown p)) u →
+    StandsShown s p t (after_packet (end_at s p).end packet) h
+finish_shown s p t packet h v c keep u same lasts local is on =
+    let n = v.m.n in
+    let e = moved_end s p v.unit v.m in
+    let lines = loud_lines s p v.m in
+    subst (λ (x : End). StandsShown s p t x h) (sym same)
+    (record {
+      more = delivers (side_in s) n keep ∷ [];
+      are = (refl, tt);
+      now = on.now;
+      local = local ∙ v.local;
+      stands = subst (λ (y : Tables). Stands (shown_pair s (answered_end c lines) h p) on.now y) (sym is)
+          (subst (λ (q : TwoEnds). Stands q on.now u) (shown_is s p e h n (move_of v.m).shown c lines lasts v.waits) on.stands);
+    })
+
+-- the session sends a unit, and closes nothing
+pub answered_shown : CarrierLaws → (s : Side) (p : TwoEnds) (t : Tables) (packet : List ℕ) (h : Held) (v : HasMoved s p t packet h) (x : Meaning) → IsSound (after_packet (end_at s p).end packet) →
+    (move_of v.m).closes ≡ false → (move_of v.m).reply ≡ Some x → StandsShown s p t (after_packet (end_at s p).end packet) h
+answered_shown laws s p t packet h v x sound open_still reply =
+    let n = v.m.n in
+    let e = moved_end s p v.unit v.m in
+    let lines = loud_lines s p v.m in
+    let p1 = turned_pair s e h n (move_of v.m).shown p in
+    let t1 = moved_tables s t v.m in
+    let c = sent n (written x) e.carrier in
+    let go = v.sends x reply in
+    let linked_now = linked_sends s p t packet h v x reply (move_ends v.m.row v.row) in
+    let a = sent_acts n (written x) e.carrier linked_now.peer linked_now.link v.lasts linked_now.at in
+    let acts : answers n (move_of v.m) e.carrier ≡ c =
+    ap (λ (b : Bool). answers_by b n (option_map written (move_of v.m).reply) e.carrier) open_still ∙ ap (λ (o : Option Meaning). answers_by false n (option_map written o) e.carrier) reply
+    ∙ handed n (written x) e.carrier go.short in
+    let same : after_packet (end_at s p).end packet ≡ answered_end c lines =
+    v.does ∙ ap (λ (k : Carrier). concludes (answered_end k lines)) acts ∙ lasting (answered_end c lines) a.lasts in
+    let events = sent_events n (written x) e.carrier linked_now.peer linked_now.link (open_is n e.carrier linked_now.peer linked_now.link v.lasts linked_now.at) in
+    let order : IsInOrder (with_carrier c e) = order_then e c lines refl a.lasts a.given events (moved_order s p t packet h v) (subst IsSound same sound) in
+    finish_shown s p t packet h v c (λ r. 0) (stays t1 (side_in s) n (puts t.broken (unit x ∷ []) (moved_line v.m))) same a.lasts a.local (answered_step s p t packet h v x (λ r. 0) open_still reply)
+    (sends_from laws s p1 v.now t1 n linked_now.peer linked_now.link x (moved_line v.m) (record { end = e; held = h }) (turned_here s e h n (move_of v.m).shown p) v.stands go.short go.octets v.found_now v.lasts linked_now.at order)
+
+-- in class 2 it closes its connection, and sends nothing
+pub closed_shown : CarrierLaws → (s : Side) (p : TwoEnds) (t : Tables) (packet : List ℕ) (h : Held) (v : HasMoved s p t packet h) → IsSound (after_packet (end_at s p).end packet) → terms_at p ≡ by_two →
+    known_by t v.m ≡ Some worlds.class_2 → (move_of v.m).closes ≡ true → (move_of v.m).reply ≡ None → is_ended (move_of v.m).next.state.phase ≡ true → StandsShown s p t (after_packet (end_at s p).end packet) h
+closed_shown laws s p t packet h v sound two known closing reply over =
+    let n = v.m.n in
+    let e = moved_end s p v.unit v.m in
+    let lines = loud_lines s p v.m in
+    let p1 = turned_pair s e h n (move_of v.m).shown p in
+    let t1 = moved_tables s t v.m in
+    let c = closed_with n 128 e.carrier in
+    let here = turned_here s e h n (move_of v.m).shown p in
+    let linked_now = linked_closes s p t packet h v closing (move_ends v.m.row v.row) in
+    let two_now : terms_at p1 ≡ by_two = terms_then s p e h v.local ∙ two in
+    let a = close_is laws s p1 v.now t1 n linked_now.peer linked_now.link (record { end = e; held = h }) here v.stands two_now v.lasts linked_now.at in
+    let acts : answers n (move_of v.m) e.carrier ≡ c = ap (λ (b : Bool). answers_by b n (option_map written (move_of v.m).reply) e.carrier) closing in
+    let same : after_packet (end_at s p).end packet ≡ answered_end c lines =
+    v.does ∙ ap (λ (k : Carrier). concludes (answered_end k lines)) acts ∙ lasting (answered_end c lines) a.lasts in
+    let events = closed_events n 128 e.carrier linked_now.peer linked_now.link (open_is n e.carrier linked_now.peer linked_now.link v.lasts linked_now.at) in
+    let order : IsInOrder (with_carrier c e) = order_then e c lines refl a.lasts a.given events (moved_order s p t packet h v) (subst IsSound same sound) in
+    let on = closes_from laws s p1 v.now t1 n linked_now.peer linked_now.link (moved_line v.m) (record { end = e; held = h }) here v.stands two_now v.found_now over v.lasts linked_now.at order in
+    finish_shown s p t packet h v c (λ r. on.keep) (stays t1 (side_in s) n (closed t.broken on.keep (moved_line v.m))) same a.lasts a.local (closed_step s p t packet h v on.keep known closing reply) on.on
