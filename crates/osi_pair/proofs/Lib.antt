@@ -25,6 +25,8 @@ pub mod StandingPacket
 pub mod StandingTaken
 pub mod StandingHanded
 pub mod StandingPackets
+pub mod StandingPieces
+pub mod StandingCarried
 pub mod Growing
 pub mod StandingBreak
 pub mod StandingLost

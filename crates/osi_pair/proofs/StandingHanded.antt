@@ -1,18 +1,18 @@
 -- Octets of a side are handed over to the other: no step of the machine.
-use Rattle.std.proofs.Common.{◌≡◌, ℕ, ◌-◌, ◌≤◌, Bool, true, false, not, List, [], ◌++◌, length, take, drop, min, Option, Some, None, is_some, option_map, IfSome, refl, sym, ap, subst, ◌∙◌, arith}
-use Rattle.std.proofs.lemmas.List.{length-take, length-drop}
+use Rattle.std.proofs.Common.{◌≡◌, ℕ, ◌≤◌, Bool, true, false, not, List, ◌++◌, length, take, Option, Some, None, is_some, option_map, IfSome, refl, sym, ap, subst, ◌∙◌, arith}
+use Rattle.std.proofs.lemmas.List.{length-take}
 use Rattle.osi_tpkt.specs.Held.{Held}
 use Rattle.osi_carrier.specs.Between.{Between, Both, AreBetween, IsOnTheWay, Same, side, with_side, last_of, units_from, lost_from, arriving, reach_of, within_reach, reach_less, under_way, handed_over}
-use Rattle.osi_carrier.specs.Course.{place_at, progress_of}
-use Rattle.osi_carrier.specs.Terms.{Terms, terms_of}
+use Rattle.osi_carrier.specs.Course.{progress_of}
+use Rattle.osi_carrier.specs.Terms.{Terms}
 use Rattle.osi_machine.specs.Machine.{Step}
-use Rattle.osi_machine.specs.Tables.{Seat, Line, Tables, run, start}
+use Rattle.osi_machine.specs.Tables.{Seat, Tables, run, start}
 use Rattle.osi_stack.specs.Calls.{carried}
 use Rattle.osi_stack.specs.State.{End, Holding}
 use Rattle.osi_pair.specs.Ends.{TwoEnds, end_at, with_end, reachable}
 use Rattle.osi_pair.specs.Reaching.{within, reach_after}
 use Rattle.osi_pair.specs.Sides.{other}
-use Rattle.osi_pair.specs.Standing.{is_caller, carriers_of, message_in, IsSeated, IsLine, HasLine, IsInOrder, terms_in, Stands, StandsAt}
+use Rattle.osi_pair.specs.Standing.{is_caller, carriers_of, IsSeated, IsInOrder, terms_in, Stands, StandsAt}
 use Rattle.osi_pair.specs.declared.reach.Reach.{Reach}
 use Rattle.osi_pair.specs.declared.sides.Side.{Side}
 use Rattle.osi_pair.specs.declared.sides.Side.TheVariants.{Left, Right}

@@ -1,5 +1,5 @@
 -- Packets that an end takes one after the other, of which none stops but perhaps the last.
-use Rattle.std.proofs.Common.{◌≡◌, ℕ, ◌≤◌, ◌==◌, ◌||◌, Bool, true, false, not, List, [], ◌∷◌, ◌++◌, length, map, Option, Some, None, is_some, refl, sym, ap, subst, ◌∙◌, if◌then◌else◌, arith}
+use Rattle.std.proofs.Common.{◌≡◌, ℕ, ◌≤◌, ◌==◌, ◌||◌, false, not, List, [], ◌∷◌, ◌++◌, length, Option, Some, None, is_some, refl, sym, ap, subst, ◌∙◌, if◌then◌else◌, arith}
 use Rattle.std.proofs.lemmas.List.{append-nil, append_assoc}
 use Rattle.osi_tpkt.specs.Held.{Held}
 use Rattle.osi_tpkt.specs.Packet.{IsPacket}
@@ -10,7 +10,7 @@ use Rattle.osi_carrier.specs.declared.ends.EndReason.TheVariants.{NoMemory}
 use Rattle.osi_machine.specs.Core as machine
 use Rattle.osi_machine.specs.Machine.{Ending, no_memory, Step, connects, calls, delivers, breaks}
 use Rattle.osi_machine.specs.Machine.{ends as ends_side}
-use Rattle.osi_machine.specs.Tables.{Tables, end_of, after_end, marked_ended, step, run, start}
+use Rattle.osi_machine.specs.Tables.{Tables, end_of, after_end, step, run, start}
 use Rattle.osi_session.specs.Shown.{Shown}
 use Rattle.osi_stack.specs.Feeding.{TakesPackets, stops}
 use Rattle.osi_stack.specs.Hearing.{after_packet, ends, Starves}
@@ -19,7 +19,6 @@ use Rattle.osi_stack.proofs.FirstShown.{quiet_none}
 use Rattle.osi_stack.proofs.Lifting.{or_first, or_second}
 use Rattle.osi_pair.specs.Ends.{TwoEnds, end_at, noted}
 use Rattle.osi_pair.specs.Entries.{Entry}
-use Rattle.osi_pair.specs.Sides.{other}
 use Rattle.osi_pair.specs.Standing.{side_in, terms_in, AreDeliveries, AreArrivals, StandsAt, StandsAtArrivals}
 use Rattle.osi_pair.specs.Telling.{waiting_in, quieted, told_entries}
 use Rattle.osi_pair.specs.declared.reach.Reach.{Reach}
@@ -27,7 +26,7 @@ use Rattle.osi_pair.specs.declared.sides.Side.{Side}
 use Rattle.osi_pair.specs.declared.sides.Side.TheVariants.{Left, Right}
 use Rattle.osi_pair.proofs.StandingBreak.{run_behind}
 use Rattle.osi_pair.proofs.StandingFinish.{terms_at}
-use Rattle.osi_pair.proofs.StandingHanded.{CarriedLaw, with_held, handed, handed_at}
+use Rattle.osi_pair.proofs.StandingHanded.{CarriedLaw, with_held, handed_at}
 use Rattle.osi_pair.proofs.StandingPacket.{lasting_in, quiet_of}
 use Rattle.osi_pair.proofs.StandingQuiet.{none_first, none_second, quiet_same}
 use Rattle.osi_pair.proofs.StandingShown.{shown_pair}
@@ -118,7 +117,7 @@ shown_again Right e a h g p = refl
 
 -- ---- what an end holds
 
-none_less : (f : Side) (o : Option Reach) → reach_after f 0 o ≡ o
+pub none_less : (f : Side) (o : Option Reach) → reach_after f 0 o ≡ o
 none_less f None = refl
 none_less Left (Some r) = ap (λ (n : ℕ). Some (record r { left = n })) (omega arith)
 none_less Right (Some r) = ap (λ (n : ℕ). Some (record r { right = n })) (omega arith)
