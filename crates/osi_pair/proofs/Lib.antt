@@ -21,6 +21,7 @@ pub mod StandingActed
 pub mod StandingSends
 pub mod StandingCloses
 pub mod StandingAnswers
+pub mod StandingAnswering
 pub mod StandingPacket
 pub mod StandingTaken
 pub mod StandingHanded

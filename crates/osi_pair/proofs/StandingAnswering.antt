@@ -1,0 +1,168 @@
+-- A packet with which a session moves: what is known of the move and of the end behind it, where the session
+-- answers, or closes its connection of class 2.
+use Rattle.std.proofs.Common.{◌≡◌, ℕ, Bool, true, false, if◌then◌else◌, List, Option, Some, None, option_map, refl, sym, ap, subst, ◌∙◌}
+use Rattle.osi_tpkt.specs.Held.{Held}
+use Rattle.osi_carrier.specs.Addresses.{reference_of}
+use Rattle.osi_carrier.specs.Between.{Between, last_of}
+use Rattle.osi_carrier.specs.Course.{Place, never, was_given, place_at, progress_of}
+use Rattle.osi_carrier.specs.Packets as carriers
+use Rattle.osi_carrier.specs.Progress.{in_use}
+use Rattle.osi_carrier.specs.React.{react as carrier_react}
+use Rattle.osi_carrier.specs.State.{asked, linked, closing}
+use Rattle.osi_carrier.specs.Terms.{Terms, by_two, class_of}
+use Rattle.osi_machine.specs.Machine.{learns}
+use Rattle.osi_machine.specs.Tables.{Tables}
+use Rattle.osi_machine.specs.Worlds.{Message, Transport, unit, ask, agree, deny, bye, over, accepts}
+use Rattle.osi_machine.specs.Worlds as worlds
+use Rattle.osi_message.specs.Meanings.{Meaning}
+use Rattle.osi_message.specs.Sendable.{said_of}
+use Rattle.osi_session.specs.Moves.{Input, opened, refused, taken, broken, Standing, begun, denied, rests, react, after_input}
+use Rattle.osi_session.specs.Phases.{is_wait_transport, is_ended}
+use Rattle.osi_session.specs.Respond.{Outcome, respond, respond_unit}
+use Rattle.osi_session.specs.declared.state.State.{State}
+use Rattle.osi_stack.specs.Hearing.{after_packet}
+use Rattle.osi_stack.specs.Links.{IsSound}
+use Rattle.osi_pair.specs.Ends.{TwoEnds, end_at}
+use Rattle.osi_pair.specs.Standing.{is_caller, class_in, terms_in, carriers_of, Stands}
+use Rattle.osi_pair.specs.declared.sides.Side.{Side}
+use Rattle.osi_pair.specs.declared.sides.Side.TheVariants.{Left, Right}
+use Rattle.osi_pair.proofs.StandingAnswers.{answered_shown, closed_shown}
+use Rattle.osi_pair.proofs.StandingArrived.{PacketActs}
+use Rattle.osi_pair.proofs.StandingArriving.{is_linked}
+use Rattle.osi_pair.proofs.StandingFinish.{terms_at, order_of}
+use Rattle.osi_pair.proofs.StandingHeard.{carried_out}
+use Rattle.osi_pair.proofs.StandingMoved.{move_of, HasMoved}
+use Rattle.osi_pair.proofs.StandingMoves.{heard_by, is_move}
+use Rattle.osi_pair.proofs.StandingPacket.{PacketLaws}
+use Rattle.osi_pair.proofs.StandingRows.{Row, quiet, still, begins, refuses, agrees, denies, tells, leaves, ignores, ends, before}
+use Rattle.osi_pair.proofs.StandingShown.{StandsShown}
+
+-- what is proved of one session
+pub record MoveLaws : Type 0 where
+  pub says : (s : State) (u : Meaning) → respond s (said_of u) ≡ respond_unit s u
+  pub alone : (s : State) (u : Meaning) → (respond_unit s u).closes ≡ true → (respond_unit s u).reply ≡ None
+  pub ended : (s : Standing) (input : Input) → (react s input).closes ≡ true → is_ended (after_input s input).state.phase ≡ true
+
+-- ---- the end behind the packet
+
+acts_of : (s : Side) (p : TwoEnds) (b : Between) (packet : List ℕ) (h : Held) → (pa : PacketActs (terms_at p) (is_caller s) (carriers_of p) b packet h.octets) →
+    carriers.after_packet (end_at s p).end.carrier packet ≡ carrier_react pa.unit (end_at s p).end.carrier
+acts_of Left p b packet h pa = pa.acts
+acts_of Right p b packet h pa = pa.acts
+
+pub sound_behind : PacketLaws → (s : Side) (p : TwoEnds) (b : Between) (t : Tables) (packet : List ℕ) (h : Held) → Stands p b t → (end_at s p).end.carrier.ended ≡ None →
+    PacketActs (terms_at p) (is_caller s) (carriers_of p) b packet h.octets → IsSound (after_packet (end_at s p).end packet)
+sound_behind laws s p b t packet h old alive pa =
+    let was = order_of s p b t old alive in
+    subst IsSound (sym (carried_out (end_at s p).end packet pa.unit (acts_of s p b packet h pa))) (laws.sound (end_at s p).end pa.unit pa.sendable alive (λ x. was.heard) (λ x. was.sound))
+
+-- ---- a move that closes
+
+opened_open : (b : Bool) (x : Standing) → (if b then begun x else rests x).closes ≡ false
+opened_open true x = refl
+opened_open false x = refl
+
+refused_open : (b : Bool) (reason : ℕ) (x : Standing) → (if b then denied reason x else rests x).closes ≡ false
+refused_open true reason x = refl
+refused_open false reason x = refl
+
+opened_stays : (x : Standing) → (react x opened).closes ≡ false
+unfolding react
+opened_stays x = opened_open (is_wait_transport x.state.phase) x
+
+refused_stays : (x : Standing) (reason : ℕ) → (react x (refused reason)).closes ≡ false
+unfolding react
+refused_stays x reason = refused_open (is_wait_transport x.state.phase) reason x
+
+broken_stays : (x : Standing) → (react x broken).closes ≡ false
+unfolding react
+broken_stays x = refl
+
+taken_alone : MoveLaws → (x : Standing) (u : Meaning) → (react x (taken (said_of u))).closes ≡ true → (react x (taken (said_of u))).reply ≡ None
+unfolding react
+taken_alone laws x u h =
+    let same = laws.says x.state u in
+    ap (λ (o : Outcome). o.reply) same ∙ laws.alone x.state u (ap (λ (o : Outcome). o.closes) (sym same) ∙ h)
+
+-- it answers nothing, and its connection was open
+pub record ClosesAlone (row : Row) (m : Message) (x : Standing) : Type 0 where
+  pub reply : (react x (heard_by row m)).reply ≡ None
+  pub used : before row ≡ in_use
+
+no_close : (b : Bool) → b ≡ false → b ≡ true → ⊥
+no_close b e f = cc
+
+tells_alone : MoveLaws → (octets : List ℕ) (m : Message) (x : Standing) → (react x (heard_by (tells octets) m)).closes ≡ true → ClosesAlone (tells octets) m x
+tells_alone laws octets (unit u) x h = record { reply = taken_alone laws x u h; used = refl }
+tells_alone laws octets ask x h = absurd (no_close _ (broken_stays x) h)
+tells_alone laws octets agree x h = absurd (no_close _ (broken_stays x) h)
+tells_alone laws octets (deny reason) x h = absurd (no_close _ (broken_stays x) h)
+tells_alone laws octets (bye reason) x h = absurd (no_close _ (broken_stays x) h)
+tells_alone laws octets over x h = absurd (no_close _ (broken_stays x) h)
+
+pub closes_alone : MoveLaws → (row : Row) (m : Message) (x : Standing) → is_move row ≡ true → (react x (heard_by row m)).closes ≡ true → ClosesAlone row m x
+closes_alone laws (tells octets) m x is h = tells_alone laws octets m x h
+closes_alone laws agrees m x is h = absurd (no_close _ (opened_stays x) h)
+closes_alone laws (denies reason) m x is h = absurd (no_close _ (refused_stays x reason) h)
+closes_alone laws quiet m x is h = cc
+closes_alone laws still m x is h = cc
+closes_alone laws begins m x is h = cc
+closes_alone laws (refuses reason) m x is h = cc
+closes_alone laws (leaves reason) m x is h = cc
+closes_alone laws (ignores octets) m x is h = cc
+closes_alone laws (ends last) m x is h = cc
+
+-- ---- the class is known
+
+is_linked_at : (p : Place) → progress_of p ≡ in_use → is_linked p ≡ true
+is_linked_at never e = cc
+is_linked_at (was_given None) e = cc
+is_linked_at (was_given (Some asked)) e = cc
+is_linked_at (was_given (Some (linked peer link))) e = refl
+is_linked_at (was_given (Some (closing peer))) e = cc
+
+learns_waiting : (m : Message) → learns (accepts worlds.class_2) worlds.waiting m (Some worlds.class_2) ≡ Some worlds.class_2
+learns_waiting (unit u) = refl
+learns_waiting ask = refl
+learns_waiting agree = refl
+learns_waiting (deny reason) = refl
+learns_waiting (bye reason) = refl
+learns_waiting over = refl
+
+learns_two : (tr : Transport) (m : Message) → learns (accepts worlds.class_2) tr m (Some worlds.class_2) ≡ Some worlds.class_2
+learns_two worlds.not_yet m = refl
+learns_two worlds.waiting m = learns_waiting m
+learns_two worlds.linked m = refl
+learns_two worlds.closing m = refl
+learns_two worlds.gone m = refl
+
+-- where a unit comes to an open connection the caller has agreed the class
+pub class_known : (s : Side) (p : TwoEnds) (b : Between) (t : Tables) (packet : List ℕ) (h : Held) → Stands p b t → (pa : PacketActs (terms_at p) (is_caller s) (carriers_of p) b packet h.octets) →
+    before pa.did.row ≡ in_use → t.known ≡ option_map class_in (class_of (terms_at p))
+class_known s p b t packet h old pa used =
+    old.known ∙ ap (option_map class_in) (sym old.class_then ∙ pa.first.class (is_linked_at (place_at (reference_of pa.unit) (last_of (is_caller s) b)) (pa.did.stood ∙ used)))
+
+pub known_two : (s : Side) (p : TwoEnds) (b : Between) (t : Tables) (packet : List ℕ) (h : Held) → Stands p b t → (pa : PacketActs (terms_at p) (is_caller s) (carriers_of p) b packet h.octets) →
+    before pa.did.row ≡ in_use → terms_at p ≡ by_two → (tr : Transport) (m : Message) → learns t.terms tr m t.known ≡ Some worlds.class_2
+known_two s p b t packet h old pa used two tr m =
+    let known : t.known ≡ Some worlds.class_2 = class_known s p b t packet h old pa used ∙ ap (λ (x : Terms). option_map class_in (class_of x)) two in
+    ap (λ (o : Option worlds.Class). learns t.terms tr m o) known ∙ ap (λ (x : worlds.Terms). learns x tr m (Some worlds.class_2)) (old.terms ∙ ap terms_in two) ∙ learns_two tr m
+
+-- ---- the packet
+
+-- the session answers
+pub answering_packet : PacketLaws → (s : Side) (p : TwoEnds) (b : Between) (t : Tables) (packet : List ℕ) (h : Held) → Stands p b t → (end_at s p).end.carrier.ended ≡ None →
+    PacketActs (terms_at p) (is_caller s) (carriers_of p) b packet h.octets → (v : HasMoved s p t packet h) (x : Meaning) → (move_of v.m).closes ≡ false → (move_of v.m).reply ≡ Some x →
+    StandsShown s p t (after_packet (end_at s p).end packet) h
+answering_packet laws s p b t packet h old alive pa v x open_still reply =
+    answered_shown laws.two s p t packet h v x (sound_behind laws s p b t packet h old alive pa) open_still reply
+
+-- in class 2 it closes
+pub closing_packet : PacketLaws → MoveLaws → (s : Side) (p : TwoEnds) (b : Between) (t : Tables) (packet : List ℕ) (h : Held) → Stands p b t → (end_at s p).end.carrier.ended ≡ None →
+    (pa : PacketActs (terms_at p) (is_caller s) (carriers_of p) b packet h.octets) → (v : HasMoved s p t packet h) → v.m.row ≡ pa.did.row → v.m.input ≡ heard_by v.m.row v.m.first → terms_at p ≡ by_two →
+    (move_of v.m).closes ≡ true → StandsShown s p t (after_packet (end_at s p).end packet) h
+closing_packet laws moves s p b t packet h old alive pa v row input two shut =
+    let x = v.m.seen.own.session in
+    let a = closes_alone moves v.m.row v.m.first x v.row (ap (λ (i : Input). (react x i).closes) (sym input) ∙ shut) in
+    closed_shown laws.two s p t packet h v (sound_behind laws s p b t packet h old alive pa) two (known_two s p b t packet h old pa (ap before (sym row) ∙ a.used) two v.m.seen.own.transport v.m.first) shut
+    (ap (λ (i : Input). (react x i).reply) input ∙ a.reply) (moves.ended x v.m.input shut)
