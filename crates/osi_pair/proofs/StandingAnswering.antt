@@ -45,7 +45,7 @@ pub record MoveLaws : Type 0 where
 
 -- ---- the end behind the packet
 
-acts_of : (s : Side) (p : TwoEnds) (b : Between) (packet : List ℕ) (h : Held) → (pa : PacketActs (terms_at p) (is_caller s) (carriers_of p) b packet h.octets) →
+pub acts_of : (s : Side) (p : TwoEnds) (b : Between) (packet : List ℕ) (h : Held) → (pa : PacketActs (terms_at p) (is_caller s) (carriers_of p) b packet h.octets) →
     carriers.after_packet (end_at s p).end.carrier packet ≡ carrier_react pa.unit (end_at s p).end.carrier
 acts_of Left p b packet h pa = pa.acts
 acts_of Right p b packet h pa = pa.acts

@@ -54,7 +54,7 @@ use Rattle.osi_pair.proofs.StandingTurned.{with_holding, turned_pair}
 
 -- ---- the two ends when the session has moved
 
-turned_here : (s : Side) (e : End) (h : Held) (n : ℕ) (shown : List Shown) (p : TwoEnds) → end_at s (turned_pair s e h n shown p) ≡ record { end = e; held = h }
+pub turned_here : (s : Side) (e : End) (h : Held) (n : ℕ) (shown : List Shown) (p : TwoEnds) → end_at s (turned_pair s e h n shown p) ≡ record { end = e; held = h }
 turned_here Left e h n shown p = refl
 turned_here Right e h n shown p = refl
 
@@ -67,7 +67,7 @@ told_is : (s : Side) (n : ℕ) (shown : List Shown) (ended : Option EndReason) (
 told_is s n shown ended waits lasts e =
     ap (shown_entries s) (sym e) ∙ sym (append-nil (shown_entries s waits)) ∙ ap (λ (o : Option EndReason). shown_entries s waits ++ end_entries s None o) (sym lasts)
 
-shown_is : (s : Side) (p : TwoEnds) (e : End) (h : Held) (n : ℕ) (shown : List Shown) (c : Carrier) (lines : Rows Line) → c.ended ≡ None → waiting_in lines ≡ map (λ x. (n, x)) shown →
+pub shown_is : (s : Side) (p : TwoEnds) (e : End) (h : Held) (n : ℕ) (shown : List Shown) (c : Carrier) (lines : Rows Line) → c.ended ≡ None → waiting_in lines ≡ map (λ x. (n, x)) shown →
     with_holding s (answered_end c (quieted lines)) h (turned_pair s e h n shown p) ≡ shown_pair s (answered_end c lines) h p
 shown_is Left p e h n shown c lines lasts waits =
     ap (λ (es : List Entry). record (with_holding Left (answered_end c (quieted lines)) h p) { journal = p.journal ++ es }) (told_is Left n shown c.ended (waiting_in lines) lasts waits)
@@ -113,10 +113,10 @@ with_twice zero x y ls = refl
 with_twice (suc r) x y ls = replaced_twice r x y ls
 
 -- a line that was another in between
-stays_twice : (t : Tables) (s : machine.Side) (n : ℕ) (es : List entries.Entry) (x y : TableLine) → stays (noted_in es (stays t s n x)) s n y ≡ noted_in es (stays t s n y)
+pub stays_twice : (t : Tables) (s : machine.Side) (n : ℕ) (es : List entries.Entry) (x y : TableLine) → stays (noted_in es (stays t s n x)) s n y ≡ noted_in es (stays t s n y)
 stays_twice t s n es x y = ap (λ (ls : List TableLine). noted_in es (record t { lines = ls })) (with_twice n (seen_from s x) (seen_from s y) t.lines)
 
-closing_by : (t : Tables) (s : machine.Side) (n : ℕ) (keep : ℕ → ℕ) (turn : Turn) → turn.closes ≡ true → after_turn t s n keep turn ≡ closes_by t.known (noted_in (map (shown_at s n) turn.shown) t) s n keep turn.line
+pub closing_by : (t : Tables) (s : machine.Side) (n : ℕ) (keep : ℕ → ℕ) (turn : Turn) → turn.closes ≡ true → after_turn t s n keep turn ≡ closes_by t.known (noted_in (map (shown_at s n) turn.shown) t) s n keep turn.line
 closing_by t s n keep turn e =
     ap (λ (b : Bool). if◌then◌else◌ {A = Tables} b (closes_by t.known (noted_in (map (shown_at s n) turn.shown) t) s n keep turn.line) (noted_in (map (shown_at s n) turn.shown) (stays t s n turn.line))) e
 
@@ -150,7 +150,7 @@ closed_step s p t packet h v keep known closing reply =
 
 -- ---- the connection of a move that sends or closes is open
 
-move_ends : (row : Row) → is_move row ≡ true → (after row ≡ in_use) ⊎ (after row ≡ gone)
+pub move_ends : (row : Row) → is_move row ≡ true → (after row ≡ in_use) ⊎ (after row ≡ gone)
 move_ends agrees e = inl refl
 move_ends (denies reason) e = inr refl
 move_ends (tells octets) e = inl refl
@@ -170,13 +170,13 @@ linked_sends : (s : Side) (p : TwoEnds) (t : Tables) (packet : List ℕ) (h : He
 linked_sends s p t packet h v x reply (inl e) = v.opened e
 linked_sends s p t packet h v x reply (inr e) = absurd (some_none (move_of v.m).reply x reply (v.silent e).0)
 
-linked_closes : (s : Side) (p : TwoEnds) (t : Tables) (packet : List ℕ) (h : Held) (v : HasMoved s p t packet h) → (move_of v.m).closes ≡ true → ((after v.m.row ≡ in_use) ⊎ (after v.m.row ≡ gone)) →
+pub linked_closes : (s : Side) (p : TwoEnds) (t : Tables) (packet : List ℕ) (h : Held) (v : HasMoved s p t packet h) → (move_of v.m).closes ≡ true → ((after v.m.row ≡ in_use) ⊎ (after v.m.row ≡ gone)) →
     IsLinkedAt v.m.n (moved_end s p v.unit v.m).carrier
 linked_closes s p t packet h v closing (inl e) = v.opened e
 linked_closes s p t packet h v closing (inr e) = let no_way : true ≡ false = sym closing ∙ (v.silent e).1 in cc
 
 -- the end is in order before it sends or closes
-moved_order : (s : Side) (p : TwoEnds) (t : Tables) (packet : List ℕ) (h : Held) (v : HasMoved s p t packet h) → IsInOrder (moved_end s p v.unit v.m)
+pub moved_order : (s : Side) (p : TwoEnds) (t : Tables) (packet : List ℕ) (h : Held) (v : HasMoved s p t packet h) → IsInOrder (moved_end s p v.unit v.m)
 moved_order s p t packet h v =
     let e = moved_end s p v.unit v.m in
     let p1 = turned_pair s e h v.m.n (move_of v.m).shown p in
