@@ -1,6 +1,6 @@
 -- A packet with which a session moves: what is known of the move and of the end behind it, where the session
 -- answers, or closes its connection of class 2.
-use Rattle.std.proofs.Common.{◌≡◌, ℕ, Bool, true, false, if◌then◌else◌, List, Option, Some, None, option_map, refl, sym, ap, subst, ◌∙◌}
+use Rattle.std.proofs.Common.{◌≡◌, ℕ, Bool, true, false, if◌then◌else◌, List, Option, Some, None, option_map, refl, sym, ap, subst, ◌∙◌, ◌⊎◌, inl, inr}
 use Rattle.osi_tpkt.specs.Held.{Held}
 use Rattle.osi_carrier.specs.Addresses.{reference_of}
 use Rattle.osi_carrier.specs.Between.{Between, last_of}
@@ -9,7 +9,7 @@ use Rattle.osi_carrier.specs.Packets as carriers
 use Rattle.osi_carrier.specs.Progress.{in_use}
 use Rattle.osi_carrier.specs.React.{react as carrier_react}
 use Rattle.osi_carrier.specs.State.{asked, linked, closing}
-use Rattle.osi_carrier.specs.Terms.{Terms, by_two, class_of}
+use Rattle.osi_carrier.specs.Terms.{Terms, by_two, by_zero, refusing, class_of}
 use Rattle.osi_machine.specs.Machine.{learns}
 use Rattle.osi_machine.specs.Tables.{Tables}
 use Rattle.osi_machine.specs.Worlds.{Message, Transport, unit, ask, agree, deny, bye, over, accepts}
@@ -34,7 +34,7 @@ use Rattle.osi_pair.proofs.StandingHeard.{carried_out}
 use Rattle.osi_pair.proofs.StandingMoved.{move_of, HasMoved}
 use Rattle.osi_pair.proofs.StandingMoves.{heard_by, is_move}
 use Rattle.osi_pair.proofs.StandingPacket.{PacketLaws}
-use Rattle.osi_pair.proofs.StandingRows.{Row, quiet, still, begins, refuses, agrees, denies, tells, leaves, ignores, ends, before}
+use Rattle.osi_pair.proofs.StandingRows.{Row, quiet, still, begins, refuses, agrees, denies, tells, leaves, ignores, ends, before, is_row}
 use Rattle.osi_pair.proofs.StandingShown.{StandsShown}
 
 -- what is proved of one session
@@ -166,3 +166,53 @@ closing_packet laws moves s p b t packet h old alive pa v row input two shut =
     let a = closes_alone moves v.m.row v.m.first x v.row (ap (λ (i : Input). (react x i).closes) (sym input) ∙ shut) in
     closed_shown laws.two s p t packet h v (sound_behind laws s p b t packet h old alive pa) two (known_two s p b t packet h old pa (ap before (sym row) ∙ a.used) two v.m.seen.own.transport v.m.first) shut
     (ap (λ (i : Input). (react x i).reply) input ∙ a.reply) (moves.ended x v.m.input shut)
+
+-- ---- by what the move does
+
+-- a unit comes to an open connection in one of the classes
+open_terms : (terms : Terms) (row : Row) → is_row terms row → before row ≡ in_use → (terms ≡ by_two) ⊎ (terms ≡ by_zero)
+open_terms by_two row is e = inl refl
+open_terms by_zero row is e = inr refl
+open_terms (refusing reason) quiet is e = absurd is
+open_terms (refusing reason) still is e = absurd is
+open_terms (refusing reason) begins is e = absurd is
+open_terms (refusing reason) (refuses why) is e = cc
+open_terms (refusing reason) agrees is e = absurd is
+open_terms (refusing reason) (denies why) is e = cc
+open_terms (refusing reason) (tells octets) is e = absurd is
+open_terms (refusing reason) (leaves why) is e = absurd is
+open_terms (refusing reason) (ignores octets) is e = absurd is
+open_terms (refusing reason) (ends m) is e = absurd is
+
+by_terms : PacketLaws → MoveLaws → (s : Side) (p : TwoEnds) (b : Between) (t : Tables) (packet : List ℕ) (h : Held) → Stands p b t → (end_at s p).end.carrier.ended ≡ None →
+    (pa : PacketActs (terms_at p) (is_caller s) (carriers_of p) b packet h.octets) → (v : HasMoved s p t packet h) → v.m.row ≡ pa.did.row → v.m.input ≡ heard_by v.m.row v.m.first →
+    (move_of v.m).closes ≡ true → (terms_at p ≡ by_zero → StandsShown s p t (after_packet (end_at s p).end packet) h) → ((terms_at p ≡ by_two) ⊎ (terms_at p ≡ by_zero)) →
+    StandsShown s p t (after_packet (end_at s p).end packet) h
+by_terms laws moves s p b t packet h old alive pa v row input shut zero (inl two) = closing_packet laws moves s p b t packet h old alive pa v row input two shut
+by_terms laws moves s p b t packet h old alive pa v row input shut zero (inr e) = zero e
+
+-- where it closes; how two ends of class 0 stand then is given
+pub shutting_packet : PacketLaws → MoveLaws → (s : Side) (p : TwoEnds) (b : Between) (t : Tables) (packet : List ℕ) (h : Held) → Stands p b t → (end_at s p).end.carrier.ended ≡ None →
+    (pa : PacketActs (terms_at p) (is_caller s) (carriers_of p) b packet h.octets) → (v : HasMoved s p t packet h) → v.m.row ≡ pa.did.row → v.m.input ≡ heard_by v.m.row v.m.first →
+    (move_of v.m).closes ≡ true → (terms_at p ≡ by_zero → StandsShown s p t (after_packet (end_at s p).end packet) h) → StandsShown s p t (after_packet (end_at s p).end packet) h
+shutting_packet laws moves s p b t packet h old alive pa v row input shut zero =
+    let x = v.m.seen.own.session in
+    let a = closes_alone moves v.m.row v.m.first x v.row (ap (λ (i : Input). (react x i).closes) (sym input) ∙ shut) in
+    by_terms laws moves s p b t packet h old alive pa v row input shut zero (open_terms (terms_at p) pa.did.row pa.did.is (ap before (sym row) ∙ a.used))
+
+by_move : PacketLaws → MoveLaws → (s : Side) (p : TwoEnds) (b : Between) (t : Tables) (packet : List ℕ) (h : Held) → Stands p b t → (end_at s p).end.carrier.ended ≡ None →
+    (pa : PacketActs (terms_at p) (is_caller s) (carriers_of p) b packet h.octets) → (v : HasMoved s p t packet h) → v.m.row ≡ pa.did.row → v.m.input ≡ heard_by v.m.row v.m.first →
+    (shut : Bool) (reply : Option Meaning) → (move_of v.m).closes ≡ shut → (move_of v.m).reply ≡ reply →
+    ((move_of v.m).closes ≡ false → (move_of v.m).reply ≡ None → StandsShown s p t (after_packet (end_at s p).end packet) h) →
+    ((move_of v.m).closes ≡ true → terms_at p ≡ by_zero → StandsShown s p t (after_packet (end_at s p).end packet) h) → StandsShown s p t (after_packet (end_at s p).end packet) h
+by_move laws moves s p b t packet h old alive pa v row input true reply shut e silent zero = shutting_packet laws moves s p b t packet h old alive pa v row input shut (zero shut)
+by_move laws moves s p b t packet h old alive pa v row input false None stays e silent zero = silent stays e
+by_move laws moves s p b t packet h old alive pa v row input false (Some x) stays e silent zero = answering_packet laws s p b t packet h old alive pa v x stays e
+
+-- a packet with which a session moves; where it is silent, and where it closes in class 0, how they stand is given
+pub moving_packet : PacketLaws → MoveLaws → (s : Side) (p : TwoEnds) (b : Between) (t : Tables) (packet : List ℕ) (h : Held) → Stands p b t → (end_at s p).end.carrier.ended ≡ None →
+    (pa : PacketActs (terms_at p) (is_caller s) (carriers_of p) b packet h.octets) → (v : HasMoved s p t packet h) → v.m.row ≡ pa.did.row → v.m.input ≡ heard_by v.m.row v.m.first →
+    ((move_of v.m).closes ≡ false → (move_of v.m).reply ≡ None → StandsShown s p t (after_packet (end_at s p).end packet) h) →
+    ((move_of v.m).closes ≡ true → terms_at p ≡ by_zero → StandsShown s p t (after_packet (end_at s p).end packet) h) → StandsShown s p t (after_packet (end_at s p).end packet) h
+moving_packet laws moves s p b t packet h old alive pa v row input silent zero =
+    by_move laws moves s p b t packet h old alive pa v row input (move_of v.m).closes (move_of v.m).reply refl refl silent zero
