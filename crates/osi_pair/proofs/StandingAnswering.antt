@@ -26,7 +26,7 @@ use Rattle.osi_pair.specs.Ends.{TwoEnds, end_at}
 use Rattle.osi_pair.specs.Standing.{is_caller, class_in, terms_in, carriers_of, Stands}
 use Rattle.osi_pair.specs.declared.sides.Side.{Side}
 use Rattle.osi_pair.specs.declared.sides.Side.TheVariants.{Left, Right}
-use Rattle.osi_pair.proofs.StandingAnswers.{answered_shown, closed_shown}
+use Rattle.osi_pair.proofs.StandingAnswers.{answered_shown, closed_shown, silent_shown}
 use Rattle.osi_pair.proofs.StandingArrived.{PacketActs}
 use Rattle.osi_pair.proofs.StandingArriving.{is_linked}
 use Rattle.osi_pair.proofs.StandingFinish.{terms_at, order_of}
@@ -203,16 +203,14 @@ shutting_packet laws moves s p b t packet h old alive pa v row input shut zero =
 by_move : PacketLaws → MoveLaws → (s : Side) (p : TwoEnds) (b : Between) (t : Tables) (packet : List ℕ) (h : Held) → Stands p b t → (end_at s p).end.carrier.ended ≡ None →
     (pa : PacketActs (terms_at p) (is_caller s) (carriers_of p) b packet h.octets) → (v : HasMoved s p t packet h) → v.m.row ≡ pa.did.row → v.m.input ≡ heard_by v.m.row v.m.first →
     (shut : Bool) (reply : Option Meaning) → (move_of v.m).closes ≡ shut → (move_of v.m).reply ≡ reply →
-    ((move_of v.m).closes ≡ false → (move_of v.m).reply ≡ None → StandsShown s p t (after_packet (end_at s p).end packet) h) →
     ((move_of v.m).closes ≡ true → terms_at p ≡ by_zero → StandsShown s p t (after_packet (end_at s p).end packet) h) → StandsShown s p t (after_packet (end_at s p).end packet) h
-by_move laws moves s p b t packet h old alive pa v row input true reply shut e silent zero = shutting_packet laws moves s p b t packet h old alive pa v row input shut (zero shut)
-by_move laws moves s p b t packet h old alive pa v row input false None stays e silent zero = silent stays e
-by_move laws moves s p b t packet h old alive pa v row input false (Some x) stays e silent zero = answering_packet laws s p b t packet h old alive pa v x stays e
+by_move laws moves s p b t packet h old alive pa v row input true reply shut e zero = shutting_packet laws moves s p b t packet h old alive pa v row input shut (zero shut)
+by_move laws moves s p b t packet h old alive pa v row input false None stays e zero = silent_shown s p t packet h v stays e
+by_move laws moves s p b t packet h old alive pa v row input false (Some x) stays e zero = answering_packet laws s p b t packet h old alive pa v x stays e
 
--- a packet with which a session moves; where it is silent, and where it closes in class 0, how they stand is given
+-- a packet with which a session moves; how two ends of class 0 stand where it closes is given
 pub moving_packet : PacketLaws → MoveLaws → (s : Side) (p : TwoEnds) (b : Between) (t : Tables) (packet : List ℕ) (h : Held) → Stands p b t → (end_at s p).end.carrier.ended ≡ None →
     (pa : PacketActs (terms_at p) (is_caller s) (carriers_of p) b packet h.octets) → (v : HasMoved s p t packet h) → v.m.row ≡ pa.did.row → v.m.input ≡ heard_by v.m.row v.m.first →
-    ((move_of v.m).closes ≡ false → (move_of v.m).reply ≡ None → StandsShown s p t (after_packet (end_at s p).end packet) h) →
     ((move_of v.m).closes ≡ true → terms_at p ≡ by_zero → StandsShown s p t (after_packet (end_at s p).end packet) h) → StandsShown s p t (after_packet (end_at s p).end packet) h
-moving_packet laws moves s p b t packet h old alive pa v row input silent zero =
-    by_move laws moves s p b t packet h old alive pa v row input (move_of v.m).closes (move_of v.m).reply refl refl silent zero
+moving_packet laws moves s p b t packet h old alive pa v row input zero =
+    by_move laws moves s p b t packet h old alive pa v row input (move_of v.m).closes (move_of v.m).reply refl refl zero

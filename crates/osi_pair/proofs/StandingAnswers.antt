@@ -248,3 +248,34 @@ closed_shown laws s p t packet h v sound two known closing reply over =
     let order : IsInOrder (with_carrier c e) = order_then e c lines refl a.lasts a.given events (moved_order s p t packet h v) (subst IsSound same sound) in
     let on = closes_from laws s p1 v.now t1 n linked_now.peer linked_now.link (moved_line v.m) (record { end = e; held = h }) here v.stands two_now v.found_now over v.lasts linked_now.at order in
     finish_shown s p t packet h v c (λ r. on.keep) (stays t1 (side_in s) n (closed t.broken on.keep (moved_line v.m))) same a.lasts a.local (closed_step s p t packet h v on.keep known closing reply) on.on
+
+-- ---- a move that sends and closes nothing
+
+same_pair : (s : Side) (e : End) (h : Held) (n : ℕ) (shown : List Shown) (p : TwoEnds) → with_holding s (with_carrier e.carrier e) h (turned_pair s e h n shown p) ≡ turned_pair s e h n shown p
+same_pair Left e h n shown p = refl
+same_pair Right e h n shown p = refl
+
+silent_step : (s : Side) (p : TwoEnds) (t : Tables) (packet : List ℕ) (h : Held) (v : HasMoved s p t packet h) (keep : ℕ → ℕ) → (move_of v.m).closes ≡ false → (move_of v.m).reply ≡ None →
+    step t (delivers (side_in s) v.m.n keep) ≡ moved_tables s t v.m
+silent_step s p t packet h v keep open_still reply =
+    let m = v.m in
+    let t0 = record t { known = known_by t m } in
+    let es = map (shown_at (side_in s) m.n) (move_of m).shown in
+    v.steps keep ∙ open_by t0 (side_in s) m.n keep (turn_of t.broken m) open_still
+    ∙ ap (λ (o : Option Meaning). noted_in es (stays t0 (side_in s) m.n (line_with t.broken m o))) reply
+    ∙ ap (λ (ms : List Message). noted_in es (stays t0 (side_in s) m.n (line_then m.row (move_of m).next ms m.rest m.seen))) (put_nothing t.broken m.seen.own.channel)
+
+pub silent_shown : (s : Side) (p : TwoEnds) (t : Tables) (packet : List ℕ) (h : Held) (v : HasMoved s p t packet h) → (move_of v.m).closes ≡ false → (move_of v.m).reply ≡ None →
+    StandsShown s p t (after_packet (end_at s p).end packet) h
+silent_shown s p t packet h v open_still reply =
+    let n = v.m.n in
+    let e = moved_end s p v.unit v.m in
+    let lines = loud_lines s p v.m in
+    let p1 = turned_pair s e h n (move_of v.m).shown p in
+    let t1 = moved_tables s t v.m in
+    let acts : answers n (move_of v.m) e.carrier ≡ e.carrier =
+    ap (λ (b : Bool). answers_by b n (option_map written (move_of v.m).reply) e.carrier) open_still ∙ ap (λ (o : Option Meaning). answers_by false n (option_map written o) e.carrier) reply in
+    let same : after_packet (end_at s p).end packet ≡ answered_end e.carrier lines =
+    v.does ∙ ap (λ (k : Carrier). concludes (answered_end k lines)) acts ∙ lasting (answered_end e.carrier lines) v.lasts in
+    finish_shown s p t packet h v e.carrier (λ r. 0) t1 same v.lasts refl (silent_step s p t packet h v (λ r. 0) open_still reply)
+    (record { now = v.now; stands = subst (λ (q : TwoEnds). Stands q v.now t1) (sym (same_pair s e h n (move_of v.m).shown p)) v.stands })
