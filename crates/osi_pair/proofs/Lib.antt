@@ -14,7 +14,7 @@ pub mod StandingResting
 pub mod StandingQuiet
 pub mod StandingHeard
 pub mod StandingMoves
-pub mod StandingFew
+pub mod StandingShows
 pub mod StandingMoved
 pub mod StandingBegins
 pub mod StandingShown
