@@ -102,7 +102,7 @@ session_by r input e None here one all = all
 session_by r input e (Some line) here one all =
     put_all r (line_by line line.session input) e.lines (line_all line line.session input one refl (at_line r line e.lines all here)) all
 
-session_all : (r : ℕ) (input : Input) (e : End) → HasNumbers input → AllCameAbout e.lines → AllCameAbout (to_session r input e).lines
+pub session_all : (r : ℕ) (input : Input) (e : End) → HasNumbers input → AllCameAbout e.lines → AllCameAbout (to_session r input e).lines
 session_all r input e one all = session_by r input e (value_at r e.lines) refl one all
 
 opens_all : (r : ℕ) (e : End) (o : Option Line) → AllCameAbout e.lines → AllCameAbout (opens r o e).lines
@@ -114,7 +114,7 @@ came_numbers_by : ((units : Units) → HasNumbers (taken (said_by_units units)))
 came_numbers_by law (Ok units) = law units
 came_numbers_by law (Err fault) = tt
 
-came_numbers : ((units : Units) → HasNumbers (taken (said_by_units units))) → (octets : List ℕ) → HasNumbers (came octets)
+pub came_numbers : ((units : Units) → HasNumbers (taken (said_by_units units))) → (octets : List ℕ) → HasNumbers (came octets)
 unfolding said_at
 came_numbers law octets = came_numbers_by law (tsdu_at octets)
 
