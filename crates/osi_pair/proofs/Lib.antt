@@ -15,6 +15,12 @@ pub mod StandingQuiet
 pub mod StandingHeard
 pub mod StandingMoves
 pub mod StandingShows
+pub mod StandingFew
+pub mod StandingWaiting
+pub mod StandingReplies
+pub mod StandingOrder
+pub mod StandingHears
+pub mod StandingKnown
 pub mod StandingMoved
 pub mod StandingBegins
 pub mod StandingShown

@@ -1,36 +1,57 @@
 -- A message arrived of which a session heard: how two ends stand when the session has made its move, and nothing
 -- of what it sends was handed to the carrier, and nothing was closed.
-use Rattle.std.proofs.Common.{◌≡◌, ℕ, ◌<◌, ◌≤◌, Bool, true, false, List, ◌∷◌, length, map, Option, Some, None}
+use Rattle.std.proofs.Common.{◌≡◌, ◌≢◌, ℕ, ◌<◌, ◌≤◌, Bool, true, false, nat_lt, if◌then◌else◌, List, [], ◌∷◌, length, map, Option, Some, None, is_some, option_map, refl, sym, ap, subst, ◌∙◌, arith}
 use Rattle.osi_tpkt.specs.Held.{Held}
-use Rattle.osi_tpkt.specs.Octets.{IsOctets}
 use Rattle.osi_tpdu.specs.Value.{Value}
 use Rattle.osi_class.specs.Link.{Standing as Link}
-use Rattle.osi_carrier.specs.Between.{Between}
-use Rattle.osi_carrier.specs.Progress.{in_use, gone}
+use Rattle.osi_carrier.specs.Addresses.{reference_of}
+use Rattle.osi_carrier.specs.Between.{Between, under_way}
+use Rattle.osi_carrier.specs.Calls.{link_of}
+use Rattle.osi_carrier.specs.Course.{Place, never, was_given, place_at, progress_of}
+use Rattle.osi_carrier.specs.Orderly.{IsOrderly}
+use Rattle.osi_carrier.specs.Progress.{not_yet, in_use, gone}
+use Rattle.osi_carrier.specs.React.{react as carrier_react}
 use Rattle.osi_carrier.specs.Rows.{Rows, value_at}
-use Rattle.osi_carrier.specs.State.{State as Carrier, linked}
+use Rattle.osi_carrier.specs.State.{Connection, State as Carrier, asked, linked, closing}
+use Rattle.osi_carrier.specs.Terms.{class_of}
+use Rattle.osi_carrier.specs.Told.{is_open}
+use Rattle.osi_carrier.specs.declared.ends.EndReason.{EndReason}
+use Rattle.osi_carrier.proofs.Effects.{orderly_unit, orderly_same}
+use Rattle.osi_machine.specs.AsTables.{IsTableRun, AreSoundLines, IsSoundLine, AreSendable}
+use Rattle.osi_machine.specs.Core as machine
 use Rattle.osi_machine.specs.Machine.{connection_at, delivers, learns}
 use Rattle.osi_machine.specs.Tables.{Line as TableLine, Turn, Tables, seen_from, after_turn, step}
-use Rattle.osi_machine.specs.Worlds.{Message, put, replied}
+use Rattle.osi_machine.specs.Worlds.{Message, unit, ask, agree, deny, bye, over, put, replied}
 use Rattle.osi_machine.specs.Worlds as worlds
+use Rattle.osi_machine.proofs.CoreLaws.{SessionLaws}
 use Rattle.osi_message.specs.Meanings.{Meaning}
-use Rattle.osi_message.specs.Written.{written}
-use Rattle.osi_session.specs.Moves.{Input, Move, react}
+use Rattle.osi_session.specs.Moves.{Input, Standing, Move, react}
 use Rattle.osi_stack.specs.Hearing.{after_packet, concludes}
-use Rattle.osi_stack.specs.Messages.{kept_at}
+use Rattle.osi_stack.specs.Messages.{told_all, kept_at}
 use Rattle.osi_stack.specs.Moving.{answers}
-use Rattle.osi_stack.specs.State.{Line, End}
+use Rattle.osi_stack.specs.State.{Line, End, session_in}
+use Rattle.osi_stack.proofs.Soundness.{packet_rises}
 use Rattle.osi_pair.specs.Ends.{TwoEnds, end_at}
-use Rattle.osi_pair.specs.Standing.{side_in, Stands}
+use Rattle.osi_pair.specs.Sides.{other}
+use Rattle.osi_pair.specs.Standing.{side_in, is_caller, class_in, carriers_of, message_in, AreAlike, IsInOrder, Stands}
 use Rattle.osi_pair.specs.Telling.{waiting_in, quieted}
 use Rattle.osi_pair.specs.declared.sides.Side.{Side}
-use Rattle.osi_pair.proofs.StandingFinish.{line_then}
-use Rattle.osi_pair.proofs.StandingHeard.{lines_then}
-use Rattle.osi_pair.proofs.StandingMoves.{is_move}
-use Rattle.osi_pair.proofs.StandingRests.{delivered}
-use Rattle.osi_pair.proofs.StandingResting.{acted_end}
-use Rattle.osi_pair.proofs.StandingRows.{Row, after}
-use Rattle.osi_pair.proofs.StandingTurned.{turned_pair}
+use Rattle.osi_pair.proofs.StandingArrived.{PacketActs}
+use Rattle.osi_pair.proofs.StandingFinish.{terms_at, DidAt, line_then, last_is, order_of}
+use Rattle.osi_pair.proofs.StandingHeard.{lines_then, kept_then, one_told}
+use Rattle.osi_pair.proofs.StandingHears.{as_move, got_in, one_in, HearsBy, HearLaws, IsWhole, hears_row}
+use Rattle.osi_pair.proofs.StandingKnown.{moved_known, moved_class}
+use Rattle.osi_pair.proofs.StandingMoves.{is_move, heard_by, MovesBy, step_moves, move_unit}
+use Rattle.osi_pair.proofs.StandingOrder.{session_acts, moved_order}
+use Rattle.osi_pair.proofs.StandingPacket.{PacketLaws, ActsAt, acts_at, same_role, lasting_in, quiet_of}
+use Rattle.osi_pair.proofs.StandingQuiet.{quiet_order, quiet_waits, put_waits}
+use Rattle.osi_pair.proofs.StandingReplies.{CanGo}
+use Rattle.osi_pair.proofs.StandingRests.{delivered, tables_delivered}
+use Rattle.osi_pair.proofs.StandingResting.{acted_end, did_at, same_row, line_at, EndThen, was_at, session_before, transport_before, back_one}
+use Rattle.osi_pair.proofs.StandingRows.{Row, before, after, arrived_in}
+use Rattle.osi_pair.proofs.StandingSeats.{transport_by, value_same, HasSession}
+use Rattle.osi_pair.proofs.StandingTurned.{IsSeen, with_holding, turned_pair, turned_stands}
+use Rattle.osi_pair.proofs.StandingWaiting.{is_calling}
 
 -- ---- a move
 
@@ -87,11 +108,6 @@ moved_tables s t m = delivered t (side_in s) m.n (known_by t m) (record { line =
 
 -- ---- both
 
--- what is sent can be handed to the carrier
-pub record CanGo (x : Meaning) : Type 0 where
-  pub short : length (written x) ≤ 1048576
-  pub octets : IsOctets (written x)
-
 pub record HasMoved (s : Side) (p : TwoEnds) (t : Tables) (packet : List ℕ) (h : Held) : Type 0 where
   pub unit : Value
   pub m : Moving
@@ -117,5 +133,254 @@ pub record HasMoved (s : Side) (p : TwoEnds) (t : Tables) (packet : List ℕ) (h
   pub found_now : connection_at m.n (moved_tables s t m).lines ≡ Some (seen_from (side_in s) (moved_line m))
   -- it is open, and what is sent can be; or it is gone, and the session sends and closes nothing
   pub opened : after m.row ≡ in_use → IsLinkedAt m.n (moved_end s p unit m).carrier
+  -- its class is known
+  pub agreed : after m.row ≡ in_use → known_by t m ≡ option_map class_in (class_of (terms_at p))
   pub silent : after m.row ≡ gone → ((move_of m).reply ≡ None) × ((move_of m).closes ≡ false)
   pub sends : (x : Meaning) → (move_of m).reply ≡ Some x → CanGo x
+
+-- ---- how it comes about
+
+-- what is proved of the crates below
+pub record MoveLaws : Type 0 where
+  pub packet : PacketLaws
+  pub hear : HearLaws
+  pub tables : SessionLaws
+  pub sound_lines : (t : Tables) → IsTableRun t → AreSoundLines t
+
+seen_sound : (s : machine.Side) (l : TableLine) → IsSoundLine (seen_from s l) → IsSoundLine l
+seen_sound machine.Left l h = h
+seen_sound machine.Right l h = record { own = h.peer; peer = h.own }
+
+first_whole : (m : Message) (ms : List Message) → AreSendable (m ∷ ms) → IsWhole m
+first_whole (unit u) ms h = h.0
+first_whole ask ms h = tt
+first_whole agree ms h = tt
+first_whole (deny reason) ms h = tt
+first_whole (bye reason) ms h = tt
+first_whole over ms h = tt
+
+record KeptLine (n : ℕ) (lines : Rows Line) (x : Standing) : Type 0 where
+  line : Line
+  here : value_at n lines ≡ Some line
+  is : line.session ≡ Some x
+
+line_by : (n : ℕ) (lines : Rows Line) (x : Standing) (o : Option Line) → value_at n lines ≡ o → session_in o ≡ Some x → KeptLine n lines x
+line_by n lines x None e h = absurd cc
+line_by n lines x (Some line) e h = record { line = line; here = e; is = h }
+
+-- what stands at its reference, and what happens to its session
+record Arriving (s : Side) (p : TwoEnds) (b : Between) (t : Tables) (n : ℕ) (row : Row) : Type 0 where
+  seen : TableLine
+  found : connection_at n t.lines ≡ Some (seen_from (side_in s) seen)
+  stands : IsSeen s n p b seen
+  transport : seen.own.transport ≡ transport_by (before row)
+  first : Message
+  rest : List Message
+  parts : seen.peer.channel ≡ first ∷ rest
+  alike : AreAlike (before row) (message_in first ∷ []) (got_in row ∷ [])
+  kept : KeptLine n (end_at s p).end.lines seen.own.session
+  hears : HearsBy n row first seen.own.session
+
+abbrev PacketAt : Side → TwoEnds → Between → List ℕ → Held → Type 0
+PacketAt s p b packet h = PacketActs (terms_at p) (is_caller s) (carriers_of p) b packet h.octets
+
+arriving : MoveLaws → (s : Side) (p : TwoEnds) (b : Between) (t : Tables) (packet : List ℕ) (h : Held) → Stands p b t → IsTableRun t → (end_at s p).end.carrier.ended ≡ None → (pa : PacketAt s p b packet h) →
+    is_move pa.did.row ≡ true → Arriving s p b t (reference_of pa.unit) pa.did.row
+arriving laws s p b t packet h old run alive pa move =
+    let n = reference_of pa.unit in
+    let lines = (end_at s p).end.lines in
+    let e = acted_end pa.unit lines (end_at s p).end in
+    let d = did_at s p b packet h lines pa in
+    let same = same_row s p b packet h lines pa in
+    let at = line_at s n p b t old pa.first.named pa.first.given in
+    let l = at.line in
+    let tr = transport_before s p b t e h n l old alive d at.is ∙ ap (λ (r : Row). transport_by (before r)) same in
+    let sp = back_one s p b e h n l (got_in pa.did.row) d at.is alive (ap arrived_in same ∙ one_in pa.did.row move) in
+    let alike = subst (λ (r : Row). AreAlike (before r) (message_in sp.first ∷ []) (got_in pa.did.row ∷ [])) same sp.is in
+    let sound = seen_sound (side_in s) l (laws.sound_lines t run n (seen_from (side_in s) l) at.found) in
+    let whole = first_whole sp.first sp.others (subst AreSendable sp.parts sound.peer.under_way) in
+    let hears = hears_row laws.hear n pa.did.row sp.first l.own move tr alike whole
+    (λ w. is_calling laws.tables laws.hear.replies.says (side_in s) n l t run at.found w) sound.own.waits at.is.here.octets in
+    let was : HasSession n lines (before pa.did.row) l.own.session = subst (λ (r : Row). HasSession n lines (before r) l.own.session) same (session_before s p b t e h n l old alive d at.is) in
+    record {
+      seen = l;
+      found = at.found;
+      stands = at.is;
+      transport = tr;
+      first = sp.first;
+      rest = sp.others;
+      parts = sp.parts;
+      alike = alike;
+      kept = line_by n lines l.own.session (value_at n lines) refl (was.live hears.lives);
+      hears = hears;
+    }
+
+-- the move
+abbrev moving : (s : Side) (p : TwoEnds) (b : Between) (t : Tables) (n : ℕ) (row : Row) → Arriving s p b t n row → Moving
+moving s p b t n row a = record { n = n; row = row; seen = a.seen; first = a.first; rest = a.rest; line = a.kept.line; input = heard_by row a.first }
+
+abbrev moves_by : (s : Side) (p : TwoEnds) (b : Between) (t : Tables) (n : ℕ) (row : Row) → (a : Arriving s p b t n row) → MovesBy s p n a.seen.own.session row (heard_by row a.first)
+moves_by s p b t n row a = record {
+  line = a.kept.line;
+  here = a.kept.here;
+  is = a.kept.is;
+  ended = a.hears.ended;
+  waits = a.hears.waits;
+  octets = a.hears.goes.octets;
+}
+
+-- ---- the end then
+
+linked_value : (n : ℕ) (c : Carrier) (o : Option Connection) → value_at n c.live ≡ o → progress_of (was_given o) ≡ in_use → IsLinkedAt n c
+linked_value n c None e h = absurd cc
+linked_value n c (Some asked) e h = absurd cc
+linked_value n c (Some (linked peer link)) e h = record { peer = peer; link = link; at = e }
+linked_value n c (Some (closing peer)) e h = absurd cc
+
+linked_by : (n : ℕ) (c : Carrier) (b : Bool) → nat_lt c.given n ≡ b → progress_of (place_at n c) ≡ in_use → IsLinkedAt n c
+linked_by n c true e h = let no : not_yet ≡ in_use = sym (ap (λ (b : Bool). progress_of (if◌then◌else◌ {A = Place} b never (was_given (value_at n c.live)))) e) ∙ h in absurd cc
+linked_by n c false e h = linked_value n c (value_at n c.live) refl (sym (ap (λ (b : Bool). progress_of (if◌then◌else◌ {A = Place} b never (was_given (value_at n c.live)))) e) ∙ h)
+
+open_at : (n : ℕ) (c : Carrier) → c.ended ≡ None → IsLinkedAt n c → is_open n c ≡ true
+open_at n c lasts l =
+    ap (λ (x : Option EndReason). is_some (if◌then◌else◌ {A = Option (ℕ × Link)} (is_some x) None (link_of (value_at n c.live)))) lasts
+    ∙ ap (λ (o : Option Connection). is_some (link_of o)) l.at
+
+abbrev EndOf : (s : Side) (p : TwoEnds) (b : Between) (t : Tables) (packet : List ℕ) (h : Held) (pa : PacketAt s p b packet h) → Arriving s p b t (reference_of pa.unit) pa.did.row → End
+EndOf s p b t packet h pa a = moved_end s p pa.unit (moving s p b t (reference_of pa.unit) pa.did.row a)
+
+-- what the carrier did, at the end whose session has moved
+abbrev DidThen : (s : Side) (p : TwoEnds) (b : Between) (t : Tables) (packet : List ℕ) (h : Held) (pa : PacketAt s p b packet h) → Arriving s p b t (reference_of pa.unit) pa.did.row → Type 0
+DidThen s p b t packet h pa a = DidAt s p b (EndOf s p b t packet h pa a) h (reference_of pa.unit)
+
+opened_then : (s : Side) (p : TwoEnds) (b : Between) (e : End) (h : Held) (n : ℕ) (row : Row) → (d : DidAt s p b e h n) → e.carrier.ended ≡ None → d.row ≡ row → after row ≡ in_use → IsLinkedAt n e.carrier
+opened_then s p b e h n row d lasts same open_now =
+    linked_by n e.carrier (nat_lt e.carrier.given n) refl
+    (ap (λ (c : Carrier). progress_of (place_at n c)) (sym (last_is s p b e h n d lasts)) ∙ d.stands ∙ ap after same ∙ open_now)
+
+-- its connections but this one are as they were
+lives_then : (s : Side) (p : TwoEnds) (b : Between) (t : Tables) (e : End) (h : Held) (n : ℕ) → Stands p b t → (end_at s p).end.carrier.ended ≡ None → (d : DidAt s p b e h n) → e.carrier.ended ≡ None → IsOrderly e.carrier →
+    (q : ℕ) → q ≢ n → value_at q e.carrier.live ≡ value_at q (end_at s p).end.carrier.live
+lives_then s p b t e h n old alive d lasts orderly q apart =
+    value_same q e.carrier (end_at s p).end.carrier orderly (order_of s p b t old alive).sound.orderly
+    (ap (place_at q) (sym (last_is s p b e h n d lasts)) ∙ d.other_places q apart ∙ ap (place_at q) (was_at s p b t old alive))
+
+loud_order : (s : Side) (p : TwoEnds) (b : Between) (t : Tables) (packet : List ℕ) (h : Held) → Stands p b t → (end_at s p).end.carrier.ended ≡ None → (pa : PacketAt s p b packet h) →
+    (a : Arriving s p b t (reference_of pa.unit) pa.did.row) → (d : DidThen s p b t packet h pa a) → d.row ≡ pa.did.row → (f : ActsAt s p packet pa.unit (reference_of pa.unit) pa.did.row) →
+    IsInOrder (acted_end pa.unit (loud_lines s p (moving s p b t (reference_of pa.unit) pa.did.row a)) (end_at s p).end)
+loud_order s p b t packet h old alive pa a d same f =
+    let n = reference_of pa.unit in
+    let was = (end_at s p).end in
+    let e = EndOf s p b t packet h pa a in
+    let order = order_of s p b t old alive in
+    let orderly : IsOrderly e.carrier = orderly_same (carrier_react pa.unit was.carrier) _ [] (orderly_unit pa.unit was.carrier order.sound.orderly) in
+    let more : was.carrier.given ≤ e.carrier.given = subst (λ (c : Carrier). was.carrier.given ≤ c.given) f.acts (packet_rises packet was.carrier) in
+    moved_order was e.carrier n a.kept.line a.seen.own.session (heard_by pa.did.row a.first) order alive orderly refl f.lasts more
+    (lives_then s p b t e h n old alive d f.lasts orderly) a.kept.here a.kept.is a.hears.numbered
+    (λ needs. open_at n e.carrier f.lasts (opened_then s p b e h n pa.did.row d f.lasts same (a.hears.needs needs)))
+
+moved_then : MoveLaws → (s : Side) (p : TwoEnds) (b : Between) (t : Tables) (packet : List ℕ) (h : Held) → Stands p b t → (end_at s p).end.carrier.ended ≡ None → (pa : PacketAt s p b packet h) →
+    (a : Arriving s p b t (reference_of pa.unit) pa.did.row) → (d : DidThen s p b t packet h pa a) → d.row ≡ pa.did.row → (f : ActsAt s p packet pa.unit (reference_of pa.unit) pa.did.row) →
+    EndThen s p (EndOf s p b t packet h pa a)
+moved_then laws s p b t packet h old alive pa a d same f =
+    let loud = loud_lines s p (moving s p b t (reference_of pa.unit) pa.did.row a) in
+    record {
+      lasts = f.lasts;
+      local = f.local;
+      role = same_role laws.packet s p b t (EndOf s p b t packet h pa a) h (reference_of pa.unit) old alive d f.lasts;
+      order = quiet_order (acted_end pa.unit loud (end_at s p).end) (loud_order s p b t packet h old alive pa a d same f);
+      waits = quiet_waits loud;
+    }
+
+-- ---- two ends then
+
+-- what is still under way to it
+rest_then : (s : Side) (p : TwoEnds) (b : Between) (t : Tables) (packet : List ℕ) (h : Held) → (end_at s p).end.carrier.ended ≡ None → (pa : PacketAt s p b packet h) → is_move pa.did.row ≡ true →
+    (a : Arriving s p b t (reference_of pa.unit) pa.did.row) → (d : DidThen s p b t packet h pa a) → d.row ≡ pa.did.row →
+    AreAlike (after pa.did.row) (map message_in a.rest) (under_way (is_caller (other s)) (reference_of pa.unit) (carriers_of (with_holding s (EndOf s p b t packet h pa a) h p)) d.now)
+rest_then s p b t packet h alive pa move a d same =
+    let n = reference_of pa.unit in
+    let e = EndOf s p b t packet h pa a in
+    let sp = back_one s p b e h n a.seen (got_in pa.did.row) d a.stands alive (ap arrived_in same ∙ one_in pa.did.row move) in
+    let two : sp.first ∷ sp.others ≡ a.first ∷ a.rest = sym sp.parts ∙ a.parts in
+    let rest : sp.others ≡ a.rest = cc in
+    subst (λ (r : Row). AreAlike (after r) (map message_in a.rest) (under_way (is_caller (other s)) n (carriers_of (with_holding s e h p)) d.now)) same
+    (subst (λ (ms : List Message). AreAlike (after d.row) (map message_in ms) (under_way (is_caller (other s)) n (carriers_of (with_holding s e h p)) d.now)) rest sp.stays)
+
+stands_then : MoveLaws → (s : Side) (p : TwoEnds) (b : Between) (t : Tables) (packet : List ℕ) (h : Held) → Stands p b t → (end_at s p).end.carrier.ended ≡ None → (pa : PacketAt s p b packet h) → is_move pa.did.row ≡ true →
+    (a : Arriving s p b t (reference_of pa.unit) pa.did.row) → (d : DidThen s p b t packet h pa a) → d.row ≡ pa.did.row → (f : ActsAt s p packet pa.unit (reference_of pa.unit) pa.did.row) →
+    Stands (turned_pair s (EndOf s p b t packet h pa a) h (reference_of pa.unit) (move_of (moving s p b t (reference_of pa.unit) pa.did.row a)).shown p) d.now (moved_tables s t (moving s p b t (reference_of pa.unit) pa.did.row a))
+stands_then laws s p b t packet h old alive pa move a d same f =
+    let n = reference_of pa.unit in
+    let m = moving s p b t n pa.did.row a in
+    let e = EndOf s p b t packet h pa a in
+    turned_stands s p b t e h d.now (moved_tables s t m) n (move_of m).shown old alive
+    (move_unit s p b t packet h a.seen a.first a.rest pa.did.row (heard_by pa.did.row a.first) old alive pa a.found a.stands (moves_by s p b t n pa.did.row a) d same move
+    (rest_then s p b t packet h alive pa move a d same) (laws.packet.behind _ _ d.now d.between) (moved_then laws s p b t packet h old alive pa a d same f)
+    (moved_known s p b t e h n a.seen a.first pa.unit pa.did.row old alive d f.lasts pa.first pa.first.given same (as_move pa.did.row move) a.transport a.alike))
+
+-- what the packet does to the end
+does_then : (s : Side) (p : TwoEnds) (b : Between) (t : Tables) (packet : List ℕ) (h : Held) → (pa : PacketAt s p b packet h) →
+    (a : Arriving s p b t (reference_of pa.unit) pa.did.row) → (f : ActsAt s p packet pa.unit (reference_of pa.unit) pa.did.row) →
+    after_packet (end_at s p).end packet ≡ concludes (record {
+      carrier = answers (reference_of pa.unit) (move_of (moving s p b t (reference_of pa.unit) pa.did.row a)) (EndOf s p b t packet h pa a).carrier;
+      lines = loud_lines s p (moving s p b t (reference_of pa.unit) pa.did.row a);
+    })
+does_then s p b t packet h pa a f =
+    let n = reference_of pa.unit in
+    let was = (end_at s p).end in
+    one_told was packet pa.unit a.hears.event f.acts (f.events ∙ a.hears.told)
+    ∙ ap concludes (a.hears.hears (told_all pa.unit was) a.kept.line a.kept.here
+    ∙ session_acts n (heard_by pa.did.row a.first) (told_all pa.unit was) a.kept.line a.seen.own.session a.kept.here a.kept.is)
+
+-- it is the move of the row that the packet is
+pub record MovedBy (s : Side) (p : TwoEnds) (b : Between) (t : Tables) (packet : List ℕ) (h : Held) (pa : PacketActs (terms_at p) (is_caller s) (carriers_of p) b packet h.octets) : Type 0 where
+  pub moved : HasMoved s p t packet h
+  pub unit : moved.unit ≡ pa.unit
+  pub row : moved.m.row ≡ pa.did.row
+  pub input : moved.m.input ≡ heard_by moved.m.row moved.m.first
+
+-- a packet of which a session hears, at an end that has not ended
+pub has_moved : MoveLaws → (s : Side) (p : TwoEnds) (b : Between) (t : Tables) (packet : List ℕ) (h : Held) → Stands p b t → IsTableRun t → (end_at s p).end.carrier.ended ≡ None →
+    (pa : PacketActs (terms_at p) (is_caller s) (carriers_of p) b packet h.octets) → is_move pa.did.row ≡ true → MovedBy s p b t packet h pa
+has_moved laws s p b t packet h old run alive pa move =
+    let n = reference_of pa.unit in
+    let row = pa.did.row in
+    let a = arriving laws s p b t packet h old run alive pa move in
+    let m = moving s p b t n row a in
+    let e = moved_end s p pa.unit m in
+    let d = did_at s p b packet h (quieted (loud_lines s p m)) pa in
+    let same = same_row s p b packet h (quieted (loud_lines s p m)) pa in
+    let f = acts_at s p b packet h pa in
+    let count = old.given in
+    let kept = old.given_then in
+    let given = pa.first.given in
+    record {
+      moved = record {
+        unit = pa.unit;
+        m = m;
+        row = move;
+        some = pa.first.named;
+        given = omega arith;
+        here = a.kept.here;
+        is = a.kept.is;
+        found = a.found;
+        first = a.parts;
+        does = does_then s p b t packet h pa a f;
+        waits = put_waits n a.kept.line (move_of m) (end_at s p).end.lines (quiet_of s p b t old) a.kept.here;
+        steps = λ keep. step_moves t s n keep row a.seen a.first a.rest (got_in row) (lasting_in s p b t old alive) a.found a.parts a.transport move (one_in row move) a.alike;
+        lasts = f.lasts;
+        local = f.local;
+        kept = kept_then n a.kept.line a.seen.own.session (heard_by row a.first) (end_at s p).end.lines a.kept.here a.kept.is;
+        now = d.now;
+        stands = stands_then laws s p b t packet h old alive pa move a d same f;
+        found_now = (tables_delivered s n (seen_from (side_in s) a.seen) t (known_by t m) (record { line = moved_line m; shown = (move_of m).shown; closes = false }) a.found).lines.found;
+        opened = λ open_now. opened_then s p b e h n row d f.lasts same open_now;
+        agreed = λ open_now. moved_class s p b t e h n a.seen a.first pa.unit row old d pa.first same (as_move row move) a.transport a.alike open_now;
+        silent = a.hears.silent;
+        sends = a.hears.goes.sends;
+      };
+      unit = refl;
+      row = refl;
+      input = refl;
+    }

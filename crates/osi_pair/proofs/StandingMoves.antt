@@ -1,6 +1,5 @@
--- A message arrives, and a session makes its move, which sends nothing and closes nothing.
+-- A message arrives, and a session makes its move: what it sends is not handed over yet, and nothing is closed yet.
 use Rattle.std.proofs.Common.{◌≡◌, ◌≢◌, ℕ, ◌≤◌, Bool, true, false, List, [], ◌∷◌, map, Option, Some, None, IfSome, option_map, refl, sym, ap, subst, ◌∙◌}
-use Rattle.std.proofs.lemmas.List.{append-nil}
 use Rattle.osi_tpkt.specs.Held.{Held}
 use Rattle.osi_carrier.specs.Addresses.{reference_of}
 use Rattle.osi_carrier.specs.Between.{Between, last_of, under_way}
@@ -9,13 +8,13 @@ use Rattle.osi_carrier.specs.Messages as carrier
 use Rattle.osi_carrier.specs.Progress.{leaves_use}
 use Rattle.osi_carrier.specs.Rows.{Rows, value_at}
 use Rattle.osi_machine.specs.Machine.{connection_at, delivers, learns}
-use Rattle.osi_machine.specs.Tables.{Seat, Line as TableLine, Turn, Tables, seen_from, end_of, step, hears, without_first, message_taken}
+use Rattle.osi_machine.specs.Tables.{Seat, Line as TableLine, Turn, Tables, seen_from, end_of, after_turn, step, hears, without_first, message_taken}
 use Rattle.osi_machine.specs.Worlds.{Message, unit, ask, agree, deny, bye, over, put, replied}
 use Rattle.osi_machine.specs.Worlds as worlds
 use Rattle.osi_message.specs.InOctets.{IsInOctets}
 use Rattle.osi_message.specs.Sendable.{said_of}
 use Rattle.osi_message.specs.Meanings.{Meaning}
-use Rattle.osi_session.specs.Moves.{Input, taken, opened, refused, broken as broken_off, Standing, react}
+use Rattle.osi_session.specs.Moves.{Input, taken, opened, refused, broken as broken_off, Standing, Move, react}
 use Rattle.osi_session.specs.Phases.{is_ended}
 use Rattle.osi_session.specs.Sessions.{awaits}
 use Rattle.osi_stack.specs.Messages.{kept_at}
@@ -28,8 +27,8 @@ use Rattle.osi_pair.specs.declared.sides.Side.{Side}
 use Rattle.osi_pair.proofs.StandingArrived.{PacketActs}
 use Rattle.osi_pair.proofs.StandingFinish.{terms_at, DidAt, TablesAfter, OtherSessions, line_then, finish}
 use Rattle.osi_pair.proofs.StandingHeard.{lines_then, kept_other, session_then}
-use Rattle.osi_pair.proofs.StandingRests.{step_opens, tables_delivered, sends_then, seat_now}
-use Rattle.osi_pair.proofs.StandingResting.{acted_end, EndThen, NextFor, transport_before, out_row}
+use Rattle.osi_pair.proofs.StandingRests.{step_is, delivered, tables_delivered, sends_then, seat_now}
+use Rattle.osi_pair.proofs.StandingResting.{acted_end, EndThen, NextFor, out_row}
 use Rattle.osi_pair.proofs.StandingRows.{Row, quiet, still, begins, refuses, agrees, denies, tells, leaves, ignores, ends, before, after, arrived_in}
 use Rattle.osi_pair.proofs.StandingSeats.{transport_by, HasSession}
 use Rattle.osi_pair.proofs.StandingTurned.{IsSeen, with_holding}
@@ -124,13 +123,10 @@ stays_in_use (leaves reason) e = cc
 stays_in_use (ignores octets) e = cc
 stays_in_use (ends m) e = cc
 
-sends_none : (row : Row) (broken : Bool) (channel : List Message) → is_move row ≡ true → sends_then row broken channel ≡ put broken [] channel
-sends_none agrees true channel e = refl
-sends_none agrees false channel e = sym (append-nil channel)
-sends_none (denies reason) true channel e = refl
-sends_none (denies reason) false channel e = sym (append-nil channel)
-sends_none (tells octets) true channel e = refl
-sends_none (tells octets) false channel e = sym (append-nil channel)
+sends_none : (row : Row) (broken : Bool) (channel : List Message) → is_move row ≡ true → sends_then row broken channel ≡ channel
+sends_none agrees broken channel e = refl
+sends_none (denies reason) broken channel e = refl
+sends_none (tells octets) broken channel e = refl
 sends_none quiet broken channel e = cc
 sends_none still broken channel e = cc
 sends_none begins broken channel e = cc
@@ -138,6 +134,16 @@ sends_none (refuses reason) broken channel e = cc
 sends_none (leaves reason) broken channel e = cc
 sends_none (ignores octets) broken channel e = cc
 sends_none (ends m) broken channel e = cc
+
+-- the step of the tables
+pub step_moves : (t : Tables) (s : Side) (n : ℕ) (keep : ℕ → ℕ) (row : Row) (l : TableLine) (m : Message) (xs : List Message) (got : carrier.Message) → end_of (side_in s) t ≡ None →
+    connection_at n t.lines ≡ Some (seen_from (side_in s) l) → l.peer.channel ≡ m ∷ xs → l.own.transport ≡ transport_by (before row) → is_move row ≡ true → arrived_in row ≡ got ∷ [] →
+    AreAlike (before row) (message_in m ∷ []) (got ∷ []) →
+    step t (delivers (side_in s) n keep) ≡ after_turn (record t { known = learns t.terms l.own.transport m t.known }) (side_in s) n keep
+    (turn_then row (heard_by row m) t.broken (react l.own.session (heard_by row m)).reply l.own.session l.own.channel xs l)
+step_moves t s n keep row l m xs got lasting found first tr move one alike =
+    step_is t (side_in s) n keep l m xs lasting found first
+    ∙ ap (after_turn (record t { known = learns t.terms l.own.transport m t.known }) (side_in s) n keep) (turn_moves t.broken t.terms (keep n) row l m xs got tr move one alike)
 
 -- ---- the sessions of all others
 
@@ -149,13 +155,11 @@ moved_others s p e n line x input is =
 
 -- ---- two ends
 
--- the line of the end, its session, and what is known of its move
+-- the line of the end, its session, and what is known of it when it has moved
 pub record MovesBy (s : Side) (p : TwoEnds) (n : ℕ) (x : Standing) (row : Row) (input : Input) : Type 0 where
   pub line : Line
   pub here : value_at n (end_at s p).end.lines ≡ Some line
   pub is : line.session ≡ Some x
-  pub reply : (react x input).reply ≡ None
-  pub closes : (react x input).closes ≡ false
   pub ended : is_parting (transport_by (after row)) ≡ true → is_ended (react x input).next.state.phase ≡ true
   pub waits : transport_by (after row) ≡ worlds.not_yet → (react x input).next ≡ awaits
   pub octets : IfSome (react x input).next.waiting IsInOctets
@@ -163,29 +167,30 @@ pub record MovesBy (s : Side) (p : TwoEnds) (n : ℕ) (x : Standing) (row : Row)
 abbrev pub moved_lines : (s : Side) (p : TwoEnds) (n : ℕ) (x : Standing) (row : Row) (input : Input) → MovesBy s p n x row input → Rows Line
 moved_lines s p n x row input k = quieted (lines_then n k.line x input (end_at s p).end.lines)
 
-pub move_unit : (s : Side) (p : TwoEnds) (b : Between) (t : Tables) (packet : List ℕ) (h : Held) (got : carrier.Message) (l : TableLine) (m : Message) (xs : List Message) (row : Row) → Stands p b t →
-    (end_at s p).end.carrier.ended ≡ None → end_of (side_in s) t ≡ None → (pa : PacketActs (terms_at p) (is_caller s) (carriers_of p) b packet h.octets) →
-    connection_at (reference_of pa.unit) t.lines ≡ Some (seen_from (side_in s) l) → IsSeen s (reference_of pa.unit) p b l → l.peer.channel ≡ m ∷ xs →
-    (k : MovesBy s p (reference_of pa.unit) l.own.session row (heard_by row m)) →
-    (d : DidAt s p b (acted_end pa.unit (moved_lines s p (reference_of pa.unit) l.own.session row (heard_by row m) k) (end_at s p).end) h (reference_of pa.unit)) → d.row ≡ row →
-    arrived_in row ≡ got ∷ [] → is_move row ≡ true → AreAlike (before row) (message_in m ∷ []) (got ∷ []) →
-    AreAlike (after row) (map message_in xs) (under_way (is_caller (other s)) (reference_of pa.unit) (carriers_of (with_holding s (acted_end pa.unit (moved_lines s p (reference_of pa.unit) l.own.session row (heard_by row m) k) (end_at s p).end) h p)) d.now) →
-    d.now.called.given ≤ d.now.caller.given → EndThen s p (acted_end pa.unit (moved_lines s p (reference_of pa.unit) l.own.session row (heard_by row m) k) (end_at s p).end) →
-    learns t.terms l.own.transport m t.known ≡ option_map class_in (with_holding s (acted_end pa.unit (moved_lines s p (reference_of pa.unit) l.own.session row (heard_by row m) k) (end_at s p).end) h p).left.end.carrier.class →
-    NextFor s p b t pa.unit h (moved_lines s p (reference_of pa.unit) l.own.session row (heard_by row m) k) (reference_of pa.unit) (react l.own.session (heard_by row m)).shown
-    (step t (delivers (side_in s) (reference_of pa.unit) (λ r. 0))) d.now
-move_unit s p b t packet h got l m xs row old alive lasting pa found seen first k d same one move alike back behind new known =
+-- the turn without what is sent and what is closed
+abbrev pub quiet_turn : Row → Move → List Message → TableLine → Turn
+quiet_turn row move xs l = record { line = line_then row move.next l.own.channel xs l; shown = move.shown; closes = false }
+
+-- The session has moved, and nothing of what it sends was handed to the carrier, and nothing was closed: it stands
+-- so to the tables, where that was not put.
+pub move_unit : (s : Side) (p : TwoEnds) (b : Between) (t : Tables) (packet : List ℕ) (h : Held) (l : TableLine) (m : Message) (xs : List Message) (row : Row) (input : Input) → Stands p b t →
+    (end_at s p).end.carrier.ended ≡ None → (pa : PacketActs (terms_at p) (is_caller s) (carriers_of p) b packet h.octets) →
+    connection_at (reference_of pa.unit) t.lines ≡ Some (seen_from (side_in s) l) → IsSeen s (reference_of pa.unit) p b l →
+    (k : MovesBy s p (reference_of pa.unit) l.own.session row input) →
+    (d : DidAt s p b (acted_end pa.unit (moved_lines s p (reference_of pa.unit) l.own.session row input k) (end_at s p).end) h (reference_of pa.unit)) → d.row ≡ row → is_move row ≡ true →
+    AreAlike (after row) (map message_in xs) (under_way (is_caller (other s)) (reference_of pa.unit) (carriers_of (with_holding s (acted_end pa.unit (moved_lines s p (reference_of pa.unit) l.own.session row input k) (end_at s p).end) h p)) d.now) →
+    d.now.called.given ≤ d.now.caller.given → EndThen s p (acted_end pa.unit (moved_lines s p (reference_of pa.unit) l.own.session row input k) (end_at s p).end) →
+    learns t.terms l.own.transport m t.known ≡ option_map class_in (with_holding s (acted_end pa.unit (moved_lines s p (reference_of pa.unit) l.own.session row input k) (end_at s p).end) h p).left.end.carrier.class →
+    NextFor s p b t pa.unit h (moved_lines s p (reference_of pa.unit) l.own.session row input k) (reference_of pa.unit) (react l.own.session input).shown
+    (delivered t (side_in s) (reference_of pa.unit) (learns t.terms l.own.transport m t.known) (quiet_turn row (react l.own.session input) xs l)) d.now
+move_unit s p b t packet h l m xs row input old alive pa found seen k d same move back behind new known =
     let n = reference_of pa.unit in
     let x = l.own.session in
-    let input = heard_by row m in
     let e = acted_end pa.unit (moved_lines s p n x row input k) (end_at s p).end in
-    let tr : l.own.transport ≡ transport_by (before row) = transport_before s p b t e h n l old alive d seen ∙ ap (λ (r : Row). transport_by (before r)) same in
-    let turn = turn_then row input t.broken None x l.own.channel xs l in
-    let taken_is : message_taken t.broken t.terms 0 l.own.transport (without_first l xs) m ≡ turn =
-    turn_moves t.broken t.terms 0 row l m xs got tr move one alike ∙ ap (λ (r : Option Meaning). turn_then row input t.broken r x l.own.channel xs l) k.reply in
-    let is = step_opens t (side_in s) n (λ r. 0) l m xs turn lasting found first taken_is k.closes in
+    let turn = quiet_turn row (react x input) xs l in
+    let u = delivered t (side_in s) n (learns t.terms l.own.transport m t.known) turn in
     let steady : leaves_use (before d.row) (after d.row) ≡ false = ap (λ (r : Row). leaves_use (before r) (after r)) same ∙ stays_in_use row move in
-    finish s p b t (step t (delivers (side_in s) n (λ r. 0))) e h n (react x input).shown l (react x input).next (put t.broken [] l.own.channel) xs old alive d new.lasts new.local new.role pa.first.given behind new.order new.waits
+    finish s p b t u e h n (react x input).shown l (react x input).next l.own.channel xs old alive d new.lasts new.local new.role pa.first.given behind new.order new.waits
     (moved_others s p e n k.line x input refl)
     (subst (λ (r : Row). HasSession n e.lines (after r) (react x input).next) (sym same) (session_then n k.line x input (end_at s p).end.lines (after row) k.here k.is k.ended k.waits k.octets)) seen
     (record {
@@ -193,6 +198,6 @@ move_unit s p b t packet h got l m xs row old alive lasting pa found seen first 
           (ap (λ (r : Row). sends_then r t.broken l.own.channel) same ∙ sends_none row t.broken l.own.channel move) (out_row s p b t e h n l old d seen steady lives);
       back = subst (λ (r : Row). AreAlike (after r) (map message_in xs) (under_way (is_caller (other s)) n (carriers_of (with_holding s e h p)) d.now)) (sym same) back;
     })
-    (subst (λ (r : Row). TablesAfter s n t (step t (delivers (side_in s) n (λ r. 0))) (react x input).shown (line_then r (react x input).next (put t.broken [] l.own.channel) xs l)) (sym same)
-    (subst (λ (u : Tables). TablesAfter s n t u (react x input).shown turn.line) (sym is) (tables_delivered s n (seen_from (side_in s) l) t (learns t.terms l.own.transport m t.known) turn found)))
-    (ap (λ (u : Tables). u.known) is ∙ known)
+    (subst (λ (r : Row). TablesAfter s n t u (react x input).shown (line_then r (react x input).next l.own.channel xs l)) (sym same)
+    (tables_delivered s n (seen_from (side_in s) l) t (learns t.terms l.own.transport m t.known) turn found))
+    known

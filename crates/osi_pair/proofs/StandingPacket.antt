@@ -86,7 +86,7 @@ pub quiet_of : (s : Side) (p : TwoEnds) (b : Between) (t : Tables) → Stands p 
 quiet_of Left p b t old = old.quiet_left
 quiet_of Right p b t old = old.quiet_right
 
-same_role : PacketLaws → (s : Side) (p : TwoEnds) (b : Between) (t : Tables) (e : End) (h : Held) (n : ℕ) → Stands p b t → (end_at s p).end.carrier.ended ≡ None → (d : DidAt s p b e h n) → e.carrier.ended ≡ None →
+pub same_role : PacketLaws → (s : Side) (p : TwoEnds) (b : Between) (t : Tables) (e : End) (h : Held) (n : ℕ) → Stands p b t → (end_at s p).end.carrier.ended ≡ None → (d : DidAt s p b e h n) → e.carrier.ended ≡ None →
     e.carrier.is_caller ≡ (end_at s p).end.carrier.is_caller
 same_role laws Left p b t e h n old alive d lasts =
     ap (λ (c : State). c.is_caller) (sym (last_is Left p b e h n d lasts)) ∙ (laws.roles _ _ d.now d.between).0 ∙ sym (laws.roles _ _ b old.between).0 ∙ ap (λ (c : State). c.is_caller) (was_at Left p b t old alive)
@@ -160,13 +160,13 @@ ends_row n m = record { got = m; one = refl; rest = refl; resting = refl; agree 
 
 -- ---- what the carrier did, at the end of a side
 
-record ActsAt (s : Side) (p : TwoEnds) (packet : List ℕ) (u : Value) (n : ℕ) (row : Row) : Type 0 where
-  acts : carriers.after_packet (end_at s p).end.carrier packet ≡ carrier_react u (end_at s p).end.carrier
-  events : (carrier_react u (end_at s p).end.carrier).events ≡ told_for n row
-  lasts : (carrier_react u (end_at s p).end.carrier).ended ≡ None
-  local : (carrier_react u (end_at s p).end.carrier).local ≡ (end_at s p).end.carrier.local
+pub record ActsAt (s : Side) (p : TwoEnds) (packet : List ℕ) (u : Value) (n : ℕ) (row : Row) : Type 0 where
+  pub acts : carriers.after_packet (end_at s p).end.carrier packet ≡ carrier_react u (end_at s p).end.carrier
+  pub events : (carrier_react u (end_at s p).end.carrier).events ≡ told_for n row
+  pub lasts : (carrier_react u (end_at s p).end.carrier).ended ≡ None
+  pub local : (carrier_react u (end_at s p).end.carrier).local ≡ (end_at s p).end.carrier.local
 
-acts_at : (s : Side) (p : TwoEnds) (b : Between) (packet : List ℕ) (h : Held) → (pa : PacketActs (terms_at p) (is_caller s) (carriers_of p) b packet h.octets) →
+pub acts_at : (s : Side) (p : TwoEnds) (b : Between) (packet : List ℕ) (h : Held) → (pa : PacketActs (terms_at p) (is_caller s) (carriers_of p) b packet h.octets) →
     ActsAt s p packet pa.unit (reference_of pa.unit) pa.did.row
 acts_at Left p b packet h pa = record { acts = pa.acts; events = pa.events; lasts = pa.lasts; local = pa.local }
 acts_at Right p b packet h pa = record { acts = pa.acts; events = pa.events; lasts = pa.lasts; local = pa.local }

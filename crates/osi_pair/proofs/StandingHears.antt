@@ -1,0 +1,184 @@
+-- A message arrives of which a session hears: what the carrier tells, and what happens to the session, row by row.
+use Rattle.std.proofs.Common.{◌≡◌, ℕ, Bool, true, false, List, [], ◌∷◌, Option, Some, None, IfSome, refl, sym, ap, subst, ◌∙◌, ◌⊎◌, inl, inr}
+use Rattle.osi_spdu.specs.Known.{Units}
+use Rattle.osi_carrier.specs.Happenings.{Happening, opened, refused, tsdu}
+use Rattle.osi_carrier.specs.Messages as carrier
+use Rattle.osi_carrier.specs.Progress.{in_use, gone}
+use Rattle.osi_carrier.specs.Rows.{Rows, value_at}
+use Rattle.osi_machine.specs.Core.{offer_sent}
+use Rattle.osi_machine.specs.Tables.{Seat}
+use Rattle.osi_machine.specs.Worlds.{Message, unit, ask, agree, deny, bye, over}
+use Rattle.osi_machine.specs.Worlds as worlds
+use Rattle.osi_message.specs.InOctets.{IsInOctets}
+use Rattle.osi_message.specs.Meanings.{Meaning}
+use Rattle.osi_message.specs.Reading.{said_by_units}
+use Rattle.osi_message.specs.Sendable.{said_of, IsSendable}
+use Rattle.osi_message.specs.Written.{written}
+use Rattle.osi_session.specs.Moves.{Input, taken, came, Standing, react}
+use Rattle.osi_session.specs.Moves as session
+use Rattle.osi_session.specs.Phases.{is_ended}
+use Rattle.osi_session.specs.Runs.{HasNumbers}
+use Rattle.osi_session.specs.Sessions.{CanBeSent, awaits}
+use Rattle.osi_session.proofs.PhaseLaws.{excluded}
+use Rattle.osi_stack.specs.Hearing.{hears, opens}
+use Rattle.osi_stack.specs.Links.{needs_link}
+use Rattle.osi_stack.specs.Moving.{to_session}
+use Rattle.osi_stack.specs.State.{Line, End}
+use Rattle.osi_stack.proofs.Folds.{came_numbers}
+use Rattle.osi_stack.proofs.Moves.{Readings, came_is}
+use Rattle.osi_pair.specs.Standing.{message_in, is_parting, AreAlike}
+use Rattle.osi_pair.proofs.StandingMoves.{heard_by, is_move}
+use Rattle.osi_pair.proofs.StandingReplies.{CanGo, ReplyLaws, GoesBy, goes_taken, goes_opened, goes_refused, silent_refused, ended_refused, offer_goes}
+use Rattle.osi_pair.proofs.StandingRows.{Row, quiet, still, begins, refuses, agrees, denies, tells, leaves, ignores, ends, before, after, arrived_in, told_for}
+use Rattle.osi_pair.proofs.StandingSeats.{transport_by, lives_in}
+use Rattle.osi_pair.proofs.StandingWaiting.{IsCalling}
+
+-- ---- which row it is
+
+abbrev pub AsMove : Row → Type 0
+AsMove row = (row ≡ agrees) ⊎ (((reason : ℕ) × (row ≡ denies reason)) ⊎ ((octets : List ℕ) × (row ≡ tells octets)))
+
+no_move : false ≡ true → ⊥
+no_move e = cc
+
+pub as_move : (row : Row) → is_move row ≡ true → AsMove row
+as_move agrees e = inl refl
+as_move (denies reason) e = inr (inl (reason, refl))
+as_move (tells octets) e = inr (inr (octets, refl))
+as_move quiet e = absurd (no_move e)
+as_move still e = absurd (no_move e)
+as_move begins e = absurd (no_move e)
+as_move (refuses reason) e = absurd (no_move e)
+as_move (leaves reason) e = absurd (no_move e)
+as_move (ignores octets) e = absurd (no_move e)
+as_move (ends m) e = absurd (no_move e)
+
+-- the message with which the unit arrived
+abbrev pub got_in : Row → carrier.Message
+got_in agrees = carrier.agree
+got_in (denies reason) = carrier.deny reason
+got_in (tells octets) = carrier.message octets
+got_in row = carrier.over
+
+one_by : (row : Row) → AsMove row → arrived_in row ≡ got_in row ∷ []
+one_by row (inl e) = subst (λ (r : Row). arrived_in r ≡ got_in r ∷ []) (sym e) refl
+one_by row (inr (inl e)) = subst (λ (r : Row). arrived_in r ≡ got_in r ∷ []) (sym e.1) refl
+one_by row (inr (inr e)) = subst (λ (r : Row). arrived_in r ≡ got_in r ∷ []) (sym e.1) refl
+
+pub one_in : (row : Row) → is_move row ≡ true → arrived_in row ≡ got_in row ∷ []
+one_in row move = one_by row (as_move row move)
+
+-- ---- what is so of a row
+
+-- The carrier tells one thing, which happens to the session; what the session sends goes. Where the connection is
+-- gone then, the session has ended, and sends and closes nothing.
+pub record HearsBy (n : ℕ) (row : Row) (m : Message) (x : Standing) : Type 0 where
+  pub event : Happening
+  pub told : told_for n row ≡ event ∷ []
+  pub hears : (e : End) (line : Line) → value_at n e.lines ≡ Some line → hears event e ≡ to_session n (heard_by row m) e
+  pub numbered : HasNumbers (heard_by row m)
+  pub goes : GoesBy x (heard_by row m)
+  pub lives : lives_in (before row) ≡ true
+  pub ended : is_parting (transport_by (after row)) ≡ true → is_ended (react x (heard_by row m)).next.state.phase ≡ true
+  pub waits : transport_by (after row) ≡ worlds.not_yet → (react x (heard_by row m)).next ≡ awaits
+  pub silent : after row ≡ gone → ((react x (heard_by row m)).reply ≡ None) × ((react x (heard_by row m)).closes ≡ false)
+  pub needs : needs_link (react x (heard_by row m)).next.state.phase ≡ true → after row ≡ in_use
+
+hears_agrees : (n : ℕ) (m : Message) (x : Standing) → ((y : Meaning) → x.waiting ≡ Some y → CanGo y) → IfSome x.waiting IsInOctets → HearsBy n agrees m x
+hears_agrees n m x goes octets = record {
+  event = opened n;
+  told = refl;
+  hears = λ e line here. ap (λ (o : Option Line). opens n o e) here;
+  numbered = tt;
+  goes = goes_opened x goes octets;
+  lives = refl;
+  ended = λ e. absurd (no_move e);
+  waits = λ e. (let no : worlds.linked ≡ worlds.not_yet = e in cc);
+  silent = λ e. (let no : in_use ≡ gone = e in cc);
+  needs = λ e. refl;
+}
+
+needs_none : (x : Standing) → is_ended x.state.phase ≡ true → needs_link x.state.phase ≡ true → in_use ≡ gone
+needs_none x ended needs = let none : needs_link x.state.phase ≡ false = excluded is_ended needs_link refl x.state.phase ended in absurd (no_move (sym none ∙ needs))
+
+hears_denies : (n reason : ℕ) (m : Message) (x : Standing) → is_ended (react x (session.refused reason)).next.state.phase ≡ true → IfSome x.waiting IsInOctets → HearsBy n (denies reason) m x
+hears_denies n reason m x past octets = record {
+  event = refused n reason;
+  told = refl;
+  hears = λ e line here. refl;
+  numbered = tt;
+  goes = goes_refused x reason octets;
+  lives = refl;
+  ended = λ e. past;
+  waits = λ e. (let no : worlds.gone ≡ worlds.not_yet = e in cc);
+  silent = λ e. silent_refused x reason;
+  needs = λ e. sym (needs_none (react x (session.refused reason)).next past e);
+}
+
+came_said : Readings → (octets : List ℕ) (u : Meaning) → octets ≡ written u → IsSendable u → came octets ≡ taken (said_of u)
+came_said readings octets u e sendable = ap came e ∙ came_is readings u sendable
+
+hears_tells : ReplyLaws → Readings → ((units : Units) → HasNumbers (taken (said_by_units units))) → (n : ℕ) (octets : List ℕ) (u : Meaning) (x : Standing) → octets ≡ written u → IsSendable u →
+    IfSome x.waiting IsInOctets → HearsBy n (tells octets) (unit u) x
+hears_tells laws readings units n octets u x is sendable waits =
+    let same : came octets ≡ taken (said_of u) = came_said readings octets u is sendable in
+    record {
+      event = tsdu n octets;
+      told = refl;
+      hears = λ e line here. ap (λ (i : Input). to_session n i e) same;
+      numbered = subst HasNumbers same (came_numbers units octets);
+      goes = goes_taken laws x u waits;
+      lives = refl;
+      ended = λ e. absurd (no_move e);
+      waits = λ e. (let no : worlds.linked ≡ worlds.not_yet = e in cc);
+      silent = λ e. (let no : in_use ≡ gone = e in cc);
+      needs = λ e. refl;
+    }
+
+-- ---- the three
+
+pub record HearLaws : Type 0 where
+  pub replies : ReplyLaws
+  pub readings : Readings
+  pub units : (units : Units) → HasNumbers (taken (said_by_units units))
+
+-- a unit that is under way can be sent
+abbrev pub IsWhole : Message → Type 0
+IsWhole (unit u) = IsSendable u
+IsWhole ask = Unit {0}
+IsWhole agree = Unit {0}
+IsWhole (deny reason) = Unit {0}
+IsWhole (bye reason) = Unit {0}
+IsWhole over = Unit {0}
+
+waiting_goes : ReplyLaws → (seat : Seat) → IsCalling seat → CanBeSent seat.session.waiting → IfSome seat.session.waiting IsInOctets → (y : Meaning) → seat.session.waiting ≡ Some y → CanGo y
+waiting_goes laws seat c w h y e =
+    let go = offer_goes laws c.offer (subst CanBeSent c.calls w) (subst (λ (o : Option Meaning). IfSome o IsInOctets) c.calls h) in
+    let two : Some (offer_sent c.offer) ≡ Some y = sym c.calls ∙ e in
+    let same : offer_sent c.offer ≡ y = cc in
+    subst CanGo same go
+
+tells_by : HearLaws → (n : ℕ) (octets : List ℕ) (m : Message) (x : Standing) → message_in m ∷ [] ≡ carrier.message octets ∷ [] → IsWhole m → IfSome x.waiting IsInOctets → HearsBy n (tells octets) m x
+tells_by laws n octets (unit u) x e whole waits = hears_tells laws.replies laws.readings laws.units n octets u x (let same : octets ≡ written u = cc in same) whole waits
+tells_by laws n octets ask x e whole waits = absurd cc
+tells_by laws n octets agree x e whole waits = absurd cc
+tells_by laws n octets (deny reason) x e whole waits = absurd cc
+tells_by laws n octets (bye reason) x e whole waits = absurd cc
+tells_by laws n octets over x e whole waits = absurd cc
+
+hears_as : HearLaws → (n : ℕ) (row : Row) (m : Message) (seat : Seat) → AsMove row → seat.transport ≡ transport_by (before row) → AreAlike (before row) (message_in m ∷ []) (got_in row ∷ []) → IsWhole m →
+    (seat.transport ≡ worlds.waiting → IsCalling seat) → CanBeSent seat.session.waiting → IfSome seat.session.waiting IsInOctets → HearsBy n row m seat.session
+hears_as laws n row m seat (inl is) tr alike whole calls sendable octets =
+    subst (λ (r : Row). HearsBy n r m seat.session) (sym is)
+    (hears_agrees n m seat.session (waiting_goes laws.replies seat (calls (tr ∙ ap (λ (r : Row). transport_by (before r)) is)) sendable octets) octets)
+hears_as laws n row m seat (inr (inl is)) tr alike whole calls sendable octets =
+    let c = calls (tr ∙ ap (λ (r : Row). transport_by (before r)) is.1) in
+    subst (λ (r : Row). HearsBy n r m seat.session) (sym is.1) (hears_denies n is.0 m seat.session (ended_refused seat.session is.0 c.phase) octets)
+hears_as laws n row m seat (inr (inr is)) tr alike whole calls sendable octets =
+    let same : message_in m ∷ [] ≡ carrier.message is.0 ∷ [] = subst (λ (r : Row). AreAlike (before r) (message_in m ∷ []) (got_in r ∷ [])) is.1 alike in
+    subst (λ (r : Row). HearsBy n r m seat.session) (sym is.1) (tells_by laws n is.0 m seat.session same whole octets)
+
+-- what happens to the session at a side
+pub hears_row : HearLaws → (n : ℕ) (row : Row) (m : Message) (seat : Seat) → is_move row ≡ true → seat.transport ≡ transport_by (before row) → AreAlike (before row) (message_in m ∷ []) (got_in row ∷ []) → IsWhole m →
+    (seat.transport ≡ worlds.waiting → IsCalling seat) → CanBeSent seat.session.waiting → IfSome seat.session.waiting IsInOctets → HearsBy n row m seat.session
+hears_row laws n row m seat move tr alike whole calls sendable octets = hears_as laws n row m seat (as_move row move) tr alike whole calls sendable octets

@@ -1,0 +1,118 @@
+-- The class of a connection at a message of which a session hears.
+use Rattle.std.proofs.Common.{◌≡◌, ℕ, ◌≤◌, true, false, List, [], ◌∷◌, Option, Some, None, option_map, refl, sym, ap, subst, ◌∙◌, inl, inr}
+use Rattle.osi_tpkt.specs.Held.{Held}
+use Rattle.osi_tpdu.specs.Value.{Value}
+use Rattle.osi_class.specs.declared.terms.Class.{Class}
+use Rattle.osi_carrier.specs.Between.{Between, last_of}
+use Rattle.osi_carrier.specs.Course.{Place, never, was_given, place_at, progress_of}
+use Rattle.osi_carrier.specs.Messages as carrier
+use Rattle.osi_carrier.specs.Progress.{awaiting, in_use, class_behind_all}
+use Rattle.osi_carrier.specs.Progress as progress
+use Rattle.osi_carrier.specs.State.{State, asked, linked, closing}
+use Rattle.osi_carrier.specs.Terms.{Terms, by_two, by_zero, refusing, class_of}
+use Rattle.osi_machine.specs.Machine.{learns}
+use Rattle.osi_machine.specs.Tables.{Line, Tables}
+use Rattle.osi_machine.specs.Worlds.{Message, unit, ask, agree, deny, bye, over, Transport}
+use Rattle.osi_machine.specs.Worlds as worlds
+use Rattle.osi_stack.specs.State.{End}
+use Rattle.osi_pair.specs.Ends.{TwoEnds, end_at}
+use Rattle.osi_pair.specs.Standing.{is_caller, class_in, terms_in, message_in, AreAlike, Stands}
+use Rattle.osi_pair.specs.declared.sides.Side.{Side}
+use Rattle.osi_pair.specs.declared.sides.Side.TheVariants.{Left, Right}
+use Rattle.osi_pair.proofs.StandingArriving.{is_linked, is_asked, IsFirstFor}
+use Rattle.osi_pair.proofs.StandingFinish.{terms_at, DidAt, is_agree, last_is, known_then}
+use Rattle.osi_pair.proofs.StandingHears.{AsMove, got_in}
+use Rattle.osi_pair.proofs.StandingRests.{is_awaited, learns_row}
+use Rattle.osi_pair.proofs.StandingRows.{Row, agrees, denies, tells, before, after, arrived_in, is_row}
+use Rattle.osi_pair.proofs.StandingSeats.{transport_by}
+use Rattle.osi_pair.proofs.StandingTurned.{with_holding}
+
+-- ---- places
+
+linked_place : (q : Place) → progress_of q ≡ in_use → is_linked q ≡ true
+linked_place never e = cc
+linked_place (was_given None) e = cc
+linked_place (was_given (Some asked)) e = cc
+linked_place (was_given (Some (linked peer link))) e = refl
+linked_place (was_given (Some (closing peer))) e = cc
+
+asked_place : (q : Place) → progress_of q ≡ awaiting → is_asked q ≡ true
+asked_place never e = cc
+asked_place (was_given None) e = cc
+asked_place (was_given (Some asked)) e = refl
+asked_place (was_given (Some (linked peer link))) e = cc
+asked_place (was_given (Some (closing peer))) e = cc
+
+-- ---- a CC
+
+agreed_class : (terms : Terms) (held : Option Class) → is_row terms agrees → class_behind_all (class_of terms) held (carrier.agree ∷ []) ≡ class_of terms
+agreed_class by_two held is = refl
+agreed_class by_zero held is = refl
+agreed_class (refusing reason) held is = absurd is
+
+-- the caller has the class then
+class_agreed : (s : Side) (p : TwoEnds) (b : Between) (e : End) (h : Held) (n : ℕ) → (d : DidAt s p b e h n) → e.carrier.ended ≡ None → d.row ≡ agrees → is_caller s ≡ true →
+    (with_holding s e h p).left.end.carrier.class ≡ class_of (terms_at p)
+class_agreed Left p b e h n d lasts same caller =
+    ap (λ (c : State). c.class) (sym (last_is Left p b e h n d lasts)) ∙ d.class ∙ ap (λ (r : Row). class_behind_all (class_of (terms_at p)) b.caller.class (arrived_in r)) same
+    ∙ agreed_class (terms_at p) b.caller.class (subst (λ (r : Row). is_row (terms_at p) r) same d.is)
+class_agreed Right p b e h n d lasts same caller = absurd (let no : false ≡ true = caller in cc)
+
+learned_by : (terms : Terms) (m : Message) (known : Option worlds.Class) → is_row terms agrees → message_in m ∷ [] ≡ carrier.agree ∷ [] → learns (terms_in terms) worlds.waiting m known ≡ option_map class_in (class_of terms)
+learned_by by_two agree known is e = refl
+learned_by by_zero agree known is e = refl
+learned_by (refusing reason) m known is e = absurd is
+learned_by terms ask known is e = absurd cc
+learned_by terms (unit u) known is e = absurd cc
+learned_by terms (deny reason) known is e = absurd cc
+learned_by terms (bye reason) known is e = absurd cc
+learned_by terms over known is e = absurd cc
+
+-- and the tables learn it
+learned : (t : Tables) (l : Line) (m : Message) (terms : Terms) → t.terms ≡ terms_in terms → l.own.transport ≡ worlds.waiting → is_row terms agrees → message_in m ∷ [] ≡ carrier.agree ∷ [] →
+    learns t.terms l.own.transport m t.known ≡ option_map class_in (class_of terms)
+learned t l m terms e tr is alike =
+    ap (λ (x : worlds.Terms). learns x l.own.transport m t.known) e ∙ ap (λ (x : Transport). learns (terms_in terms) x m t.known) tr ∙ learned_by terms m t.known is alike
+
+-- ---- a DR that refuses
+
+denied_by : (terms : Terms) (reason : ℕ) (tr : Transport) (m : Message) (known : Option worlds.Class) → is_row terms (denies reason) → learns (terms_in terms) tr m known ≡ known
+denied_by by_two reason tr m known is = absurd is
+denied_by by_zero reason tr m known is = absurd is
+denied_by (refusing why) reason tr m known is = refl
+
+-- ---- all three
+
+-- what the tables have then is what the caller has
+pub moved_known : (s : Side) (p : TwoEnds) (b : Between) (t : Tables) (e : End) (h : Held) (n : ℕ) (l : Line) (m : Message) (u : Value) (row : Row) → Stands p b t → (end_at s p).end.carrier.ended ≡ None →
+    (d : DidAt s p b e h n) → e.carrier.ended ≡ None → IsFirstFor (terms_at p) (is_caller s) b.caller (place_at n (last_of (is_caller s) b)) u → n ≤ b.caller.given → d.row ≡ row → AsMove row →
+    l.own.transport ≡ transport_by (before row) → AreAlike (before row) (message_in m ∷ []) (got_in row ∷ []) →
+    learns t.terms l.own.transport m t.known ≡ option_map class_in (with_holding s e h p).left.end.carrier.class
+moved_known s p b t e h n l m u row old alive d lasts first given same (inl is) tr alike =
+    let one : d.row ≡ agrees = same ∙ is in
+    let row_is : is_row (terms_at p) agrees = subst (λ (r : Row). is_row (terms_at p) r) one d.is in
+    let alike_is : message_in m ∷ [] ≡ carrier.agree ∷ [] = subst (λ (r : Row). AreAlike (before r) (message_in m ∷ []) (got_in r ∷ [])) is alike in
+    let caller : is_caller s ≡ true = first.waits (asked_place (place_at n (last_of (is_caller s) b)) (d.stood ∙ ap before one)) in
+    learned t l m (terms_at p) old.terms (tr ∙ ap (λ (r : Row). transport_by (before r)) is) row_is alike_is
+    ∙ ap (option_map class_in) (sym (class_agreed s p b e h n d lasts one caller))
+moved_known s p b t e h n l m u row old alive d lasts first given same (inr (inl is)) tr alike =
+    let one : d.row ≡ denies is.0 = same ∙ is.1 in
+    ap (λ (x : worlds.Terms). learns x l.own.transport m t.known) old.terms
+    ∙ denied_by (terms_at p) is.0 l.own.transport m t.known (subst (λ (r : Row). is_row (terms_at p) r) one d.is)
+    ∙ known_then s p b t e h n old alive d lasts given (ap is_agree one)
+moved_known s p b t e h n l m u row old alive d lasts first given same (inr (inr is)) tr alike =
+    learns_row row l.own.transport t.terms m t.known tr (ap is_awaited is.1) ∙ known_then s p b t e h n old alive d lasts given (ap is_agree (same ∙ is.1))
+
+-- where the connection is open then, it is the class on which the two agree
+pub moved_class : (s : Side) (p : TwoEnds) (b : Between) (t : Tables) (e : End) (h : Held) (n : ℕ) (l : Line) (m : Message) (u : Value) (row : Row) → Stands p b t →
+    (d : DidAt s p b e h n) → IsFirstFor (terms_at p) (is_caller s) b.caller (place_at n (last_of (is_caller s) b)) u → d.row ≡ row → AsMove row →
+    l.own.transport ≡ transport_by (before row) → AreAlike (before row) (message_in m ∷ []) (got_in row ∷ []) → after row ≡ in_use →
+    learns t.terms l.own.transport m t.known ≡ option_map class_in (class_of (terms_at p))
+moved_class s p b t e h n l m u row old d first same (inl is) tr alike open_now =
+    let row_is : is_row (terms_at p) agrees = subst (λ (r : Row). is_row (terms_at p) r) (same ∙ is) d.is in
+    learned t l m (terms_at p) old.terms (tr ∙ ap (λ (r : Row). transport_by (before r)) is) row_is (subst (λ (r : Row). AreAlike (before r) (message_in m ∷ []) (got_in r ∷ [])) is alike)
+moved_class s p b t e h n l m u row old d first same (inr (inl is)) tr alike open_now =
+    let no : progress.gone ≡ in_use = sym (ap after is.1) ∙ open_now in absurd cc
+moved_class s p b t e h n l m u row old d first same (inr (inr is)) tr alike open_now =
+    learns_row row l.own.transport t.terms m t.known tr (ap is_awaited is.1) ∙ old.known
+    ∙ ap (option_map class_in) (sym old.class_then ∙ first.class (linked_place (place_at n (last_of (is_caller s) b)) (d.stood ∙ ap before (same ∙ is.1))))

@@ -1,0 +1,156 @@
+-- What a session answers, as octets of a TSDU.
+use Rattle.std.proofs.Common.{◌≡◌, ◌<◌, ◌≤◌, ℕ, Bool, true, false, not, if◌then◌else◌, List, [], ◌∷◌, length, Option, Some, None, IfSome, refl, sym, ap, subst, ◌∙◌, arith}
+use Rattle.osi_tpkt.specs.Octets.{IsOctets}
+use Rattle.osi_machine.specs.Core.{Offer, offer_sent}
+use Rattle.osi_message.specs.InOctets.{IsInOctets}
+use Rattle.osi_message.specs.Meanings.{Meaning, CN, AC, RF, DT, GT, PT, MIP, MIA, MAP, MAA, RS, RA, FN, DN, NF, AB, AA}
+use Rattle.osi_message.specs.Reading.{Said}
+use Rattle.osi_message.specs.Sendable.{said_of, IsSendable}
+use Rattle.osi_message.specs.Written.{unit_of, written}
+use Rattle.osi_session.specs.Moves.{Input, opened, refused, taken, Standing, begun, denied, rests, react}
+use Rattle.osi_session.specs.Phases.{is_wait_transport, is_aborting, is_ended}
+use Rattle.osi_session.specs.Respond.{Outcome, in_aborting, in_ended, reply_for, respond, respond_unit, Verdict, over, dropped, faulty, fine, verdict, enacted}
+use Rattle.osi_session.specs.Units.{functional_units, has_data}
+use Rattle.osi_session.specs.declared.state.State.{State}
+use Rattle.osi_stack.proofs.Shortness.{SpduLaws, sent_short}
+
+-- what is sent can be handed to the carrier
+pub record CanGo (x : Meaning) : Type 0 where
+  pub short : length (written x) ≤ 1048576
+  pub octets : IsOctets (written x)
+
+-- what is proved of one session
+pub record ReplyLaws : Type 0 where
+  pub spdu : SpduLaws
+  pub octets : (m : Meaning) → IsSendable m → IsInOctets m → IsOctets (written m)
+  pub replied : (s : State) (said : Said) (m : Meaning) → (respond s said).reply ≡ Some m → IsSendable m
+  pub enacted : (s : State) (u : Meaning) → respond_unit s u ≡ enacted s u (verdict s u)
+  pub says : (s : State) (u : Meaning) → respond s (said_of u) ≡ respond_unit s u
+
+-- ---- it goes into octets, and no data comes behind it
+
+record IsAnswer (m : Meaning) : Type 0 where
+  none : (unit_of m).information ≡ []
+  octets : IsInOctets m
+
+can_go : ReplyLaws → (m : Meaning) → IsSendable m → IsAnswer m → CanGo m
+can_go laws m s a = record { short = sent_short laws.spdu m s a.none; octets = laws.octets m s a.octets }
+
+same_answer : (x m : Meaning) → IsAnswer x → Some x ≡ Some m → IsAnswer m
+same_answer x m a e = let same : x ≡ m = cc in subst IsAnswer same a
+
+refuse_answer : (reason : ℕ) → reason < 256 → IsAnswer (RF reason [])
+unfolding unit_of
+refuse_answer reason small = record { none = refl; octets = (small, λ k. omega arith) }
+
+abort_answer : IsAnswer (AB 5 [])
+unfolding unit_of
+abort_answer = record { none = refl; octets = (omega arith, λ k. omega arith) }
+
+accept_answer : IsAnswer AA
+unfolding unit_of
+accept_answer = record { none = refl; octets = tt }
+
+-- ---- a unit
+
+aborting_none : (s : State) (u : Meaning) → (in_aborting s u).reply ≡ None
+aborting_none s (AB bits octets) = refl
+aborting_none s AA = refl
+aborting_none s u = refl
+
+ended_answer : (s : State) (u m : Meaning) → (in_ended s u).reply ≡ Some m → IsAnswer m
+ended_answer s (AB bits octets) m e = same_answer AA m accept_answer e
+ended_answer s u m e = absurd cc
+
+over_answer : (b : Bool) (s : State) (u m : Meaning) → (if b then in_aborting s u else in_ended s u).reply ≡ Some m → IsAnswer m
+over_answer true s u m e = let no : None ≡ Some m = sym (aborting_none s u) ∙ e in absurd cc
+over_answer false s u m e = ended_answer s u m e
+
+connect_answer : (version some : Bool) (m : Meaning) → (if not version then Some (RF 132 []) else (if not some then Some (RF 134 []) else None)) ≡ Some m → IsAnswer m
+connect_answer false some m e = same_answer (RF 132 []) m (refuse_answer 132 (omega arith)) e
+connect_answer true false m e = same_answer (RF 134 []) m (refuse_answer 134 (omega arith)) e
+connect_answer true true m e = absurd cc
+
+good_answer : (u m : Meaning) → reply_for u ≡ Some m → IsAnswer m
+good_answer (CN version requirements serial wishes from to octets) m e = connect_answer version (has_data (functional_units requirements)) m e
+good_answer (AB bits octets) m e = same_answer AA m accept_answer e
+good_answer u m e = absurd cc
+
+verdict_answer : (s : State) (u m : Meaning) (v : Verdict) → (enacted s u v).reply ≡ Some m → IsAnswer m
+verdict_answer s u m over e = over_answer (is_aborting s.phase) s u m e
+verdict_answer s u m dropped e = absurd cc
+verdict_answer s u m (faulty fault) e = same_answer (AB 5 []) m abort_answer e
+verdict_answer s u m fine e = good_answer u m e
+
+taken_goes : ReplyLaws → (s : State) (u m : Meaning) → (respond s (said_of u)).reply ≡ Some m → CanGo m
+taken_goes laws s u m e =
+    can_go laws m (laws.replied s (said_of u) m e)
+    (verdict_answer s u m (verdict s u) (sym (ap (λ (o : Outcome). o.reply) (laws.says s u ∙ laws.enacted s u)) ∙ e))
+
+-- ---- a move
+
+-- what is known of a move: what it sends goes, and so does the CN that waits then
+pub record GoesBy (x : Standing) (input : Input) : Type 0 where
+  pub sends : (m : Meaning) → (react x input).reply ≡ Some m → CanGo m
+  pub octets : IfSome (react x input).next.waiting IsInOctets
+
+pub goes_taken : ReplyLaws → (x : Standing) (u : Meaning) → IfSome x.waiting IsInOctets → GoesBy x (taken (said_of u))
+unfolding react
+goes_taken laws x u waits = record { sends = λ m e. taken_goes laws x.state u m e; octets = waits }
+
+opened_by : (b : Bool) (x : Standing) → ((m : Meaning) → x.waiting ≡ Some m → CanGo m) → (m : Meaning) → (if b then begun x else rests x).reply ≡ Some m → CanGo m
+opened_by true x goes m e = goes m e
+opened_by false x goes m e = absurd cc
+
+opened_octets : (b : Bool) (x : Standing) → IfSome x.waiting IsInOctets → IfSome (if b then begun x else rests x).next.waiting IsInOctets
+opened_octets true x h = tt
+opened_octets false x h = h
+
+pub goes_opened : (x : Standing) → ((m : Meaning) → x.waiting ≡ Some m → CanGo m) → IfSome x.waiting IsInOctets → GoesBy x opened
+unfolding react
+goes_opened x goes waits = record {
+  sends = λ m e. opened_by (is_wait_transport x.state.phase) x goes m e;
+  octets = opened_octets (is_wait_transport x.state.phase) x waits;
+}
+
+refused_none : (b : Bool) (reason : ℕ) (x : Standing) → (if b then denied reason x else rests x).reply ≡ None
+refused_none true reason x = refl
+refused_none false reason x = refl
+
+refused_open : (b : Bool) (reason : ℕ) (x : Standing) → (if b then denied reason x else rests x).closes ≡ false
+refused_open true reason x = refl
+refused_open false reason x = refl
+
+refused_octets : (b : Bool) (reason : ℕ) (x : Standing) → IfSome x.waiting IsInOctets → IfSome (if b then denied reason x else rests x).next.waiting IsInOctets
+refused_octets true reason x h = h
+refused_octets false reason x h = h
+
+-- it sends and closes nothing
+pub silent_refused : (x : Standing) (reason : ℕ) → ((react x (refused reason)).reply ≡ None) × ((react x (refused reason)).closes ≡ false)
+unfolding react
+silent_refused x reason = (refused_none (is_wait_transport x.state.phase) reason x, refused_open (is_wait_transport x.state.phase) reason x)
+
+pub goes_refused : (x : Standing) (reason : ℕ) → IfSome x.waiting IsInOctets → GoesBy x (refused reason)
+unfolding react silent_refused
+goes_refused x reason waits = record {
+  sends = λ m e. (let no : None ≡ Some m = sym (refused_none (is_wait_transport x.state.phase) reason x) ∙ e in absurd cc);
+  octets = refused_octets (is_wait_transport x.state.phase) reason x waits;
+}
+
+refused_ended : (b : Bool) (reason : ℕ) (x : Standing) → b ≡ true → is_ended (if b then denied reason x else rests x).next.state.phase ≡ true
+refused_ended true reason x e = refl
+refused_ended false reason x e = absurd cc
+
+-- a session that waited has ended then
+pub ended_refused : (x : Standing) (reason : ℕ) → is_wait_transport x.state.phase ≡ true → is_ended (react x (refused reason)).next.state.phase ≡ true
+unfolding react
+ended_refused x reason e = refused_ended (is_wait_transport x.state.phase) reason x e
+
+-- ---- the CN that waits
+
+offer_answer : (o : Offer) → IsInOctets (offer_sent o) → IsAnswer (offer_sent o)
+unfolding unit_of
+offer_answer o octets = record { none = refl; octets = octets }
+
+pub offer_goes : ReplyLaws → (o : Offer) → IsSendable (offer_sent o) → IsInOctets (offer_sent o) → CanGo (offer_sent o)
+offer_goes laws o sendable octets = can_go laws (offer_sent o) sendable (offer_answer o octets)

@@ -1,0 +1,44 @@
+-- A side whose transport connection waits to be agreed to: its session waits too, with the CN of what was asked for.
+use Rattle.std.proofs.Common.{◌≡◌, ℕ, true, Option, Some, None, refl, sym, ap, subst, ◌∙◌}
+use Rattle.osi_machine.specs.AsTables.{IsTableRun}
+use Rattle.osi_machine.specs.Core.{Offer, offer_sent}
+use Rattle.osi_machine.specs.Core as machine
+use Rattle.osi_machine.specs.Machine.{Machine, connection_at, start, run}
+use Rattle.osi_machine.specs.Tables.{Seat, Line, Tables, seen_from}
+use Rattle.osi_machine.specs.Worlds.{World, waiting, Kept}
+use Rattle.osi_machine.proofs.CoreLaws.{SessionLaws}
+use Rattle.osi_machine.proofs.TableLines.{IsSeated, seat_of, Tabled, turned_tabled, SaysItsUnit}
+use Rattle.osi_machine.proofs.TableRuns.{At, Follows, line_there, all_follow}
+use Rattle.osi_message.specs.Meanings.{Meaning}
+use Rattle.osi_session.specs.Phases.{is_wait_transport}
+use Rattle.osi_pair.proofs.StandingTurned.{seen_twice}
+
+pub record IsCalling (x : Seat) : Type 0 where
+  pub phase : is_wait_transport x.session.state.phase ≡ true
+  pub offer : Offer
+  pub calls : x.session.waiting ≡ Some (offer_sent offer)
+
+calls_here : (w : World) (a : Option Meaning) → IsSeated w a → w.own.transport ≡ waiting → IsCalling (seat_of w a)
+calls_here w a i e = record { phase = ap (λ (k : Kept). is_wait_transport k.phase) (i.called e); offer = w.offer; calls = i.calls e }
+
+calls_own : (l : Line) (w : World) → Tabled l w → l.own.transport ≡ waiting → IsCalling l.own
+calls_own l w h e = subst (λ (x : Line). IsCalling x.own) (sym h.same) (calls_here w h.first h.seated.own (sym (ap (λ (x : Line). x.own.transport) h.same) ∙ e))
+
+calls_seen : (s : machine.Side) (l : Line) (w : World) → Tabled l w → (seen_from s l).own.transport ≡ waiting → IsCalling (seen_from s l).own
+calls_seen machine.Left l w h e = calls_own l w h e
+calls_seen machine.Right l w h e = calls_own _ _ (turned_tabled l w h) e
+
+calls_at : (s : machine.Side) (l : Line) (o : Option World) → At (Some l) o → (seen_from s l).own.transport ≡ waiting → IsCalling (seen_from s l).own
+calls_at s l (Some w) h e = calls_seen s l w h e
+calls_at s l None h e = absurd h
+
+-- in tables that came about, seen from either side
+pub is_calling : SessionLaws → SaysItsUnit → (s : machine.Side) (r : ℕ) (l : Line) (t : Tables) → IsTableRun t → connection_at r t.lines ≡ Some (seen_from s l) → l.own.transport ≡ waiting → IsCalling l.own
+is_calling laws says s r l t h found e =
+    let f = all_follow laws says h.agreed h.steps h.numbered in
+    let m : Machine = run (start h.agreed) h.steps in
+    let lines = sym (ap (λ (x : Tables). x.lines) f.same) ∙ ap (λ (x : Tables). x.lines) h.reached in
+    let at : At (Some (seen_from s l)) (connection_at r m.worlds) =
+    subst (λ (o : Option Line). At o (connection_at r m.worlds)) (ap (connection_at r) lines ∙ found) (line_there f.lines m.worlds r f.all) in
+    let twice = seen_twice s l in
+    subst (λ (x : Line). IsCalling x.own) twice (calls_at s (seen_from s l) (connection_at r m.worlds) at (ap (λ (x : Line). x.own.transport) twice ∙ e))
