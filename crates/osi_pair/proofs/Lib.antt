@@ -15,7 +15,6 @@ pub mod StandingQuiet
 pub mod StandingHeard
 pub mod StandingMoves
 pub mod StandingShows
-pub mod StandingFew
 pub mod StandingWaiting
 pub mod StandingReplies
 pub mod StandingOrder
