@@ -1,8 +1,12 @@
 -- Octets that are carried leave two ends where they stand: what arrives with them are deliveries, and perhaps an end
 -- for want of memory.
-use Rattle.std.proofs.Common.{◌≡◌, ℕ, ◌+◌, ◌-◌, ◌≤◌, List, [], ◌∷◌, ◌++◌, length, sum, min, Option, Some, None, refl, sym, ap, subst, ◌∙◌, arith}
+use Rattle.std.proofs.Common.{◌≡◌, ℕ, ◌+◌, ◌-◌, ◌≤◌, Bool, List, [], ◌∷◌, ◌++◌, length, sum, min, Option, Some, None, refl, sym, ap, subst, ◌∙◌, arith}
 use Rattle.std.proofs.lemmas.List.{length-drop}
 use Rattle.std.proofs.lemmas.List.Sums.{sum_by-cons}
+use Rattle.osi_tpkt.specs.Packet.{IsFaultOf}
+use Rattle.osi_tpkt.specs.declared.faults.TpktFault.{TpktFault}
+use Rattle.osi_carrier.specs.Between.{Both, Between, AreBetween, side}
+use Rattle.osi_carrier.specs.Terms.{Terms}
 use Rattle.osi_carrier.specs.declared.ends.EndReason.{EndReason}
 use Rattle.osi_machine.specs.Machine.{Step}
 use Rattle.osi_stack.specs.Calls.{carried}
@@ -15,7 +19,9 @@ use Rattle.osi_pair.specs.Standing.{StandsAt, StandsAtArrivals}
 use Rattle.osi_pair.specs.declared.reach.Reach.{Reach}
 use Rattle.osi_pair.specs.declared.sides.Side.{Side}
 use Rattle.osi_pair.specs.declared.sides.Side.TheVariants.{Left, Right}
-use Rattle.osi_pair.proofs.StandingPackets.{none_less, alive_deliveries, join_arrivals, no_more}
+use Rattle.osi_pair.proofs.StandingFew.{FewLaws, few_wait}
+use Rattle.osi_pair.proofs.StandingHanded.{CarriedLaw}
+use Rattle.osi_pair.proofs.StandingPackets.{PacketStands, taken_laws, none_less, alive_deliveries, join_arrivals, no_more}
 use Rattle.osi_pair.proofs.StandingPieces.{PieceLaws, crossed, crossed_twice, crossed_same, crossed_reach, within_less, reach_twice, piece_alive, piece_over}
 
 -- what is left of what can be carried
@@ -80,3 +86,25 @@ carry_at laws f most p octets new steps at c =
     let same : crossed f (crossing f new) (reach_after f (sum c.way.pieces) p.reach) ≡ new =
     ap (λ (n : ℕ). crossed f (crossing f new) (reach_after f n p.reach)) (sym c.way.length) ∙ ap (crossed f (crossing f new)) (sym c.reach) ∙ crossed_same f new in
     subst (λ (q : TwoEnds). StandsAtArrivals (other f) q steps) same x.stands
+
+-- ---- the laws that this rests on
+
+-- what is proved of a packet, and of two carriers
+pub record CarryLaws : Type 0 where
+  pub packet : PacketStands
+  pub few : FewLaws
+  pub carried : CarriedLaw
+  pub sound : (terms : Terms) (end : Bool) (both : Both) (b : Between) (at : ℕ) (fault : TpktFault) → AreBetween terms both b →
+      (side end both).state.ended ≡ None → IsFaultOf at (side end both).held fault → ⊥
+
+pub piece_laws : CarryLaws → PieceLaws
+piece_laws laws = record {
+  packets = taken_laws laws.packet (few_wait laws.few);
+  carried = laws.carried;
+  sound = laws.sound;
+  starved = laws.few.starved;
+}
+
+pub carries_stand : CarryLaws → (f : Side) (most : ℕ) (p : TwoEnds) (octets : ℕ) (new : TwoEnds) (steps : List Step) → StandsAt p steps → CarriesFrom f most p octets new →
+    StandsAtArrivals (other f) new steps
+carries_stand laws = carry_at (piece_laws laws)
