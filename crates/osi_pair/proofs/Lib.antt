@@ -38,6 +38,8 @@ pub mod Growing
 pub mod StandingBreak
 pub mod StandingLost
 pub mod StandingEnded
+pub mod StandingUnheard
+pub mod StandingWant
 pub mod StandingTold
 pub mod StandingSides
 pub mod StandingActs

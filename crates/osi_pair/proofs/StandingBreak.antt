@@ -74,7 +74,7 @@ like_take progress.gone xs ys gone h = kinds_take xs ys gone h
 
 -- ---- one connection
 
-still_seated : (n : ℕ) (h : Holding) (seat : Seat) (ms : List Message) → IsSeated n h seat → IsSeated n h (record seat { channel = ms })
+pub still_seated : (n : ℕ) (h : Holding) (seat : Seat) (ms : List Message) → IsSeated n h seat → IsSeated n h (record seat { channel = ms })
 still_seated n h seat ms s = record { transport = s.transport; live = s.live; kept = s.kept; over_now = s.over_now; awaiting = s.awaiting; octets = s.octets }
 
 -- what is left of what is under way

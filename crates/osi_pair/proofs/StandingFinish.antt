@@ -32,7 +32,7 @@ use Rattle.osi_pair.proofs.StandingTurned.{IsSeen, with_holding, holding_here, h
 -- ---- references and the class
 
 -- a connection that ends gives no reference and no class
-refs_row : (terms : Terms) (row : Row) → is_row terms row → (before row ≡ not_yet → ⊥) → references_for (accepts_in terms) (arrived_in row) (put_for row) ≡ 0
+pub refs_row : (terms : Terms) (row : Row) → is_row terms row → (before row ≡ not_yet → ⊥) → references_for (accepts_in terms) (arrived_in row) (put_for row) ≡ 0
 refs_row terms begins is f = absurd (f refl)
 refs_row terms (refuses reason) is f = absurd (f refl)
 refs_row by_two quiet is f = refl
@@ -106,7 +106,7 @@ class_row by_zero (ends carrier.agree) held is a f = absurd is
 class_row by_zero (ends (carrier.deny why)) held is a f = absurd is
 class_row by_zero (ends (carrier.message octets)) held is a f = absurd is
 
-given_not_new : (n : ℕ) (s : State) (b : Bool) → nat_lt s.given n ≡ b → n ≤ s.given → progress_of (place_at n s) ≡ not_yet → ⊥
+pub given_not_new : (n : ℕ) (s : State) (b : Bool) → nat_lt s.given n ≡ b → n ≤ s.given → progress_of (place_at n s) ≡ not_yet → ⊥
 given_not_new n s true e le h = let more : s.given < n = grind (arith, nat_tests) in absurd (omega arith)
 given_not_new n s false e le h =
     new_value (value_at n s.live) (sym (ap (λ (b : Bool). progress_of (if◌then◌else◌ {A = Place} b never (was_given (value_at n s.live)))) e) ∙ h)

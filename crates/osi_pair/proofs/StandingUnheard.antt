@@ -1,0 +1,127 @@
+-- An end whose carrier acted for a unit of which no session heard may end.
+use Rattle.std.proofs.Common.{◌≡◌, ◌≢◌, ℕ, ◌<◌, ◌≤◌, ◌==◌, Bool, true, false, not, nat_lt, List, [], ◌∷◌, ◌++◌, length, map, Option, Some, None, IfSome, option_map, refl, sym, ap, subst, ◌∙◌, arith}
+use Rattle.std.proofs.lemmas.Bool.{eqb-true, eq-eqb}
+use Rattle.std.proofs.lemmas.List.{append-nil}
+use Rattle.osi_tpkt.specs.Held.{Held}
+use Rattle.osi_carrier.specs.Addresses.{reference_of}
+use Rattle.osi_carrier.specs.Between.{Between, last_of}
+use Rattle.osi_carrier.specs.Course.{place_at, progress_of}
+use Rattle.osi_carrier.specs.Progress.{not_yet}
+use Rattle.osi_carrier.specs.State.{State}
+use Rattle.osi_machine.specs.Machine.{connection_at, is_given}
+use Rattle.osi_machine.specs.Tables.{Seat, Line, Tables, seen_from}
+use Rattle.osi_machine.specs.Worlds as worlds
+use Rattle.osi_message.specs.InOctets.{IsInOctets}
+use Rattle.osi_session.specs.Sessions.{awaits}
+use Rattle.osi_stack.specs.State.{End, Holding}
+use Rattle.osi_pair.specs.Ends.{TwoEnds, end_at}
+use Rattle.osi_pair.specs.Sides.{other}
+use Rattle.osi_pair.specs.Standing.{side_in, is_caller, transport_in, class_in, carriers_of, HasLine, Stands}
+use Rattle.osi_pair.specs.declared.sides.Side.{Side}
+use Rattle.osi_pair.specs.declared.sides.Side.TheVariants.{Left, Right}
+use Rattle.osi_pair.proofs.StandingArrived.{PacketActs}
+use Rattle.osi_pair.proofs.StandingEnded.{IsPlaced, given_place, EndingLine, MayEnd, whole_line}
+use Rattle.osi_pair.proofs.StandingFinish.{terms_at, DidAt, TablesAfter, refs_row, given_not_new, last_is}
+use Rattle.osi_pair.proofs.StandingPacket.{PacketLaws, same_role, acts_at}
+use Rattle.osi_pair.proofs.StandingResting.{acted_end, did_at, was_at}
+use Rattle.osi_pair.proofs.StandingRows.{before, after}
+use Rattle.osi_pair.proofs.StandingSeats.{transport_by, transport_at}
+use Rattle.osi_pair.proofs.StandingTurned.{IsSeen, seen, seen_twice, with_holding, holding_there, LinesAfter, way_same}
+
+-- ---- references and the class
+
+record GivenAfter (s : Side) (p : TwoEnds) (t : Tables) (e : End) (h : Held) (c : Between) : Type 0 where
+  given : (with_holding s e h p).left.end.carrier.given ≡ p.left.end.carrier.given
+  given_back : (with_holding s e h p).right.end.carrier.given ≤ length t.lines
+  given_then : c.caller.given ≡ (with_holding s e h p).left.end.carrier.given
+  class_then : c.caller.class ≡ (with_holding s e h p).left.end.carrier.class
+
+given_after : (s : Side) (p : TwoEnds) (b : Between) (t : Tables) (e : End) (h : Held) (n : ℕ) → Stands p b t → (end_at s p).end.carrier.ended ≡ None → (d : DidAt s p b e h n) → e.carrier.ended ≡ None →
+    n ≤ b.caller.given → d.now.called.given ≤ d.now.caller.given → GivenAfter s p t e h d.now
+given_after Left p b t e h n old alive d lasts named behind =
+    let last = last_is Left p b e h n d lasts in
+    let new : before d.row ≡ not_yet → ⊥ = λ f. given_not_new n b.caller (nat_lt b.caller.given n) refl named (d.stood ∙ f) in
+    let refs = refs_row (terms_at p) d.row d.is new in
+    let same : d.now.caller.given ≡ b.caller.given = let more = d.given in omega arith in
+    record {
+      given = ap (λ (c : State). c.given) (sym last) ∙ same ∙ old.given_then;
+      given_back = old.given_back;
+      given_then = ap (λ (c : State). c.given) last;
+      class_then = ap (λ (c : State). c.class) last;
+    }
+given_after Right p b t e h n old alive d lasts named behind =
+    let last = last_is Right p b e h n d lasts in
+    let there : d.now.caller.given ≡ p.left.end.carrier.given = d.given_there ∙ old.given_then in
+    let here : d.now.called.given ≡ e.carrier.given = ap (λ (c : State). c.given) last in
+    let count = old.given in
+    record {
+      given = refl;
+      given_back = omega arith;
+      given_then = there;
+      class_then = d.class_there ∙ old.class_then;
+    }
+
+-- ---- its connections
+
+-- the one for which it acted
+pub placed_then : (s : Side) (p : TwoEnds) (b : Between) (e : End) (h : Held) (n : ℕ) (seat : Seat) → (d : DidAt s p b e h n) → e.carrier.ended ≡ None →
+    is_given seat.transport ≡ is_given (transport_by (after d.row)) → (seat.transport ≡ worlds.not_yet → seat.session ≡ awaits) → IfSome seat.session.waiting IsInOctets → IsPlaced n e.carrier seat
+placed_then s p b e h n seat d lasts same awaiting octets = record {
+  given = same ∙ ap is_given (sym (transport_at (place_at n e.carrier) (after d.row) (ap (λ (c : State). progress_of (place_at n c)) (sym (last_is s p b e h n d lasts)) ∙ d.stands)))
+      ∙ given_place n e.carrier;
+  awaiting = awaiting;
+  octets = octets;
+}
+
+-- all others
+other_ending : (s : Side) (p : TwoEnds) (b : Between) (t u : Tables) (e : End) (h : Held) (n q : ℕ) (line : Line) → Stands p b t → (end_at s p).end.carrier.ended ≡ None → (d : DidAt s p b e h n) →
+    e.carrier.ended ≡ None → q ≢ n → LinesAfter s n line t u → HasLine q p b t → EndingLine s p u e h d.now q
+other_ending s p b t u e h n q line old alive d lasts apart a has =
+    let l = seen_from (side_in s) has.line in
+    let i = seen s q p b has.line has.is in
+    let place : place_at q (end_at s p).end.carrier ≡ place_at q e.carrier =
+    ap (place_at q) (sym (was_at s p b t old alive)) ∙ sym (d.other_places q apart) ∙ ap (place_at q) (last_is s p b e h n d lasts) in
+    whole_line s p u e h d.now q l (a.others q apart ∙ has.found ∙ ap (λ (x : Line). Some x) (sym (seen_twice (side_in s) has.line)))
+    (record {
+      given = ap is_given i.here.transport ∙ ap (λ x. is_given (transport_in x)) place ∙ given_place q e.carrier;
+      awaiting = i.here.awaiting;
+      octets = i.here.octets;
+    }) i.there
+    (λ x. way_same _ _ _ _ _ (ap progress_of (d.there q)) (d.others q apart (is_caller s)) (i.out (ap (λ (y : Holding). y.end.carrier.ended) (sym (holding_there s e h p)) ∙ x)))
+
+ending_by : (s : Side) (p : TwoEnds) (b : Between) (t u : Tables) (e : End) (h : Held) (n q : ℕ) (line : Line) (same : Bool) → (q == n) ≡ same → Stands p b t → (end_at s p).end.carrier.ended ≡ None →
+    (d : DidAt s p b e h n) → e.carrier.ended ≡ None → LinesAfter s n line t u → EndingLine s p u e h d.now n → HasLine q p b t → EndingLine s p u e h d.now q
+ending_by s p b t u e h n q line true f old alive d lasts a l has = subst (λ (m : ℕ). EndingLine s p u e h d.now m) (sym (eqb-true q n f)) l
+ending_by s p b t u e h n q line false f old alive d lasts a l has =
+    other_ending s p b t u e h n q line old alive d lasts (λ same. (let no_way : true ≡ false = sym (eq-eqb q n same) ∙ f in cc)) a has
+
+-- ---- the end
+
+pub acted_may_end : PacketLaws → (s : Side) (p : TwoEnds) (b : Between) (t u : Tables) (packet : List ℕ) (h : Held) (line : Line) → Stands p b t → (end_at s p).end.carrier.ended ≡ None →
+    (pa : PacketActs (terms_at p) (is_caller s) (carriers_of p) b packet h.octets) → (d : DidAt s p b (acted_end pa.unit (end_at s p).end.lines (end_at s p).end) h (reference_of pa.unit)) →
+    TablesAfter s (reference_of pa.unit) t u [] line → EndingLine s p u (acted_end pa.unit (end_at s p).end.lines (end_at s p).end) h d.now (reference_of pa.unit) →
+    u.known ≡ option_map class_in (with_holding s (acted_end pa.unit (end_at s p).end.lines (end_at s p).end) h p).left.end.carrier.class →
+    MayEnd s p t u (acted_end pa.unit (end_at s p).end.lines (end_at s p).end) h d.now
+acted_may_end laws s p b t u packet h line old alive pa d a l known =
+    let n = reference_of pa.unit in
+    let e = acted_end pa.unit (end_at s p).end.lines (end_at s p).end in
+    let f = acts_at s p b packet h pa in
+    let g = given_after s p b t e h n old alive d f.lasts pa.first.given (laws.behind _ _ d.now d.between) in
+    record {
+      between = d.between;
+      lasts = f.lasts;
+      local = f.local;
+      role = same_role laws s p b t e h n old alive d f.lasts;
+      terms = a.terms;
+      broken = a.broken;
+      left_end = a.left_end;
+      right_end = a.right_end;
+      journal = a.journal ∙ append-nil t.journal;
+      count = a.lines.count;
+      given = g.given;
+      given_back = g.given_back;
+      known = known;
+      given_then = g.given_then;
+      class_then = g.class_then;
+      lines = λ q some le. ending_by s p b t u e h n q line (q == n) refl old alive d f.lasts a.lines l (old.lines q some le);
+    }
