@@ -28,6 +28,7 @@ pub mod StandingSends
 pub mod StandingCloses
 pub mod StandingAnswers
 pub mod StandingAnswering
+pub mod StandingTelling
 pub mod StandingPacket
 pub mod StandingTaken
 pub mod StandingHanded

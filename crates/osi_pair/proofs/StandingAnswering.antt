@@ -38,7 +38,7 @@ use Rattle.osi_pair.proofs.StandingRows.{Row, quiet, still, begins, refuses, agr
 use Rattle.osi_pair.proofs.StandingShown.{StandsShown}
 
 -- what is proved of one session
-pub record MoveLaws : Type 0 where
+pub record AnswerLaws : Type 0 where
   pub says : (s : State) (u : Meaning) → respond s (said_of u) ≡ respond_unit s u
   pub alone : (s : State) (u : Meaning) → (respond_unit s u).closes ≡ true → (respond_unit s u).reply ≡ None
   pub ended : (s : Standing) (input : Input) → (react s input).closes ≡ true → is_ended (after_input s input).state.phase ≡ true
@@ -78,7 +78,7 @@ broken_stays : (x : Standing) → (react x broken).closes ≡ false
 unfolding react
 broken_stays x = refl
 
-taken_alone : MoveLaws → (x : Standing) (u : Meaning) → (react x (taken (said_of u))).closes ≡ true → (react x (taken (said_of u))).reply ≡ None
+taken_alone : AnswerLaws → (x : Standing) (u : Meaning) → (react x (taken (said_of u))).closes ≡ true → (react x (taken (said_of u))).reply ≡ None
 unfolding react
 taken_alone laws x u h =
     let same = laws.says x.state u in
@@ -92,7 +92,7 @@ pub record ClosesAlone (row : Row) (m : Message) (x : Standing) : Type 0 where
 no_close : (b : Bool) → b ≡ false → b ≡ true → ⊥
 no_close b e f = cc
 
-tells_alone : MoveLaws → (octets : List ℕ) (m : Message) (x : Standing) → (react x (heard_by (tells octets) m)).closes ≡ true → ClosesAlone (tells octets) m x
+tells_alone : AnswerLaws → (octets : List ℕ) (m : Message) (x : Standing) → (react x (heard_by (tells octets) m)).closes ≡ true → ClosesAlone (tells octets) m x
 tells_alone laws octets (unit u) x h = record { reply = taken_alone laws x u h; used = refl }
 tells_alone laws octets ask x h = absurd (no_close _ (broken_stays x) h)
 tells_alone laws octets agree x h = absurd (no_close _ (broken_stays x) h)
@@ -100,7 +100,7 @@ tells_alone laws octets (deny reason) x h = absurd (no_close _ (broken_stays x) 
 tells_alone laws octets (bye reason) x h = absurd (no_close _ (broken_stays x) h)
 tells_alone laws octets over x h = absurd (no_close _ (broken_stays x) h)
 
-pub closes_alone : MoveLaws → (row : Row) (m : Message) (x : Standing) → is_move row ≡ true → (react x (heard_by row m)).closes ≡ true → ClosesAlone row m x
+pub closes_alone : AnswerLaws → (row : Row) (m : Message) (x : Standing) → is_move row ≡ true → (react x (heard_by row m)).closes ≡ true → ClosesAlone row m x
 closes_alone laws (tells octets) m x is h = tells_alone laws octets m x h
 closes_alone laws agrees m x is h = absurd (no_close _ (opened_stays x) h)
 closes_alone laws (denies reason) m x is h = absurd (no_close _ (refused_stays x reason) h)
@@ -158,7 +158,7 @@ answering_packet laws s p b t packet h old alive pa v x open_still reply =
     answered_shown laws.two s p t packet h v x (sound_behind laws s p b t packet h old alive pa) open_still reply
 
 -- in class 2 it closes
-pub closing_packet : PacketLaws → MoveLaws → (s : Side) (p : TwoEnds) (b : Between) (t : Tables) (packet : List ℕ) (h : Held) → Stands p b t → (end_at s p).end.carrier.ended ≡ None →
+pub closing_packet : PacketLaws → AnswerLaws → (s : Side) (p : TwoEnds) (b : Between) (t : Tables) (packet : List ℕ) (h : Held) → Stands p b t → (end_at s p).end.carrier.ended ≡ None →
     (pa : PacketActs (terms_at p) (is_caller s) (carriers_of p) b packet h.octets) → (v : HasMoved s p t packet h) → v.m.row ≡ pa.did.row → v.m.input ≡ heard_by v.m.row v.m.first → terms_at p ≡ by_two →
     (move_of v.m).closes ≡ true → StandsShown s p t (after_packet (end_at s p).end packet) h
 closing_packet laws moves s p b t packet h old alive pa v row input two shut =
@@ -184,7 +184,7 @@ open_terms (refusing reason) (leaves why) is e = absurd is
 open_terms (refusing reason) (ignores octets) is e = absurd is
 open_terms (refusing reason) (ends m) is e = absurd is
 
-by_terms : PacketLaws → MoveLaws → (s : Side) (p : TwoEnds) (b : Between) (t : Tables) (packet : List ℕ) (h : Held) → Stands p b t → (end_at s p).end.carrier.ended ≡ None →
+by_terms : PacketLaws → AnswerLaws → (s : Side) (p : TwoEnds) (b : Between) (t : Tables) (packet : List ℕ) (h : Held) → Stands p b t → (end_at s p).end.carrier.ended ≡ None →
     (pa : PacketActs (terms_at p) (is_caller s) (carriers_of p) b packet h.octets) → (v : HasMoved s p t packet h) → v.m.row ≡ pa.did.row → v.m.input ≡ heard_by v.m.row v.m.first →
     (move_of v.m).closes ≡ true → (terms_at p ≡ by_zero → StandsShown s p t (after_packet (end_at s p).end packet) h) → ((terms_at p ≡ by_two) ⊎ (terms_at p ≡ by_zero)) →
     StandsShown s p t (after_packet (end_at s p).end packet) h
@@ -192,7 +192,7 @@ by_terms laws moves s p b t packet h old alive pa v row input shut zero (inl two
 by_terms laws moves s p b t packet h old alive pa v row input shut zero (inr e) = zero e
 
 -- where it closes; how two ends of class 0 stand then is given
-pub shutting_packet : PacketLaws → MoveLaws → (s : Side) (p : TwoEnds) (b : Between) (t : Tables) (packet : List ℕ) (h : Held) → Stands p b t → (end_at s p).end.carrier.ended ≡ None →
+pub shutting_packet : PacketLaws → AnswerLaws → (s : Side) (p : TwoEnds) (b : Between) (t : Tables) (packet : List ℕ) (h : Held) → Stands p b t → (end_at s p).end.carrier.ended ≡ None →
     (pa : PacketActs (terms_at p) (is_caller s) (carriers_of p) b packet h.octets) → (v : HasMoved s p t packet h) → v.m.row ≡ pa.did.row → v.m.input ≡ heard_by v.m.row v.m.first →
     (move_of v.m).closes ≡ true → (terms_at p ≡ by_zero → StandsShown s p t (after_packet (end_at s p).end packet) h) → StandsShown s p t (after_packet (end_at s p).end packet) h
 shutting_packet laws moves s p b t packet h old alive pa v row input shut zero =
@@ -200,7 +200,7 @@ shutting_packet laws moves s p b t packet h old alive pa v row input shut zero =
     let a = closes_alone moves v.m.row v.m.first x v.row (ap (λ (i : Input). (react x i).closes) (sym input) ∙ shut) in
     by_terms laws moves s p b t packet h old alive pa v row input shut zero (open_terms (terms_at p) pa.did.row pa.did.is (ap before (sym row) ∙ a.used))
 
-by_move : PacketLaws → MoveLaws → (s : Side) (p : TwoEnds) (b : Between) (t : Tables) (packet : List ℕ) (h : Held) → Stands p b t → (end_at s p).end.carrier.ended ≡ None →
+by_move : PacketLaws → AnswerLaws → (s : Side) (p : TwoEnds) (b : Between) (t : Tables) (packet : List ℕ) (h : Held) → Stands p b t → (end_at s p).end.carrier.ended ≡ None →
     (pa : PacketActs (terms_at p) (is_caller s) (carriers_of p) b packet h.octets) → (v : HasMoved s p t packet h) → v.m.row ≡ pa.did.row → v.m.input ≡ heard_by v.m.row v.m.first →
     (shut : Bool) (reply : Option Meaning) → (move_of v.m).closes ≡ shut → (move_of v.m).reply ≡ reply →
     ((move_of v.m).closes ≡ true → terms_at p ≡ by_zero → StandsShown s p t (after_packet (end_at s p).end packet) h) → StandsShown s p t (after_packet (end_at s p).end packet) h
@@ -209,7 +209,7 @@ by_move laws moves s p b t packet h old alive pa v row input false None stays e 
 by_move laws moves s p b t packet h old alive pa v row input false (Some x) stays e zero = answering_packet laws s p b t packet h old alive pa v x stays e
 
 -- a packet with which a session moves; how two ends of class 0 stand where it closes is given
-pub moving_packet : PacketLaws → MoveLaws → (s : Side) (p : TwoEnds) (b : Between) (t : Tables) (packet : List ℕ) (h : Held) → Stands p b t → (end_at s p).end.carrier.ended ≡ None →
+pub moving_packet : PacketLaws → AnswerLaws → (s : Side) (p : TwoEnds) (b : Between) (t : Tables) (packet : List ℕ) (h : Held) → Stands p b t → (end_at s p).end.carrier.ended ≡ None →
     (pa : PacketActs (terms_at p) (is_caller s) (carriers_of p) b packet h.octets) → (v : HasMoved s p t packet h) → v.m.row ≡ pa.did.row → v.m.input ≡ heard_by v.m.row v.m.first →
     ((move_of v.m).closes ≡ true → terms_at p ≡ by_zero → StandsShown s p t (after_packet (end_at s p).end packet) h) → StandsShown s p t (after_packet (end_at s p).end packet) h
 moving_packet laws moves s p b t packet h old alive pa v row input zero =
