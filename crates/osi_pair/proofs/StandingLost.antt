@@ -53,7 +53,7 @@ few : (b : Bool) → length (if◌then◌else◌ {A = List Shown} b (Lost ∷ []
 few true = omega arith
 few false = omega arith
 
-shows_one : (s : Standing) → length (react s broken_off).shown ≤ 1
+pub shows_one : (s : Standing) → length (react s broken_off).shown ≤ 1
 unfolding react
 shows_one s = few (shows_loss s.state.phase)
 
@@ -63,10 +63,10 @@ is_over s = refl
 
 -- ---- what waits then
 
-abbrev lost_of : ℕ → stack.Line → List (ℕ × Shown)
+abbrev pub lost_of : ℕ → stack.Line → List (ℕ × Shown)
 lost_of r line = map (λ shown. (r, shown)) (shown_at_loss line.session)
 
-abbrev lost_in : Rows stack.Line → List (ℕ × Shown)
+abbrev pub lost_in : Rows stack.Line → List (ℕ × Shown)
 lost_in [] = []
 lost_in ((r, line) ∷ lines) = lost_of r line ++ lost_in lines
 
@@ -82,7 +82,7 @@ map_nil : {A B : Type 0} (f : A → B) (xs : List A) → map f xs ≡ [] → xs 
 map_nil f [] e = refl
 map_nil f (x ∷ xs) e = cc
 
-waiting_lost : (lines : Rows stack.Line) → waiting_in lines ≡ [] → waiting_in (all_lost lines) ≡ lost_in lines
+pub waiting_lost : (lines : Rows stack.Line) → waiting_in lines ≡ [] → waiting_in (all_lost lines) ≡ lost_in lines
 waiting_lost [] e = refl
 waiting_lost ((r, line) ∷ lines) e =
     let none : line.waiting ≡ [] = map_nil (λ shown. (r, shown)) line.waiting (front_nil (map (λ shown. (r, shown)) line.waiting) (waiting_in lines) e) in
@@ -101,7 +101,7 @@ without_fewer : (r : ℕ) (rows : Rows Connection) → IsSome (value_at r rows) 
 without_fewer r [] some = cc
 without_fewer r ((q, c) ∷ rows) some = without_fewer_by r q c rows (q == r) refl some (without_fewer r rows)
 
-abbrev AreLive : Rows stack.Line → Rows Connection → Type 0
+abbrev pub AreLive : Rows stack.Line → Rows Connection → Type 0
 AreLive lines live = (q : ℕ) (s : Standing) → kept_at q lines ≡ Some s → shows_loss s.state.phase ≡ true → IsSome (value_at q live)
 
 at_other : (q r : ℕ) (line : stack.Line) (lines : Rows stack.Line) → q ≢ r → kept_at q ((r, line) ∷ lines) ≡ kept_at q lines
@@ -156,7 +156,7 @@ phase_shows : (o : Option Standing) → (b : Bool) × ((s : Standing) → o ≡ 
 phase_shows None = (false, λ s e. cc)
 phase_shows (Some t) = (shows_loss t.state.phase, λ s e. let same : t ≡ s = cc in ap (λ (x : Standing). shows_loss x.state.phase) (sym same))
 
-few_lost : (m : ℕ) (lines : Rows stack.Line) (live : Rows Connection) → RiseFrom m lines → AreLive lines live → length (lost_in lines) ≤ length live
+pub few_lost : (m : ℕ) (lines : Rows stack.Line) (live : Rows Connection) → RiseFrom m lines → AreLive lines live → length (lost_in lines) ≤ length live
 few_lost m [] live rise all = omega arith
 few_lost m ((r, line) ∷ lines) live rise all =
     let shown = phase_shows line.session in
@@ -318,7 +318,7 @@ abbrev pub AllSeated : Side → ℕ → Holding → Tables → Type 0
 AllSeated who given h t = (n : ℕ) → 0 < n → n ≤ length t.lines → (l : Line) × (connection_at n t.lines ≡ Some l) × IsSeated n h (seen_from (side_in who) l).own
 
 -- what a kept session shows has a connection
-all_live : (who : Side) (h : Holding) (t : Tables) → RiseFrom 0 h.end.lines → AreUpTo h.end.carrier.given h.end.lines → h.end.carrier.given ≤ length t.lines →
+pub all_live : (who : Side) (h : Holding) (t : Tables) → RiseFrom 0 h.end.lines → AreUpTo h.end.carrier.given h.end.lines → h.end.carrier.given ≤ length t.lines →
     AllSeated who h.end.carrier.given h t → AreLive h.end.lines h.end.carrier.live
 all_live who h t rise up few all q s kept shown =
     let low : 0 < q = positive q kept in
