@@ -14,7 +14,6 @@ pub mod StandingResting
 pub mod StandingQuiet
 pub mod StandingHeard
 pub mod StandingMoves
-pub mod StandingShows
 pub mod StandingWaiting
 pub mod StandingReplies
 pub mod StandingOrder
