@@ -14,6 +14,7 @@ pub mod StandingResting
 pub mod StandingQuiet
 pub mod StandingHeard
 pub mod StandingMoves
+pub mod StandingFew
 pub mod StandingWaiting
 pub mod StandingReplies
 pub mod StandingOrder
