@@ -1,10 +1,10 @@
 -- A message arrives of which a session hears: what the carrier tells, and what happens to the session, row by row.
-use Rattle.std.proofs.Common.{◌≡◌, ℕ, Bool, true, false, List, [], ◌∷◌, Option, Some, None, IfSome, refl, sym, ap, subst, ◌∙◌, ◌⊎◌, inl, inr}
+use Rattle.std.proofs.Common.{◌≡◌, ℕ, true, false, List, [], ◌∷◌, Option, Some, None, IfSome, refl, sym, ap, subst, ◌∙◌, ◌⊎◌, inl, inr}
 use Rattle.osi_spdu.specs.Known.{Units}
 use Rattle.osi_carrier.specs.Happenings.{Happening, opened, refused, tsdu}
 use Rattle.osi_carrier.specs.Messages as carrier
 use Rattle.osi_carrier.specs.Progress.{in_use, gone}
-use Rattle.osi_carrier.specs.Rows.{Rows, value_at}
+use Rattle.osi_carrier.specs.Rows.{value_at}
 use Rattle.osi_machine.specs.Core.{offer_sent}
 use Rattle.osi_machine.specs.Tables.{Seat}
 use Rattle.osi_machine.specs.Worlds.{Message, unit, ask, agree, deny, bye, over}

@@ -1,5 +1,5 @@
 -- The class of a connection at a message of which a session hears.
-use Rattle.std.proofs.Common.{◌≡◌, ℕ, ◌≤◌, true, false, List, [], ◌∷◌, Option, Some, None, option_map, refl, sym, ap, subst, ◌∙◌, inl, inr}
+use Rattle.std.proofs.Common.{◌≡◌, ℕ, ◌≤◌, true, false, [], ◌∷◌, Option, Some, None, option_map, refl, sym, ap, subst, ◌∙◌, inl, inr}
 use Rattle.osi_tpkt.specs.Held.{Held}
 use Rattle.osi_tpdu.specs.Value.{Value}
 use Rattle.osi_class.specs.declared.terms.Class.{Class}
@@ -23,7 +23,7 @@ use Rattle.osi_pair.proofs.StandingArriving.{is_linked, is_asked, IsFirstFor}
 use Rattle.osi_pair.proofs.StandingFinish.{terms_at, DidAt, is_agree, last_is, known_then}
 use Rattle.osi_pair.proofs.StandingHears.{AsMove, got_in}
 use Rattle.osi_pair.proofs.StandingRests.{is_awaited, learns_row}
-use Rattle.osi_pair.proofs.StandingRows.{Row, agrees, denies, tells, before, after, arrived_in, is_row}
+use Rattle.osi_pair.proofs.StandingRows.{Row, agrees, denies, before, after, arrived_in, is_row}
 use Rattle.osi_pair.proofs.StandingSeats.{transport_by}
 use Rattle.osi_pair.proofs.StandingTurned.{with_holding}
 

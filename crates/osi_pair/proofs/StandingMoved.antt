@@ -42,7 +42,7 @@ use Rattle.osi_pair.proofs.StandingHeard.{lines_then, kept_then, one_told}
 use Rattle.osi_pair.proofs.StandingHears.{as_move, got_in, one_in, HearsBy, HearLaws, IsWhole, hears_row}
 use Rattle.osi_pair.proofs.StandingKnown.{moved_known, moved_class}
 use Rattle.osi_pair.proofs.StandingMoves.{is_move, heard_by, MovesBy, step_moves, move_unit}
-use Rattle.osi_pair.proofs.StandingOrder.{session_acts, moved_order}
+use Rattle.osi_pair.proofs.StandingOrder.{session_acts, acted_order}
 use Rattle.osi_pair.proofs.StandingPacket.{PacketLaws, ActsAt, acts_at, same_role, lasting_in, quiet_of}
 use Rattle.osi_pair.proofs.StandingQuiet.{quiet_order, quiet_waits, put_waits}
 use Rattle.osi_pair.proofs.StandingReplies.{CanGo}
@@ -141,7 +141,7 @@ pub record HasMoved (s : Side) (p : TwoEnds) (t : Tables) (packet : List ℕ) (h
 -- ---- how it comes about
 
 -- what is proved of the crates below
-pub record MoveLaws : Type 0 where
+pub record MovingLaws : Type 0 where
   pub packet : PacketLaws
   pub hear : HearLaws
   pub tables : SessionLaws
@@ -184,7 +184,7 @@ record Arriving (s : Side) (p : TwoEnds) (b : Between) (t : Tables) (n : ℕ) (r
 abbrev PacketAt : Side → TwoEnds → Between → List ℕ → Held → Type 0
 PacketAt s p b packet h = PacketActs (terms_at p) (is_caller s) (carriers_of p) b packet h.octets
 
-arriving : MoveLaws → (s : Side) (p : TwoEnds) (b : Between) (t : Tables) (packet : List ℕ) (h : Held) → Stands p b t → IsTableRun t → (end_at s p).end.carrier.ended ≡ None → (pa : PacketAt s p b packet h) →
+arriving : MovingLaws → (s : Side) (p : TwoEnds) (b : Between) (t : Tables) (packet : List ℕ) (h : Held) → Stands p b t → IsTableRun t → (end_at s p).end.carrier.ended ≡ None → (pa : PacketAt s p b packet h) →
     is_move pa.did.row ≡ true → Arriving s p b t (reference_of pa.unit) pa.did.row
 arriving laws s p b t packet h old run alive pa move =
     let n = reference_of pa.unit in
@@ -275,11 +275,11 @@ loud_order s p b t packet h old alive pa a d same f =
     let order = order_of s p b t old alive in
     let orderly : IsOrderly e.carrier = orderly_same (carrier_react pa.unit was.carrier) _ [] (orderly_unit pa.unit was.carrier order.sound.orderly) in
     let more : was.carrier.given ≤ e.carrier.given = subst (λ (c : Carrier). was.carrier.given ≤ c.given) f.acts (packet_rises packet was.carrier) in
-    moved_order was e.carrier n a.kept.line a.seen.own.session (heard_by pa.did.row a.first) order alive orderly refl f.lasts more
+    acted_order was e.carrier n a.kept.line a.seen.own.session (heard_by pa.did.row a.first) order alive orderly refl f.lasts more
     (lives_then s p b t e h n old alive d f.lasts orderly) a.kept.here a.kept.is a.hears.numbered
     (λ needs. open_at n e.carrier f.lasts (opened_then s p b e h n pa.did.row d f.lasts same (a.hears.needs needs)))
 
-moved_then : MoveLaws → (s : Side) (p : TwoEnds) (b : Between) (t : Tables) (packet : List ℕ) (h : Held) → Stands p b t → (end_at s p).end.carrier.ended ≡ None → (pa : PacketAt s p b packet h) →
+moved_then : MovingLaws → (s : Side) (p : TwoEnds) (b : Between) (t : Tables) (packet : List ℕ) (h : Held) → Stands p b t → (end_at s p).end.carrier.ended ≡ None → (pa : PacketAt s p b packet h) →
     (a : Arriving s p b t (reference_of pa.unit) pa.did.row) → (d : DidThen s p b t packet h pa a) → d.row ≡ pa.did.row → (f : ActsAt s p packet pa.unit (reference_of pa.unit) pa.did.row) →
     EndThen s p (EndOf s p b t packet h pa a)
 moved_then laws s p b t packet h old alive pa a d same f =
@@ -307,7 +307,7 @@ rest_then s p b t packet h alive pa move a d same =
     subst (λ (r : Row). AreAlike (after r) (map message_in a.rest) (under_way (is_caller (other s)) n (carriers_of (with_holding s e h p)) d.now)) same
     (subst (λ (ms : List Message). AreAlike (after d.row) (map message_in ms) (under_way (is_caller (other s)) n (carriers_of (with_holding s e h p)) d.now)) rest sp.stays)
 
-stands_then : MoveLaws → (s : Side) (p : TwoEnds) (b : Between) (t : Tables) (packet : List ℕ) (h : Held) → Stands p b t → (end_at s p).end.carrier.ended ≡ None → (pa : PacketAt s p b packet h) → is_move pa.did.row ≡ true →
+stands_then : MovingLaws → (s : Side) (p : TwoEnds) (b : Between) (t : Tables) (packet : List ℕ) (h : Held) → Stands p b t → (end_at s p).end.carrier.ended ≡ None → (pa : PacketAt s p b packet h) → is_move pa.did.row ≡ true →
     (a : Arriving s p b t (reference_of pa.unit) pa.did.row) → (d : DidThen s p b t packet h pa a) → d.row ≡ pa.did.row → (f : ActsAt s p packet pa.unit (reference_of pa.unit) pa.did.row) →
     Stands (turned_pair s (EndOf s p b t packet h pa a) h (reference_of pa.unit) (move_of (moving s p b t (reference_of pa.unit) pa.did.row a)).shown p) d.now (moved_tables s t (moving s p b t (reference_of pa.unit) pa.did.row a))
 stands_then laws s p b t packet h old alive pa move a d same f =
@@ -341,7 +341,7 @@ pub record MovedBy (s : Side) (p : TwoEnds) (b : Between) (t : Tables) (packet :
   pub input : moved.m.input ≡ heard_by moved.m.row moved.m.first
 
 -- a packet of which a session hears, at an end that has not ended
-pub has_moved : MoveLaws → (s : Side) (p : TwoEnds) (b : Between) (t : Tables) (packet : List ℕ) (h : Held) → Stands p b t → IsTableRun t → (end_at s p).end.carrier.ended ≡ None →
+pub has_moved : MovingLaws → (s : Side) (p : TwoEnds) (b : Between) (t : Tables) (packet : List ℕ) (h : Held) → Stands p b t → IsTableRun t → (end_at s p).end.carrier.ended ≡ None →
     (pa : PacketActs (terms_at p) (is_caller s) (carriers_of p) b packet h.octets) → is_move pa.did.row ≡ true → MovedBy s p b t packet h pa
 has_moved laws s p b t packet h old run alive pa move =
     let n = reference_of pa.unit in

@@ -1,10 +1,10 @@
 -- An end whose session has moved is in order before what it sends is handed over.
-use Rattle.std.proofs.Common.{◌≡◌, ◌≢◌, ℕ, ◌≤◌, ◌==◌, Bool, true, false, if◌then◌else◌, List, [], Option, Some, None, is_some, refl, sym, ap, subst, ◌∙◌}
+use Rattle.std.proofs.Common.{◌≡◌, ◌≢◌, ℕ, ◌≤◌, ◌==◌, Bool, true, false, if◌then◌else◌, [], Option, Some, None, is_some, refl, sym, ap, subst, ◌∙◌}
 use Rattle.std.proofs.lemmas.Bool.{eqb-true, eq-eqb}
 use Rattle.osi_class.specs.Link.{Standing as Link}
 use Rattle.osi_carrier.specs.Calls.{link_of}
 use Rattle.osi_carrier.specs.Orderly.{IsOrderly}
-use Rattle.osi_carrier.specs.Rows.{Rows, value_at, put}
+use Rattle.osi_carrier.specs.Rows.{value_at, put}
 use Rattle.osi_carrier.specs.State.{Connection, State as Carrier}
 use Rattle.osi_carrier.specs.Told.{is_open}
 use Rattle.osi_carrier.specs.declared.ends.EndReason.{EndReason}
@@ -54,10 +54,10 @@ links_by false n q e c line x y input f o alive lasts apart here opens kept need
     open_same q c e.carrier lasts alive (apart q other)
     ∙ o.sound.links alive q y (sym (ap session_in (put_other q n (line_after line (react x input)) e.lines other)) ∙ kept) needs
 
-pub moved_order : (e : End) (c : Carrier) (n : ℕ) (line : Line) (x : Standing) (input : Input) → IsInOrder e → e.carrier.ended ≡ None → IsOrderly c → c.events ≡ [] → c.ended ≡ None → e.carrier.given ≤ c.given →
+pub acted_order : (e : End) (c : Carrier) (n : ℕ) (line : Line) (x : Standing) (input : Input) → IsInOrder e → e.carrier.ended ≡ None → IsOrderly c → c.events ≡ [] → c.ended ≡ None → e.carrier.given ≤ c.given →
     ((q : ℕ) → q ≢ n → value_at q c.live ≡ value_at q e.carrier.live) → value_at n e.lines ≡ Some line → line.session ≡ Some x → HasNumbers input →
     (needs_link (react x input).next.state.phase ≡ true → is_open n c ≡ true) → IsInOrder (record { carrier = c; lines = lines_then n line x input e.lines })
-moved_order e c n line x input o alive orderly none lasts more apart here is numbered opens =
+acted_order e c n line x input o alive orderly none lasts more apart here is numbered opens =
     let mid : End = record { carrier = c; lines = e.lines } in
     record {
       heard = none;

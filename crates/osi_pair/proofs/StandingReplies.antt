@@ -1,9 +1,9 @@
 -- What a session answers, as octets of a TSDU.
-use Rattle.std.proofs.Common.{◌≡◌, ◌<◌, ◌≤◌, ℕ, Bool, true, false, not, if◌then◌else◌, List, [], ◌∷◌, length, Option, Some, None, IfSome, refl, sym, ap, subst, ◌∙◌, arith}
+use Rattle.std.proofs.Common.{◌≡◌, ◌<◌, ◌≤◌, ℕ, Bool, true, false, not, if◌then◌else◌, [], length, Some, None, IfSome, refl, sym, ap, subst, ◌∙◌, arith}
 use Rattle.osi_tpkt.specs.Octets.{IsOctets}
 use Rattle.osi_machine.specs.Core.{Offer, offer_sent}
 use Rattle.osi_message.specs.InOctets.{IsInOctets}
-use Rattle.osi_message.specs.Meanings.{Meaning, CN, AC, RF, DT, GT, PT, MIP, MIA, MAP, MAA, RS, RA, FN, DN, NF, AB, AA}
+use Rattle.osi_message.specs.Meanings.{Meaning, CN, RF, AB, AA}
 use Rattle.osi_message.specs.Reading.{Said}
 use Rattle.osi_message.specs.Sendable.{said_of, IsSendable}
 use Rattle.osi_message.specs.Written.{unit_of, written}
