@@ -29,6 +29,7 @@ pub mod StandingCloses
 pub mod StandingAnswers
 pub mod StandingAnswering
 pub mod StandingTelling
+pub mod StandingLeaves
 pub mod StandingPacket
 pub mod StandingTaken
 pub mod StandingHanded

@@ -1,7 +1,7 @@
 -- A message arrives of which a session hears: what the carrier tells, and what happens to the session, row by row.
 use Rattle.std.proofs.Common.{◌≡◌, ℕ, true, false, List, [], ◌∷◌, Option, Some, None, IfSome, refl, sym, ap, subst, ◌∙◌, ◌⊎◌, inl, inr}
 use Rattle.osi_spdu.specs.Known.{Units}
-use Rattle.osi_carrier.specs.Happenings.{Happening, opened, refused, tsdu}
+use Rattle.osi_carrier.specs.Happenings.{Happening, opened, refused, tsdu, closed}
 use Rattle.osi_carrier.specs.Messages as carrier
 use Rattle.osi_carrier.specs.Progress.{in_use, gone}
 use Rattle.osi_carrier.specs.Rows.{value_at}
@@ -28,7 +28,8 @@ use Rattle.osi_stack.proofs.Folds.{came_numbers}
 use Rattle.osi_stack.proofs.Moves.{Readings, came_is}
 use Rattle.osi_pair.specs.Standing.{message_in, is_parting, AreAlike}
 use Rattle.osi_pair.proofs.StandingMoves.{heard_by, is_move}
-use Rattle.osi_pair.proofs.StandingReplies.{CanGo, ReplyLaws, GoesBy, goes_taken, goes_opened, goes_refused, silent_refused, ended_refused, offer_goes}
+use Rattle.osi_pair.proofs.StandingPacket.{is_heard}
+use Rattle.osi_pair.proofs.StandingReplies.{CanGo, ReplyLaws, GoesBy, goes_taken, goes_opened, goes_refused, silent_refused, ended_refused, goes_broken, silent_broken, ended_broken, offer_goes}
 use Rattle.osi_pair.proofs.StandingRows.{Row, quiet, still, begins, refuses, agrees, denies, tells, leaves, ignores, ends, before, after, arrived_in, told_for}
 use Rattle.osi_pair.proofs.StandingSeats.{transport_by, lives_in}
 use Rattle.osi_pair.proofs.StandingWaiting.{IsCalling}
@@ -53,20 +54,46 @@ as_move (leaves reason) e = absurd (no_move e)
 as_move (ignores octets) e = absurd (no_move e)
 as_move (ends m) e = absurd (no_move e)
 
+-- or the connection is closed
+abbrev pub AsHeard : Row → Type 0
+AsHeard row = AsMove row ⊎ ((reason : ℕ) × (row ≡ leaves reason))
+
+pub as_heard : (row : Row) → is_heard row ≡ true → AsHeard row
+as_heard agrees e = inl (inl refl)
+as_heard (denies reason) e = inl (inr (inl (reason, refl)))
+as_heard (tells octets) e = inl (inr (inr (octets, refl)))
+as_heard (leaves reason) e = inr (reason, refl)
+as_heard quiet e = absurd (no_move e)
+as_heard still e = absurd (no_move e)
+as_heard begins e = absurd (no_move e)
+as_heard (refuses reason) e = absurd (no_move e)
+as_heard (ignores octets) e = absurd (no_move e)
+as_heard (ends m) e = absurd (no_move e)
+
+heard_by_move : (row : Row) → AsMove row → is_heard row ≡ true
+heard_by_move row (inl e) = ap is_heard e
+heard_by_move row (inr (inl e)) = ap is_heard e.1
+heard_by_move row (inr (inr e)) = ap is_heard e.1
+
+pub move_heard : (row : Row) → is_move row ≡ true → is_heard row ≡ true
+move_heard row move = heard_by_move row (as_move row move)
+
 -- the message with which the unit arrived
 abbrev pub got_in : Row → carrier.Message
 got_in agrees = carrier.agree
 got_in (denies reason) = carrier.deny reason
 got_in (tells octets) = carrier.message octets
+got_in (leaves reason) = carrier.bye reason
 got_in row = carrier.over
 
-one_by : (row : Row) → AsMove row → arrived_in row ≡ got_in row ∷ []
-one_by row (inl e) = subst (λ (r : Row). arrived_in r ≡ got_in r ∷ []) (sym e) refl
-one_by row (inr (inl e)) = subst (λ (r : Row). arrived_in r ≡ got_in r ∷ []) (sym e.1) refl
-one_by row (inr (inr e)) = subst (λ (r : Row). arrived_in r ≡ got_in r ∷ []) (sym e.1) refl
+one_by : (row : Row) → AsHeard row → arrived_in row ≡ got_in row ∷ []
+one_by row (inl (inl e)) = subst (λ (r : Row). arrived_in r ≡ got_in r ∷ []) (sym e) refl
+one_by row (inl (inr (inl e))) = subst (λ (r : Row). arrived_in r ≡ got_in r ∷ []) (sym e.1) refl
+one_by row (inl (inr (inr e))) = subst (λ (r : Row). arrived_in r ≡ got_in r ∷ []) (sym e.1) refl
+one_by row (inr e) = subst (λ (r : Row). arrived_in r ≡ got_in r ∷ []) (sym e.1) refl
 
-pub one_in : (row : Row) → is_move row ≡ true → arrived_in row ≡ got_in row ∷ []
-one_in row move = one_by row (as_move row move)
+pub one_in : (row : Row) → is_heard row ≡ true → arrived_in row ≡ got_in row ∷ []
+one_in row heard = one_by row (as_heard row heard)
 
 -- ---- what is so of a row
 
@@ -113,6 +140,20 @@ hears_denies n reason m x past octets = record {
   waits = λ e. (let no : worlds.gone ≡ worlds.not_yet = e in cc);
   silent = λ e. silent_refused x reason;
   needs = λ e. sym (needs_none (react x (session.refused reason)).next past e);
+}
+
+hears_leaves : (n reason : ℕ) (m : Message) (x : Standing) → IfSome x.waiting IsInOctets → HearsBy n (leaves reason) m x
+hears_leaves n reason m x octets = record {
+  event = closed n reason;
+  told = refl;
+  hears = λ e line here. refl;
+  numbered = tt;
+  goes = goes_broken x octets;
+  lives = refl;
+  ended = λ e. ended_broken x;
+  waits = λ e. (let no : worlds.gone ≡ worlds.not_yet = e in cc);
+  silent = λ e. silent_broken x;
+  needs = λ e. sym (needs_none (react x session.broken).next (ended_broken x) e);
 }
 
 came_said : Readings → (octets : List ℕ) (u : Meaning) → octets ≡ written u → IsSendable u → came octets ≡ taken (said_of u)
@@ -166,19 +207,21 @@ tells_by laws n octets (deny reason) x e whole waits = absurd cc
 tells_by laws n octets (bye reason) x e whole waits = absurd cc
 tells_by laws n octets over x e whole waits = absurd cc
 
-hears_as : HearLaws → (n : ℕ) (row : Row) (m : Message) (seat : Seat) → AsMove row → seat.transport ≡ transport_by (before row) → AreAlike (before row) (message_in m ∷ []) (got_in row ∷ []) → IsWhole m →
+hears_as : HearLaws → (n : ℕ) (row : Row) (m : Message) (seat : Seat) → AsHeard row → seat.transport ≡ transport_by (before row) → AreAlike (before row) (message_in m ∷ []) (got_in row ∷ []) → IsWhole m →
     (seat.transport ≡ worlds.waiting → IsCalling seat) → CanBeSent seat.session.waiting → IfSome seat.session.waiting IsInOctets → HearsBy n row m seat.session
-hears_as laws n row m seat (inl is) tr alike whole calls sendable octets =
+hears_as laws n row m seat (inl (inl is)) tr alike whole calls sendable octets =
     subst (λ (r : Row). HearsBy n r m seat.session) (sym is)
     (hears_agrees n m seat.session (waiting_goes laws.replies seat (calls (tr ∙ ap (λ (r : Row). transport_by (before r)) is)) sendable octets) octets)
-hears_as laws n row m seat (inr (inl is)) tr alike whole calls sendable octets =
+hears_as laws n row m seat (inl (inr (inl is))) tr alike whole calls sendable octets =
     let c = calls (tr ∙ ap (λ (r : Row). transport_by (before r)) is.1) in
     subst (λ (r : Row). HearsBy n r m seat.session) (sym is.1) (hears_denies n is.0 m seat.session (ended_refused seat.session is.0 c.phase) octets)
-hears_as laws n row m seat (inr (inr is)) tr alike whole calls sendable octets =
+hears_as laws n row m seat (inl (inr (inr is))) tr alike whole calls sendable octets =
     let same : message_in m ∷ [] ≡ carrier.message is.0 ∷ [] = subst (λ (r : Row). AreAlike (before r) (message_in m ∷ []) (got_in r ∷ [])) is.1 alike in
     subst (λ (r : Row). HearsBy n r m seat.session) (sym is.1) (tells_by laws n is.0 m seat.session same whole octets)
+hears_as laws n row m seat (inr is) tr alike whole calls sendable octets =
+    subst (λ (r : Row). HearsBy n r m seat.session) (sym is.1) (hears_leaves n is.0 m seat.session octets)
 
 -- what happens to the session at a side
-pub hears_row : HearLaws → (n : ℕ) (row : Row) (m : Message) (seat : Seat) → is_move row ≡ true → seat.transport ≡ transport_by (before row) → AreAlike (before row) (message_in m ∷ []) (got_in row ∷ []) → IsWhole m →
+pub hears_row : HearLaws → (n : ℕ) (row : Row) (m : Message) (seat : Seat) → is_heard row ≡ true → seat.transport ≡ transport_by (before row) → AreAlike (before row) (message_in m ∷ []) (got_in row ∷ []) → IsWhole m →
     (seat.transport ≡ worlds.waiting → IsCalling seat) → CanBeSent seat.session.waiting → IfSome seat.session.waiting IsInOctets → HearsBy n row m seat.session
-hears_row laws n row m seat move tr alike whole calls sendable octets = hears_as laws n row m seat (as_move row move) tr alike whole calls sendable octets
+hears_row laws n row m seat heard tr alike whole calls sendable octets = hears_as laws n row m seat (as_heard row heard) tr alike whole calls sendable octets

@@ -39,11 +39,11 @@ use Rattle.osi_pair.specs.declared.sides.Side.{Side}
 use Rattle.osi_pair.proofs.StandingArrived.{PacketActs}
 use Rattle.osi_pair.proofs.StandingFinish.{terms_at, DidAt, line_then, last_is, order_of}
 use Rattle.osi_pair.proofs.StandingHeard.{lines_then, kept_then, one_told}
-use Rattle.osi_pair.proofs.StandingHears.{as_move, got_in, one_in, HearsBy, HearLaws, IsWhole, hears_row}
+use Rattle.osi_pair.proofs.StandingHears.{as_move, move_heard, got_in, one_in, HearsBy, HearLaws, IsWhole, hears_row}
 use Rattle.osi_pair.proofs.StandingKnown.{moved_known, moved_class}
 use Rattle.osi_pair.proofs.StandingMoves.{is_move, heard_by, MovesBy, step_moves, move_unit}
 use Rattle.osi_pair.proofs.StandingOrder.{session_acts, acted_order}
-use Rattle.osi_pair.proofs.StandingPacket.{PacketLaws, ActsAt, acts_at, same_role, lasting_in, quiet_of}
+use Rattle.osi_pair.proofs.StandingPacket.{PacketLaws, ActsAt, acts_at, same_role, is_heard, lasting_in, quiet_of}
 use Rattle.osi_pair.proofs.StandingQuiet.{quiet_order, quiet_waits, put_waits}
 use Rattle.osi_pair.proofs.StandingReplies.{CanGo}
 use Rattle.osi_pair.proofs.StandingRests.{delivered, tables_delivered}
@@ -159,34 +159,34 @@ first_whole (deny reason) ms h = tt
 first_whole (bye reason) ms h = tt
 first_whole over ms h = tt
 
-record KeptLine (n : ℕ) (lines : Rows Line) (x : Standing) : Type 0 where
-  line : Line
-  here : value_at n lines ≡ Some line
-  is : line.session ≡ Some x
+pub record KeptLine (n : ℕ) (lines : Rows Line) (x : Standing) : Type 0 where
+  pub line : Line
+  pub here : value_at n lines ≡ Some line
+  pub is : line.session ≡ Some x
 
 line_by : (n : ℕ) (lines : Rows Line) (x : Standing) (o : Option Line) → value_at n lines ≡ o → session_in o ≡ Some x → KeptLine n lines x
 line_by n lines x None e h = absurd cc
 line_by n lines x (Some line) e h = record { line = line; here = e; is = h }
 
 -- what stands at its reference, and what happens to its session
-record Arriving (s : Side) (p : TwoEnds) (b : Between) (t : Tables) (n : ℕ) (row : Row) : Type 0 where
-  seen : TableLine
-  found : connection_at n t.lines ≡ Some (seen_from (side_in s) seen)
-  stands : IsSeen s n p b seen
-  transport : seen.own.transport ≡ transport_by (before row)
-  first : Message
-  rest : List Message
-  parts : seen.peer.channel ≡ first ∷ rest
-  alike : AreAlike (before row) (message_in first ∷ []) (got_in row ∷ [])
-  kept : KeptLine n (end_at s p).end.lines seen.own.session
-  hears : HearsBy n row first seen.own.session
+pub record Arriving (s : Side) (p : TwoEnds) (b : Between) (t : Tables) (n : ℕ) (row : Row) : Type 0 where
+  pub seen : TableLine
+  pub found : connection_at n t.lines ≡ Some (seen_from (side_in s) seen)
+  pub stands : IsSeen s n p b seen
+  pub transport : seen.own.transport ≡ transport_by (before row)
+  pub first : Message
+  pub rest : List Message
+  pub parts : seen.peer.channel ≡ first ∷ rest
+  pub alike : AreAlike (before row) (message_in first ∷ []) (got_in row ∷ [])
+  pub kept : KeptLine n (end_at s p).end.lines seen.own.session
+  pub hears : HearsBy n row first seen.own.session
 
-abbrev PacketAt : Side → TwoEnds → Between → List ℕ → Held → Type 0
+abbrev pub PacketAt : Side → TwoEnds → Between → List ℕ → Held → Type 0
 PacketAt s p b packet h = PacketActs (terms_at p) (is_caller s) (carriers_of p) b packet h.octets
 
-arriving : MovingLaws → (s : Side) (p : TwoEnds) (b : Between) (t : Tables) (packet : List ℕ) (h : Held) → Stands p b t → IsTableRun t → (end_at s p).end.carrier.ended ≡ None → (pa : PacketAt s p b packet h) →
-    is_move pa.did.row ≡ true → Arriving s p b t (reference_of pa.unit) pa.did.row
-arriving laws s p b t packet h old run alive pa move =
+pub arriving : MovingLaws → (s : Side) (p : TwoEnds) (b : Between) (t : Tables) (packet : List ℕ) (h : Held) → Stands p b t → IsTableRun t → (end_at s p).end.carrier.ended ≡ None → (pa : PacketAt s p b packet h) →
+    is_heard pa.did.row ≡ true → Arriving s p b t (reference_of pa.unit) pa.did.row
+arriving laws s p b t packet h old run alive pa heard =
     let n = reference_of pa.unit in
     let lines = (end_at s p).end.lines in
     let e = acted_end pa.unit lines (end_at s p).end in
@@ -195,11 +195,11 @@ arriving laws s p b t packet h old run alive pa move =
     let at = line_at s n p b t old pa.first.named pa.first.given in
     let l = at.line in
     let tr = transport_before s p b t e h n l old alive d at.is ∙ ap (λ (r : Row). transport_by (before r)) same in
-    let sp = back_one s p b e h n l (got_in pa.did.row) d at.is alive (ap arrived_in same ∙ one_in pa.did.row move) in
+    let sp = back_one s p b e h n l (got_in pa.did.row) d at.is alive (ap arrived_in same ∙ one_in pa.did.row heard) in
     let alike = subst (λ (r : Row). AreAlike (before r) (message_in sp.first ∷ []) (got_in pa.did.row ∷ [])) same sp.is in
     let sound = seen_sound (side_in s) l (laws.sound_lines t run n (seen_from (side_in s) l) at.found) in
     let whole = first_whole sp.first sp.others (subst AreSendable sp.parts sound.peer.under_way) in
-    let hears = hears_row laws.hear n pa.did.row sp.first l.own move tr alike whole
+    let hears = hears_row laws.hear n pa.did.row sp.first l.own heard tr alike whole
     (λ w. is_calling laws.tables laws.hear.replies.says (side_in s) n l t run at.found w) sound.own.waits at.is.here.octets in
     let was : HasSession n lines (before pa.did.row) l.own.session = subst (λ (r : Row). HasSession n lines (before r) l.own.session) same (session_before s p b t e h n l old alive d at.is) in
     record {
@@ -216,10 +216,10 @@ arriving laws s p b t packet h old run alive pa move =
     }
 
 -- the move
-abbrev moving : (s : Side) (p : TwoEnds) (b : Between) (t : Tables) (n : ℕ) (row : Row) → Arriving s p b t n row → Moving
+abbrev pub moving : (s : Side) (p : TwoEnds) (b : Between) (t : Tables) (n : ℕ) (row : Row) → Arriving s p b t n row → Moving
 moving s p b t n row a = record { n = n; row = row; seen = a.seen; first = a.first; rest = a.rest; line = a.kept.line; input = heard_by row a.first }
 
-abbrev moves_by : (s : Side) (p : TwoEnds) (b : Between) (t : Tables) (n : ℕ) (row : Row) → (a : Arriving s p b t n row) → MovesBy s p n a.seen.own.session row (heard_by row a.first)
+abbrev pub moves_by : (s : Side) (p : TwoEnds) (b : Between) (t : Tables) (n : ℕ) (row : Row) → (a : Arriving s p b t n row) → MovesBy s p n a.seen.own.session row (heard_by row a.first)
 moves_by s p b t n row a = record {
   line = a.kept.line;
   here = a.kept.here;
@@ -246,11 +246,11 @@ open_at n c lasts l =
     ap (λ (x : Option EndReason). is_some (if◌then◌else◌ {A = Option (ℕ × Link)} (is_some x) None (link_of (value_at n c.live)))) lasts
     ∙ ap (λ (o : Option Connection). is_some (link_of o)) l.at
 
-abbrev EndOf : (s : Side) (p : TwoEnds) (b : Between) (t : Tables) (packet : List ℕ) (h : Held) (pa : PacketAt s p b packet h) → Arriving s p b t (reference_of pa.unit) pa.did.row → End
+abbrev pub EndOf : (s : Side) (p : TwoEnds) (b : Between) (t : Tables) (packet : List ℕ) (h : Held) (pa : PacketAt s p b packet h) → Arriving s p b t (reference_of pa.unit) pa.did.row → End
 EndOf s p b t packet h pa a = moved_end s p pa.unit (moving s p b t (reference_of pa.unit) pa.did.row a)
 
 -- what the carrier did, at the end whose session has moved
-abbrev DidThen : (s : Side) (p : TwoEnds) (b : Between) (t : Tables) (packet : List ℕ) (h : Held) (pa : PacketAt s p b packet h) → Arriving s p b t (reference_of pa.unit) pa.did.row → Type 0
+abbrev pub DidThen : (s : Side) (p : TwoEnds) (b : Between) (t : Tables) (packet : List ℕ) (h : Held) (pa : PacketAt s p b packet h) → Arriving s p b t (reference_of pa.unit) pa.did.row → Type 0
 DidThen s p b t packet h pa a = DidAt s p b (EndOf s p b t packet h pa a) h (reference_of pa.unit)
 
 opened_then : (s : Side) (p : TwoEnds) (b : Between) (e : End) (h : Held) (n : ℕ) (row : Row) → (d : DidAt s p b e h n) → e.carrier.ended ≡ None → d.row ≡ row → after row ≡ in_use → IsLinkedAt n e.carrier
@@ -279,7 +279,7 @@ loud_order s p b t packet h old alive pa a d same f =
     (lives_then s p b t e h n old alive d f.lasts orderly) a.kept.here a.kept.is a.hears.numbered
     (λ needs. open_at n e.carrier f.lasts (opened_then s p b e h n pa.did.row d f.lasts same (a.hears.needs needs)))
 
-moved_then : MovingLaws → (s : Side) (p : TwoEnds) (b : Between) (t : Tables) (packet : List ℕ) (h : Held) → Stands p b t → (end_at s p).end.carrier.ended ≡ None → (pa : PacketAt s p b packet h) →
+pub moved_then : MovingLaws → (s : Side) (p : TwoEnds) (b : Between) (t : Tables) (packet : List ℕ) (h : Held) → Stands p b t → (end_at s p).end.carrier.ended ≡ None → (pa : PacketAt s p b packet h) →
     (a : Arriving s p b t (reference_of pa.unit) pa.did.row) → (d : DidThen s p b t packet h pa a) → d.row ≡ pa.did.row → (f : ActsAt s p packet pa.unit (reference_of pa.unit) pa.did.row) →
     EndThen s p (EndOf s p b t packet h pa a)
 moved_then laws s p b t packet h old alive pa a d same f =
@@ -295,13 +295,13 @@ moved_then laws s p b t packet h old alive pa a d same f =
 -- ---- two ends then
 
 -- what is still under way to it
-rest_then : (s : Side) (p : TwoEnds) (b : Between) (t : Tables) (packet : List ℕ) (h : Held) → (end_at s p).end.carrier.ended ≡ None → (pa : PacketAt s p b packet h) → is_move pa.did.row ≡ true →
+pub rest_then : (s : Side) (p : TwoEnds) (b : Between) (t : Tables) (packet : List ℕ) (h : Held) → (end_at s p).end.carrier.ended ≡ None → (pa : PacketAt s p b packet h) → is_heard pa.did.row ≡ true →
     (a : Arriving s p b t (reference_of pa.unit) pa.did.row) → (d : DidThen s p b t packet h pa a) → d.row ≡ pa.did.row →
     AreAlike (after pa.did.row) (map message_in a.rest) (under_way (is_caller (other s)) (reference_of pa.unit) (carriers_of (with_holding s (EndOf s p b t packet h pa a) h p)) d.now)
-rest_then s p b t packet h alive pa move a d same =
+rest_then s p b t packet h alive pa heard a d same =
     let n = reference_of pa.unit in
     let e = EndOf s p b t packet h pa a in
-    let sp = back_one s p b e h n a.seen (got_in pa.did.row) d a.stands alive (ap arrived_in same ∙ one_in pa.did.row move) in
+    let sp = back_one s p b e h n a.seen (got_in pa.did.row) d a.stands alive (ap arrived_in same ∙ one_in pa.did.row heard) in
     let two : sp.first ∷ sp.others ≡ a.first ∷ a.rest = sym sp.parts ∙ a.parts in
     let rest : sp.others ≡ a.rest = cc in
     subst (λ (r : Row). AreAlike (after r) (map message_in a.rest) (under_way (is_caller (other s)) n (carriers_of (with_holding s e h p)) d.now)) same
@@ -316,11 +316,11 @@ stands_then laws s p b t packet h old alive pa move a d same f =
     let e = EndOf s p b t packet h pa a in
     turned_stands s p b t e h d.now (moved_tables s t m) n (move_of m).shown old alive
     (move_unit s p b t packet h a.seen a.first a.rest pa.did.row (heard_by pa.did.row a.first) old alive pa a.found a.stands (moves_by s p b t n pa.did.row a) d same move
-    (rest_then s p b t packet h alive pa move a d same) (laws.packet.behind _ _ d.now d.between) (moved_then laws s p b t packet h old alive pa a d same f)
+    (rest_then s p b t packet h alive pa (move_heard pa.did.row move) a d same) (laws.packet.behind _ _ d.now d.between) (moved_then laws s p b t packet h old alive pa a d same f)
     (moved_known s p b t e h n a.seen a.first pa.unit pa.did.row old alive d f.lasts pa.first pa.first.given same (as_move pa.did.row move) a.transport a.alike))
 
 -- what the packet does to the end
-does_then : (s : Side) (p : TwoEnds) (b : Between) (t : Tables) (packet : List ℕ) (h : Held) → (pa : PacketAt s p b packet h) →
+pub does_then : (s : Side) (p : TwoEnds) (b : Between) (t : Tables) (packet : List ℕ) (h : Held) → (pa : PacketAt s p b packet h) →
     (a : Arriving s p b t (reference_of pa.unit) pa.did.row) → (f : ActsAt s p packet pa.unit (reference_of pa.unit) pa.did.row) →
     after_packet (end_at s p).end packet ≡ concludes (record {
       carrier = answers (reference_of pa.unit) (move_of (moving s p b t (reference_of pa.unit) pa.did.row a)) (EndOf s p b t packet h pa a).carrier;
@@ -346,7 +346,8 @@ pub has_moved : MovingLaws → (s : Side) (p : TwoEnds) (b : Between) (t : Table
 has_moved laws s p b t packet h old run alive pa move =
     let n = reference_of pa.unit in
     let row = pa.did.row in
-    let a = arriving laws s p b t packet h old run alive pa move in
+    let heard = move_heard row move in
+    let a = arriving laws s p b t packet h old run alive pa heard in
     let m = moving s p b t n row a in
     let e = moved_end s p pa.unit m in
     let d = did_at s p b packet h (quieted (loud_lines s p m)) pa in
@@ -368,7 +369,7 @@ has_moved laws s p b t packet h old run alive pa move =
         first = a.parts;
         does = does_then s p b t packet h pa a f;
         waits = put_waits n a.kept.line (move_of m) (end_at s p).end.lines (quiet_of s p b t old) a.kept.here;
-        steps = λ keep. step_moves t s n keep row a.seen a.first a.rest (got_in row) (lasting_in s p b t old alive) a.found a.parts a.transport move (one_in row move) a.alike;
+        steps = λ keep. step_moves t s n keep row a.seen a.first a.rest (got_in row) (lasting_in s p b t old alive) a.found a.parts a.transport move (one_in row heard) a.alike;
         lasts = f.lasts;
         local = f.local;
         kept = kept_then n a.kept.line a.seen.own.session (heard_by row a.first) (end_at s p).end.lines a.kept.here a.kept.is;

@@ -147,7 +147,7 @@ step_moves t s n keep row l m xs got lasting found first tr move one alike =
 
 -- ---- the sessions of all others
 
-moved_others : (s : Side) (p : TwoEnds) (e : End) (n : ℕ) (line : Line) (x : Standing) (input : Input) → e.lines ≡ quieted (lines_then n line x input (end_at s p).end.lines) → OtherSessions s p e n
+pub moved_others : (s : Side) (p : TwoEnds) (e : End) (n : ℕ) (line : Line) (x : Standing) (input : Input) → e.lines ≡ quieted (lines_then n line x input (end_at s p).end.lines) → OtherSessions s p e n
 moved_others s p e n line x input is =
     let other : (q : ℕ) → q ≢ n → kept_at q e.lines ≡ kept_at q (end_at s p).end.lines =
     λ q apart. ap (kept_at q) is ∙ kept_other n q line x input (end_at s p).end.lines apart in

@@ -7,7 +7,7 @@ use Rattle.osi_message.specs.Meanings.{Meaning, CN, RF, AB, AA}
 use Rattle.osi_message.specs.Reading.{Said}
 use Rattle.osi_message.specs.Sendable.{said_of, IsSendable}
 use Rattle.osi_message.specs.Written.{unit_of, written}
-use Rattle.osi_session.specs.Moves.{Input, opened, refused, taken, Standing, begun, denied, rests, react}
+use Rattle.osi_session.specs.Moves.{Input, opened, refused, broken, taken, Standing, begun, denied, rests, react}
 use Rattle.osi_session.specs.Phases.{is_wait_transport, is_aborting, is_ended}
 use Rattle.osi_session.specs.Respond.{Outcome, in_aborting, in_ended, reply_for, respond, respond_unit, Verdict, over, dropped, faulty, fine, verdict, enacted}
 use Rattle.osi_session.specs.Units.{functional_units, has_data}
@@ -145,6 +145,19 @@ refused_ended false reason x e = absurd cc
 pub ended_refused : (x : Standing) (reason : ℕ) → is_wait_transport x.state.phase ≡ true → is_ended (react x (refused reason)).next.state.phase ≡ true
 unfolding react
 ended_refused x reason e = refused_ended (is_wait_transport x.state.phase) reason x e
+
+-- it is lost
+pub silent_broken : (x : Standing) → ((react x broken).reply ≡ None) × ((react x broken).closes ≡ false)
+unfolding react
+silent_broken x = (refl, refl)
+
+pub goes_broken : (x : Standing) → IfSome x.waiting IsInOctets → GoesBy x broken
+unfolding react
+goes_broken x waits = record { sends = λ m e. (let no : None ≡ Some m = e in absurd cc); octets = waits }
+
+pub ended_broken : (x : Standing) → is_ended (react x broken).next.state.phase ≡ true
+unfolding react
+ended_broken x = refl
 
 -- ---- the CN that waits
 

@@ -1,0 +1,193 @@
+-- A DR arrives at an open connection, which is answered by a DC: its session is lost, and the last of what was under
+-- way from it may be.
+use Rattle.std.proofs.Common.{◌≡◌, ℕ, Bool, true, false, List, [], ◌∷◌, ◌++◌, length, map, take, Option, None, is_some, option_map, refl, sym, ap, subst, ◌∙◌}
+use Rattle.osi_tpkt.specs.Held.{Held}
+use Rattle.osi_carrier.specs.Addresses.{reference_of}
+use Rattle.osi_carrier.specs.Between.{Between, last_of, under_way, put_in}
+use Rattle.osi_carrier.specs.Course.{Place, place_at, progress_of}
+use Rattle.osi_carrier.specs.Messages as carrier
+use Rattle.osi_carrier.specs.State.{State as Carrier}
+use Rattle.osi_machine.specs.AsTables.{IsTableRun}
+use Rattle.osi_machine.specs.Machine.{delivers, learns}
+use Rattle.osi_machine.specs.Tables.{Seat, Line as TableLine, Turn, Tables, seen_from, step, without_first, message_taken}
+use Rattle.osi_machine.specs.Worlds.{Message, unit, ask, agree, deny, bye, over, Transport, put, replied}
+use Rattle.osi_machine.specs.Worlds as worlds
+use Rattle.osi_message.specs.Meanings.{Meaning}
+use Rattle.osi_message.specs.Written.{written}
+use Rattle.osi_session.specs.Moves.{broken as broken_off, Standing, Move, react}
+use Rattle.osi_session.specs.Shown.{Shown}
+use Rattle.osi_stack.specs.Hearing.{after_packet, concludes}
+use Rattle.osi_stack.specs.Moving.{answers}
+use Rattle.osi_stack.specs.State.{End}
+use Rattle.osi_stack.specs.Transport.{answers_by}
+use Rattle.osi_pair.specs.Ends.{TwoEnds, end_at}
+use Rattle.osi_pair.specs.Sides.{other}
+use Rattle.osi_pair.specs.Standing.{side_in, is_caller, carriers_of, message_in, AreAlike, Stands}
+use Rattle.osi_pair.specs.Telling.{quieted}
+use Rattle.osi_pair.specs.declared.sides.Side.{Side}
+use Rattle.osi_pair.specs.declared.sides.Side.TheVariants.{Left, Right}
+use Rattle.osi_pair.proofs.StandingAnswers.{answered_end, shown_is}
+use Rattle.osi_pair.proofs.StandingArrived.{PacketActs}
+use Rattle.osi_pair.proofs.StandingCall.{put_nothing}
+use Rattle.osi_pair.proofs.StandingFinish.{terms_at, DidAt, TablesAfter, is_agree, line_then, finish, known_then}
+use Rattle.osi_pair.proofs.StandingHeard.{session_then, lasting}
+use Rattle.osi_pair.proofs.StandingHears.{got_in}
+use Rattle.osi_pair.proofs.StandingMoved.{move_of, loud_lines, MovingLaws, Arriving, PacketAt, arriving, moving, EndOf, DidThen, moved_then, rest_then, does_then}
+use Rattle.osi_pair.proofs.StandingMoves.{heard_by, moved_others}
+use Rattle.osi_pair.proofs.StandingPacket.{ActsAt, acts_at, is_heard, lasting_in, quiet_of}
+use Rattle.osi_pair.proofs.StandingQuiet.{put_waits}
+use Rattle.osi_pair.proofs.StandingReplies.{silent_broken}
+use Rattle.osi_pair.proofs.StandingRests.{step_opens, delivered, tables_delivered, is_awaited, learns_row, answer_for, unless_broken, put_unless, answers_same, seat_now}
+use Rattle.osi_pair.proofs.StandingResting.{did_at, same_row, broken_is}
+use Rattle.osi_pair.proofs.StandingRows.{Row, leaves, before, after, put_for}
+use Rattle.osi_pair.proofs.StandingSeats.{transport_by, HasSession}
+use Rattle.osi_pair.proofs.StandingShown.{StandsShown, shown_pair}
+use Rattle.osi_pair.proofs.StandingTurned.{IsSeen, with_holding, turned_pair, Turned, turned_stands}
+use Rattle.osi_pair.proofs.StandingWays.{out_cuts}
+
+-- ---- the turn of the tables
+
+-- what is under way then: so many of the first, and the answer
+abbrev pub left_channel : Bool → ℕ → List Message → List Message
+left_channel broken keep channel = put broken (over ∷ []) (take keep channel)
+
+abbrev pub left_turn : Bool → ℕ → Row → Move → List Message → TableLine → Turn
+left_turn broken keep row move xs l = record { line = line_then row move.next (left_channel broken keep l.own.channel) xs l; shown = move.shown; closes = false }
+
+-- where a session that is lost sends this
+abbrev lost_turn : Bool → ℕ → Option Meaning → Standing → List Message → Seat → Turn
+lost_turn broken keep reply x channel peer = record {
+  line = record {
+    own = record { transport = worlds.gone; session = (react x broken_off).next; channel = put broken (over ∷ []) (put broken (replied reply) (take keep channel)) };
+    peer = peer;
+  };
+  shown = (react x broken_off).shown;
+  closes = false;
+}
+
+lost_silent : (broken : Bool) (keep reason : ℕ) (x : Standing) (channel : List Message) (peer : Seat) →
+    lost_turn broken keep (react x broken_off).reply x channel peer ≡ left_turn broken keep (leaves reason) (react x broken_off) peer.channel (record { own = seat_now worlds.linked x channel; peer = peer })
+lost_silent broken keep reason x channel peer =
+    ap (λ (o : Option Meaning). lost_turn broken keep o x channel peer) (silent_broken x).0
+    ∙ ap (λ (ms : List Message). record {
+      line = record { own = record { transport = worlds.gone; session = (react x broken_off).next; channel = put broken (over ∷ []) ms }; peer = peer };
+      shown = (react x broken_off).shown;
+      closes = false;
+    }) (put_nothing broken (take keep channel))
+
+turn_leaves : (broken : Bool) (terms : worlds.Terms) (keep reason : ℕ) (x : Standing) (channel : List Message) (peer : Seat) (m : Message) → message_in m ∷ [] ≡ carrier.bye reason ∷ [] →
+    message_taken broken terms keep worlds.linked (record { own = seat_now worlds.linked x channel; peer = peer }) m ≡ lost_turn broken keep (react x broken_off).reply x channel peer
+turn_leaves broken terms keep reason x channel peer (bye why) e = refl
+turn_leaves broken terms keep reason x channel peer (unit u) e = absurd cc
+turn_leaves broken terms keep reason x channel peer ask e = absurd cc
+turn_leaves broken terms keep reason x channel peer agree e = absurd cc
+turn_leaves broken terms keep reason x channel peer (deny why) e = absurd cc
+turn_leaves broken terms keep reason x channel peer over e = absurd cc
+
+taken_leaves : (broken : Bool) (terms : worlds.Terms) (keep reason : ℕ) (l : TableLine) (m : Message) (xs : List Message) → l.own.transport ≡ worlds.linked → message_in m ∷ [] ≡ carrier.bye reason ∷ [] →
+    message_taken broken terms keep l.own.transport (without_first l xs) m ≡ left_turn broken keep (leaves reason) (react l.own.session broken_off) xs l
+taken_leaves broken terms keep reason l m xs tr e =
+    ap (λ (t : Transport). message_taken broken terms keep t (record { own = seat_now t l.own.session l.own.channel; peer = record l.peer { channel = xs } }) m) tr
+    ∙ turn_leaves broken terms keep reason l.own.session l.own.channel (record l.peer { channel = xs }) m e
+    ∙ lost_silent broken keep reason l.own.session l.own.channel (record l.peer { channel = xs })
+
+-- ---- what is under way from it
+
+out_leaves : (s : Side) (p : TwoEnds) (b : Between) (t : Tables) (e : End) (h : Held) (n reason : ℕ) (l : TableLine) → Stands p b t → (d : DidAt s p b e h n) → d.row ≡ leaves reason → IsSeen s n p b l →
+    (end_at (other s) p).end.carrier.ended ≡ None →
+    AreAlike (progress_of (place_at n (last_of (is_caller (other s)) d.now))) (map message_in (left_channel t.broken (length d.stays) l.own.channel)) (under_way (is_caller s) n (carriers_of (with_holding s e h p)) d.now)
+out_leaves s p b t e h n reason l old d same i alive =
+    let there = place_at n (last_of (is_caller (other s)) b) in
+    let new = under_way (is_caller s) n (carriers_of (with_holding s e h p)) d.now in
+    let cut = take (length d.stays) l.own.channel in
+    let all : AreAlike (progress_of there) (map message_in (cut ++ unless_broken t.broken (answer_for d.row))) new =
+    out_cuts there l.own.channel (unless_broken t.broken (answer_for d.row)) (under_way (is_caller s) n (carriers_of p) b) new d.stays d.gone (put_in (carriers_of p) (put_for d.row)) (i.out alive) d.out_before d.out_after
+    (answers_same t.broken (is_some (carriers_of p).reach) d.row (broken_is p b t old)) in
+    let puts : cut ++ unless_broken t.broken (answer_for d.row) ≡ left_channel t.broken (length d.stays) l.own.channel =
+    ap (λ (r : Row). cut ++ unless_broken t.broken (answer_for r)) same ∙ sym (put_unless t.broken (over ∷ []) cut) in
+    subst (λ (q : Place). AreAlike (progress_of q) (map message_in (left_channel t.broken (length d.stays) l.own.channel)) new) (sym (d.there n))
+    (subst (λ (ms : List Message). AreAlike (progress_of there) (map message_in ms) new) puts all)
+
+-- ---- two ends
+
+-- the tables then
+abbrev LeftTables : (s : Side) (p : TwoEnds) (b : Between) (t : Tables) (n keep : ℕ) (row : Row) → Arriving s p b t n row → Tables
+LeftTables s p b t n keep row a =
+    delivered t (side_in s) n (learns t.terms a.seen.own.transport a.first t.known) (left_turn t.broken keep row (react a.seen.own.session (heard_by row a.first)) a.rest a.seen)
+
+left_unit : MovingLaws → (s : Side) (p : TwoEnds) (b : Between) (t : Tables) (packet : List ℕ) (h : Held) (reason : ℕ) → Stands p b t → (end_at s p).end.carrier.ended ≡ None → (pa : PacketAt s p b packet h) →
+    is_heard pa.did.row ≡ true → pa.did.row ≡ leaves reason → (a : Arriving s p b t (reference_of pa.unit) pa.did.row) → (d : DidThen s p b t packet h pa a) → d.row ≡ pa.did.row →
+    (f : ActsAt s p packet pa.unit (reference_of pa.unit) pa.did.row) →
+    Turned s p b t (EndOf s p b t packet h pa a) h d.now (LeftTables s p b t (reference_of pa.unit) (length d.stays) pa.did.row a) (reference_of pa.unit) (move_of (moving s p b t (reference_of pa.unit) pa.did.row a)).shown
+left_unit laws s p b t packet h reason old alive pa heard is a d same f =
+    let n = reference_of pa.unit in
+    let row = pa.did.row in
+    let m = moving s p b t n row a in
+    let x = a.seen.own.session in
+    let e = EndOf s p b t packet h pa a in
+    let keep = length d.stays in
+    let move = move_of m in
+    let channel = left_channel t.broken keep a.seen.own.channel in
+    let turn = left_turn t.broken keep row move a.rest a.seen in
+    let known = learns t.terms a.seen.own.transport a.first t.known in
+    let u = LeftTables s p b t n keep row a in
+    let new = moved_then laws s p b t packet h old alive pa a d same f in
+    finish s p b t u e h n move.shown a.seen move.next channel a.rest old alive d new.lasts new.local new.role pa.first.given (laws.packet.behind _ _ d.now d.between) new.order new.waits
+    (moved_others s p e n a.kept.line x m.input refl)
+    (subst (λ (r : Row). HasSession n e.lines (after r) move.next) (sym same)
+    (session_then n a.kept.line x m.input (end_at s p).end.lines (after row) a.kept.here a.kept.is a.hears.ended a.hears.waits a.hears.goes.octets)) a.stands
+    (record {
+      out = λ lives. out_leaves s p b t e h n reason a.seen old d (same ∙ is) a.stands lives;
+      back = subst (λ (r : Row). AreAlike (after r) (map message_in a.rest) (under_way (is_caller (other s)) n (carriers_of (with_holding s e h p)) d.now)) (sym same) (rest_then s p b t packet h alive pa heard a d same);
+    })
+    (subst (λ (r : Row). TablesAfter s n t u move.shown (line_then r move.next channel a.rest a.seen)) (sym same)
+    (tables_delivered s n (seen_from (side_in s) a.seen) t known turn a.found))
+    (learns_row row a.seen.own.transport t.terms a.first t.known a.transport (ap is_awaited is) ∙ known_then s p b t e h n old alive d new.lasts pa.first.given (ap is_agree (same ∙ is)))
+
+-- the delivery
+left_step : (s : Side) (p : TwoEnds) (b : Between) (t : Tables) (n keep reason : ℕ) (row : Row) → Stands p b t → (end_at s p).end.carrier.ended ≡ None → row ≡ leaves reason → (a : Arriving s p b t n row) →
+    step t (delivers (side_in s) n (λ r. keep)) ≡ LeftTables s p b t n keep row a
+left_step s p b t n keep reason row old alive is a =
+    let tr : a.seen.own.transport ≡ worlds.linked = a.transport ∙ ap (λ (r : Row). transport_by (before r)) is in
+    let same : message_in a.first ∷ [] ≡ carrier.bye reason ∷ [] = subst (λ (r : Row). AreAlike (before r) (message_in a.first ∷ []) (got_in r ∷ [])) is a.alike in
+    let taken : message_taken t.broken t.terms keep a.seen.own.transport (without_first a.seen a.rest) a.first ≡ left_turn t.broken keep row (react a.seen.own.session (heard_by row a.first)) a.rest a.seen =
+    taken_leaves t.broken t.terms keep reason a.seen a.first a.rest tr same
+    ∙ ap (λ (r : Row). left_turn t.broken keep r (react a.seen.own.session (heard_by r a.first)) a.rest a.seen) (sym is) in
+    step_opens t (side_in s) n (λ r. keep) a.seen a.first a.rest (left_turn t.broken keep row (react a.seen.own.session (heard_by row a.first)) a.rest a.seen) (lasting_in s p b t old alive) a.found a.parts taken refl
+
+same_holding : (s : Side) (e : End) (h : Held) (n : ℕ) (p : TwoEnds) (shown : List Shown) → with_holding s e h (turned_pair s e h n shown p) ≡ turned_pair s e h n shown p
+same_holding Left e h n p shown = refl
+same_holding Right e h n p shown = refl
+
+-- a packet that closes an open connection
+pub leaving_packet : MovingLaws → (s : Side) (p : TwoEnds) (b : Between) (t : Tables) (packet : List ℕ) (h : Held) (reason : ℕ) → Stands p b t → IsTableRun t → (end_at s p).end.carrier.ended ≡ None →
+    (pa : PacketActs (terms_at p) (is_caller s) (carriers_of p) b packet h.octets) → pa.did.row ≡ leaves reason → StandsShown s p t (after_packet (end_at s p).end packet) h
+leaving_packet laws s p b t packet h reason old run alive pa is =
+    let n = reference_of pa.unit in
+    let row = pa.did.row in
+    let heard : is_heard row ≡ true = ap is_heard is in
+    let a = arriving laws s p b t packet h old run alive pa heard in
+    let m = moving s p b t n row a in
+    let e = EndOf s p b t packet h pa a in
+    let lines = loud_lines s p m in
+    let d = did_at s p b packet h (quieted lines) pa in
+    let same = same_row s p b packet h (quieted lines) pa in
+    let f = acts_at s p b packet h pa in
+    let keep = length d.stays in
+    let silent = a.hears.silent (ap after is) in
+    let acts : answers n (move_of m) e.carrier ≡ e.carrier =
+    ap (λ (b : Bool). answers_by b n (option_map written (move_of m).reply) e.carrier) silent.1 ∙ ap (λ (o : Option Meaning). answers_by false n (option_map written o) e.carrier) silent.0 in
+    let then : after_packet (end_at s p).end packet ≡ answered_end e.carrier lines =
+    does_then s p b t packet h pa a f ∙ ap (λ (c : Carrier). concludes (answered_end c lines)) acts ∙ lasting (answered_end e.carrier lines) f.lasts in
+    let waits = put_waits n a.kept.line (move_of m) (end_at s p).end.lines (quiet_of s p b t old) a.kept.here in
+    let stands : Stands (turned_pair s e h n (move_of m).shown p) d.now (LeftTables s p b t n keep row a) =
+    turned_stands s p b t e h d.now (LeftTables s p b t n keep row a) n (move_of m).shown old alive (left_unit laws s p b t packet h reason old alive pa heard is a d same f) in
+    subst (λ (x : End). StandsShown s p t x h) (sym then)
+    (record {
+      more = delivers (side_in s) n (λ r. keep) ∷ [];
+      are = (refl, tt);
+      now = d.now;
+      local = f.local;
+      stands = subst (λ (y : Tables). Stands (shown_pair s (answered_end e.carrier lines) h p) d.now y) (sym (left_step s p b t n keep reason row old alive is a))
+          (subst (λ (q : TwoEnds). Stands q d.now (LeftTables s p b t n keep row a)) (sym (same_holding s e h n p (move_of m).shown) ∙ shown_is s p e h n (move_of m).shown e.carrier lines f.lasts waits) stands);
+    })
