@@ -36,7 +36,6 @@ pub mod StandingHanded
 pub mod StandingPackets
 pub mod StandingPieces
 pub mod StandingCarried
-pub mod StandingFew
 pub mod Growing
 pub mod StandingBreak
 pub mod StandingLost
