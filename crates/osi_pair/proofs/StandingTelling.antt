@@ -14,17 +14,16 @@ use Rattle.osi_pair.specs.declared.sides.Side.{Side}
 use Rattle.osi_pair.proofs.StandingAnswering.{AnswerLaws, moving_packet}
 use Rattle.osi_pair.proofs.StandingArrived.{PacketActs}
 use Rattle.osi_pair.proofs.StandingFinish.{terms_at}
-use Rattle.osi_pair.proofs.StandingMoved.{MoveLaws, HasMoved, move_of, MovedBy, has_moved}
+use Rattle.osi_pair.proofs.StandingLeaves.{leaving_packet}
+use Rattle.osi_pair.proofs.StandingMoved.{MovingLaws, HasMoved, move_of, MovedBy, has_moved}
 use Rattle.osi_pair.proofs.StandingMoves.{heard_by, is_move}
 use Rattle.osi_pair.proofs.StandingPacket.{PacketLaws, is_heard}
 use Rattle.osi_pair.proofs.StandingRows.{Row, quiet, still, begins, refuses, agrees, denies, tells, leaves, ignores, ends}
 use Rattle.osi_pair.proofs.StandingShown.{shown_pair, StandsShown}
 use Rattle.osi_pair.proofs.StandingTaken.{unheard_shown, tables_at, is_run, arrivals_at, packet_at}
 
--- what is left to say: where a DR comes to an open connection, and where a connection of class 0 is closed
+-- where a connection of class 0 is closed
 pub record ClosingRows : Type 0 where
-  pub leaves : (s : Side) (p : TwoEnds) (b : Between) (t : Tables) (packet : List ℕ) (h : Held) → Stands p b t → (end_at s p).end.carrier.ended ≡ None →
-      (pa : PacketActs (terms_at p) (is_caller s) (carriers_of p) b packet h.octets) → (reason : ℕ) → pa.did.row ≡ leaves reason → StandsShown s p t (after_packet (end_at s p).end packet) h
   pub closes : (s : Side) (p : TwoEnds) (b : Between) (t : Tables) (packet : List ℕ) (h : Held) → Stands p b t → (end_at s p).end.carrier.ended ≡ None →
       (pa : PacketActs (terms_at p) (is_caller s) (carriers_of p) b packet h.octets) → (v : HasMoved s p t packet h) → v.m.row ≡ pa.did.row → v.m.input ≡ heard_by v.m.row v.m.first →
       (move_of v.m).closes ≡ true → terms_at p ≡ by_zero → StandsShown s p t (after_packet (end_at s p).end packet) h
@@ -42,25 +41,25 @@ heard_kind (refuses reason) e = cc
 heard_kind (ignores octets) e = cc
 heard_kind (ends m) e = cc
 
-heard_shown : MoveLaws → AnswerLaws → ClosingRows → (s : Side) (p : TwoEnds) (b : Between) (t : Tables) (packet : List ℕ) (h : Held) → Stands p b t → IsTableRun t → (end_at s p).end.carrier.ended ≡ None →
+heard_shown : MovingLaws → AnswerLaws → ClosingRows → (s : Side) (p : TwoEnds) (b : Between) (t : Tables) (packet : List ℕ) (h : Held) → Stands p b t → IsTableRun t → (end_at s p).end.carrier.ended ≡ None →
     (pa : PacketActs (terms_at p) (is_caller s) (carriers_of p) b packet h.octets) → ((is_move pa.did.row ≡ true) ⊎ ((reason : ℕ) × (pa.did.row ≡ leaves reason))) →
     StandsShown s p t (after_packet (end_at s p).end packet) h
 heard_shown laws answers rows s p b t packet h old run alive pa (inl move) =
     let v = has_moved laws s p b t packet h old run alive pa move in
     moving_packet laws.packet answers s p b t packet h old alive pa v.moved v.row v.input (λ shut zero. rows.closes s p b t packet h old alive pa v.moved v.row v.input shut zero)
-heard_shown laws answers rows s p b t packet h old run alive pa (inr left) = rows.leaves s p b t packet h old alive pa left.0 left.1
+heard_shown laws answers rows s p b t packet h old run alive pa (inr left) = leaving_packet laws s p b t packet h left.0 old run alive pa left.1
 
-shown_by : MoveLaws → AnswerLaws → ClosingRows → (s : Side) (p : TwoEnds) (b : Between) (t : Tables) (packet : List ℕ) (h : Held) → Stands p b t → IsTableRun t → (end_at s p).end.carrier.ended ≡ None →
+shown_by : MovingLaws → AnswerLaws → ClosingRows → (s : Side) (p : TwoEnds) (b : Between) (t : Tables) (packet : List ℕ) (h : Held) → Stands p b t → IsTableRun t → (end_at s p).end.carrier.ended ≡ None →
     (pa : PacketActs (terms_at p) (is_caller s) (carriers_of p) b packet h.octets) → (heard : Bool) → is_heard pa.did.row ≡ heard → StandsShown s p t (after_packet (end_at s p).end packet) h
 shown_by laws answers rows s p b t packet h old run alive pa false e = unheard_shown laws.packet s p b t packet h old alive pa e
 shown_by laws answers rows s p b t packet h old run alive pa true e = heard_shown laws answers rows s p b t packet h old run alive pa (heard_kind pa.did.row e)
 
-pub packet_shown : MoveLaws → AnswerLaws → ClosingRows → (s : Side) (p : TwoEnds) (b : Between) (t : Tables) (packet : List ℕ) (h : Held) → Stands p b t → IsTableRun t → (end_at s p).end.carrier.ended ≡ None →
+pub packet_shown : MovingLaws → AnswerLaws → ClosingRows → (s : Side) (p : TwoEnds) (b : Between) (t : Tables) (packet : List ℕ) (h : Held) → Stands p b t → IsTableRun t → (end_at s p).end.carrier.ended ≡ None →
     PacketActs (terms_at p) (is_caller s) (carriers_of p) b packet h.octets → StandsShown s p t (after_packet (end_at s p).end packet) h
 packet_shown laws answers rows s p b t packet h old run alive pa = shown_by laws answers rows s p b t packet h old run alive pa (is_heard pa.did.row) refl
 
 -- at a list of steps
-pub told_at : MoveLaws → AnswerLaws → ClosingRows → (p : TwoEnds) (steps : List Step) (s : Side) (packet octets : List ℕ) (h : Held) → StandsAt p steps → (end_at s p).end.carrier.ended ≡ None → IsPacket packet octets →
+pub told_at : MovingLaws → AnswerLaws → ClosingRows → (p : TwoEnds) (steps : List Step) (s : Side) (packet octets : List ℕ) (h : Held) → StandsAt p steps → (end_at s p).end.carrier.ended ≡ None → IsPacket packet octets →
     (end_at s p).held.octets ≡ octets ++ h.octets → StandsAtArrivals s (shown_pair s (after_packet (end_at s p).end packet) h p) steps
 told_at laws answers rows p steps s packet octets h at alive is cut =
     let pa = packet_at laws.packet s p steps packet octets h at alive is cut in
