@@ -42,6 +42,7 @@ pub mod StandingLost
 pub mod StandingEnded
 pub mod StandingUnheard
 pub mod StandingWant
+pub mod StandingStarved
 pub mod StandingTold
 pub mod StandingSides
 pub mod StandingActs

@@ -170,11 +170,11 @@ more_said p b t e x is s = record {
 
 -- ---- one more step
 
-run_one : (t : Tables) (xs : List Step) (x : Step) → run t (xs ++ x ∷ []) ≡ step (run t xs) x
+pub run_one : (t : Tables) (xs : List Step) (x : Step) → run t (xs ++ x ∷ []) ≡ step (run t xs) x
 run_one t [] x = refl
 run_one t (y ∷ xs) x = run_one (step t y) xs x
 
-number_one : (xs : List Step) (x : Step) → AllByRecursion HasNumber xs → HasNumber x → AllByRecursion HasNumber (xs ++ x ∷ [])
+pub number_one : (xs : List Step) (x : Step) → AllByRecursion HasNumber xs → HasNumber x → AllByRecursion HasNumber (xs ++ x ∷ [])
 number_one [] x a h = (h, tt)
 number_one (y ∷ xs) x a h = (a.0, number_one xs x a.1 h)
 

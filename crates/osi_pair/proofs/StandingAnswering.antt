@@ -66,7 +66,7 @@ refused_open : (b : Bool) (reason : ℕ) (x : Standing) → (if b then denied re
 refused_open true reason x = refl
 refused_open false reason x = refl
 
-opened_stays : (x : Standing) → (react x opened).closes ≡ false
+pub opened_stays : (x : Standing) → (react x opened).closes ≡ false
 unfolding react
 opened_stays x = opened_open (is_wait_transport x.state.phase) x
 

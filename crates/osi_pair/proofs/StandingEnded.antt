@@ -116,7 +116,7 @@ not_live n live none some =
 not_kept : (n : ℕ) (new : Holding) (s : Standing) → kept_at n new.end.lines ≡ None → kept_at n new.end.lines ≡ Some s → ⊥
 not_kept n new s none some = let no : None ≡ Some s = sym none ∙ some in cc
 
-still_waiting : (s : Standing) → (react s broken_off).next.waiting ≡ s.waiting
+pub still_waiting : (s : Standing) → (react s broken_off).next.waiting ≡ s.waiting
 unfolding react
 still_waiting s = refl
 

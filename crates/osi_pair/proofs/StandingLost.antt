@@ -37,11 +37,11 @@ use Rattle.osi_pair.specs.declared.sides.Side.{Side}
 unshown : (p : Phase) → shows_loss p ≡ false → (if shows_loss p then Lost ∷ [] else []) ≡ []
 unshown p h = ap (λ (b : Bool). if◌then◌else◌ {A = List Shown} b (Lost ∷ []) []) h
 
-ended_shows : (s : Standing) → is_ended s.state.phase ≡ true → (react s broken_off).shown ≡ []
+pub ended_shows : (s : Standing) → is_ended s.state.phase ≡ true → (react s broken_off).shown ≡ []
 unfolding react
 ended_shows s h = unshown s.state.phase (excluded is_ended shows_loss refl s.state.phase h)
 
-quiet_shows : (s : Standing) → shows_loss s.state.phase ≡ false → (react s broken_off).shown ≡ []
+pub quiet_shows : (s : Standing) → shows_loss s.state.phase ≡ false → (react s broken_off).shown ≡ []
 unfolding react
 quiet_shows s h = unshown s.state.phase h
 

@@ -1,21 +1,20 @@
 -- An end whose carrier acted for a unit of which no session heard may end.
-use Rattle.std.proofs.Common.{◌≡◌, ◌≢◌, ℕ, ◌<◌, ◌≤◌, ◌==◌, Bool, true, false, not, nat_lt, List, [], ◌∷◌, ◌++◌, length, map, Option, Some, None, IfSome, option_map, refl, sym, ap, subst, ◌∙◌, arith}
+use Rattle.std.proofs.Common.{◌≡◌, ◌≢◌, ℕ, ◌≤◌, ◌==◌, Bool, true, false, nat_lt, List, [], length, Some, None, IfSome, option_map, refl, sym, ap, subst, ◌∙◌, arith}
 use Rattle.std.proofs.lemmas.Bool.{eqb-true, eq-eqb}
 use Rattle.std.proofs.lemmas.List.{append-nil}
 use Rattle.osi_tpkt.specs.Held.{Held}
 use Rattle.osi_carrier.specs.Addresses.{reference_of}
-use Rattle.osi_carrier.specs.Between.{Between, last_of}
+use Rattle.osi_carrier.specs.Between.{Between}
 use Rattle.osi_carrier.specs.Course.{place_at, progress_of}
 use Rattle.osi_carrier.specs.Progress.{not_yet}
 use Rattle.osi_carrier.specs.State.{State}
-use Rattle.osi_machine.specs.Machine.{connection_at, is_given}
+use Rattle.osi_machine.specs.Machine.{is_given}
 use Rattle.osi_machine.specs.Tables.{Seat, Line, Tables, seen_from}
 use Rattle.osi_machine.specs.Worlds as worlds
 use Rattle.osi_message.specs.InOctets.{IsInOctets}
 use Rattle.osi_session.specs.Sessions.{awaits}
 use Rattle.osi_stack.specs.State.{End, Holding}
 use Rattle.osi_pair.specs.Ends.{TwoEnds, end_at}
-use Rattle.osi_pair.specs.Sides.{other}
 use Rattle.osi_pair.specs.Standing.{side_in, is_caller, transport_in, class_in, carriers_of, HasLine, Stands}
 use Rattle.osi_pair.specs.declared.sides.Side.{Side}
 use Rattle.osi_pair.specs.declared.sides.Side.TheVariants.{Left, Right}
@@ -23,10 +22,10 @@ use Rattle.osi_pair.proofs.StandingArrived.{PacketActs}
 use Rattle.osi_pair.proofs.StandingEnded.{IsPlaced, given_place, EndingLine, MayEnd, whole_line}
 use Rattle.osi_pair.proofs.StandingFinish.{terms_at, DidAt, TablesAfter, refs_row, given_not_new, last_is}
 use Rattle.osi_pair.proofs.StandingPacket.{PacketLaws, same_role, acts_at}
-use Rattle.osi_pair.proofs.StandingResting.{acted_end, did_at, was_at}
+use Rattle.osi_pair.proofs.StandingResting.{acted_end, was_at}
 use Rattle.osi_pair.proofs.StandingRows.{before, after}
 use Rattle.osi_pair.proofs.StandingSeats.{transport_by, transport_at}
-use Rattle.osi_pair.proofs.StandingTurned.{IsSeen, seen, seen_twice, with_holding, holding_there, LinesAfter, way_same}
+use Rattle.osi_pair.proofs.StandingTurned.{seen, seen_twice, with_holding, holding_there, LinesAfter, way_same}
 
 -- ---- references and the class
 

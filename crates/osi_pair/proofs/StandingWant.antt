@@ -20,7 +20,7 @@ use Rattle.osi_carrier.specs.declared.ends.EndReason.TheVariants.{NoMemory}
 use Rattle.osi_machine.specs.Core as machine
 use Rattle.osi_machine.specs.Machine.{Ending, no_memory, connection_at, delivers, shown_at}
 use Rattle.osi_machine.specs.Machine as entries
-use Rattle.osi_machine.specs.Tables.{Line, Tables, seen_from, end_of, shown_in_order, after_end, step, run}
+use Rattle.osi_machine.specs.Tables.{Line, Tables, seen_from, end_of, shown_in_order, after_end, step}
 use Rattle.osi_session.specs.Moves.{broken as broken_off, react}
 use Rattle.osi_session.specs.Shown.{Shown}
 use Rattle.osi_stack.specs.Hearing.{with_carrier, with_events, hears, hears_first, hears_next, hears_times, attends, concludes, starves, all_lost, RunsOut, Starves}
@@ -31,15 +31,15 @@ use Rattle.osi_stack.specs.State as stack
 use Rattle.osi_stack.proofs.Events.{all_quiet, never_starved}
 use Rattle.osi_stack.proofs.Keeping.{hears_keep}
 use Rattle.osi_pair.specs.Ends.{TwoEnds, end_at}
-use Rattle.osi_pair.specs.Standing.{side_in, is_caller, carriers_of, entry_in, Stands}
-use Rattle.osi_pair.specs.Telling.{waiting_in, quieted, shown_entries}
+use Rattle.osi_pair.specs.Standing.{side_in, is_caller, carriers_of, Stands}
+use Rattle.osi_pair.specs.Telling.{waiting_in, quieted}
 use Rattle.osi_pair.specs.declared.sides.Side.{Side}
 use Rattle.osi_pair.specs.declared.sides.Side.TheVariants.{Left, Right}
 use Rattle.osi_pair.proofs.StandingArrived.{PacketActs}
 use Rattle.osi_pair.proofs.StandingEnded.{MayEnd, lost_end, keep_then, lost_stands, may_end, all_shown_then}
 use Rattle.osi_pair.proofs.StandingFinish.{terms_at, order_of}
 use Rattle.osi_pair.proofs.StandingLost.{SaysAll}
-use Rattle.osi_pair.proofs.StandingPacket.{PacketLaws, acts_at, lasting_in}
+use Rattle.osi_pair.proofs.StandingPacket.{acts_at, lasting_in}
 use Rattle.osi_pair.proofs.StandingRows.{Row, quiet, still, begins, refuses, agrees, denies, tells, leaves, ignores, ends, told_for}
 use Rattle.osi_pair.proofs.StandingShown.{StandsShown, shown_pair}
 use Rattle.osi_pair.proofs.StandingTurned.{seen_twice, LinesAfter}

@@ -1,0 +1,379 @@
+-- Memory is wanted for what the carrier of an end told: how two ends stand then, by what arrived.
+use Rattle.std.proofs.Common.{◌≡◌, ℕ, Bool, true, false, not, ◌||◌, if◌then◌else◌, List, [], ◌∷◌, ◌++◌, length, map, take, Option, None, is_some, IfSome, refl, sym, ap, subst, ◌∙◌, ◌⊎◌, inl, inr}
+use Rattle.std.specs.List.{list_any}
+use Rattle.std.proofs.lemmas.List.{append-nil}
+use Rattle.osi_tpkt.specs.Held.{Held}
+use Rattle.osi_tpkt.specs.Packet.{IsPacket}
+use Rattle.osi_carrier.specs.Addresses.{reference_of}
+use Rattle.osi_carrier.specs.Between.{Between, last_of, under_way, put_in}
+use Rattle.osi_carrier.specs.Course.{Place, place_at, progress_of}
+use Rattle.osi_carrier.specs.Happenings.{Happening}
+use Rattle.osi_carrier.specs.Messages as carrier
+use Rattle.osi_carrier.specs.Progress.{leaves_use}
+use Rattle.osi_carrier.specs.declared.ends.EndReason.TheVariants.{NoMemory}
+use Rattle.osi_carrier.specs.State.{State}
+use Rattle.osi_machine.specs.AsTables.{IsTableRun, LosesAsItEnds}
+use Rattle.osi_machine.specs.Core as machine
+use Rattle.osi_machine.specs.Machine.{Entry, delivers, learns, shown_at, is_given}
+use Rattle.osi_machine.specs.Runs.{is_loss, loses}
+use Rattle.osi_machine.specs.Tables.{Line, Turn, Tables, seen_from, end_of, step, unseen, hears, puts, shortened, without_first, message_taken}
+use Rattle.osi_machine.specs.Views.{is_side}
+use Rattle.osi_machine.specs.Worlds.{Message, unit, ask, agree, deny, bye, over, put, replied}
+use Rattle.osi_machine.specs.Worlds as worlds
+use Rattle.osi_message.specs.InOctets.{IsInOctets}
+use Rattle.osi_message.specs.Meanings.{Meaning}
+use Rattle.osi_session.specs.Moves.{Standing, opened, broken as broken_off, begun, rests as stays_so, react}
+use Rattle.osi_session.specs.Phases.{is_wait_transport, shows_loss}
+use Rattle.osi_session.specs.Sessions.{awaits}
+use Rattle.osi_session.specs.Shown.{Shown, Lost}
+use Rattle.osi_session.specs.declared.phases.Phase.{Phase}
+use Rattle.osi_session.proofs.PhaseLaws.{excluded}
+use Rattle.osi_stack.specs.Hearing.{Starves}
+use Rattle.osi_stack.specs.Messages.{told_all}
+use Rattle.osi_stack.specs.State.{End, Holding}
+use Rattle.osi_pair.specs.Ends.{TwoEnds, end_at}
+use Rattle.osi_pair.specs.Sides.{other}
+use Rattle.osi_pair.specs.Standing.{side_in, is_caller, carriers_of, message_in, AreAlike, Stands}
+use Rattle.osi_pair.specs.declared.sides.Side.{Side}
+use Rattle.osi_pair.specs.declared.sides.Side.TheVariants.{Left, Right}
+use Rattle.osi_pair.proofs.StandingActs.{run_one, number_one}
+use Rattle.osi_pair.proofs.StandingAnswering.{opened_stays}
+use Rattle.osi_pair.proofs.StandingArrived.{PacketActs, packet_acts}
+use Rattle.osi_pair.proofs.StandingBreak.{still_seated}
+use Rattle.osi_pair.proofs.StandingCall.{put_nothing}
+use Rattle.osi_pair.proofs.StandingEnded.{EndingLine, lost_end, still_waiting, all_shown_then, whole_line}
+use Rattle.osi_pair.proofs.StandingFinish.{terms_at, DidAt, TablesAfter, line_then, is_agree, order_of, known_then}
+use Rattle.osi_pair.proofs.StandingKnown.{moved_known}
+use Rattle.osi_pair.proofs.StandingLost.{ended_shows, quiet_shows, is_over}
+use Rattle.osi_pair.proofs.StandingMoves.{turn_then, turn_moves}
+use Rattle.osi_pair.proofs.StandingPacket.{PacketLaws, acts_at, both_carrier, both_held, lasting_in}
+use Rattle.osi_pair.proofs.StandingResting.{acted_end, did_at, same_row, line_at, transport_before, out_row, back_one, broken_is}
+use Rattle.osi_pair.proofs.StandingRests.{step_opens, delivered, tables_delivered, tables_rest, is_awaited, learns_row, turn_rests, rests, sends_then, answer_for, answers_same, unless_broken, put_unless}
+use Rattle.osi_pair.proofs.StandingRows.{Row, quiet, still, begins, refuses, agrees, denies, tells, leaves, ignores, ends, before, after, arrived_in, put_for, told_for}
+use Rattle.osi_pair.proofs.StandingSeats.{transport_by}
+use Rattle.osi_pair.proofs.StandingShown.{StandsShown}
+use Rattle.osi_pair.proofs.StandingTurned.{IsSeen, with_holding, holding_there}
+use Rattle.osi_pair.proofs.StandingUnheard.{placed_then, acted_may_end}
+use Rattle.osi_pair.proofs.StandingWant.{alone_shown, behind_shown, ended_shown, says_then, WantLaws, has_starved}
+use Rattle.osi_pair.proofs.StandingWays.{out_cuts}
+
+-- the other end is as it was
+other_lasts : (s : Side) (e : End) (h : Held) (p : TwoEnds) → (end_at (other s) (with_holding s e h p)).end.carrier.ended ≡ None → (end_at (other s) p).end.carrier.ended ≡ None
+other_lasts s e h p x = ap (λ (y : Holding). y.end.carrier.ended) (sym (holding_there s e h p)) ∙ x
+
+-- ---- the tables take nothing
+
+record IsLone (row : Row) : Type 0 where
+  given : is_given (transport_by (before row)) ≡ is_given (transport_by (after row))
+  agree : is_agree row ≡ false
+  stays : leaves_use (before row) (after row) ≡ false
+  sends : (broken : Bool) (channel : List Message) → sends_then row broken channel ≡ channel
+
+tells_lone : (octets : List ℕ) → IsLone (tells octets)
+tells_lone octets = record { given = refl; agree = refl; stays = refl; sends = λ b c. refl }
+
+denies_lone : (reason : ℕ) → IsLone (denies reason)
+denies_lone reason = record { given = refl; agree = refl; stays = refl; sends = λ b c. refl }
+
+lone_shown : PacketLaws → (s : Side) (p : TwoEnds) (b : Between) (t : Tables) (packet : List ℕ) (h held : Held) → Stands p b t → (end_at s p).end.carrier.ended ≡ None →
+    (pa : PacketActs (terms_at p) (is_caller s) (carriers_of p) b packet h.octets) → IsLone pa.did.row → StandsShown s p t (lost_end NoMemory (told_all pa.unit (end_at s p).end).carrier (end_at s p).end.lines) held
+lone_shown laws s p b t packet h held old alive pa lone =
+    let n = reference_of pa.unit in
+    let was = (end_at s p).end in
+    let e = acted_end pa.unit was.lines was in
+    let f = acts_at s p b packet h pa in
+    let d = did_at s p b packet h was.lines pa in
+    let q = subst IsLone (sym (same_row s p b packet h was.lines pa)) lone in
+    let at = line_at s n p b t old pa.first.named pa.first.given in
+    let l = at.line in
+    let tr = transport_before s p b t e h n l old alive d at.is in
+    let line = whole_line s p t e h d.now n l at.found (placed_then s p b e h n l.own d f.lasts (ap is_given tr ∙ q.given) at.is.here.awaiting at.is.here.octets) at.is.there
+    (λ x. subst (λ (ms : List Message). AreAlike (progress_of (place_at n (last_of (is_caller (other s)) d.now))) (map message_in ms) (under_way (is_caller s) n (carriers_of (with_holding s e h p)) d.now))
+    (q.sends t.broken l.own.channel) (out_row s p b t e h n l old d at.is q.stays (other_lasts s e h p x))) in
+    let m = acted_may_end laws s p b t t packet h l old alive pa d (tables_rest s n l t at.found) line (known_then s p b t e h n old alive d f.lasts pa.first.given q.agree) in
+    alone_shown s p b t e h d.now was.lines held old m (all_shown_then s p b t old alive) (lasting_in s p b t old alive)
+
+-- ---- a session begins
+
+begins_shown : PacketLaws → (s : Side) (p : TwoEnds) (b : Between) (t : Tables) (packet : List ℕ) (h held : Held) → Stands p b t → (end_at s p).end.carrier.ended ≡ None →
+    (pa : PacketActs (terms_at p) (is_caller s) (carriers_of p) b packet h.octets) → pa.did.row ≡ begins → StandsShown s p t (lost_end NoMemory (told_all pa.unit (end_at s p).end).carrier (end_at s p).end.lines) held
+begins_shown laws s p b t packet h held old alive pa begun =
+    let n = reference_of pa.unit in
+    let was = (end_at s p).end in
+    let e = acted_end pa.unit was.lines was in
+    let f = acts_at s p b packet h pa in
+    let d = did_at s p b packet h was.lines pa in
+    let row : d.row ≡ begins = same_row s p b packet h was.lines pa ∙ begun in
+    let lasting = lasting_in s p b t old alive in
+    let at = line_at s n p b t old pa.first.named pa.first.given in
+    let l = at.line in
+    let one : arrived_in d.row ≡ carrier.ask ∷ [] = ap arrived_in row in
+    let sp = back_one s p b e h n l carrier.ask d at.is alive one in
+    let tr = transport_before s p b t e h n l old alive d at.is in
+    let line = line_then d.row l.own.session (sends_then d.row t.broken l.own.channel) sp.others l in
+    let known = learns t.terms l.own.transport sp.first t.known in
+    let u = delivered t (side_in s) n known (unseen line) in
+    let turn = turn_rests (terms_at p) t.terms t.broken 0 d.row l sp.first sp.others carrier.ask old.terms tr d.is (ap rests row) one sp.is in
+    let is : step t (delivers (side_in s) n (λ r. 0)) ≡ u = step_opens t (side_in s) n (λ r. 0) l sp.first sp.others (unseen line) lasting at.found sp.parts turn refl in
+    let a : TablesAfter s n t u [] line = tables_delivered s n (seen_from (side_in s) l) t known (unseen line) at.found in
+    let session : l.own.session ≡ awaits = at.is.here.awaiting (tr ∙ ap (λ (r : Row). transport_by (before r)) row) in
+    let ending = whole_line s p u e h d.now n line a.lines.found (placed_then s p b e h n line.own d f.lasts refl (λ x. session) at.is.here.octets)
+    (still_seated n (end_at (other s) p) l.peer sp.others at.is.there) (λ x. out_row s p b t e h n l old d at.is (ap (λ (r : Row). leaves_use (before r) (after r)) row) (other_lasts s e h p x)) in
+    let m = acted_may_end laws s p b t u packet h line old alive pa d a ending
+    (learns_row d.row l.own.transport t.terms sp.first t.known tr (ap is_awaited row) ∙ known_then s p b t e h n old alive d f.lasts pa.first.given (ap is_agree row)) in
+    behind_shown s p b t u e h d.now was.lines held n (λ r. 0) old m (says_then s n line l t u _ _ a.lines at.found refl (all_shown_then s p b t old alive)) lasting is
+
+-- ---- a CC: the session sends its CN, which the end takes away
+
+wait_shows : (q : Phase) → is_wait_transport q ≡ true → shows_loss q ≡ true
+wait_shows q h = shows_of (shows_loss q) (excluded is_wait_transport (λ x. not (shows_loss x)) refl q h)
+  where
+    shows_of : (b : Bool) → not b ≡ false → b ≡ true
+    shows_of true e = refl
+    shows_of false e = cc
+
+shown_nothing_by : (b : Bool) (x : Standing) → (if b then begun x else stays_so x).shown ≡ []
+shown_nothing_by true x = refl
+shown_nothing_by false x = refl
+
+opened_shows : (x : Standing) → (react x opened).shown ≡ []
+unfolding react
+opened_shows x = shown_nothing_by (is_wait_transport x.state.phase) x
+
+octets_by : (b : Bool) (x : Standing) → IfSome x.waiting IsInOctets → IfSome (if b then begun x else stays_so x).next.waiting IsInOctets
+octets_by true x h = tt
+octets_by false x h = h
+
+opened_octets : (x : Standing) → IfSome x.waiting IsInOctets → IfSome (react x opened).next.waiting IsInOctets
+unfolding react
+opened_octets x h = octets_by (is_wait_transport x.state.phase) x h
+
+loss_by : (b : Bool) (x : Standing) → is_wait_transport x.state.phase ≡ b → (react ((if b then begun x else stays_so x).next) broken_off).shown ≡ (react x broken_off).shown
+unfolding react
+loss_by true x e = ap (λ (b : Bool). if◌then◌else◌ {A = List Shown} b (Lost ∷ []) []) (sym (wait_shows x.state.phase e))
+loss_by false x e = refl
+
+opened_loses : (x : Standing) → (react (react x opened).next broken_off).shown ≡ (react x broken_off).shown
+unfolding react
+opened_loses x = loss_by (is_wait_transport x.state.phase) x refl
+
+agrees_shown : PacketLaws → (s : Side) (p : TwoEnds) (b : Between) (t : Tables) (packet : List ℕ) (h held : Held) → Stands p b t → (end_at s p).end.carrier.ended ≡ None →
+    (pa : PacketActs (terms_at p) (is_caller s) (carriers_of p) b packet h.octets) → pa.did.row ≡ agrees → StandsShown s p t (lost_end NoMemory (told_all pa.unit (end_at s p).end).carrier (end_at s p).end.lines) held
+agrees_shown laws s p b t packet h held old alive pa agreed =
+    let n = reference_of pa.unit in
+    let was = (end_at s p).end in
+    let e = acted_end pa.unit was.lines was in
+    let f = acts_at s p b packet h pa in
+    let d = did_at s p b packet h was.lines pa in
+    let row : d.row ≡ agrees = same_row s p b packet h was.lines pa ∙ agreed in
+    let lasting = lasting_in s p b t old alive in
+    let at = line_at s n p b t old pa.first.named pa.first.given in
+    let l = at.line in
+    let x = l.own.session in
+    let one : arrived_in d.row ≡ carrier.agree ∷ [] = ap arrived_in row in
+    let sp = back_one s p b e h n l carrier.agree d at.is alive one in
+    let tr : l.own.transport ≡ transport_by (before agrees) = transport_before s p b t e h n l old alive d at.is ∙ ap (λ (r : Row). transport_by (before r)) row in
+    let alike : AreAlike (before agrees) (message_in sp.first ∷ []) (carrier.agree ∷ []) = subst (λ (r : Row). AreAlike (before r) (message_in sp.first ∷ []) (carrier.agree ∷ [])) row sp.is in
+    let turn = turn_then agrees opened t.broken (react x opened).reply x l.own.channel sp.others l in
+    let known = learns t.terms l.own.transport sp.first t.known in
+    let u = delivered t (side_in s) n known turn in
+    let is : step t (delivers (side_in s) n (λ r. 0)) ≡ u = step_opens t (side_in s) n (λ r. 0) l sp.first sp.others turn lasting at.found sp.parts
+    (turn_moves t.broken t.terms 0 agrees l sp.first sp.others carrier.agree tr refl refl alike) (opened_stays x) in
+    let a : TablesAfter s n t u [] turn.line = subst (λ (shown : List Shown). TablesAfter s n t u shown turn.line) (opened_shows x) (tables_delivered s n (seen_from (side_in s) l) t known turn at.found) in
+    let ending : EndingLine s p u e h d.now n = record {
+      line = turn.line;
+      found = a.lines.found;
+      here = placed_then s p b e h n turn.line.own d f.lasts (ap (λ (r : Row). is_given (transport_by (after r))) (sym row)) (λ y. cc) (opened_octets x at.is.here.octets);
+      there = still_seated n (end_at (other s) p) l.peer sp.others at.is.there;
+      kept = l.own.channel;
+      more = unless_broken t.broken (replied (react x opened).reply);
+      parts = put_unless t.broken (replied (react x opened).reply) l.own.channel;
+      whole = λ y. cc;
+      out = λ y. subst (λ (r : Row). AreAlike (progress_of (place_at n (last_of (is_caller (other s)) d.now))) (map message_in (sends_then r t.broken l.own.channel)) (under_way (is_caller s) n (carriers_of (with_holding s e h p)) d.now)) row
+          (out_row s p b t e h n l old d at.is (ap (λ (r : Row). leaves_use (before r) (after r)) row) (other_lasts s e h p y));
+    } in
+    let m = acted_may_end laws s p b t u packet h turn.line old alive pa d a ending
+    (moved_known s p b t e h n l sp.first pa.unit agrees old alive d f.lasts pa.first pa.first.given row (inl refl) tr alike) in
+    behind_shown s p b t u e h d.now was.lines held n (λ r. 0) old m (says_then s n turn.line l t u _ _ a.lines at.found (opened_loses x) (all_shown_then s p b t old alive)) lasting is
+
+-- ---- a DR that closes: a DC is put in answer
+
+bye_is : (m : Message) (reason : ℕ) → message_in m ∷ [] ≡ carrier.bye reason ∷ [] → m ≡ bye reason
+bye_is (bye why) reason e = let same : why ≡ reason = cc in ap bye same
+bye_is ask reason e = absurd cc
+bye_is agree reason e = absurd cc
+bye_is (unit u) reason e = absurd cc
+bye_is (deny why) reason e = absurd cc
+bye_is over reason e = absurd cc
+
+-- what the tables do
+abbrev left_turn : Bool → ℕ → Line → Turn
+left_turn broken keep l = record {
+  line = puts broken (over ∷ []) (hears broken worlds.gone broken_off (shortened keep l)).line;
+  shown = (react l.own.session broken_off).shown;
+  closes = false;
+}
+
+turn_leaves : (broken : Bool) (terms : worlds.Terms) (keep reason : ℕ) (tr : worlds.Transport) (l : Line) (m : Message) → tr ≡ worlds.linked → message_in m ∷ [] ≡ carrier.bye reason ∷ [] →
+    message_taken broken terms keep tr l m ≡ left_turn broken keep l
+turn_leaves broken terms keep reason tr l m e f =
+    ap (λ (x : worlds.Transport). message_taken broken terms keep x l m) e ∙ ap (λ (x : Message). message_taken broken terms keep worlds.linked l x) (bye_is m reason f)
+
+silent_loss : (x : Standing) → (react x broken_off).reply ≡ None
+unfolding react
+silent_loss x = refl
+
+channel_leaves : (broken : Bool) (r : Option Meaning) (channel : List Message) → r ≡ None → put broken (over ∷ []) (put broken (replied r) channel) ≡ channel ++ unless_broken broken (over ∷ [])
+channel_leaves broken r channel e =
+    ap (λ (o : Option Meaning). put broken (over ∷ []) (put broken (replied o) channel)) e ∙ ap (put broken (over ∷ [])) (put_nothing broken channel) ∙ put_unless broken (over ∷ []) channel
+
+-- what is under way from it
+out_leaves : (s : Side) (p : TwoEnds) (b : Between) (t : Tables) (e : End) (h : Held) (n reason : ℕ) (l : Line) → Stands p b t → (d : DidAt s p b e h n) → IsSeen s n p b l → d.row ≡ leaves reason →
+    (end_at (other s) p).end.carrier.ended ≡ None →
+    AreAlike (progress_of (place_at n (last_of (is_caller (other s)) d.now))) (map message_in (take (length d.stays) l.own.channel ++ unless_broken t.broken (over ∷ [])))
+    (under_way (is_caller s) n (carriers_of (with_holding s e h p)) d.now)
+out_leaves s p b t e h n reason l old d i row alive =
+    let there = place_at n (last_of (is_caller (other s)) b) in
+    let new = under_way (is_caller s) n (carriers_of (with_holding s e h p)) d.now in
+    let all : AreAlike (progress_of there) (map message_in (take (length d.stays) l.own.channel ++ unless_broken t.broken (answer_for d.row))) new =
+    out_cuts there l.own.channel (unless_broken t.broken (answer_for d.row)) (under_way (is_caller s) n (carriers_of p) b) new d.stays d.gone (put_in (carriers_of p) (put_for d.row)) (i.out alive) d.out_before d.out_after
+    (answers_same t.broken (is_some (carriers_of p).reach) d.row (broken_is p b t old)) in
+    subst (λ (q : Place). AreAlike (progress_of q) (map message_in (take (length d.stays) l.own.channel ++ unless_broken t.broken (over ∷ []))) new) (sym (d.there n))
+    (subst (λ (r : Row). AreAlike (progress_of there) (map message_in (take (length d.stays) l.own.channel ++ unless_broken t.broken (answer_for r))) new) row all)
+
+-- no loss was shown to a side that lasts
+abbrev pub LosesLate : Type 0
+LosesLate = (t : Tables) → IsTableRun t → LosesAsItEnds t
+
+any_last : (P : Entry → Bool) (es : List Entry) (e : Entry) → P e ≡ true → list_any P (es ++ e ∷ []) ≡ true
+any_last P [] e h = ap (λ (b : Bool). b || false) h
+any_last P (x ∷ es) e h = ap (λ (b : Bool). P x || b) (any_last P es e h) ∙ or_true (P x)
+  where
+    or_true : (b : Bool) → (b || true) ≡ true
+    or_true true = refl
+    or_true false = refl
+
+own_side : (s : machine.Side) → is_side s s ≡ true
+own_side machine.Left = refl
+own_side machine.Right = refl
+
+shows_by : (x : Standing) → shows_loss x.state.phase ≡ true → (react x broken_off).shown ≡ Lost ∷ []
+unfolding react
+shows_by x e = ap (λ (b : Bool). if◌then◌else◌ {A = List Shown} b (Lost ∷ []) []) e
+
+none_lost_by : (who : machine.Side) (n : ℕ) (x : Standing) (u : Tables) (es : List Entry) (b : Bool) → shows_loss x.state.phase ≡ b → LosesAsItEnds u → end_of who u ≡ None →
+    u.journal ≡ es ++ map (shown_at who n) (react x broken_off).shown → (react x broken_off).shown ≡ []
+none_lost_by who n x u es false e law none says = quiet_shows x e
+none_lost_by who n x u es true e law none says =
+    let journal : u.journal ≡ es ++ shown_at who n Lost ∷ [] = says ∙ ap (λ (l : List Shown). es ++ map (shown_at who n) l) (shows_by x e) in
+    let lost : list_any (is_loss who) u.journal ≡ true = ap (list_any (is_loss who)) journal ∙ any_last (is_loss who) es (shown_at who n Lost) (own_side who) in
+    let no_way : false ≡ true = sym (ap loses none) ∙ law who lost in
+    absurd cc
+
+none_lost : (who : machine.Side) (n : ℕ) (x : Standing) (u : Tables) (es : List Entry) → LosesAsItEnds u → end_of who u ≡ None → u.journal ≡ es ++ map (shown_at who n) (react x broken_off).shown →
+    (react x broken_off).shown ≡ []
+none_lost who n x u es law none says = none_lost_by who n x u es (shows_loss x.state.phase) refl law none says
+
+-- tables that came about take one delivery more
+pub run_more : (t u : Tables) (who : machine.Side) (n : ℕ) (cut : ℕ → ℕ) → step t (delivers who n cut) ≡ u → IsTableRun t → IsTableRun u
+run_more t u who n cut is run = record {
+  agreed = run.agreed;
+  steps = run.steps ++ delivers who n cut ∷ [];
+  numbered = number_one run.steps (delivers who n cut) run.numbered tt;
+  reached = run_one _ run.steps (delivers who n cut) ∙ ap (λ (v : Tables). step v (delivers who n cut)) run.reached ∙ is;
+}
+
+end_after : (s : Side) (t : Tables) (n : ℕ) (known : Option worlds.Class) (turn : Turn) → end_of (side_in s) (delivered t (side_in s) n known turn) ≡ end_of (side_in s) t
+end_after Left t n known turn = refl
+end_after Right t n known turn = refl
+
+leaves_shown : PacketLaws → LosesLate → (s : Side) (p : TwoEnds) (b : Between) (t : Tables) (packet : List ℕ) (h held : Held) → Stands p b t → IsTableRun t → (end_at s p).end.carrier.ended ≡ None →
+    (pa : PacketActs (terms_at p) (is_caller s) (carriers_of p) b packet h.octets) → (reason : ℕ) → pa.did.row ≡ leaves reason →
+    StandsShown s p t (lost_end NoMemory (told_all pa.unit (end_at s p).end).carrier (end_at s p).end.lines) held
+leaves_shown laws late s p b t packet h held old run alive pa reason left =
+    let n = reference_of pa.unit in
+    let was = (end_at s p).end in
+    let e = acted_end pa.unit was.lines was in
+    let f = acts_at s p b packet h pa in
+    let d = did_at s p b packet h was.lines pa in
+    let row : d.row ≡ leaves reason = same_row s p b packet h was.lines pa ∙ left in
+    let lasting = lasting_in s p b t old alive in
+    let at = line_at s n p b t old pa.first.named pa.first.given in
+    let l = at.line in
+    let x = l.own.session in
+    let one : arrived_in d.row ≡ carrier.bye reason ∷ [] = ap arrived_in row in
+    let sp = back_one s p b e h n l (carrier.bye reason) d at.is alive one in
+    let first = transport_before s p b t e h n l old alive d at.is in
+    let tr : l.own.transport ≡ worlds.linked = first ∙ ap (λ (r : Row). transport_by (before r)) row in
+    let alike : message_in sp.first ∷ [] ≡ carrier.bye reason ∷ [] = subst (λ (r : Row). AreAlike (before r) (message_in sp.first ∷ []) (carrier.bye reason ∷ [])) row sp.is in
+    let k = length d.stays in
+    let turn = left_turn t.broken k (without_first l sp.others) in
+    let known = learns t.terms l.own.transport sp.first t.known in
+    let u = delivered t (side_in s) n known turn in
+    let is : step t (delivers (side_in s) n (λ r. k)) ≡ u = step_opens t (side_in s) n (λ r. k) l sp.first sp.others turn lasting at.found sp.parts
+    (turn_leaves t.broken t.terms k reason l.own.transport (without_first l sp.others) sp.first tr alike) refl in
+    let all : TablesAfter s n t u turn.shown turn.line = tables_delivered s n (seen_from (side_in s) l) t known turn at.found in
+    let none : (react x broken_off).shown ≡ [] =
+    none_lost (side_in s) n x u t.journal (late u (run_more t u (side_in s) n (λ r. k) is run)) (end_after s t n known turn ∙ lasting) all.journal in
+    let a : TablesAfter s n t u [] turn.line = subst (λ (shown : List Shown). TablesAfter s n t u shown turn.line) none all in
+    let kept = take k l.own.channel ++ unless_broken t.broken (over ∷ []) in
+    let ending : EndingLine s p u e h d.now n = record {
+      line = turn.line;
+      found = a.lines.found;
+      here = placed_then s p b e h n turn.line.own d f.lasts (ap (λ (r : Row). is_given (transport_by (after r))) (sym row)) (λ y. cc)
+          (subst (λ (o : Option Meaning). IfSome o IsInOctets) (sym (still_waiting x)) at.is.here.octets);
+      there = still_seated n (end_at (other s) p) l.peer sp.others at.is.there;
+      kept = kept;
+      more = [];
+      parts = channel_leaves t.broken (react x broken_off).reply (take k l.own.channel) (silent_loss x) ∙ sym (append-nil kept);
+      whole = λ y. refl;
+      out = λ y. out_leaves s p b t e h n reason l old d at.is row (other_lasts s e h p y);
+    } in
+    let m = acted_may_end laws s p b t u packet h turn.line old alive pa d a ending
+    (learns_row d.row l.own.transport t.terms sp.first t.known first (ap is_awaited row) ∙ known_then s p b t e h n old alive d f.lasts pa.first.given (ap is_agree row)) in
+    behind_shown s p b t u e h d.now was.lines held n (λ r. k) old m
+    (says_then s n turn.line l t u _ _ a.lines at.found (ended_shows (react x broken_off).next (is_over x) ∙ sym none) (all_shown_then s p b t old alive)) lasting is
+
+-- ---- by row
+
+abbrev TellsOne : ℕ → Row → Type 0
+TellsOne n row = IsLone row ⊎ ((row ≡ begins) ⊎ ((row ≡ agrees) ⊎ ((reason : ℕ) × (row ≡ leaves reason))))
+
+tells_one : (n : ℕ) (row : Row) (x : Happening) → told_for n row ≡ x ∷ [] → TellsOne n row
+tells_one n quiet x e = absurd cc
+tells_one n still x e = absurd cc
+tells_one n begins x e = inr (inl refl)
+tells_one n (refuses reason) x e = absurd cc
+tells_one n agrees x e = inr (inr (inl refl))
+tells_one n (denies reason) x e = inl (denies_lone reason)
+tells_one n (tells octets) x e = inl (tells_lone octets)
+tells_one n (leaves reason) x e = inr (inr (inr (reason, refl)))
+tells_one n (ignores octets) x e = absurd cc
+tells_one n (ends m) x e = absurd cc
+
+pub record StarveLaws : Type 0 where
+  pub packet : PacketLaws
+  pub want : WantLaws
+  pub late : LosesLate
+
+unheard_shown : StarveLaws → (s : Side) (p : TwoEnds) (b : Between) (t : Tables) (packet : List ℕ) (h held : Held) → Stands p b t → IsTableRun t → (end_at s p).end.carrier.ended ≡ None →
+    (pa : PacketActs (terms_at p) (is_caller s) (carriers_of p) b packet h.octets) → TellsOne (reference_of pa.unit) pa.did.row →
+    StandsShown s p t (lost_end NoMemory (told_all pa.unit (end_at s p).end).carrier (end_at s p).end.lines) held
+unheard_shown laws s p b t packet h held old run alive pa (inl q) = lone_shown laws.packet s p b t packet h held old alive pa q
+unheard_shown laws s p b t packet h held old run alive pa (inr (inl q)) = begins_shown laws.packet s p b t packet h held old alive pa q
+unheard_shown laws s p b t packet h held old run alive pa (inr (inr (inl q))) = agrees_shown laws.packet s p b t packet h held old alive pa q
+unheard_shown laws s p b t packet h held old run alive pa (inr (inr (inr q))) = leaves_shown laws.packet laws.late s p b t packet h held old run alive pa q.0 q.1
+
+-- For what a packet does there was no memory: the tables take what arrived where it was answered, and then the
+-- end of the side.
+pub starved_shown : StarveLaws → (s : Side) (p : TwoEnds) (b : Between) (t : Tables) (packet octets : List ℕ) (h held : Held) (new : End) → Stands p b t → IsTableRun t → (end_at s p).end.carrier.ended ≡ None →
+    IsPacket packet octets → (end_at s p).held.octets ≡ octets ++ h.octets → Starves (end_at s p).end packet new → StandsShown s p t new held
+starved_shown laws s p b t packet octets h held new old run alive is cut x =
+    let c = both_carrier s p in
+    let pa = packet_acts laws.packet.two (terms_at p) (is_caller s) (carriers_of p) b packet octets h.octets old.between (ap (λ (y : State). y.ended) c ∙ alive)
+    (ap (λ (y : State). y.events) c ∙ (order_of s p b t old alive).heard) is (both_held s p ∙ cut) in
+    elim (has_starved laws.want s p b t packet octets h new old alive is cut pa x) [
+      | inl nothing ↦ subst (λ (e : End). StandsShown s p t e held) (sym nothing) (ended_shown s p b t held old alive)
+      | inr some ↦ subst (λ (e : End). StandsShown s p t e held) (sym some.is)
+          (unheard_shown laws s p b t packet h held old run alive pa (tells_one (reference_of pa.unit) pa.did.row some.event some.one))
+    ]
