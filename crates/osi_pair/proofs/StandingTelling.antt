@@ -4,10 +4,12 @@ use Rattle.osi_tpkt.specs.Held.{Held}
 use Rattle.osi_tpkt.specs.Packet.{IsPacket}
 use Rattle.osi_carrier.specs.Between.{Between}
 use Rattle.osi_carrier.specs.Terms.{by_zero}
+use Rattle.osi_carrier.specs.declared.ends.EndReason.TheVariants.{NoMemory}
 use Rattle.osi_machine.specs.AsTables.{IsTableRun}
 use Rattle.osi_machine.specs.Machine.{Step}
 use Rattle.osi_machine.specs.Tables.{Tables}
-use Rattle.osi_stack.specs.Hearing.{after_packet}
+use Rattle.osi_stack.specs.Hearing.{after_packet, ends as ends_end, Starves}
+use Rattle.osi_stack.specs.State.{End}
 use Rattle.osi_pair.specs.Ends.{TwoEnds, end_at}
 use Rattle.osi_pair.specs.Standing.{is_caller, carriers_of, StandsAtArrivals, Stands, StandsAt}
 use Rattle.osi_pair.specs.declared.sides.Side.{Side}
@@ -18,9 +20,12 @@ use Rattle.osi_pair.proofs.StandingLeaves.{leaving_packet}
 use Rattle.osi_pair.proofs.StandingMoved.{MovingLaws, HasMoved, move_of, MovedBy, has_moved}
 use Rattle.osi_pair.proofs.StandingMoves.{heard_by, is_move}
 use Rattle.osi_pair.proofs.StandingPacket.{PacketLaws, is_heard}
+use Rattle.osi_pair.proofs.StandingPackets.{PacketStands}
 use Rattle.osi_pair.proofs.StandingRows.{Row, quiet, still, begins, refuses, agrees, denies, tells, leaves, ignores, ends}
 use Rattle.osi_pair.proofs.StandingShown.{shown_pair, StandsShown}
+use Rattle.osi_pair.proofs.StandingStarved.{StarveLaws, starved_shown}
 use Rattle.osi_pair.proofs.StandingTaken.{unheard_shown, tables_at, is_run, arrivals_at, packet_at}
+use Rattle.osi_pair.proofs.StandingWant.{ended_shown}
 
 -- where a connection of class 0 is closed
 pub record ClosingRows : Type 0 where
@@ -65,3 +70,20 @@ told_at laws answers rows p steps s packet octets h at alive is cut =
     let pa = packet_at laws.packet s p steps packet octets h at alive is cut in
     arrivals_at s p steps (after_packet (end_at s p).end packet) h at
     (packet_shown laws answers rows s p at.now (tables_at p steps) packet h at.stands (is_run p steps at) alive pa)
+
+-- ---- the laws of one packet
+
+starved_at : StarveLaws → (p : TwoEnds) (steps : List Step) (s : Side) (packet octets : List ℕ) (new : End) (h : Held) → StandsAt p steps → (end_at s p).end.carrier.ended ≡ None → IsPacket packet octets →
+    (end_at s p).held.octets ≡ octets ++ h.octets → Starves (end_at s p).end packet new → StandsAtArrivals s (shown_pair s new h p) steps
+starved_at laws p steps s packet octets new h at alive is cut starved =
+    arrivals_at s p steps new h at (starved_shown laws s p at.now (tables_at p steps) packet octets h h new at.stands (is_run p steps at) alive is cut starved)
+
+ended_at : (p : TwoEnds) (steps : List Step) (s : Side) (h : Held) → StandsAt p steps → (end_at s p).end.carrier.ended ≡ None → StandsAtArrivals s (shown_pair s (ends_end NoMemory (end_at s p).end) h p) steps
+ended_at p steps s h at alive = arrivals_at s p steps (ends_end NoMemory (end_at s p).end) h at (ended_shown s p at.now (tables_at p steps) h at.stands alive)
+
+pub packet_stands : MovingLaws → AnswerLaws → ClosingRows → StarveLaws → PacketStands
+packet_stands laws answers rows starve = record {
+  told = λ p steps s packet octets h at alive is cut. told_at laws answers rows p steps s packet octets h at alive is cut;
+  starved = λ p steps s packet octets new h at alive is cut starved. starved_at starve p steps s packet octets new h at alive is cut starved;
+  ended = λ p steps s h at alive. ended_at p steps s h at alive;
+}
