@@ -1,13 +1,19 @@
-//! Runs the scripts of the folder `data` on two ends, and says whether what comes of them is what the
-//! transcripts beside them have.
+//! Runs what lies in the folder `data`, and says whether what comes of it is what is written there.
 //!
-//! The program's words name the scripts. Those behind the word `each-way` are run in class 0 and in
-//! class 2 as well, with octets that are carried all at once and one by one: how many octets were
-//! carried is then all that may differ.
+//! The program's words name what is run. Behind the word `pair` stand scripts of two ends with their
+//! transcripts; behind `each-way` those that are run in class 0 and in class 2 as well, with octets
+//! that are carried all at once and one by one: how many octets were carried is then all that may
+//! differ. Behind `octets` stand ends that are fed octets, and what they answer; behind `show`
+//! captures with their listings.
 #![tactic(auto)]
 
+mod digits;
+mod octets;
 mod ways;
 
+use digits::octets_in;
+use octets::played;
+use osi_listing::list;
 use osi_transcript::{Transcript, transcribe};
 use std::alloc::{AllocError, Global};
 use std::rt::{Env, Files};
@@ -17,32 +23,89 @@ use ways::{WAYS, Way, counts_left_out, script_in};
 /// No script has more octets.
 const LONGEST: usize = 1_000_000;
 
+/// How a word of the program is to be taken.
+#[derive(Clone, Copy)]
+enum Kind {
+    Pair,
+    EachWay,
+    Octets,
+    Show,
+}
+
+impl Kind {
+    /// What the words behind this one name.
+    fn behind(word: &str) -> Option<Kind> {
+        match word {
+            "pair" => Some(Kind::Pair),
+            "each-way" => Some(Kind::EachWay),
+            "octets" => Some(Kind::Octets),
+            "show" => Some(Kind::Show),
+            _ => None,
+        }
+    }
+}
+
 fn main(rt: HostRuntime) -> io::Result<()> {
     let words: Vec<String> = env::args(&rt)?.collect(rt.alloc())?;
-    let mut is_each_way = false;
+    let mut kind = Kind::Pair;
     for word in words.iter().skip(1) {
-        if word.as_str() == "each-way" {
-            is_each_way = true;
-        } else {
-            let said = judged(&rt, word.as_str(), is_each_way)?;
-            println!(&rt; "{word} {said}")?;
+        match Kind::behind(word.as_str()) {
+            Some(next) => kind = next,
+            None => {
+                let said = judged(&rt, word.as_str(), kind)?;
+                println!(&rt; "{word} {said}")?;
+            }
         }
     }
     Ok(())
 }
 
-/// What is said of a script: that all is as it is written, or what came in its place.
-fn judged<R: Files + AllocGlobal>(rt: &R, name: &str, is_each_way: bool) -> io::Result<String> {
+/// What is said of a name: that all is as it is written, or what came in its place.
+fn judged<R: Files + AllocGlobal>(rt: &R, name: &str, kind: Kind) -> io::Result<String> {
+    match kind {
+        Kind::Pair => judged_pair(rt, name, false),
+        Kind::EachWay => judged_pair(rt, name, true),
+        Kind::Octets => judged_octets(rt, name),
+        Kind::Show => judged_listing(rt, name),
+    }
+}
+
+fn judged_pair<R: Files + AllocGlobal>(
+    rt: &R,
+    name: &str,
+    is_each_way: bool,
+) -> io::Result<String> {
     let script = text_of(rt, name, "script")?;
     let wanted = text_of(rt, name, "transcript")?;
     let came = told(rt.alloc(), script.as_str())?;
     if came.lines.as_slice() != wanted.as_str().as_bytes() {
-        return another(rt.alloc(), &came);
+        return another(rt.alloc(), came.lines.as_slice(), came.status);
     }
     if is_each_way {
         return judged_each_way(rt.alloc(), script.as_str(), wanted.as_str());
     }
-    Ok(format!(in rt.alloc(); "as it is written, status {}", came.status)?)
+    as_written(rt.alloc(), came.status)
+}
+
+fn judged_octets<R: Files + AllocGlobal>(rt: &R, name: &str) -> io::Result<String> {
+    let wanted = text_of(rt, name, "octets")?;
+    let came = played(rt.alloc(), wanted.as_str())?;
+    if came.as_slice() != wanted.as_str().as_bytes() {
+        return another(rt.alloc(), came.as_slice(), 0);
+    }
+    as_written(rt.alloc(), 0)
+}
+
+fn judged_listing<R: Files + AllocGlobal>(rt: &R, name: &str) -> io::Result<String> {
+    let capture = text_of(rt, name, "hex")?;
+    let wanted = text_of(rt, name, "listing")?;
+    let octets = octets_in(rt.alloc(), capture.as_str())?;
+    let mut came = Vec::new(rt.alloc());
+    let status = list(rt.alloc(), &mut came, octets.as_slice())?;
+    if came.as_slice() != wanted.as_str().as_bytes() {
+        return another(rt.alloc(), came.as_slice(), status);
+    }
+    as_written(rt.alloc(), status)
 }
 
 fn text_of<R: Files + AllocGlobal>(rt: &R, name: &str, kind: &str) -> io::Result<String> {
@@ -56,13 +119,17 @@ fn told(alloc: Global, script: &str) -> io::Result<Transcript> {
     Ok(transcribe(alloc, script.as_bytes())?)
 }
 
-fn another(alloc: Global, came: &Transcript) -> io::Result<String> {
-    let lines = str_of(came)?;
-    Ok(format!(in alloc; "HAS ANOTHER TRANSCRIPT, status {}\n{lines}", came.status)?)
+fn as_written(alloc: Global, status: u8) -> io::Result<String> {
+    Ok(format!(in alloc; "as it is written, status {status}")?)
 }
 
-fn str_of(transcript: &Transcript) -> io::Result<&str> {
-    match str::from_utf8(transcript.lines.as_slice()) {
+fn another(alloc: Global, came: &[u8], status: u8) -> io::Result<String> {
+    let lines = str_of(came)?;
+    Ok(format!(in alloc; "GIVES SOMETHING ELSE, status {status}\n{lines}")?)
+}
+
+fn str_of(lines: &[u8]) -> io::Result<&str> {
+    match str::from_utf8(lines) {
         Ok(lines) => Ok(lines),
         Err(_) => Err(io::Error::from(io::ErrorKind::InvalidData)),
     }
@@ -71,8 +138,8 @@ fn str_of(transcript: &Transcript) -> io::Result<&str> {
 fn judged_each_way(alloc: Global, script: &str, wanted: &str) -> io::Result<String> {
     for way in WAYS {
         let came = told(alloc, script_in(alloc, script, way)?.as_str())?;
-        if !is_same(alloc, str_of(&came)?, wanted)? {
-            return another(alloc, &came);
+        if !is_same(alloc, str_of(came.lines.as_slice())?, wanted)? {
+            return another(alloc, came.lines.as_slice(), came.status);
         }
     }
     Ok("as it is written, each way".to_string(alloc)?)
