@@ -3,8 +3,6 @@
 #![tactic(auto)]
 
 #[cfg(test)]
-mod carrier_words;
-#[cfg(test)]
 mod carriers;
 #[cfg(test)]
 mod links;
@@ -15,11 +13,7 @@ mod packets;
 #[cfg(test)]
 mod session_units;
 #[cfg(test)]
-mod session_words;
-#[cfg(test)]
 mod sessions;
-#[cfg(test)]
-mod stack_words;
 #[cfg(test)]
 mod stacks;
 #[cfg(test)]

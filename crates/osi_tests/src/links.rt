@@ -1,82 +1,8 @@
 ghost use Rattle.std.specs.Prelude.{◌<◌};
 
 use osi_class::*;
-use osi_tpdu::{
-    ConnectFields, ConnectParameters, ConnectRequest, DataAcknowledgement, DataClass0, DataClass2,
-    SizeCode, Tpdu, Window,
-};
+use osi_tpdu::{DataAcknowledgement, DataClass0, DataClass2, SizeCode, Tpdu, Window};
 use std::test::Fail;
-
-/// Class 2, and class 0 if it is asked for, with size 0A and window 4.
-fn local(class0: bool) -> Result<Local, Fail> {
-    Ok(Local {
-        class0,
-        class2: true,
-        size: SizeCode::new(10).ok_or("size")?,
-        window: Window::new(4).ok_or("window")?,
-    })
-}
-
-/// A CR with size 0A; class and options are the low halves of theirs.
-fn request<'a>(class: u8, options: u8, alternatives: &'a [u8]) -> ConnectRequest<'a> {
-    let parameters = ConnectParameters {
-        size: SizeCode::new(10),
-        calling: None,
-        called: None,
-        additional_options: None,
-        alternative_classes: Some(alternatives),
-    };
-    let fields = ConnectFields {
-        credit: 0,
-        source: 1,
-        class: class % 16,
-        options: options % 16,
-        parameters,
-        user: &[],
-    };
-    ConnectRequest { fields }
-}
-
-/// The class that is accepted, with size 0A, or the reason for which nothing is.
-fn accepted(request: &ConnectRequest, local: &Local) -> Result<Result<Class, u8>, Fail> {
-    match answer(request, local) {
-        Answer::Accept { class, size } if size == SizeCode::new(10) => Ok(Ok(class)),
-        Answer::Accept { .. } => Err(Fail::from("another size")),
-        Answer::Disconnect(reason) => Ok(Err(reason)),
-    }
-}
-
-/// Class, options and alternative classes of a CR, whether class 0 may be selected beside class 2,
-/// and the class that is accepted or the reason for which none is.
-const ANSWERS: [(u8, u8, &[u8], bool, Result<Class, u8>); 7] = [
-    (2, 0, &[0x00], true, Ok(Class::Two)),
-    (4, 0, &[0x20], true, Ok(Class::Two)),
-    (2, 1, &[0x00], true, Ok(Class::Zero)),
-    (0, 0, &[], false, Err(0)),
-    (4, 0, &[], true, Err(130)),
-    // the low half of a listed class does not count
-    (4, 0, &[0x2f], true, Ok(Class::Two)),
-    (4, 0, &[0x02], true, Ok(Class::Zero)),
-];
-
-fn is_answered(
-    request: &ConnectRequest,
-    class0: bool,
-    want: Result<Class, u8>,
-) -> Result<(), Fail> {
-    if accepted(request, &local(class0)?)? != want {
-        return Err(Fail::from("another answer"));
-    }
-    Ok(())
-}
-
-#[test]
-fn the_table_of_answers() -> Result<(), Fail> {
-    for (class, options, alternatives, class0, want) in ANSWERS {
-        is_answered(&request(class, options, alternatives), class0, want)?;
-    }
-    Ok(())
-}
 
 fn sends(link: &mut impl Link, tsdu: &[u8]) -> Result<(), Fail> {
     link.send_tsdu(tsdu)?;

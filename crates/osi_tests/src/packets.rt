@@ -23,21 +23,6 @@ fn uses(cutter: &mut Cutter, piece: &[u8], used: usize, whole: bool) -> Result<(
     Ok(())
 }
 
-fn refuses(cutter: &mut Cutter, piece: &[u8], fault: TpktFault) -> Result<(), Fail> {
-    if fed(cutter, piece)? != Err(fault) {
-        return Err(Fail::from("another answer"));
-    }
-    Ok(())
-}
-
-/// A cutter holds so many octets of a packet, and no packet stands.
-fn holds(cutter: &Cutter, count: usize) -> Result<(), Fail> {
-    if cutter.rest_len() != count || cutter.packet().is_some() {
-        return Err(Fail::from("other octets are held"));
-    }
-    Ok(())
-}
-
 /// This packet stands, header and transport unit.
 fn has_packet(cutter: &Cutter, packet: &[u8]) -> Result<(), Fail> {
     let (_, unit) = packet.split_at_checked(4).ok_or("a packet")?;
@@ -52,44 +37,6 @@ const CONNECT_REQUEST: [u8; 22] = [
     0x03, 0x00, 0x00, 0x16, 0x11, 0xe0, 0x00, 0x00, 0x00, 0x01, 0x00, 0xc0, 0x01, 0x0a, 0xc1, 0x02,
     0x01, 0x00, 0xc2, 0x02, 0x01, 0x02,
 ];
-
-fn header_goes_on(cutter: &mut Cutter) -> Result<(), Fail> {
-    uses(cutter, &[], 0, false)?;
-    holds(cutter, 0)?;
-    uses(cutter, &[3, 0, 0], 3, false)?;
-    holds(cutter, 3)?;
-    refuses(cutter, &[6], TpktFault::BadLength(0))?;
-    refuses(cutter, &[7, 1], TpktFault::BadLength(0))?;
-    holds(cutter, 3)
-}
-
-#[test]
-fn a_header_is_judged_at_its_fourth_octet(rt: HostRuntime) -> Result<(), Fail> {
-    let mut cutter = Cutter::new(rt.alloc());
-    header_goes_on(&mut cutter)
-}
-
-#[test]
-fn a_version_is_judged_at_its_octet(rt: HostRuntime) -> Result<(), Fail> {
-    let mut cutter = Cutter::new(rt.alloc());
-    refuses(&mut cutter, &[4], TpktFault::BadVersion(0))?;
-    refuses(&mut cutter, &[3], TpktFault::BadVersion(0))
-}
-
-fn fault_goes_on(cutter: &mut Cutter) -> Result<(), Fail> {
-    uses(cutter, &CONNECT_REQUEST, 22, true)?;
-    has_packet(cutter, &CONNECT_REQUEST)?;
-    uses(cutter, &[4], 0, true)?;
-    cutter.advance();
-    holds(cutter, 0)?;
-    refuses(cutter, &[4], TpktFault::BadVersion(22))
-}
-
-#[test]
-fn a_fault_stands_behind_a_packet(rt: HostRuntime) -> Result<(), Fail> {
-    let mut cutter = Cutter::new(rt.alloc());
-    fault_goes_on(&mut cutter)
-}
 
 /// A packet comes octet by octet.
 fn comes_slowly(cutter: &mut Cutter, packet: &[u8]) -> Result<(), Fail> {
