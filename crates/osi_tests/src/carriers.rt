@@ -4,7 +4,7 @@
 ghost use Rattle.std.specs.Prelude.{◌<◌};
 
 use osi_carrier::*;
-use osi_class::Local;
+use osi_class::{LinkFault, Local};
 use osi_tpdu::{SizeCode, Window};
 use std::test::Fail;
 
@@ -149,6 +149,18 @@ fn a_tsdu_is_sent_on_an_open_connection_alone(rt: HostRuntime) -> Result<(), Fai
 fn a_sent_tsdu_has_at_most_1048576_octets(rt: HostRuntime) -> Result<(), Fail> {
     let tsdu = vec![in rt.alloc(); 0x5A; 1_048_577]?;
     refuses_to_send(&mut opened(&rt)?, tsdu.as_slice(), SendError::TooLong)
+}
+
+#[test]
+fn a_fault_is_told_of_its_connection(rt: HostRuntime) -> Result<(), Fail> {
+    let mut caller = opened(&rt)?;
+    // number 5, where 0 is expected
+    takes(&mut caller, &[3, 0, 0, 0x0A, 4, 0xF0, 0, 1, 0x85, 0x5A])?;
+    writes(&mut caller, &[3, 0, 0, 0x0B, 6, 0x80, 0, 1, 0, 1, 0x85])?;
+    match caller.next_event() {
+        Some(Event::Faulted(Ref(1), LinkFault::OutOfSequence)) => Ok(()),
+        _ => Err(Fail::from("another event")),
+    }
 }
 
 /// A TSDU is sent in a DT with number 0.

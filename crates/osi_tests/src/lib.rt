@@ -1,5 +1,20 @@
-//! Tests over the public items of all crates: worked examples, printed text, and that calls succeed
+//! Tests over the public items of all crates: what no file of `osi_runs` shows, and that calls succeed
 //! where memory is ample.
+//!
+//! Each function here is proved, which takes seconds whatever it does; a file of `osi_runs` is proved
+//! by nobody. So what two ends do with each other is a script there, what an end answers to octets
+//! or how a session unit is written again is a file of octets, and what is listed is a capture. Here
+//! stand
+//!
+//! - `packets`: a packet that comes octet by octet, the generic reader and writer, the bounds of a packet;
+//! - `transport_units`, `session_units`: how units are written, sets, bounds, units that are made;
+//! - `links`, `whole_links`: credit, numbers that go round, the longest TSDU;
+//! - `carriers`: an end of neither class, all references, what is sent where nothing is open;
+//! - `sessions`: plans, the greatest length of data;
+//! - `stacks`: a selector that is too long, a called end that asks for a connection;
+//! - `listings`: TSDUs of 1,048,576 octets and more;
+//!
+//! and in each of them one call at least of each public function that takes memory.
 #![tactic(auto)]
 
 #[cfg(test)]
