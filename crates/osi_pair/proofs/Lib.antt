@@ -43,6 +43,7 @@ pub mod StandingEnded
 pub mod StandingUnheard
 pub mod StandingWant
 pub mod StandingStarved
+pub mod StandingShuts
 pub mod StandingTold
 pub mod StandingSides
 pub mod StandingActs

@@ -121,20 +121,20 @@ is_linked_at (was_given (Some asked)) e = cc
 is_linked_at (was_given (Some (linked peer link))) e = refl
 is_linked_at (was_given (Some (closing peer))) e = cc
 
-learns_waiting : (m : Message) → learns (accepts worlds.class_2) worlds.waiting m (Some worlds.class_2) ≡ Some worlds.class_2
-learns_waiting (unit u) = refl
-learns_waiting ask = refl
-learns_waiting agree = refl
-learns_waiting (deny reason) = refl
-learns_waiting (bye reason) = refl
-learns_waiting over = refl
+learns_waiting : (class : worlds.Class) (m : Message) → learns (accepts class) worlds.waiting m (Some class) ≡ Some class
+learns_waiting class ask = refl
+learns_waiting class (unit u) = refl
+learns_waiting class agree = refl
+learns_waiting class (deny reason) = refl
+learns_waiting class (bye reason) = refl
+learns_waiting class over = refl
 
-learns_two : (tr : Transport) (m : Message) → learns (accepts worlds.class_2) tr m (Some worlds.class_2) ≡ Some worlds.class_2
-learns_two worlds.not_yet m = refl
-learns_two worlds.waiting m = learns_waiting m
-learns_two worlds.linked m = refl
-learns_two worlds.closing m = refl
-learns_two worlds.gone m = refl
+learns_same : (class : worlds.Class) (tr : Transport) (m : Message) → learns (accepts class) tr m (Some class) ≡ Some class
+learns_same class worlds.not_yet m = refl
+learns_same class worlds.waiting m = learns_waiting class m
+learns_same class worlds.linked m = refl
+learns_same class worlds.closing m = refl
+learns_same class worlds.gone m = refl
 
 -- where a unit comes to an open connection the caller has agreed the class
 pub class_known : (s : Side) (p : TwoEnds) (b : Between) (t : Tables) (packet : List ℕ) (h : Held) → Stands p b t → (pa : PacketActs (terms_at p) (is_caller s) (carriers_of p) b packet h.octets) →
@@ -142,11 +142,19 @@ pub class_known : (s : Side) (p : TwoEnds) (b : Between) (t : Tables) (packet : 
 class_known s p b t packet h old pa used =
     old.known ∙ ap (option_map class_in) (sym old.class_then ∙ pa.first.class (is_linked_at (place_at (reference_of pa.unit) (last_of (is_caller s) b)) (pa.did.stood ∙ used)))
 
+known_by_class : (s : Side) (p : TwoEnds) (b : Between) (t : Tables) (packet : List ℕ) (h : Held) (terms : Terms) (class : worlds.Class) → Stands p b t → (pa : PacketActs (terms_at p) (is_caller s) (carriers_of p) b packet h.octets) →
+    before pa.did.row ≡ in_use → terms_at p ≡ terms → terms_in terms ≡ accepts class → option_map class_in (class_of terms) ≡ Some class → (tr : Transport) (m : Message) → learns t.terms tr m t.known ≡ Some class
+known_by_class s p b t packet h terms class old pa used is accepted agreed tr m =
+    let known : t.known ≡ Some class = class_known s p b t packet h old pa used ∙ ap (λ (x : Terms). option_map class_in (class_of x)) is ∙ agreed in
+    ap (λ (o : Option worlds.Class). learns t.terms tr m o) known ∙ ap (λ (x : worlds.Terms). learns x tr m (Some class)) (old.terms ∙ ap terms_in is ∙ accepted) ∙ learns_same class tr m
+
 pub known_two : (s : Side) (p : TwoEnds) (b : Between) (t : Tables) (packet : List ℕ) (h : Held) → Stands p b t → (pa : PacketActs (terms_at p) (is_caller s) (carriers_of p) b packet h.octets) →
     before pa.did.row ≡ in_use → terms_at p ≡ by_two → (tr : Transport) (m : Message) → learns t.terms tr m t.known ≡ Some worlds.class_2
-known_two s p b t packet h old pa used two tr m =
-    let known : t.known ≡ Some worlds.class_2 = class_known s p b t packet h old pa used ∙ ap (λ (x : Terms). option_map class_in (class_of x)) two in
-    ap (λ (o : Option worlds.Class). learns t.terms tr m o) known ∙ ap (λ (x : worlds.Terms). learns x tr m (Some worlds.class_2)) (old.terms ∙ ap terms_in two) ∙ learns_two tr m
+known_two s p b t packet h old pa used two tr m = known_by_class s p b t packet h by_two worlds.class_2 old pa used two refl refl tr m
+
+pub known_zero : (s : Side) (p : TwoEnds) (b : Between) (t : Tables) (packet : List ℕ) (h : Held) → Stands p b t → (pa : PacketActs (terms_at p) (is_caller s) (carriers_of p) b packet h.octets) →
+    before pa.did.row ≡ in_use → terms_at p ≡ by_zero → (tr : Transport) (m : Message) → learns t.terms tr m t.known ≡ Some worlds.class_0
+known_zero s p b t packet h old pa used zero tr m = known_by_class s p b t packet h by_zero worlds.class_0 old pa used zero refl refl tr m
 
 -- ---- the packet
 

@@ -1,0 +1,174 @@
+-- In class 0 a session closes: the end comes. There is one connection, so that what its session shows stands in
+-- the order of the tables.
+use Rattle.std.proofs.Common.{◌≡◌, ℕ, ◌<◌, ◌≤◌, Bool, true, false, List, [], ◌∷◌, ◌++◌, map, Option, Some, None, option_map, refl, sym, ap, subst, ◌∙◌, arith}
+use Rattle.std.proofs.lemmas.List.{append-nil, append_assoc, map-append}
+use Rattle.osi_tpkt.specs.Held.{Held}
+use Rattle.osi_class.specs.Link.{Standing as Link}
+use Rattle.osi_carrier.specs.Between.{Both, Between, AreBetween, last_of}
+use Rattle.osi_carrier.specs.Calls.{closed_with}
+use Rattle.osi_carrier.specs.Course.{Place, never, was_given}
+use Rattle.osi_carrier.specs.Orderly.{RiseFrom, AreUpTo}
+use Rattle.osi_carrier.specs.Rows.{Rows, value_at}
+use Rattle.osi_carrier.specs.State.{State, linked}
+use Rattle.osi_carrier.specs.State as carriers
+use Rattle.osi_carrier.specs.Terms.{Terms, by_zero}
+use Rattle.osi_carrier.specs.Zero.{given_in}
+use Rattle.osi_carrier.specs.declared.ends.EndReason.TheVariants.{Closed}
+use Rattle.osi_machine.specs.Machine.{closed_here, delivers, shown_at}
+use Rattle.osi_machine.specs.Tables.{Tables, closes_by, noted as noted_in, stays, after_end, step}
+use Rattle.osi_machine.specs.Worlds.{Message}
+use Rattle.osi_machine.specs.Worlds as worlds
+use Rattle.osi_message.specs.Meanings.{Meaning}
+use Rattle.osi_message.specs.Written.{written}
+use Rattle.osi_session.specs.Moves.{Input, react}
+use Rattle.osi_session.specs.Shown.{Shown}
+use Rattle.osi_stack.specs.Hearing.{after_packet, concludes, all_lost, shown_at_loss}
+use Rattle.osi_stack.specs.Moving.{answers}
+use Rattle.osi_stack.specs.State.{Line, End, Holding}
+use Rattle.osi_stack.specs.Transport.{answers_by}
+use Rattle.osi_pair.specs.Ends.{TwoEnds, end_at}
+use Rattle.osi_pair.specs.Entries.{Entry, ends}
+use Rattle.osi_pair.specs.Standing.{side_in, is_caller, carriers_of, Stands}
+use Rattle.osi_pair.specs.Telling.{waiting_in, quieted, shown_entries}
+use Rattle.osi_pair.specs.declared.sides.Side.{Side}
+use Rattle.osi_pair.specs.declared.sides.Side.TheVariants.{Left, Right}
+use Rattle.osi_pair.proofs.StandingAnswering.{AnswerLaws, closes_alone, known_zero}
+use Rattle.osi_pair.proofs.StandingAnswers.{answered_end, line_with, closing_by, move_ends, linked_closes, moved_order}
+use Rattle.osi_pair.proofs.StandingArrived.{CarrierLaws, PacketActs}
+use Rattle.osi_pair.proofs.StandingCall.{put_nothing}
+use Rattle.osi_pair.proofs.StandingEnded.{lost_end, keep_then, ended_stands, may_end, all_shown_then, none_left}
+use Rattle.osi_pair.proofs.StandingFinish.{terms_at, line_then}
+use Rattle.osi_pair.proofs.StandingLost.{SaysAll}
+use Rattle.osi_pair.proofs.StandingMoved.{move_of, loud_lines, moved_end, known_by, moved_line, turn_of, moved_tables, HasMoved}
+use Rattle.osi_pair.proofs.StandingMoves.{heard_by}
+use Rattle.osi_pair.proofs.StandingPacket.{PacketLaws, terms_then}
+use Rattle.osi_pair.proofs.StandingQuiet.{quiet_waits}
+use Rattle.osi_pair.proofs.StandingRows.{before}
+use Rattle.osi_pair.proofs.StandingShown.{StandsShown, shown_pair}
+use Rattle.osi_pair.proofs.StandingTurned.{turned_pair}
+
+-- ---- one connection
+
+given_one : (place : Place) → given_in place ≤ 1
+given_one never = omega arith
+given_one (was_given o) = omega arith
+
+one_given : (end : Bool) (both : Both) (b : Between) → AreBetween by_zero both b → (last_of end b).given ≤ 1
+one_given true both b a = subst (λ (k : ℕ). k ≤ 1) (sym a.joined.one.given) (given_one _)
+one_given false both b a = subst (λ (k : ℕ). k ≤ 1) (sym a.joined.one_called.given) (given_one _)
+
+-- no second line
+abbrev IsAlone : Rows Line → Type 0
+IsAlone [] = Unit {0}
+IsAlone (x ∷ []) = Unit {0}
+IsAlone (x ∷ (y ∷ lines)) = ⊥
+
+alone_by : (k : ℕ) (lines : Rows Line) → k ≤ 1 → RiseFrom 0 (quieted lines) → AreUpTo k (quieted lines) → IsAlone lines
+alone_by k [] most rise up = tt
+alone_by k (x ∷ []) most rise up = tt
+alone_by k ((r, l) ∷ ((q, m) ∷ lines)) most rise up = let low = rise.0 in let next = rise.1.0 in let high = up.1.0 in omega arith
+
+-- what waits, and then what its session shows where it is lost
+alone_shows : (lines : Rows Line) → IsAlone lines → waiting_in (all_lost lines) ≡ waiting_in lines ++ waiting_in (all_lost (quieted lines))
+alone_shows [] alone = refl
+alone_shows ((r, l) ∷ []) alone =
+    let name : Shown → ℕ × Shown = λ x. (r, x) in
+    append-nil (map name (l.waiting ++ shown_at_loss l.session)) ∙ map-append name l.waiting (shown_at_loss l.session)
+    ∙ ap (λ (w : List (ℕ × Shown)). w ++ map name (shown_at_loss l.session)) (sym (append-nil (map name l.waiting)))
+    ∙ ap (λ (w : List (ℕ × Shown)). (map name l.waiting ++ []) ++ w) (sym (append-nil (map name (shown_at_loss l.session))))
+alone_shows (x ∷ (y ∷ lines)) alone = absurd alone
+
+-- ---- the two ends
+
+shown_apart : (s : Side) (before : List Entry) (first second : List (ℕ × Shown)) (last : List Entry) →
+    before ++ (shown_entries s (first ++ second) ++ last) ≡ (before ++ shown_entries s first) ++ (shown_entries s second ++ last)
+shown_apart s before first second last =
+    ap (λ (es : List Entry). before ++ (es ++ last)) (map-append _ first second) ∙ ap (λ (es : List Entry). before ++ es) (append_assoc (shown_entries s first) (shown_entries s second) last)
+    ∙ sym (append_assoc before (shown_entries s first) (shown_entries s second ++ last))
+
+-- what they were shown, in two parts
+says_so : (s : Side) (before : List Entry) (n : ℕ) (shown : List Shown) (lines : Rows Line) (last : List Entry) → waiting_in lines ≡ map (λ x. (n, x)) shown → IsAlone lines →
+    before ++ (shown_entries s (waiting_in (all_lost lines)) ++ last) ≡ (before ++ shown_entries s (map (λ x. (n, x)) shown)) ++ (shown_entries s (waiting_in (all_lost (quieted lines))) ++ last)
+says_so s before n shown lines last waits alone =
+    ap (λ (w : List (ℕ × Shown)). before ++ (shown_entries s w ++ last)) (alone_shows lines alone ∙ ap (λ (w : List (ℕ × Shown)). w ++ waiting_in (all_lost (quieted lines))) waits)
+    ∙ shown_apart s before (map (λ x. (n, x)) shown) (waiting_in (all_lost (quieted lines))) last
+
+zero_stands : (s : Side) (p : TwoEnds) (a : State) (lines : Rows Line) (h : Held) (n : ℕ) (shown : List Shown) (now : Between) (t : Tables) →
+    Stands (turned_pair s (record { carrier = a; lines = quieted lines }) h n shown p) now t → a.ended ≡ None → waiting_in lines ≡ map (λ x. (n, x)) shown → IsAlone lines →
+    Stands (shown_pair s (lost_end Closed a lines) h p) now (after_end (side_in s) closed_here (keep_then s Closed a lines h p now) t)
+zero_stands Left p a lines h n shown now t old lasts waits alone =
+    let e : End = record { carrier = a; lines = quieted lines } in
+    let p1 = turned_pair Left e h n shown p in
+    let says = all_shown_then Left p1 now t old lasts in
+    ended_stands Left p1 now t t e h now Closed closed_here (quieted (all_lost lines)) h (waiting_in (all_lost (quieted lines)))
+    (p.journal ++ (shown_entries Left (waiting_in (all_lost lines)) ++ ends Left Closed ∷ [])) old (may_end Left p1 now t old lasts) refl (λ q. none_left q lines)
+    (record { quiet = quiet_waits (all_lost lines); says = says.says }) (says_so Left p.journal n shown lines (ends Left Closed ∷ []) waits alone)
+zero_stands Right p a lines h n shown now t old lasts waits alone =
+    let e : End = record { carrier = a; lines = quieted lines } in
+    let p1 = turned_pair Right e h n shown p in
+    let says = all_shown_then Right p1 now t old lasts in
+    ended_stands Right p1 now t t e h now Closed closed_here (quieted (all_lost lines)) h (waiting_in (all_lost (quieted lines)))
+    (p.journal ++ (shown_entries Right (waiting_in (all_lost lines)) ++ ends Right Closed ∷ [])) old (may_end Right p1 now t old lasts) refl (λ q. none_left q lines)
+    (record { quiet = quiet_waits (all_lost lines); says = says.says }) (says_so Right p.journal n shown lines (ends Right Closed ∷ []) waits alone)
+
+-- ---- the carrier
+
+given_of : (s : Side) (p : TwoEnds) (e : End) (h : Held) (n : ℕ) (shown : List Shown) (now : Between) → AreBetween by_zero (carriers_of (turned_pair s e h n shown p)) now → e.carrier.ended ≡ None → e.carrier.given ≤ 1
+given_of Left p e h n shown now a lasts = subst (λ (c : State). c.given ≤ 1) (sym (a.lives true lasts)) (one_given true _ now a)
+given_of Right p e h n shown now a lasts = subst (λ (c : State). c.given ≤ 1) (sym (a.lives false lasts)) (one_given false _ now a)
+
+closes_carrier : CarrierLaws → (s : Side) (p : TwoEnds) (e : End) (h : Held) (n : ℕ) (shown : List Shown) (now : Between) (peer : ℕ) (link : Link) → AreBetween by_zero (carriers_of (turned_pair s e h n shown p)) now →
+    e.carrier.ended ≡ None → value_at n e.carrier.live ≡ Some (linked peer link) → closed_with n 128 e.carrier ≡ carriers.ends Closed e.carrier
+closes_carrier laws Left p e h n shown now peer link a lasts at = laws.closed_in_0 true (carriers_of (turned_pair Left e h n shown p)) now n peer link 128 a lasts at
+closes_carrier laws Right p e h n shown now peer link a lasts at = laws.closed_in_0 false (carriers_of (turned_pair Right e h n shown p)) now n peer link 128 a lasts at
+
+-- ---- the tables
+
+-- the delivery ends the side
+shut_step : (s : Side) (p : TwoEnds) (t : Tables) (packet : List ℕ) (h : Held) (v : HasMoved s p t packet h) (keep : ℕ → ℕ) → known_by t v.m ≡ Some worlds.class_0 → (move_of v.m).closes ≡ true → (move_of v.m).reply ≡ None →
+    step t (delivers (side_in s) v.m.n keep) ≡ after_end (side_in s) closed_here keep (moved_tables s t v.m)
+shut_step s p t packet h v keep known closing reply =
+    let m = v.m in
+    let t0 = record t { known = known_by t m } in
+    let es = map (shown_at (side_in s) m.n) (move_of m).shown in
+    v.steps keep ∙ closing_by t0 (side_in s) m.n keep (turn_of t.broken m) closing
+    ∙ ap (λ (o : Option worlds.Class). closes_by o (noted_in es t0) (side_in s) m.n keep (turn_of t.broken m).line) known
+    ∙ ap (λ (o : Option Meaning). after_end (side_in s) closed_here keep (noted_in es (stays t0 (side_in s) m.n (line_with t.broken m o)))) reply
+    ∙ ap (λ (ms : List Message). after_end (side_in s) closed_here keep (noted_in es (stays t0 (side_in s) m.n (line_then m.row (move_of m).next ms m.rest m.seen)))) (put_nothing t.broken m.seen.own.channel)
+
+-- ---- the packet
+
+shut_shown : CarrierLaws → (s : Side) (p : TwoEnds) (t : Tables) (packet : List ℕ) (h : Held) (v : HasMoved s p t packet h) → terms_at p ≡ by_zero → known_by t v.m ≡ Some worlds.class_0 → (move_of v.m).closes ≡ true →
+    (move_of v.m).reply ≡ None → StandsShown s p t (after_packet (end_at s p).end packet) h
+shut_shown laws s p t packet h v zero known closing reply =
+    let n = v.m.n in
+    let e = moved_end s p v.unit v.m in
+    let lines = loud_lines s p v.m in
+    let shown = (move_of v.m).shown in
+    let p1 = turned_pair s e h n shown p in
+    let between : AreBetween by_zero (carriers_of p1) v.now = subst (λ (k : Terms). AreBetween k (carriers_of p1) v.now) (terms_then s p e h v.local ∙ zero) v.stands.between in
+    let order = moved_order s p t packet h v in
+    let alone = alone_by e.carrier.given lines (given_of s p e h n shown v.now between v.lasts) order.rising order.sound.known in
+    let open_now = linked_closes s p t packet h v closing (move_ends v.m.row v.row) in
+    let acts : answers n (move_of v.m) e.carrier ≡ carriers.ends Closed e.carrier =
+    ap (λ (b : Bool). answers_by b n (option_map written (move_of v.m).reply) e.carrier) closing ∙ closes_carrier laws s p e h n shown v.now open_now.peer open_now.link between v.lasts open_now.at in
+    let same : after_packet (end_at s p).end packet ≡ lost_end Closed e.carrier lines = v.does ∙ ap (λ (k : State). concludes (answered_end k lines)) acts in
+    let keep = keep_then s Closed e.carrier lines h p v.now in
+    subst (λ (x : End). StandsShown s p t x h) (sym same)
+    (record {
+      more = delivers (side_in s) n keep ∷ [];
+      are = (refl, tt);
+      now = v.now;
+      local = v.local;
+      stands = subst (λ (y : Tables). Stands (shown_pair s (lost_end Closed e.carrier lines) h p) v.now y) (sym (shut_step s p t packet h v keep known closing reply))
+          (zero_stands s p e.carrier lines h n shown v.now (moved_tables s t v.m) v.stands v.lasts v.waits alone);
+    })
+
+-- in class 0 a session closes its connection
+pub closes_zero : PacketLaws → AnswerLaws → (s : Side) (p : TwoEnds) (b : Between) (t : Tables) (packet : List ℕ) (h : Held) → Stands p b t → (end_at s p).end.carrier.ended ≡ None →
+    (pa : PacketActs (terms_at p) (is_caller s) (carriers_of p) b packet h.octets) → (v : HasMoved s p t packet h) → v.m.row ≡ pa.did.row → v.m.input ≡ heard_by v.m.row v.m.first →
+    (move_of v.m).closes ≡ true → terms_at p ≡ by_zero → StandsShown s p t (after_packet (end_at s p).end packet) h
+closes_zero laws moves s p b t packet h old alive pa v row input shut zero =
+    let x = v.m.seen.own.session in
+    let a = closes_alone moves v.m.row v.m.first x v.row (ap (λ (i : Input). (react x i).closes) (sym input) ∙ shut) in
+    shut_shown laws.two s p t packet h v zero (known_zero s p b t packet h old pa (ap before (sym row) ∙ a.used) zero v.m.seen.own.transport v.m.first) shut (ap (λ (i : Input). (react x i).reply) input ∙ a.reply)
