@@ -1,9 +1,8 @@
 -- A packet is taken by an end that lasts: however it is heard, two ends stand at what arrived.
-use Rattle.std.proofs.Common.{◌≡◌, ℕ, Bool, true, false, List, ◌++◌, None, refl, sym, ap, ◌∙◌, ◌⊎◌, inl, inr}
+use Rattle.std.proofs.Common.{◌≡◌, ℕ, Bool, true, false, List, ◌++◌, None, refl, ◌⊎◌, inl, inr}
 use Rattle.osi_tpkt.specs.Held.{Held}
 use Rattle.osi_tpkt.specs.Packet.{IsPacket}
 use Rattle.osi_carrier.specs.Between.{Between}
-use Rattle.osi_carrier.specs.Terms.{by_zero}
 use Rattle.osi_carrier.specs.declared.ends.EndReason.TheVariants.{NoMemory}
 use Rattle.osi_machine.specs.AsTables.{IsTableRun}
 use Rattle.osi_machine.specs.Machine.{Step}
@@ -17,21 +16,16 @@ use Rattle.osi_pair.proofs.StandingAnswering.{AnswerLaws, moving_packet}
 use Rattle.osi_pair.proofs.StandingArrived.{PacketActs}
 use Rattle.osi_pair.proofs.StandingFinish.{terms_at}
 use Rattle.osi_pair.proofs.StandingLeaves.{leaving_packet}
-use Rattle.osi_pair.proofs.StandingMoved.{MovingLaws, HasMoved, move_of, MovedBy, has_moved}
-use Rattle.osi_pair.proofs.StandingMoves.{heard_by, is_move}
-use Rattle.osi_pair.proofs.StandingPacket.{PacketLaws, is_heard}
+use Rattle.osi_pair.proofs.StandingMoved.{MovingLaws, has_moved}
+use Rattle.osi_pair.proofs.StandingMoves.{is_move}
+use Rattle.osi_pair.proofs.StandingPacket.{is_heard}
 use Rattle.osi_pair.proofs.StandingPackets.{PacketStands}
 use Rattle.osi_pair.proofs.StandingRows.{Row, quiet, still, begins, refuses, agrees, denies, tells, leaves, ignores, ends}
 use Rattle.osi_pair.proofs.StandingShown.{shown_pair, StandsShown}
+use Rattle.osi_pair.proofs.StandingShuts.{closes_zero}
 use Rattle.osi_pair.proofs.StandingStarved.{StarveLaws, starved_shown}
 use Rattle.osi_pair.proofs.StandingTaken.{unheard_shown, tables_at, is_run, arrivals_at, packet_at}
 use Rattle.osi_pair.proofs.StandingWant.{ended_shown}
-
--- where a connection of class 0 is closed
-pub record ClosingRows : Type 0 where
-  pub closes : (s : Side) (p : TwoEnds) (b : Between) (t : Tables) (packet : List ℕ) (h : Held) → Stands p b t → (end_at s p).end.carrier.ended ≡ None →
-      (pa : PacketActs (terms_at p) (is_caller s) (carriers_of p) b packet h.octets) → (v : HasMoved s p t packet h) → v.m.row ≡ pa.did.row → v.m.input ≡ heard_by v.m.row v.m.first →
-      (move_of v.m).closes ≡ true → terms_at p ≡ by_zero → StandsShown s p t (after_packet (end_at s p).end packet) h
 
 -- a session hears of it: it makes its move, or its connection is lost
 heard_kind : (row : Row) → is_heard row ≡ true → (is_move row ≡ true) ⊎ ((reason : ℕ) × (row ≡ leaves reason))
@@ -46,30 +40,30 @@ heard_kind (refuses reason) e = cc
 heard_kind (ignores octets) e = cc
 heard_kind (ends m) e = cc
 
-heard_shown : MovingLaws → AnswerLaws → ClosingRows → (s : Side) (p : TwoEnds) (b : Between) (t : Tables) (packet : List ℕ) (h : Held) → Stands p b t → IsTableRun t → (end_at s p).end.carrier.ended ≡ None →
+heard_shown : MovingLaws → AnswerLaws → (s : Side) (p : TwoEnds) (b : Between) (t : Tables) (packet : List ℕ) (h : Held) → Stands p b t → IsTableRun t → (end_at s p).end.carrier.ended ≡ None →
     (pa : PacketActs (terms_at p) (is_caller s) (carriers_of p) b packet h.octets) → ((is_move pa.did.row ≡ true) ⊎ ((reason : ℕ) × (pa.did.row ≡ leaves reason))) →
     StandsShown s p t (after_packet (end_at s p).end packet) h
-heard_shown laws answers rows s p b t packet h old run alive pa (inl move) =
+heard_shown laws answers s p b t packet h old run alive pa (inl move) =
     let v = has_moved laws s p b t packet h old run alive pa move in
-    moving_packet laws.packet answers s p b t packet h old alive pa v.moved v.row v.input (λ shut zero. rows.closes s p b t packet h old alive pa v.moved v.row v.input shut zero)
-heard_shown laws answers rows s p b t packet h old run alive pa (inr left) = leaving_packet laws s p b t packet h left.0 old run alive pa left.1
+    moving_packet laws.packet answers s p b t packet h old alive pa v.moved v.row v.input (λ shut zero. closes_zero laws.packet answers s p b t packet h old alive pa v.moved v.row v.input shut zero)
+heard_shown laws answers s p b t packet h old run alive pa (inr left) = leaving_packet laws s p b t packet h left.0 old run alive pa left.1
 
-shown_by : MovingLaws → AnswerLaws → ClosingRows → (s : Side) (p : TwoEnds) (b : Between) (t : Tables) (packet : List ℕ) (h : Held) → Stands p b t → IsTableRun t → (end_at s p).end.carrier.ended ≡ None →
+shown_by : MovingLaws → AnswerLaws → (s : Side) (p : TwoEnds) (b : Between) (t : Tables) (packet : List ℕ) (h : Held) → Stands p b t → IsTableRun t → (end_at s p).end.carrier.ended ≡ None →
     (pa : PacketActs (terms_at p) (is_caller s) (carriers_of p) b packet h.octets) → (heard : Bool) → is_heard pa.did.row ≡ heard → StandsShown s p t (after_packet (end_at s p).end packet) h
-shown_by laws answers rows s p b t packet h old run alive pa false e = unheard_shown laws.packet s p b t packet h old alive pa e
-shown_by laws answers rows s p b t packet h old run alive pa true e = heard_shown laws answers rows s p b t packet h old run alive pa (heard_kind pa.did.row e)
+shown_by laws answers s p b t packet h old run alive pa false e = unheard_shown laws.packet s p b t packet h old alive pa e
+shown_by laws answers s p b t packet h old run alive pa true e = heard_shown laws answers s p b t packet h old run alive pa (heard_kind pa.did.row e)
 
-pub packet_shown : MovingLaws → AnswerLaws → ClosingRows → (s : Side) (p : TwoEnds) (b : Between) (t : Tables) (packet : List ℕ) (h : Held) → Stands p b t → IsTableRun t → (end_at s p).end.carrier.ended ≡ None →
+pub packet_shown : MovingLaws → AnswerLaws → (s : Side) (p : TwoEnds) (b : Between) (t : Tables) (packet : List ℕ) (h : Held) → Stands p b t → IsTableRun t → (end_at s p).end.carrier.ended ≡ None →
     PacketActs (terms_at p) (is_caller s) (carriers_of p) b packet h.octets → StandsShown s p t (after_packet (end_at s p).end packet) h
-packet_shown laws answers rows s p b t packet h old run alive pa = shown_by laws answers rows s p b t packet h old run alive pa (is_heard pa.did.row) refl
+packet_shown laws answers s p b t packet h old run alive pa = shown_by laws answers s p b t packet h old run alive pa (is_heard pa.did.row) refl
 
 -- at a list of steps
-pub told_at : MovingLaws → AnswerLaws → ClosingRows → (p : TwoEnds) (steps : List Step) (s : Side) (packet octets : List ℕ) (h : Held) → StandsAt p steps → (end_at s p).end.carrier.ended ≡ None → IsPacket packet octets →
+pub told_at : MovingLaws → AnswerLaws → (p : TwoEnds) (steps : List Step) (s : Side) (packet octets : List ℕ) (h : Held) → StandsAt p steps → (end_at s p).end.carrier.ended ≡ None → IsPacket packet octets →
     (end_at s p).held.octets ≡ octets ++ h.octets → StandsAtArrivals s (shown_pair s (after_packet (end_at s p).end packet) h p) steps
-told_at laws answers rows p steps s packet octets h at alive is cut =
+told_at laws answers p steps s packet octets h at alive is cut =
     let pa = packet_at laws.packet s p steps packet octets h at alive is cut in
     arrivals_at s p steps (after_packet (end_at s p).end packet) h at
-    (packet_shown laws answers rows s p at.now (tables_at p steps) packet h at.stands (is_run p steps at) alive pa)
+    (packet_shown laws answers s p at.now (tables_at p steps) packet h at.stands (is_run p steps at) alive pa)
 
 -- ---- the laws of one packet
 
@@ -81,9 +75,9 @@ starved_at laws p steps s packet octets new h at alive is cut starved =
 ended_at : (p : TwoEnds) (steps : List Step) (s : Side) (h : Held) → StandsAt p steps → (end_at s p).end.carrier.ended ≡ None → StandsAtArrivals s (shown_pair s (ends_end NoMemory (end_at s p).end) h p) steps
 ended_at p steps s h at alive = arrivals_at s p steps (ends_end NoMemory (end_at s p).end) h at (ended_shown s p at.now (tables_at p steps) h at.stands alive)
 
-pub packet_stands : MovingLaws → AnswerLaws → ClosingRows → StarveLaws → PacketStands
-packet_stands laws answers rows starve = record {
-  told = λ p steps s packet octets h at alive is cut. told_at laws answers rows p steps s packet octets h at alive is cut;
+pub packet_stands : MovingLaws → AnswerLaws → StarveLaws → PacketStands
+packet_stands laws answers starve = record {
+  told = λ p steps s packet octets h at alive is cut. told_at laws answers p steps s packet octets h at alive is cut;
   starved = λ p steps s packet octets new h at alive is cut starved. starved_at starve p steps s packet octets new h at alive is cut starved;
   ended = λ p steps s h at alive. ended_at p steps s h at alive;
 }
