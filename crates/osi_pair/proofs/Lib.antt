@@ -39,6 +39,7 @@ pub mod StandingCarried
 pub mod Growing
 pub mod StandingBreak
 pub mod StandingLost
+pub mod StandingEnding
 pub mod StandingEnded
 pub mod StandingUnheard
 pub mod StandingWant

@@ -41,7 +41,8 @@ use Rattle.osi_pair.proofs.StandingAnswering.{opened_stays}
 use Rattle.osi_pair.proofs.StandingArrived.{PacketActs, packet_acts}
 use Rattle.osi_pair.proofs.StandingBreak.{still_seated}
 use Rattle.osi_pair.proofs.StandingCall.{put_nothing}
-use Rattle.osi_pair.proofs.StandingEnded.{EndingLine, lost_end, still_waiting, all_shown_then, whole_line}
+use Rattle.osi_pair.proofs.StandingEnded.{EndingLine, lost_end, all_shown_then, whole_line}
+use Rattle.osi_pair.proofs.StandingEnding.{still_waiting}
 use Rattle.osi_pair.proofs.StandingFinish.{terms_at, DidAt, TablesAfter, line_then, is_agree, order_of, known_then}
 use Rattle.osi_pair.proofs.StandingKnown.{moved_known}
 use Rattle.osi_pair.proofs.StandingLost.{ended_shows, quiet_shows, is_over}

@@ -19,7 +19,8 @@ use Rattle.osi_pair.specs.Standing.{side_in, is_caller, transport_in, class_in, 
 use Rattle.osi_pair.specs.declared.sides.Side.{Side}
 use Rattle.osi_pair.specs.declared.sides.Side.TheVariants.{Left, Right}
 use Rattle.osi_pair.proofs.StandingArrived.{PacketActs}
-use Rattle.osi_pair.proofs.StandingEnded.{IsPlaced, given_place, EndingLine, MayEnd, whole_line}
+use Rattle.osi_pair.proofs.StandingEnded.{EndingLine, MayEnd, whole_line}
+use Rattle.osi_pair.proofs.StandingEnding.{IsPlaced, given_place}
 use Rattle.osi_pair.proofs.StandingFinish.{terms_at, DidAt, TablesAfter, refs_row, given_not_new, last_is}
 use Rattle.osi_pair.proofs.StandingPacket.{PacketLaws, same_role, acts_at}
 use Rattle.osi_pair.proofs.StandingResting.{acted_end, was_at}

@@ -1,0 +1,223 @@
+-- What becomes of a connection whose end comes: its seat, its line, and what is under way from it.
+use Rattle.std.proofs.Common.{◌≡◌, refl, sym, ◌∙◌, ap, subst, ℕ, zero, suc, ◌+◌, ◌≤◌, Bool, true, false, if◌then◌else◌, ◌||◌, not, List, [], ◌∷◌, ◌++◌, length, map, take, nat_lt, Option, Some, None, is_some, arith}
+use Rattle.std.specs.List.{slice_get}
+use Rattle.std.specs.Prelude.{IfSome}
+use Rattle.std.proofs.lemmas.List.{append-nil, length-map, length-append}
+use Rattle.osi_tpdu.specs.Value.{Value}
+use Rattle.osi_carrier.specs.Addresses.{units_of}
+use Rattle.osi_carrier.specs.Between.{Between, Both, is_cut, to_come, under_way, side, last_of, units_from}
+use Rattle.osi_carrier.specs.Course.{Place, never, was_given, place_at, connection_in}
+use Rattle.osi_carrier.specs.Messages.{kind_of, messages_after, begun_at}
+use Rattle.osi_carrier.specs.Messages as between
+use Rattle.osi_carrier.specs.Progress.{Progress}
+use Rattle.osi_carrier.specs.Progress as progress
+use Rattle.osi_carrier.specs.Rows.{Rows, value_at}
+use Rattle.osi_carrier.specs.State.{Connection, asked, linked, closing, State}
+use Rattle.osi_carrier.proofs.MessageLaws.{messages_front}
+use Rattle.osi_machine.specs.Core as machine
+use Rattle.osi_machine.specs.Machine.{connection_at, is_given}
+use Rattle.osi_machine.specs.Tables.{Seat, Line, seen_from, ends_there, ended_lines}
+use Rattle.osi_machine.specs.Worlds.{Message, Transport, not_yet, waiting, gone}
+use Rattle.osi_machine.specs.Worlds as worlds
+use Rattle.osi_message.specs.InOctets.{IsInOctets}
+use Rattle.osi_message.specs.Meanings.{Meaning}
+use Rattle.osi_session.specs.Moves.{Standing, broken as broken_off, react}
+use Rattle.osi_session.specs.Sessions.{awaits}
+use Rattle.osi_stack.specs.Messages.{kept_at}
+use Rattle.osi_stack.specs.State.{Holding}
+use Rattle.osi_stack.proofs.Lifting.{both}
+use Rattle.osi_pair.specs.Standing.{AreAlike, is_parting, transport_in, message_in, IsSeated}
+use Rattle.osi_pair.specs.declared.sides.Side.{Side}
+use Rattle.osi_pair.proofs.StandingBreak.{left_over}
+use Rattle.osi_pair.proofs.StandingLost.{is_over}
+
+-- ---- a side that has ended
+
+-- what becomes of it, where it was given
+abbrev pub ended_seat : Bool → ℕ → Seat → Seat
+ended_seat true keep s = record { transport = gone; session = (react s.session broken_off).next; channel = take keep s.channel }
+ended_seat false keep s = s
+
+abbrev pub ended_line : ℕ → Line → Line
+ended_line keep l = record l { own = ended_seat (is_given l.own.transport) keep l.own }
+
+line_by : (b : Bool) (keep : ℕ) (l : Line) → is_given l.own.transport ≡ b → ends_there keep l ≡ record l { own = ended_seat b keep l.own }
+line_by true keep l e = ap (λ (b : Bool). if b then record l { own = ended_seat true keep l.own } else l) e
+line_by false keep l e = ap (λ (b : Bool). if b then record l { own = ended_seat true keep l.own } else l) e
+
+line_ends : (keep : ℕ) (l : Line) → ends_there keep l ≡ ended_line keep l
+line_ends keep l = line_by (is_given l.own.transport) keep l refl
+
+-- what is asked of a seat that is going to end, by whether its carrier has given the reference
+pub record IsPlaced (n : ℕ) (c : State) (seat : Seat) : Type 0 where
+  pub given : is_given seat.transport ≡ not (nat_lt c.given n)
+  pub awaiting : seat.transport ≡ not_yet → seat.session ≡ awaits
+  pub octets : IfSome seat.session.waiting IsInOctets
+
+given_value : (o : Option Connection) → is_given (transport_in (was_given o)) ≡ true
+given_value None = refl
+given_value (Some asked) = refl
+given_value (Some (linked peer link)) = refl
+given_value (Some (closing peer)) = refl
+
+given_by : (o : Option Connection) (never_given : Bool) → is_given (transport_in (if never_given then never else was_given o)) ≡ not never_given
+given_by o true = refl
+given_by o false = given_value o
+
+pub given_place : (n : ℕ) (c : State) → is_given (transport_in (place_at n c)) ≡ not (nat_lt c.given n)
+given_place n c = given_by (value_at n c.live) (nat_lt c.given n)
+
+pub placed_seat : (n : ℕ) (h : Holding) (seat : Seat) → IsSeated n h seat → IsPlaced n h.end.carrier seat
+placed_seat n h seat i = record { given = ap is_given i.transport ∙ given_place n h.end.carrier; awaiting = i.awaiting; octets = i.octets }
+
+ungiven : (t : Transport) → is_given t ≡ false → t ≡ not_yet
+ungiven not_yet e = refl
+ungiven waiting e = cc
+ungiven worlds.linked e = cc
+ungiven worlds.closing e = cc
+ungiven gone e = cc
+
+-- the end of a carrier leaves what was given
+pub record HasEnded (c : State) (new : Holding) : Type 0 where
+  pub given : new.end.carrier.given ≡ c.given
+  pub live : new.end.carrier.live ≡ []
+  pub none : (n : ℕ) → kept_at n new.end.lines ≡ None
+
+place_ended : (n : ℕ) (c : State) (new : Holding) (b : Bool) → HasEnded c new → nat_lt c.given n ≡ b → place_at n new.end.carrier ≡ (if b then never else was_given None)
+place_ended n c new b h e =
+    ap (λ (k : ℕ). if◌then◌else◌ {A = Place} (nat_lt k n) never (was_given (value_at n new.end.carrier.live))) h.given
+    ∙ ap (λ (rows : Rows Connection). if◌then◌else◌ {A = Place} (nat_lt c.given n) never (was_given (value_at n rows))) h.live
+    ∙ ap (λ (x : Bool). if◌then◌else◌ {A = Place} x never (was_given None)) e
+
+not_live : (n : ℕ) (live : Rows Connection) → live ≡ [] → is_some (value_at n live) ≡ true → ⊥
+not_live n live none some =
+    let no : false ≡ true = sym (ap (λ (rows : Rows Connection). is_some (value_at n rows)) none) ∙ some in
+    cc
+
+not_kept : (n : ℕ) (new : Holding) (s : Standing) → kept_at n new.end.lines ≡ None → kept_at n new.end.lines ≡ Some s → ⊥
+not_kept n new s none some = let no : None ≡ Some s = sym none ∙ some in cc
+
+pub still_waiting : (s : Standing) → (react s broken_off).next.waiting ≡ s.waiting
+unfolding react
+still_waiting s = refl
+
+pub not_of : (b : Bool) (x : Bool) → x ≡ not b → b ≡ not x
+not_of true x e = ap not (sym e)
+not_of false x e = ap not (sym e)
+
+seat_ends_by : (n : ℕ) (c : State) (new : Holding) (seat : Seat) (b : Bool) (keep : ℕ) → is_given seat.transport ≡ b → HasEnded c new → IsPlaced n c seat → IsSeated n new (ended_seat b keep seat)
+seat_ends_by n c new seat true keep e ended s = record {
+  transport = ap transport_in (sym (place_ended n c new false ended (not_of (nat_lt c.given n) true (sym e ∙ s.given))));
+  live = λ some. absurd (not_live n new.end.carrier.live ended.live some);
+  kept = λ x is. absurd (not_kept n new x (ended.none n) is);
+  over_now = λ t. is_over seat.session;
+  awaiting = λ t. cc;
+  octets = subst (λ (o : Option Meaning). IfSome o IsInOctets) (sym (still_waiting seat.session)) s.octets;
+}
+seat_ends_by n c new seat false keep e ended s =
+    let t : seat.transport ≡ not_yet = ungiven seat.transport e in
+    record {
+      transport = t ∙ ap transport_in (sym (place_ended n c new true ended (not_of (nat_lt c.given n) false (sym e ∙ s.given))));
+      live = λ some. absurd (not_live n new.end.carrier.live ended.live some);
+      kept = λ x is. absurd (not_kept n new x (ended.none n) is);
+      over_now = λ over. (let no : false ≡ true = sym (ap is_parting t) ∙ over in cc);
+      awaiting = s.awaiting;
+      octets = s.octets;
+    }
+
+pub seat_ends : (n : ℕ) (c : State) (new : Holding) (seat : Seat) (keep : ℕ) → HasEnded c new → IsPlaced n c seat → IsSeated n new (ended_seat (is_given seat.transport) keep seat)
+seat_ends n c new seat keep ended s = seat_ends_by n c new seat (is_given seat.transport) keep refl ended s
+
+-- ---- all lines
+
+ended_got : (side : machine.Side) (keep : ℕ → ℕ) (k i : ℕ) (ls : List Line) (l : Line) → slice_get ls i ≡ Some l →
+    slice_get (ended_lines side keep k ls) i ≡ Some (seen_from side (ends_there (keep (k + i)) (seen_from side l)))
+ended_got side keep k i [] l e = absurd (cc)
+ended_got side keep k zero (x ∷ ls) l e =
+    ap (λ (o : Option Line). end_some o) e ∙ ap (λ (n : ℕ). Some (seen_from side (ends_there (keep n) (seen_from side l)))) (omega arith)
+  where
+    end_some : Option Line → Option Line
+    end_some None = None
+    end_some (Some y) = Some (seen_from side (ends_there (keep k) (seen_from side y)))
+ended_got side keep k (suc i) (x ∷ ls) l e =
+    ended_got side keep (k + 1) i ls l e ∙ ap (λ (n : ℕ). Some (seen_from side (ends_there (keep n) (seen_from side l)))) (omega arith)
+
+pub ended_at_line : (side : machine.Side) (keep : ℕ → ℕ) (n : ℕ) (ls : List Line) (l : Line) → connection_at n ls ≡ Some l →
+    connection_at n (ended_lines side keep 1 ls) ≡ Some (seen_from side (ended_line (keep n) (seen_from side l)))
+ended_at_line side keep zero ls l e = absurd (cc)
+ended_at_line side keep (suc i) ls l e =
+    ended_got side keep 1 i ls l e
+    ∙ ap (λ (n : ℕ). Some (seen_from side (ends_there (keep n) (seen_from side l)))) (let same : 1 + i ≡ suc i = omega arith in same)
+    ∙ ap (λ (x : Line). Some (seen_from side x)) (line_ends (keep (suc i)) (seen_from side l))
+
+pub ended_count : (side : machine.Side) (keep : ℕ → ℕ) (k : ℕ) (ls : List Line) → length (ended_lines side keep k ls) ≡ length ls
+ended_count side keep k [] = refl
+ended_count side keep k (l ∷ ls) = ap suc (ended_count side keep (k + 1) ls)
+
+-- ---- what is under way
+
+pub record Front (all first : List between.Message) : Type 0 where
+  pub gone : List between.Message
+  pub parts : all ≡ first ++ gone
+
+-- what is still to be cut into units is lost
+front_cut : (o c : Option Connection) (n : ℕ) (units : List Value) (cut : Bool) →
+    Front (messages_after (begun_at o) (units_of n units ++ to_come cut c)) (messages_after (begun_at o) (units_of n units ++ to_come true c))
+front_cut o c n units cut =
+    let f = messages_front (units_of n units) (begun_at o) (to_come cut c) in
+    record { gone = f.0; parts = f.1 ∙ ap (λ (l : List Value). messages_after (begun_at o) l ++ f.0) (sym (append-nil (units_of n units))) }
+
+pub way_cut : (end : Bool) (n : ℕ) (old new : Both) (b : Between) → is_cut end new ≡ true → Front (under_way end n old b) (under_way end n new b)
+way_cut end n old new b cut =
+    let o = connection_in (place_at n (last_of (not end) b)) in
+    let c = connection_in (place_at n (last_of end b)) in
+    subst (λ (t : Bool). Front (under_way end n old b) (messages_after (begun_at o) (units_of n (units_from end b) ++ to_come t c))) (sym cut)
+    (front_cut o c n (units_from end b) (is_cut end old))
+
+-- nothing is still to be cut where no connection is there
+none_to_come : (s t : Bool) (c : Option Connection) → c ≡ None → to_come s c ≡ to_come t c
+none_to_come true true c e = refl
+none_to_come false false c e = refl
+none_to_come true false c e = sym (ap (λ (x : Option Connection). to_come false x) e)
+none_to_come false true c e = ap (λ (x : Option Connection). to_come false x) e
+
+pub way_none : (end : Bool) (n : ℕ) (old new : Both) (b : Between) → connection_in (place_at n (last_of end b)) ≡ None → under_way end n old b ≡ under_way end n new b
+way_none end n old new b none =
+    ap (λ (l : List Value). messages_after (begun_at (connection_in (place_at n (last_of (not end) b)))) (units_of n (units_from end b) ++ l))
+    (none_to_come (is_cut end old) (is_cut end new) (connection_in (place_at n (last_of end b))) none)
+
+pub never_given : (n : ℕ) (c : State) → nat_lt c.given n ≡ true → connection_in (place_at n c) ≡ None
+never_given n c e = ap (λ (b : Bool). connection_in (if◌then◌else◌ {A = Place} b never (was_given (value_at n c.live)))) e
+
+-- what is left of it, of whatever was put behind
+take_front : (k : ℕ) (xs ys : List Message) → k ≤ length xs → take k (xs ++ ys) ≡ take k xs
+take_front zero xs ys h = refl
+take_front (suc k) [] ys h = absurd (omega arith)
+take_front (suc k) (x ∷ xs) ys h = ap (λ (l : List Message). x ∷ l) (take_front k xs ys (omega arith))
+
+alike_length : (g : Progress) (xs ys : List between.Message) → AreAlike g xs ys → length xs ≡ length ys
+alike_length progress.not_yet xs ys h = ap length h
+alike_length progress.awaiting xs ys h = ap length h
+alike_length progress.in_use xs ys h = ap length h
+alike_length progress.shutting xs ys h = sym (length-map xs kind_of) ∙ ap length h ∙ length-map ys kind_of
+alike_length progress.gone xs ys h = sym (length-map xs kind_of) ∙ ap length h ∙ length-map ys kind_of
+
+pub way_ended : (g : Progress) (given : Bool) (seat : Seat) (kept more : List Message) (old new : List between.Message) (keep : ℕ) → keep ≡ length new → seat.channel ≡ kept ++ more → (given ≡ false → more ≡ []) →
+    Front old new → (given ≡ false → old ≡ new) → AreAlike g (map message_in kept) old → AreAlike g (map message_in (ended_seat given keep seat).channel) new
+way_ended g true seat kept more old new keep e parts none f same h =
+    let long : length kept ≡ length old = sym (length-map kept message_in) ∙ alike_length g (map message_in kept) old h in
+    let all : length old ≡ length (new ++ f.gone) = ap length f.parts in
+    let two = length-append new f.gone in
+    let cut : take keep seat.channel ≡ take (length new) kept =
+    ap (λ (k : ℕ). take k seat.channel) e ∙ ap (take (length new)) parts ∙ take_front (length new) kept more (omega arith) in
+    subst (λ (l : List Message). AreAlike g (map message_in l) new) (sym cut) (left_over g g kept old new f.gone f.parts refl h)
+way_ended g false seat kept more old new keep e parts none f same h =
+    let all : seat.channel ≡ kept = parts ∙ ap (λ (l : List Message). kept ++ l) (none refl) ∙ append-nil kept in
+    subst (λ (l : List Message). AreAlike g (map message_in l) new) (sym all) (subst (λ (l : List between.Message). AreAlike g (map message_in kept) l) (same refl) h)
+
+pub cut_by_end : (end : Bool) (both : Both) → is_some (side end both).state.ended ≡ true → is_cut end both ≡ true
+cut_by_end end both e = ap (λ b. is_some both.reach || b) e ∙ or_true (is_some both.reach)
+  where
+    or_true : (b : Bool) → (b || true) ≡ true
+    or_true true = refl
+    or_true false = refl
