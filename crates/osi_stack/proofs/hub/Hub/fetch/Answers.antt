@@ -13,7 +13,7 @@ returns-in_default c =
     record {
       fed = c.feed-fed.result;
       told = told;
-      feeds = subst (λ (x : Holding). Feeds (record { state = x.end.carrier; held = x.held }) c.args.octets.now c.feed-fed.result told) c.self.view_is c.feed-fed.ensures;
+      feeds = subst (λ (x : Holding). Feeds (record { state = x.end.carrier; held = x.held }) c.args.octets.now c.feed-fed.result told) c.self.view_is c.feed-fed.ensures.feeds;
       held = ap (λ (x : Holding). x.held) c.starve.ensures ∙ c.hear_all.ensures.held;
       heard = inr (
         subst (λ (x : Holding). RunsOut (with_carrier told.state x.end) c.starve.new.self.end) c.self.view_is
@@ -30,7 +30,7 @@ returns c =
     record {
       fed = c.feed-fed.result;
       told = told;
-      feeds = subst (λ (x : Holding). Feeds (record { state = x.end.carrier; held = x.held }) c.args.octets.now c.feed-fed.result told) c.self.view_is c.feed-fed.ensures;
+      feeds = subst (λ (x : Holding). Feeds (record { state = x.end.carrier; held = x.held }) c.args.octets.now c.feed-fed.result told) c.self.view_is c.feed-fed.ensures.feeds;
       held = ap (λ (x : Holding). x.held) c.conclude.ensures ∙ c.hear_all.ensures.held;
       heard = inl (
         subst (λ (x : Holding). c.conclude.new.self.end ≡ attends (with_carrier told.state x.end)) c.self.view_is
