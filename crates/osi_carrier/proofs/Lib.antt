@@ -9,6 +9,7 @@ pub mod Breaking
 pub mod Fetched
 pub mod Kept
 pub mod AtReferences
+pub mod Order
 pub mod Effects
 pub mod Turned
 pub mod Apart

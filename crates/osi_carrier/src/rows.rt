@@ -1,11 +1,12 @@
-ghost use Rattle.std.specs.Prelude.{◌≡◌, ◌*◌, ◌<◌, ◌≤◌, ◌∷◌, ◌++◌, ◌==◌, [], Some, length, is_some, IfOk, OnOk, OnErr};
+ghost use Rattle.std.specs.Prelude.{◌≡◌, ◌*◌, ◌<◌, ◌≤◌, ◌∷◌, ◌++◌, ◌==◌, [], Some, true, length, is_some, IfOk, IfSome, OnOk, OnErr};
 ghost use Rattle.osi_carrier.specs.Calls.{begun_by, kept_in};
 ghost use Rattle.osi_carrier.specs.Live.{connection, IsPumped};
+ghost use Rattle.osi_carrier.specs.Orderly.{RiseFrom};
 ghost use Rattle.osi_carrier.specs.Pump.{pumped, written_by};
 ghost use Rattle.osi_carrier.specs.React.{has_peer, is_of_peer};
 ghost use Rattle.osi_carrier.specs.Rows.{value_at, first_of, place_of, put, without};
 ghost use Rattle.osi_carrier.specs.Stages.{stage_of, link_in};
-ghost use Rattle.osi_carrier.specs.State.{linked, packets};
+ghost use Rattle.osi_carrier.specs.State.{Connection, linked, packets};
 ghost use Rattle.osi_carrier.specs.Steps.{StepsTo, link_after, units_after};
 ghost use Rattle.osi_class.specs.Link.{taken, with_tsdu};
 ghost use Rattle.osi_tpdu.specs.View.{value};
@@ -102,6 +103,7 @@ impl Row {
     /// Hands a unit to the link of the connection, which is open with this reference of the peer.
     fn step(&mut self, peer: u16, unit: &Tpdu<'_>, out: &mut BytesMut) -> Result<Step, AllocError>
         requires { stage_of (Some self.old.1) ≡ Stage.Open peer }
+        ensures reference { self.new.0 ≡ self.old.0 }
         ensures step { IfOk result (λ s. StepsTo s (taken (link_in (Some self.old.1)) (value unit.now))) }
         ensures row { OnOk result (self.new ≡ (self.old.0, linked peer (link_after (link_in (Some self.old.1)) (taken (link_in (Some self.old.1)) (value unit.now))))) }
         ensures ok { OnOk result (out.new.items ≡ out.old.items ++ packets (units_after peer (taken (link_in (Some self.old.1)) (value unit.now)))) }
@@ -122,6 +124,7 @@ impl Row {
     /// and writes what the link gives then. Want of memory changes nothing.
     fn send(&mut self, peer: u16, tsdu: &[u8], out: &mut BytesMut) -> Result<(), AllocError>
         requires { stage_of (Some self.old.1) ≡ Stage.Open peer }
+        ensures reference { self.new.0 ≡ self.old.0 }
         ensures row { OnOk result (self.new ≡ (self.old.0, linked peer (pumped (with_tsdu (link_in (Some self.old.1)) tsdu.now)))) }
         ensures ok { OnOk result (out.new.items ≡ out.old.items ++ packets (written_by peer (with_tsdu (link_in (Some self.old.1)) tsdu.now))) }
         ensures err { OnErr result ((self.new ≡ self.old) × (out.new.items ≡ out.old.items)) }
@@ -145,10 +148,14 @@ impl Row {
 #[derive(Drop)]
 pub struct Connections {
     rows: Vec<Row>,
+    /// Each reference is above those before it. They are looked up where they must be as long as that
+    /// is so.
+    rises: bool,
 }
 
 impl Model for Connections {
-    ghost use Rattle.std.specs.Prelude.{◌≤◌, length};
+    ghost use Rattle.std.specs.Prelude.{◌≡◌, ◌≤◌, true, length};
+    ghost use Rattle.osi_carrier.specs.Orderly.{RiseFrom};
     ghost use Rattle.osi_carrier.specs.Rows.{Rows};
     ghost use Rattle.osi_carrier.specs.State.{Connection};
 
@@ -156,13 +163,44 @@ impl Model for Connections {
 
     ghost view = { λ c. c.rows.items };
 
-    ghost invariant = { λ c. length c.rows.items ≤ 64 };
+    ghost invariant = { λ c. (length c.rows.items ≤ 64) × (c.rises ≡ true → RiseFrom 0 c.rows.items) };
+}
+
+/// The place of a reference as far behind the first one as they are apart: it stands there where the
+/// rows rise and none between the two was dropped.
+#[inline]
+fn near(rows: &[Row], reference: u16) -> Option<usize>
+    ensures { IfSome result (λ place. RiseFrom 0 rows.now → place_of reference rows.now ≡ Some place) }
+{
+    let [first, ..] = rows else {
+        return None;
+    };
+    let place = reference.wrapping_sub(first.reference()) as usize;
+    if place < rows.len() && rows[place].has(reference) {
+        return Some(place);
+    }
+    None
+}
+
+/// Whether a reference is above that of the last row, or above 0 where there is none.
+fn is_above(rows: &[Row], reference: u16) -> bool
+    ensures { (x : Connection) → result ≡ true → RiseFrom 0 rows.now → RiseFrom 0 (rows.now ++ (reference, x) ∷ []) }
+{
+    if rows.is_empty() {
+        return reference > 0;
+    }
+    rows[rows.len() - 1].reference() < reference
 }
 
 /// The place of a reference among rows.
-fn place_in(rows: &[Row], reference: u16) -> Option<usize>
+#[inline]
+fn place_in(rows: &[Row], rises: bool, reference: u16) -> Option<usize>
+    requires { rises ≡ true → RiseFrom 0 rows.now }
     ensures { result ≡ place_of reference rows.now }
 {
+    if rises && let Some(place) = near(rows, reference) {
+        return Some(place);
+    }
     rows.iter().position(|row| row.has(reference))
 }
 
@@ -193,6 +231,7 @@ impl Connections {
     {
         Connections {
             rows: Vec::new(alloc),
+            rises: true,
         }
     }
 
@@ -208,7 +247,7 @@ impl Connections {
     pub fn find(&self, reference: u16) -> Option<usize>
         ensures { result ≡ place_of reference self.now }
     {
-        place_in(self.rows.as_slice(), reference)
+        place_in(self.rows.as_slice(), self.rises, reference)
     }
 
     /// The reference that was given first of those that are live.
@@ -259,10 +298,12 @@ impl Connections {
         ensures ok { OnOk result (self.new ≡ self.old ++ (reference, connection phase) ∷ []) }
         ensures err { OnErr result (self.new ≡ self.old) }
     {
-        match self.rows.push(Row { reference, phase }) {
-            Ok(()) => Ok(()),
-            Err(_) => Err(AllocError),
-        }
+        let rises = self.rises && is_above(self.rows.as_slice(), reference);
+        let Ok(()) = self.rows.push(Row { reference, phase }) else {
+            return Err(AllocError);
+        };
+        self.rises = rises;
+        Ok(())
     }
 
     /// Hands a unit to the link of the connection at this place, which is open with this reference

@@ -5,6 +5,7 @@ use Rattle.osi_carrier.specs.Rows.{value_at}
 use Rattle.osi_carrier.specs.Stages.{stage_of, link_in}
 use Rattle.osi_carrier.specs.State.{Connection, linked, packets}
 use Rattle.osi_carrier.proofs.Places.{here_is, stepped_rows}
+use Rattle.osi_carrier.proofs.Order.{set_kept}
 use Rattle.osi_carrier.proofs.rows.Connections.send.Goals as goal
 
 pub send-requires : goal.send-requires
@@ -29,3 +30,8 @@ returns-clause-ok c =
     let here = c.index_mut.ensures.value ∙ ap (λ l. get_or l c.args.place row) c.self.view_is in
     subst (λ (o : Option Connection). OnOk c.send.result (c.send.new.out.items ≡ c.args.out.now.items ++ packets (written_by c.args.peer (with_tsdu (link_in o) c.args.tsdu.now))))
     (sym (here_is c.args.reference c.args.self.now c.args.place row c.requires.place here)) c.send.ensures.ok
+
+pub invariant_of-self : goal.invariant_of-self
+invariant_of-self c =
+    set_kept c.self.inside.rises c.self.inside.rows.items c.args.place c.index_mut.result.now c.send.new.self c.index_mut.ensures.value c.send.ensures.reference
+    c.self.invariant

@@ -2,6 +2,7 @@ use Rattle.std.proofs.Common.{ℕ, get_or, set, ap, sym, ◌∙◌}
 use Rattle.osi_carrier.specs.Live.{connection}
 use Rattle.osi_carrier.specs.State.{Connection}
 use Rattle.osi_carrier.proofs.Places.{placed}
+use Rattle.osi_carrier.proofs.Order.{set_kept}
 use Rattle.osi_carrier.proofs.rows.Connections.set.Goals as goal
 
 pub returns : goal.returns
@@ -12,3 +13,8 @@ returns c =
     let named = ap (λ (x : ℕ × Connection). x.0) here ∙ p.named in
     ap (λ x. set c.self.inside.rows.items c.args.place x) (c.set.ensures ∙ ap (λ n. (n, connection c.args.phase)) named)
     ∙ ap (λ l. set l c.args.place (c.args.reference, connection c.args.phase)) c.self.view_is ∙ sym (p.put_is (connection c.args.phase))
+
+pub invariant_of-self : goal.invariant_of-self
+invariant_of-self c =
+    set_kept c.self.inside.rises c.self.inside.rows.items c.args.place c.index_mut.result.now c.set.new.self c.index_mut.ensures.value
+    (ap (λ (x : ℕ × Connection). x.0) c.set.ensures) c.self.invariant

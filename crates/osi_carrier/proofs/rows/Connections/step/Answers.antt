@@ -6,6 +6,7 @@ use Rattle.osi_carrier.specs.State.{Connection, linked, packets}
 use Rattle.osi_carrier.specs.Steps.{StepsTo, link_after, units_after}
 use Rattle.osi_carrier.specs.Rows.{value_at}
 use Rattle.osi_carrier.proofs.Places.{here_is, stepped_rows}
+use Rattle.osi_carrier.proofs.Order.{set_kept}
 use Rattle.osi_carrier.proofs.rows.Connections.step.Goals as goal
 
 pub step-requires : goal.step-requires
@@ -37,3 +38,8 @@ returns-clause-ok c =
     let here = c.index_mut.ensures.value ∙ ap (λ l. get_or l c.args.place row) c.self.view_is in
     subst (λ (o : Option Connection). OnOk c.step.result (c.step.new.out.items ≡ c.args.out.now.items ++ packets (units_after c.args.peer (taken (link_in o) (value c.args.unit.now)))))
     (sym (here_is c.args.reference c.args.self.now c.args.place row c.requires.place here)) c.step.ensures.ok
+
+pub invariant_of-self : goal.invariant_of-self
+invariant_of-self c =
+    set_kept c.self.inside.rises c.self.inside.rows.items c.args.place c.index_mut.result.now c.step.new.self c.index_mut.ensures.value c.step.ensures.reference
+    c.self.invariant

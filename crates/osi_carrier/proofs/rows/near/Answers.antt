@@ -1,0 +1,10 @@
+use Rattle.std.proofs.Common.{◌<◌, ◌==◌, ℕ, length, get_or, ap, sym, ◌∙◌, arith}
+use Rattle.std.proofs.lemmas.Bool.{eqb-true}
+use Rattle.osi_carrier.specs.State.{Connection}
+use Rattle.osi_carrier.proofs.Order.{place_here}
+use Rattle.osi_carrier.proofs.rows.near.Goals as goal
+
+pub returns-then-has : goal.returns-then-has
+returns-then-has c = λ h.
+    place_here c.args.reference c.args.rows.now _ c.index-rows-place.result h (omega arith)
+    (ap (λ (x : ℕ × Connection). x.0) (sym c.index-rows-place.is) ∙ eqb-true c.index-rows-place.result.0 c.args.reference (sym c.has.ensures ∙ c.if-has.true))
