@@ -1,7 +1,7 @@
 -- What the cutter answered, as the carrier's look at the stream.
 use Rattle.std.proofs.Common.{◌≡◌, ℕ, ◌+◌, ◌<◌, Bool, true, false, List, [], ◌++◌, length, take, None, Ok, Err, MatchBool, refl, sym, ap, subst, ◌∙◌, inl, inr, arith}
-use Rattle.std.proofs.lemmas.List.{take_all}
-use Rattle.osi_tpkt.specs.Cutter.{TakesPiece}
+use Rattle.std.proofs.lemmas.List.{take_all, length-take-le}
+use Rattle.osi_tpkt.specs.Cutter.{TakesPiece, Passes}
 use Rattle.osi_tpkt.specs.Held.{Held, IsHolding}
 use Rattle.osi_tpkt.specs.Packet.{IsPacket, IsOnePacket, IsPartial}
 use Rattle.osi_tpkt.specs.Stream.{offset_of}
@@ -9,7 +9,7 @@ use Rattle.osi_tpkt.specs.declared.cutting.Fed.{Fed}
 use Rattle.osi_tpkt.specs.declared.faults.TpktFault.{TpktFault}
 use Rattle.osi_tpkt.specs.declared.faults.TpktFault.TheVariants.{BadVersion, BadLength, OutOfMemory}
 use Rattle.osi_carrier.specs.Fetching.{PacketActs, PartHeld, EndsOver}
-use Rattle.osi_carrier.specs.Packets.{Carrying, Acts, after_refusal}
+use Rattle.osi_carrier.specs.Packets.{Carrying, IsReading, Acts, after_refusal}
 
 -- a proper prefix of a packet is no packet
 abbrev pub Proper : Type 0
@@ -64,4 +64,29 @@ fetched_packet proper nothing old new octets fed held packet taken stands progre
       reading = record { holding = holding; partial = subst IsPartial (sym (ap (λ (h : Held). h.octets) advanced)) nothing; fault = ap (λ (h : Held). h.fault) advanced };
       offset = ap (λ (h : Held). h.offset) advanced ∙ ap (λ n. offset_of (n + length held.octets)) (ap (λ (h : Held). h.offset) gains.octets)
           ∙ ap (λ l. offset_of (old.held.offset + length l)) joined;
+    }
+
+-- ---- a packet that is passed by
+
+pub passed_reading : IsPartial [] → (old new : Held) (unit piece : List ℕ) → Passes old unit piece new → IsHolding new → IsReading new
+passed_reading nothing old new unit piece p holding = record {
+  holding = holding;
+  partial = subst IsPartial (sym (ap (λ (h : Held). h.octets) p.after ∙ p.empty)) nothing;
+  fault = ap (λ (h : Held). h.fault) p.after ∙ p.faultless;
+}
+
+pub passed_packet : IsPartial [] → (old new : Carrying) (octets packet : List ℕ) → Passes old.held packet octets new.held → IsHolding new.held →
+    Acts old.state packet new.state → PacketActs old octets (4 + length packet) new
+passed_packet nothing old new octets packet p holding acted =
+    let size = length-take-le (4 + length packet) octets p.within in
+    record {
+      packet = packet;
+      some = omega arith;
+      within = p.within;
+      whole = subst (λ l. IsPacket packet (l ++ take (4 + length packet) octets)) (sym p.empty) p.packet;
+      acted = acted;
+      held = ap (λ (h : Held). h.octets) p.after ∙ p.empty;
+      reading = passed_reading nothing old.held new.held packet octets p holding;
+      offset = ap (λ (h : Held). h.offset) p.after ∙ ap (λ n. offset_of (old.held.offset + n)) (sym size)
+          ∙ ap (λ l. offset_of (old.held.offset + length (l ++ take (4 + length packet) octets))) (sym p.empty);
     }

@@ -33,6 +33,7 @@ pub enum Step {
 
 /// Writes all units that a link gives now, to this reference of the peer. Want of memory leaves the
 /// octets of `out` as they were.
+#[inline(always)]
 pub fn pump(link: &mut AnyLink, peer: u16, out: &mut BytesMut) -> Result<(), AllocError>
     ensures link { OnOk result (any_standing link.new ≡ pumped (any_standing link.old)) }
     ensures ok { OnOk result (out.new.items ≡ out.old.items ++ packets (written_by peer (any_standing link.old))) }
@@ -48,6 +49,7 @@ pub fn pump(link: &mut AnyLink, peer: u16, out: &mut BytesMut) -> Result<(), All
 }
 
 /// The same, where want of memory may leave units behind what `out` held.
+#[inline(always)]
 fn write_all(link: &mut AnyLink, peer: u16, out: &mut BytesMut) -> Result<(), AllocError>
     ensures link { OnOk result (any_standing link.new ≡ pumped (any_standing link.old)) }
     ensures ok { OnOk result (out.new.items ≡ out.old.items ++ packets (written_by peer (any_standing link.old))) }
@@ -65,6 +67,7 @@ fn write_all(link: &mut AnyLink, peer: u16, out: &mut BytesMut) -> Result<(), Al
 
 /// Hands a unit to the link, and what the link gives then to `out`. Want of memory leaves the octets
 /// of `out` as they were.
+#[inline(always)]
 pub fn take_unit(
     link: &mut AnyLink,
     peer: u16,
@@ -89,6 +92,7 @@ pub fn take_unit(
 
 /// Hands in a TSDU at a link that gives nothing now, and writes all units that it gives then. Want of
 /// memory changes nothing: the room for the units is made first.
+#[inline(always)]
 pub fn send_on(
     link: &mut AnyLink,
     peer: u16,
@@ -109,6 +113,7 @@ pub fn send_on(
 
 /// Writes a TSDU as one unit straight from its octets, where the link gives it so and there is memory.
 /// `false` in all other cases, and then nothing has changed.
+#[inline(always)]
 fn send_whole(link: &mut AnyLink, peer: u16, tsdu: &[u8], out: &mut BytesMut) -> bool
     ensures link { result ≡ true → any_standing link.new ≡ pumped (with_tsdu (any_standing link.old) tsdu.now) }
     ensures written { result ≡ true → out.new.items ≡ out.old.items ++ packets (written_by peer (with_tsdu (any_standing link.old) tsdu.now)) }

@@ -9,7 +9,7 @@ use osi_tpdu::{DataAcknowledgement, DataClass0, DataClass2, Tpdu};
 /// The DT of class 0 of a packet (X.224 section 13.7).
 #[inline(always)]
 #[tactic(auto, using(crate::proofs::PlainUnits::plain_data0))]
-fn plain_data0(packet: &[u8]) -> Option<Tpdu<'_>>
+pub fn plain_data0(packet: &[u8]) -> Option<Tpdu<'_>>
     ensures { IfSome result (λ unit. units_of packet.now ≡ Ok (value unit ∷ [])) }
 {
     let [2, 0xF0, last, user @ ..] = packet else {
@@ -24,7 +24,7 @@ fn plain_data0(packet: &[u8]) -> Option<Tpdu<'_>>
 /// The DT of class 2 of a packet (X.224 section 13.7).
 #[inline(always)]
 #[tactic(auto, using(crate::proofs::PlainUnits::plain_data2))]
-fn plain_data2(packet: &[u8]) -> Option<Tpdu<'_>>
+pub fn plain_data2(packet: &[u8]) -> Option<Tpdu<'_>>
     ensures { IfSome result (λ unit. units_of packet.now ≡ Ok (value unit ∷ [])) }
 {
     let [4, 0xF0, high, low, last, user @ ..] = packet else {
@@ -41,7 +41,7 @@ fn plain_data2(packet: &[u8]) -> Option<Tpdu<'_>>
 /// The AK of a packet, with nothing behind it (X.224 section 13.9).
 #[inline(always)]
 #[tactic(auto, using(crate::proofs::PlainUnits::plain_ack))]
-fn plain_ack(packet: &[u8]) -> Option<Tpdu<'_>>
+pub fn plain_ack(packet: &[u8]) -> Option<Tpdu<'_>>
     ensures { IfSome result (λ unit. units_of packet.now ≡ Ok (value unit ∷ [])) }
 {
     let [4, first, high, low, last] = packet else {
@@ -55,19 +55,4 @@ fn plain_ack(packet: &[u8]) -> Option<Tpdu<'_>>
         destination: u16::from_be_bytes([*high, *low]),
         number: *last % 0x80,
     }))
-}
-
-/// The one unit of a packet that is a DT, or an AK with nothing behind it. `None` leaves open what the
-/// packet holds.
-#[inline(always)]
-pub fn plain_unit(packet: &[u8]) -> Option<Tpdu<'_>>
-    ensures { IfSome result (λ unit. units_of packet.now ≡ Ok (value unit ∷ [])) }
-{
-    if let Some(unit) = plain_data2(packet) {
-        return Some(unit);
-    }
-    if let Some(unit) = plain_ack(packet) {
-        return Some(unit);
-    }
-    plain_data0(packet)
 }

@@ -101,6 +101,7 @@ impl Row {
     }
 
     /// Hands a unit to the link of the connection, which is open with this reference of the peer.
+    #[inline(always)]
     fn step(&mut self, peer: u16, unit: &Tpdu<'_>, out: &mut BytesMut) -> Result<Step, AllocError>
         requires { stage_of (Some self.old.1) ≡ Stage.Open peer }
         ensures reference { self.new.0 ≡ self.old.0 }
@@ -308,6 +309,7 @@ impl Connections {
 
     /// Hands a unit to the link of the connection at this place, which is open with this reference
     /// of the peer. Want of memory leaves the octets of `out` as they were.
+    #[inline(always)]
     pub fn step(
         &mut self,
         place: usize,

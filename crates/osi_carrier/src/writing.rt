@@ -174,6 +174,7 @@ fn with_end(end: bool, number: u8) -> u8
 }
 
 /// Appends a DT of class 0.
+#[inline(always)]
 #[tactic(auto, using(crate::proofs::Units::one_packet_of))]
 fn put_data0(out: &mut BytesMut, end: bool, octets: &[u8]) -> Result<(), AllocError>
     requires { length octets.now ≤ 8189 }
@@ -191,6 +192,7 @@ fn put_data0(out: &mut BytesMut, end: bool, octets: &[u8]) -> Result<(), AllocEr
 }
 
 /// Appends a DT of class 2 with this number, 0 to 127, to this reference of the peer.
+#[inline(always)]
 #[tactic(auto, using(crate::proofs::Units::one_packet_of))]
 fn put_data2(
     out: &mut BytesMut,
@@ -226,6 +228,7 @@ fn put_data2(
 }
 
 /// Appends an AK with this number, 0 to 127, and credit, 0 to 15, to this reference of the peer.
+#[inline(always)]
 #[tactic(auto, using(crate::proofs::Units::one_packet_of))]
 fn put_ack(out: &mut BytesMut, peer: u16, number: u8, credit: u8) -> Result<(), AllocError>
     requires number { number < 128 }
@@ -242,6 +245,7 @@ fn put_ack(out: &mut BytesMut, peer: u16, number: u8, credit: u8) -> Result<(), 
 }
 
 /// Appends a unit that a link gave, to this reference of the peer.
+#[inline(always)]
 #[tactic(auto, using(crate::proofs::Units::given_size))]
 pub fn put_given(out: &mut BytesMut, peer: u16, unit: &Out<'_>) -> Result<(), AllocError>
     requires { FitsAUnit unit.now }

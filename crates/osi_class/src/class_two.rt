@@ -91,6 +91,7 @@ impl Link for Class2 {
         })
     }
 
+    #[inline(always)]
     fn take(&mut self, unit: &Tpdu<'_>) -> Result<(), LinkFault> {
         match unit {
             Tpdu::Dt2(data) => {
@@ -106,6 +107,7 @@ impl Link for Class2 {
         }
     }
 
+    #[inline(always)]
     fn next_out(&mut self) -> Option<Out<'_>> {
         if let Some(number) = self.receiving.next_ack() {
             return Some(Out::Ack {

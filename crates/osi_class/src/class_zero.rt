@@ -70,6 +70,7 @@ impl Link for Class0 {
         })
     }
 
+    #[inline(always)]
     fn take(&mut self, unit: &Tpdu<'_>) -> Result<(), LinkFault> {
         match unit {
             Tpdu::Dt0(data) => self.incoming.join(data.end, data.user),
@@ -77,6 +78,7 @@ impl Link for Class0 {
         }
     }
 
+    #[inline(always)]
     fn next_out(&mut self) -> Option<Out<'_>> {
         let end = self.outgoing.advance(self.limit)?;
         Some(Out::Data0 {

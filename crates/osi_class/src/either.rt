@@ -27,6 +27,7 @@ impl Link for AnyLink {
         }
     }
 
+    #[inline(always)]
     fn send_whole<'t>(&mut self, tsdu: &'t [u8]) -> Option<Out<'t>> {
         match self {
             AnyLink::Zero(link) => link.send_whole(tsdu),
@@ -34,6 +35,7 @@ impl Link for AnyLink {
         }
     }
 
+    #[inline(always)]
     fn take(&mut self, unit: &Tpdu<'_>) -> Result<(), LinkFault> {
         match self {
             AnyLink::Zero(link) => link.take(unit),
@@ -41,6 +43,7 @@ impl Link for AnyLink {
         }
     }
 
+    #[inline(always)]
     fn next_out(&mut self) -> Option<Out<'_>> {
         match self {
             AnyLink::Zero(link) => link.next_out(),
@@ -48,6 +51,7 @@ impl Link for AnyLink {
         }
     }
 
+    #[inline(always)]
     fn next_tsdu(&mut self) -> Option<Vec<u8>> {
         match self {
             AnyLink::Zero(link) => link.next_tsdu(),

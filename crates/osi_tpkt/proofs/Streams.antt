@@ -1,5 +1,5 @@
 -- A stream is packets in one way.
-use Rattle.std.proofs.Common.{◌≡◌, ℕ, zero, suc, ◌+◌, ◌-◌, ◌<◌, ◌≤◌, ◌⊎◌, inl, inr, List, [], ◌∷◌, ◌++◌, length, get_or, take, drop, refl, sym, ◌∙◌, ap, subst, arith}
+use Rattle.std.proofs.Common.{◌≡◌, ℕ, zero, suc, ◌+◌, ◌-◌, ◌<◌, ◌≤◌, ◌⊎◌, inl, inr, List, [], ◌∷◌, ◌++◌, length, get_or, take, drop, refl, sym, ◌∙◌, ap, subst, arith, Result, Err}
 use Rattle.std.proofs.lemmas.Bool.{cases_lt, cases_eq}
 use Rattle.std.proofs.lemmas.List.{append_cancel_left, length-append, length-take-le, take-append-drop, append-nil}
 use Rattle.osi_tpkt.specs.Octets.{IsOctets}
@@ -9,6 +9,9 @@ use Rattle.osi_tpkt.specs.Header.{IsFront}
 use Rattle.osi_tpkt.specs.PacketLaws.{packet_front, one_packet, stated_length-append}
 use Rattle.osi_tpkt.specs.Stream.{ArePackets, EndsAt, Cuts, offset_of, Ending}
 use Rattle.osi_tpkt.specs.Stream.Ending.{Faulty, Rest}
+use Rattle.osi_tpkt.specs.declared.cutting.Fed.{Fed}
+use Rattle.osi_tpkt.specs.declared.headers.HeaderFault.{HeaderFault}
+use Rattle.osi_tpkt.specs.declared.headers.HeaderFault.TheVariants.{Version, Length}
 use Rattle.osi_tpkt.specs.declared.faults.TpktFault.{TpktFault}
 use Rattle.osi_tpkt.specs.declared.faults.TpktFault.TheVariants.{BadVersion, BadLength, OutOfMemory}
 use Rattle.osi_tpkt.proofs.Fronts.{full_packet, short_partial, partial_front, front_version, front_length, front_part, one_fault, fault_behind}
@@ -17,7 +20,7 @@ use Rattle.osi_tpkt.proofs.Fronts.{full_packet, short_partial, partial_front, fr
 abbrev NoPacket : List ℕ → Type 0
 NoPacket r = (u b t : List ℕ) → IsPacket u b → r ≡ b ++ t → ⊥
 
-fault_no_packet : (at : ℕ) (r : List ℕ) (f : TpktFault) → IsFaultOf at r f → (u b t : List ℕ) → IsPacket u b → r ≡ b ++ t → ⊥
+pub fault_no_packet : (at : ℕ) (r : List ℕ) (f : TpktFault) → IsFaultOf at r f → (u b t : List ℕ) → IsPacket u b → r ≡ b ++ t → ⊥
 fault_no_packet at r (BadVersion o) h u b t p e =
     let f = packet_front u b p in
     let long = f.1.0 in
@@ -27,7 +30,7 @@ fault_no_packet at r (BadLength o) h u b t p e =
     front_length b t f.1.0 f.0 (subst IsBadLength e h.0)
 fault_no_packet at r OutOfMemory h u b t p e = h
 
-partial_no_packet : (r : List ℕ) → IsPartial r → (u b t : List ℕ) → IsPacket u b → r ≡ b ++ t → ⊥
+pub partial_no_packet : (r : List ℕ) → IsPartial r → (u b t : List ℕ) → IsPacket u b → r ≡ b ++ t → ⊥
 partial_no_packet r h u b t p e =
     let full = (packet_front u b p).1 in
     let long : 4 ≤ length b = full.0 in
@@ -133,3 +136,9 @@ some_cut s octets =
     let packets = some_packets (length s) s (omega arith) octets in
     let end = some_end (offset_of (0 + (length s - length packets.1))) packets.1 packets.3 in
     (packets.0, end.0, (packets.1, packets.2, end.1))
+
+-- octets that a survey refuses begin with no packet
+pub refused_no_packet : (s : List ℕ) (r : Result Fed HeaderFault) (e : HeaderFault) → r ≡ Err e → (r ≡ Err Version → IsBadVersion s) → (r ≡ Err Length → IsBadLength s) →
+    (u b t : List ℕ) → IsPacket u b → s ≡ b ++ t → ⊥
+refused_no_packet s r Version is version length u b t p same = fault_no_packet 0 s (BadVersion 0) (version is, refl) u b t p same
+refused_no_packet s r Length is version length u b t p same = fault_no_packet 0 s (BadLength 0) (length is, refl) u b t p same

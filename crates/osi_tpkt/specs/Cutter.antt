@@ -39,6 +39,14 @@ pub record Feeds (old : Held) (piece : List ℕ) (result : Result Fed TpktFault)
   pub again : (f : TpktFault) → old.fault ≡ Some f → (result ≡ Err f) × (new ≡ old)
   pub taken : old.fault ≡ None → IsPartial old.octets → TakesPiece old piece result new
 
+-- passing by the packet with this transport unit that stands whole at the front of a piece
+pub record Passes (old : Held) (unit piece : List ℕ) (new : Held) : Type 0 where
+  pub empty : old.octets ≡ []
+  pub faultless : old.fault ≡ None
+  pub within : 4 + length unit ≤ length piece
+  pub packet : IsPacket unit (take (4 + length unit) piece)
+  pub after : new ≡ record old { offset = offset_of (old.offset + (4 + length unit)) }
+
 -- dropping the packet that stands
 pub record Advances (old new : Held) : Type 0 where
   pub whole : (u : List ℕ) → IsPacket u old.octets →

@@ -56,7 +56,7 @@ impl Model for Cutter {
 
 impl Cutter {
     ghost use Rattle.osi_tpkt.specs.Held.{IsHolding, fresh};
-    ghost use Rattle.osi_tpkt.specs.Cutter.{TakesPiece, Feeds, Advances};
+    ghost use Rattle.osi_tpkt.specs.Cutter.{TakesPiece, Feeds, Passes, Advances};
     ghost use Rattle.osi_tpkt.specs.Stream.{offset_of};
 
     /// A cutter at the start of a stream. It takes no memory until it is fed.
@@ -164,6 +164,35 @@ impl Cutter {
             self.held.clear();
             self.progress = Progress::Partial;
         }
+    }
+
+    /// The transport unit of the packet that stands whole at the front of a piece, where nothing is
+    /// held and no fault was answered: it is passed by, with no copy of it, and its octets of the piece
+    /// were used, 4 more than those of the unit. `None` in all other cases: then nothing has changed,
+    /// and the piece is to be fed.
+    #[inline]
+    pub fn pass<'p>(&mut self, piece: &'p [u8]) -> Option<&'p [u8]>
+        ensures passes { IfSome result (λ u. Passes self.old u.now piece.now self.new) }
+        ensures sound { IfSome result (λ _. IsHolding self.new) }
+        ensures none { IfNone result (self.new ≡ self.old) }
+        ensures all { IfNone result (self.old.octets ≡ [] → self.old.fault ≡ None → (u b rest : List ℕ) → IsPacket u b →
+            piece.now ≢ b ++ rest) }
+    {
+        let Progress::Partial = self.progress else {
+            return None;
+        };
+        if !self.held.is_empty() {
+            return None;
+        }
+        let fed = match survey(&[], piece) {
+            Ok(fed) => fed,
+            Err(_header) => return None,
+        };
+        if !fed.whole {
+            return None;
+        }
+        self.offset = self.offset.saturating_add(fed.used as u64);
+        Some(&piece[4..fed.used])
     }
 
     /// The number of octets held: those of a packet that stands, or of the packet under way.

@@ -1,11 +1,13 @@
 //! Laws of packets and streams. Each function does nothing: its contract is the law.
 
-ghost use Rattle.std.specs.Prelude.{◌≡◌, ◌++◌, ℕ, List, []};
+ghost use Rattle.std.specs.Prelude.{◌≡◌, ◌+◌, ◌∷◌, ◌++◌, ℕ, List, [], length, true, Ok};
 ghost use Rattle.osi_tpkt.specs.Octets.{IsOctets};
 ghost use Rattle.osi_tpkt.specs.Packet.{IsPacket, IsOnePacket, IsPartial};
 ghost use Rattle.osi_tpkt.specs.Stream.{ArePackets, Cuts, Ending};
 ghost use Rattle.osi_tpkt.specs.Held.{Held, IsHolding, fresh};
 ghost use Rattle.osi_tpkt.specs.Runs.{CutterCall, CutterRun, CutterReads, CutterReadsOn};
+ghost use Rattle.osi_tpkt.specs.Runs.CutterCall.{Feed, Advance};
+ghost use Rattle.osi_tpkt.specs.Cutter.{Passes};
 
 /// No spelling of a packet begins another: where two packets stand at the front of the same
 /// octets, they are one, with one transport unit.
@@ -42,6 +44,13 @@ pub fn packets_follow_one_another()
         ArePackets (us ++ vs) (s ++ t) r }
     ensures parted { (us vs : List (List ℕ)) (s r : List ℕ) → ArePackets (us ++ vs) s r →
         (m : List ℕ) × ArePackets us s m × ArePackets vs m r }
+{}
+
+/// A packet that is passed by is one that is fed from the same piece and then dropped. So all that is
+/// said of runs of these two calls is said of runs with [`crate::Cutter::pass`] too.
+pub fn a_packet_passed_by_is_fed_and_dropped()
+    ensures { (old new : Held) (unit piece : List ℕ) → Passes old unit piece new →
+        CutterRun old (Feed piece (Ok (record { used = 4 + length unit; whole = true })) ∷ Advance ∷ []) (unit ∷ []) new }
 {}
 
 /// Whatever calls are made of a new cutter, and however the stream is cut into the pieces that it

@@ -20,9 +20,25 @@ pub enum Fetched {
 }
 
 impl Carrier {
-    /// Takes octets up to the end of the first packet that they make whole, and that packet acts.
-    /// Where the carrier ends by them, what was held of the stream is dropped.
+    /// Takes octets up to the end of the first packet that they make whole, and that packet acts: where
+    /// it lies whole in them, with no copy of it. Where the carrier ends by them, what was held of the
+    /// stream is dropped.
+    #[inline(always)]
     fn fetch(&mut self, octets: &[u8]) -> Fetched
+        requires { stops self.old.state ≡ false }
+        ensures { Fetches self.old octets.now result self.new }
+    {
+        a_prefix_of_a_packet();
+        let Some(packet) = self.cutter.pass(octets) else {
+            return self.gather(octets);
+        };
+        self.switch.take_packet(packet);
+        Fetched::Packet(4 + packet.len())
+    }
+
+    /// The same, where octets are held or the packet goes on behind these.
+    #[inline(never)]
+    fn gather(&mut self, octets: &[u8]) -> Fetched
         requires { stops self.old.state ≡ false }
         ensures { Fetches self.old octets.now result self.new }
     {

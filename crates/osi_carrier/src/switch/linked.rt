@@ -25,6 +25,7 @@ const PROTOCOL_ERROR: u8 = 133;
 
 impl Switch {
     /// A unit for an open connection: a DR closes it, and all else is for its link.
+    #[inline(always)]
     pub fn to_linked(
         &mut self,
         place: usize,
@@ -50,6 +51,7 @@ impl Switch {
     }
 
     /// The link takes the unit or refuses it.
+    #[inline(always)]
     fn take(
         &mut self,
         place: usize,

@@ -7,17 +7,24 @@ ghost use Rattle.osi_carrier.specs.Packets.{Act, Acts, after_refusal};
 
 use super::Switch;
 use crate::ends::{CarrierFault, EndReason};
-use crate::plain::plain_unit;
+use crate::plain::{plain_ack, plain_data0, plain_data2};
 use osi_tpdu::{Tpdu, Units, read_units};
 use osi_tpkt::TpktFault;
 
 impl Switch {
     /// A packet with this transport unit: its units act in their order, or with a bad one none does.
+    #[inline(always)]
     pub fn take_packet(&mut self, packet: &[u8])
         requires { self.old.ended ≡ None }
         ensures { Acts self.old packet.now self.new }
     {
-        match plain_unit(packet) {
+        if let Some(unit) = plain_data2(packet) {
+            return self.take_one(&unit);
+        }
+        if let Some(unit) = plain_ack(packet) {
+            return self.take_one(&unit);
+        }
+        match plain_data0(packet) {
             Some(unit) => self.take_one(&unit),
             None => self.take_any(packet),
         }
@@ -35,6 +42,7 @@ impl Switch {
     }
 
     /// The only unit of a packet.
+    #[inline(always)]
     #[tactic(auto, using(crate::proofs::Reacts::one_acts, crate::proofs::Reacts::one_starved))]
     fn take_one(&mut self, unit: &Tpdu<'_>)
         requires { self.old.ended ≡ None }

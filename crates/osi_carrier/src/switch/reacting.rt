@@ -80,6 +80,7 @@ impl Switch {
     }
 
     /// A unit for a reference.
+    #[inline(always)]
     fn to_reference(&mut self, reference: u16, unit: &Tpdu<'_>) -> Result<(), AllocError>
         ensures ok { OnOk result (self.new ≡ to_reference reference (value unit.now) self.old) }
         ensures err { OnErr result (ends NoMemory self.new ≡ ends NoMemory self.old) }
@@ -147,6 +148,7 @@ impl Switch {
     }
 
     /// A unit in class 0, for the one connection.
+    #[inline(always)]
     fn in_zero(&mut self, unit: &Tpdu<'_>) -> Result<(), AllocError>
         ensures ok { OnOk result (self.new ≡ in_zero self.old.is_caller (value unit.now) self.old) }
         ensures err { OnErr result (ends NoMemory self.new ≡ ends NoMemory self.old) }
@@ -161,6 +163,7 @@ impl Switch {
     }
 
     /// A unit for the one connection, whatever its reference.
+    #[inline(always)]
     fn to_only(&mut self, unit: &Tpdu<'_>) -> Result<(), AllocError>
         ensures ok { OnOk result (self.new ≡ to_only self.old.live (value unit.now) self.old) }
         ensures err { OnErr result (ends NoMemory self.new ≡ ends NoMemory self.old) }
@@ -172,6 +175,7 @@ impl Switch {
     }
 
     /// A unit in class 2, by its reference.
+    #[inline(always)]
     fn in_two(&mut self, unit: &Tpdu<'_>) -> Result<(), AllocError>
         ensures ok { OnOk result (self.new ≡ in_two self.old.is_caller (value unit.now) self.old) }
         ensures err { OnErr result (ends NoMemory self.new ≡ ends NoMemory self.old) }
@@ -204,6 +208,7 @@ impl Switch {
     }
 
     /// A unit that comes before the carrier has ended.
+    #[inline(always)]
     pub fn react(&mut self, unit: &Tpdu<'_>) -> Result<(), AllocError>
         ensures ok { OnOk result (self.new ≡ in_class self.old.class (value unit.now) self.old) }
         ensures err { OnErr result (ends NoMemory self.new ≡ ends NoMemory self.old) }

@@ -1,0 +1,25 @@
+use Rattle.std.proofs.Common.{subst, ap}
+use Rattle.osi_tpkt.specs.Held.{Held}
+use Rattle.osi_carrier.specs.Fetching.{EndsOver, PacketActs}
+use Rattle.osi_carrier.specs.Packets.{Carrying}
+use Rattle.osi_carrier.specs.contracts.carrier.Carrier.{the_view}
+use Rattle.osi_carrier.proofs.Fetched.{ended_over, fetched_packet}
+use Rattle.osi_carrier.proofs.carrier.Carrier.gather.Goals as goal
+
+pub returns-in-Err : goal.returns-in-Err
+returns-in-Err c =
+    let new = the_view (record c.self.inside { switch = c.end_for.new.self; cutter = c.new.result }) in
+    subst (λ (x : Carrying). EndsOver x c.args.octets.now new) c.self.view_is
+    (ended_over (the_view c.self.inside) new c.args.octets.now c.in-Err.fault c.feed.new.self
+    (c.in-Err.ensures.taken c.self.invariant.fault c.self.invariant.partial) c.end_for.ensures (ap (λ (h : Held). h.octets) c.new.ensures.value))
+
+pub returns : goal.returns
+returns c =
+    let new = the_view (record c.self.inside { switch = c.take_packet.new.self; cutter = c.advance.new.self }) in
+    let laws = c.a_prefix_of_a_packet.ensures in
+    let stands = c.in-Some.ensures.some in
+    subst (λ (x : Carrying). PacketActs x c.args.octets.now c.in-Ok.fed.used new) c.self.view_is
+    (fetched_packet laws.proper laws.nothing (the_view c.self.inside) new c.args.octets.now c.in-Ok.fed c.feed.new.self c.in-Some.packet.now
+    (c.in-Ok.ensures.taken c.self.invariant.fault c.self.invariant.partial) stands
+    (c.in-Ok.ensures.progress c.self.invariant.fault c.self.invariant.partial) c.take_packet.ensures
+    (c.advance.ensures.whole c.in-Some.packet.now stands) c.advance.ensures.sound)
