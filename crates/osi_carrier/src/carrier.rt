@@ -32,7 +32,7 @@ impl Model for Carrier {
 }
 
 impl Carrier {
-    ghost use Rattle.std.specs.Prelude.{◌≡◌, ◌+◌, ◌*◌, ◌≤◌, true, false, None, length, drop, IfOk, IfErr, OnOk, OnErr, MatchResult, option_map, is_some};
+    ghost use Rattle.std.specs.Prelude.{◌≡◌, ◌+◌, ◌*◌, ◌≤◌, true, false, None, [], length, drop, IfOk, IfErr, OnOk, OnErr, MatchResult, option_map, is_some};
     ghost use Rattle.osi_tpkt.specs.Held.{fresh};
     ghost use Rattle.osi_tpdu.specs.Limits.{tsap_octets};
     ghost use Rattle.osi_carrier.specs.Calls.{fresh_state, may_connect, open_error, asks, open_link, close_error, send_error, call_error, closed_with, sent, ended_by, kept_in, Tells};
@@ -115,8 +115,15 @@ impl Carrier {
     /// piece is used after the end, and where the carrier ends now by a fault or for want of memory.
     #[tactic(auto, using(crate::proofs::Reading::goes_on))]
     pub fn feed(&mut self, piece: &[u8]) -> Fed
-        ensures { Feeds self.old piece.now result self.new }
+        ensures feeds { Feeds self.old piece.now result self.new }
+        ensures empty { piece.now ≡ [] → (result.used ≡ 0) × (self.new ≡ self.old) }
     {
+        if piece.is_empty() {
+            return Fed {
+                used: 0,
+                whole: self.switch.has_event(),
+            };
+        }
         if self.switch.has_ended() {
             return Fed {
                 used: piece.len(),
