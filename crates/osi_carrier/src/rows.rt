@@ -193,16 +193,41 @@ fn is_above(rows: &[Row], reference: u16) -> bool
     rows[rows.len() - 1].reference() < reference
 }
 
+/// The place of a reference among rows that rise, looked for by halves.
+fn halve(rows: &[Row], reference: u16) -> Option<usize>
+    requires { RiseFrom 0 rows.now }
+    ensures { result ≡ place_of reference rows.now }
+{
+    let mut low = 0;
+    let mut high = rows.len();
+    'halves: while low < high {
+        let middle = low + (high - low) / 2;
+        let found = rows[middle].reference();
+        if found == reference {
+            return Some(middle);
+        }
+        if found < reference {
+            low = middle + 1;
+            continue;
+        }
+        high = middle;
+    }
+    None
+}
+
 /// The place of a reference among rows.
 #[inline]
 fn place_in(rows: &[Row], rises: bool, reference: u16) -> Option<usize>
     requires { rises ≡ true → RiseFrom 0 rows.now }
     ensures { result ≡ place_of reference rows.now }
 {
-    if rises && let Some(place) = near(rows, reference) {
-        return Some(place);
+    if !rises {
+        return rows.iter().position(|row| row.has(reference));
     }
-    rows.iter().position(|row| row.has(reference))
+    match near(rows, reference) {
+        Some(place) => Some(place),
+        None => halve(rows, reference),
+    }
 }
 
 /// Whether one of the rows has this reference of the peer.

@@ -75,6 +75,7 @@ impl Switch {
     }
 
     /// Ends with all connections.
+    #[inline(never)]
     pub fn end(&mut self, reason: EndReason)
         ensures { self.new ≡ ends reason self.old }
     {

@@ -80,6 +80,7 @@ impl Switch {
     }
 
     /// The peer broke a rule of the link: in class 2 that ends the connection, in class 0 the carrier.
+    #[inline(never)]
     fn break_off(
         &mut self,
         place: usize,
@@ -105,6 +106,7 @@ impl Switch {
     }
 
     /// The peer closes the connection: in class 2 a DC answers, in class 0 the carrier ends.
+    #[inline(never)]
     fn leave(
         &mut self,
         place: usize,

@@ -22,6 +22,7 @@ use std::alloc::AllocError;
 
 impl Switch {
     /// A unit for a connection that awaits its CC.
+    #[inline(always)]
     fn to_asked(&mut self, place: usize, reference: u16, unit: &Tpdu<'_>) -> Result<(), AllocError>
         requires { place_of reference self.old.live ≡ Some place }
         ensures ok { OnOk result (self.new ≡ to_asked reference (value unit.now) self.old) }
@@ -100,6 +101,7 @@ impl Switch {
     }
 
     /// A unit before the class is known.
+    #[inline(always)]
     fn before_class(&mut self, unit: &Tpdu<'_>) -> Result<(), AllocError>
         ensures ok { OnOk result (self.new ≡ before_class self.old.is_caller (value unit.now) self.old) }
         ensures err { OnErr result (ends NoMemory self.new ≡ ends NoMemory self.old) }
@@ -112,6 +114,7 @@ impl Switch {
     }
 
     /// A unit at the calling end before the class is known: an answer to its CR.
+    #[inline(always)]
     fn answered(&mut self, unit: &Tpdu<'_>) -> Result<(), AllocError>
         ensures ok { OnOk result (self.new ≡ before_class true (value unit.now) self.old) }
         ensures err { OnErr result (ends NoMemory self.new ≡ ends NoMemory self.old) }
@@ -128,6 +131,7 @@ impl Switch {
     }
 
     /// A unit at the called end before the class is known: a CR.
+    #[inline(always)]
     fn asked(&mut self, unit: &Tpdu<'_>) -> Result<(), AllocError>
         ensures ok { OnOk result (self.new ≡ before_class false (value unit.now) self.old) }
         ensures err { OnErr result (ends NoMemory self.new ≡ ends NoMemory self.old) }
@@ -196,6 +200,7 @@ impl Switch {
     }
 
     /// A CR in class 2.
+    #[inline(always)]
     fn asked_in_two(&mut self, cr: &ConnectRequest<'_>) -> Result<(), AllocError>
         ensures ok { OnOk result (self.new ≡ in_two self.old.is_caller (request (request_content cr.now)) self.old) }
         ensures err { OnErr result (ends NoMemory self.new ≡ ends NoMemory self.old) }
