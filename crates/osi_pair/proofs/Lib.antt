@@ -56,3 +56,4 @@ pub mod StandingPromises
 pub mod StandingRefusal
 pub mod StandingConnect
 pub mod StandingEvent
+pub mod Reaching

@@ -13,9 +13,11 @@ use Rattle.osi_stack.specs.declared.connecting.Connect.{Connect as Wanted}
 use Rattle.osi_pair.specs.Advancing.{CanHappen, StandsAfter}
 use Rattle.osi_pair.specs.Asked.{asked_of, CanBeAsked}
 use Rattle.osi_pair.specs.Asked as here
+use Rattle.osi_pair.specs.Carrying.{CarriesFrom}
 use Rattle.osi_pair.specs.Ends.{TwoEnds, end_at, after_connect, after_call, after_break}
 use Rattle.osi_pair.specs.Events.{TellsBreak, misfit, misfit_break, misfit_told, Does}
-use Rattle.osi_pair.specs.Standing.{side_in, offer_in, StandsAt, StandsAtBreak, StandsAtTold}
+use Rattle.osi_pair.specs.Sides.{other}
+use Rattle.osi_pair.specs.Standing.{side_in, offer_in, StandsAt, StandsAtArrivals, StandsAtBreak, StandsAtTold}
 use Rattle.osi_pair.specs.declared.events.Event.{Event}
 use Rattle.osi_pair.specs.declared.events.Event.TheVariants.{Connect, Call, Carry, Break, Told}
 use Rattle.osi_pair.specs.declared.faults.PairError.{PairError}
@@ -49,6 +51,8 @@ pub record EventLaws : Type 0 where
   pub connects : (p : TwoEnds) (steps : List Step) (c : Wanted) → CanBeAsked c → StandsAt p steps → StandsAt (after_connect c p) (steps ++ connects (offer_in (asked_of c)) ∷ [])
   pub calls : (p : TwoEnds) (steps : List Step) (side : Side) (r : ℕ) (c : Asked) → HasSerial c → IsOctets (octets_of c) → StandsAt p steps →
       StandsAt (after_call side r c p) (steps ++ calls (side_in side) r c ∷ [])
+  pub carries : (side : Side) (most : ℕ) (old new : TwoEnds) (octets : ℕ) (steps : List Step) → StandsAt old steps → CarriesFrom side most old octets new →
+      StandsAtArrivals (other side) new steps
   pub broken : (p : TwoEnds) (steps : List Step) (k l : ℕ) → StandsAt p steps → p.reach ≡ None → StandsAtBreak (after_break k l p) steps
   pub tells : (side : Side) (old new : TwoEnds) (steps : List Step) → StandsAt old steps → is_some old.reach ≡ true → TellsBreak side old new →
       StandsAtTold (end_at side old).end.carrier.ended side new steps
@@ -68,7 +72,7 @@ event_stands laws (Connect asked) old new octets steps can fits does s =
 event_stands laws (Call side reference request) old new octets steps can fits does s =
     subst (λ (p : TwoEnds). StandsAt p (steps ++ calls (side_in side) reference.0 (called_by request) ∷ [])) (sym does.0)
     (laws.calls old steps side reference.0 (called_by request) can.0 can.1 s)
-event_stands laws (Carry side most) old new octets steps can fits does s = tt
+event_stands laws (Carry side most) old new octets steps can fits does s = laws.carries side most old new octets steps s does
 event_stands laws (Break left right) old new octets steps can fits does s =
     subst (λ (p : TwoEnds). StandsAtBreak p steps) (sym does.0) (laws.broken old steps left right s (unbroken old.reach fits))
 event_stands laws (Told side) old new octets steps can fits does s = laws.tells side old new steps s (is_broken old.reach fits) does.0

@@ -6,7 +6,8 @@ use Rattle.osi_session.specs.Allowed.{octets_of}
 use Rattle.osi_session.specs.Calls.{HasSerial, called_by}
 use Rattle.osi_pair.specs.Asked.{asked_of, CanBeAsked}
 use Rattle.osi_pair.specs.Ends.{TwoEnds, end_at}
-use Rattle.osi_pair.specs.Standing.{side_in, offer_in, StandsAt, StandsAtBreak, StandsAtTold}
+use Rattle.osi_pair.specs.Sides.{other}
+use Rattle.osi_pair.specs.Standing.{side_in, offer_in, StandsAt, StandsAtArrivals, StandsAtBreak, StandsAtTold}
 use Rattle.osi_pair.specs.declared.events.Event.{Event}
 use Rattle.osi_pair.specs.declared.events.Event.TheVariants.{Connect, Call, Carry, Break, Told}
 
@@ -16,11 +17,11 @@ CanHappen (Connect asked) = CanBeAsked asked
 CanHappen (Call side reference request) = HasSerial (called_by request) × IsOctets (octets_of (called_by request))
 CanHappen event = Unit {0}
 
--- where the old ones stood at these steps, the new ones stand at these and those of the event; of octets that
--- are carried nothing is said here
+-- Where the old ones stood at these steps, the new ones stand at these and those of the event: of octets that are
+-- carried, the deliveries of what arrives with them at the other side, and perhaps its end for want of memory.
 abbrev pub StandsAfter : Event → TwoEnds → TwoEnds → List Step → Type 0
 StandsAfter (Connect asked) old new steps = StandsAt new (steps ++ connects (offer_in (asked_of asked)) ∷ [])
 StandsAfter (Call side reference request) old new steps = StandsAt new (steps ++ calls (side_in side) reference.0 (called_by request) ∷ [])
-StandsAfter (Carry side most) old new steps = Unit {0}
+StandsAfter (Carry side most) old new steps = StandsAtArrivals (other side) new steps
 StandsAfter (Break left right) old new steps = StandsAtBreak new steps
 StandsAfter (Told side) old new steps = StandsAtTold (end_at side old).end.carrier.ended side new steps

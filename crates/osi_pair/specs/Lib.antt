@@ -10,4 +10,5 @@ pub mod Running
 pub mod Memory
 pub mod Standing
 pub mod Promises
+pub mod Reached
 pub mod Advancing

@@ -99,3 +99,16 @@ ending_of (Some why) = ending_in why
 -- a user is shown a loss only where his end was told of the break or had no memory
 abbrev pub LoseAsTheyEnd : TwoEnds → Type 0
 LoseAsTheyEnd p = (side : Side) → list_any (is_loss (side_in side)) (journal_in p.journal) ≡ true → loses (ending_of (end_at side p).end.carrier.ended) ≡ true
+
+-- ---- all of it
+
+pub record IsSafe (p : TwoEnds) : Type 0 where
+  pub legal_journal : IsLegalJournal p
+  pub asked : AllWereAskedFor p
+  pub one_holder : HaveOneHolder p
+  pub agreement : OfEachConnection AgreeUnlessDuplex p
+  pub duplex : OfEachConnection IsShownAsAsked p
+  pub confirmed_is_seen : OfEachConnection (ConfirmedIsSeen p) p
+  pub no_fault : OfEachConnection ShowNoFault p
+  pub ends : EndsForFewReasons p
+  pub losses : LoseAsTheyEnd p

@@ -3,8 +3,9 @@ use crate::entries::Entry;
 use crate::events::{Applied, Event};
 use crate::faults::{PairError, RunError};
 use crate::octets::can_happen;
+use crate::promises::what_two_ends_tell;
 use crate::sides::Side;
-use crate::standing::{how_two_ends_are_called, how_two_ends_stand};
+use crate::standing::{how_two_ends_are_called, how_two_ends_carry, how_two_ends_stand};
 use osi_class::Local;
 use osi_stack::Stack;
 use std::alloc::Global;
@@ -23,8 +24,11 @@ impl Model for Pair {
     ghost Value = { TwoEnds };
 
     ghost use Rattle.osi_pair.specs.Memory.{ends_in};
+    ghost use Rattle.osi_pair.specs.Reached.{IsReached};
 
     ghost view = { λ p. ends_in p.ends };
+
+    ghost invariant = { λ p. IsReached (ends_in p.ends) };
 }
 
 impl Pair {
@@ -34,6 +38,8 @@ impl Pair {
     ghost use Rattle.osi_pair.specs.Ends.{fresh_ends, end_at};
     ghost use Rattle.osi_pair.specs.Entries.{entry_by};
     ghost use Rattle.osi_pair.specs.Events.{misfit, error_by_rule, Does, DoAll, CarriesAsMuch, Adds};
+    ghost use Rattle.osi_pair.specs.Promises.{AgreeUnlessDuplex, AllWereAskedFor, ConfirmedIsSeen, EndsForFewReasons, HaveOneHolder, IsLegalJournal, IsSafe, IsShownAsAsked, LoseAsTheyEnd, OfEachConnection, ShowNoFault};
+    ghost use Rattle.osi_pair.specs.Reached.{IsReached};
     ghost use Rattle.osi_pair.specs.Running.{StopsAt};
     ghost use Rattle.osi_pair.specs.Standing.{StandsAt};
 
@@ -41,11 +47,22 @@ impl Pair {
     pub fn new(alloc: Global, left: Local, right: Local) -> Self
         ensures value { result ≡ fresh_ends left right }
         ensures stands { StandsAt result [] }
+        ensures safe { IsSafe result }
     {
         how_two_ends_stand();
+        what_two_ends_tell();
         Pair {
             ends: Ends::new(alloc, left, right),
         }
+    }
+
+    /// What is true of two ends between any two calls. The function does nothing.
+    fn is_safe(&self)
+        ensures reached { IsReached self.now }
+        ensures safe { IsSafe self.now }
+    {
+        what_two_ends_tell();
+        let _ends = &self.ends;
     }
 
     /// Applies an event. An error changes nothing.
@@ -57,7 +74,11 @@ impl Pair {
     /// leaves, and an [`Event::Told`] ends an end that has not ended.
     ///
     /// For each list of steps of the machine at which the two ends stood, they stand at that list
-    /// followed by the steps of this event; of a carry nothing of the kind is said.
+    /// followed by the steps of this event: of a carry the deliveries of what arrived, and the end of
+    /// the other side where it found no memory. So whatever happens to two ends, their journal is one
+    /// of the machine, and what [`IsSafe`] says is true of them.
+    ///
+    /// [`IsSafe`]: ../specs/Promises.antt
     #[tactic(auto, using(crate::proofs::Growing::does_add))]
     pub fn apply(&mut self, event: &Event) -> Result<Applied, PairError>
         ensures does { IfOk result (λ applied. Does event.now self.old applied.carried self.new) }
@@ -67,10 +88,13 @@ impl Pair {
         ensures err { OnErr result (self.new ≡ self.old) }
         ensures journal { OnOk result (Adds self.old.journal self.new.journal) }
         ensures stands { OnOk result ((steps : List Step) → StandsAt self.old steps → StandsAfter event.now self.old self.new steps) }
+        ensures safe { IsSafe self.new }
     {
         can_happen(event);
         how_two_ends_stand();
         how_two_ends_are_called();
+        how_two_ends_carry();
+        what_two_ends_tell();
         let carried = self.ends.apply(event)?;
         Ok(Applied { carried })
     }
@@ -79,26 +103,40 @@ impl Pair {
     pub fn run(&mut self, events: &[Event]) -> Result<(), RunError>
         ensures all { OnOk result (DoAll events.now self.old self.new) }
         ensures stops { IfErr result (λ error. StopsAt events.now self.old error self.new) }
+        ensures safe { IsSafe self.new }
     {
         'events: for (place, event) in events.iter().enumerate() {
             if let Err(error) = self.apply(event) {
                 return Err(RunError { place, error });
             }
         }
+        self.is_safe();
         Ok(())
     }
 
     /// What the users asked for, what they were answered and what they were shown, the oldest first.
     pub fn journal(&self) -> &[Entry]
-        ensures { map entry_by result.now ≡ self.now.journal }
+        ensures value { map entry_by result.now ≡ self.now.journal }
+        ensures legal_journal { IsLegalJournal self.now }
+        ensures asked { AllWereAskedFor self.now }
+        ensures agreement { OfEachConnection AgreeUnlessDuplex self.now }
+        ensures duplex { OfEachConnection IsShownAsAsked self.now }
+        ensures no_fault { OfEachConnection ShowNoFault self.now }
+        ensures losses { LoseAsTheyEnd self.now }
     {
+        self.is_safe();
         self.ends.journal.as_slice()
     }
 
     /// The end of a side.
     pub fn stack(&self, side: Side) -> &Stack
-        ensures { result.now ≡ end_at side self.now }
+        ensures value { result.now ≡ end_at side self.now }
+        ensures reached { IsReached self.now }
+        ensures one_holder { HaveOneHolder self.now }
+        ensures confirmed_is_seen { OfEachConnection (ConfirmedIsSeen self.now) self.now }
+        ensures ends { EndsForFewReasons self.now }
     {
+        self.is_safe();
         match side {
             Side::Left => &self.ends.left,
             Side::Right => &self.ends.right,

@@ -3,7 +3,8 @@
 ghost use Rattle.std.specs.Prelude.{List};
 ghost use Rattle.osi_machine.specs.Machine.{Step};
 ghost use Rattle.osi_pair.specs.Ends.{TwoEnds};
-ghost use Rattle.osi_pair.specs.Promises.{AgreeUnlessDuplex, AllWereAskedFor, ConfirmedIsSeen, EndsForFewReasons, HaveOneHolder, IsLegalJournal, IsShownAsAsked, LoseAsTheyEnd, OfEachConnection, ShowNoFault};
+ghost use Rattle.osi_pair.specs.Promises.{AgreeUnlessDuplex, AllWereAskedFor, ConfirmedIsSeen, EndsForFewReasons, HaveOneHolder, IsLegalJournal, IsSafe, IsShownAsAsked, LoseAsTheyEnd, OfEachConnection, ShowNoFault};
+ghost use Rattle.osi_pair.specs.Reached.{IsReached};
 ghost use Rattle.osi_pair.specs.Standing.{StandsAt};
 
 use osi_machine::laws::{the_tables_are_the_machine, what_two_tables_tell};
@@ -27,6 +28,7 @@ pub fn what_two_ends_tell()
     ensures no_fault { (p : TwoEnds) (steps : List Step) → StandsAt p steps → OfEachConnection ShowNoFault p }
     ensures ends { (p : TwoEnds) (steps : List Step) → StandsAt p steps → EndsForFewReasons p }
     ensures lost { (p : TwoEnds) (steps : List Step) → StandsAt p steps → LoseAsTheyEnd p }
+    ensures all { (p : TwoEnds) → IsReached p → IsSafe p }
 {
     the_tables_are_the_machine();
     what_two_tables_tell();

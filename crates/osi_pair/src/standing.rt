@@ -9,15 +9,26 @@ ghost use Rattle.osi_session.specs.Calls.{Call, HasSerial};
 ghost use Rattle.osi_machine.specs.Machine.{Step, connects, calls};
 ghost use Rattle.osi_stack.specs.declared.connecting.Connect.{Connect};
 ghost use Rattle.osi_pair.specs.Asked.{asked_of, CanBeAsked};
+ghost use Rattle.osi_pair.specs.Carrying.{CarriesFrom};
 ghost use Rattle.osi_pair.specs.Ends.{TwoEnds, end_at, fresh_ends, after_connect, after_call, after_break};
 ghost use Rattle.osi_pair.specs.Events.{TellsBreak};
-ghost use Rattle.osi_pair.specs.Standing.{side_in, offer_in, StandsAt, StandsAtBreak, StandsAtTold};
+ghost use Rattle.osi_pair.specs.Sides.{other};
+ghost use Rattle.osi_pair.specs.Standing.{side_in, offer_in, StandsAt, StandsAtArrivals, StandsAtBreak, StandsAtTold};
 ghost use Rattle.osi_pair.specs.declared.sides.Side.{Side};
 
-use osi_carrier::two_carriers::{what_two_carriers_have, whatever_becomes_of_two_carriers};
-use osi_machine::laws::{what_is_under_way_can_be_sent, what_stands_at_a_reference};
-use osi_message::laws::what_is_sent_is_octets;
-use osi_session::laws::{what_an_accepted_call_passed, what_is_sent_can_be_sent};
+use osi_carrier::two_carriers::{
+    what_an_end_holds, what_two_carriers_have, whatever_becomes_of_two_carriers,
+};
+use osi_machine::laws::{
+    what_is_under_way_can_be_sent, what_stands_at_a_reference, what_two_tables_tell,
+};
+use osi_message::laws::{what_is_sent_is_octets, what_is_sent_is_read};
+use osi_session::laws::{
+    an_empty_token_item_changes_nothing, numbers_stay_in_order, what_an_accepted_call_passed,
+    what_becomes_of_a_unit, what_closes_sends_nothing, what_happens_has_numbers,
+    what_is_sent_can_be_sent, what_two_units_do,
+};
+use osi_spdu::laws::{few_octets_fit, serial_digits};
 use osi_stack::laws::{
     a_call_is_answered_by_its_session, a_session_is_what_its_inputs_made_it,
     a_session_that_is_called_has_a_connection, all_that_is_told_is_heard, lines_rise_by_reference,
@@ -59,4 +70,32 @@ pub fn how_two_ends_are_called()
     what_is_under_way_can_be_sent();
     what_stands_at_a_reference();
     what_two_carriers_have();
+}
+
+/// Where two ends stand at a list of steps, and octets of a side are carried, however many and wherever they are
+/// cut, they stand at that list followed by deliveries to the other side: one for each message that arrives, and none
+/// for a part of one. Where that side finds no memory its end follows.
+pub fn how_two_ends_carry()
+    ensures carries { (side : Side) (most : ℕ) (old new : TwoEnds) (octets : ℕ) (steps : List Step) → StandsAt old steps →
+        CarriesFrom side most old octets new → StandsAtArrivals (other side) new steps }
+{
+    whatever_becomes_of_two_carriers();
+    what_two_carriers_have();
+    what_an_end_holds();
+    a_session_that_is_called_has_a_connection();
+    a_session_is_what_its_inputs_made_it();
+    few_octets_fit();
+    serial_digits();
+    what_is_sent_is_octets();
+    what_is_sent_is_read();
+    what_is_sent_can_be_sent();
+    what_becomes_of_a_unit();
+    an_empty_token_item_changes_nothing();
+    what_two_units_do();
+    what_closes_sends_nothing();
+    what_happens_has_numbers();
+    what_an_accepted_call_passed();
+    numbers_stay_in_order();
+    what_is_under_way_can_be_sent();
+    what_two_tables_tell();
 }

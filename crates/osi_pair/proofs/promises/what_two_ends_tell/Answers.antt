@@ -27,3 +27,16 @@ returns-clause-ends c = promises.few_reasons
 
 pub returns-clause-lost : goal.returns-clause-lost
 returns-clause-lost c = promises.losses c.what_two_tables_tell.ensures.lost
+
+pub returns-clause-all : goal.returns-clause-all
+returns-clause-all c p at = record {
+  legal_journal = promises.legal_journal c.the_tables_are_the_machine.ensures.legal p at.steps at.stands;
+  asked = promises.all_asked c.what_two_tables_tell.ensures.offered p at.steps at.stands;
+  one_holder = promises.one_holder c.what_two_tables_tell.ensures.holder c.what_two_tables_tell.ensures.offered p at.steps at.stands;
+  agreement = promises.agreement c.what_two_tables_tell.ensures.agreement p at.steps at.stands;
+  duplex = promises.duplex c.what_two_tables_tell.ensures.duplex p at.steps at.stands;
+  confirmed_is_seen = promises.confirmed_is_seen c.what_two_tables_tell.ensures.confirmed p at.steps at.stands;
+  no_fault = promises.no_fault c.what_two_tables_tell.ensures.fault p at.steps at.stands;
+  ends = promises.few_reasons p at.steps at.stands;
+  losses = promises.losses c.what_two_tables_tell.ensures.lost p at.steps at.stands;
+}
