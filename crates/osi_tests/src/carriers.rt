@@ -55,10 +55,12 @@ fn writes(carrier: &mut Carrier, octets: &[u8]) -> Result<(), Fail> {
 
 /// All octets are used.
 fn takes(carrier: &mut Carrier, octets: &[u8]) -> Result<(), Fail> {
-    if carrier.feed(octets).used != octets.len() || carrier.ended().is_some() {
-        return Err(Fail::from("octets are left"));
+    let used = carrier.feed(octets).used;
+    match carrier.ended() {
+        None if used == octets.len() => Ok(()),
+        Some(EndReason::NoMemory) => Err(Fail::from("out of memory")),
+        _ => Err(Fail::from("octets are left")),
     }
-    Ok(())
 }
 
 /// The CR of a caller with both classes and window 3.

@@ -4,6 +4,7 @@
 use bitflags::Flags;
 use bytes::BytesMut;
 use osi_spdu::*;
+use osi_tpkt::Unit;
 use std::test::Fail;
 
 /// A CN: units 00B9, serial 1, each token for the asker.
@@ -16,8 +17,8 @@ const CONNECT: [u8; 20] = [
 fn a_connect_is_written_as_it_is_read(rt: HostRuntime) -> Result<(), Fail> {
     let group = read_tsdu(&CONNECT)?;
     let mut out = BytesMut::new(rt.alloc());
-    write_tsdu(&group, &mut out)?;
-    if out.as_slice() != CONNECT.as_slice() || written_len(&group) != 20 {
+    group.write(&mut out)?;
+    if out.as_slice() != CONNECT.as_slice() || group.written_len() != 20 {
         return Err(Fail::from("another written form"));
     }
     Ok(())

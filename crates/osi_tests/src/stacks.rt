@@ -2,7 +2,7 @@
 
 use crate::sessions::{ALL_UNITS, ASKER_WISHES, DATA};
 use bitflags::Flags;
-use osi_carrier::{OpenError, Ref};
+use osi_carrier::{EndReason, OpenError, Ref};
 use osi_class::Local;
 use osi_spdu::{Requirements, Serial};
 use osi_stack::{Connect, ConnectError, Stack};
@@ -69,7 +69,11 @@ const ANSWERS: [u8; 41] = [
 fn an_end_connects_and_sends_data(rt: HostRuntime) -> Result<(), Fail> {
     let mut left = Stack::caller(rt.alloc(), class_0()?);
     left.connect(&asking()?)?;
-    if left.feed(&ANSWERS).used != ANSWERS.len() || left.next_indication().is_none() {
+    let used = left.feed(&ANSWERS).used;
+    if left.ended() == Some(EndReason::NoMemory) {
+        return Err(Fail::from("out of memory"));
+    }
+    if used != ANSWERS.len() || left.next_indication().is_none() {
         return Err(Fail::from("no connection"));
     }
     left.call(Ref(1), DATA)?;
