@@ -48,6 +48,9 @@ pub mod RestartConfirmCall
 pub mod RestartFlow
 pub mod RestartMeet
 pub mod Retoken
+pub mod SaidLines
+pub mod SaidMoves
+pub mod SaidRuns
 pub mod Settled
 pub mod Shift
 pub mod ShiftCall

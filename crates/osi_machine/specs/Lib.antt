@@ -9,6 +9,7 @@ pub mod Owners
 pub mod Parties
 pub mod Promises
 pub mod Runs
+pub mod Sayings
 pub mod Tables
 pub mod Taking
 pub mod Views

@@ -11,6 +11,7 @@ ghost use Rattle.osi_machine.specs.Machine.{IsLegal, Machine, Step, HasNumber, r
 ghost use Rattle.osi_machine.specs.Parties.{AreConsistent, IsNumberedStep};
 ghost use Rattle.osi_machine.specs.Promises.{IsReached, OfBoth, OneHolder, HoldsItsOwn, TakesNoFault, SeesTheHistory, ViewsAgree, GotWhatWasSaid, TakesTheNextItem, ConfirmedIsSeen};
 ghost use Rattle.osi_machine.specs.Runs.{IsRun, OfEach, HasOneHolder, ShowNoFault, RecordsAgree, ShownAsAsked, ConfirmedInBoth, TakeTheirItems, AreApart, LosesByItsEnd};
+ghost use Rattle.osi_machine.specs.Sayings.{IsHeardAsSaid};
 ghost use Rattle.osi_machine.specs.Tables.{Line, Tables};
 ghost use Rattle.osi_machine.specs.Tables as tables;
 ghost use Rattle.osi_machine.specs.Views.{AreTold, left_told, right_told};
@@ -202,6 +203,18 @@ pub fn what_two_tables_tell()
     session::what_two_units_do();
     session::what_an_accepted_call_passed();
     session::an_empty_token_item_changes_nothing();
+}
+
+/// After every list of steps, whatever is lost: what a side has heard of a connection is how what the other
+/// side has said of it begins, whole and in order, unit by unit. Until its transport connection closes, what
+/// it has heard and then what is under way to it is how that begins; and that is all that the other has
+/// said, where nothing is broken and the transport connection of the other does not close either.
+pub fn what_is_heard_was_said()
+    ensures { (side : Side) (r : ℕ) (terms : Terms) (steps : List Step) → IsHeardAsSaid side r terms steps }
+{
+    session::where_a_call_is_accepted();
+    session::what_closes_sends_nothing();
+    session::an_ended_session_stays_ended();
 }
 
 /// Examples, computed. A token that is given and not yet taken when the other side asks for a restart

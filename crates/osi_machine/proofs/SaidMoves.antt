@@ -1,0 +1,433 @@
+-- What each side of a connection said, and what the other heard of it, over all that may happen to a line.
+use Rattle.std.proofs.Common.{◌≡◌, refl, sym, ◌∙◌, ap, subst, ℕ, Bool, true, false, ◌||◌, if◌then◌else◌, List, [], ◌∷◌, ◌++◌, take, Option, Some, None, Ok, Err, inl}
+use Rattle.std.proofs.lemmas.List.{append-nil}
+use Rattle.std.specs.List.{list_any}
+use Rattle.osi_session.specs.Moves.{called, taken, opened, refused, broken as broken_off, Standing, react, answered as answered_move, denied, rests}
+use Rattle.osi_session.specs.Phases.{may_abort, is_over, is_ended, is_wait_transport}
+use Rattle.osi_message.specs.Sendable.{said_of}
+use Rattle.osi_machine.specs.Floor.{Phase, Meaning, Call, Answer, allowed}
+use Rattle.osi_machine.specs.Histories.{Begins}
+use Rattle.osi_machine.specs.Core.{Offer}
+use Rattle.osi_machine.specs.Worlds.{Message, unit, ask, agree, deny, bye, over, Transport, not_yet, waiting, linked, closing, gone, put, replied, Terms, accepts, denies}
+use Rattle.osi_machine.specs.Machine.{is_given}
+use Rattle.osi_machine.specs.Tables.{Seat, Line, turned, asked_with, made, after_call, message_taken, closed, ended_at, ends_there, without_first}
+use Rattle.osi_machine.specs.AsTables.{cut_line}
+use Rattle.osi_machine.specs.Sayings.{one_or_none, said_to, heard_of, units_in, is_parting}
+use Rattle.osi_machine.proofs.EarlyLines.{is_agree}
+use Rattle.osi_machine.proofs.PhaseLaws.{excluded, implied}
+use Rattle.osi_machine.proofs.SaidLines.{SayLaws, Words, silent, says_more, hears_more, and_more, is_early, put_no_units, no_units_taken, no_agree_taken, no_agree_put, Carried, same_units, fewer_units, first_heard, reply_said, begins_so, begins_more}
+
+-- ---- phases
+
+over_mute : (p : Phase) → is_over p ≡ true → may_abort p ≡ false
+over_mute p e = excluded is_over may_abort refl p e
+
+waits_mute : (p : Phase) → is_wait_transport p ≡ true → may_abort p ≡ false
+waits_mute p e = excluded is_wait_transport may_abort refl p e
+
+ended_over : (p : Phase) → is_ended p ≡ true → is_over p ≡ true
+ended_over p e = implied is_ended is_over refl p e
+
+-- ---- a side beside the other
+
+-- Its session awaits the transport connection as long as there is none, and is over once that closes; before
+-- there is one no unit is under way from it. As long as there is none at the other side, its own user can call
+-- nothing and no unit is under way from it, and not both sides await it.
+pub record Fits (own peer : Seat) : Type 0 where
+  pub waits : own.transport ≡ waiting → is_wait_transport own.session.state.phase ≡ true
+  pub over_now : is_parting own.transport ≡ true → is_over own.session.state.phase ≡ true
+  pub early : is_early own.transport ≡ true → units_in own.channel ≡ []
+  pub unasked : own.transport ≡ not_yet → list_any is_agree own.channel ≡ false
+  pub mute : is_early peer.transport ≡ true → may_abort own.session.state.phase ≡ false
+  pub unsaid : is_early peer.transport ≡ true → units_in own.channel ≡ []
+  pub first : own.transport ≡ waiting → peer.transport ≡ waiting → ⊥
+
+-- what one side said, and what the other heard of it
+pub record Way (broken : Bool) (own peer : Seat) (said heard : List Meaning) : Type 0 where
+  pub begins : Begins heard said
+  pub carried : is_parting peer.transport ≡ false → Carried (broken || is_parting own.transport) own.channel said heard
+
+pub record Told (broken : Bool) (l : Line) (own peer : Words) : Type 0 where
+  pub own_fits : Fits l.own l.peer
+  pub peer_fits : Fits l.peer l.own
+  pub out : Way broken l.own l.peer own.said peer.heard
+  pub back : Way broken l.peer l.own peer.said own.heard
+
+pub turned_told : (b : Bool) (l : Line) (x y : Words) → Told b l x y → Told b (turned l) y x
+turned_told b l x y h = record { own_fits = h.peer_fits; peer_fits = h.own_fits; out = h.back; back = h.out }
+
+-- ---- how a side may change, with what is then under way from it
+
+-- seen from the side that stays: the other's transport connection is there, or closes
+past : (own peer peer' : Seat) → is_early peer'.transport ≡ false → Fits own peer → Fits own peer'
+past own peer peer' e h = record {
+  waits = h.waits;
+  over_now = h.over_now;
+  early = h.early;
+  unasked = h.unasked;
+  mute = λ k. absurd (cc);
+  unsaid = λ k. absurd (cc);
+  first = λ k n. absurd (let x = sym (ap is_early n) ∙ e in cc);
+}
+
+-- the first message of its channel is taken
+rest_fits : (own peer : Seat) (m : Message) (ms : List Message) → own.channel ≡ m ∷ ms → Fits own peer → Fits (record own { channel = ms }) peer
+rest_fits own peer m ms e h = record {
+  waits = h.waits;
+  over_now = h.over_now;
+  early = λ k. fewer m (ap units_in (sym e) ∙ h.early k);
+  unasked = λ k. none m (ap (list_any is_agree) (sym e) ∙ h.unasked k);
+  mute = h.mute;
+  unsaid = λ k. fewer m (ap units_in (sym e) ∙ h.unsaid k);
+  first = h.first;
+}
+  where
+    fewer : (m : Message) → units_in (m ∷ ms) ≡ [] → units_in ms ≡ []
+    fewer (unit u) f = absurd (cc)
+    fewer m f = f
+
+    none : (m : Message) → list_any is_agree (m ∷ ms) ≡ false → list_any is_agree ms ≡ false
+    none agree f = absurd (cc)
+    none m f = f
+
+-- its transport connection is there, or closes, and its session is another
+opened_fits : (own' peer : Seat) → is_early own'.transport ≡ false → (is_parting own'.transport ≡ true → is_over own'.session.state.phase ≡ true)
+    → (is_early peer.transport ≡ true → may_abort own'.session.state.phase ≡ false) → (is_early peer.transport ≡ true → units_in own'.channel ≡ []) → Fits own' peer
+opened_fits own' peer e o m u = record {
+  waits = λ k. absurd (let x = sym (ap is_early k) ∙ e in cc);
+  over_now = o;
+  early = λ k. absurd (cc);
+  unasked = λ k. absurd (let x = sym (ap is_early k) ∙ e in cc);
+  mute = m;
+  unsaid = u;
+  first = λ k n. absurd (let x = sym (ap is_early k) ∙ e in cc);
+}
+
+-- once a side parts nothing that comes to it is heard
+unheard : (b : Bool) (own peer own' peer' : Seat) (said heard : List Meaning) → is_parting peer'.transport ≡ true → Way b own peer said heard → Way b own' peer' said heard
+unheard b own peer own' peer' said heard e h = record { begins = h.begins; carried = λ k. absurd (cc) }
+
+-- a side parts: its session is over, and of what is under way from it units may be lost
+parts_told : (b : Bool) (l : Line) (own' : Seat) (x y : Words) → is_parting own'.transport ≡ true → is_early own'.transport ≡ false → is_over own'.session.state.phase ≡ true
+    → (is_early l.peer.transport ≡ true → units_in own'.channel ≡ []) → (is_parting l.peer.transport ≡ false → Carried true own'.channel x.said y.heard)
+    → Told b l x y → Told b (record l { own = own' }) x y
+parts_told b l own' x y p e o u c h = record {
+  own_fits = opened_fits own' l.peer e (λ k. o) (λ k. over_mute own'.session.state.phase o) u;
+  peer_fits = past l.peer l.own own' e h.peer_fits;
+  out = record {
+    begins = h.out.begins;
+    carried = λ k. same_units true (b || is_parting own'.transport) own'.channel own'.channel x.said y.heard refl (λ s. stop b) (c k);
+  };
+  back = unheard b l.peer l.own l.peer own' y.said x.heard p h.back;
+}
+  where
+    stop : (b : Bool) → (b || is_parting own'.transport) ≡ true
+    stop true = refl
+    stop false = p
+
+-- the rest of its channel is lost
+cuts_told : (b : Bool) (l : Line) (own' : Seat) (keep : ℕ) (x y : Words) → is_parting own'.transport ≡ true → is_early own'.transport ≡ false → is_over own'.session.state.phase ≡ true
+    → units_in own'.channel ≡ units_in (take keep l.own.channel) → Told b l x y → Told b (record l { own = own' }) x y
+cuts_told b l own' keep x y p e o u h = parts_told b l own' x y p e o
+    (λ k. u ∙ no_units_taken keep l.own.channel (h.own_fits.unsaid k))
+    (λ k. same_units true true (take keep l.own.channel) own'.channel x.said y.heard u (λ s. refl)
+    (fewer_units (b || is_parting l.own.transport) true keep l.own.channel x.said y.heard refl (h.out.carried k)))
+    h
+
+-- nothing of its channel is lost
+goes_told : (b : Bool) (l : Line) (own' : Seat) (x y : Words) → is_parting own'.transport ≡ true → is_early own'.transport ≡ false → is_over own'.session.state.phase ≡ true
+    → units_in own'.channel ≡ units_in l.own.channel → Told b l x y → Told b (record l { own = own' }) x y
+goes_told b l own' x y p e o u h = parts_told b l own' x y p e o
+    (λ k. u ∙ h.own_fits.unsaid k)
+    (λ k. same_units (b || is_parting l.own.transport) true l.own.channel own'.channel x.said y.heard u (λ s. refl) (h.out.carried k))
+    h
+
+-- a side whose transport connection is there, or comes, says a unit or none, while the other's is there too or closes
+says_told : (b : Bool) (l : Line) (s : Standing) (r : Option Meaning) (x y : Words) → is_parting l.own.transport ≡ false → is_early l.peer.transport ≡ false → Told b l x y
+    → Told b (record l { own = record { transport = linked; session = s; channel = put b (replied r) l.own.channel } }) (says_more x (one_or_none r)) y
+says_told b l s r x y p e h = record {
+  own_fits = opened_fits (record { transport = linked; session = s; channel = put b (replied r) l.own.channel }) l.peer refl (λ k. absurd (cc)) (λ k. absurd (cc)) (λ k. absurd (cc));
+  peer_fits = past l.peer l.own (record { transport = linked; session = s; channel = put b (replied r) l.own.channel }) refl h.peer_fits;
+  out = record {
+    begins = begins_more x.said y.heard (one_or_none r) h.out.begins;
+    carried = λ k. reply_said b false l.own.channel x.said y.heard r (λ z. absurd (cc)) (subst (λ (d : Bool). Carried (b || d) l.own.channel x.said y.heard) p (h.out.carried k));
+  };
+  back = record { begins = h.back.begins; carried = λ k. h.back.carried p };
+}
+
+-- a side whose transport connection comes puts what is no unit
+links_told : (b : Bool) (l : Line) (ms : List Message) (x y : Words) → is_parting l.own.transport ≡ false → units_in ms ≡ [] → Told b l x y
+    → Told b (record l { own = record { transport = linked; session = l.own.session; channel = put b ms l.own.channel } }) x y
+links_told b l ms x y p n h = record {
+  own_fits = opened_fits (record { transport = linked; session = l.own.session; channel = put b ms l.own.channel }) l.peer refl (λ k. absurd (cc)) h.own_fits.mute
+      (λ k. put_no_units b ms l.own.channel n ∙ h.own_fits.unsaid k);
+  peer_fits = past l.peer l.own (record { transport = linked; session = l.own.session; channel = put b ms l.own.channel }) refl h.peer_fits;
+  out = record {
+    begins = h.out.begins;
+    carried = λ k. same_units (b || false) (b || false) l.own.channel (put b ms l.own.channel) x.said y.heard (put_no_units b ms l.own.channel n) (λ s. s)
+        (subst (λ (d : Bool). Carried (b || d) l.own.channel x.said y.heard) p (h.out.carried k));
+  };
+  back = record { begins = h.back.begins; carried = λ k. h.back.carried p };
+}
+
+-- a side denies the connection, and stays as it is
+denies_told : (b : Bool) (l : Line) (reason : ℕ) (x y : Words) → Told b l x y → Told b (record l { own = record l.own { channel = put b (deny reason ∷ []) l.own.channel } }) x y
+denies_told b l reason x y h =
+    let n = put_no_units b (deny reason ∷ []) l.own.channel refl in
+    record {
+      own_fits = record {
+        waits = h.own_fits.waits;
+        over_now = h.own_fits.over_now;
+        early = λ k. n ∙ h.own_fits.early k;
+        unasked = λ k. no_agree_put b reason l.own.channel (h.own_fits.unasked k);
+        mute = h.own_fits.mute;
+        unsaid = λ k. n ∙ h.own_fits.unsaid k;
+        first = h.own_fits.first;
+      };
+      peer_fits = record {
+        waits = h.peer_fits.waits;
+        over_now = h.peer_fits.over_now;
+        early = h.peer_fits.early;
+        unasked = h.peer_fits.unasked;
+        mute = h.peer_fits.mute;
+        unsaid = h.peer_fits.unsaid;
+        first = h.peer_fits.first;
+      };
+      out = record {
+        begins = h.out.begins;
+        carried = λ k. same_units (b || is_parting l.own.transport) (b || is_parting l.own.transport) l.own.channel (put b (deny reason ∷ []) l.own.channel) x.said y.heard n (λ s. s) (h.out.carried k);
+      };
+      back = record { begins = h.back.begins; carried = h.back.carried };
+    }
+
+-- ---- words that are none
+
+no_words : (b : Bool) (l : Line) (x y : Words) → Told b l x y → Told b l (and_more x [] []) y
+no_words b l x y h =
+    subst (λ (us : List Meaning). Told b l (record { said = x.said ++ []; heard = us }) y) (sym (append-nil x.heard))
+    (subst (λ (us : List Meaning). Told b l (record { said = us; heard = x.heard }) y) (sym (append-nil x.said)) h)
+
+none_heard : (b : Bool) (l : Line) (x y : Words) → Told b l x y → Told b l (hears_more x []) y
+none_heard b l x y h = subst (λ (us : List Meaning). Told b l (record { said = x.said; heard = us }) y) (sym (append-nil x.heard)) h
+
+-- ---- a call
+
+-- a call that is refused changes nothing, and puts nothing
+nothing_put : (b : Bool) (l : Line) (x y : Words) → Told b l x y → Told b (record l { own = record l.own { channel = put b [] l.own.channel } }) x y
+nothing_put b l x y h = subst (λ (ch : List Message). Told b (record l { own = record l.own { channel = ch } }) x y) (sym (none b)) h
+  where
+    none : (b : Bool) → put b [] l.own.channel ≡ l.own.channel
+    none true = refl
+    none false = append-nil l.own.channel
+
+-- where a call is accepted the transport connection is there at both sides, or closes at the other
+linked_there : (tr : Transport) (p : Phase) → is_given tr ≡ true → may_abort p ≡ true → (tr ≡ waiting → is_wait_transport p ≡ true) → (is_parting tr ≡ true → is_over p ≡ true) → tr ≡ linked
+linked_there not_yet p g m w o = absurd (cc)
+linked_there waiting p g m w o = absurd (let x = waits_mute p (w refl) in cc)
+linked_there linked p g m w o = refl
+linked_there closing p g m w o = absurd (let x = over_mute p (o refl) in cc)
+linked_there gone p g m w o = absurd (let x = over_mute p (o refl) in cc)
+
+not_early : (e : Bool) (p : Phase) → (e ≡ true → may_abort p ≡ false) → may_abort p ≡ true → e ≡ false
+not_early true p f m = absurd (let x = f refl in cc)
+not_early false p f m = refl
+
+pub call_told : SayLaws → (b : Bool) (c : Call) (l : Line) (x y : Words) → is_given l.own.transport ≡ true → Told b l x y
+    → Told b (after_call b c l) (and_more x (one_or_none (react l.own.session (called c)).reply) []) y
+unfolding react
+call_told laws b c l x y g h = by (allowed l.own.session.state c) refl
+  where
+    by : (a : Answer) → allowed l.own.session.state c ≡ a → Told b (made b (answered_move l.own.session a) l) (and_more x (one_or_none (answered_move l.own.session a).reply) []) y
+    by (Err f) e = no_words b _ x y (nothing_put b l x y h)
+    by (Ok step) e =
+        let m = laws.accepted l.own.session.state c step e in
+        let t = linked_there l.own.transport l.own.session.state.phase g m h.own_fits.waits h.own_fits.over_now in
+        let d = not_early (is_early l.peer.transport) l.own.session.state.phase h.own_fits.mute m in
+        subst (λ (tr : Transport). Told b (record l { own = record { transport = tr; session = record l.own.session { state = step.next }; channel = put b (unit step.sent ∷ []) l.own.channel } }) (and_more x (step.sent ∷ []) []) y) (sym t)
+        (says_told b l (record l.own.session { state = step.next }) (Some step.sent) (hears_more x []) y (ap is_parting t) d (none_heard b l x y h))
+
+-- ---- a close, the end of a side, and a break
+
+pub close_told : (b : Bool) (keep : ℕ) (l : Line) (x y : Words) → is_ended l.own.session.state.phase ≡ true → Told b l x y → Told b (closed b keep l) x y
+close_told b keep l x y o h =
+    cuts_told b l (closed b keep l).own keep x y refl refl (ended_over l.own.session.state.phase o) (put_no_units b (bye 128 ∷ []) (take keep l.own.channel) refl) h
+
+end_told : SayLaws → (b : Bool) (keep : ℕ) (l : Line) (x y : Words) → Told b l x y → Told b (ended_at keep l).line x y
+end_told laws b keep l x y h =
+    cuts_told b l (ended_at keep l).line.own keep x y refl refl (ended_over (react l.own.session broken_off).next.state.phase (laws.lost l.own.session)) refl h
+
+pub ends_told : SayLaws → (b : Bool) (keep : ℕ) (l : Line) (x y : Words) → Told b l x y → Told b (ends_there keep l) x y
+ends_told laws b keep l x y h = by (is_given l.own.transport)
+  where
+    by : (g : Bool) → Told b (if g then (ended_at keep l).line else l) x y
+    by true = end_told laws b keep l x y h
+    by false = h
+
+cut_fits : (keep : ℕ) (own peer : Seat) (ch : List Message) → Fits own peer → Fits (record own { channel = take keep own.channel }) (record peer { channel = ch })
+cut_fits keep own peer ch h = record {
+  waits = h.waits;
+  over_now = h.over_now;
+  early = λ k. no_units_taken keep own.channel (h.early k);
+  unasked = λ k. no_agree_taken keep own.channel (h.unasked k);
+  mute = h.mute;
+  unsaid = λ k. no_units_taken keep own.channel (h.unsaid k);
+  first = h.first;
+}
+
+cut_way : (b : Bool) (keep : ℕ) (own peer : Seat) (ch : List Message) (said heard : List Meaning) → Way b own peer said heard
+    → Way true (record own { channel = take keep own.channel }) (record peer { channel = ch }) said heard
+cut_way b keep own peer ch said heard h = record {
+  begins = h.begins;
+  carried = λ k. fewer_units (b || is_parting own.transport) true keep own.channel said heard refl (h.carried k);
+}
+
+pub cut_told : (b : Bool) (left right : ℕ) (l : Line) (x y : Words) → Told b l x y → Told true (cut_line left right l) x y
+cut_told b left right l x y h = record {
+  own_fits = cut_fits left l.own l.peer (take right l.peer.channel) h.own_fits;
+  peer_fits = cut_fits right l.peer l.own (take left l.own.channel) h.peer_fits;
+  out = cut_way b left l.own l.peer (take right l.peer.channel) x.said y.heard h.out;
+  back = cut_way b right l.peer l.own (take left l.own.channel) y.said x.heard h.back;
+}
+
+-- ---- a new connection
+
+pub asked_told : (b : Bool) (o : Offer) → Told b (asked_with b o) silent silent
+asked_told b o = record {
+  own_fits = record {
+    waits = λ k. refl;
+    over_now = λ k. absurd (cc);
+    early = λ k. none b;
+    unasked = λ k. absurd (cc);
+    mute = λ k. refl;
+    unsaid = λ k. none b;
+    first = λ k n. absurd (cc);
+  };
+  peer_fits = record {
+    waits = λ k. absurd (cc);
+    over_now = λ k. absurd (cc);
+    early = λ k. refl;
+    unasked = λ k. refl;
+    mute = λ k. refl;
+    unsaid = λ k. refl;
+    first = λ k n. absurd (cc);
+  };
+  out = record { begins = ([], refl); carried = λ k. record { lost = []; splits = ap (λ (us : List Meaning). us ++ []) (none b); whole = inl refl } };
+  back = record { begins = ([], refl); carried = λ k. record { lost = []; splits = refl; whole = inl refl } };
+}
+  where
+    none : (b : Bool) → units_in (put b (ask ∷ []) []) ≡ []
+    none true = refl
+    none false = refl
+
+-- ---- a message is taken
+
+-- the first message that comes to a side is no unit, or the side parts and does not hear it
+popped : (b : Bool) (l : Line) (m : Message) (xs : List Message) (x y : Words) → l.peer.channel ≡ m ∷ xs → (is_parting l.own.transport ≡ false → units_in xs ≡ units_in (m ∷ xs)) → Told b l x y
+    → Told b (without_first l xs) x y
+popped b l m xs x y e n h = record {
+  own_fits = record {
+    waits = h.own_fits.waits;
+    over_now = h.own_fits.over_now;
+    early = h.own_fits.early;
+    unasked = h.own_fits.unasked;
+    mute = h.own_fits.mute;
+    unsaid = h.own_fits.unsaid;
+    first = h.own_fits.first;
+  };
+  peer_fits = rest_fits l.peer l.own m xs e h.peer_fits;
+  out = record { begins = h.out.begins; carried = h.out.carried };
+  back = record {
+    begins = h.back.begins;
+    carried = λ k. same_units (b || is_parting l.peer.transport) (b || is_parting l.peer.transport) l.peer.channel xs y.said x.heard (n k ∙ ap units_in (sym e)) (λ s. s) (h.back.carried k);
+  };
+}
+
+-- it is a unit, and is heard
+heard_first : (b : Bool) (l : Line) (u : Meaning) (xs : List Message) (x y : Words) → l.peer.channel ≡ unit u ∷ xs → is_parting l.own.transport ≡ false → Told b l x y
+    → Told b (without_first l xs) (hears_more x (u ∷ [])) y
+heard_first b l u xs x y e p h =
+    let c = first_heard (b || is_parting l.peer.transport) u xs y.said x.heard (subst (λ (ms : List Message). Carried (b || is_parting l.peer.transport) ms y.said x.heard) e (h.back.carried p)) in
+    record {
+      own_fits = record {
+        waits = h.own_fits.waits;
+        over_now = h.own_fits.over_now;
+        early = h.own_fits.early;
+        unasked = h.own_fits.unasked;
+        mute = h.own_fits.mute;
+        unsaid = h.own_fits.unsaid;
+        first = h.own_fits.first;
+      };
+      peer_fits = rest_fits l.peer l.own (unit u) xs e h.peer_fits;
+      out = record { begins = h.out.begins; carried = h.out.carried };
+      back = record { begins = begins_so (b || is_parting l.peer.transport) xs y.said (x.heard ++ u ∷ []) c; carried = λ k. c };
+    }
+
+-- what tells that the transport connection is there comes from where it is there
+agreed_there : (tr : Transport) (l : Line) (xs : List Message) → l.own.transport ≡ waiting → l.peer.channel ≡ agree ∷ xs → l.peer.transport ≡ tr → Fits l.own l.peer → Fits l.peer l.own → is_early tr ≡ false
+agreed_there not_yet l xs w e f h k = absurd (let n = ap (list_any is_agree) (sym e) ∙ k.unasked f in cc)
+agreed_there waiting l xs w e f h k = absurd (h.first w f)
+agreed_there tr l xs w e f h k = refl
+
+-- a unit comes from where the transport connection is there
+unit_there : (early : Bool) (l : Line) (u : Meaning) (xs : List Message) → l.peer.channel ≡ unit u ∷ xs → is_early l.peer.transport ≡ early → Fits l.peer l.own → early ≡ false
+unit_there true l u xs e f k = absurd (let n = ap units_in (sym e) ∙ k.early f in cc)
+unit_there false l u xs e f k = refl
+
+-- and goes to where it is there
+no_unit_early : {A : Type 0} (l : Line) (u : Meaning) (xs : List Message) → l.peer.channel ≡ unit u ∷ xs → is_early l.own.transport ≡ true → Fits l.peer l.own → A
+no_unit_early l u xs e f k = absurd (let n = ap units_in (sym e) ∙ k.unsaid f in cc)
+
+denied_over : (s : Standing) (reason : ℕ) → is_wait_transport s.state.phase ≡ true → (is_over (react s (refused reason)).next.state.phase ≡ true) × ((react s (refused reason)).reply ≡ None)
+unfolding react
+denied_over s reason w = by (is_wait_transport s.state.phase) w
+  where
+    by : (b : Bool) → b ≡ true → (is_over (if b then denied reason s else rests s).next.state.phase ≡ true) × ((if b then denied reason s else rests s).reply ≡ None)
+    by true e = (refl, refl)
+    by false e = absurd (cc)
+
+lost_none : (s : Standing) → (react s broken_off).reply ≡ None
+unfolding react
+lost_none s = refl
+
+-- a session that sends nothing puts nothing
+nothing_replied : (b : Bool) (r : Option Meaning) (ch : List Message) → r ≡ None → units_in (put b (replied r) ch) ≡ units_in ch
+nothing_replied b r ch e = put_no_units b (replied r) ch (ap (λ (o : Option Meaning). units_in (replied o)) e)
+
+pub message_told : SayLaws → (b : Bool) (terms : Terms) (keep : ℕ) (tr : Transport) (l : Line) (m : Message) (xs : List Message) (x y : Words) → l.own.transport ≡ tr → l.peer.channel ≡ m ∷ xs → Told b l x y
+    → Told b (message_taken b terms keep tr (without_first l xs) m).line (and_more x (said_to tr l.own.session m) (heard_of tr m)) y
+message_told laws b (accepts class) keep not_yet l ask xs x y t e h =
+    no_words b _ x y (links_told b (without_first l xs) (agree ∷ []) x y (ap is_parting t) refl (popped b l ask xs x y e (λ k. refl) h))
+message_told laws b (denies reason) keep not_yet l ask xs x y t e h =
+    no_words b _ x y (denies_told b (without_first l xs) reason x y (popped b l ask xs x y e (λ k. refl) h))
+message_told laws b terms keep not_yet l (unit u) xs x y t e h = no_unit_early l u xs e (ap is_early t) h.peer_fits
+message_told laws b terms keep waiting l (unit u) xs x y t e h = no_unit_early l u xs e (ap is_early t) h.peer_fits
+message_told laws b terms keep waiting l agree xs x y t e h =
+    says_told b (without_first l xs) (react l.own.session opened).next (react l.own.session opened).reply (hears_more x []) y (ap is_parting t)
+    (agreed_there l.peer.transport l xs t e refl h.own_fits h.peer_fits)
+    (none_heard b (without_first l xs) x y (popped b l agree xs x y e (λ k. refl) h))
+message_told laws b terms keep waiting l (deny reason) xs x y t e h =
+    let d = denied_over l.own.session reason (h.own_fits.waits t) in
+    no_words b _ x y
+    (goes_told b (without_first l xs) (record { transport = gone; session = (react l.own.session (refused reason)).next; channel = put b (replied (react l.own.session (refused reason)).reply) l.own.channel }) x y refl refl d.0
+    (nothing_replied b (react l.own.session (refused reason)).reply l.own.channel d.1)
+    (popped b l (deny reason) xs x y e (λ k. refl) h))
+message_told laws b terms keep linked l (unit u) xs x y t e h =
+    says_told b (without_first l xs) (react l.own.session (taken (said_of u))).next (react l.own.session (taken (said_of u))).reply (hears_more x (u ∷ [])) y (ap is_parting t)
+    (unit_there (is_early l.peer.transport) l u xs e refl h.peer_fits)
+    (heard_first b l u xs x y e (ap is_parting t) h)
+message_told laws b terms keep linked l (bye reason) xs x y t e h =
+    no_words b _ x y
+    (cuts_told b (without_first l xs) (message_taken b terms keep linked (without_first l xs) (bye reason)).line.own keep x y refl refl (ended_over (react l.own.session broken_off).next.state.phase (laws.lost l.own.session))
+    (put_no_units b (over ∷ []) (put b (replied (react l.own.session broken_off).reply) (take keep l.own.channel)) refl ∙ nothing_replied b (react l.own.session broken_off).reply (take keep l.own.channel) (lost_none l.own.session))
+    (popped b l (bye reason) xs x y e (λ k. refl) h))
+message_told laws b terms keep closing l (bye reason) xs x y t e h =
+    no_words b _ x y (goes_told b (without_first l xs) (record l.own { transport = gone }) x y refl refl (h.own_fits.over_now (ap is_parting t)) refl (popped b l (bye reason) xs x y e (λ k. refl) h))
+message_told laws b terms keep closing l over xs x y t e h =
+    no_words b _ x y (goes_told b (without_first l xs) (record l.own { transport = gone }) x y refl refl (h.own_fits.over_now (ap is_parting t)) refl (popped b l over xs x y e (λ k. refl) h))
+message_told laws b terms keep gone l (bye reason) xs x y t e h =
+    no_words b _ x y
+    (goes_told b (without_first l xs) (record l.own { channel = put b (over ∷ []) l.own.channel }) x y (ap is_parting t) (ap is_early t) (h.own_fits.over_now (ap is_parting t))
+    (put_no_units b (over ∷ []) l.own.channel refl) (popped b l (bye reason) xs x y e (λ k. refl) h))
+message_told laws b terms keep closing l (unit u) xs x y t e h = no_words b _ x y (popped b l (unit u) xs x y e (λ k. absurd (let n = sym (ap is_parting t) ∙ k in cc)) h)
+message_told laws b terms keep gone l (unit u) xs x y t e h = no_words b _ x y (popped b l (unit u) xs x y e (λ k. absurd (let n = sym (ap is_parting t) ∙ k in cc)) h)
+message_told laws b terms keep tr l m xs x y t e h = no_words b _ x y (popped b l m xs x y e (λ k. refl) h)
