@@ -1,3 +1,4 @@
+pub mod AllTaken
 pub mod Waiting
 pub mod Showing
 pub mod Pieces

@@ -53,7 +53,7 @@ words_by (j ∷ js) (x ∷ es) e =
 
 -- ---- the tables at which two ends stand
 
-abbrev tables_at : TwoEnds → List Step → Tables
+abbrev pub tables_at : TwoEnds → List Step → Tables
 tables_at p steps = run (start (terms_in (terms_of p.left.end.carrier.local p.right.end.carrier.local))) steps
 
 is_run : (p : TwoEnds) (steps : List Step) → StandsAt p steps → IsTableRun (tables_at p steps)
@@ -78,7 +78,7 @@ legal_journal legal p steps h = record {
 -- ---- connections
 
 -- what is said of the tables by reference, of the journal that two ends have
-line_at : (r : ℕ) (p : TwoEnds) (steps : List Step) (h : StandsAt p steps) → 0 < r → r ≤ p.left.end.carrier.given → HasLine r p h.now (tables_at p steps)
+pub line_at : (r : ℕ) (p : TwoEnds) (steps : List Step) (h : StandsAt p steps) → 0 < r → r ≤ p.left.end.carrier.given → HasLine r p h.now (tables_at p steps)
 line_at r p steps h above within = h.stands.lines r above (let same = h.stands.given in omega arith)
 
 pub all_asked : ((t : Tables) → IsTableRun t → AreOffered t) → (p : TwoEnds) (steps : List Step) → StandsAt p steps → AllWereAskedFor p
@@ -116,7 +116,7 @@ no_fault all p steps h = of_each AreNoFaults ShowNoFault p steps h (λ r line le
 no_session : (r : ℕ) (h : Holding) → value_at r h.end.carrier.live ≡ None → session_at r h.end ≡ None
 no_session r h e = ap (λ (o : Option Connection). if is_some o then session_in (value_at r h.end.lines) else None) e
 
-outside_by : (r most : ℕ) (h : Holding) (ended : Option EndReason) → h.end.carrier.ended ≡ ended → (IsSome h.end.carrier.ended → h.end.carrier.live ≡ []) →
+pub outside_by : (r most : ℕ) (h : Holding) (ended : Option EndReason) → h.end.carrier.ended ≡ ended → (IsSome h.end.carrier.ended → h.end.carrier.live ≡ []) →
     (h.end.carrier.ended ≡ None → IsInOrder h.end) → h.end.carrier.given ≤ most → (r ≡ 0) ⊎ (most < r) → value_at r h.end.carrier.live ≡ None
 outside_by r most h None e over order given (inl none) = absent r 0 h.end.carrier.live (omega arith) (order e).sound.orderly.rise
 outside_by r most h None e over order given (inr above) = beyond r h.end.carrier.given h.end.carrier.live (order e).sound.orderly.up_to (omega arith)
@@ -164,7 +164,7 @@ one_holds n left right s q t (of_some e) (of_some f) none =
     ∙ ap (λ (x : Option Standing). has (held_by (Some s)) t && has (held_by x) t) f ∙ none
 
 -- a reference that was given, or none
-within : (r most : ℕ) → ((r ≡ 0) ⊎ (most < r)) ⊎ ((0 < r) × (r ≤ most))
+pub within : (r most : ℕ) → ((r ≡ 0) ⊎ (most < r)) ⊎ ((0 < r) × (r ≤ most))
 within zero most = inl (inl refl)
 within (suc r) most = by (cases_lt most (suc r))
   where

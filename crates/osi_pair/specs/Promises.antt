@@ -2,18 +2,24 @@
 -- says of its connections.
 use Rattle.std.specs.Prelude.{◌≡◌, ℕ, ◌<◌, ◌≤◌, Bool, true, false, ◌&&◌, List, [], ◌∷◌, ◌++◌, map, Option, Some, None, is_some}
 use Rattle.std.specs.List.{list_any}
+use Rattle.osi_carrier.specs.Calls.{begun_by}
+use Rattle.osi_carrier.specs.Rows.{value_at}
+use Rattle.osi_carrier.specs.State.{Connection, linked}
 use Rattle.osi_carrier.specs.Terms.{terms_of}
 use Rattle.osi_carrier.specs.declared.ends.EndReason.{EndReason}
+use Rattle.osi_class.specs.Link.{Standing}
 use Rattle.osi_machine.specs.AsTables.{offers_in}
 use Rattle.osi_machine.specs.Core.{Offer}
-use Rattle.osi_machine.specs.Floor.{Token, has}
+use Rattle.osi_machine.specs.Floor.{Token, has, Meaning}
 use Rattle.osi_machine.specs.Histories.{Item, Point, PointKind, Begins, Agree}
-use Rattle.osi_machine.specs.Machine.{Ending, IsLegal, connection_at}
+use Rattle.osi_machine.specs.Machine.{Ending, IsLegal, Step, connection_at}
 use Rattle.osi_machine.specs.Machine as entries
 use Rattle.osi_machine.specs.Runs.{is_loss, loses}
+use Rattle.osi_machine.specs.Sayings.{said_in, heard_in}
+use Rattle.osi_machine.specs.Tables.{Tables, start}
 use Rattle.osi_machine.specs.Views.{Told, told_of}
 use Rattle.osi_stack.specs.Calls.{held_by, numbers_of}
-use Rattle.osi_stack.specs.State.{session_at}
+use Rattle.osi_stack.specs.State.{End, session_at}
 use Rattle.osi_pair.specs.Ends.{TwoEnds, end_at}
 use Rattle.osi_pair.specs.Entries.{Entry}
 use Rattle.osi_pair.specs.Standing.{side_in, entry_in, ending_in, terms_in}
@@ -99,6 +105,47 @@ ending_of (Some why) = ending_in why
 -- a user is shown a loss only where his end was told of the break or had no memory
 abbrev pub LoseAsTheyEnd : TwoEnds → Type 0
 LoseAsTheyEnd p = (side : Side) → list_any (is_loss (side_in side)) (journal_in p.journal) ≡ true → loses (ending_of (end_at side p).end.carrier.ended) ≡ true
+
+-- ---- what was sent, and what of it was taken
+
+abbrev pub fresh_tables : TwoEnds → Tables
+fresh_tables p = start (terms_in (terms_of p.left.end.carrier.local p.right.end.carrier.local))
+
+-- the units that the session of a side sent, and that it took, of a connection, over these steps
+abbrev pub sent_by : Side → ℕ → TwoEnds → List Step → List Meaning
+sent_by side r p steps = said_in (side_in side) r (fresh_tables p) steps
+
+abbrev pub taken_by : Side → ℕ → TwoEnds → List Step → List Meaning
+taken_by side r p steps = heard_in (side_in side) r (fresh_tables p) steps
+
+-- of each connection, each way: what one session took is how what the other sent begins
+abbrev pub AreTakenInOrder : List Step → TwoEnds → Type 0
+AreTakenInOrder steps p = (r : ℕ) →
+    Begins (taken_by Right r p steps) (sent_by Left r p steps) × Begins (taken_by Left r p steps) (sent_by Right r p steps)
+
+-- there was no break, neither end has ended, and no octet is under way or held
+pub record AreAtRest (p : TwoEnds) : Type 0 where
+  pub unbroken : p.reach ≡ None
+  pub lasts : (side : Side) → (end_at side p).end.carrier.ended ≡ None
+  pub outgoing : (side : Side) → (end_at side p).end.carrier.outgoing ≡ []
+  pub held : (side : Side) → (end_at side p).held.octets ≡ []
+
+-- a connection is open at an end
+pub record IsOpenAt (r : ℕ) (e : End) : Type 0 where
+  pub peer : ℕ
+  pub link : Standing
+  pub live : value_at r e.carrier.live ≡ Some (linked peer link)
+
+-- how many octets an end keeps of a connection
+abbrev pub kept_of : Option Connection → ℕ
+kept_of None = 0
+kept_of (Some connection) = begun_by connection
+
+-- of a connection, each way, all that was sent was taken, and nothing is kept
+pub record IsAllTaken (r : ℕ) (p : TwoEnds) (steps : List Step) : Type 0 where
+  pub rightward : taken_by Right r p steps ≡ sent_by Left r p steps
+  pub leftward : taken_by Left r p steps ≡ sent_by Right r p steps
+  pub kept : (side : Side) → kept_of (value_at r (end_at side p).end.carrier.live) ≡ 0
 
 -- ---- all of it
 

@@ -1,13 +1,14 @@
-//! What the users of two ends may rely on. The function does nothing: its clauses are the laws.
+//! What the users of two ends may rely on. Each function does nothing: its clauses are the laws.
 
-ghost use Rattle.std.specs.Prelude.{List};
+ghost use Rattle.std.specs.Prelude.{ℕ, List};
 ghost use Rattle.osi_machine.specs.Machine.{Step};
 ghost use Rattle.osi_pair.specs.Ends.{TwoEnds};
-ghost use Rattle.osi_pair.specs.Promises.{AgreeUnlessDuplex, AllWereAskedFor, ConfirmedIsSeen, EndsForFewReasons, HaveOneHolder, IsLegalJournal, IsSafe, IsShownAsAsked, LoseAsTheyEnd, OfEachConnection, ShowNoFault};
+ghost use Rattle.osi_pair.specs.Promises.{AgreeUnlessDuplex, AllWereAskedFor, AreAtRest, AreTakenInOrder, ConfirmedIsSeen, EndsForFewReasons, HaveOneHolder, IsAllTaken, IsLegalJournal, IsOpenAt, IsSafe, IsShownAsAsked, LoseAsTheyEnd, OfEachConnection, ShowNoFault};
 ghost use Rattle.osi_pair.specs.Reached.{IsReached};
 ghost use Rattle.osi_pair.specs.Standing.{StandsAt};
 
-use osi_machine::laws::{the_tables_are_the_machine, what_two_tables_tell};
+use osi_carrier::two_carriers::whatever_becomes_of_two_carriers;
+use osi_machine::laws::{the_tables_are_the_machine, what_is_heard_was_said, what_two_tables_tell};
 
 /// What the users of two ends that stand at a list of steps may rely on, read from the journal and from what
 /// each end says of its connections. The journal is one of what two users may do and see by the machine. Of
@@ -32,4 +33,17 @@ pub fn what_two_ends_tell()
 {
     the_tables_are_the_machine();
     what_two_tables_tell();
+}
+
+/// Of each connection, each way, the units that one session took are how those that the other's session sent
+/// begin, whole and in order, whatever the cuts, the credits and the other connections. They are all of them,
+/// and no octet of it is kept at either end, where there was no break, neither end has ended, no octet is
+/// under way or held, and the connection is open at both ends.
+pub fn what_is_taken_was_sent()
+    ensures prefix { (p : TwoEnds) (steps : List Step) → StandsAt p steps → AreTakenInOrder steps p }
+    ensures all_taken { (p : TwoEnds) (steps : List Step) (r : ℕ) → StandsAt p steps → AreAtRest p → IsOpenAt r p.left.end → IsOpenAt r p.right.end →
+        IsAllTaken r p steps }
+{
+    whatever_becomes_of_two_carriers();
+    what_is_heard_was_said();
 }

@@ -1,0 +1,112 @@
+-- What one session took is how what the other sent begins; and it is all of it where nothing is under way.
+use Rattle.std.proofs.Common.{◌≡◌, refl, sym, ◌∙◌, ap, subst, ℕ, ◌+◌, ◌<◌, ◌≤◌, true, false, List, [], ◌∷◌, ◌++◌, length, map, Some, None, option_map, is_some, inl, inr, ◌⊎◌, arith}
+use Rattle.std.proofs.lemmas.List.{append-nil}
+use Rattle.osi_carrier.specs.Between.{Both, Between, AreBetween, last_of, under_way, IsStill, IsAllThere}
+use Rattle.osi_carrier.specs.Course.{was_given, place_at, progress_of}
+use Rattle.osi_carrier.specs.Messages as carrier
+use Rattle.osi_carrier.specs.Progress.{Progress}
+use Rattle.osi_carrier.specs.Rows.{value_at}
+use Rattle.osi_carrier.specs.State.{State, linked}
+use Rattle.osi_carrier.specs.Terms.{Terms, terms_of}
+use Rattle.osi_class.specs.Link.{Standing}
+use Rattle.osi_machine.specs.Core as machine
+use Rattle.osi_machine.specs.Floor.{Meaning}
+use Rattle.osi_machine.specs.Machine.{Step}
+use Rattle.osi_machine.specs.Sayings.{units_in, is_parting, IsHeardAsSaid}
+use Rattle.osi_machine.specs.Tables.{side_of, turned}
+use Rattle.osi_machine.specs.Worlds.{Message}
+use Rattle.osi_machine.specs.Worlds as worlds
+use Rattle.osi_pair.specs.Ends.{TwoEnds, end_at}
+use Rattle.osi_pair.specs.Promises.{sent_by, taken_by, AreTakenInOrder, AreAtRest, IsOpenAt, kept_of, IsAllTaken}
+use Rattle.osi_pair.specs.Standing.{terms_in, is_caller, transport_in, message_in, carriers_of, AreAlike, StandsAt}
+use Rattle.osi_pair.specs.declared.sides.Side.{Side}
+use Rattle.osi_pair.specs.declared.sides.Side.TheVariants.{Left, Right}
+use Rattle.osi_pair.proofs.StandingActed.{live_place}
+use Rattle.osi_pair.proofs.StandingFinish.{order_of}
+use Rattle.osi_pair.proofs.StandingPromises.{tables_at, line_at, outside_by, within}
+
+-- what is proved of the tables, and of two carriers
+abbrev pub Heard : Type 0
+Heard = (side : machine.Side) (r : ℕ) (terms : worlds.Terms) (steps : List Step) → IsHeardAsSaid side r terms steps
+
+abbrev pub Empties : Type 0
+Empties = (terms : Terms) (both : Both) (b : Between) (n p q : ℕ) (x y : Standing) → AreBetween terms both b → IsStill both →
+    value_at n both.caller.state.live ≡ Some (linked p x) → value_at n both.called.state.live ≡ Some (linked q y) → IsAllThere n both b x y
+
+pub in_order : Heard → (p : TwoEnds) (steps : List Step) → StandsAt p steps → AreTakenInOrder steps p
+in_order heard p steps h r =
+    let terms = terms_in (terms_of p.left.end.carrier.local p.right.end.carrier.local) in
+    ((heard machine.Right r terms steps).begins, (heard machine.Left r terms steps).begins)
+
+-- ---- a connection that is open at both ends
+
+no_messages : (ms : List Message) → map message_in ms ≡ [] → ms ≡ []
+no_messages [] e = refl
+no_messages (m ∷ ms) e = absurd (cc)
+
+open_place : (side : Side) (r : ℕ) (p : TwoEnds) (steps : List Step) (h : StandsAt p steps) → (end_at side p).end.carrier.ended ≡ None → (o : IsOpenAt r (end_at side p).end)
+    → place_at r (end_at side p).end.carrier ≡ was_given (Some (linked o.peer o.link))
+open_place side r p steps h lasts o =
+    live_place r (end_at side p).end.carrier (linked o.peer o.link) (order_of side p h.now (tables_at p steps) h.stands lasts).sound.orderly o.live
+
+last_now : (side : Side) (p : TwoEnds) (steps : List Step) (h : StandsAt p steps) → (end_at side p).end.carrier.ended ≡ None → (end_at side p).end.carrier ≡ last_of (is_caller side) h.now
+last_now Left p steps h lasts = h.stands.between.lives true lasts
+last_now Right p steps h lasts = h.stands.between.lives false lasts
+
+-- while the taker has it open, what is under way to it is the same by the tables
+open_alike : (side : Side) (r : ℕ) (p : TwoEnds) (steps : List Step) (h : StandsAt p steps) → (end_at side p).end.carrier.ended ≡ None → IsOpenAt r (end_at side p).end
+    → (some others : List carrier.Message) → AreAlike (progress_of (place_at r (last_of (is_caller side) h.now))) some others → some ≡ others
+open_alike side r p steps h lasts o some others alike =
+    subst (λ (g : Progress). AreAlike g some others)
+    (ap (λ (s : State). progress_of (place_at r s)) (sym (last_now side p steps h lasts)) ∙ ap progress_of (open_place side r p steps h lasts o)) alike
+
+at_rest : (p : TwoEnds) → AreAtRest p → IsStill (carriers_of p)
+at_rest p rest = record {
+  unbroken = ap (option_map (λ r. (r.left, r.right))) rest.unbroken;
+  lasts = rest.lasts Left;
+  lasts_called = rest.lasts Right;
+  outgoing = rest.outgoing Left;
+  outgoing_called = rest.outgoing Right;
+  held = rest.held Left;
+  held_called = rest.held Right;
+}
+
+-- its reference was given
+open_given : (r : ℕ) (p : TwoEnds) (steps : List Step) (h : StandsAt p steps) → IsOpenAt r p.left.end → (0 < r) × (r ≤ p.left.end.carrier.given)
+open_given r p steps h o = by (within r p.left.end.carrier.given)
+  where
+    by : ((r ≡ 0) ⊎ (p.left.end.carrier.given < r)) ⊎ ((0 < r) × (r ≤ p.left.end.carrier.given)) → (0 < r) × (r ≤ p.left.end.carrier.given)
+    by (inr given) = given
+    by (inl out) =
+        let none = outside_by r p.left.end.carrier.given p.left p.left.end.carrier.ended refl h.stands.over_left h.stands.order_left (omega arith) out in
+        let no_way : None ≡ Some (linked o.peer o.link) = sym none ∙ o.live in
+        absurd (cc)
+
+-- nothing is under way, so what was taken is all
+none_left : (heard said : List Meaning) (ms : List Message) → ms ≡ [] → heard ++ units_in ms ≡ said → heard ≡ said
+none_left heard said ms e h = sym (append-nil heard) ∙ ap (λ (us : List Meaning). heard ++ us) (sym (ap units_in e)) ∙ h
+
+pub all_taken : Heard → Empties → (p : TwoEnds) (steps : List Step) (r : ℕ) → StandsAt p steps → AreAtRest p → IsOpenAt r p.left.end → IsOpenAt r p.right.end → IsAllTaken r p steps
+all_taken heard empties p steps r h rest left right =
+    let terms = terms_in (terms_of p.left.end.carrier.local p.right.end.carrier.local) in
+    let given = open_given r p steps h left in
+    let here = line_at r p steps h given.0 given.1 in
+    let there = empties (terms_of p.left.end.carrier.local p.right.end.carrier.local) (carriers_of p) h.now r left.peer right.peer left.link right.link h.stands.between (at_rest p rest) left.live right.live in
+    let own : here.line.own.transport ≡ worlds.linked = here.is.left.transport ∙ ap transport_in (open_place Left r p steps h (rest.lasts Left) left) in
+    let peer : here.line.peer.transport ≡ worlds.linked = here.is.right.transport ∙ ap transport_in (open_place Right r p steps h (rest.lasts Right) right) in
+    let whole : (tables_at p steps).broken ≡ false = h.stands.broken ∙ ap is_some rest.unbroken in
+    let out = no_messages here.line.own.channel
+    (open_alike Right r p steps h (rest.lasts Right) right (map message_in here.line.own.channel) (under_way true r (carriers_of p) h.now) (here.is.rightward (rest.lasts Right)) ∙ there.there) in
+    let back = no_messages here.line.peer.channel
+    (open_alike Left r p steps h (rest.lasts Left) left (map message_in here.line.peer.channel) (under_way false r (carriers_of p) h.now) (here.is.leftward (rest.lasts Left)) ∙ there.back) in
+    record {
+      rightward = none_left (taken_by Right r p steps) (sent_by Left r p steps) here.line.own.channel out
+          ((heard machine.Right r terms steps).whole (turned here.line) (ap (side_of machine.Right) here.found) (ap is_parting peer) (ap is_parting own) whole);
+      leftward = none_left (taken_by Left r p steps) (sent_by Right r p steps) here.line.peer.channel back
+          ((heard machine.Left r terms steps).whole here.line (ap (side_of machine.Left) here.found) (ap is_parting own) (ap is_parting peer) whole);
+      kept = kept there;
+    }
+  where
+    kept : IsAllThere r (carriers_of p) h.now left.link right.link → (side : Side) → kept_of (value_at r (end_at side p).end.carrier.live) ≡ 0
+    kept there Left = ap kept_of left.live ∙ ap length there.links.begun
+    kept there Right = ap kept_of right.live ∙ ap length there.links.begun_there

@@ -1,0 +1,8 @@
+use Rattle.osi_pair.proofs.AllTaken as taken
+use Rattle.osi_pair.proofs.promises.what_is_taken_was_sent.Goals as goal
+
+pub returns-clause-prefix : goal.returns-clause-prefix
+returns-clause-prefix c = taken.in_order c.what_is_heard_was_said.ensures
+
+pub returns-clause-all_taken : goal.returns-clause-all_taken
+returns-clause-all_taken c = taken.all_taken c.what_is_heard_was_said.ensures c.whatever_becomes_of_two_carriers.ensures.empty
