@@ -18,7 +18,8 @@ use osi_machine::laws::{the_tables_are_the_machine, what_is_heard_was_said, what
 /// how the data that the other asked to send begins. Each point in the view of a side with a number below
 /// its V(A) is in the view of the other, unless the other has asked for a restart and has seen no answer.
 /// Neither user is shown a fault, of this side or of the other; an end ends only by a break, want of memory,
-/// or its own close; and a user is shown a loss only where his end was told of a break or had no memory.
+/// or its own close; and a user is shown a loss only where his end was told of a break or had no memory. All of
+/// this is true of two ends that stand at some list of steps, as those of every pair do.
 pub fn what_two_ends_tell()
     ensures legal_journal { (p : TwoEnds) (steps : List Step) → StandsAt p steps → IsLegalJournal p }
     ensures asked { (p : TwoEnds) (steps : List Step) → StandsAt p steps → AllWereAskedFor p }
