@@ -16,7 +16,7 @@ use Rattle.osi_machine.specs.Machine.{Ending, IsLegal, Step, connection_at}
 use Rattle.osi_machine.specs.Machine as entries
 use Rattle.osi_machine.specs.Runs.{is_loss, loses}
 use Rattle.osi_machine.specs.Sayings.{said_in, heard_in}
-use Rattle.osi_machine.specs.Tables.{Tables, start}
+use Rattle.osi_machine.specs.Tables.{Tables, start, run}
 use Rattle.osi_machine.specs.Views.{Told, told_of}
 use Rattle.osi_stack.specs.Calls.{held_by, numbers_of}
 use Rattle.osi_stack.specs.State.{End, session_at}
@@ -147,6 +147,14 @@ pub record IsAllTaken (r : ℕ) (p : TwoEnds) (steps : List Step) : Type 0 where
   pub leftward : taken_by Left r p steps ≡ sent_by Right r p steps
   pub kept : (side : Side) → kept_of (value_at r (end_at side p).end.carrier.live) ≡ 0
 
+-- Steps of the machine that give this journal: over them the units that one session took are how those that the
+-- other's sent begin, and all of them where nothing is under way.
+pub record TakeWhatWasSent (p : TwoEnds) : Type 0 where
+  pub steps : List Step
+  pub journal : map Some (run (fresh_tables p) steps).journal ≡ map entry_in p.journal
+  pub prefix : AreTakenInOrder steps p
+  pub all_taken : (r : ℕ) → AreAtRest p → IsOpenAt r p.left.end → IsOpenAt r p.right.end → IsAllTaken r p steps
+
 -- ---- all of it
 
 pub record IsSafe (p : TwoEnds) : Type 0 where
@@ -159,3 +167,4 @@ pub record IsSafe (p : TwoEnds) : Type 0 where
   pub no_fault : OfEachConnection ShowNoFault p
   pub ends : EndsForFewReasons p
   pub losses : LoseAsTheyEnd p
+  pub taken : TakeWhatWasSent p

@@ -38,7 +38,7 @@ impl Pair {
     ghost use Rattle.osi_pair.specs.Ends.{fresh_ends, end_at};
     ghost use Rattle.osi_pair.specs.Entries.{entry_by};
     ghost use Rattle.osi_pair.specs.Events.{misfit, error_by_rule, Does, DoAll, CarriesAsMuch, Adds};
-    ghost use Rattle.osi_pair.specs.Promises.{AgreeUnlessDuplex, AllWereAskedFor, ConfirmedIsSeen, EndsForFewReasons, HaveOneHolder, IsLegalJournal, IsSafe, IsShownAsAsked, LoseAsTheyEnd, OfEachConnection, ShowNoFault};
+    ghost use Rattle.osi_pair.specs.Promises.{AgreeUnlessDuplex, AllWereAskedFor, ConfirmedIsSeen, EndsForFewReasons, HaveOneHolder, IsLegalJournal, IsSafe, IsShownAsAsked, LoseAsTheyEnd, OfEachConnection, ShowNoFault, TakeWhatWasSent};
     ghost use Rattle.osi_pair.specs.Reached.{IsReached};
     ghost use Rattle.osi_pair.specs.Running.{StopsAt};
     ghost use Rattle.osi_pair.specs.Standing.{StandsAt};
@@ -135,6 +135,7 @@ impl Pair {
         ensures one_holder { HaveOneHolder self.now }
         ensures confirmed_is_seen { OfEachConnection (ConfirmedIsSeen self.now) self.now }
         ensures ends { EndsForFewReasons self.now }
+        ensures taken { TakeWhatWasSent self.now }
     {
         self.is_safe();
         match side {

@@ -19,7 +19,8 @@ use osi_machine::laws::{the_tables_are_the_machine, what_is_heard_was_said, what
 /// its V(A) is in the view of the other, unless the other has asked for a restart and has seen no answer.
 /// Neither user is shown a fault, of this side or of the other; an end ends only by a break, want of memory,
 /// or its own close; and a user is shown a loss only where his end was told of a break or had no memory. All of
-/// this is true of two ends that stand at some list of steps, as those of every pair do.
+/// this, and that units are taken as they were sent ([`what_is_taken_was_sent`]), is true of two ends that
+/// stand at some list of steps, as those of every pair do.
 pub fn what_two_ends_tell()
     ensures legal_journal { (p : TwoEnds) (steps : List Step) → StandsAt p steps → IsLegalJournal p }
     ensures asked { (p : TwoEnds) (steps : List Step) → StandsAt p steps → AllWereAskedFor p }
@@ -34,6 +35,7 @@ pub fn what_two_ends_tell()
 {
     the_tables_are_the_machine();
     what_two_tables_tell();
+    what_is_taken_was_sent();
 }
 
 /// Of each connection, each way, the units that one session took are how those that the other's session sent

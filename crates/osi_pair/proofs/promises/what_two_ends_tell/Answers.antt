@@ -39,4 +39,10 @@ returns-clause-all c p at = record {
   no_fault = promises.no_fault c.what_two_tables_tell.ensures.fault p at.steps at.stands;
   ends = promises.few_reasons p at.steps at.stands;
   losses = promises.losses c.what_two_tables_tell.ensures.lost p at.steps at.stands;
+  taken = record {
+    steps = at.steps;
+    journal = at.stands.stands.journal;
+    prefix = c.what_is_taken_was_sent.ensures.prefix p at.steps at.stands;
+    all_taken = λ r rest left right. c.what_is_taken_was_sent.ensures.all_taken p at.steps r at.stands rest left right;
+  };
 }
