@@ -1,12 +1,19 @@
 -- What one session took is how what the other sent begins; and it is all of it where nothing is under way.
-use Rattle.std.proofs.Common.{◌≡◌, refl, sym, ◌∙◌, ap, subst, ℕ, ◌+◌, ◌<◌, ◌≤◌, true, false, List, [], ◌∷◌, ◌++◌, length, map, Some, None, option_map, is_some, inl, inr, ◌⊎◌, arith}
+use Rattle.std.proofs.Common.{◌≡◌, refl, sym, ◌∙◌, ap, subst, ℕ, ◌+◌, ◌<◌, ◌≤◌, true, false, List, [], ◌∷◌, ◌++◌, length, map, Option, Some, None, option_map, is_some, inl, inr, ◌⊎◌, arith}
 use Rattle.std.proofs.lemmas.List.{append-nil}
-use Rattle.osi_carrier.specs.Between.{Both, Between, AreBetween, last_of, under_way, IsStill, IsAllThere}
+use Rattle.std.specs.List.{AllByRecursion}
+use Rattle.osi_tpkt.proofs.Fronts.{completed_partial, partial_not_whole}
+use Rattle.osi_tpkt.specs.Packet.{IsPartial, packet_of}
+use Rattle.osi_tpdu.specs.Value.{Value}
+use Rattle.osi_tpdu.specs.Writing.{written}
+use Rattle.osi_carrier.proofs.Coming.{unit_packet}
+use Rattle.osi_carrier.specs.Between.{Both, Between, AreBetween, IsOnTheWay, arriving, reach_of, within_reach, last_of, under_way, IsStill, IsAllThere}
+use Rattle.osi_carrier.specs.Coming.{IsSendable}
 use Rattle.osi_carrier.specs.Course.{was_given, place_at, progress_of}
 use Rattle.osi_carrier.specs.Messages as carrier
 use Rattle.osi_carrier.specs.Progress.{Progress}
 use Rattle.osi_carrier.specs.Rows.{value_at}
-use Rattle.osi_carrier.specs.State.{State, linked}
+use Rattle.osi_carrier.specs.State.{State, linked, packets}
 use Rattle.osi_carrier.specs.Terms.{Terms, terms_of}
 use Rattle.osi_class.specs.Link.{Standing}
 use Rattle.osi_machine.specs.Core as machine
@@ -19,6 +26,7 @@ use Rattle.osi_machine.specs.Worlds as worlds
 use Rattle.osi_pair.specs.Ends.{TwoEnds, end_at}
 use Rattle.osi_pair.specs.Promises.{sent_by, taken_by, AreTakenInOrder, AreAtRest, IsOpenAt, kept_of, IsAllTaken}
 use Rattle.osi_pair.specs.Standing.{terms_in, is_caller, transport_in, message_in, carriers_of, AreAlike, StandsAt}
+use Rattle.osi_pair.specs.declared.reach.Reach.{Reach}
 use Rattle.osi_pair.specs.declared.sides.Side.{Side}
 use Rattle.osi_pair.specs.declared.sides.Side.TheVariants.{Left, Right}
 use Rattle.osi_pair.proofs.StandingActed.{live_place}
@@ -60,15 +68,42 @@ open_alike side r p steps h lasts o some others alike =
     subst (λ (g : Progress). AreAlike g some others)
     (ap (λ (s : State). progress_of (place_at r s)) (sym (last_now side p steps h lasts)) ∙ ap progress_of (open_place side r p steps h lasts o)) alike
 
-at_rest : (p : TwoEnds) → AreAtRest p → IsStill (carriers_of p)
-at_rest p rest = record {
+front_none : (xs ys : List ℕ) → xs ++ ys ≡ [] → xs ≡ []
+front_none [] ys e = refl
+front_none (x ∷ xs) ys e = absurd (cc)
+
+-- an end to which nothing more comes, and that holds no whole packet, holds nothing
+held_none : (held arriving : List ℕ) (units lost : List Value) → IsPartial held → arriving ≡ [] → lost ≡ [] → IsOnTheWay held arriving units lost → held ≡ []
+held_none held arriving units lost part none whole w = by units w.sendable all
+  where
+    all : held ≡ packets units
+    all = sym (append-nil held) ∙ ap (λ (l : List ℕ). held ++ l) (sym none) ∙ w.octets
+        ∙ ap (λ (l : List ℕ). packets units ++ l) (front_none w.front w.never (w.rest ∙ ap packets whole)) ∙ append-nil (packets units)
+
+    by : (us : List Value) → AllByRecursion IsSendable us → held ≡ packets us → held ≡ []
+    by [] sendable e = e
+    by (u ∷ us) sendable e =
+        absurd (partial_not_whole (packet_of (written u)) (completed_partial (packet_of (written u)) (packets us) (subst IsPartial e part)) (written u, unit_packet u sendable.0))
+
+held_at_rest : (side : Side) (p : TwoEnds) (steps : List Step) (h : StandsAt p steps) → AreAtRest p → (end_at side p).held.octets ≡ []
+held_at_rest Left p steps h rest =
+    held_none p.left.held.octets (arriving false (carriers_of p)) h.now.coming h.now.coming_lost (rest.held Left)
+    (ap (λ (r : Option Reach). within_reach (reach_of false (option_map (λ r. (r.left, r.right)) r)) p.right.end.carrier.outgoing) rest.unbroken ∙ rest.outgoing Right)
+    (h.stands.between.unbroken (ap (option_map (λ r. (r.left, r.right))) rest.unbroken) false) (h.stands.between.comes false (rest.lasts Left))
+held_at_rest Right p steps h rest =
+    held_none p.right.held.octets (arriving true (carriers_of p)) h.now.going h.now.going_lost (rest.held Right)
+    (ap (λ (r : Option Reach). within_reach (reach_of true (option_map (λ r. (r.left, r.right)) r)) p.left.end.carrier.outgoing) rest.unbroken ∙ rest.outgoing Left)
+    (h.stands.between.unbroken (ap (option_map (λ r. (r.left, r.right))) rest.unbroken) true) (h.stands.between.comes true (rest.lasts Right))
+
+at_rest : (p : TwoEnds) (steps : List Step) → StandsAt p steps → AreAtRest p → IsStill (carriers_of p)
+at_rest p steps h rest = record {
   unbroken = ap (option_map (λ r. (r.left, r.right))) rest.unbroken;
   lasts = rest.lasts Left;
   lasts_called = rest.lasts Right;
   outgoing = rest.outgoing Left;
   outgoing_called = rest.outgoing Right;
-  held = rest.held Left;
-  held_called = rest.held Right;
+  held = held_at_rest Left p steps h rest;
+  held_called = held_at_rest Right p steps h rest;
 }
 
 -- its reference was given
@@ -91,7 +126,7 @@ all_taken heard empties p steps r h rest left right =
     let terms = terms_in (terms_of p.left.end.carrier.local p.right.end.carrier.local) in
     let given = open_given r p steps h left in
     let here = line_at r p steps h given.0 given.1 in
-    let there = empties (terms_of p.left.end.carrier.local p.right.end.carrier.local) (carriers_of p) h.now r left.peer right.peer left.link right.link h.stands.between (at_rest p rest) left.live right.live in
+    let there = empties (terms_of p.left.end.carrier.local p.right.end.carrier.local) (carriers_of p) h.now r left.peer right.peer left.link right.link h.stands.between (at_rest p steps h rest) left.live right.live in
     let own : here.line.own.transport ≡ worlds.linked = here.is.left.transport ∙ ap transport_in (open_place Left r p steps h (rest.lasts Left) left) in
     let peer : here.line.peer.transport ≡ worlds.linked = here.is.right.transport ∙ ap transport_in (open_place Right r p steps h (rest.lasts Right) right) in
     let whole : (tables_at p steps).broken ≡ false = h.stands.broken ∙ ap is_some rest.unbroken in

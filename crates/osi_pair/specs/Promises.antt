@@ -1,7 +1,8 @@
 -- What the users of two ends may rely on, read from what they can see: the journal, and what each end
 -- says of its connections.
-use Rattle.std.specs.Prelude.{◌≡◌, ℕ, ◌<◌, ◌≤◌, Bool, true, false, ◌&&◌, List, [], ◌∷◌, ◌++◌, map, Option, Some, None, is_some}
+use Rattle.std.specs.Prelude.{◌≡◌, ℕ, ◌<◌, ◌≤◌, true, false, ◌&&◌, List, [], ◌∷◌, ◌++◌, map, Option, Some, None, is_some}
 use Rattle.std.specs.List.{list_any}
+use Rattle.osi_tpkt.specs.Packet.{IsPartial}
 use Rattle.osi_carrier.specs.Calls.{begun_by}
 use Rattle.osi_carrier.specs.Rows.{value_at}
 use Rattle.osi_carrier.specs.State.{Connection, linked}
@@ -123,12 +124,12 @@ abbrev pub AreTakenInOrder : List Step → TwoEnds → Type 0
 AreTakenInOrder steps p = (r : ℕ) →
     Begins (taken_by Right r p steps) (sent_by Left r p steps) × Begins (taken_by Left r p steps) (sent_by Right r p steps)
 
--- there was no break, neither end has ended, and no octet is under way or held
+-- there was no break, neither end has ended or has octets to hand over, and neither holds a whole packet
 pub record AreAtRest (p : TwoEnds) : Type 0 where
   pub unbroken : p.reach ≡ None
   pub lasts : (side : Side) → (end_at side p).end.carrier.ended ≡ None
   pub outgoing : (side : Side) → (end_at side p).end.carrier.outgoing ≡ []
-  pub held : (side : Side) → (end_at side p).held.octets ≡ []
+  pub held : (side : Side) → IsPartial (end_at side p).held.octets
 
 -- a connection is open at an end
 pub record IsOpenAt (r : ℕ) (e : End) : Type 0 where

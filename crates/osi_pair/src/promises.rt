@@ -40,8 +40,8 @@ pub fn what_two_ends_tell()
 
 /// Of each connection, each way, the units that one session took are how those that the other's session sent
 /// begin, whole and in order, whatever the cuts, the credits and the other connections. They are all of them,
-/// and no octet of it is kept at either end, where there was no break, neither end has ended, no octet is
-/// under way or held, and the connection is open at both ends.
+/// and no octet of it is kept at either end, where there was no break, neither end has ended or has octets to
+/// hand over, neither holds a whole packet, and the connection is open at both ends.
 pub fn what_is_taken_was_sent()
     ensures prefix { (p : TwoEnds) (steps : List Step) → StandsAt p steps → AreTakenInOrder steps p }
     ensures all_taken { (p : TwoEnds) (steps : List Step) (r : ℕ) → StandsAt p steps → AreAtRest p → IsOpenAt r p.left.end → IsOpenAt r p.right.end →
