@@ -1,12 +1,14 @@
 -- What a unit does to the connection of a reference, by how far it is.
-use Rattle.std.proofs.Common.{◌≡◌, ℕ, suc, ◌+◌, ◌≤◌, [], ◌∷◌, length, Option, Some, None, refl, ap, sym, true, false, Bool, ◌==◌, is_some, if◌then◌else◌, arith}
+use Rattle.std.proofs.Common.{◌≡◌, ◌∙◌, ℕ, suc, ◌+◌, ◌≤◌, List, [], ◌∷◌, length, Option, Some, None, refl, ap, sym, true, false, Bool, ◌==◌, is_some, if◌then◌else◌, arith}
 use Rattle.std.proofs.Common.{eq-eqb}
 use Rattle.std.proofs.lemmas.Grind.{common_steps}
 use Rattle.std.specs.List.{position_or_len}
-use Rattle.osi_tpdu.specs.Value.{Value}
+use Rattle.osi_tpdu.specs.Value.{Value, data0, data2, acknowledge}
+use Rattle.osi_class.specs.Link.{taken}
+use Rattle.osi_class.specs.declared.terms.Class.TheVariants.{Zero, Two}
 use Rattle.osi_carrier.specs.Rows.{Rows, value_at, place_of, first_of}
 use Rattle.osi_carrier.specs.Calls.{open_link, link_of}
-use Rattle.osi_carrier.specs.React.{to_connection, to_unknown, to_asked, to_linked, to_closing, to_only}
+use Rattle.osi_carrier.specs.React.{to_connection, to_reference, to_unknown, to_asked, to_linked, to_closing, to_only, taking, in_zero, in_two, in_class}
 use Rattle.osi_carrier.specs.Stages.{stage_of, link_in}
 use Rattle.osi_carrier.specs.State.{State, Connection, asked, linked, closing}
 use Rattle.osi_carrier.proofs.Places.{placed}
@@ -85,3 +87,33 @@ live_by r rows (Some i) e = sym (ap is_some (placed r rows i (0, asked) e).there
 -- a reference that has a place has a connection
 pub live_is : (r : ℕ) (rows : Rows Connection) → is_some (place_of r rows) ≡ is_some (value_at r rows)
 live_is r rows = live_by r rows (place_of r rows) refl
+
+-- ---- a DT or AK for an open connection is for its link
+
+two_data : (b : Bool) (r n : ℕ) (end : Bool) (user : List ℕ) (s : State) → in_two b (data2 r n end user) s ≡ to_reference r (data2 r n end user) s
+two_data true r n end user s = refl
+two_data false r n end user s = refl
+
+pub data2_taken : (r n peer : ℕ) (end : Bool) (user : List ℕ) (s : State) → s.class ≡ Some Two → stage_of (value_at r s.live) ≡ Open peer →
+    in_class s.class (data2 r n end user) s ≡ taking r peer (taken (link_in (value_at r s.live)) (data2 r n end user)) s
+data2_taken r n peer end user s two opened =
+    ap (λ c. in_class c (data2 r n end user) s) two ∙ two_data s.is_caller r n end user s ∙ by_open r peer (value_at r s.live) (data2 r n end user) s opened
+
+two_ack : (b : Bool) (credit r n : ℕ) (s : State) → in_two b (acknowledge credit r n) s ≡ to_reference r (acknowledge credit r n) s
+two_ack true credit r n s = refl
+two_ack false credit r n s = refl
+
+pub ack_taken : (credit r n peer : ℕ) (s : State) → s.class ≡ Some Two → stage_of (value_at r s.live) ≡ Open peer →
+    in_class s.class (acknowledge credit r n) s ≡ taking r peer (taken (link_in (value_at r s.live)) (acknowledge credit r n)) s
+ack_taken credit r n peer s two opened =
+    ap (λ c. in_class c (acknowledge credit r n) s) two ∙ two_ack s.is_caller credit r n s ∙ by_open r peer (value_at r s.live) (acknowledge credit r n) s opened
+
+zero_data : (b : Bool) (end : Bool) (user : List ℕ) (s : State) → in_zero b (data0 end user) s ≡ to_only s.live (data0 end user) s
+zero_data true end user s = refl
+zero_data false end user s = refl
+
+pub data0_taken : (r peer : ℕ) (end : Bool) (user : List ℕ) (s : State) → s.class ≡ Some Zero → first_of s.live ≡ Some r → stage_of (value_at r s.live) ≡ Open peer →
+    in_class s.class (data0 end user) s ≡ taking r peer (taken (link_in (value_at r s.live)) (data0 end user)) s
+data0_taken r peer end user s zero first opened =
+    ap (λ c. in_class c (data0 end user) s) zero ∙ zero_data s.is_caller end user s ∙ only_is r s.live (data0 end user) s first
+    ∙ by_open r peer (value_at r s.live) (data0 end user) s opened

@@ -80,3 +80,6 @@ pub one_starved : (start tried after : State) (unit : Value) → start.ended ≡
     after ≡ ends NoMemory tried → Act start (unit ∷ []) after
 one_starved start tried after unit quiet nothing ended =
     along_starved start start tried after (unit ∷ []) (unit ∷ []) [] unit (along_first start (unit ∷ []) quiet) refl nothing ended
+
+pub one_taken : (start after then : State) (unit : Value) → start.ended ≡ None → in_class start.class unit start ≡ then → after ≡ then → Act start (unit ∷ []) after
+one_taken start after then unit quiet acts is = one_acts start after unit quiet (is ∙ sym acts)

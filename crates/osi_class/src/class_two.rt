@@ -126,6 +126,7 @@ impl Link for Class2 {
         })
     }
 
+    #[inline(always)]
     fn next_tsdu(&mut self) -> Option<Vec<u8>> {
         self.incoming.pop()
     }

@@ -87,6 +87,7 @@ impl Link for Class0 {
         })
     }
 
+    #[inline(always)]
     fn next_tsdu(&mut self) -> Option<Vec<u8>> {
         self.incoming.pop()
     }

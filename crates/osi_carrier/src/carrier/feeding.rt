@@ -29,6 +29,10 @@ impl Carrier {
         ensures { Fetches self.old octets.now result self.new }
     {
         a_prefix_of_a_packet();
+        let _cutter = &self.cutter;
+        if octets.is_empty() {
+            return Fetched::Part;
+        }
         let Some(packet) = self.cutter.pass(octets) else {
             return self.gather(octets);
         };

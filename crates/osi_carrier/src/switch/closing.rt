@@ -19,7 +19,6 @@ use std::alloc::AllocError;
 impl Switch {
     /// A unit for a reference that is not live: a DR is answered, a DC is ignored, and all else ends
     /// the carrier.
-    #[inline(always)]
     pub fn to_unknown(&mut self, unit: &Tpdu<'_>) -> Result<(), AllocError>
         ensures ok { OnOk result (self.new ≡ to_unknown (value unit.now) self.old) }
         ensures err { OnErr result (ends NoMemory self.new ≡ ends NoMemory self.old) }
@@ -36,7 +35,6 @@ impl Switch {
     }
 
     /// A unit for a connection that is closing: a DC or a DR ends it, and all else is ignored.
-    #[inline(always)]
     pub fn to_closing(&mut self, place: usize, reference: u16, unit: &Tpdu<'_>)
         requires { place_of reference self.old.live ≡ Some place }
         ensures { self.new ≡ to_closing reference (value unit.now) self.old }

@@ -25,7 +25,6 @@ const PROTOCOL_ERROR: u8 = 133;
 
 impl Switch {
     /// A unit for an open connection: a DR closes it, and all else is for its link.
-    #[inline(always)]
     pub fn to_linked(
         &mut self,
         place: usize,
@@ -52,7 +51,7 @@ impl Switch {
 
     /// The link takes the unit or refuses it.
     #[inline(always)]
-    fn take(
+    pub fn take(
         &mut self,
         place: usize,
         reference: u16,

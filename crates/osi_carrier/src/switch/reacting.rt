@@ -22,7 +22,6 @@ use std::alloc::AllocError;
 
 impl Switch {
     /// A unit for a connection that awaits its CC.
-    #[inline(always)]
     fn to_asked(&mut self, place: usize, reference: u16, unit: &Tpdu<'_>) -> Result<(), AllocError>
         requires { place_of reference self.old.live ≡ Some place }
         ensures ok { OnOk result (self.new ≡ to_asked reference (value unit.now) self.old) }
@@ -81,7 +80,6 @@ impl Switch {
     }
 
     /// A unit for a reference.
-    #[inline(always)]
     fn to_reference(&mut self, reference: u16, unit: &Tpdu<'_>) -> Result<(), AllocError>
         ensures ok { OnOk result (self.new ≡ to_reference reference (value unit.now) self.old) }
         ensures err { OnErr result (ends NoMemory self.new ≡ ends NoMemory self.old) }
@@ -101,7 +99,6 @@ impl Switch {
     }
 
     /// A unit before the class is known.
-    #[inline(always)]
     fn before_class(&mut self, unit: &Tpdu<'_>) -> Result<(), AllocError>
         ensures ok { OnOk result (self.new ≡ before_class self.old.is_caller (value unit.now) self.old) }
         ensures err { OnErr result (ends NoMemory self.new ≡ ends NoMemory self.old) }
@@ -114,7 +111,6 @@ impl Switch {
     }
 
     /// A unit at the calling end before the class is known: an answer to its CR.
-    #[inline(always)]
     fn answered(&mut self, unit: &Tpdu<'_>) -> Result<(), AllocError>
         ensures ok { OnOk result (self.new ≡ before_class true (value unit.now) self.old) }
         ensures err { OnErr result (ends NoMemory self.new ≡ ends NoMemory self.old) }
@@ -131,7 +127,6 @@ impl Switch {
     }
 
     /// A unit at the called end before the class is known: a CR.
-    #[inline(always)]
     fn asked(&mut self, unit: &Tpdu<'_>) -> Result<(), AllocError>
         ensures ok { OnOk result (self.new ≡ before_class false (value unit.now) self.old) }
         ensures err { OnErr result (ends NoMemory self.new ≡ ends NoMemory self.old) }
@@ -152,7 +147,6 @@ impl Switch {
     }
 
     /// A unit in class 0, for the one connection.
-    #[inline(always)]
     fn in_zero(&mut self, unit: &Tpdu<'_>) -> Result<(), AllocError>
         ensures ok { OnOk result (self.new ≡ in_zero self.old.is_caller (value unit.now) self.old) }
         ensures err { OnErr result (ends NoMemory self.new ≡ ends NoMemory self.old) }
@@ -167,7 +161,6 @@ impl Switch {
     }
 
     /// A unit for the one connection, whatever its reference.
-    #[inline(always)]
     fn to_only(&mut self, unit: &Tpdu<'_>) -> Result<(), AllocError>
         ensures ok { OnOk result (self.new ≡ to_only self.old.live (value unit.now) self.old) }
         ensures err { OnErr result (ends NoMemory self.new ≡ ends NoMemory self.old) }
@@ -179,7 +172,6 @@ impl Switch {
     }
 
     /// A unit in class 2, by its reference.
-    #[inline(always)]
     fn in_two(&mut self, unit: &Tpdu<'_>) -> Result<(), AllocError>
         ensures ok { OnOk result (self.new ≡ in_two self.old.is_caller (value unit.now) self.old) }
         ensures err { OnErr result (ends NoMemory self.new ≡ ends NoMemory self.old) }
@@ -200,7 +192,6 @@ impl Switch {
     }
 
     /// A CR in class 2.
-    #[inline(always)]
     fn asked_in_two(&mut self, cr: &ConnectRequest<'_>) -> Result<(), AllocError>
         ensures ok { OnOk result (self.new ≡ in_two self.old.is_caller (request (request_content cr.now)) self.old) }
         ensures err { OnErr result (ends NoMemory self.new ≡ ends NoMemory self.old) }
@@ -213,7 +204,6 @@ impl Switch {
     }
 
     /// A unit that comes before the carrier has ended.
-    #[inline(always)]
     pub fn react(&mut self, unit: &Tpdu<'_>) -> Result<(), AllocError>
         ensures ok { OnOk result (self.new ≡ in_class self.old.class (value unit.now) self.old) }
         ensures err { OnErr result (ends NoMemory self.new ≡ ends NoMemory self.old) }
