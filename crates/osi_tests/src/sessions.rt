@@ -98,7 +98,8 @@ fn a_unit_that_cannot_be_read_is_answered(rt: HostRuntime) -> Result<(), Fail> {
     let Err(fault) = read_tsdu(&[0x21, 0x00]) else {
         return Err(Fail::from("a unit"));
     };
-    match left.take_bad(fault)?.reply {
+    let taken = left.take_bad(fault)?;
+    match &taken.reply {
         Some(sent) => same(sent.as_slice(), &[0x19, 0x03, 0x11, 0x01, 0x05])?,
         None => return Err(Fail::from("no answer")),
     }
