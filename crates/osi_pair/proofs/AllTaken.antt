@@ -1,5 +1,5 @@
 -- What one session took is how what the other sent begins; and it is all of it where nothing is under way.
-use Rattle.std.proofs.Common.{◌≡◌, refl, sym, ◌∙◌, ap, subst, ℕ, ◌+◌, ◌<◌, ◌≤◌, true, false, List, [], ◌∷◌, ◌++◌, length, map, Option, Some, None, option_map, is_some, inl, inr, ◌⊎◌, arith}
+use Rattle.std.proofs.Common.{◌≡◌, refl, sym, ◌∙◌, ap, subst, ℕ, ◌+◌, ◌<◌, ◌≤◌, Bool, true, false, List, [], ◌∷◌, ◌++◌, length, map, Option, Some, None, option_map, is_some, inl, inr, ◌⊎◌, arith}
 use Rattle.std.proofs.lemmas.List.{append-nil}
 use Rattle.std.specs.List.{AllByRecursion}
 use Rattle.osi_tpkt.proofs.Fronts.{completed_partial, partial_not_whole}
@@ -7,13 +7,14 @@ use Rattle.osi_tpkt.specs.Packet.{IsPartial, packet_of}
 use Rattle.osi_tpdu.specs.Value.{Value}
 use Rattle.osi_tpdu.specs.Writing.{written}
 use Rattle.osi_carrier.proofs.Coming.{unit_packet}
-use Rattle.osi_carrier.specs.Between.{Both, Between, AreBetween, IsOnTheWay, arriving, reach_of, within_reach, last_of, under_way, IsStill, IsAllThere}
+use Rattle.osi_carrier.specs.Between.{Both, Between, AreBetween, IsOnTheWay, AreJoinedBy, arriving, reach_of, within_reach, last_of, lost_from, units_from, under_way, IsStill, IsAllThere}
 use Rattle.osi_carrier.specs.Coming.{IsSendable}
+use Rattle.osi_carrier.specs.Calls.{begun_by, kept_in}
 use Rattle.osi_carrier.specs.Course.{was_given, place_at, progress_of}
 use Rattle.osi_carrier.specs.Messages as carrier
 use Rattle.osi_carrier.specs.Progress.{Progress}
 use Rattle.osi_carrier.specs.Rows.{value_at}
-use Rattle.osi_carrier.specs.State.{State, linked, packets}
+use Rattle.osi_carrier.specs.State.{Connection, State, asked, linked, closing, packets}
 use Rattle.osi_carrier.specs.Terms.{Terms, terms_of}
 use Rattle.osi_class.specs.Link.{Standing}
 use Rattle.osi_machine.specs.Core as machine
@@ -24,11 +25,13 @@ use Rattle.osi_machine.specs.Tables.{side_of, turned}
 use Rattle.osi_machine.specs.Worlds.{Message}
 use Rattle.osi_machine.specs.Worlds as worlds
 use Rattle.osi_pair.specs.Ends.{TwoEnds, end_at}
-use Rattle.osi_pair.specs.Promises.{sent_by, taken_by, AreTakenInOrder, AreAtRest, IsOpenAt, kept_of, IsAllTaken}
+use Rattle.osi_pair.specs.Promises.{sent_by, taken_by, AreTakenInOrder, AreAtRest, IsOpenAt, kept_at, kept_of, IsAllTaken}
+use Rattle.osi_pair.specs.Sides.{other}
 use Rattle.osi_pair.specs.Standing.{terms_in, is_caller, transport_in, message_in, carriers_of, AreAlike, StandsAt}
 use Rattle.osi_pair.specs.declared.reach.Reach.{Reach}
 use Rattle.osi_pair.specs.declared.sides.Side.{Side}
 use Rattle.osi_pair.specs.declared.sides.Side.TheVariants.{Left, Right}
+use Rattle.osi_pair.proofs.NothingKept.{open_there, open_here, none_begun}
 use Rattle.osi_pair.proofs.StandingActed.{live_place}
 use Rattle.osi_pair.proofs.StandingFinish.{order_of}
 use Rattle.osi_pair.proofs.StandingPromises.{tables_at, line_at, outside_by, within}
@@ -72,28 +75,31 @@ front_none : (xs ys : List ℕ) → xs ++ ys ≡ [] → xs ≡ []
 front_none [] ys e = refl
 front_none (x ∷ xs) ys e = absurd (cc)
 
--- an end to which nothing more comes, and that holds no whole packet, holds nothing
-held_none : (held arriving : List ℕ) (units lost : List Value) → IsPartial held → arriving ≡ [] → lost ≡ [] → IsOnTheWay held arriving units lost → held ≡ []
-held_none held arriving units lost part none whole w = by units w.sendable all
+-- nothing comes to an end to which nothing more is handed over, and that holds no whole packet
+none_coming : (held arriving : List ℕ) (units lost : List Value) → IsPartial held → arriving ≡ [] → lost ≡ [] → IsOnTheWay held arriving units lost → (units ≡ []) × (held ≡ [])
+none_coming held arriving units lost part none whole w = by units w.sendable all
   where
     all : held ≡ packets units
     all = sym (append-nil held) ∙ ap (λ (l : List ℕ). held ++ l) (sym none) ∙ w.octets
         ∙ ap (λ (l : List ℕ). packets units ++ l) (front_none w.front w.never (w.rest ∙ ap packets whole)) ∙ append-nil (packets units)
 
-    by : (us : List Value) → AllByRecursion IsSendable us → held ≡ packets us → held ≡ []
-    by [] sendable e = e
+    by : (us : List Value) → AllByRecursion IsSendable us → held ≡ packets us → (us ≡ []) × (held ≡ [])
+    by [] sendable e = (refl, e)
     by (u ∷ us) sendable e =
         absurd (partial_not_whole (packet_of (written u)) (completed_partial (packet_of (written u)) (packets us) (subst IsPartial e part)) (written u, unit_packet u sendable.0))
 
-held_at_rest : (side : Side) (p : TwoEnds) (steps : List Step) (h : StandsAt p steps) → AreAtRest p → (end_at side p).held.octets ≡ []
-held_at_rest Left p steps h rest =
-    held_none p.left.held.octets (arriving false (carriers_of p)) h.now.coming h.now.coming_lost (rest.held Left)
+none_lost : (from : Bool) (p : TwoEnds) (steps : List Step) (h : StandsAt p steps) → AreAtRest p → lost_from from h.now ≡ []
+none_lost from p steps h rest = h.stands.between.unbroken (ap (option_map (λ r. (r.left, r.right))) rest.unbroken) from
+
+rests_at : (side : Side) (p : TwoEnds) (steps : List Step) (h : StandsAt p steps) → AreAtRest p → (units_from (is_caller (other side)) h.now ≡ []) × ((end_at side p).held.octets ≡ [])
+rests_at Left p steps h rest =
+    none_coming p.left.held.octets (arriving false (carriers_of p)) h.now.coming h.now.coming_lost (rest.held Left)
     (ap (λ (r : Option Reach). within_reach (reach_of false (option_map (λ r. (r.left, r.right)) r)) p.right.end.carrier.outgoing) rest.unbroken ∙ rest.outgoing Right)
-    (h.stands.between.unbroken (ap (option_map (λ r. (r.left, r.right))) rest.unbroken) false) (h.stands.between.comes false (rest.lasts Left))
-held_at_rest Right p steps h rest =
-    held_none p.right.held.octets (arriving true (carriers_of p)) h.now.going h.now.going_lost (rest.held Right)
+    (none_lost false p steps h rest) (h.stands.between.comes false (rest.lasts Left))
+rests_at Right p steps h rest =
+    none_coming p.right.held.octets (arriving true (carriers_of p)) h.now.going h.now.going_lost (rest.held Right)
     (ap (λ (r : Option Reach). within_reach (reach_of true (option_map (λ r. (r.left, r.right)) r)) p.left.end.carrier.outgoing) rest.unbroken ∙ rest.outgoing Left)
-    (h.stands.between.unbroken (ap (option_map (λ r. (r.left, r.right))) rest.unbroken) true) (h.stands.between.comes true (rest.lasts Right))
+    (none_lost true p steps h rest) (h.stands.between.comes true (rest.lasts Right))
 
 at_rest : (p : TwoEnds) (steps : List Step) → StandsAt p steps → AreAtRest p → IsStill (carriers_of p)
 at_rest p steps h rest = record {
@@ -102,8 +108,8 @@ at_rest p steps h rest = record {
   lasts_called = rest.lasts Right;
   outgoing = rest.outgoing Left;
   outgoing_called = rest.outgoing Right;
-  held = held_at_rest Left p steps h rest;
-  held_called = held_at_rest Right p steps h rest;
+  held = (rests_at Left p steps h rest).1;
+  held_called = (rests_at Right p steps h rest).1;
 }
 
 -- its reference was given
@@ -145,3 +151,35 @@ all_taken heard empties p steps r h rest left right =
     kept : IsAllThere r (carriers_of p) h.now left.link right.link → (side : Side) → kept_of (value_at r (end_at side p).end.carrier.live) ≡ 0
     kept there Left = ap kept_of left.live ∙ ap length there.links.begun
     kept there Right = ap kept_of right.live ∙ ap length there.links.begun_there
+
+-- ---- nothing is kept
+
+joined_at_rest : (p : TwoEnds) (steps : List Step) (h : StandsAt p steps) → AreAtRest p
+    → AreJoinedBy (terms_of p.left.end.carrier.local p.right.end.carrier.local) p.left.end.carrier p.right.end.carrier [] []
+joined_at_rest p steps h rest =
+    let terms = terms_of p.left.end.carrier.local p.right.end.carrier.local in
+    let going = ap (λ (l : List Value). h.now.going ++ l) (none_lost true p steps h rest) ∙ append-nil h.now.going ∙ (rests_at Right p steps h rest).0 in
+    let coming = ap (λ (l : List Value). h.now.coming ++ l) (none_lost false p steps h rest) ∙ append-nil h.now.coming ∙ (rests_at Left p steps h rest).0 in
+    subst (λ (s : State). AreJoinedBy terms s p.right.end.carrier [] []) (sym (last_now Left p steps h (rest.lasts Left)))
+    (subst (λ (s : State). AreJoinedBy terms h.now.caller s [] []) (sym (last_now Right p steps h (rest.lasts Right)))
+    (subst (λ (l : List Value). AreJoinedBy terms h.now.caller h.now.called l []) going
+    (subst (λ (l : List Value). AreJoinedBy terms h.now.caller h.now.called (h.now.going ++ h.now.going_lost) l) coming h.stands.between.joined)))
+
+none_begun_at : Empties → (side : Side) (p : TwoEnds) (steps : List Step) → StandsAt p steps → AreAtRest p → (r : ℕ) (x : Connection) → value_at r (end_at side p).end.carrier.live ≡ Some x → begun_by x ≡ 0
+none_begun_at empties side p steps h rest r asked at = refl
+none_begun_at empties side p steps h rest r (closing peer) at = refl
+none_begun_at empties Left p steps h rest r (linked peer link) at =
+    let terms = terms_of p.left.end.carrier.local p.right.end.carrier.local in
+    let there = open_there terms p.left.end.carrier p.right.end.carrier r peer link (joined_at_rest p steps h rest) at in
+    ap length (empties terms (carriers_of p) h.now r peer there.peer link there.link h.stands.between (at_rest p steps h rest) at there.live).links.begun
+none_begun_at empties Right p steps h rest r (linked peer link) at =
+    let terms = terms_of p.left.end.carrier.local p.right.end.carrier.local in
+    let here = open_here terms p.left.end.carrier p.right.end.carrier r peer link (joined_at_rest p steps h rest) at in
+    ap length (empties terms (carriers_of p) h.now r here.peer peer here.link link h.stands.between (at_rest p steps h rest) here.live at).links.begun_there
+
+pub nothing_kept : Empties → (p : TwoEnds) (steps : List Step) → StandsAt p steps → AreAtRest p → (side : Side) → kept_at side p ≡ 0
+nothing_kept empties p steps h rest side =
+    let held : length (end_at side p).held.octets ≡ 0 = ap length (rests_at side p steps h rest).1 in
+    let begun : kept_in (end_at side p).end.carrier.live ≡ 0 =
+    none_begun 0 (end_at side p).end.carrier.live (order_of side p h.now (tables_at p steps) h.stands (rest.lasts side)).sound.orderly.rise (none_begun_at empties side p steps h rest) in
+    omega arith

@@ -1,4 +1,5 @@
 pub mod AllTaken
+pub mod NothingKept
 pub mod Waiting
 pub mod Showing
 pub mod Pieces

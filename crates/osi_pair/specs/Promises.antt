@@ -1,9 +1,9 @@
 -- What the users of two ends may rely on, read from what they can see: the journal, and what each end
 -- says of its connections.
-use Rattle.std.specs.Prelude.{◌≡◌, ℕ, ◌<◌, ◌≤◌, true, false, ◌&&◌, List, [], ◌∷◌, ◌++◌, map, Option, Some, None, is_some}
+use Rattle.std.specs.Prelude.{◌≡◌, ℕ, ◌+◌, ◌<◌, ◌≤◌, true, false, ◌&&◌, List, [], ◌∷◌, ◌++◌, length, map, Option, Some, None, is_some}
 use Rattle.std.specs.List.{list_any}
 use Rattle.osi_tpkt.specs.Packet.{IsPartial}
-use Rattle.osi_carrier.specs.Calls.{begun_by}
+use Rattle.osi_carrier.specs.Calls.{begun_by, kept_in}
 use Rattle.osi_carrier.specs.Rows.{value_at}
 use Rattle.osi_carrier.specs.State.{Connection, linked}
 use Rattle.osi_carrier.specs.Terms.{terms_of}
@@ -137,7 +137,11 @@ pub record IsOpenAt (r : ℕ) (e : End) : Type 0 where
   pub link : Standing
   pub live : value_at r e.carrier.live ≡ Some (linked peer link)
 
--- how many octets an end keeps of a connection
+-- how many octets an end keeps of what came
+abbrev pub kept_at : Side → TwoEnds → ℕ
+kept_at side p = length (end_at side p).held.octets + kept_in (end_at side p).end.carrier.live
+
+-- and of a connection
 abbrev pub kept_of : Option Connection → ℕ
 kept_of None = 0
 kept_of (Some connection) = begun_by connection

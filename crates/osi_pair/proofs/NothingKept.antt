@@ -1,0 +1,129 @@
+-- Where nothing is on the way between two ends, a connection that is open at one is open at the other, and
+-- nothing of what came is kept.
+use Rattle.std.proofs.Common.{◌≡◌, refl, sym, ◌∙◌, ap, subst, ℕ, ◌+◌, Bool, true, false, ◌==◌, nat_lt, if◌then◌else◌, List, [], ◌∷◌, ◌++◌, Some, None, arith}
+use Rattle.std.proofs.lemmas.Bool.{eqb-true, eq-eqb}
+use Rattle.std.proofs.lemmas.List.Sums.{sum_by-cons}
+use Rattle.osi_tpdu.specs.Value.{Value}
+use Rattle.osi_class.specs.Between.{swapped}
+use Rattle.osi_class.specs.Link.{Standing}
+use Rattle.osi_class.specs.declared.terms.Local.{Local}
+use Rattle.osi_carrier.proofs.Apart.{absent}
+use Rattle.osi_carrier.proofs.JoinedMoves.{given_live, within_given}
+use Rattle.osi_carrier.proofs.Refusals.{none_open}
+use Rattle.osi_carrier.proofs.ZeroLaws.{at_one, not_here, not_asked}
+use Rattle.osi_carrier.specs.Between.{AreJoinedBy}
+use Rattle.osi_carrier.specs.Calls.{begun_by, kept_in}
+use Rattle.osi_carrier.specs.Course.{Place, never, was_given, place_at, Course, unasked, asking, accepting, withdrawing, met, at_end, from_end}
+use Rattle.osi_carrier.specs.Meeting.{talking, left_here, left_there, left_both, waiting_here, waiting_there, parted}
+use Rattle.osi_carrier.specs.Orderly.{RiseFrom}
+use Rattle.osi_carrier.specs.Rows.{Rows, value_at}
+use Rattle.osi_carrier.specs.State.{Connection, State, linked}
+use Rattle.osi_carrier.specs.Terms.{Terms, by_two, by_zero, refusing}
+use Rattle.osi_carrier.specs.Zero as zero
+
+-- ---- a connection that is open at one end
+
+-- it is open at this place
+record IsLinked (place : Place) : Type 0 where
+  peer : ℕ
+  link : Standing
+  is : place ≡ was_given (Some (linked peer link))
+
+pub record IsLinkedAt (n : ℕ) (s : State) : Type 0 where
+  pub peer : ℕ
+  pub link : Standing
+  pub live : value_at n s.live ≡ Some (linked peer link)
+
+last_there : (us : List Value) (u : Value) → us ++ u ∷ [] ≡ [] → ⊥
+last_there [] u e = cc
+last_there (v ∷ us) u e = cc
+
+-- class 2: at the called end, and at the caller
+linked_there : (n p : ℕ) (x : Standing) (called : Local) (g : Course) → at_end true n g ≡ was_given (Some (linked p x)) → from_end false n called g ≡ [] → IsLinked (at_end false n g)
+linked_there n p x called unasked a back = absurd (cc)
+linked_there n p x called (asking c) a back = absurd (cc)
+linked_there n p x called (accepting c l) a back = absurd (cc)
+linked_there n p x called (withdrawing c l reason) a back = absurd (cc)
+linked_there n p x called (met (talking l)) a back = record { peer = n; link = (swapped l).left; is = refl }
+linked_there n p x called (met (left_here l us reason)) a back = absurd (cc)
+linked_there n p x called (met (left_there l us reason)) a back = absurd (last_there _ _ back)
+linked_there n p x called (met (left_both us reason vs last)) a back = absurd (cc)
+linked_there n p x called (met (waiting_here us last)) a back = absurd (cc)
+linked_there n p x called (met (waiting_there us last)) a back = absurd (cc)
+linked_there n p x called (met parted) a back = absurd (cc)
+
+linked_here : (n p : ℕ) (x : Standing) (called : Local) (g : Course) → at_end false n g ≡ was_given (Some (linked p x)) → from_end true n called g ≡ [] → from_end false n called g ≡ [] → IsLinked (at_end true n g)
+linked_here n p x called unasked a out back = absurd (cc)
+linked_here n p x called (asking c) a out back = absurd (cc)
+linked_here n p x called (accepting c l) a out back = absurd (cc)
+linked_here n p x called (withdrawing c l reason) a out back = absurd (cc)
+linked_here n p x called (met (talking l)) a out back = record { peer = n; link = l.left; is = refl }
+linked_here n p x called (met (left_here l us reason)) a out back = absurd (last_there _ _ out)
+linked_here n p x called (met (left_there l us reason)) a out back = absurd (cc)
+linked_here n p x called (met (left_both us reason vs last)) a out back = absurd (cc)
+linked_here n p x called (met (waiting_here us last)) a out back = absurd (cc)
+linked_here n p x called (met (waiting_there us last)) a out back = absurd (cc)
+linked_here n p x called (met parted) a out back = absurd (cc)
+
+at_place : (n : ℕ) (s : State) → IsLinked (place_at n s) → IsLinkedAt n s
+at_place n s l = record { peer = l.peer; link = l.link; live = by (nat_lt s.given n) l.is }
+  where
+    by : (b : Bool) → (if b then never else was_given (value_at n s.live)) ≡ was_given (Some (linked l.peer l.link)) → value_at n s.live ≡ Some (linked l.peer l.link)
+    by true e = absurd (cc)
+    by false e = cc
+
+-- class 0: there is one connection
+one_linked : (n : ℕ) (s : State) (x : Standing) → n ≡ 1 → s.live ≡ (1, linked 1 x) ∷ [] → IsLinkedAt n s
+one_linked n s x e live = record { peer = 1; link = x; live = ap (value_at n) live ∙ ap (λ (m : ℕ). value_at m ((1, linked 1 x) ∷ [])) e }
+
+zero_there : (s r : State) (n p : ℕ) (x : Standing) (g : zero.ZeroCourse) → zero.HasOne s (zero.at_end true g) → zero.HasOne r (zero.at_end false g) → value_at n s.live ≡ Some (linked p x) → IsLinkedAt n r
+zero_there s r n p x zero.unasked one other at = absurd (not_here s n (linked p x) one at)
+zero_there s r n p x (zero.asking c) one other at = absurd (not_asked s n p x one at)
+zero_there s r n p x (zero.accepting c l) one other at = absurd (not_asked s n p x one at)
+zero_there s r n p x (zero.talking l) one other at = one_linked n r l.right (at_one s n (linked 1 l.left) (linked p x) one at).reference other.live
+
+zero_here : (s r : State) (n p : ℕ) (x : Standing) (g : zero.ZeroCourse) → zero.HasOne s (zero.at_end true g) → zero.HasOne r (zero.at_end false g) → [] ≡ zero.from_end false r.local g →
+    value_at n r.live ≡ Some (linked p x) → IsLinkedAt n s
+zero_here s r n p x zero.unasked one other back at = absurd (not_here r n (linked p x) other at)
+zero_here s r n p x (zero.asking c) one other back at = absurd (not_here r n (linked p x) other at)
+zero_here s r n p x (zero.accepting c l) one other back at = absurd (cc)
+zero_here s r n p x (zero.talking l) one other back at = one_linked n s l.left (at_one r n (linked 1 l.right) (linked p x) other at).reference one.live
+
+-- whatever they come to
+pub open_there : (terms : Terms) (s r : State) (n p : ℕ) (x : Standing) → AreJoinedBy terms s r [] [] → value_at n s.live ≡ Some (linked p x) → IsLinkedAt n r
+open_there by_two s r n p x j at =
+    let st = j.stands n (within_given n s (linked p x) j.orderly at).0 in
+    at_place n r (subst IsLinked (sym st.place_there) (linked_there n p x r.local st.course (sym st.place ∙ given_live n s (linked p x) j.orderly at) (sym st.back)))
+open_there by_zero s r n p x j at = zero_there s r n p x j.course j.one j.one_called at
+open_there (refusing reason) s r n p x j at = absurd (none_open s j.stage n p x j.live at)
+
+pub open_here : (terms : Terms) (s r : State) (n p : ℕ) (x : Standing) → AreJoinedBy terms s r [] [] → value_at n r.live ≡ Some (linked p x) → IsLinkedAt n s
+open_here by_two s r n p x j at =
+    let st = j.stands n (within_given n r (linked p x) j.orderly_called at).0 in
+    at_place n s (subst IsLinked (sym st.place)
+    (linked_here n p x r.local st.course (sym st.place_there ∙ given_live n r (linked p x) j.orderly_called at) (sym st.out) (sym st.back)))
+open_here by_zero s r n p x j at = zero_here s r n p x j.course j.one j.one_called j.coming at
+open_here (refusing reason) s r n p x j at = absurd (let no : None ≡ Some (linked p x) = sym (ap (value_at n) j.live_called) ∙ at in cc)
+
+-- ---- the octets of all connections
+
+row_there : (r : ℕ) (x : Connection) (rows : Rows Connection) → value_at r ((r, x) ∷ rows) ≡ Some x
+row_there r x rows = ap (λ (b : Bool). if b then Some x else value_at r rows) (eq-eqb r r refl)
+
+row_behind : (r q : ℕ) (x y : Connection) (rows : Rows Connection) → RiseFrom r rows → value_at q rows ≡ Some y → value_at q ((r, x) ∷ rows) ≡ Some y
+row_behind r q x y rows rise at = by (r == q) refl
+  where
+    by : (b : Bool) → (r == q) ≡ b → (if b then Some x else value_at q rows) ≡ Some y
+    by true e =
+        let same : r ≡ q = eqb-true r q e in
+        let no : None ≡ Some y = sym (absent q r rows (omega arith) rise) ∙ at in
+        absurd (cc)
+    by false e = at
+
+pub none_begun : (n : ℕ) (rows : Rows Connection) → RiseFrom n rows → ((r : ℕ) (x : Connection) → value_at r rows ≡ Some x → begun_by x ≡ 0) → kept_in rows ≡ 0
+none_begun n [] rise all = refl
+none_begun n ((r, x) ∷ rows) rise all =
+    let first : begun_by x ≡ 0 = all r x (row_there r x rows) in
+    let rest : kept_in rows ≡ 0 = none_begun r rows rise.1 (λ q y at. all q y (row_behind r q x y rows rise.1 at)) in
+    let sum : kept_in ((r, x) ∷ rows) ≡ begun_by x + kept_in rows = sum_by-cons (λ (row : ℕ × Connection). begun_by row.1) (r, x) rows in
+    sum ∙ omega arith
