@@ -153,12 +153,13 @@ pub record IsAllTaken (r : ℕ) (p : TwoEnds) (steps : List Step) : Type 0 where
   pub kept : (side : Side) → kept_of (value_at r (end_at side p).end.carrier.live) ≡ 0
 
 -- Steps of the machine that give this journal: over them the units that one session took are how those that the
--- other's sent begin, and all of them where nothing is under way.
+-- other's sent begin, and all of them where nothing is under way; then nothing of what came is kept.
 pub record TakeWhatWasSent (p : TwoEnds) : Type 0 where
   pub steps : List Step
   pub journal : map Some (run (fresh_tables p) steps).journal ≡ map entry_in p.journal
   pub prefix : AreTakenInOrder steps p
   pub all_taken : (r : ℕ) → AreAtRest p → IsOpenAt r p.left.end → IsOpenAt r p.right.end → IsAllTaken r p steps
+  pub nothing_kept : AreAtRest p → (side : Side) → kept_at side p ≡ 0
 
 -- ---- all of it
 

@@ -44,5 +44,6 @@ returns-clause-all c p at = record {
     journal = at.stands.stands.journal;
     prefix = c.what_is_taken_was_sent.ensures.prefix p at.steps at.stands;
     all_taken = λ r rest left right. c.what_is_taken_was_sent.ensures.all_taken p at.steps r at.stands rest left right;
+    nothing_kept = λ rest side. c.what_is_taken_was_sent.ensures.nothing_kept p at.steps at.stands rest side;
   };
 }
