@@ -19,3 +19,4 @@ pub mod Attending
 pub mod Rising
 pub mod Waiting
 pub mod Settling
+pub mod Empties

@@ -57,7 +57,7 @@ none_of : (o : Option EndReason) → is_some o ≡ false → o ≡ None
 none_of None e = refl
 none_of (Some reason) e = cc
 
-quiet_end : (e : End) → stops e ≡ false → IsAttended e → carriers.stops e.carrier ≡ false
+pub quiet_end : (e : End) → stops e ≡ false → IsAttended e → carriers.stops e.carrier ≡ false
 quiet_end e quiet attended =
     let lasts = or_first (is_some e.carrier.ended) (waits e.lines) quiet in
     let none = attended (none_of e.carrier.ended lasts) in

@@ -31,7 +31,7 @@ impl Model for Stack {
 }
 
 impl Stack {
-    ghost use Rattle.std.specs.Prelude.{◌≡◌, ◌+◌, ◌*◌, ◌≤◌, true, false, None, IsSome, OnOk, OnErr, IfOk, IfErr, option_map, length};
+    ghost use Rattle.std.specs.Prelude.{◌≡◌, ◌+◌, ◌*◌, ◌≤◌, true, false, None, [], IsSome, OnOk, OnErr, IfOk, IfErr, option_map, length};
     ghost use Rattle.osi_tpkt.specs.Held.{fresh};
     ghost use Rattle.osi_carrier.specs.Calls.{kept_in};
     ghost use Rattle.osi_message.specs.Tokens.{named, no_token, token_octet};
@@ -99,10 +99,11 @@ impl Stack {
     /// to one that gives an indication. The rest of the piece is to be fed again once the indications
     /// were taken.
     ///
-    /// While an indication waits nothing is used. All of the piece is used after the end, and where
+    /// An empty piece changes nothing. While an indication waits nothing is used. All of the piece is used after the end, and where
     /// the end comes now with a fault, for want of memory or with no indication.
     pub fn feed(&mut self, piece: &[u8]) -> Fed
-        ensures { Feeds self.old piece.now result self.new }
+        ensures feeds { Feeds self.old piece.now result self.new }
+        ensures empty { piece.now ≡ [] → (result.used ≡ 0) × (self.new ≡ self.old) }
     {
         an_end_is_settled_between_calls();
         if self.hub.has_ended() {

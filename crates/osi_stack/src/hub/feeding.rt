@@ -1,6 +1,6 @@
 //! The octets of the stream.
 
-ghost use Rattle.std.specs.Prelude.{◌≡◌, ◌<◌, ◌≤◌, false, is_some, length};
+ghost use Rattle.std.specs.Prelude.{◌≡◌, ◌<◌, ◌≤◌, [], false, is_some, length};
 ghost use Rattle.osi_stack.specs.Feeding.{Goes, stops};
 ghost use Rattle.osi_stack.specs.Fetching.{Fetches};
 ghost use Rattle.osi_stack.specs.State.{IsAttended, waits};
@@ -46,8 +46,12 @@ impl Hub {
         ensures attended { IsAttended self.new.end }
         ensures used { result ≤ length piece.now }
         ensures progress { 0 < length piece.now → 0 < result }
+        ensures empty { piece.now ≡ [] → (result ≡ 0) × (self.new ≡ self.old) }
     {
         a_prefix_of_a_packet();
+        if piece.is_empty() {
+            return self.carrier.feed(piece).used;
+        }
         let mut rest = piece;
         'packets: loop {
             let used = self.fetch(rest);

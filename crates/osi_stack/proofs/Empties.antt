@@ -1,0 +1,79 @@
+-- An empty piece changes nothing.
+use Rattle.std.proofs.Common.{◌≡◌, ℕ, ◌==◌, true, false, List, [], ◌∷◌, length, is_some, refl, sym, ap, subst, ◌∙◌, inl, inr, arith}
+use Rattle.std.proofs.lemmas.Bool.{eqb-true}
+use Rattle.std.proofs.lemmas.List.{append-nil}
+use Rattle.osi_tpkt.specs.declared.cutting.Fed.{Fed}
+use Rattle.osi_carrier.specs.Packets.{Carrying}
+use Rattle.osi_carrier.specs.Packets as carriers
+use Rattle.osi_carrier.specs.Rows.{Rows}
+use Rattle.osi_carrier.specs.State.{State as Carrier}
+use Rattle.osi_stack.specs.Feeding.{stops, RunsDry, Goes}
+use Rattle.osi_stack.specs.State.{Line, Holding, IsAttended, waits}
+use Rattle.osi_stack.proofs.Lifting.{both, or_first}
+use Rattle.osi_stack.proofs.Pieces.{quiet_end}
+
+-- a carrier on which nothing waits
+abbrev carrying_of : Holding → Carrying
+carrying_of h = record { state = h.end.carrier; held = h.held }
+
+-- the carrier stays as it is, and has not ended
+ended_not : {A : Type 0} (old told before : Carrier) → is_some old.ended ≡ false → told ≡ old → is_some told.ended ≡ true → A
+ended_not old told before lasts same over = both (is_some old.ended) (ap (λ (c : Carrier). is_some c.ended) (sym same) ∙ over) lasts
+
+dry_is : (old : Holding) (used : ℕ) (told : Carrying) → stops old.end ≡ false → carriers.RunsDry (carrying_of old) [] used told → told ≡ carrying_of old → RunsDry old [] 0 old
+dry_is old used told quiet g same = record {
+  units = [];
+  all = refl;
+  packets = append-nil old.held.octets;
+  partial = (subst (λ (x : Carrying). carriers.RunsDry (carrying_of old) [] used x) same g).partial;
+  taken = refl;
+  quiet = quiet;
+  offset = (subst (λ (x : Carrying). carriers.RunsDry (carrying_of old) [] used x) same g).offset;
+}
+
+nothing_by : (old : Holding) (used : ℕ) (told : Carrying) → stops old.end ≡ false → carriers.Goes (carrying_of old) [] used told → told ≡ carrying_of old → RunsDry old [] 0 old
+nothing_by old used told quiet (inl (inl g)) same = dry_is old used told quiet g same
+nothing_by old used told quiet (inl (inr g)) same = let some = g.some in let bound = g.bound in absurd (omega arith)
+nothing_by old used told quiet (inr (inl g)) same =
+    ended_not old.end.carrier told.state g.before (or_first (is_some old.end.carrier.ended) (waits old.end.lines) quiet) (ap (λ (x : Carrying). x.state) same)
+    (ap (λ (c : Carrier). is_some c.ended) g.ended)
+nothing_by old used told quiet (inr (inr g)) same =
+    ended_not old.end.carrier told.state g.before (or_first (is_some old.end.carrier.ended) (waits old.end.lines) quiet) (ap (λ (x : Carrying). x.state) same)
+    (elim (g.how) [ inl is ↦ ap (λ (c : Carrier). is_some c.ended) is | inr p ↦ ap (λ (c : Carrier). is_some c.ended) p.2.2.ended ])
+
+-- nothing was used, nothing has changed, and it is what feeding says
+pub record IsIdle (old : Holding) (piece : List ℕ) (used : ℕ) (new : Holding) : Type 0 where
+  pub same : new ≡ old
+  pub none : used ≡ 0
+  pub goes : Goes old piece used new
+
+idle_by : (old new : Holding) (piece : List ℕ) (used : ℕ) → piece ≡ [] → used ≡ 0 → new ≡ old → RunsDry old [] 0 old → Goes old piece used new
+idle_by old new piece used none unused same dry =
+    subst (λ (p : List ℕ). Goes old p used new) (sym none) (subst (λ (n : ℕ). Goes old [] n new) (sym unused) (subst (Goes old [] 0) (sym same) (inl (inl dry))))
+
+idle_is : (old new : Holding) (piece : List ℕ) (fed : Fed) (told : Carrying) → piece ≡ [] → stops old.end ≡ false → IsAttended old.end →
+    carriers.Feeds (carrying_of old) piece fed told → fed.used ≡ 0 → told ≡ carrying_of old → new ≡ old → IsIdle old piece fed.used new
+idle_is old new piece fed told none quiet attended feeds unused still same =
+    let goes = feeds.goes (quiet_end old.end quiet attended) in
+    record {
+      same = same;
+      none = unused;
+      goes = idle_by old new piece fed.used none unused same
+          (nothing_by old fed.used told quiet (subst (λ (p : List ℕ). carriers.Goes (carrying_of old) p fed.used told) none goes) still);
+    }
+
+nothing_of : (l : List ℕ) → (length l == 0) ≡ true → l ≡ []
+nothing_of [] e = refl
+nothing_of (x ∷ l) e = let none = eqb-true (length (x ∷ l)) 0 e in absurd (omega arith)
+
+-- an end whose carrier is fed nothing
+pub idle_goes : (old : Holding) (lines : Rows Line) (piece : List ℕ) (fed : Fed) (before told : Carrying) → (length piece == 0) ≡ true → stops old.end ≡ false → IsAttended old.end →
+    carriers.Feeds before piece fed told → (piece ≡ [] → (fed.used ≡ 0) × (told ≡ before)) → record { end = record { carrier = before.state; lines = lines }; held = before.held } ≡ old →
+    IsIdle old piece fed.used (record { end = record { carrier = told.state; lines = lines }; held = told.held })
+idle_goes old lines piece fed before told e quiet attended feeds empty view =
+    let none = nothing_of piece e in
+    let is = empty none in
+    let carrying : before ≡ carrying_of old = ap (λ (x : Holding). carrying_of x) view in
+    idle_is old (record { end = record { carrier = told.state; lines = lines }; held = told.held }) piece fed told none quiet attended
+    (subst (λ (x : Carrying). carriers.Feeds x piece fed told) carrying feeds) is.0 (is.1 ∙ carrying)
+    (ap (λ (x : Carrying). record { end = record { carrier = x.state; lines = lines }; held = x.held }) is.1 ∙ view)
