@@ -102,7 +102,7 @@ pub no_events : (events : List Happening) → not (length events == 0) ≡ false
 no_events [] h = refl
 no_events (x ∷ l) h = let none : suc (length l) ≡ 0 = eqb-true (length (x ∷ l)) 0 (not_false (length (x ∷ l) == 0) h) in absurd (omega arith)
 
-times_quiet : (n : ℕ) (e : End) → e.carrier.events ≡ [] → hears_times n e ≡ e
+pub times_quiet : (n : ℕ) (e : End) → e.carrier.events ≡ [] → hears_times n e ≡ e
 times_quiet zero e none = refl
 times_quiet (suc n) e none =
     let next : hears_next e ≡ e = ap (λ l. hears_first l e) none in

@@ -20,3 +20,5 @@ pub mod Rising
 pub mod Waiting
 pub mod Settling
 pub mod Empties
+pub mod Opened
+pub mod Ordering

@@ -517,10 +517,10 @@ hears_apart (told.faulted q fault) e apart = session_apart q _ e apart
 
 -- ---- all events
 
-first_is : (event : Happening) (rest : List Happening) (e : End) → e.carrier.events ≡ event ∷ rest → hears_next e ≡ hears event (with_events rest e)
+pub first_is : (event : Happening) (rest : List Happening) (e : End) → e.carrier.events ≡ event ∷ rest → hears_next e ≡ hears event (with_events rest e)
 first_is event rest e h = ap (λ (l : List Happening). hears_first l e) h
 
-rest_is : (event : Happening) (rest : List Happening) (e : End) → e.carrier.events ≡ event ∷ rest → (hears_next e).carrier.events ≡ rest
+pub rest_is : (event : Happening) (rest : List Happening) (e : End) → e.carrier.events ≡ event ∷ rest → (hears_next e).carrier.events ≡ rest
 rest_is event rest e h = ap (λ (x : End). x.carrier.events) (first_is event rest e h) ∙ (hears_keep event (with_events rest e)).events
 
 first_lasts : (l : List Happening) (e : End) → (hears_first l e).carrier.ended ≡ None → e.carrier.ended ≡ None

@@ -1,12 +1,22 @@
 -- What the tables of sessions say, in the form in which it is used here.
 use Rattle.std.proofs.Common.{◌≡◌, Bool, true, false, not, ◌||◌, List, [], ◌∷◌, refl, ap}
-use Rattle.osi_session.specs.Moves.{Input, Standing, opened, react, after_inputs}
+use Rattle.osi_session.specs.Moves.{Input, Standing, called, taken, unread, opened, refused, broken, is_opened, react, after_inputs}
 use Rattle.osi_session.specs.Phases.{is_wait_transport, is_over, is_ended}
 use Rattle.osi_session.specs.declared.phases.Phase.{Phase}
 use Rattle.osi_session.proofs.PhaseLaws.{implied, excluded}
 use Rattle.osi_stack.specs.Links.{needs_link}
 use Rattle.osi_stack.proofs.Lifting.{both}
 use Rattle.osi_stack.proofs.Linking.{SessionLaws}
+
+-- ---- what happens to a session
+
+pub unopened : (input : Input) → (input ≡ opened → ⊥) → is_opened input ≡ false
+unopened (called call) other = refl
+unopened (taken said) other = refl
+unopened (unread fault) other = refl
+unopened opened other = absurd (other refl)
+unopened (refused reason) other = refl
+unopened broken other = refl
 
 pub record Published : Type 0 where
   pub over : (s : Standing) (inputs : List Input) → is_over s.state.phase ≡ true → is_over (after_inputs s inputs).state.phase ≡ true

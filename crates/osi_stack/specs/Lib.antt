@@ -11,3 +11,4 @@ pub mod Calls
 pub mod Fetching
 pub mod Folds
 pub mod Settled
+pub mod Ordered

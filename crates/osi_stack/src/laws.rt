@@ -22,6 +22,7 @@ ghost use Rattle.osi_stack.specs.Feeding.{Feeds};
 ghost use Rattle.osi_stack.specs.Hearing.{after_packet, all_lost};
 ghost use Rattle.osi_stack.specs.Messages.{Message, Effect, begins, IsWhole, Acts, effect_at, told_at, CanHear, Arrives, kept_at, Becomes, Says, AreLost, all_waiting, IsFirstOf};
 ghost use Rattle.osi_stack.specs.Moving.{to_session};
+ghost use Rattle.osi_stack.specs.Ordered.{IsOrdered};
 ghost use Rattle.osi_stack.specs.Settled.{IsSettled};
 ghost use Rattle.osi_stack.specs.State.{Line, End, Holding, IsAttended, fresh_end, session_at, waits, used_lines};
 
@@ -135,6 +136,24 @@ pub fn lines_rise_by_reference()
     ensures shown { (lines : Rows Line) → RiseFrom 0 lines → RiseFrom 0 (without_first lines) }
     ensures broken { (e : End) → RiseFrom 0 e.lines → RiseFrom 0 (breaks e).lines }
 {}
+
+/// The lines of an end stand in the order in which their references were given, whatever packets come, also such
+/// as have several units, and whatever is called, told and lost: so what is told first is that of the lowest
+/// reference.
+pub fn lines_rise_whatever_comes()
+    ensures begins { (is_caller : Bool) (local : Local) → IsOrdered (fresh_end is_caller local) }
+    ensures connects { (c : Connect) (e : End) → connect_error c e ≡ None → IsSound e → IsOrdered e → IsOrdered (connects c e) }
+    ensures called { (r : ℕ) (call : Call) (e : End) → IsOrdered e → IsOrdered (to_session r (called call) e) }
+    ensures fed { (old new : Holding) (piece : List ℕ) (fed : Fed) → Feeds old piece fed new → IsAttended old.end → IsSound old.end →
+        IsOrdered old.end → IsOrdered new.end }
+    ensures shown { (e : End) → IsOrdered e → IsOrdered (record e { lines = without_first e.lines }) }
+    ensures carried { (octets : ℕ) (e : End) → IsOrdered e → IsOrdered (carried octets e) }
+    ensures broken { (e : End) → IsOrdered e → IsOrdered (breaks e) }
+{
+    an_ended_session_stays_ended();
+    what_closes_sends_nothing();
+    where_a_call_is_accepted();
+}
 
 /// So between any two calls, whatever was called, fed, told and lost, what [`IsSettled`] says is true of an end:
 /// also once it has ended, when none of its connections is live. A stack keeps it.

@@ -1,18 +1,9 @@
-use Rattle.std.proofs.Common.{◌≡◌, false, refl, subst}
-use Rattle.osi_session.specs.Moves.{Input, called, taken, unread, opened, refused, broken, is_opened}
+use Rattle.std.proofs.Common.{subst}
 use Rattle.osi_stack.specs.Links.{IsSound}
 use Rattle.osi_stack.proofs.Comings.{packet_is_unit}
 use Rattle.osi_stack.proofs.Soundness.{packet_sound, fresh_sound, connect_sound, call_sound, feeds_sound, first_sound, carried_sound, breaks_sound}
-use Rattle.osi_stack.proofs.Tables.{session_laws}
+use Rattle.osi_stack.proofs.Tables.{session_laws, unopened}
 use Rattle.osi_stack.proofs.laws.a_session_that_is_called_has_a_connection.Goals as goal
-
-unopened : (input : Input) → (input ≡ opened → ⊥) → is_opened input ≡ false
-unopened (called call) other = refl
-unopened (taken said) other = refl
-unopened (unread fault) other = refl
-unopened opened other = absurd (other refl)
-unopened (refused reason) other = refl
-unopened broken other = refl
 
 pub returns : goal.returns
 returns c =

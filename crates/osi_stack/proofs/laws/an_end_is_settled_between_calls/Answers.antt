@@ -1,18 +1,7 @@
-use Rattle.std.proofs.Common.{◌≡◌, false, refl}
-use Rattle.osi_session.specs.Calls.{Call}
-use Rattle.osi_session.specs.Moves.{Input, called, taken, unread, opened, refused, broken, is_opened}
 use Rattle.osi_stack.proofs.Linking.{SessionLaws}
 use Rattle.osi_stack.proofs.Settling.{fresh_settled, connect_settled, call_settled, feeds_settled, first_settled, carried_settled, breaks_settled, none_at}
-use Rattle.osi_stack.proofs.Tables.{session_laws}
+use Rattle.osi_stack.proofs.Tables.{session_laws, unopened}
 use Rattle.osi_stack.proofs.laws.an_end_is_settled_between_calls.Goals as goal
-
-unopened : (input : Input) → (input ≡ opened → ⊥) → is_opened input ≡ false
-unopened (called call) other = refl
-unopened (taken said) other = refl
-unopened (unread fault) other = refl
-unopened opened other = absurd (other refl)
-unopened (refused reason) other = refl
-unopened broken other = refl
 
 pub returns : goal.returns
 returns c =

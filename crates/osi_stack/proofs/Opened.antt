@@ -1,0 +1,423 @@
+-- Which connections units open: those that were asked for, and at a called end new ones.
+use Rattle.std.proofs.Common.{◌≡◌, ◌≢◌, ℕ, ◌+◌, ◌<◌, ◌≤◌, ◌==◌, Bool, true, false, List, [], ◌∷◌, ◌++◌, take, Option, Some, None, Result, Ok, Err, is_some, refl, sym, ap, subst, ◌∙◌, inl, inr, ◌⊎◌, arith, append_assoc, if◌then◌else◌}
+use Rattle.std.proofs.lemmas.Bool.{eqb-true, eq-eqb}
+use Rattle.std.proofs.lemmas.List.{append-nil}
+use Rattle.osi_tpdu.specs.Value.{Value, Connect, request, confirm, disconnect, disconnected, data0, data2, acknowledge, error}
+use Rattle.osi_class.specs.Link.{Standing, taken}
+use Rattle.osi_class.specs.Negotiation.{Selection, accept, refuse, selected_by}
+use Rattle.osi_class.specs.declared.faults.LinkFault.{LinkFault}
+use Rattle.osi_class.specs.declared.terms.Class.{Class}
+use Rattle.osi_class.specs.declared.terms.Class.TheVariants.{Zero, Two}
+use Rattle.osi_carrier.specs.Happenings.{Happening, opened, refused, tsdu, closed, faulted}
+use Rattle.osi_carrier.specs.Negotiation.{confirmed}
+use Rattle.osi_carrier.specs.Orderly.{RiseFrom, IsOrderly}
+use Rattle.osi_carrier.specs.React.{denies, answers, is_full, has_peer, answers_request, to_unknown, opens, to_asked, tells_of, taking, breaks, leaves, to_linked, to_closing, to_connection, to_reference, before_class, to_only, in_zero, in_two, in_class, react, react_by, reacts}
+use Rattle.osi_carrier.specs.Rows.{Rows, value_at, put, without}
+use Rattle.osi_carrier.specs.State.{Connection, asked, linked, closing, State, ends}
+use Rattle.osi_carrier.specs.declared.ends.EndReason.{EndReason}
+use Rattle.osi_carrier.proofs.Apart.{put_here, without_here}
+use Rattle.osi_carrier.proofs.AtReferences.{put_other, without_other, put_none}
+use Rattle.osi_carrier.proofs.Effects.{orderly_unit}
+
+-- ---- connections that await a CC
+
+-- each that awaits one now did before
+abbrev pub AwaitedBefore : Rows Connection → Rows Connection → Type 0
+AwaitedBefore old new = (q : ℕ) → value_at q new ≡ Some asked → value_at q old ≡ Some asked
+
+put_at : (q r : ℕ) (c : Connection) (rows : Rows Connection) (b : Bool) (o : Option Connection) → (q == r) ≡ b → value_at q rows ≡ o → (c ≡ asked → ⊥) →
+    value_at q (put r c rows) ≡ Some asked → value_at q rows ≡ Some asked
+put_at q r c rows false o e is other h =
+    let ne : q ≢ r = (λ same. let yes : (q == r) ≡ true = eq-eqb q r same in let no : true ≡ false = sym yes ∙ e in cc) in
+    sym (put_other q r c rows ne) ∙ h
+put_at q r c rows true None e is other h =
+    let none : value_at q (put r c rows) ≡ None = put_none q r c rows is in
+    let no : None ≡ Some asked = sym none ∙ h in cc
+put_at q r c rows true (Some x) e is other h =
+    let same : q ≡ r = eqb-true q r e in
+    let here : value_at q (put q c rows) ≡ Some c = put_here q c x rows is in
+    let now : value_at q (put q c rows) ≡ Some asked = ap (λ n. value_at q (put n c rows)) same ∙ h in
+    let two : Some c ≡ Some asked = sym here ∙ now in
+    let one : c ≡ asked = cc in
+    absurd (other one)
+
+pub awaited_put : (r : ℕ) (c : Connection) (rows : Rows Connection) → (c ≡ asked → ⊥) → AwaitedBefore rows (put r c rows)
+awaited_put r c rows other = λ q h. put_at q r c rows (q == r) (value_at q rows) refl refl other h
+
+without_at : (q r : ℕ) (rows : Rows Connection) (b : Bool) → (q == r) ≡ b → RiseFrom 0 rows → value_at q (without r rows) ≡ Some asked → value_at q rows ≡ Some asked
+without_at q r rows false e rise h =
+    let ne : q ≢ r = (λ same. let yes : (q == r) ≡ true = eq-eqb q r same in let no : true ≡ false = sym yes ∙ e in cc) in
+    sym (without_other q r rows ne) ∙ h
+without_at q r rows true e rise h =
+    let gone : value_at q (without q rows) ≡ None = without_here q rows rise in
+    let now : value_at q (without q rows) ≡ Some asked = ap (λ n. value_at q (without n rows)) (eqb-true q r e) ∙ h in
+    let no : None ≡ Some asked = sym gone ∙ now in cc
+
+awaited_without : (r : ℕ) (rows : Rows Connection) → RiseFrom 0 rows → AwaitedBefore rows (without r rows)
+awaited_without r rows rise = λ q h. without_at q r rows (q == r) refl rise h
+
+push_at : (q p n : ℕ) (c y : Connection) (rows : Rows Connection) (b : Bool) → (p == q) ≡ b → (value_at q (rows ++ (n, c) ∷ []) ≡ Some asked → value_at q rows ≡ Some asked) →
+    value_at q ((p, y) ∷ (rows ++ (n, c) ∷ [])) ≡ Some asked → value_at q ((p, y) ∷ rows) ≡ Some asked
+push_at q p n c y rows true e more h = rw e (rw e at h)
+push_at q p n c y rows false e more h = rw e (more (rw e at h))
+
+last_at : (q n : ℕ) (c : Connection) (b : Bool) → (n == q) ≡ b → (c ≡ asked → ⊥) → value_at q ((n, c) ∷ []) ≡ Some asked → value_at q [] ≡ Some asked
+last_at q n c true e other h = let two : Some c ≡ Some asked = rw e at h in let one : c ≡ asked = cc in absurd (other one)
+last_at q n c false e other h = rw e at h
+
+awaited_push : (n : ℕ) (c : Connection) (rows : Rows Connection) → (c ≡ asked → ⊥) → AwaitedBefore rows (rows ++ (n, c) ∷ [])
+awaited_push n c [] other = λ q h. last_at q n c (n == q) refl other h
+awaited_push n c ((p, y) ∷ rows) other = λ q h. push_at q p n c y rows (p == q) refl (awaited_push n c rows other q) h
+
+pub linked_not_asked : (peer : ℕ) (link : Standing) → linked peer link ≡ asked → ⊥
+linked_not_asked peer link e = cc
+
+pub closing_not_asked : (peer : ℕ) → closing peer ≡ asked → ⊥
+closing_not_asked peer e = cc
+
+-- ---- what is opened
+
+abbrev pub opened_in : List Happening → List ℕ
+opened_in [] = []
+opened_in (opened r ∷ events) = r ∷ opened_in events
+opened_in (refused r reason ∷ events) = opened_in events
+opened_in (tsdu r octets ∷ events) = opened_in events
+opened_in (closed r reason ∷ events) = opened_in events
+opened_in (faulted r fault ∷ events) = opened_in events
+
+pub opened_join : (a b : List Happening) → opened_in (a ++ b) ≡ opened_in a ++ opened_in b
+opened_join [] b = refl
+opened_join (opened r ∷ a) b = ap (λ l. r ∷ l) (opened_join a b)
+opened_join (refused r reason ∷ a) b = opened_join a b
+opened_join (tsdu r octets ∷ a) b = opened_join a b
+opened_join (closed r reason ∷ a) b = opened_join a b
+opened_join (faulted r fault ∷ a) b = opened_join a b
+
+-- one that was asked for
+record Agreed (old new : State) (told : List Happening) : Type 0 where
+  reference : ℕ
+  is : opened_in told ≡ reference ∷ []
+  here : value_at reference old.live ≡ Some asked
+  given : new.given ≡ old.given
+
+-- a new one
+record Accepted (old new : State) (told : List Happening) : Type 0 where
+  is : opened_in told ≡ (old.given + 1) ∷ []
+  given : new.given ≡ old.given + 1
+  called : old.is_caller ≡ false
+
+-- none
+record Unopened (old new : State) (told : List Happening) : Type 0 where
+  is : opened_in told ≡ []
+  given : new.given ≡ old.given
+
+record Opens (old new : State) : Type 0 where
+  told : List Happening
+  events : new.events ≡ old.events ++ told
+  how : Unopened old new told ⊎ (Agreed old new told ⊎ Accepted old new told)
+  side : new.is_caller ≡ old.is_caller
+  awaited : AwaitedBefore old.live new.live
+
+silent : (old new : State) → new.events ≡ old.events → new.given ≡ old.given → new.is_caller ≡ old.is_caller → AwaitedBefore old.live new.live → Opens old new
+silent old new same given side awaited = record {
+  told = [];
+  events = same ∙ sym (append-nil old.events);
+  how = inl (record { is = refl; given = given });
+  side = side;
+  awaited = awaited;
+}
+
+telling : (old new : State) (event : Happening) → opened_in (event ∷ []) ≡ [] → new.events ≡ old.events ++ event ∷ [] → new.given ≡ old.given → new.is_caller ≡ old.is_caller →
+    AwaitedBefore old.live new.live → Opens old new
+telling old new event none same given side awaited = record {
+  told = event ∷ [];
+  events = same;
+  how = inl (record { is = none; given = given });
+  side = side;
+  awaited = awaited;
+}
+
+opens_none : (s : State) → Opens s s
+opens_none s = silent s s refl refl refl (λ q h. h)
+
+opens_end : (reason : EndReason) (s : State) → Opens s (ends reason s)
+opens_end reason s = silent s (ends reason s) refl refl refl (λ q h. cc)
+
+opens_denies : (reason peer : ℕ) (s : State) → Opens s (denies reason peer s)
+opens_denies reason peer s = silent s (denies reason peer s) refl refl refl (λ q h. h)
+
+-- ---- a CR
+
+opens_accepts : (class : Class) (size : Option ℕ) (c : Connect) (s : State) → s.is_caller ≡ false → Opens s (answers c (accept class size) None s)
+opens_accepts Zero size c s called = record {
+  told = opened (s.given + 1) ∷ [];
+  events = refl;
+  how = inr (inr (record { is = refl; given = refl; called = called }));
+  side = refl;
+  awaited = awaited_push (s.given + 1) _ s.live (linked_not_asked _ _);
+}
+opens_accepts Two size c s called = record {
+  told = opened (s.given + 1) ∷ [];
+  events = refl;
+  how = inr (inr (record { is = refl; given = refl; called = called }));
+  side = refl;
+  awaited = awaited_push (s.given + 1) _ s.live (linked_not_asked _ _);
+}
+
+opens_answers : (c : Connect) (selection : Selection) (held : Option Class) (s : State) → s.is_caller ≡ false → Opens s (answers c selection held s)
+opens_answers c (refuse reason) held s called = opens_denies reason c.source s
+opens_answers c (accept Two size) held s called = opens_accepts Two size c s called
+opens_answers c (accept Zero size) None s called = opens_accepts Zero size c s called
+opens_answers c (accept Zero size) (Some class) s called = opens_denies 136 c.source s
+
+answers_by : (c : Connect) (s : State) (in_use full : Bool) → s.is_caller ≡ false →
+    Opens s (if in_use then denies 131 c.source s else (if full then denies 1 c.source s else answers c (selected_by c s.local) s.class s))
+answers_by c s true full called = opens_denies 131 c.source s
+answers_by c s false true called = opens_denies 1 c.source s
+answers_by c s false false called = opens_answers c (selected_by c s.local) s.class s called
+
+opens_request : (c : Connect) (s : State) → s.is_caller ≡ false → Opens s (answers_request c s)
+opens_request c s called = answers_by c s (has_peer c.source s.live) (is_full s) called
+
+-- ---- a unit for a connection
+
+opens_unknown : (unit : Value) (s : State) → Opens s (to_unknown unit s)
+opens_unknown (disconnect destination source reason user) s = silent s (to_unknown (disconnect destination source reason user) s) refl refl refl (λ q h. h)
+opens_unknown (disconnected destination source) s = opens_none s
+opens_unknown (request c) s = opens_end _ s
+opens_unknown (confirm destination c) s = opens_end _ s
+opens_unknown (data0 end user) s = opens_end _ s
+opens_unknown (data2 destination number end user) s = opens_end _ s
+opens_unknown (acknowledge credit destination number) s = opens_end _ s
+opens_unknown (error destination cause) s = opens_end _ s
+
+opens_confirm : (r : ℕ) (c : Connect) (class : Option Class) (s : State) → value_at r s.live ≡ Some asked → Opens s (opens r c class s)
+opens_confirm r c None s here = opens_end _ s
+opens_confirm r c (Some class) s here = record {
+  told = opened r ∷ [];
+  events = refl;
+  how = inr (inl (record { reference = r; is = refl; here = here; given = refl }));
+  side = refl;
+  awaited = awaited_put r _ s.live (linked_not_asked _ _);
+}
+
+opens_asked : (r : ℕ) (unit : Value) (s : State) → RiseFrom 0 s.live → value_at r s.live ≡ Some asked → Opens s (to_asked r unit s)
+opens_asked r (confirm destination c) s rise here = opens_confirm r c (confirmed c s.local s.class) s here
+opens_asked r (disconnect destination source reason user) s rise here =
+    telling s (to_asked r (disconnect destination source reason user) s) (refused r reason) refl refl refl refl (awaited_without r s.live rise)
+opens_asked r (error destination cause) s rise here = telling s (to_asked r (error destination cause) s) (refused r 0) refl refl refl refl (awaited_without r s.live rise)
+opens_asked r (request c) s rise here = opens_unknown (request c) s
+opens_asked r (disconnected destination source) s rise here = opens_unknown (disconnected destination source) s
+opens_asked r (data0 end user) s rise here = opens_unknown (data0 end user) s
+opens_asked r (data2 destination number end user) s rise here = opens_unknown (data2 destination number end user) s
+opens_asked r (acknowledge credit destination number) s rise here = opens_unknown (acknowledge credit destination number) s
+
+opens_settles : (r : ℕ) (whole : List (List ℕ)) (c : Connection) (s t : State) → (c ≡ asked → ⊥) → t.given ≡ s.given → t.is_caller ≡ s.is_caller → t.live ≡ put r c s.live →
+    t.events ≡ s.events → Opens s (tells_of r (take 1 whole) t)
+opens_settles r [] c s t other given side live events =
+    silent s (tells_of r [] t) (append-nil t.events ∙ events) given side (subst (AwaitedBefore s.live) (sym live) (awaited_put r c s.live other))
+opens_settles r (first ∷ more) c s t other given side live events =
+    telling s (tells_of r (first ∷ []) t) (tsdu r first) refl (ap (λ l. l ++ tsdu r first ∷ []) events) given side (subst (AwaitedBefore s.live) (sym live) (awaited_put r c s.live other))
+
+opens_breaks : (r peer : ℕ) (fault : LinkFault) (held : Option Class) (s : State) → Opens s (breaks r peer fault held s)
+opens_breaks r peer fault None s = opens_end _ s
+opens_breaks r peer fault (Some Zero) s = opens_end _ s
+opens_breaks r peer fault (Some Two) s =
+    telling s (breaks r peer fault (Some Two) s) (faulted r fault) refl refl refl refl (awaited_put r (closing peer) s.live (closing_not_asked peer))
+
+opens_taking : (r peer : ℕ) (result : Result Standing LinkFault) (s : State) → Opens s (taking r peer result s)
+opens_taking r peer (Ok link) s = opens_settles r link.ends.joining.whole _ s _ (linked_not_asked _ _) refl refl refl refl
+opens_taking r peer (Err fault) s = opens_breaks r peer fault s.class s
+
+opens_leaves : (r peer reason : ℕ) (held : Option Class) (s : State) → RiseFrom 0 s.live → Opens s (leaves r peer reason held s)
+opens_leaves r peer reason None s rise = telling s (leaves r peer reason None s) (closed r reason) refl refl refl refl (λ q h. cc)
+opens_leaves r peer reason (Some Zero) s rise = telling s (leaves r peer reason (Some Zero) s) (closed r reason) refl refl refl refl (λ q h. cc)
+opens_leaves r peer reason (Some Two) s rise = telling s (leaves r peer reason (Some Two) s) (closed r reason) refl refl refl refl (awaited_without r s.live rise)
+
+opens_linked : (r peer : ℕ) (link : Standing) (unit : Value) (s : State) → RiseFrom 0 s.live → Opens s (to_linked r peer link unit s)
+opens_linked r peer link (disconnect destination source reason user) s rise = opens_leaves r peer reason s.class s rise
+opens_linked r peer link (request c) s rise = opens_taking r peer (taken link (request c)) s
+opens_linked r peer link (confirm destination c) s rise = opens_taking r peer (taken link (confirm destination c)) s
+opens_linked r peer link (disconnected destination source) s rise = opens_taking r peer (taken link (disconnected destination source)) s
+opens_linked r peer link (data0 end user) s rise = opens_taking r peer (taken link (data0 end user)) s
+opens_linked r peer link (data2 destination number end user) s rise = opens_taking r peer (taken link (data2 destination number end user)) s
+opens_linked r peer link (acknowledge credit destination number) s rise = opens_taking r peer (taken link (acknowledge credit destination number)) s
+opens_linked r peer link (error destination cause) s rise = opens_taking r peer (taken link (error destination cause)) s
+
+opens_dropped : (r : ℕ) (s : State) → RiseFrom 0 s.live → Opens s (record s { live = without r s.live })
+opens_dropped r s rise = silent s (record s { live = without r s.live }) refl refl refl (awaited_without r s.live rise)
+
+opens_closing : (r : ℕ) (unit : Value) (s : State) → RiseFrom 0 s.live → Opens s (to_closing r unit s)
+opens_closing r (disconnected destination source) s rise = opens_dropped r s rise
+opens_closing r (disconnect destination source reason user) s rise = opens_dropped r s rise
+opens_closing r (request c) s rise = opens_none s
+opens_closing r (confirm destination c) s rise = opens_none s
+opens_closing r (data0 end user) s rise = opens_none s
+opens_closing r (data2 destination number end user) s rise = opens_none s
+opens_closing r (acknowledge credit destination number) s rise = opens_none s
+opens_closing r (error destination cause) s rise = opens_none s
+
+opens_connection : (r : ℕ) (o : Option Connection) (unit : Value) (s : State) → RiseFrom 0 s.live → value_at r s.live ≡ o → Opens s (to_connection r o unit s)
+opens_connection r None unit s rise here = opens_unknown unit s
+opens_connection r (Some asked) unit s rise here = opens_asked r unit s rise here
+opens_connection r (Some (linked peer link)) unit s rise here = opens_linked r peer link unit s rise
+opens_connection r (Some (closing peer)) unit s rise here = opens_closing r unit s rise
+
+opens_reference : (r : ℕ) (unit : Value) (s : State) → RiseFrom 0 s.live → Opens s (to_reference r unit s)
+opens_reference r unit s rise = opens_connection r (value_at r s.live) unit s rise refl
+
+-- ---- by class
+
+opens_before : (b : Bool) (unit : Value) (s : State) → RiseFrom 0 s.live → s.is_caller ≡ b → Opens s (before_class b unit s)
+opens_before true (confirm destination c) s rise e = opens_reference destination (confirm destination c) s rise
+opens_before true (disconnect destination source reason user) s rise e = opens_reference destination (disconnect destination source reason user) s rise
+opens_before true (error destination cause) s rise e = opens_reference destination (error destination cause) s rise
+opens_before true (request c) s rise e = opens_end _ s
+opens_before true (disconnected destination source) s rise e = opens_end _ s
+opens_before true (data0 end user) s rise e = opens_end _ s
+opens_before true (data2 destination number end user) s rise e = opens_end _ s
+opens_before true (acknowledge credit destination number) s rise e = opens_end _ s
+opens_before false (request c) s rise e = opens_request c s e
+opens_before false (confirm destination c) s rise e = opens_end _ s
+opens_before false (disconnect destination source reason user) s rise e = opens_end _ s
+opens_before false (disconnected destination source) s rise e = opens_end _ s
+opens_before false (data0 end user) s rise e = opens_end _ s
+opens_before false (data2 destination number end user) s rise e = opens_end _ s
+opens_before false (acknowledge credit destination number) s rise e = opens_end _ s
+opens_before false (error destination cause) s rise e = opens_end _ s
+
+first_here : (r : ℕ) (x : Connection) (rows : Rows Connection) → value_at r ((r, x) ∷ rows) ≡ Some x
+first_here r x rows = let e = eq-eqb r r refl in rw e refl
+
+only_by : (live : Rows Connection) (unit : Value) (s : State) → RiseFrom 0 s.live → s.live ≡ live → Opens s (to_only live unit s)
+only_by [] unit s rise is = opens_none s
+only_by ((r, connection) ∷ rows) unit s rise is = opens_connection r (Some connection) unit s rise (ap (value_at r) is ∙ first_here r connection rows)
+
+opens_zero : (b : Bool) (unit : Value) (s : State) → RiseFrom 0 s.live → Opens s (in_zero b unit s)
+opens_zero true (request c) s rise = opens_end _ s
+opens_zero true (confirm destination c) s rise = only_by s.live (confirm destination c) s rise refl
+opens_zero true (disconnect destination source reason user) s rise = only_by s.live (disconnect destination source reason user) s rise refl
+opens_zero true (disconnected destination source) s rise = only_by s.live (disconnected destination source) s rise refl
+opens_zero true (data0 end user) s rise = only_by s.live (data0 end user) s rise refl
+opens_zero true (data2 destination number end user) s rise = only_by s.live (data2 destination number end user) s rise refl
+opens_zero true (acknowledge credit destination number) s rise = only_by s.live (acknowledge credit destination number) s rise refl
+opens_zero true (error destination cause) s rise = only_by s.live (error destination cause) s rise refl
+opens_zero false unit s rise = only_by s.live unit s rise refl
+
+opens_two : (b : Bool) (unit : Value) (s : State) → RiseFrom 0 s.live → s.is_caller ≡ b → Opens s (in_two b unit s)
+opens_two true (request c) s rise e = opens_end _ s
+opens_two false (request c) s rise e = opens_request c s e
+opens_two b (confirm destination c) s rise e = opens_reference destination (confirm destination c) s rise
+opens_two b (disconnect destination source reason user) s rise e = opens_reference destination (disconnect destination source reason user) s rise
+opens_two b (disconnected destination source) s rise e = opens_reference destination (disconnected destination source) s rise
+opens_two b (data0 end user) s rise e = opens_end _ s
+opens_two b (data2 destination number end user) s rise e = opens_reference destination (data2 destination number end user) s rise
+opens_two b (acknowledge credit destination number) s rise e = opens_reference destination (acknowledge credit destination number) s rise
+opens_two b (error destination cause) s rise e = opens_reference destination (error destination cause) s rise
+
+opens_class : (held : Option Class) (unit : Value) (s : State) → RiseFrom 0 s.live → Opens s (in_class held unit s)
+opens_class None unit s rise = opens_before s.is_caller unit s rise refl
+opens_class (Some Zero) unit s rise = opens_zero s.is_caller unit s rise
+opens_class (Some Two) unit s rise = opens_two s.is_caller unit s rise refl
+
+opens_by : (over : Bool) (unit : Value) (s : State) → RiseFrom 0 s.live → Opens s (react_by over unit s)
+opens_by true unit s rise = opens_none s
+opens_by false unit s rise = opens_class s.class unit s rise
+
+opens_unit : (unit : Value) (s : State) → RiseFrom 0 s.live → Opens s (react unit s)
+unfolding react
+opens_unit unit s rise = opens_by (is_some s.ended) unit s rise
+
+-- ---- units one after the other
+
+-- each is above those before it; the first is above one number, and the last at most another
+abbrev pub Rises : ℕ → List ℕ → ℕ → Type 0
+Rises g [] h = g ≤ h
+Rises g (r ∷ more) h = (g < r) × Rises r more h
+
+rises_from : (f g : ℕ) (l : List ℕ) (h : ℕ) → f ≤ g → Rises g l h → Rises f l h
+rises_from f g [] h le rise = omega arith
+rises_from f g (r ∷ more) h le rise = ((let above = rise.0 in omega arith), rise.1)
+
+rises_join : (g : ℕ) (a : List ℕ) (h : ℕ) (b : List ℕ) (k : ℕ) → Rises g a h → Rises h b k → Rises g (a ++ b) k
+rises_join g [] h b k first second = rises_from g h b k first second
+rises_join g (r ∷ a) h b k first second = (first.0, rises_join r a h b k first.1 second)
+
+abbrev pub AreAwaited : Rows Connection → List ℕ → Type 0
+AreAwaited live [] = Unit {0}
+AreAwaited live (r ∷ more) = (value_at r live ≡ Some asked) × AreAwaited live more
+
+awaited_from : (old mid : Rows Connection) (l : List ℕ) → AwaitedBefore old mid → AreAwaited mid l → AreAwaited old l
+awaited_from old mid [] before all = tt
+awaited_from old mid (r ∷ more) before all = (before r all.0, awaited_from old mid more before all.1)
+
+awaited_join : (live : Rows Connection) (a b : List ℕ) → AreAwaited live a → AreAwaited live b → AreAwaited live (a ++ b)
+awaited_join live [] b first second = second
+awaited_join live (r ∷ a) b first second = (first.0, awaited_join live a b first.1 second)
+
+-- none awaits a CC
+abbrev pub NoneAwaited : Rows Connection → Type 0
+NoneAwaited live = (q : ℕ) → value_at q live ≡ Some asked → ⊥
+
+-- what was told opens what a caller asked for, and at a called end what is new
+pub record OpensAlong (old new : State) : Type 0 where
+  pub told : List Happening
+  pub events : new.events ≡ old.events ++ told
+  pub caller : old.is_caller ≡ true → AreAwaited old.live (opened_in told)
+  pub called : old.is_caller ≡ false → NoneAwaited old.live → Rises old.given (opened_in told) new.given
+  pub side : new.is_caller ≡ old.is_caller
+  pub awaited : AwaitedBefore old.live new.live
+
+true_false : {A : Type 0} (b : Bool) → b ≡ true → b ≡ false → A
+true_false true h k = cc
+true_false false h k = cc
+
+caller_by : (old new : State) (told : List Happening) → Unopened old new told ⊎ (Agreed old new told ⊎ Accepted old new told) → old.is_caller ≡ true → AreAwaited old.live (opened_in told)
+caller_by old new told (inl h) caller = subst (AreAwaited old.live) (sym h.is) tt
+caller_by old new told (inr (inl h)) caller = subst (AreAwaited old.live) (sym h.is) (h.here, tt)
+caller_by old new told (inr (inr h)) caller = true_false old.is_caller caller h.called
+
+called_by : (old new : State) (told : List Happening) → Unopened old new told ⊎ (Agreed old new told ⊎ Accepted old new told) → NoneAwaited old.live →
+    Rises old.given (opened_in told) new.given
+called_by old new told (inl h) none = subst (λ (l : List ℕ). Rises old.given l new.given) (sym h.is) (let same = h.given in omega arith)
+called_by old new told (inr (inl h)) none = absurd (none h.reference h.here)
+called_by old new told (inr (inr h)) none =
+    subst (λ (l : List ℕ). Rises old.given l new.given) (sym h.is) ((omega arith), (let more = h.given in omega arith))
+
+along_unit : (unit : Value) (s : State) → RiseFrom 0 s.live → OpensAlong s (react unit s)
+along_unit unit s rise =
+    let o = opens_unit unit s rise in
+    record {
+      told = o.told;
+      events = o.events;
+      caller = λ caller. caller_by s (react unit s) o.told o.how caller;
+      called = λ called none. called_by s (react unit s) o.told o.how none;
+      side = o.side;
+      awaited = o.awaited;
+    }
+
+along_join : (old mid new : State) → OpensAlong old mid → OpensAlong mid new → OpensAlong old new
+along_join old mid new a b = record {
+  told = a.told ++ b.told;
+  events = b.events ∙ ap (λ l. l ++ b.told) a.events ∙ append_assoc old.events a.told b.told;
+  caller = λ caller. subst (AreAwaited old.live) (sym (opened_join a.told b.told))
+      (awaited_join old.live (opened_in a.told) (opened_in b.told) (a.caller caller) (awaited_from old.live mid.live (opened_in b.told) a.awaited (b.caller (a.side ∙ caller))));
+  called = λ called none. subst (λ (l : List ℕ). Rises old.given l new.given) (sym (opened_join a.told b.told))
+      (rises_join old.given (opened_in a.told) mid.given (opened_in b.told) new.given (a.called called none) (b.called (a.side ∙ called) (λ q h. none q (a.awaited q h))));
+  side = b.side ∙ a.side;
+  awaited = λ q h. a.awaited q (b.awaited q h);
+}
+
+along_none : (s : State) → OpensAlong s s
+along_none s = record { told = []; events = sym (append-nil s.events); caller = λ caller. tt; called = λ called none. omega arith; side = refl; awaited = λ q h. h }
+
+pub along_units : (units : List Value) (s : State) → IsOrderly s → OpensAlong s (reacts units s)
+along_units [] s orderly = along_none s
+along_units (unit ∷ units) s orderly =
+    along_join s (react unit s) (reacts units (react unit s)) (along_unit unit s orderly.rise) (along_units units (react unit s) (orderly_unit unit s orderly))
+
+pub along_end : (old mid : State) (reason : EndReason) → OpensAlong old mid → OpensAlong old (ends reason mid)
+along_end old mid reason a = record { told = a.told; events = a.events; caller = a.caller; called = a.called; side = a.side; awaited = λ q h. cc }
+
+pub along_over : (s : State) (reason : EndReason) → OpensAlong s (ends reason s)
+along_over s reason = along_end s s reason (along_none s)

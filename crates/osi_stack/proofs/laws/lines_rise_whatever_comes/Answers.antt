@@ -1,0 +1,23 @@
+use Rattle.osi_session.specs.Moves.{called}
+use Rattle.osi_stack.proofs.Linking.{SessionLaws}
+use Rattle.osi_stack.proofs.Ordering.{fresh_ordered, connect_ordered, call_ordered, feeds_ordered, first_ordered, carried_ordered, breaks_ordered}
+use Rattle.osi_stack.proofs.Tables.{session_laws, unopened}
+use Rattle.osi_stack.proofs.laws.lines_rise_whatever_comes.Goals as goal
+
+pub returns : goal.returns
+returns c =
+    let laws : SessionLaws = session_laws (record {
+      over = c.an_ended_session_stays_ended.ensures.over;
+      ended = c.an_ended_session_stays_ended.ensures.ended;
+      closed = c.what_closes_sends_nothing.ensures.ended;
+      waiting = λ s input other. c.where_a_call_is_accepted.ensures.waiting s input (unopened input other);
+    }) in
+    record {
+      begins = fresh_ordered;
+      connects = connect_ordered;
+      called = λ r call. call_ordered r (called call);
+      fed = feeds_ordered laws;
+      shown = first_ordered;
+      carried = carried_ordered;
+      broken = breaks_ordered;
+    }
