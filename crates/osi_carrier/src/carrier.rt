@@ -111,8 +111,9 @@ impl Carrier {
     /// to one that tells the user something or ends the carrier. The rest of the piece is to be fed
     /// again once the events were taken.
     ///
-    /// While an event waits nothing is used; else some of a piece that is not empty is. All of the
-    /// piece is used after the end, and where the carrier ends now by a fault or for want of memory.
+    /// An empty piece changes nothing. While an event waits nothing is used; else some of a piece that
+    /// is not empty is. All of the piece is used after the end, and where the carrier ends now by a fault
+    /// or for want of memory.
     #[tactic(auto, using(crate::proofs::Reading::goes_on))]
     pub fn feed(&mut self, piece: &[u8]) -> Fed
         ensures feeds { Feeds self.old piece.now result self.new }
