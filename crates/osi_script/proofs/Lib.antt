@@ -1,3 +1,4 @@
 pub mod LineEnds
 pub mod Numerals
+pub mod Pieces
 pub mod VerbNames

@@ -1,9 +1,9 @@
 ghost use Rattle.std.specs.Prelude.{◌≡◌, ◌++◌, OnOk, OnErr};
-ghost use Rattle.osi_script.specs.Answers.{refusal_name, line_fault_name, call_text, answer_text, answer_line};
+ghost use Rattle.osi_script.specs.Answers.{refusal_name, line_fault_name, answer_line};
 
 use crate::names::{call_error, open_error};
 use crate::sides::Side;
-use crate::texts::{push_decimal, push_words};
+use crate::texts::push_pieces;
 use crate::verbs::Verb;
 use osi_carrier::OpenError;
 use osi_session::CallError;
@@ -97,38 +97,30 @@ fn line_fault(fault: LineFault) -> &'static str
     }
 }
 
-/// Adds what a call is: its side, the connection, and its verb.
-#[tactic(auto, unfolding(crate::specs::Answers::call_text))]
-fn push_call(text: &mut Vec<u8>, side: Side, reference: u16, verb: Verb) -> Result<(), AllocError>
-    ensures { OnOk result (text.new.items ≡ text.old.items ++ call_text side reference verb) }
+/// Adds the line of an answer to a transcript, which is left as it is where there is no memory.
+#[tactic(auto, unfolding(crate::specs::Answers::answer_line, crate::specs::Answers::answer_text, crate::specs::Answers::call_text))]
+pub fn push_answer(_alloc: Global, out: &mut Vec<u8>, answer: &Answer) -> Result<(), AllocError>
+    ensures ok { OnOk result (out.new.items ≡ out.old.items ++ answer_line answer.now) }
+    ensures err { OnErr result (out.new.items ≡ out.old.items) }
 {
-    push_words(text, side.name())?;
-    push_words(text, " ")?;
-    push_decimal(text, u64::from(reference))?;
-    push_words(text, " ")?;
-    push_words(text, verb.name())
-}
-
-#[tactic(auto, unfolding(crate::specs::Answers::answer_text))]
-fn push_text(text: &mut Vec<u8>, answer: &Answer) -> Result<(), AllocError>
-    ensures { OnOk result (text.new.items ≡ text.old.items ++ answer_text answer.now) }
-{
+    let mut digits = itoa::Buffer::new();
     match *answer {
         Answer::Connecting(reference) => {
-            push_words(text, "left connect ok ")?;
-            push_decimal(text, u64::from(reference))
+            push_pieces(out, &["left connect ok ", digits.format(reference), "\n"])
         }
         Answer::ConnectRefused(why) => {
-            push_words(text, "left connect refused ")?;
-            push_words(text, refusal(why))
+            push_pieces(out, &["left connect refused ", refusal(why), "\n"])
         }
         Answer::Called {
             side,
             reference,
             verb,
         } => {
-            push_call(text, side, reference, verb)?;
-            push_words(text, " ok")
+            let reference = digits.format(reference);
+            push_pieces(
+                out,
+                &[side.name_and_blank(), reference, " ", verb.name(), " ok\n"],
+            )
         }
         Answer::CallRefused {
             side,
@@ -136,42 +128,42 @@ fn push_text(text: &mut Vec<u8>, answer: &Answer) -> Result<(), AllocError>
             verb,
             error,
         } => {
-            push_call(text, side, reference, verb)?;
-            push_words(text, " refused ")?;
-            push_words(text, call_error(error))
+            let reference = digits.format(reference);
+            let error = call_error(error);
+            push_pieces(
+                out,
+                &[
+                    side.name_and_blank(),
+                    reference,
+                    " ",
+                    verb.name(),
+                    " refused ",
+                    error,
+                    "\n",
+                ],
+            )
         }
         Answer::Carried { side, octets } => {
-            push_words(text, side.name())?;
-            push_words(text, " carried ")?;
-            push_decimal(text, octets)
+            push_pieces(
+                out,
+                &[
+                    side.name_and_blank(),
+                    "carried ",
+                    digits.format(octets),
+                    "\n",
+                ],
+            )
         }
-        Answer::Broken => push_words(text, "broken"),
-        Answer::Told(side) => {
-            push_words(text, side.name())?;
-            push_words(text, " told")
-        }
+        Answer::Broken => push_pieces(out, &["broken\n"]),
+        Answer::Told(side) => push_pieces(out, &[side.name_and_blank(), "told\n"]),
         Answer::LineRefused(line) => {
-            push_words(text, "line ")?;
-            push_decimal(text, line)?;
-            push_words(text, " refused")
+            push_pieces(out, &["line ", digits.format(line), " refused\n"])
         }
         Answer::LineFailed { line, fault } => {
-            push_words(text, "line ")?;
-            push_decimal(text, line)?;
-            push_words(text, " ")?;
-            push_words(text, line_fault(fault))
+            push_pieces(
+                out,
+                &["line ", digits.format(line), " ", line_fault(fault), "\n"],
+            )
         }
     }
-}
-
-/// Adds the line of an answer to a transcript, which is left as it is where there is no memory.
-#[tactic(auto, unfolding(crate::specs::Answers::answer_line))]
-pub fn push_answer(alloc: Global, out: &mut Vec<u8>, answer: &Answer) -> Result<(), AllocError>
-    ensures ok { OnOk result (out.new.items ≡ out.old.items ++ answer_line answer.now) }
-    ensures err { OnErr result (out.new.items ≡ out.old.items) }
-{
-    let mut line = Vec::new(alloc);
-    push_text(&mut line, answer)?;
-    push_words(&mut line, "\n")?;
-    out.extend_from_slice(line.as_slice())
 }

@@ -1,17 +1,22 @@
-ghost use Rattle.std.specs.Prelude.{◌≡◌, ◌++◌, OnOk, OnErr, option_copied};
+ghost use Rattle.std.specs.Prelude.{◌≡◌, ◌++◌, codes, OnOk, OnErr, option_copied};
+ghost use Rattle.std.specs.Fmt.{decimal};
 ghost use Rattle.osi_session.specs.Shown.{shown_by, abort_shown};
-ghost use Rattle.osi_script.specs.Shown.{shown_name, shown_fields, shown_octets, shown_text, shown_line, number_field, octet_field, confirm_word, minor_fields, sides_field, restart_fields, units_field, serial_field, opening_fields, data_word, data_field};
+ghost use Rattle.osi_script.specs.Names.{side_name};
+ghost use Rattle.osi_script.specs.Shown.{shown_name, shown_fields, shown_octets, shown_line, number_field, octet_field, confirm_word, minor_fields, sides_field, restart_fields, units_field, serial_field, opening_fields, data_word, data_field};
 
 use crate::names::unit_fault;
 use crate::sides::Side;
 use crate::texts::{
-    letters_of_sides, letters_of_wishes, push_data, push_decimal, push_octet, push_short,
-    push_words,
+    letters_of_sides, letters_of_wishes, push_data, push_decimal, push_octet, push_pieces,
+    push_short, push_words,
 };
 use bitflags::Flags;
 use osi_message::Octets;
 use osi_session::{AbortCause, Indication};
 use std::alloc::{AllocError, Global};
+
+/// More octets than the fields of an indication have.
+const MOST_FIELDS: usize = 64;
 
 /// The name of an indication.
 #[tactic(auto, unfolding(crate::specs::Shown::shown_name))]
@@ -52,25 +57,37 @@ fn cause_name(cause: AbortCause) -> &'static str
 }
 
 fn push_number(text: &mut Vec<u8>, number: u64) -> Result<(), AllocError>
-    ensures { OnOk result (text.new.items ≡ text.old.items ++ number_field number) }
+    ensures ok { OnOk result (text.new.items ≡ text.old.items ++ number_field number) }
+    ensures err { OnErr result (text.new.items ≡ text.old.items) }
 {
-    push_words(text, " ")?;
-    push_decimal(text, number)
+    let mut digits = itoa::Buffer::new();
+    push_pieces(text, &[" ", digits.format(number)])
 }
 
-fn push_bits(text: &mut Vec<u8>, octet: u8) -> Result<(), AllocError>
-    ensures { OnOk result (text.new.items ≡ text.old.items ++ octet_field octet) }
+fn push_bits(alloc: Global, text: &mut Vec<u8>, octet: u8) -> Result<(), AllocError>
+    ensures ok { OnOk result (text.new.items ≡ text.old.items ++ octet_field octet) }
+    ensures err { OnErr result (text.new.items ≡ text.old.items) }
 {
-    push_words(text, " ")?;
-    push_octet(text, octet)
+    let mut field = Vec::with_capacity(alloc, MOST_FIELDS)?;
+    push_words(&mut field, " ")?;
+    push_octet(&mut field, octet)?;
+    text.extend_from_slice(field.as_slice())
 }
 
 fn push_minor(text: &mut Vec<u8>, number: u32, confirm: bool) -> Result<(), AllocError>
-    ensures { OnOk result (text.new.items ≡ text.old.items ++ minor_fields number confirm) }
+    ensures ok { OnOk result (text.new.items ≡ text.old.items ++ minor_fields number confirm) }
+    ensures err { OnErr result (text.new.items ≡ text.old.items) }
 {
-    push_number(text, u64::from(number))?;
-    push_words(text, " confirm ")?;
-    push_words(text, confirmation(confirm))
+    let mut digits = itoa::Buffer::new();
+    push_pieces(
+        text,
+        &[
+            " ",
+            digits.format(number),
+            " confirm ",
+            confirmation(confirm),
+        ],
+    )
 }
 
 fn confirmation(confirm: bool) -> &'static str
@@ -87,11 +104,19 @@ fn push_letters(text: &mut Vec<u8>, letters: [u8; 4]) -> Result<(), AllocError>
 }
 
 #[tactic(auto, unfolding(crate::specs::Shown::restart_fields))]
-fn push_restart(text: &mut Vec<u8>, number: u32, letters: [u8; 4]) -> Result<(), AllocError>
-    ensures { OnOk result (text.new.items ≡ text.old.items ++ restart_fields number letters) }
+fn push_restart(
+    alloc: Global,
+    text: &mut Vec<u8>,
+    number: u32,
+    letters: [u8; 4],
+) -> Result<(), AllocError>
+    ensures ok { OnOk result (text.new.items ≡ text.old.items ++ restart_fields number letters) }
+    ensures err { OnErr result (text.new.items ≡ text.old.items) }
 {
-    push_number(text, u64::from(number))?;
-    push_letters(text, letters)
+    let mut fields = Vec::with_capacity(alloc, MOST_FIELDS)?;
+    push_number(&mut fields, u64::from(number))?;
+    push_letters(&mut fields, letters)?;
+    text.extend_from_slice(fields.as_slice())
 }
 
 fn push_units(text: &mut Vec<u8>, units: u16) -> Result<(), AllocError>
@@ -116,37 +141,40 @@ fn push_serial(text: &mut Vec<u8>, serial: Option<u32>) -> Result<(), AllocError
 
 #[tactic(auto, unfolding(crate::specs::Shown::opening_fields))]
 fn push_opening(
+    alloc: Global,
     text: &mut Vec<u8>,
     units: u16,
     serial: Option<u32>,
     letters: [u8; 4],
 ) -> Result<(), AllocError>
-    ensures { OnOk result (text.new.items ≡ text.old.items ++ opening_fields units serial letters) }
+    ensures ok { OnOk result (text.new.items ≡ text.old.items ++ opening_fields units serial letters) }
+    ensures err { OnErr result (text.new.items ≡ text.old.items) }
 {
-    push_units(text, units)?;
-    push_serial(text, serial)?;
-    push_letters(text, letters)
+    let mut fields = Vec::with_capacity(alloc, MOST_FIELDS)?;
+    push_units(&mut fields, units)?;
+    push_serial(&mut fields, serial)?;
+    push_letters(&mut fields, letters)?;
+    text.extend_from_slice(fields.as_slice())
 }
 
 #[tactic(auto, unfolding(crate::specs::Shown::shown_fields))]
-fn push_cause(text: &mut Vec<u8>, cause: AbortCause) -> Result<(), AllocError>
-    ensures { OnOk result (text.new.items ≡ text.old.items ++ shown_fields (abort_shown cause)) }
+fn push_cause(alloc: Global, text: &mut Vec<u8>, cause: AbortCause) -> Result<(), AllocError>
+    ensures ok { OnOk result (text.new.items ≡ text.old.items ++ shown_fields (abort_shown cause)) }
+    ensures err { OnErr result (text.new.items ≡ text.old.items) }
 {
     match cause {
         AbortCause::Lost => Ok(()),
-        AbortCause::Peer(bits) => push_bits(text, bits),
-        AbortCause::Unit(fault) => {
-            push_words(text, " ")?;
-            push_words(text, unit_fault(fault))
-        }
+        AbortCause::Peer(bits) => push_bits(alloc, text, bits),
+        AbortCause::Unit(fault) => push_pieces(text, &[" ", unit_fault(fault)]),
     }
 }
 
 /// The fields between the name of an indication and its user data.
 #[tactic(auto, unfolding(crate::specs::Shown::shown_fields))]
-fn push_fields(text: &mut Vec<u8>, indication: &Indication) -> Result<(), AllocError>
-    ensures { OnOk result (text.new.items
+fn push_fields(alloc: Global, text: &mut Vec<u8>, indication: &Indication) -> Result<(), AllocError>
+    ensures ok { OnOk result (text.new.items
         ≡ text.old.items ++ shown_fields (shown_by indication.now)) }
+    ensures err { OnErr result (text.new.items ≡ text.old.items) }
 {
     match indication {
         Indication::Connect {
@@ -155,6 +183,7 @@ fn push_fields(text: &mut Vec<u8>, indication: &Indication) -> Result<(), AllocE
             wishes,
             ..
         } => push_opening(
+            alloc,
             text,
             requirements.bits(),
             *serial,
@@ -165,11 +194,17 @@ fn push_fields(text: &mut Vec<u8>, indication: &Indication) -> Result<(), AllocE
             serial,
             sides,
             ..
-        } => push_opening(text, requirements.bits(), *serial, letters_of_sides(*sides)),
+        } => push_opening(
+            alloc,
+            text,
+            requirements.bits(),
+            *serial,
+            letters_of_sides(*sides),
+        ),
         Indication::RefusedByTransport { reason } => push_number(text, u64::from(*reason)),
         Indication::RefusedBySession { reason, .. } => push_number(text, u64::from(*reason)),
-        Indication::Given { tokens } => push_bits(text, tokens.bits()),
-        Indication::Asked { tokens, .. } => push_bits(text, tokens.bits()),
+        Indication::Given { tokens } => push_bits(alloc, text, tokens.bits()),
+        Indication::Asked { tokens, .. } => push_bits(alloc, text, tokens.bits()),
         Indication::Minor {
             number,
             confirm,
@@ -178,12 +213,12 @@ fn push_fields(text: &mut Vec<u8>, indication: &Indication) -> Result<(), AllocE
         Indication::MinorConfirmed { number, .. } => push_number(text, u64::from(*number)),
         Indication::Major { number, .. } => push_number(text, u64::from(*number)),
         Indication::Restart { number, wishes, .. } => {
-            push_restart(text, *number, letters_of_wishes(*wishes))
+            push_restart(alloc, text, *number, letters_of_wishes(*wishes))
         }
         Indication::Restarted { number, sides, .. } => {
-            push_restart(text, *number, letters_of_sides(*sides))
+            push_restart(alloc, text, *number, letters_of_sides(*sides))
         }
-        Indication::ProviderAbort { cause } => push_cause(text, *cause),
+        Indication::ProviderAbort { cause } => push_cause(alloc, text, *cause),
         Indication::Data { .. }
         | Indication::MajorConfirmed { .. }
         | Indication::Release { .. }
@@ -229,36 +264,49 @@ fn data_word(indication: &Indication) -> &'static str
     }
 }
 
-fn push_user_data(
+/// The user data of an indication, and the end of its line.
+fn push_end(
     alloc: Global,
     text: &mut Vec<u8>,
     word: &str,
     user_data: Option<&Octets>,
 ) -> Result<(), AllocError>
-    ensures { OnOk result (text.new.items
-        ≡ text.old.items ++ data_field word.now (option_copied user_data.entry)) }
+    ensures ok { OnOk result (text.new.items
+        ≡ text.old.items ++ (data_field word.now (option_copied user_data.entry) ++ codes "\n")) }
+    ensures err { OnErr result (text.new.items ≡ text.old.items) }
 {
     match user_data {
-        None => Ok(()),
-        Some(octets) => {
-            push_words(text, word)?;
-            push_data(alloc, text, octets.as_slice())
-        }
+        None => push_pieces(text, &["\n"]),
+        Some(octets) => push_data(alloc, text, word, octets.as_slice()),
     }
 }
 
-#[tactic(auto, unfolding(crate::specs::Shown::shown_text))]
-fn push_text(alloc: Global, text: &mut Vec<u8>, indication: &Indication) -> Result<(), AllocError>
-    ensures { OnOk result (text.new.items ≡ text.old.items ++ shown_text (shown_by indication.now)) }
+/// The side, the connection and the name of an indication.
+fn push_head(
+    text: &mut Vec<u8>,
+    side: Side,
+    reference: u16,
+    indication: &Indication,
+) -> Result<(), AllocError>
+    ensures ok { OnOk result (text.new.items
+        ≡ text.old.items ++ (side_name side ++ codes " " ++ decimal reference ++ codes " " ++ shown_name (shown_by indication.now))) }
+    ensures err { OnErr result (text.new.items ≡ text.old.items) }
 {
-    push_words(text, name(indication))?;
-    push_fields(text, indication)?;
-    push_user_data(alloc, text, data_word(indication), user_data(indication))
+    let mut digits = itoa::Buffer::new();
+    push_pieces(
+        text,
+        &[
+            side.name_and_blank(),
+            digits.format(reference),
+            " ",
+            name(indication),
+        ],
+    )
 }
 
 /// Adds the line of what the user of a side is shown of a connection to a transcript, which is left as
 /// it is where there is no memory.
-#[tactic(auto, unfolding(crate::specs::Shown::shown_line))]
+#[tactic(auto, using(crate::proofs::Pieces::cut_back, crate::proofs::Pieces::cut_back_both), unfolding(crate::specs::Shown::shown_line, crate::specs::Shown::shown_text))]
 pub fn push_indication(
     alloc: Global,
     out: &mut Vec<u8>,
@@ -270,12 +318,15 @@ pub fn push_indication(
         ≡ out.old.items ++ shown_line side reference (shown_by indication.now)) }
     ensures err { OnErr result (out.new.items ≡ out.old.items) }
 {
-    let mut line = Vec::new(alloc);
-    push_words(&mut line, side.name())?;
-    push_words(&mut line, " ")?;
-    push_decimal(&mut line, u64::from(reference))?;
-    push_words(&mut line, " ")?;
-    push_text(alloc, &mut line, indication)?;
-    push_words(&mut line, "\n")?;
-    out.extend_from_slice(line.as_slice())
+    let before = out.len();
+    push_head(out, side, reference, indication)?;
+    if push_fields(alloc, out, indication).is_err() {
+        out.truncate(before);
+        return Err(AllocError);
+    }
+    if push_end(alloc, out, data_word(indication), user_data(indication)).is_err() {
+        out.truncate(before);
+        return Err(AllocError);
+    }
+    Ok(())
 }

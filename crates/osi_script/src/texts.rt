@@ -1,4 +1,5 @@
-ghost use Rattle.std.specs.Prelude.{◌≡◌, ◌++◌, ◌∷◌, [], OnOk};
+ghost use Rattle.std.specs.Prelude.{◌≡◌, ◌++◌, ◌∷◌, [], codes, OnOk, OnErr};
+ghost use Rattle.std.specs.List.{flat_map};
 ghost use Rattle.std.specs.Fmt.{decimal};
 ghost use Rattle.hex.specs.Hex.{encode_lower};
 ghost use Rattle.osi_tpdu.specs.Spelling.{two};
@@ -13,6 +14,22 @@ pub(crate) fn push_words(text: &mut Vec<u8>, words: &str) -> Result<(), AllocErr
     ensures { OnOk result (text.new.items ≡ text.old.items ++ words.now) }
 {
     text.extend_from_slice(words.as_bytes())
+}
+
+/// Adds pieces of text one behind the other, or leaves the text as it is where there is no memory.
+#[tactic(auto, using(crate::proofs::Pieces::cut_back))]
+pub(crate) fn push_pieces(text: &mut Vec<u8>, pieces: &[&str]) -> Result<(), AllocError>
+    ensures ok { OnOk result (text.new.items ≡ text.old.items ++ flat_map (λ piece. piece.now) pieces.now) }
+    ensures err { OnErr result (text.new.items ≡ text.old.items) }
+{
+    let before = text.len();
+    'pieces: for piece in pieces {
+        if text.extend_from_slice(piece.as_bytes()).is_err() {
+            text.truncate(before);
+            return Err(AllocError);
+        }
+    }
+    Ok(())
 }
 
 /// Adds a number in decimal.
@@ -42,16 +59,22 @@ pub(crate) fn push_short(text: &mut Vec<u8>, bits: u16) -> Result<(), AllocError
     text.extend_from_slice(&digits)
 }
 
-/// Adds octets in hexadecimal, or a dash where there is none.
+/// Adds a word, octets in hexadecimal or a dash where there is none, and the end of a line.
 #[tactic(auto, unfolding(crate::specs::Texts::data_text))]
-pub(crate) fn push_data(alloc: Global, text: &mut Vec<u8>, octets: &[u8]) -> Result<(), AllocError>
-    ensures { OnOk result (text.new.items ≡ text.old.items ++ data_text octets.now) }
+pub(crate) fn push_data(
+    alloc: Global,
+    text: &mut Vec<u8>,
+    word: &str,
+    octets: &[u8],
+) -> Result<(), AllocError>
+    ensures ok { OnOk result (text.new.items ≡ text.old.items ++ (word.now ++ data_text octets.now ++ codes "\n")) }
+    ensures err { OnErr result (text.new.items ≡ text.old.items) }
 {
     if octets.is_empty() {
-        return push_words(text, "-");
+        return push_pieces(text, &[word, "-\n"]);
     }
     let digits = hex::encode(alloc, octets)?;
-    text.extend_from_slice(digits.as_bytes())
+    push_pieces(text, &[word, digits.as_str(), "\n"])
 }
 
 fn letter_of_wish(wish: Wish) -> u8
