@@ -1,3 +1,5 @@
+pub mod Carries
+pub mod Collected
 pub mod LineEnds
 pub mod Numerals
 pub mod Pieces

@@ -1,23 +1,24 @@
 ghost use Rattle.std.specs.Prelude.{◌≡◌, map, option_map, IfOk};
 ghost use Rattle.osi_script.specs.Words.{words_of, data_of};
-ghost use Rattle.osi_script.specs.Commands.{command_by, command_of, last_data};
+ghost use Rattle.osi_script.specs.Commands.{command_by, command_in, command_of, last_data};
 ghost use Rattle.osi_script.specs.Lines.{line_command};
 
 use crate::commands::Command;
 use crate::reading::command;
 use crate::words::is;
 use hex::FromHexError;
+use smallvec::SmallVec;
 use std::alloc::{AllocError, Global};
 
 /// A line of a script, taken apart: its words, and the octets that the last one spells as user data.
 #[derive(Drop)]
 pub struct Line<'l> {
-    words: Vec<&'l [u8]>,
+    words: SmallVec<&'l [u8], 8>,
     user_data: Option<Vec<u8>>,
 }
 
 /// The words of a line, parted by one blank each.
-fn words_in(alloc: Global, line: &[u8]) -> Result<Vec<&[u8]>, AllocError>
+fn words_in(alloc: Global, line: &[u8]) -> Result<SmallVec<&[u8], 8>, AllocError>
     ensures { IfOk result (λ words. map (λ word. word.now) words.items ≡ words_of line.now) }
 {
     line.split(|octet| *octet == b' ').collect(alloc)
@@ -52,6 +53,20 @@ fn last_user_data(alloc: Global, words: &[&[u8]]) -> Result<Option<Vec<u8>>, All
     }
 }
 
+/// The octets that the last of some words spells as user data, where they ask for something that has
+/// user data: none where they carry octets.
+fn wanted_user_data(alloc: Global, words: &[&[u8]]) -> Result<Option<Vec<u8>>, AllocError>
+    ensures { IfOk result (λ octets. command_in (map (λ word. word.now) words.now) (option_map (λ o. o.items) octets)
+        ≡ command_in (map (λ word. word.now) words.now) (last_data (map (λ word. word.now) words.now))) }
+{
+    if let [first, ..] = words {
+        if is(first, "carry") {
+            return Ok(None);
+        }
+    }
+    last_user_data(alloc, words)
+}
+
 impl<'l> Line<'l> {
     /// Takes a line apart, of which the end is left out.
     #[tactic(auto, unfolding(crate::specs::Commands::command_of))]
@@ -59,7 +74,7 @@ impl<'l> Line<'l> {
         ensures { IfOk result (λ line. line_command line ≡ command_of octets.entry.now) }
     {
         let words = words_in(alloc, octets)?;
-        let user_data = last_user_data(alloc, words.as_slice())?;
+        let user_data = wanted_user_data(alloc, words.as_slice())?;
         Ok(Line { words, user_data })
     }
 

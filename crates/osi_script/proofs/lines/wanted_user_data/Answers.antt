@@ -1,0 +1,6 @@
+use Rattle.std.proofs.Common.{sym, ◌∙◌}
+use Rattle.osi_script.proofs.Carries.{carries_alone}
+use Rattle.osi_script.proofs.lines.wanted_user_data.Goals as goal
+
+pub returns-then-is : goal.returns-then-is
+returns-then-is c = carries_alone (λ word. word.now) c.args.words.now _ _ _ c.in-len1-up.len_at_least (sym c.if-is.true ∙ c.is.ensures)
