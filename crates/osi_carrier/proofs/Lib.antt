@@ -20,6 +20,7 @@ pub mod Changes
 pub mod Meetings
 pub mod Coming
 pub mod InFront
+pub mod Parts
 pub mod Pieces
 pub mod ToldOpen
 pub mod Sendables

@@ -84,8 +84,8 @@ impl Carrier {
         self.switch.connect(calling, called)
     }
 
-    /// Sends a TSDU of at most 1,048,576 octets on an open connection: it is kept, and all units that
-    /// may be sent now are written. Each error changes nothing.
+    /// Sends a TSDU of at most 1,048,576 octets on an open connection: all units that may be sent now
+    /// are written, and what may not is kept. Each error changes nothing.
     pub fn send(&mut self, reference: Ref, tsdu: &[u8]) -> Result<(), SendError>
         ensures ok { OnOk result (self.new ≡ record self.old { state = sent reference.0 tsdu.now self.old.state }) }
         ensures allowed { OnOk result (send_error tsdu.now (open_link reference.0 self.old.state) ≡ None) }

@@ -1,8 +1,9 @@
 //! The links of open connections: units that come for them, and units that they give.
 
-ghost use Rattle.std.specs.Prelude.{◌≡◌, ◌≤◌, ◌++◌, None, true, false, take, length, IsOk, IfOk, OnOk, OnErr};
+ghost use Rattle.std.specs.Prelude.{◌≡◌, ◌<◌, ◌≤◌, ◌++◌, None, true, false, take, length, IsOk, IfOk, OnOk, OnErr};
 ghost use Rattle.osi_tpdu.specs.View.{value};
 ghost use Rattle.osi_class.specs.AnyLink.{any_standing};
+ghost use Rattle.osi_class.specs.Giving.{all_given, octets_in};
 ghost use Rattle.osi_class.specs.Link.{taken, next, with_tsdu};
 ghost use Rattle.osi_carrier.specs.Pump.{pumped, written_by};
 ghost use Rattle.osi_carrier.specs.React.{handed_out};
@@ -18,9 +19,6 @@ use std::alloc::AllocError;
 
 /// The most octets of a packet's header and the header of a DT or AK in it: 4 and 5.
 const MOST_HEADERS: usize = 9;
-
-/// The most octets of a TSDU in one unit.
-const MOST_OCTETS: usize = 8189;
 
 /// What became of a unit that came for an open connection.
 #[derive(Drop)]
@@ -90,8 +88,9 @@ pub fn take_unit(
     Ok(Step::Took(whole))
 }
 
-/// Hands in a TSDU at a link that gives nothing now, and writes all units that it gives then. Want of
-/// memory changes nothing: the room for the units is made first.
+/// Hands in a TSDU at a link that gives nothing now, and writes all units that it gives then. Where
+/// all of it goes now, its octets are copied straight into these units; else the link keeps a copy. Want
+/// of memory changes nothing: the room for the units is made first.
 #[inline(always)]
 pub fn send_on(
     link: &mut AnyLink,
@@ -111,8 +110,8 @@ pub fn send_on(
     send_parts(link, peer, tsdu, out)
 }
 
-/// Writes a TSDU as one unit straight from its octets, where the link gives it so and there is memory.
-/// `false` in all other cases, and then nothing has changed.
+/// Writes a TSDU as one unit straight from its octets, where it fits one, the link gives it now and
+/// there is memory. `false` in all other cases, and then nothing has changed.
 #[inline(always)]
 fn send_whole(link: &mut AnyLink, peer: u16, tsdu: &[u8], out: &mut BytesMut) -> bool
     ensures link { result ≡ true → any_standing link.new ≡ pumped (with_tsdu (any_standing link.old) tsdu.now) }
@@ -121,13 +120,13 @@ fn send_whole(link: &mut AnyLink, peer: u16, tsdu: &[u8], out: &mut BytesMut) ->
     ensures none { result ≡ false → (any_standing link.new ≡ any_standing link.old) × (out.new.items ≡ out.old.items) }
 {
     all_is_given();
-    if tsdu.len() > MOST_OCTETS {
+    if tsdu.len() > link.limit() {
         return false;
     }
     let Ok(()) = out.reserve(tsdu.len() + MOST_HEADERS) else {
         return false;
     };
-    let Some(unit) = link.send_whole(tsdu) else {
+    let Some(unit) = link.give_part(tsdu) else {
         return false;
     };
     let Ok(()) = put_given(out, peer, &unit) else {
@@ -136,7 +135,8 @@ fn send_whole(link: &mut AnyLink, peer: u16, tsdu: &[u8], out: &mut BytesMut) ->
     true
 }
 
-/// Hands in a TSDU of which not all may be sent now, or which takes several units.
+/// Hands in a TSDU of which not all may be sent now, or which takes several units. It is kept only in
+/// the first case.
 fn send_parts(
     link: &mut AnyLink,
     peer: u16,
@@ -151,9 +151,40 @@ fn send_parts(
 {
     let room = link.room_for(tsdu);
     out.reserve(room.octets + MOST_HEADERS * room.units)?;
+    if room.octets == tsdu.len() && room.units > 0 {
+        write_parts(link, peer, tsdu, out);
+        return Ok(());
+    }
     link.send_tsdu(tsdu)?;
     let Ok(()) = write_all(link, peer, out) else {
         unreachable!()
     };
     Ok(())
+}
+
+/// Writes a TSDU of which all units go now, part after part, straight from its octets. There is room for
+/// them in `out`.
+fn write_parts(link: &mut AnyLink, peer: u16, tsdu: &[u8], out: &mut BytesMut)
+    requires quiet { next (any_standing link.old) ≡ None }
+    requires some { 0 < length (all_given (with_tsdu (any_standing link.old) tsdu.now)) }
+    requires whole { octets_in (all_given (with_tsdu (any_standing link.old) tsdu.now)) ≡ length tsdu.now }
+    requires room { length (packets (written_by peer (with_tsdu (any_standing link.old) tsdu.now))) ≤ out.old.spare }
+    ensures link { any_standing link.new ≡ pumped (with_tsdu (any_standing link.old) tsdu.now) }
+    ensures written { out.new.items ≡ out.old.items ++ packets (written_by peer (with_tsdu (any_standing link.old) tsdu.now)) }
+    ensures pumped { next (any_standing link.new) ≡ None }
+{
+    let mut rest = tsdu;
+    'parts: loop {
+        let Some(unit) = link.give_part(rest) else {
+            unreachable!()
+        };
+        let Ok(()) = put_given(out, peer, &unit) else {
+            unreachable!()
+        };
+        let (_, behind) = rest.split_at(unit.carries());
+        rest = behind;
+        if rest.is_empty() {
+            return;
+        }
+    }
 }

@@ -10,6 +10,7 @@ pub mod Numbers
 pub mod Oldest
 pub mod Order
 pub mod Owed
+pub mod PartLaws
 pub mod RoomLaws
 pub mod SendLaws
 pub mod Short

@@ -1,5 +1,5 @@
 -- All that a link gives, one unit after the other, until it gives none.
-use Rattle.std.specs.Prelude.{◌≡◌, ℕ, zero, suc, ◌+◌, ◌-◌, ◌/◌, ◌<◌, ◌≤◌, List, [], ◌∷◌, length, Option, Some, None}
+use Rattle.std.specs.Prelude.{◌≡◌, ℕ, zero, suc, ◌+◌, ◌-◌, ◌/◌, ◌<◌, min, List, [], ◌∷◌, length, drop, Option, Some, None}
 use Rattle.osi_class.specs.Flow.{Flow}
 use Rattle.osi_class.specs.Link.{Standing, Given, part0, part2, ack, next, with_tsdu}
 
@@ -62,15 +62,19 @@ abbrev pub MayGo : Option Flow → Type 0
 MayGo None = Unit {0}
 MayGo (Some f) = (f.receiver.waiting ≡ 0) × (0 < f.sender.credit)
 
--- a TSDU can be given at once and whole: nothing is to be sent before it, and it fits a unit
-pub record GoesWhole (tsdu : List ℕ) (s : Standing) : Type 0 where
+-- a part of a TSDU that is handed in now may be given at once: nothing is to be sent before it
+pub record GoesAtOnce (s : Standing) : Type 0 where
   pub alone : s.ends.unsent ≡ []
   pub may : MayGo s.flow
-  pub fits : length tsdu ≤ s.ends.limit
 
--- A TSDU that was put behind the others is given at once and whole, as this unit, and nothing is given
--- behind it.
-pub record SendsWhole (unit : Given) (tsdu : List ℕ) (old new : Standing) : Type 0 where
-  pub gives : next (with_tsdu old tsdu) ≡ Some (unit, new)
+-- what is left of a TSDU is put behind what is to be sent, where anything is left
+abbrev pub with_rest : Standing → List ℕ → Standing
+with_rest s [] = s
+with_rest s (octet ∷ rest) = with_tsdu s (octet ∷ rest)
+
+-- A TSDU that was put behind the others would be given next, and this unit has its first part: as much
+-- as a unit carries, or all of it. The link does not keep what is left.
+pub record GivesPart (unit : Given) (tsdu : List ℕ) (old new : Standing) : Type 0 where
+  pub gives : next (with_tsdu old tsdu) ≡ Some (unit, with_rest new (drop (octets_of unit) tsdu))
   pub last : next new ≡ None
-  pub octets : octets_of unit ≡ length tsdu
+  pub octets : octets_of unit ≡ min old.ends.limit (length tsdu)

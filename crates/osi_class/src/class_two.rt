@@ -4,7 +4,7 @@ use crate::joining::Incoming;
 use crate::limits::Credit;
 use crate::links::Link;
 use crate::sending::Outgoing;
-use crate::sizes::{most_octets, room_within};
+use crate::sizes::{first_part, most_octets, room_within};
 use crate::units::{Out, Room};
 use osi_tpdu::{SizeCode, Tpdu, Window};
 use std::alloc::{AllocError, Global};
@@ -71,10 +71,8 @@ impl Link for Class2 {
         self.outgoing.add(tsdu)
     }
 
-    fn send_whole<'t>(&mut self, tsdu: &'t [u8]) -> Option<Out<'t>> {
-        if tsdu.len() > self.limit {
-            return None;
-        }
+    #[inline(always)]
+    fn give_part<'t>(&mut self, tsdu: &'t [u8]) -> Option<Out<'t>> {
         if !self.outgoing.is_empty() {
             return None;
         }
@@ -84,10 +82,11 @@ impl Link for Class2 {
         if !self.sending.has_credit() {
             return None;
         }
+        let (end, octets) = first_part(self.limit, tsdu);
         Some(Out::Data2 {
             number: self.sending.count_unit(),
-            end: true,
-            octets: tsdu,
+            end,
+            octets,
         })
     }
 
@@ -129,6 +128,11 @@ impl Link for Class2 {
     #[inline(always)]
     fn next_tsdu(&mut self) -> Option<Vec<u8>> {
         self.incoming.pop()
+    }
+
+    #[inline(always)]
+    fn limit(&self) -> usize {
+        self.limit
     }
 
     fn begun_octets(&self) -> usize {

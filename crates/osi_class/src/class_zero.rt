@@ -2,7 +2,7 @@ use crate::faults::LinkFault;
 use crate::joining::Incoming;
 use crate::links::Link;
 use crate::sending::Outgoing;
-use crate::sizes::{count_parts, most_octets};
+use crate::sizes::{count_parts, first_part, most_octets};
 use crate::units::{Out, Room};
 use osi_tpdu::{SizeCode, Tpdu};
 use std::alloc::{AllocError, Global};
@@ -57,17 +57,13 @@ impl Link for Class0 {
         self.outgoing.add(tsdu)
     }
 
-    fn send_whole<'t>(&mut self, tsdu: &'t [u8]) -> Option<Out<'t>> {
-        if tsdu.len() > self.limit {
-            return None;
-        }
+    #[inline(always)]
+    fn give_part<'t>(&mut self, tsdu: &'t [u8]) -> Option<Out<'t>> {
         if !self.outgoing.is_empty() {
             return None;
         }
-        Some(Out::Data0 {
-            end: true,
-            octets: tsdu,
-        })
+        let (end, octets) = first_part(self.limit, tsdu);
+        Some(Out::Data0 { end, octets })
     }
 
     #[inline(always)]
@@ -90,6 +86,11 @@ impl Link for Class0 {
     #[inline(always)]
     fn next_tsdu(&mut self) -> Option<Vec<u8>> {
         self.incoming.pop()
+    }
+
+    #[inline(always)]
+    fn limit(&self) -> usize {
+        self.limit
     }
 
     fn begun_octets(&self) -> usize {

@@ -28,10 +28,10 @@ impl Link for AnyLink {
     }
 
     #[inline(always)]
-    fn send_whole<'t>(&mut self, tsdu: &'t [u8]) -> Option<Out<'t>> {
+    fn give_part<'t>(&mut self, tsdu: &'t [u8]) -> Option<Out<'t>> {
         match self {
-            AnyLink::Zero(link) => link.send_whole(tsdu),
-            AnyLink::Two(link) => link.send_whole(tsdu),
+            AnyLink::Zero(link) => link.give_part(tsdu),
+            AnyLink::Two(link) => link.give_part(tsdu),
         }
     }
 
@@ -56,6 +56,14 @@ impl Link for AnyLink {
         match self {
             AnyLink::Zero(link) => link.next_tsdu(),
             AnyLink::Two(link) => link.next_tsdu(),
+        }
+    }
+
+    #[inline(always)]
+    fn limit(&self) -> usize {
+        match self {
+            AnyLink::Zero(link) => link.limit(),
+            AnyLink::Two(link) => link.limit(),
         }
     }
 

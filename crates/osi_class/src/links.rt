@@ -15,7 +15,7 @@ pub trait Link {
     ghost use Rattle.std.specs.Io.BufRead.{Rests};
     ghost use Rattle.osi_tpdu.specs.View.{value};
     ghost use Rattle.osi_class.specs.declared.limits.TheConstants.{LONGEST_TSDU};
-    ghost use Rattle.osi_class.specs.Giving.{all_given, octets_in, GoesWhole, SendsWhole};
+    ghost use Rattle.osi_class.specs.Giving.{all_given, octets_in, GoesAtOnce, GivesPart};
     ghost use Rattle.osi_class.specs.Link.{Standing, with_tsdu, given, taken, needs_memory, next, Gives, Hands, FitsAUnit};
     ghost use Rattle.osi_class.specs.Sound.{IsSound};
     ghost use Rattle.osi_class.specs.Taking.{TakesUnit};
@@ -29,13 +29,16 @@ pub trait Link {
         ensures err { OnErr result (self.new ≡ self.old) }
         ensures limit { (standing self.new).ends.limit ≡ (standing self.old).ends.limit };
 
-    /// The one unit of a TSDU that goes at once and whole, since nothing else is to be given: it lends
-    /// the octets of the TSDU, and none is copied. One is given wherever nothing is to be sent, the
-    /// TSDU fits a unit and, in class 2, no Ack waits and there is credit. `None` in all other cases,
-    /// and then nothing has changed: it is to be handed in by [`Link::send_tsdu`].
-    fn send_whole<'t>(&mut self, tsdu: &'t [u8]) -> Option<Out<'t>>
-        ensures sent { IfSome result (λ out. SendsWhole (given out) tsdu.now (standing self.old) (standing self.new)) }
-        ensures whole { GoesWhole tsdu.now (standing self.old) → IsSome result }
+    /// The first part of a TSDU that goes at once, since nothing else is to be given: as many octets as
+    /// a unit carries, or all of them. The unit lends them from the TSDU, and none is copied. What is
+    /// left of the TSDU is not kept: it is to be given by further calls of this one, each for what the
+    /// one before has left ([`Out::carries`]), or handed in by [`Link::send_tsdu`].
+    ///
+    /// A part is given wherever nothing is to be sent and, in class 2, no Ack waits and there is
+    /// credit. `None` in all other cases, and then nothing has changed.
+    fn give_part<'t>(&mut self, tsdu: &'t [u8]) -> Option<Out<'t>>
+        ensures given { IfSome result (λ out. GivesPart (given out) tsdu.now (standing self.old) (standing self.new)) }
+        ensures at_once { GoesAtOnce (standing self.old) → IsSome result }
         ensures fits { IfSome result FitsAUnit }
         ensures none { IfNone result (self.new ≡ self.old) }
         ensures at_least { 123 ≤ (standing self.old).ends.limit };
@@ -62,6 +65,12 @@ pub trait Link {
     fn next_tsdu(&mut self) -> Option<Vec<u8>>
         ensures handed { Hands (option_map (λ v. v.items) result) (standing self.old) (standing self.new) }
         ensures limit { (standing self.new).ends.limit ≡ (standing self.old).ends.limit };
+
+    /// How many octets of a TSDU a unit carries at most, 123 to 8,189.
+    fn limit(&self) -> usize
+        ensures value { result ≡ (standing self.now).ends.limit }
+        ensures at_least { 123 ≤ result }
+        ensures at_most { result ≤ 8189 };
 
     /// How many octets were taken of the TSDU whose end has not come, at most 1,048,576.
     fn begun_octets(&self) -> usize

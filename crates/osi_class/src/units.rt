@@ -57,6 +57,18 @@ impl<'a> Out<'a> {
             Out::Ack { number, credit } => acknowledgement(destination, number, credit),
         }
     }
+
+    /// How many octets of a TSDU it carries, none in an Ack.
+    #[inline(always)]
+    pub fn carries(&self) -> usize
+        ensures { result ≡ octets_of (given self.now) }
+    {
+        match *self {
+            Out::Data0 { octets, .. } => octets.len(),
+            Out::Data2 { octets, .. } => octets.len(),
+            Out::Ack { .. } => 0,
+        }
+    }
 }
 
 /// What a slice holds are octets.

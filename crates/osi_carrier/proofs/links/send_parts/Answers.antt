@@ -7,6 +7,15 @@ use Rattle.osi_carrier.specs.State.{packets}
 use Rattle.osi_carrier.proofs.Pumping.{packets_most}
 use Rattle.osi_carrier.proofs.links.send_parts.Goals as goal
 
+pub write_parts-requires-clause-room : goal.write_parts-requires-clause-room
+write_parts-requires-clause-room c =
+    let then = with_tsdu (any_standing c.args.link.now) c.args.tsdu.now in
+    let units = c.room_for-room.ensures.units c.requires in
+    let octets = c.room_for-room.ensures.octets c.requires in
+    let room = c.in_ok-reserve.ensures.spare.1 in
+    let most = packets_most c.args.peer (all_given then) in
+    omega arith
+
 pub unreachable-requires : goal.unreachable-requires
 unreachable-requires c =
     let then = with_tsdu (any_standing c.args.link.now) c.args.tsdu.now in

@@ -1,6 +1,8 @@
-use Rattle.std.proofs.Common.{[], ◌∷◌, ◌++◌, ap, ◌∙◌, arith}
+use Rattle.std.proofs.Common.{◌≡◌, ◌≤◌, Some, [], ◌∷◌, ◌++◌, length, ap, subst, ◌∙◌, arith}
+use Rattle.std.proofs.lemmas.List.{drop_all}
 use Rattle.osi_class.specs.AnyLink.{any_standing}
-use Rattle.osi_class.specs.Link.{given, unit_of, with_tsdu}
+use Rattle.osi_class.specs.Giving.{octets_of, with_rest}
+use Rattle.osi_class.specs.Link.{given, next, unit_of, with_tsdu}
 use Rattle.osi_carrier.specs.State.{packets}
 use Rattle.osi_carrier.proofs.Pumping.{whole_link, whole_written}
 use Rattle.osi_carrier.proofs.Units.{given_size, header_most}
@@ -11,19 +13,24 @@ unreachable-requires c =
     let unit = given c.in-Some.unit in
     let size = given_size c.args.peer unit in
     let header = header_most unit in
-    let octets = c.in-Some.ensures.sent.octets in
+    let octets = c.in-Some.ensures.given.octets in
     let room = c.in-Ok.ensures.spare.1 in
     let full = c.in_default-put_given.ensures.full in
     omega arith
 
 pub returns : goal.returns
 returns c =
-    let old = with_tsdu (any_standing c.args.link.now) c.args.tsdu.now in
-    let new = any_standing c.send_whole.new.self in
+    let tsdu = c.args.tsdu.now in
+    let old = with_tsdu (any_standing c.args.link.now) tsdu in
+    let new = any_standing c.give_part.new.self in
     let unit = given c.in-Some.unit in
-    let sent = c.in-Some.ensures.sent in
+    let sent = c.in-Some.ensures.given in
     let least = c.in-Some.ensures.at_least in
-    let first = c.all_is_given.ensures.some old new unit (omega arith) sent.gives in
+    let octets = sent.octets in
+    let limit = c.limit.ensures.value in
+    let all : length tsdu ≤ octets_of unit = omega arith in
+    let gives = subst (λ r. next old ≡ Some (unit, with_rest new r)) (drop_all (octets_of unit) tsdu all) sent.gives in
+    let first = c.all_is_given.ensures.some old new unit (omega arith) gives in
     let last = c.all_is_given.ensures.none new sent.last in
     record {
       link = λ _. whole_link old new unit first last;

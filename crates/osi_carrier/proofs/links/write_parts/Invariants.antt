@@ -1,0 +1,12 @@
+use Rattle.std.proofs.Common.{length}
+use Rattle.osi_class.specs.AnyLink.{any_standing}
+use Rattle.osi_class.specs.Link.{with_tsdu}
+use Rattle.osi_carrier.proofs.Parts.{IsParting}
+use Rattle.osi_carrier.proofs.links.write_parts.Given as goal
+
+abbrev pub invariant-parts : goal.invariant-parts
+invariant-parts l =
+    IsParting l.fn.peer (with_tsdu (any_standing l.fn.link) l.fn.tsdu) l.fn.out.items (any_standing l.link) l.rest l.out.items l.out.spare
+
+abbrev pub decreases-parts : goal.decreases-parts
+decreases-parts l = length l.rest
