@@ -131,7 +131,7 @@ fault_behind at r t (BadLength offset) h =
     ((omega arith, get_or_append_left r t 0 0 (omega arith) ∙ h.0.1, omega arith), h.1)
 fault_behind at r t OutOfMemory h = absurd h
 
-no_fault : PacketLaws → (at : ℕ) (ws : List (List ℕ)) (r t rest : List ℕ) (f : TpktFault) → IsFaultOf at r f → IsPartial rest → ArePackets ws (r ++ t) rest → ⊥
+pub no_fault : PacketLaws → (at : ℕ) (ws : List (List ℕ)) (r t rest : List ℕ) (f : TpktFault) → IsFaultOf at r f → IsPartial rest → ArePackets ws (r ++ t) rest → ⊥
 no_fault laws at [] r t rest f fault partial h = partial_no_fault at r f (laws.front r t (subst IsPartial (sym h) partial)) fault
 no_fault laws at (u ∷ ws) r t rest f fault partial h = end_no_packet at (r ++ t) (Faulty f) (fault_behind at r t f fault) u h.0 h.1 h.2 h.3
 

@@ -30,19 +30,19 @@ use Rattle.osi_carrier.proofs.Reading.{packets_leave}
 -- ---- two lists of packets at the front of the same octets
 
 -- the one goes on where the other ends
-record Further (us vs : List (List ℕ)) (q r : List ℕ) : Type 0 where
-  more : List (List ℕ)
-  all : us ≡ vs ++ more
-  packets : ArePackets more q r
+pub record Further (us vs : List (List ℕ)) (q r : List ℕ) : Type 0 where
+  pub more : List (List ℕ)
+  pub all : us ≡ vs ++ more
+  pub packets : ArePackets more q r
 
-abbrev Compared : List (List ℕ) → List (List ℕ) → List ℕ → List ℕ → Type 0
+abbrev pub Compared : List (List ℕ) → List (List ℕ) → List ℕ → List ℕ → Type 0
 Compared us vs q r = Further us vs q r ⊎ Further vs us r q
 
 further : (u v : List ℕ) (us vs : List (List ℕ)) (q r : List ℕ) → u ≡ v → Compared us vs q r → Compared (u ∷ us) (v ∷ vs) q r
 further u v us vs q r e (inl f) = inl (record { more = f.more; all = ap (λ x. x ∷ us) e ∙ ap (λ l. v ∷ l) f.all; packets = f.packets })
 further u v us vs q r e (inr f) = inr (record { more = f.more; all = ap (λ x. x ∷ vs) (sym e) ∙ ap (λ l. u ∷ l) f.all; packets = f.packets })
 
-compare : PacketLaws → (us vs : List (List ℕ)) (s r q : List ℕ) → ArePackets us s r → ArePackets vs s q → Compared us vs q r
+pub compare : PacketLaws → (us vs : List (List ℕ)) (s r q : List ℕ) → ArePackets us s r → ArePackets vs s q → Compared us vs q r
 compare laws [] vs s r q h k = inr (record { more = vs; all = refl; packets = subst (λ l. ArePackets vs l q) h k })
 compare laws (u ∷ us) [] s r q h k = inl (record { more = u ∷ us; all = refl; packets = subst (λ l. ArePackets (u ∷ us) l r) k h })
 compare laws (u ∷ us) (v ∷ vs) s r q h k =
@@ -92,7 +92,7 @@ over_front : (us vs more : List (List ℕ)) (old : State) → us ≡ vs ++ more 
 over_front us vs more old all over = ap (λ (s : State). is_some s.ended) (after_more us vs more old all) ∙ packets_over more (after vs old) over
 
 -- what stands in front of the last packet
-init_front : (before ws ms : List (List ℕ)) (last m : List ℕ) → before ++ last ∷ [] ≡ ws ++ m ∷ ms → (more : List (List ℕ)) × (before ≡ ws ++ more)
+pub init_front : (before ws ms : List (List ℕ)) (last m : List ℕ) → before ++ last ∷ [] ≡ ws ++ m ∷ ms → (more : List (List ℕ)) × (before ≡ ws ++ more)
 init_front before [] ms last m e = (before, refl)
 init_front [] (w ∷ []) ms last m e = let none : [] ≡ m ∷ ms = cc in cc
 init_front [] (w ∷ x ∷ ws) ms last m e = let none : [] ≡ x ∷ (ws ++ m ∷ ms) = cc in cc
@@ -114,7 +114,7 @@ both_packets : (old : State) (s : List ℕ) (f g : State) (a : InPacket old s f)
 both_packets old s f g a b (inl x) = same_packet old s f g a b x.more x.all
 both_packets old s f g a b (inr x) = sym (same_packet old s g f b a x.more x.all)
 
-no_further : (at : ℕ) (more : List (List ℕ)) (m rest r : List ℕ) (fault : TpktFault) → IsFaultOf at rest fault → ArePackets (m ∷ more) rest r → ⊥
+pub no_further : (at : ℕ) (more : List (List ℕ)) (m rest r : List ℕ) (fault : TpktFault) → IsFaultOf at rest fault → ArePackets (m ∷ more) rest r → ⊥
 no_further at more m rest r fault is h = end_no_packet at rest (Faulty fault) is m h.0 h.1 h.2 h.3
 
 packet_fault_by : {B : Type 0} (old : State) (at : ℕ) (s : List ℕ) (f g : State) (a : InPacket old s f) (b : InFault old at s g) (more : List (List ℕ)) → a.before ++ a.last ∷ [] ≡ b.before ++ more → ArePackets more b.rest a.rest → B
@@ -167,7 +167,7 @@ takes_last (u ∷ v ∷ us) old new h some =
     let more = takes_last (v ∷ us) (after_packet old u) new h.1 (omega arith) in
     record { before = u ∷ more.before; last = more.last; all = ap (λ l. u ∷ l) more.all; lasts = more.lasts }
 
-at_same : (at : ℕ) (s r t : List ℕ) → at + (length s - length r) ≡ at + (length (s ++ t) - length (r ++ t))
+pub at_same : (at : ℕ) (s r t : List ℕ) → at + (length s - length r) ≡ at + (length (s ++ t) - length (r ++ t))
 at_same at s r t = let a = length-append s t in let b = length-append r t in omega arith
 
 ends_goes : (old : Carrying) (piece : List ℕ) (fed : Fed) (new : Carrying) (later : List ℕ) → Goes old piece fed.used new → is_some new.state.ended ≡ true → (new.state.ended ≡ Some NoMemory → ⊥) →
@@ -262,7 +262,7 @@ stays_along old (call ∷ calls) new none over h =
 -- ---- calls one after the other
 
 -- an offset behind octets of which these are held, and behind more
-offsets_join : (at mid s m t r : ℕ) → mid ≡ offset_of (at + (s - m)) → m ≤ s → r ≤ m + t → offset_of (mid + ((m + t) - r)) ≡ offset_of (at + ((s + t) - r))
+pub offsets_join : (at mid s m t r : ℕ) → mid ≡ offset_of (at + (s - m)) → m ≤ s → r ≤ m + t → offset_of (mid + ((m + t) - r)) ≡ offset_of (at + ((s + t) - r))
 offsets_join at mid s m t r e less few = omega arith
 
 -- what packets did behind the call

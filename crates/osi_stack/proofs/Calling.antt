@@ -4,14 +4,12 @@ use Rattle.std.proofs.lemmas.List.{append-nil}
 use Rattle.osi_carrier.specs.Packets.{Carrying}
 use Rattle.osi_carrier.specs.Calls.{send_error, open_link}
 use Rattle.osi_carrier.specs.State.{State as Carrier}
-use Rattle.osi_carrier.specs.declared.faults.SendError.{SendError}
 use Rattle.osi_message.specs.Meanings.{Meaning}
 use Rattle.osi_message.specs.Written.{written}
 use Rattle.osi_session.specs.Allowed.{Answer, allowed}
 use Rattle.osi_session.specs.Calls.{Call}
 use Rattle.osi_session.specs.Moves.{Standing, Move, called, answered, react}
 use Rattle.osi_session.specs.Shown.{Shown}
-use Rattle.osi_session.specs.declared.faults.CallError.{CallError}
 use Rattle.osi_stack.specs.Calls.{send_refusal, reply_refusal, move_refusal, or_else}
 use Rattle.osi_stack.specs.Moving.{answers, line_by, carrier_by}
 use Rattle.osi_stack.specs.State.{Line}

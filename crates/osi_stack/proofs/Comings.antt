@@ -214,7 +214,7 @@ runs_dry old new outgoing coming k used less c h =
     }
 
 -- where the end has not ended, an indication waits
-uses_within : (e : End) (all within used : ℕ) → stops e ≡ true → e.carrier.ended ≡ None → used ≡ (if uses_all e then all else within) → used ≡ within
+pub uses_within : (e : End) (all within used : ℕ) → stops e ≡ true → e.carrier.ended ≡ None → used ≡ (if uses_all e then all else within) → used ≡ within
 uses_within e all within used stopped lasts uses =
     let over : is_some e.carrier.ended ≡ false = ap is_some lasts in
     let waiting : waits e.lines ≡ true = sym (ap (λ b. b || waits e.lines) over) ∙ stopped in

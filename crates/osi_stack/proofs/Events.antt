@@ -1,7 +1,7 @@
 -- The events that wait, heard one after the other.
-use Rattle.std.proofs.Common.{◌≡◌, ℕ, ◌+◌, ◌==◌, zero, suc, Bool, true, false, not, List, [], ◌∷◌, length, Option, Some, None, is_some, refl, sym, ap, subst, ◌∙◌, inl, inr, ◌⊎◌, arith, if◌then◌else◌}
+use Rattle.std.proofs.Common.{◌≡◌, ℕ, ◌+◌, ◌==◌, zero, suc, Bool, true, false, not, List, [], ◌∷◌, length, Option, Some, None, is_some, refl, sym, ap, subst, ◌∙◌, arith, if◌then◌else◌}
 use Rattle.std.proofs.lemmas.Bool.{eqb-true}
-use Rattle.osi_carrier.specs.Calls.{ended_by, Tells}
+use Rattle.osi_carrier.specs.Calls.{ended_by}
 use Rattle.osi_carrier.specs.Happenings.{Happening}
 use Rattle.osi_carrier.specs.Packets.{is_spoilt}
 use Rattle.osi_carrier.specs.State.{State as Carrier}
@@ -9,9 +9,9 @@ use Rattle.osi_carrier.specs.declared.ends.EndReason.{EndReason}
 use Rattle.osi_carrier.specs.declared.ends.EndReason.TheVariants.{NoMemory}
 use Rattle.osi_stack.specs.Fetching.{Interrupted, LeftOff}
 use Rattle.osi_stack.specs.Hearing.{hears, hears_first, hears_next, hears_times, hears_all, with_events, with_carrier, all_lost, concludes, starves, RunsOut}
-use Rattle.osi_stack.specs.State.{Line, End, Holding, IsAttended}
+use Rattle.osi_stack.specs.State.{End, Holding, IsAttended}
 use Rattle.osi_stack.proofs.Found.{same_end}
-use Rattle.osi_stack.proofs.Keeping.{Keeps, hears_keep}
+use Rattle.osi_stack.proofs.Keeping.{hears_keep}
 
 -- ---- one more
 

@@ -1,5 +1,5 @@
 -- The first connection for which an indication waits.
-use Rattle.std.proofs.Common.{◌≡◌, ℕ, ◌+◌, ◌<◌, ◌≤◌, ◌==◌, Bool, zero, suc, true, false, not, List, [], ◌∷◌, length, get_or, set, option_map, Option, Some, None, refl, sym, ap, subst, ◌∙◌, arith, if◌then◌else◌}
+use Rattle.std.proofs.Common.{◌≡◌, ℕ, ◌+◌, ◌<◌, ◌≤◌, ◌==◌, Bool, zero, suc, true, false, not, List, [], ◌∷◌, length, get_or, set, Option, Some, None, refl, sym, ap, ◌∙◌, arith}
 use Rattle.std.specs.List.{position, position_or_len}
 use Rattle.std.proofs.lemmas.Bool.{eqb-true}
 use Rattle.std.proofs.lemmas.Bool.{eqb-true}
@@ -21,7 +21,7 @@ quiet_list : (w : List Shown) → not (length w == 0) ≡ false → w ≡ []
 quiet_list [] h = refl
 quiet_list (x ∷ w) h = let none : suc (length w) ≡ 0 = eqb-true (length (x ∷ w)) 0 (not_false (length (x ∷ w) == 0) h) in absurd (omega arith)
 
-quiet_line : (l : Line) → line_waits l ≡ false → l.waiting ≡ []
+pub quiet_line : (l : Line) → line_waits l ≡ false → l.waiting ≡ []
 quiet_line l e = quiet_list l.waiting e
 
 pub record IsNone (rows : Rows Line) : Type 0 where

@@ -1,6 +1,6 @@
 -- The line of a reference, at its place among the lines.
-use Rattle.std.proofs.Common.{◌≡◌, ℕ, ◌+◌, ◌≤◌, ◌==◌, Bool, zero, suc, true, false, List, [], ◌∷◌, length, get_or, set, is_some, Option, Some, None, Result, Ok, Err, OnOk, OnErr, IfErr, refl, sym, ap, subst, ◌∙◌, arith, if◌then◌else◌}
-use Rattle.std.specs.List.{position, position_or_len}
+use Rattle.std.proofs.Common.{◌≡◌, ℕ, ◌+◌, ◌≤◌, ◌==◌, Bool, suc, true, false, [], ◌∷◌, length, get_or, set, is_some, Option, Some, None, Result, Ok, Err, OnOk, IfErr, refl, sym, ap, subst, ◌∙◌, arith}
+use Rattle.std.specs.List.{position_or_len}
 use Rattle.std.proofs.lemmas.Grind.{common_steps}
 use Rattle.osi_carrier.proofs.Places.{placed, here_is}
 use Rattle.osi_carrier.specs.Packets.{Carrying}

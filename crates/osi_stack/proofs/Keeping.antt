@@ -1,6 +1,6 @@
 -- What sessions leave of the carrier as it was: the events that wait, and how it ended.
-use Rattle.std.proofs.Common.{◌≡◌, ℕ, Bool, true, false, List, ◌∷◌, Option, Some, None, is_some, refl, sym, ap, ◌∙◌, if◌then◌else◌}
-use Rattle.osi_carrier.specs.Calls.{send_error, open_link, link_of, sent, sent_on, closes, closed_on, closed_with}
+use Rattle.std.proofs.Common.{◌≡◌, ℕ, Bool, true, false, List, Option, Some, None, is_some, refl, sym, ap, if◌then◌else◌}
+use Rattle.osi_carrier.specs.Calls.{send_error, open_link, link_of, sent_on, closes, closed_on}
 use Rattle.osi_carrier.specs.Happenings.{Happening}
 use Rattle.osi_carrier.specs.Happenings as told
 use Rattle.osi_carrier.specs.Packets.{is_spoilt}
@@ -11,11 +11,11 @@ use Rattle.osi_carrier.specs.declared.faults.SendError.{SendError}
 use Rattle.osi_class.specs.Link.{Standing as Link}
 use Rattle.osi_class.specs.declared.terms.Class.{Class}
 use Rattle.osi_class.specs.declared.terms.Class.TheVariants.{Zero, Two}
-use Rattle.osi_session.specs.Moves.{Input, Standing, Move, opened, react}
+use Rattle.osi_session.specs.Moves.{Input, Standing, opened, react}
 use Rattle.osi_stack.specs.Hearing.{opens, hears}
-use Rattle.osi_stack.specs.Moving.{answers, carrier_by, by_line, to_session}
+use Rattle.osi_stack.specs.Moving.{carrier_by, by_line, to_session}
 use Rattle.osi_stack.specs.State.{Line, End}
-use Rattle.osi_stack.specs.Transport.{sent_unless, hands, hands_some, answers_by}
+use Rattle.osi_stack.specs.Transport.{sent_unless, hands_some, answers_by}
 
 pub record Keeps (old new : Carrier) : Type 0 where
   pub events : new.events ≡ old.events

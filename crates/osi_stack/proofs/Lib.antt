@@ -22,3 +22,12 @@ pub mod Settling
 pub mod Empties
 pub mod Opened
 pub mod Ordering
+pub mod InFront
+pub mod Accounts
+pub mod Overs
+pub mod Runs
+pub mod Lasting
+pub mod Endings
+pub mod Alike
+pub mod Hushing
+pub mod Rounds

@@ -1,12 +1,11 @@
 -- What packets that tell nothing do to an end, and what the last of them does.
-use Rattle.std.proofs.Common.{◌≡◌, ℕ, ◌||◌, ◌==◌, not, Bool, true, false, List, [], ◌∷◌, ◌++◌, length, is_some, Option, Some, None, refl, sym, ap, subst, ◌∙◌, if◌then◌else◌}
+use Rattle.std.proofs.Common.{◌≡◌, ℕ, ◌||◌, Bool, true, false, List, [], ◌∷◌, ◌++◌, is_some, refl, sym, ap, subst, ◌∙◌, if◌then◌else◌}
 use Rattle.osi_tpkt.specs.Stream.{ArePackets}
-use Rattle.osi_carrier.specs.Feeding.{TakesAll}
 use Rattle.osi_carrier.specs.Packets as carriers
 use Rattle.osi_carrier.specs.Rows.{Rows}
 use Rattle.osi_carrier.specs.State.{State as Carrier}
 use Rattle.osi_stack.specs.Feeding.{stops, TakesPackets}
-use Rattle.osi_stack.specs.Hearing.{attends, after_packet, with_carrier, hears_all, all_lost, concludes}
+use Rattle.osi_stack.specs.Hearing.{attends, after_packet, with_carrier, all_lost, concludes}
 use Rattle.osi_stack.specs.State.{Line, End, waits}
 use Rattle.osi_stack.proofs.Events.{no_events, all_quiet}
 

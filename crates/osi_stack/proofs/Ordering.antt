@@ -26,7 +26,7 @@ use Rattle.osi_carrier.proofs.Apart.{beyond, push_here}
 use Rattle.osi_carrier.proofs.AtReferences.{put_up, push_other}
 use Rattle.osi_carrier.proofs.Effects.{free_of}
 use Rattle.osi_carrier.proofs.Reacts.{none_of}
-use Rattle.osi_session.specs.Moves.{Input, Standing, called, opened as linked_up, react}
+use Rattle.osi_session.specs.Moves.{Input, Standing, opened as linked_up, react}
 use Rattle.osi_session.specs.Sessions.{awaits}
 use Rattle.osi_session.specs.Shown.{Shown}
 use Rattle.osi_stack.specs.Calls.{calls_with, connects, connect_error, terms_error, breaks, carried, without_first, rest_by}

@@ -1,10 +1,8 @@
 -- A piece of the stream, read by looks that each take packets up to one that tells something.
-use Rattle.std.proofs.Common.{◌≡◌, ℕ, zero, suc, ◌+◌, ◌-◌, ◌^◌, ◌<◌, ◌≤◌, ◌||◌, ◌==◌, not, true, false, Bool, List, [], ◌∷◌, ◌++◌, length, take, drop, min, Option, Some, None, Result, Ok, Err, is_some, refl, sym, ap, subst, ◌∙◌, inl, inr, ◌⊎◌, arith, length-append, length-drop, length-take, append_assoc, if◌then◌else◌}
+use Rattle.std.proofs.Common.{◌≡◌, ℕ, zero, suc, ◌+◌, ◌-◌, ◌<◌, ◌≤◌, ◌||◌, ◌==◌, not, true, false, Bool, List, [], ◌∷◌, ◌++◌, length, take, drop, Option, Some, None, Result, Ok, Err, is_some, refl, sym, ap, subst, ◌∙◌, inl, inr, ◌⊎◌, arith, length-append, length-drop, append_assoc, if◌then◌else◌}
 use Rattle.std.proofs.lemmas.List.{append-nil, take-append-drop, take_at}
 use Rattle.osi_tpkt.specs.Packet.{IsPartial, IsFaultOf}
-use Rattle.osi_tpkt.specs.Stream.{ArePackets, CutsFrom, offset_of}
-use Rattle.osi_tpkt.specs.Stream.Ending.{Faulty}
-use Rattle.osi_tpkt.specs.declared.faults.TpktFault.{TpktFault}
+use Rattle.osi_tpkt.specs.Stream.{ArePackets, offset_of}
 use Rattle.osi_tpdu.specs.Packet.{units_of}
 use Rattle.osi_tpdu.specs.Value.{Value}
 use Rattle.osi_tpdu.specs.declared.faults.TpduFault.{TpduFault}
@@ -18,7 +16,7 @@ use Rattle.osi_carrier.specs.declared.ends.CarrierFault.TheVariants.{Tpkt}
 use Rattle.osi_carrier.specs.declared.ends.EndReason.{EndReason}
 use Rattle.osi_carrier.specs.declared.ends.EndReason.TheVariants.{Fault, NoMemory}
 use Rattle.osi_stack.specs.Feeding.{stops, uses_all, TakesPackets, RunsDry, StopsBehind, Refuses, FindsNoMemory, Goes}
-use Rattle.osi_stack.specs.Fetching.{Fetches, Attends, RunsOutAt}
+use Rattle.osi_stack.specs.Fetching.{Fetches}
 use Rattle.osi_stack.specs.Hearing.{attends, with_carrier, ends, hears_all, concludes, RunsOut, Starves}
 use Rattle.osi_stack.specs.State.{Line, End, Holding, IsAttended, waits}
 use Rattle.osi_stack.proofs.Events.{all_quiet, never_starved, concluded_carrier, all_keep_by}
@@ -53,7 +51,7 @@ read_first old piece quiet attended =
 
 -- ---- a carrier on which nothing waits
 
-none_of : (o : Option EndReason) → is_some o ≡ false → o ≡ None
+pub none_of : (o : Option EndReason) → is_some o ≡ false → o ≡ None
 none_of None e = refl
 none_of (Some reason) e = cc
 
@@ -242,11 +240,13 @@ stopped_is old piece now rest fed told new read g out held =
       taken = takes_append old.end now.end before read.units l.first read.taken (lift_dry now.end.lines now.end.carrier l.before l.first none l.taken l.quiet);
       quiet = quiet_stops before (quiet_is l.before l.quiet).lasts none;
       how = inr (l.last, parts.back, inr (told.state, acts_is l.before told.state l.last l.acts, out));
+      held = ap (λ h. h.octets) held ∙ g.held;
     }
 
 refuses_is : (old : Holding) (piece : List ℕ) (now : Holding) (rest : List ℕ) (fed : ℕ) (told : Carrying) (new : Holding) (read : IsRead old piece now rest) →
-    carriers.Refuses (record { state = now.end.carrier; held = now.held }) rest fed told → new.end ≡ attends (with_carrier told.state now.end) → Refuses old piece (length piece) new
-refuses_is old piece now rest fed told new read g is =
+    carriers.Refuses (record { state = now.end.carrier; held = now.held }) rest fed told → new.held ≡ told.held → new.end ≡ attends (with_carrier told.state now.end) →
+    Refuses old piece (length piece) new
+refuses_is old piece now rest fed told new read g held is =
     let none = or_second (is_some now.end.carrier.ended) (waits now.end.lines) read.quiet in
     let before = with_carrier g.before now.end in
     let q = quiet_is g.before g.quiet in
@@ -268,13 +268,14 @@ refuses_is old piece now rest fed told new read g is =
       taken = takes_append old.end now.end before read.units g.units read.taken (lift_dry now.end.lines now.end.carrier g.before g.units none g.taken g.quiet);
       quiet = quiet_stops before q.lasts none;
       ended = is ∙ ended_attends g.before told.state now.end.lines (Fault (Tpkt g.fault)) g.ended q;
+      held = ap (λ h. h.octets) held ∙ g.held;
     }
 
 starved_with : (old : Holding) (piece : List ℕ) (now : Holding) (rest : List ℕ) (fed : ℕ) (told : Carrying) (new : Holding) (read : IsRead old piece now rest) →
-    (g : carriers.FindsNoMemory (record { state = now.end.carrier; held = now.held }) rest fed told) →
+    (g : carriers.FindsNoMemory (record { state = now.end.carrier; held = now.held }) rest fed told) → new.held ≡ told.held →
     ((new.end ≡ ends NoMemory (with_carrier g.before now.end)) ⊎ ((packet : List ℕ) × ArePackets (packet ∷ []) g.rest [] × Starves (with_carrier g.before now.end) packet new.end)) →
     FindsNoMemory old piece (length piece) new
-starved_with old piece now rest fed told new read g how =
+starved_with old piece now rest fed told new read g held how =
     let none = or_second (is_some now.end.carrier.ended) (waits now.end.lines) read.quiet in
     let look = looked piece read.front rest g.within read.cut in
     let before = with_carrier g.before now.end in
@@ -291,6 +292,7 @@ starved_with old piece now rest fed told new read g how =
       taken = takes_append old.end now.end before read.units g.units read.taken (lift_dry now.end.lines now.end.carrier g.before g.units none g.taken g.quiet);
       quiet = quiet_stops before (quiet_is g.before g.quiet).lasts none;
       how = how;
+      held = ap (λ h. h.octets) held ∙ g.held;
     }
 
 starved_how : (now : Holding) (rest : List ℕ) (fed : ℕ) (told : Carrying) (new : Holding) (g : carriers.FindsNoMemory (record { state = now.end.carrier; held = now.held }) rest fed told) →
@@ -325,12 +327,12 @@ looks old piece now rest used new read fetch =
         | inr h ↦ inr (record { all = h.1; goes = inr (inr (stopped_is old piece now rest fetch.fed.used fetch.told new read g h.0 fetch.held)) })
       ]
       | inr (inl g) ↦ elim (fetch.heard) [
-        | inl h ↦ inr (record { all = h.1 ∙ g.all; goes = inr (inl (refuses_is old piece now rest fetch.fed.used fetch.told new read g h.0)) })
+        | inl h ↦ inr (record { all = h.1 ∙ g.all; goes = inr (inl (refuses_is old piece now rest fetch.fed.used fetch.told new read g fetch.held h.0)) })
         | inr h ↦ never_starved there new.end (ap (λ (c : Carrier). c.events) g.ended ∙ (quiet_is g.before g.quiet).events) h.0
       ]
       | inr (inr g) ↦ elim (fetch.heard) [
-        | inl h ↦ inr (record { all = h.1 ∙ g.all; goes = inr (inr (starved_with old piece now rest fetch.fed.used fetch.told new read g (starved_how now rest fetch.fed.used fetch.told new g (inl h.0)))) })
-        | inr h ↦ inr (record { all = h.1; goes = inr (inr (starved_with old piece now rest fetch.fed.used fetch.told new read g (starved_how now rest fetch.fed.used fetch.told new g (inr h.0)))) })
+        | inl h ↦ inr (record { all = h.1 ∙ g.all; goes = inr (inr (starved_with old piece now rest fetch.fed.used fetch.told new read g fetch.held (starved_how now rest fetch.fed.used fetch.told new g (inl h.0)))) })
+        | inr h ↦ inr (record { all = h.1; goes = inr (inr (starved_with old piece now rest fetch.fed.used fetch.told new read g fetch.held (starved_how now rest fetch.fed.used fetch.told new g (inr h.0)))) })
       ]
     ]
 

@@ -1,18 +1,18 @@
 -- The lines of an end stand in the order in which their references were given.
-use Rattle.std.proofs.Common.{◌≡◌, ℕ, ◌+◌, ◌<◌, ◌≤◌, Bool, true, false, List, [], ◌∷◌, ◌++◌, Option, Some, None, is_some, option_map, refl, sym, ap, subst, ◌∙◌, arith, if◌then◌else◌}
+use Rattle.std.proofs.Common.{◌≡◌, ℕ, ◌+◌, ◌<◌, Bool, true, false, List, [], ◌∷◌, ◌++◌, Option, Some, None, is_some, option_map, refl, sym, subst, arith, if◌then◌else◌}
 use Rattle.osi_tpdu.specs.Value.{Value}
 use Rattle.osi_tpdu.specs.Limits.{tsap_octets}
 use Rattle.osi_carrier.specs.Calls.{asks}
 use Rattle.osi_carrier.specs.Orderly.{RiseFrom, AreUpTo}
-use Rattle.osi_carrier.specs.Rows.{Rows, value_at, put}
+use Rattle.osi_carrier.specs.Rows.{Rows, value_at}
 use Rattle.osi_carrier.specs.State.{Connection}
 use Rattle.osi_carrier.proofs.AtReferences.{rise_lower, put_rise}
 use Rattle.osi_session.specs.Moves.{Input, Standing}
 use Rattle.osi_session.specs.Sessions.{awaits}
 use Rattle.osi_session.specs.Shown.{Shown}
 use Rattle.osi_stack.specs.Calls.{calls_with, connects, breaks, without_first, rest_by}
-use Rattle.osi_stack.specs.Hearing.{concludes, ends, all_lost}
-use Rattle.osi_stack.specs.Links.{Soundness, IsSound}
+use Rattle.osi_stack.specs.Hearing.{ends, all_lost}
+use Rattle.osi_stack.specs.Links.{Soundness}
 use Rattle.osi_stack.specs.Messages.{Effect, begins, happens, rests, Hears, Arrives, told_all}
 use Rattle.osi_stack.specs.Moving.{line_by, by_line, to_session}
 use Rattle.osi_stack.specs.State.{Line, End, is_used, used_lines, joins}

@@ -1,11 +1,11 @@
 -- What happens to a session beside calls and TSDUs.
-use Rattle.std.proofs.Common.{◌≡◌, ℕ, Bool, true, false, List, [], ◌++◌, map, Option, None, option_map, Result, Ok, refl, sym, ap, subst, ◌∙◌, if◌then◌else◌}
+use Rattle.std.proofs.Common.{◌≡◌, ℕ, Bool, true, false, [], ◌++◌, map, Option, None, option_map, Result, Ok, refl, sym, ap, subst, ◌∙◌, if◌then◌else◌}
 use Rattle.std.proofs.lemmas.List.{append-nil}
 use Rattle.osi_message.specs.Written.{written}
 use Rattle.osi_session.specs.Moves.{Input, Standing, Move, opened, refused, broken, react}
 use Rattle.osi_session.specs.Phases.{is_wait_transport}
 use Rattle.osi_session.specs.Sessions.{Takes}
-use Rattle.osi_session.specs.Shown.{Shown, shown_by}
+use Rattle.osi_session.specs.Shown.{shown_by}
 use Rattle.osi_session.specs.Steps.{shown_list}
 use Rattle.osi_session.specs.declared.indications.Indication.{Indication}
 use Rattle.osi_session.specs.declared.taken.Taken.{Taken}

@@ -29,7 +29,6 @@ use Rattle.osi_session.specs.declared.opening.Opening.{Opening}
 use Rattle.osi_session.specs.declared.phases.Phase.{Phase}
 use Rattle.osi_session.specs.declared.phases.Phase.TheVariants.{Ended}
 use Rattle.osi_stack.specs.Hearing.{ends}
-use Rattle.osi_stack.specs.Moving.{to_session}
 use Rattle.osi_stack.specs.State.{Line, End, session_at, joins}
 use Rattle.osi_stack.specs.declared.connecting.Connect.{Connect}
 use Rattle.osi_stack.specs.declared.connecting.ConnectError.{ConnectError}

@@ -1,5 +1,5 @@
 -- What feeding a piece of the stream does.
-use Rattle.std.specs.Prelude.{◌≡◌, ℕ, ◌+◌, ◌-◌, ◌≤◌, ◌<◌, ◌||◌, not, Bool, true, false, List, [], ◌∷◌, ◌++◌, length, take, Option, Some, None, is_some, IsSome, ◌⊎◌, if◌then◌else◌}
+use Rattle.std.specs.Prelude.{◌≡◌, ℕ, ◌+◌, ◌-◌, ◌≤◌, ◌<◌, ◌||◌, not, Bool, true, false, List, [], ◌∷◌, ◌++◌, length, take, None, is_some, IsSome, ◌⊎◌, if◌then◌else◌}
 use Rattle.osi_tpkt.specs.Packet.{IsPartial}
 use Rattle.osi_tpkt.specs.Stream.{ArePackets, CutsFrom, offset_of}
 use Rattle.osi_tpkt.specs.Stream.Ending.{Faulty}
@@ -56,6 +56,7 @@ pub record Refuses (old : Holding) (piece : List ℕ) (used : ℕ) (new : Holdin
   pub taken : TakesPackets old.end units before
   pub quiet : stops before ≡ false
   pub ended : new.end ≡ ends (Fault (Tpkt fault)) before
+  pub held : new.held.octets ≡ []
 
 -- There was no memory to hold what belongs to a packet, or for what the next packet does.
 pub record FindsNoMemory (old : Holding) (piece : List ℕ) (used : ℕ) (new : Holding) : Type 0 where
@@ -69,6 +70,7 @@ pub record FindsNoMemory (old : Holding) (piece : List ℕ) (used : ℕ) (new : 
   pub taken : TakesPackets old.end units before
   pub quiet : stops before ≡ false
   pub how : (new.end ≡ ends NoMemory before) ⊎ ((packet : List ℕ) × ArePackets (packet ∷ []) rest [] × Starves before packet new.end)
+  pub held : new.held.octets ≡ []
 
 -- feeding a piece where nothing waits and the carrier has not ended
 abbrev pub Goes : Holding → List ℕ → ℕ → Holding → Type 0

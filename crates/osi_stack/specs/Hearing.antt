@@ -1,5 +1,5 @@
 -- What the events of the carrier do to the sessions, and what the end of the carrier does.
-use Rattle.std.specs.Prelude.{◌≡◌, ℕ, zero, suc, Bool, List, [], ◌∷◌, ◌++◌, length, map, Option, Some, None, is_some, ◌⊎◌, if◌then◌else◌}
+use Rattle.std.specs.Prelude.{◌≡◌, ℕ, zero, suc, List, [], ◌∷◌, ◌++◌, length, map, Option, Some, None, is_some, ◌⊎◌, if◌then◌else◌}
 use Rattle.osi_carrier.specs.Calls.{ended_by}
 use Rattle.osi_carrier.specs.Happenings.{Happening}
 use Rattle.osi_carrier.specs.Happenings as told
@@ -9,7 +9,7 @@ use Rattle.osi_carrier.specs.State.{State as Carrier}
 use Rattle.osi_carrier.specs.State as carriers
 use Rattle.osi_carrier.specs.declared.ends.EndReason.{EndReason}
 use Rattle.osi_carrier.specs.declared.ends.EndReason.TheVariants.{NoMemory}
-use Rattle.osi_session.specs.Moves.{Input, Standing, opened, refused, broken, came, react}
+use Rattle.osi_session.specs.Moves.{Standing, opened, refused, broken, came, react}
 use Rattle.osi_session.specs.Sessions.{awaits}
 use Rattle.osi_session.specs.Shown.{Shown}
 use Rattle.osi_stack.specs.Moving.{to_session}

@@ -12,3 +12,5 @@ pub mod Fetching
 pub mod Folds
 pub mod Settled
 pub mod Ordered
+pub mod Runs
+pub mod Rounds

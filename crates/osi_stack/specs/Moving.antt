@@ -1,6 +1,6 @@
 -- What the move of a session does to the end that it belongs to.
-use Rattle.std.specs.Prelude.{ℕ, Bool, List, ◌++◌, Option, Some, None, option_map}
-use Rattle.osi_carrier.specs.Rows.{Rows, value_at, put}
+use Rattle.std.specs.Prelude.{ℕ, ◌++◌, Option, Some, None, option_map}
+use Rattle.osi_carrier.specs.Rows.{value_at, put}
 use Rattle.osi_carrier.specs.State.{State as Carrier}
 use Rattle.osi_message.specs.Written.{written}
 use Rattle.osi_session.specs.Moves.{Input, Standing, Move, react}

@@ -1,5 +1,5 @@
 -- One end of a byte connection: the carrier, and for each of its connections a session.
-use Rattle.std.specs.Prelude.{◌≡◌, ℕ, Bool, true, false, not, ◌&&◌, ◌||◌, List, [], ◌∷◌, ◌++◌, Option, Some, None, is_some, length, ◌==◌, if◌then◌else◌}
+use Rattle.std.specs.Prelude.{◌≡◌, ℕ, Bool, not, ◌||◌, List, [], ◌∷◌, ◌++◌, Option, Some, None, is_some, length, ◌==◌, if◌then◌else◌}
 use Rattle.std.specs.List.{list_any, count_by, filter}
 use Rattle.osi_tpkt.specs.Held.{Held}
 use Rattle.osi_class.specs.declared.terms.Local.{Local}

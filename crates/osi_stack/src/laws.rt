@@ -1,6 +1,8 @@
 //! Laws of one end. Each function does nothing: its clauses are the laws.
 
-ghost use Rattle.std.specs.Prelude.{◌≡◌, ◌<◌, ◌≤◌, ℕ, Bool, List, [], None, IsSome, is_some, false, true, length, take};
+ghost use Rattle.std.specs.Prelude.{◌≡◌, ◌≢◌, ◌<◌, ◌≤◌, ◌^◌, ◌⊎◌, ℕ, Bool, List, [], None, Some, IsSome, is_some, false, true, length, take};
+ghost use Rattle.std.specs.List.{flat_map};
+ghost use Rattle.osi_tpkt.specs.Packet.{IsPartial};
 ghost use Rattle.osi_tpkt.specs.declared.cutting.Fed.{Fed};
 ghost use Rattle.osi_tpdu.specs.Value.{Value};
 ghost use Rattle.osi_tpdu.specs.Writing.{written};
@@ -10,6 +12,7 @@ ghost use Rattle.osi_carrier.specs.Orderly.{RiseFrom};
 ghost use Rattle.osi_carrier.specs.React.{react as carrier_react};
 ghost use Rattle.osi_carrier.specs.Rows.{Rows, value_at};
 ghost use Rattle.osi_carrier.specs.State.{Connection};
+ghost use Rattle.osi_carrier.specs.declared.ends.EndReason.TheVariants.{NoMemory};
 ghost use Rattle.osi_session.specs.Calls.{Call, HasSerial};
 ghost use Rattle.osi_session.specs.Moves.{Input, called, react};
 ghost use Rattle.osi_stack.specs.Calls.{call_error, table_error, connect_error, connects, carried, breaks, first_shown, without_first};
@@ -23,6 +26,8 @@ ghost use Rattle.osi_stack.specs.Hearing.{after_packet, all_lost};
 ghost use Rattle.osi_stack.specs.Messages.{Message, Effect, begins, IsWhole, Acts, effect_at, told_at, CanHear, Arrives, kept_at, Becomes, Says, AreLost, all_waiting, IsFirstOf};
 ghost use Rattle.osi_stack.specs.Moving.{to_session};
 ghost use Rattle.osi_stack.specs.Ordered.{IsOrdered};
+ghost use Rattle.osi_stack.specs.Rounds.{Round, RoundsAlong, AreInStep, calls_of};
+ghost use Rattle.osi_stack.specs.Runs.{Call as EndCall, CallsAlong, CallsInRoom, Reads, AreAlike, LookAlike, used_in};
 ghost use Rattle.osi_stack.specs.Settled.{IsSettled};
 ghost use Rattle.osi_stack.specs.State.{Line, End, Holding, IsAttended, fresh_end, session_at, waits, used_lines};
 
@@ -33,6 +38,7 @@ use osi_session::laws::{
     where_a_call_is_accepted,
 };
 use osi_spdu::laws::{few_octets_fit, serial_digits};
+use osi_tpkt::laws::{a_prefix_of_a_packet, a_stream_has_one_cut, no_packet_begins_another};
 
 /// However many of the octets are fed that the other end wrote, what an end does is to take the units
 /// that these are, one after the other, up to one that stops it or finds no memory.
@@ -197,3 +203,42 @@ pub fn all_that_is_told_is_heard()
     ensures fed { (old new : Holding) (piece : List ℕ) (fed : Fed) → Feeds old piece fed new → IsAttended old.end → IsAttended new.end }
     ensures broken { (e : End) → IsAttended e → IsAttended (breaks e) }
 {}
+
+/// Over every list of calls that feed an end, tell its indications and carry its octets away, after which it
+/// has not ended: the packets of the octets that it held and used acted, each whole and in order, each once
+/// all was told that waited, and nothing else did. So the pieces in which the octets came do not matter, nor
+/// when indications and octets were taken away: the same indications are told in the same order, those that
+/// wait counted in; the same octets are put for the peer, those not yet carried counted in; and each session,
+/// each connection and what is held of the packet under way are the same. Where the octets do not end an end
+/// in one list of pieces, they do in no other, but for want of memory. Where they end it and there is memory
+/// for all that they do, they end it for the same reason, leave it the same and have the same told, whatever
+/// the pieces.
+pub fn the_pieces_do_not_matter()
+    ensures calls { (old new : Holding) (calls : List EndCall) → CallsAlong old calls new → new.end.carrier.ended ≡ None → Reads old calls new }
+    ensures pieces { (old a b : Holding) (xs ys : List EndCall) → IsPartial old.held.octets → old.held.offset < 2 ^ 64 →
+        CallsAlong old xs a → CallsAlong old ys b → flat_map used_in xs ≡ flat_map used_in ys →
+        a.end.carrier.ended ≡ None → b.end.carrier.ended ≡ None → AreAlike a xs b ys × (a.held.offset ≡ b.held.offset) }
+    ensures lasts { (old a b : Holding) (xs ys : List EndCall) → IsPartial old.held.octets → old.end.carrier.ended ≡ None →
+        CallsAlong old xs a → CallsAlong old ys b → flat_map used_in xs ≡ flat_map used_in ys → a.end.carrier.ended ≡ None →
+        (b.end.carrier.ended ≡ None) ⊎ (b.end.carrier.ended ≡ Some NoMemory) }
+    ensures ends { (old a b : Holding) (xs ys : List EndCall) → IsPartial old.held.octets → old.held.offset < 2 ^ 64 → old.end.carrier.ended ≡ None →
+        CallsInRoom old xs a → CallsInRoom old ys b → flat_map used_in xs ≡ flat_map used_in ys → a.end.carrier.ended ≢ None →
+        AreAlike a xs b ys × (a.held.octets ≡ []) }
+    ensures seen { (a b : Holding) (xs ys : List EndCall) → AreAlike a xs b ys → LookAlike a xs b ys }
+{
+    a_prefix_of_a_packet();
+    a_stream_has_one_cut();
+    no_packet_begins_another();
+}
+
+/// So over whole runs too, with the user's calls between: where in each round the same octets were used, in
+/// whatever pieces, and then the user made the same call, the ends come to the same, and the same was told and
+/// put. A session may be called while indications wait; a connection is asked for, and the byte connection
+/// breaks, once all was told that waited.
+pub fn whole_runs_do_not_hang_on_pieces()
+    ensures { (old a b : Holding) (xs ys : List Round) → IsPartial old.held.octets → RoundsAlong old xs a → RoundsAlong old ys b → AreInStep xs ys →
+        AreAlike a (calls_of xs) b (calls_of ys) }
+{
+    a_prefix_of_a_packet();
+    a_stream_has_one_cut();
+}

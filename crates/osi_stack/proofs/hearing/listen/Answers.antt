@@ -1,4 +1,4 @@
-use Rattle.std.proofs.Common.{◌≡◌, Option, None, refl, sym, ap, ◌∙◌}
+use Rattle.std.proofs.Common.{None, sym, ap, ◌∙◌}
 use Rattle.osi_session.specs.Moves.{opened, refused, broken, react}
 use Rattle.osi_stack.specs.Telling.{told_input}
 use Rattle.osi_stack.proofs.Sessions.{opened_is_unseen, refused_is_quiet, broken_is_quiet, quiet_takes, takes_if}

@@ -1,4 +1,4 @@
-use Rattle.std.proofs.Common.{◌≡◌, ℕ, ◌<◌, length, sym, ap, arith, ◌∙◌}
+use Rattle.std.proofs.Common.{ℕ, ◌<◌, length, sym, ap, arith, ◌∙◌}
 use Rattle.osi_stack.specs.Hearing.{loses}
 use Rattle.osi_stack.specs.State.{Line}
 use Rattle.osi_stack.proofs.Losing.{lost_step}

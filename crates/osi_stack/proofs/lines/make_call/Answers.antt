@@ -1,4 +1,4 @@
-use Rattle.std.proofs.Common.{◌≡◌, ℕ, List, Option, sym, ap, ◌∙◌}
+use Rattle.std.proofs.Common.{ℕ, List, Option, sym, ap, ◌∙◌}
 use Rattle.osi_carrier.specs.Calls.{send_error, open_link, call_error}
 use Rattle.osi_session.specs.Calls.{called_by}
 use Rattle.osi_carrier.specs.State.{State as Carrier}

@@ -1,6 +1,6 @@
-use Rattle.std.proofs.Common.{◌≡◌, List, length, refl, sym, ap, subst, inl, inr, ◌∙◌}
+use Rattle.std.proofs.Common.{◌≡◌, refl, sym, ap, subst, inl, inr, ◌∙◌}
 use Rattle.osi_carrier.specs.Packets.{Feeds}
-use Rattle.osi_stack.specs.Hearing.{hears_all, attends, concludes, starves, with_carrier, RunsOut}
+use Rattle.osi_stack.specs.Hearing.{attends, concludes, with_carrier, RunsOut}
 use Rattle.osi_stack.specs.State.{End, Holding}
 use Rattle.osi_stack.proofs.Events.{starved_is, starved_attended, concluded_attended}
 use Rattle.osi_stack.proofs.hub.Hub.fetch.Goals as goal

@@ -1,8 +1,8 @@
-use Rattle.std.proofs.Common.{◌≡◌, sym, ap, ◌∙◌}
+use Rattle.std.proofs.Common.{sym, ap, ◌∙◌}
 use Rattle.osi_carrier.specs.Happenings.{happening}
 use Rattle.osi_stack.specs.Fetching.{Interrupted}
 use Rattle.osi_stack.specs.Hearing.{hears, with_carrier}
-use Rattle.osi_stack.specs.State.{End, Holding}
+use Rattle.osi_stack.specs.State.{Holding}
 use Rattle.std.proofs.Common.{subst}
 use Rattle.osi_stack.proofs.Events.{heard_next, heard_left}
 use Rattle.osi_stack.proofs.hub.Hub.hear_all.Goals as goal

@@ -1,4 +1,4 @@
-use Rattle.std.proofs.Common.{◌≡◌, ℕ, ◌-◌, ◌<◌, List, length, sym, ap, subst, ◌∙◌}
+use Rattle.std.proofs.Common.{ℕ, ◌-◌, ◌<◌, List, length, sym, ap, subst, ◌∙◌}
 use Rattle.std.proofs.lemmas.Bool.{eqb-true}
 use Rattle.osi_stack.specs.Feeding.{Goes}
 use Rattle.osi_stack.proofs.Pieces.{IsRead, read_first, read_waits, read_ended, read_dry, read_on, nonzero}

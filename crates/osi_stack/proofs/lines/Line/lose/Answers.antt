@@ -1,6 +1,6 @@
-use Rattle.std.proofs.Common.{◌≡◌, ℕ, List, [], ◌∷◌, ◌++◌, map, Option, Some, None, true, false, refl, sym, ap, subst, ◌∙◌}
+use Rattle.std.proofs.Common.{◌≡◌, ℕ, map, None, true, false, sym, ap, subst, ◌∙◌}
 use Rattle.osi_session.specs.Phases.{shows_loss}
-use Rattle.osi_session.specs.Shown.{Shown, Lost, shown_by}
+use Rattle.osi_session.specs.Shown.{Lost, shown_by}
 use Rattle.osi_stack.specs.Hearing.{loses}
 use Rattle.osi_stack.specs.State.{Line}
 use Rattle.osi_stack.proofs.Losing.{lost_line, one_more, none_more}

@@ -1,4 +1,4 @@
-use Rattle.std.proofs.Common.{rules, length, ◌≡◌, ℕ, Some, None, get_or, sym, ap, ◌∙◌}
+use Rattle.std.proofs.Common.{rules, length, ◌≡◌, Some, None, get_or, sym, ap, ◌∙◌}
 use Rattle.osi_carrier.specs.Rows.{Rows, place_of}
 use Rattle.osi_stack.specs.State.{Line}
 use Rattle.osi_stack.specs.Telling.{told_input}

@@ -1,4 +1,4 @@
-use Rattle.std.proofs.Common.{◌≡◌, ℕ, Option, Some, None, get_or, sym, ap, subst, option_map, position, ◌∙◌}
+use Rattle.std.proofs.Common.{ℕ, Option, Some, get_or, sym, ap, subst, option_map, position, ◌∙◌}
 use Rattle.osi_session.specs.Shown.{shown_by}
 use Rattle.osi_session.specs.declared.indications.Indication.{Indication}
 use Rattle.osi_carrier.specs.Rows.{Rows}

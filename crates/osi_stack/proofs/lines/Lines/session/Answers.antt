@@ -1,4 +1,4 @@
-use Rattle.std.proofs.Common.{◌≡◌, ℕ, Some, None, get_or, sym, ap, ◌∙◌}
+use Rattle.std.proofs.Common.{◌≡◌, Some, None, get_or, sym, ap, ◌∙◌}
 use Rattle.osi_carrier.specs.Rows.{Rows, place_of}
 use Rattle.osi_stack.specs.State.{Line, session_in}
 use Rattle.osi_stack.proofs.Found.{nowhere, session_here}

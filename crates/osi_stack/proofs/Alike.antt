@@ -1,0 +1,62 @@
+-- What is seen of two ends that came to the same.
+use Rattle.std.proofs.Common.{◌≡◌, ℕ, ◌+◌, ◌==◌, Bool, true, false, not, List, [], ◌∷◌, length, Option, Some, None, is_some, refl, sym, ap, ◌∙◌, if◌then◌else◌}
+use Rattle.std.specs.List.{flat_map}
+use Rattle.osi_carrier.specs.Calls.{kept_in}
+use Rattle.osi_carrier.specs.Rows.{Rows, value_at}
+use Rattle.osi_carrier.specs.Runs as runs
+use Rattle.osi_carrier.specs.State.{State as Carrier}
+use Rattle.osi_message.specs.Meanings.{Meaning}
+use Rattle.osi_session.specs.Calls.{Call as SessionCall}
+use Rattle.osi_session.specs.Moves.{Standing, called, react}
+use Rattle.osi_session.specs.declared.faults.CallError.{CallError}
+use Rattle.osi_session.specs.declared.faults.CallError.TheVariants.{NoSuchConnection}
+use Rattle.osi_stack.specs.Calls.{has_given, connect_error, call_error, or_else, reply_refusal, session_refusal, phase_of, phase_at}
+use Rattle.osi_stack.specs.Runs.{quieted, hushed, put_back, Call, told_of, carried_in, AreAlike, LookAlike}
+use Rattle.osi_stack.specs.State.{Line, End, Holding, session_in, session_at}
+
+-- what waits is no matter to a session
+quieted_by : (r q : ℕ) (line : Line) (lines : Rows Line) (b : Bool) → (q == r) ≡ b → session_in (value_at r (quieted lines)) ≡ session_in (value_at r lines) →
+    session_in (value_at r (quieted ((q, line) ∷ lines))) ≡ session_in (value_at r ((q, line) ∷ lines))
+quieted_by r q line lines true e more = rw e refl
+quieted_by r q line lines false e more = rw e more
+
+quieted_at : (r : ℕ) (lines : Rows Line) → session_in (value_at r (quieted lines)) ≡ session_in (value_at r lines)
+quieted_at r [] = refl
+quieted_at r ((q, line) ∷ lines) = quieted_by r q line lines (q == r) refl (quieted_at r lines)
+
+session_hushed : (r : ℕ) (e : End) → session_at r (hushed e) ≡ session_at r e
+session_hushed r e = ap (λ (o : Option Standing). if is_some (value_at r e.carrier.live) then o else None) (quieted_at r e.lines)
+
+phase_hushed : (r : ℕ) (e : End) → phase_at r (hushed e) ≡ phase_at r e
+phase_hushed r e = ap (λ (o : Option Standing). if has_given r e.carrier then Some (phase_of o) else None) (session_hushed r e)
+
+-- ---- the answer to a call
+
+reply_apart : (o : List ℕ) (r : ℕ) (reply : Option Meaning) (c : Carrier) → reply_refusal r reply (runs.put_back [] o c) ≡ reply_refusal r reply c
+reply_apart o r None c = refl
+reply_apart o r (Some unit) c = refl
+
+refusal_apart : (o : List ℕ) (r : ℕ) (session : Option Standing) (call : SessionCall) (c : Carrier) → session_refusal r session call (runs.put_back [] o c) ≡ session_refusal r session call c
+refusal_apart o r None call c = refl
+refusal_apart o r (Some session) call c = ap (or_else (react session (called call)).error) (reply_apart o r (react session (called call)).reply c)
+
+call_apart : (o : List ℕ) (r : ℕ) (call : SessionCall) (e : End) → call_error r call (put_back o e) ≡ call_error r call e
+call_apart o r call e = ap (λ (x : Option CallError). if not (has_given r e.carrier) then Some NoSuchConnection else x) (refusal_apart o r (session_at r e) call e.carrier)
+
+pub call_hushed : (r : ℕ) (call : SessionCall) (e : End) → call_error r call (hushed e) ≡ call_error r call e
+call_hushed r call e = ap (λ (s : Option Standing). if not (has_given r e.carrier) then Some NoSuchConnection else session_refusal r s call e.carrier) (session_hushed r e)
+
+call_same : (o : List ℕ) (r : ℕ) (call : SessionCall) (e : End) → call_error r call (put_back o (hushed e)) ≡ call_error r call e
+call_same o r call e = call_apart o r call (hushed e) ∙ call_hushed r call e
+
+pub look_alike : (a b : Holding) (xs ys : List Call) → AreAlike a xs b ys → LookAlike a xs b ys
+look_alike a b xs ys h = record {
+  phases = λ r. sym (phase_hushed r a.end) ∙ ap (phase_at r) h.end ∙ phase_hushed r b.end;
+  sessions = λ r. sym (session_hushed r a.end) ∙ ap (session_at r) h.end ∙ session_hushed r b.end;
+  indications = λ r. ap (told_of r) h.told;
+  octets = ap (λ (e : End). e.carrier.outgoing) h.end;
+  ended = ap (λ (e : End). e.carrier.ended) h.end;
+  kept = ap (λ (l : List ℕ). length l + kept_in a.end.carrier.live) h.octets ∙ ap (λ (e : End). length b.held.octets + kept_in e.carrier.live) h.end;
+  requests = λ c. ap (connect_error c) h.end;
+  answers = λ r call. sym (call_same (flat_map carried_in xs) r call a.end) ∙ ap (call_error r call) h.end ∙ call_same (flat_map carried_in ys) r call b.end;
+}

@@ -1,0 +1,104 @@
+-- An accepted call of a session does the same where indications wait as where all was told.
+use Rattle.std.proofs.Common.{◌≡◌, ℕ, ◌==◌, Bool, true, false, List, [], ◌∷◌, ◌++◌, Option, Some, None, option_map, refl, sym, ap, ◌∙◌}
+use Rattle.std.proofs.lemmas.List.{append-nil}
+use Rattle.osi_carrier.specs.Rows.{Rows, value_at, put}
+use Rattle.osi_session.specs.Calls.{Call as SessionCall}
+use Rattle.osi_session.specs.Moves.{Input, Standing, called, react}
+use Rattle.osi_session.specs.Shown.{Shown}
+use Rattle.osi_stack.specs.Calls.{call_error}
+use Rattle.osi_stack.specs.Messages.{shown_of, all_waiting}
+use Rattle.osi_stack.specs.Moving.{line_after, line_by, by_line, to_session}
+use Rattle.osi_stack.specs.Runs.{quieted, hushed, put_back, account_of}
+use Rattle.osi_stack.specs.State.{Line, End}
+use Rattle.osi_stack.proofs.Accounts.{made}
+use Rattle.osi_stack.proofs.Alike.{call_hushed}
+use Rattle.osi_stack.proofs.InFront.{apart_session}
+use Rattle.osi_stack.proofs.Moves.{says_is}
+
+-- ---- the end but for what waits
+
+abbrev hush : Line → Line
+hush line = record line { waiting = [] }
+
+value_by : (r q : ℕ) (line : Line) (lines : Rows Line) (b : Bool) → (q == r) ≡ b → value_at r (quieted lines) ≡ option_map hush (value_at r lines) →
+    value_at r (quieted ((q, line) ∷ lines)) ≡ option_map hush (value_at r ((q, line) ∷ lines))
+value_by r q line lines true e more = rw e refl
+value_by r q line lines false e more = rw e more
+
+quieted_value : (r : ℕ) (lines : Rows Line) → value_at r (quieted lines) ≡ option_map hush (value_at r lines)
+quieted_value r [] = refl
+quieted_value r ((q, line) ∷ lines) = value_by r q line lines (q == r) refl (quieted_value r lines)
+
+quieted_twice : (lines : Rows Line) → quieted lines ≡ quieted (quieted lines)
+quieted_twice [] = refl
+quieted_twice ((q, line) ∷ lines) = ap (λ (l : Rows Line). (q, hush line) ∷ l) (quieted_twice lines)
+
+-- one line in front
+abbrev row : ℕ → Line → Rows Line → Rows Line
+row q line lines = (q, line) ∷ lines
+
+put_quieted_by : (r q : ℕ) (x y line : Line) (lines : Rows Line) (b : Bool) → (q == r) ≡ b → hush x ≡ hush y → quieted (put r x lines) ≡ quieted (put r y (quieted lines)) →
+    quieted (put r x ((q, line) ∷ lines)) ≡ quieted (put r y (quieted ((q, line) ∷ lines)))
+put_quieted_by r q x y line lines true e same more = rw e (ap (λ (l : Line). row q l (quieted lines)) same ∙ ap (row q (hush y)) (quieted_twice lines))
+put_quieted_by r q x y line lines false e same more = rw e (ap (row q (hush line)) more)
+
+put_quieted : (r : ℕ) (x y : Line) (lines : Rows Line) → hush x ≡ hush y → quieted (put r x lines) ≡ quieted (put r y (quieted lines))
+put_quieted r x y [] same = refl
+put_quieted r x y ((q, line) ∷ lines) same = put_quieted_by r q x y line lines (q == r) refl same (put_quieted r x y lines same)
+
+line_hushed : (line : Line) (session : Option Standing) (input : Input) → hush (line_by line session input) ≡ hush (line_by (hush line) session input)
+line_hushed line None input = refl
+line_hushed line (Some session) input = refl
+
+hushed_by : (r : ℕ) (line : Option Line) (input : Input) (e : End) → hushed (by_line r line input e) ≡ hushed (by_line r (option_map hush line) input (hushed e))
+hushed_by r None input e = ap (λ (l : Rows Line). record e { lines = l }) (quieted_twice e.lines)
+hushed_by r (Some line) input e =
+    ap (λ (l : Rows Line). record (by_line r (Some line) input e) { lines = l })
+    (put_quieted r (line_by line line.session input) (line_by (hush line) line.session input) e.lines (line_hushed line line.session input))
+
+session_hushed : (r : ℕ) (input : Input) (e : End) → hushed (to_session r input e) ≡ hushed (to_session r input (hushed e))
+session_hushed r input e =
+    hushed_by r (value_at r e.lines) input e ∙ ap (λ (o : Option Line). hushed (by_line r o input (hushed e))) (sym (quieted_value r e.lines))
+
+-- ---- what waits
+
+waiting_by : (r q : ℕ) (x line y : Line) (lines : Rows Line) (b : Bool) → (q == r) ≡ b → x.waiting ≡ line.waiting → value_at r ((q, y) ∷ lines) ≡ Some line →
+    (value_at r lines ≡ Some line → all_waiting (put r x lines) ≡ all_waiting lines) → all_waiting (put r x ((q, y) ∷ lines)) ≡ all_waiting ((q, y) ∷ lines)
+waiting_by r q x line y lines true e same here more =
+    let found : Some y ≡ Some line = rw e at here in
+    let is : y ≡ line = cc in
+    rw e (ap (λ (w : List Shown). shown_of q w ++ all_waiting lines) (same ∙ ap (λ (l : Line). l.waiting) (sym is)))
+waiting_by r q x line y lines false e same here more =
+    let behind : value_at r lines ≡ Some line = rw e at here in
+    rw e (ap (λ (l : List (ℕ × Shown)). shown_of q y.waiting ++ l) (more behind))
+
+waiting_put : (r : ℕ) (x line : Line) (lines : Rows Line) → x.waiting ≡ line.waiting → value_at r lines ≡ Some line → all_waiting (put r x lines) ≡ all_waiting lines
+waiting_put r x line [] same here = refl
+waiting_put r x line ((q, y) ∷ lines) same here = waiting_by r q x line y lines (q == r) refl same here (waiting_put r x line lines same)
+
+-- an accepted call shows nothing
+call_waiting : (r : ℕ) (call : SessionCall) (e : End) → call_error r call e ≡ None → all_waiting (to_session r (called call) e).lines ≡ all_waiting e.lines
+call_waiting r call e h =
+    let says = says_is r call e h in
+    let acts = says.acts in
+    ap all_waiting acts.lines
+    ∙ waiting_put r (line_after acts.line (react acts.session (called call))) acts.line e.lines
+    (ap (λ (w : List Shown). acts.line.waiting ++ w) says.granted.shown ∙ append-nil acts.line.waiting) acts.here
+
+none_quieted : (lines : Rows Line) → all_waiting (quieted lines) ≡ []
+none_quieted [] = refl
+none_quieted ((q, line) ∷ lines) = none_quieted lines
+
+-- ---- its account
+
+pub account_calling : (t : List (ℕ × Shown)) (o : List ℕ) (r : ℕ) (call : SessionCall) (e : End) → call_error r call e ≡ None →
+    account_of t o (to_session r (called call) e) ≡ account_of (t ++ all_waiting e.lines) [] (to_session r (called call) (put_back o (hushed e)))
+account_calling t o r call e h =
+    let input = called call in
+    let there = to_session r input (hushed e) in
+    let quiet : all_waiting there.lines ≡ [] = call_waiting r call (hushed e) (call_hushed r call e ∙ h) ∙ none_quieted e.lines in
+    let told = t ++ all_waiting e.lines in
+    ap (λ (x : End). made (put_back o x) (t ++ all_waiting (to_session r input e).lines)) (session_hushed r input e)
+    ∙ ap (λ (w : List (ℕ × Shown)). made (put_back o (hushed there)) (t ++ w)) (call_waiting r call e h)
+    ∙ ap (made (put_back o (hushed there))) (sym (append-nil told) ∙ ap (λ (w : List (ℕ × Shown)). told ++ w) (sym quiet))
+    ∙ ap (account_of told []) (sym (apart_session o r input (hushed e)))

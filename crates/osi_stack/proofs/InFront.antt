@@ -1,0 +1,95 @@
+-- What an end does hangs on no octet that is to be carried: it comes to the same with others in front of
+-- these.
+use Rattle.std.proofs.Common.{◌≡◌, ℕ, zero, suc, Bool, true, false, List, [], ◌∷◌, length, Option, Some, None, is_some, refl, sym, ap, ◌∙◌, if◌then◌else◌}
+use Rattle.osi_carrier.proofs.InFront.{apart_all}
+use Rattle.osi_carrier.specs.Calls.{send_error, open_link, sent, closed_with}
+use Rattle.osi_carrier.specs.Happenings.{Happening}
+use Rattle.osi_carrier.specs.Happenings as told
+use Rattle.osi_carrier.specs.Packets as carriers
+use Rattle.osi_carrier.specs.Rows.{value_at, put}
+use Rattle.osi_carrier.specs.Runs as runs
+use Rattle.osi_carrier.specs.Runs.Act.{packet, user}
+use Rattle.osi_carrier.specs.Runs.UserCall.{sends, closes}
+use Rattle.osi_carrier.specs.State.{State as Carrier}
+use Rattle.osi_carrier.specs.declared.faults.SendError.{SendError}
+use Rattle.osi_session.specs.Moves.{Input, Standing, opened, react}
+use Rattle.osi_stack.specs.Hearing.{opens, hears, hears_first, hears_next, hears_times, hears_all, with_events, with_carrier, all_lost, concludes, attends, after_packet}
+use Rattle.osi_stack.specs.Moving.{line_by, carrier_by, by_line, to_session}
+use Rattle.osi_stack.specs.Runs.{put_back}
+use Rattle.osi_stack.specs.State.{Line, End}
+use Rattle.osi_stack.specs.Transport.{sent_unless, hands_some, answers_by}
+use Rattle.osi_stack.proofs.Lifting.{packet_is}
+
+-- these octets stand in front
+module _ (o : List ℕ) where
+  -- ---- what sessions do to the carrier
+
+  abbrev behind : Carrier → Carrier
+  behind c = runs.put_back [] o c
+
+  apart_sent : (r : ℕ) (tsdu : List ℕ) (c : Carrier) → sent r tsdu (behind c) ≡ behind (sent r tsdu c)
+  apart_sent r tsdu c = apart_all [] o (user (sends r tsdu) ∷ []) c
+
+  apart_closed : (r reason : ℕ) (c : Carrier) → closed_with r reason (behind c) ≡ behind (closed_with r reason c)
+  apart_closed r reason c = apart_all [] o (user (closes r reason) ∷ []) c
+
+  apart_unless : (e : Option SendError) (r : ℕ) (tsdu : List ℕ) (c : Carrier) → sent_unless e r tsdu (behind c) ≡ behind (sent_unless e r tsdu c)
+  apart_unless None r tsdu c = apart_sent r tsdu c
+  apart_unless (Some e) r tsdu c = refl
+
+  apart_some : (r : ℕ) (tsdu : Option (List ℕ)) (c : Carrier) → hands_some r tsdu (behind c) ≡ behind (hands_some r tsdu c)
+  apart_some r None c = refl
+  apart_some r (Some tsdu) c = apart_unless (send_error tsdu (open_link r c)) r tsdu c
+
+  apart_answers : (closing : Bool) (r : ℕ) (tsdu : Option (List ℕ)) (c : Carrier) → answers_by closing r tsdu (behind c) ≡ behind (answers_by closing r tsdu c)
+  apart_answers true r tsdu c = apart_closed r 128 c
+  apart_answers false r tsdu c = apart_some r tsdu c
+
+  apart_carrier : (r : ℕ) (session : Option Standing) (input : Input) (c : Carrier) → carrier_by r session input (behind c) ≡ behind (carrier_by r session input c)
+  apart_carrier r None input c = refl
+  apart_carrier r (Some session) input c = apart_answers (react session input).closes r _ c
+
+  -- ---- events
+
+  apart_line : (r : ℕ) (line : Option Line) (input : Input) (e : End) → by_line r line input (put_back o e) ≡ put_back o (by_line r line input e)
+  apart_line r None input e = refl
+  apart_line r (Some line) input e = ap (λ (c : Carrier). record e { carrier = c; lines = put r (line_by line line.session input) e.lines }) (apart_carrier r line.session input e.carrier)
+
+  pub apart_session : (r : ℕ) (input : Input) (e : End) → to_session r input (put_back o e) ≡ put_back o (to_session r input e)
+  apart_session r input e = apart_line r (value_at r e.lines) input e
+
+  apart_opens : (r : ℕ) (line : Option Line) (e : End) → opens r line (put_back o e) ≡ put_back o (opens r line e)
+  apart_opens r None e = refl
+  apart_opens r (Some line) e = apart_session r opened e
+
+  apart_hears : (event : Happening) (e : End) → hears event (put_back o e) ≡ put_back o (hears event e)
+  apart_hears (told.opened r) e = apart_opens r (value_at r e.lines) e
+  apart_hears (told.refused r reason) e = apart_session r _ e
+  apart_hears (told.tsdu r octets) e = apart_session r _ e
+  apart_hears (told.closed r reason) e = apart_session r _ e
+  apart_hears (told.faulted r fault) e = apart_session r _ e
+
+  apart_first : (events : List Happening) (e : End) → hears_first events (put_back o e) ≡ put_back o (hears_first events e)
+  apart_first [] e = refl
+  apart_first (event ∷ events) e = apart_hears event (with_events events e)
+
+  apart_times : (n : ℕ) (e : End) → hears_times n (put_back o e) ≡ put_back o (hears_times n e)
+  apart_times zero e = refl
+  apart_times (suc n) e = ap (hears_times n) (apart_first e.carrier.events e) ∙ apart_times n (hears_next e)
+
+  -- ---- packets
+
+  apart_concludes : (over : Bool) (e : End) →
+      (if over then record (put_back o e) { lines = all_lost e.lines } else put_back o e) ≡ put_back o (if over then record e { lines = all_lost e.lines } else e)
+  apart_concludes true e = refl
+  apart_concludes false e = refl
+
+  apart_attends : (e : End) → attends (put_back o e) ≡ put_back o (attends e)
+  apart_attends e = ap concludes (apart_times (length e.carrier.events) e) ∙ apart_concludes (is_some (hears_all e).carrier.ended) (hears_all e)
+
+  pub apart_packet : (e : End) (unit : List ℕ) → after_packet (put_back o e) unit ≡ put_back o (after_packet e unit)
+  apart_packet e unit =
+      packet_is (put_back o e) unit
+      ∙ ap (λ (c : Carrier). attends (with_carrier c e)) (apart_all [] o (packet unit ∷ []) e.carrier)
+      ∙ apart_attends (with_carrier (carriers.after_packet e.carrier unit) e)
+      ∙ ap (put_back o) (sym (packet_is e unit))

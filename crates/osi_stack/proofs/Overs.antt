@@ -1,0 +1,110 @@
+-- Once the carrier has ended no session changes it, and it stays ended for the same reason.
+use Rattle.std.proofs.Common.{◌≡◌, ℕ, zero, suc, Bool, true, false, List, [], ◌∷◌, length, Option, Some, None, is_some, refl, sym, ap, ◌∙◌, ◌⊎◌, inl, inr, if◌then◌else◌}
+use Rattle.osi_carrier.specs.Calls.{send_error, open_link, link_of, closed_on}
+use Rattle.osi_carrier.specs.Happenings.{Happening}
+use Rattle.osi_carrier.specs.Happenings as told
+use Rattle.osi_carrier.specs.Packets as carriers
+use Rattle.osi_carrier.specs.Rows.{value_at}
+use Rattle.osi_carrier.specs.State.{State as Carrier}
+use Rattle.osi_carrier.specs.State as states
+use Rattle.osi_carrier.specs.declared.ends.EndReason.{EndReason}
+use Rattle.osi_carrier.specs.declared.ends.EndReason.TheVariants.{NoMemory}
+use Rattle.osi_carrier.proofs.Reading.{acts_cases}
+use Rattle.osi_class.specs.Link.{Standing as Link}
+use Rattle.osi_session.specs.Moves.{Input, Standing, opened, react}
+use Rattle.osi_stack.specs.Hearing.{opens, hears, hears_first, hears_next, hears_times, hears_all, with_events, with_carrier, attends, after_packet, starves, RunsOut, Starves}
+use Rattle.osi_stack.specs.Moving.{carrier_by, by_line}
+use Rattle.osi_stack.specs.State.{Line, End}
+use Rattle.osi_stack.specs.Transport.{sent_unless, answers_by}
+use Rattle.osi_stack.proofs.Events.{times_quiet, concluded_carrier}
+use Rattle.osi_stack.proofs.Lifting.{packet_is}
+use Rattle.osi_stack.proofs.Linking.{rest_is, times_last}
+
+-- ---- what sessions do
+
+-- no connection of it is open
+none_open : (r : ℕ) (c : Carrier) → is_some c.ended ≡ true → open_link r c ≡ None
+none_open r c over = ap (λ (b : Bool). if b then None else link_of (value_at r c.live)) over
+
+answers_over : (closing : Bool) (r : ℕ) (tsdu : Option (List ℕ)) (c : Carrier) → is_some c.ended ≡ true → answers_by closing r tsdu c ≡ c
+answers_over true r tsdu c over = ap (λ (o : Option (ℕ × Link)). closed_on r 128 o c) (none_open r c over)
+answers_over false r None c over = refl
+answers_over false r (Some tsdu) c over = ap (λ (o : Option (ℕ × Link)). sent_unless (send_error tsdu o) r tsdu c) (none_open r c over)
+
+carrier_over : (r : ℕ) (session : Option Standing) (input : Input) (c : Carrier) → is_some c.ended ≡ true → carrier_by r session input c ≡ c
+carrier_over r None input c over = refl
+carrier_over r (Some session) input c over = answers_over (react session input).closes r _ c over
+
+line_over : (r : ℕ) (line : Option Line) (input : Input) (e : End) → is_some e.carrier.ended ≡ true → (by_line r line input e).carrier ≡ e.carrier
+line_over r None input e over = refl
+line_over r (Some line) input e over = carrier_over r line.session input e.carrier over
+
+opens_over : (r : ℕ) (line : Option Line) (e : End) → is_some e.carrier.ended ≡ true → (opens r line e).carrier ≡ e.carrier
+opens_over r None e over = refl
+opens_over r (Some line) e over = line_over r (value_at r e.lines) opened e over
+
+hears_over : (event : Happening) (e : End) → is_some e.carrier.ended ≡ true → (hears event e).carrier ≡ e.carrier
+hears_over (told.opened r) e over = opens_over r (value_at r e.lines) e over
+hears_over (told.refused r reason) e over = line_over r (value_at r e.lines) _ e over
+hears_over (told.tsdu r octets) e over = line_over r (value_at r e.lines) _ e over
+hears_over (told.closed r reason) e over = line_over r (value_at r e.lines) _ e over
+hears_over (told.faulted r fault) e over = line_over r (value_at r e.lines) _ e over
+
+-- ---- all events
+
+first_over : (events : List Happening) (e : End) → is_some e.carrier.ended ≡ true → (hears_first events e).carrier.ended ≡ e.carrier.ended
+first_over [] e over = refl
+first_over (event ∷ events) e over = ap (λ (c : Carrier). c.ended) (hears_over event (with_events events e) over)
+
+pub times_over : (n : ℕ) (e : End) → is_some e.carrier.ended ≡ true → (hears_times n e).carrier.ended ≡ e.carrier.ended
+times_over zero e over = refl
+times_over (suc n) e over =
+    let one = first_over e.carrier.events e over in
+    times_over n (hears_next e) (ap is_some one ∙ over) ∙ one
+
+pub attends_over : (e : End) → is_some e.carrier.ended ≡ true → (attends e).carrier.ended ≡ e.carrier.ended
+attends_over e over = ap (λ (c : Carrier). c.ended) (concluded_carrier (hears_all e)) ∙ times_over (length e.carrier.events) e over
+
+-- where all that waits leaves the carrier as it lasts, some of it does
+times_within : (n : ℕ) (events : List Happening) (e : End) → e.carrier.events ≡ events → (hears_times (length events) e).carrier.ended ≡ None → (hears_times n e).carrier.ended ≡ None
+times_within zero events e is lasts = times_last (length events) e lasts
+times_within (suc n) [] e is lasts = ap (λ (x : End). x.carrier.ended) (times_quiet (suc n) e is) ∙ lasts
+times_within (suc n) (event ∷ events) e is lasts = times_within n events (hears_next e) (rest_is event events e is) lasts
+
+-- ---- want of memory
+
+starves_lasting : (e : End) → e.carrier.ended ≡ None → (starves e).carrier.ended ≡ Some NoMemory
+starves_lasting e lasts = ap (λ (o : Option EndReason). (if is_some o then e.carrier else states.ends NoMemory e.carrier).ended) lasts
+
+starves_full : (e : End) → e.carrier.ended ≡ Some NoMemory → (starves e).carrier.ended ≡ Some NoMemory
+starves_full e full = ap (λ (o : Option EndReason). (if is_some o then e.carrier else states.ends NoMemory e.carrier).ended) full ∙ full
+
+out_full : (e new : End) → RunsOut e new → e.carrier.ended ≡ Some NoMemory → new.carrier.ended ≡ Some NoMemory
+out_full e new out full =
+    ap (λ (x : End). x.carrier.ended) out.starved
+    ∙ starves_full (with_events out.more (hears_times out.heard e)) (times_over out.heard e (ap is_some full) ∙ full)
+
+out_lasting : (e new : End) → RunsOut e new → (attends e).carrier.ended ≡ None → new.carrier.ended ≡ Some NoMemory
+out_lasting e new out lasts =
+    let heard = times_within out.heard e.carrier.events e refl (ap (λ (c : Carrier). c.ended) (sym (concluded_carrier (hears_all e))) ∙ lasts) in
+    ap (λ (x : End). x.carrier.ended) out.starved ∙ starves_lasting (with_events out.more (hears_times out.heard e)) heard
+
+out_by : (e new : End) (packet : List ℕ) (c : Carrier) → (c ≡ carriers.after_packet e.carrier packet) ⊎ carriers.Starves e.carrier packet c → RunsOut (with_carrier c e) new →
+    (after_packet e packet).carrier.ended ≡ None → new.carrier.ended ≡ Some NoMemory
+out_by e new packet c (inl is) out lasts =
+    out_lasting (with_carrier c e) new out
+    (ap (λ (x : Carrier). (attends (with_carrier x e)).carrier.ended) is ∙ ap (λ (x : End). x.carrier.ended) (sym (packet_is e packet)) ∙ lasts)
+out_by e new packet c (inr starved) out lasts = out_full (with_carrier c e) new out (ap (λ (x : Carrier). x.ended) starved.2.ended)
+
+-- where the packet does not end it, want of memory does
+pub starved_full : (e new : End) (packet : List ℕ) → Starves e packet new → (after_packet e packet).carrier.ended ≡ None → new.carrier.ended ≡ Some NoMemory
+starved_full e new packet (inl h) lasts =
+    let full = ap (λ (x : Carrier). x.ended) h.1.2.ended in
+    ap (λ (x : End). x.carrier.ended) h.2 ∙ attends_over (with_carrier h.0 e) (ap is_some full) ∙ full
+starved_full e new packet (inr h) lasts = out_by e new packet h.0 (acts_cases e.carrier h.0 packet h.1) h.2 lasts
+
+-- ---- packets
+
+pub packet_over : (e : End) (packet : List ℕ) → is_some (carriers.after_packet e.carrier packet).ended ≡ true → is_some (after_packet e packet).carrier.ended ≡ true
+packet_over e packet over =
+    ap (λ (x : End). is_some x.carrier.ended) (packet_is e packet) ∙ ap is_some (attends_over (with_carrier (carriers.after_packet e.carrier packet) e) over) ∙ over

@@ -1,0 +1,56 @@
+-- Whole runs of an end: rounds in which octets come and go and indications are told, with its user's calls
+-- between them.
+use Rattle.std.specs.Prelude.{◌≡◌, ℕ, false, List, [], ◌∷◌, Option, Some, None}
+use Rattle.std.specs.List.{flat_map}
+use Rattle.osi_session.specs.Calls.{Call as SessionCall}
+use Rattle.osi_session.specs.Moves.{called}
+use Rattle.osi_stack.specs.Calls.{connects, breaks, call_error}
+use Rattle.osi_stack.specs.Moving.{to_session}
+use Rattle.osi_stack.specs.Runs.{Call, CallsAlong, used_in}
+use Rattle.osi_stack.specs.State.{End, Holding, waits}
+use Rattle.osi_stack.specs.declared.connecting.Connect.{Connect}
+
+-- an accepted call of the user: it asks for a connection, calls the session of one, or finds that the byte
+-- connection broke
+pub data UserCall : Type 0 where
+  connecting : Connect → UserCall
+  calling : ℕ → SessionCall → UserCall
+  breaking : UserCall
+
+abbrev pub user_does : UserCall → End → End
+user_does (connecting c) e = connects c e
+user_does (calling r call) e = to_session r (called call) e
+user_does breaking e = breaks e
+
+-- some of the other calls, and then, perhaps, one of the user
+pub record Round : Type 0 where
+  pub calls : List Call
+  pub user : Option UserCall
+
+-- a session is called whatever waits; and a connection is asked for, and a break found, once all was told that
+-- waits
+abbrev pub MayCall : UserCall → End → Type 0
+MayCall (connecting c) e = waits e.lines ≡ false
+MayCall (calling r call) e = call_error r call e ≡ None
+MayCall breaking e = waits e.lines ≡ false
+
+-- the user calls an end that lasts, or does not
+abbrev pub IsCalled : Holding → Option UserCall → Holding → Type 0
+IsCalled old None new = (old.end.carrier.ended ≡ None) × (new ≡ old)
+IsCalled old (Some call) new = (old.end.carrier.ended ≡ None) × MayCall call old.end × (new ≡ record old { end = user_does call old.end })
+
+-- rounds one after the other
+abbrev pub RoundsAlong : Holding → List Round → Holding → Type 0
+RoundsAlong old [] new = new ≡ old
+RoundsAlong old (round ∷ rounds) new =
+    (fed : Holding) × (mid : Holding) × CallsAlong old round.calls fed × IsCalled fed round.user mid × RoundsAlong mid rounds new
+
+abbrev pub calls_of : List Round → List Call
+calls_of rounds = flat_map (λ round. round.calls) rounds
+
+-- In each round the same octets were used, in whatever pieces, and then the user made the same call.
+abbrev pub AreInStep : List Round → List Round → Type 0
+AreInStep [] [] = Unit {0}
+AreInStep [] (y ∷ ys) = ⊥
+AreInStep (x ∷ xs) [] = ⊥
+AreInStep (x ∷ xs) (y ∷ ys) = (flat_map used_in x.calls ≡ flat_map used_in y.calls) × (x.user ≡ y.user) × AreInStep xs ys
