@@ -1,5 +1,5 @@
 -- What the functions that C calls do: `old` and `new` are what the slot holds.
-use Rattle.std.specs.Prelude.{◌≡◌, ℕ, ◌≤◌, ◌+◌, Bool, List, [], length, Option, Some, None, option_map}
+use Rattle.std.specs.Prelude.{◌≡◌, ℕ, ◌≤◌, ◌+◌, ◌*◌, Bool, List, [], length, Option, Some, None, option_map}
 use Rattle.osi_tpkt.specs.Held.{fresh}
 use Rattle.osi_class.specs.declared.terms.Local.{Local}
 use Rattle.osi_carrier.specs.Calls.{kept_in}
@@ -141,3 +141,8 @@ numbers r (Some c) = numbers_of (session_at r c.stack.end)
 abbrev pub kept : Option Contents → ℕ
 kept None = 0
 kept (Some c) = length c.stack.held.octets + kept_in c.stack.end.carrier.live
+
+-- as many as there may be: of a packet, and of a TSDU of each live connection
+abbrev pub most_kept : Option Contents → ℕ
+most_kept None = 0
+most_kept (Some c) = 65535 + 1048576 * length c.stack.end.carrier.live

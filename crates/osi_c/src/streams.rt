@@ -1,8 +1,8 @@
 //! Octets in and out, and the end of an end.
 
-ghost use Rattle.std.specs.Prelude.{◌≡◌, Some};
+ghost use Rattle.std.specs.Prelude.{◌≡◌, ◌≤◌, Some};
 ghost use Rattle.osi_c.specs.Codes.{answer_of, reason_of};
-ghost use Rattle.osi_c.specs.Ends.{FeedsTo, outgoing, Carries, Breaks, ended, kept};
+ghost use Rattle.osi_c.specs.Ends.{FeedsTo, outgoing, Carries, Breaks, ended, kept, most_kept};
 
 use crate::codes::{BAD_ARGUMENT, CLOSED, OK, end_code};
 use crate::slots::OsiEnd;
@@ -93,10 +93,12 @@ pub extern "C" fn osi_ended(end: &mut OsiEnd, detail: &mut u64) -> u32
     why.code
 }
 
-/// How many octets of packets and TSDUs are kept that are not whole yet; 0 of a slot that holds no end.
+/// How many octets of packets and TSDUs are kept that are not whole yet: at most 65,535, and 1,048,576
+/// for each live connection; 0 of a slot that holds no end.
 #[unsafe(no_mangle)]
 pub extern "C" fn osi_kept(end: &mut OsiEnd) -> usize
     ensures value { result ≡ kept end.old.inner.value }
+    ensures at_most { result ≤ most_kept end.old.inner.value }
     ensures same { end.new.inner.value ≡ end.old.inner.value }
 {
     if !end.full {
