@@ -20,6 +20,9 @@ use std::alloc::AllocError;
 /// The most octets of a packet's header and the header of a DT or AK in it: 4 and 5.
 const MOST_HEADERS: usize = 9;
 
+/// The most octets of a TSDU in one unit.
+const MOST_OCTETS: usize = 8189;
+
 /// What became of a unit that came for an open connection.
 #[derive(Drop)]
 pub enum Step {
@@ -120,12 +123,15 @@ fn send_whole(link: &mut AnyLink, peer: u16, tsdu: &[u8], out: &mut BytesMut) ->
     ensures none { result ≡ false → (any_standing link.new ≡ any_standing link.old) × (out.new.items ≡ out.old.items) }
 {
     all_is_given();
-    if tsdu.len() > link.limit() {
+    if tsdu.len() > MOST_OCTETS {
         return false;
     }
     let Ok(()) = out.reserve(tsdu.len() + MOST_HEADERS) else {
         return false;
     };
+    if tsdu.len() > link.limit() {
+        return false;
+    }
     let Some(unit) = link.give_part(tsdu) else {
         return false;
     };
