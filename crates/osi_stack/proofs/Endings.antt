@@ -32,30 +32,30 @@ use Rattle.osi_stack.proofs.Runs.{never, ReadsOne, reads_one}
 -- ---- how it ends
 
 -- the stream has a fault where nothing waits
-abbrev faulted : TpktFault → Account → Account
+abbrev pub faulted : TpktFault → Account → Account
 faulted fault a = account_of a.told [] (ends (Fault (Tpkt fault)) a.end)
 
 -- the last of these packets ended it
-record InPacket (old : Account) (s : List ℕ) (final : Account) : Type 0 where
-  before : List (List ℕ)
-  last : List ℕ
-  rest : List ℕ
-  packets : ArePackets (before ++ last ∷ []) s rest
-  lasts : (with_packets before old).end.carrier.ended ≡ None
-  over : is_some (with_packets (before ++ last ∷ []) old).end.carrier.ended ≡ true
-  account : final ≡ with_packets (before ++ last ∷ []) old
+pub record InPacket (old : Account) (s : List ℕ) (final : Account) : Type 0 where
+  pub before : List (List ℕ)
+  pub last : List ℕ
+  pub rest : List ℕ
+  pub packets : ArePackets (before ++ last ∷ []) s rest
+  pub lasts : (with_packets before old).end.carrier.ended ≡ None
+  pub over : is_some (with_packets (before ++ last ∷ []) old).end.carrier.ended ≡ true
+  pub account : final ≡ with_packets (before ++ last ∷ []) old
 
 -- behind these packets the stream has a fault
-record InFault (old : Account) (at : ℕ) (s : List ℕ) (final : Account) : Type 0 where
-  before : List (List ℕ)
-  rest : List ℕ
-  fault : TpktFault
-  packets : ArePackets before s rest
-  is : IsFaultOf (offset_of (at + (length s - length rest))) rest fault
-  lasts : (with_packets before old).end.carrier.ended ≡ None
-  account : final ≡ faulted fault (with_packets before old)
+pub record InFault (old : Account) (at : ℕ) (s : List ℕ) (final : Account) : Type 0 where
+  pub before : List (List ℕ)
+  pub rest : List ℕ
+  pub fault : TpktFault
+  pub packets : ArePackets before s rest
+  pub is : IsFaultOf (offset_of (at + (length s - length rest))) rest fault
+  pub lasts : (with_packets before old).end.carrier.ended ≡ None
+  pub account : final ≡ faulted fault (with_packets before old)
 
-abbrev Ending : Account → ℕ → List ℕ → Account → Type 0
+abbrev pub Ending : Account → ℕ → List ℕ → Account → Type 0
 Ending old at s final = InPacket old s final ⊎ InFault old at s final
 
 with_parts : (us vs more : List (List ℕ)) (old : Account) → us ≡ vs ++ more → with_packets us old ≡ with_packets more (with_packets vs old)
@@ -97,22 +97,22 @@ both_faults : (old : Account) (at : ℕ) (s : List ℕ) (f g : Account) (a : InF
 both_faults old at s f g a b (inl x) = same_fault old at s f g a b x.more x.all x.packets
 both_faults old at s f g a b (inr x) = sym (same_fault old at s g f b a x.more x.all x.packets)
 
-end_alike : PacketLaws → (old : Account) (at : ℕ) (s : List ℕ) (f g : Account) → Ending old at s f → Ending old at s g → f ≡ g
+pub end_alike : PacketLaws → (old : Account) (at : ℕ) (s : List ℕ) (f g : Account) → Ending old at s f → Ending old at s g → f ≡ g
 end_alike laws old at s f g (inl a) (inl b) = both_packets old s f g a b (compare laws (a.before ++ a.last ∷ []) (b.before ++ b.last ∷ []) s a.rest b.rest a.packets b.packets)
 end_alike laws old at s f g (inl a) (inr b) = packet_fault old at s f g a b (compare laws (a.before ++ a.last ∷ []) b.before s a.rest b.rest a.packets b.packets)
 end_alike laws old at s f g (inr a) (inl b) = packet_fault old at s g f b a (compare laws (b.before ++ b.last ∷ []) a.before s b.rest a.rest b.packets a.packets)
 end_alike laws old at s f g (inr a) (inr b) = both_faults old at s f g a b (compare laws a.before b.before s a.rest b.rest a.packets b.packets)
 
 -- octets that end it are none that do not
-ending_lasts : PacketLaws → (old : Holding) (s : List ℕ) (final : Account) → Lasts old s → Ending (account_of [] [] old.end) old.held.offset s final → ⊥
+pub ending_lasts : PacketLaws → (old : Holding) (s : List ℕ) (final : Account) → Lasts old s → Ending (account_of [] [] old.end) old.held.offset s final → ⊥
 ending_lasts laws old s final lasts (inl a) = no_packets_end laws old s (a.before ++ a.last ∷ []) a.rest lasts a.packets a.over
 ending_lasts laws old s final lasts (inr a) = no_fault_ends laws old s a.before a.rest _ a.fault lasts a.packets a.is
 
 -- ---- a feed that ends it
 
-record Outcome (old : Holding) (s : List ℕ) (final : Account) (held : List ℕ) : Type 0 where
-  how : Ending (account_of [] [] old.end) old.held.offset s final
-  nothing : held ≡ []
+pub record Outcome (old : Holding) (s : List ℕ) (final : Account) (held : List ℕ) : Type 0 where
+  pub how : Ending (account_of [] [] old.end) old.held.offset s final
+  pub nothing : held ≡ []
 
 -- packets of which none stopped but the last
 record TakesLast (old : End) (units : List (List ℕ)) : Type 0 where
@@ -207,9 +207,9 @@ ends_one old (carrying octets) new later quiet h room over = never new.end over 
 
 -- ---- behind the end
 
-record Stays (old : Holding) (told : List (ℕ × Shown)) (carried : List ℕ) (new : Holding) : Type 0 where
-  account : account_of told carried new.end ≡ account_of [] [] old.end
-  held : new.held ≡ old.held
+pub record Stays (old : Holding) (told : List (ℕ × Shown)) (carried : List ℕ) (new : Holding) : Type 0 where
+  pub account : account_of told carried new.end ≡ account_of [] [] old.end
+  pub held : new.held ≡ old.held
 
 stays_one : (old : Holding) (call : Call) (new : Holding) → is_some old.end.carrier.ended ≡ true → Calls old call new → Stays old (told_in call) (carried_in call) new
 stays_one old (feeding piece fed) new over h = record { account = ap (λ (x : Holding). account_of [] [] x.end) (h.over over).1; held = ap (λ (x : Holding). x.held) (h.over over).1 }
@@ -219,7 +219,7 @@ stays_one old (telling shown) new over h = record {
 }
 stays_one old (carrying octets) new over h = record { account = ap (λ (x : Holding). account_of [] [] x.end) (sym h); held = ap (λ (x : Holding). x.held) (sym h) }
 
-stays_along : (old : Holding) (calls : List Call) (new : Holding) → is_some old.end.carrier.ended ≡ true → CallsAlong old calls new → Stays old (flat_map told_in calls) (flat_map carried_in calls) new
+pub stays_along : (old : Holding) (calls : List Call) (new : Holding) → is_some old.end.carrier.ended ≡ true → CallsAlong old calls new → Stays old (flat_map told_in calls) (flat_map carried_in calls) new
 stays_along old [] new over h = record { account = ap (λ (x : Holding). account_of [] [] x.end) h; held = ap (λ (x : Holding). x.held) h }
 stays_along old (call ∷ calls) new over h =
     let one = stays_one old call h.0 over h.1 in
@@ -232,7 +232,7 @@ stays_along old (call ∷ calls) new over h =
 
 -- ---- calls one after the other
 
-in_room : (old : Holding) (calls : List Call) (new : Holding) → CallsInRoom old calls new → CallsAlong old calls new
+pub in_room : (old : Holding) (calls : List Call) (new : Holding) → CallsInRoom old calls new → CallsAlong old calls new
 in_room old [] new h = h
 in_room old (call ∷ calls) new h = (h.0, h.1, in_room h.0 calls new h.3)
 
@@ -316,12 +316,35 @@ outcome_by nothing old call mid calls new false e quiet bound h room rest on =
       nothing = more.nothing;
     }
 
-outcome_along : IsPartial [] → (old : Holding) (calls : List Call) (new : Holding) → old.end.carrier.ended ≡ None → old.held.offset < 2 ^ 64 → CallsInRoom old calls new → is_some new.end.carrier.ended ≡ true →
+pub outcome_along : IsPartial [] → (old : Holding) (calls : List Call) (new : Holding) → old.end.carrier.ended ≡ None → old.held.offset < 2 ^ 64 → CallsInRoom old calls new → is_some new.end.carrier.ended ≡ true →
     Outcome old (old.held.octets ++ flat_map used_in calls) (account_along calls new.end) new.held.octets
 outcome_along nothing old [] new quiet bound h over = never new.end over (ap (λ (x : Holding). x.end.carrier.ended) h ∙ quiet)
 outcome_along nothing old (call ∷ calls) new quiet bound h over =
     outcome_by nothing old call h.0 calls new (is_some h.0.end.carrier.ended) refl quiet bound h.1 h.2 h.3
     (λ alive small. outcome_along nothing h.0 calls new alive small h.3 over)
+
+-- ---- what was told and carried before
+
+pub ending_apart : (told : List (ℕ × Shown)) (carried : List ℕ) (old : Account) (at : ℕ) (s : List ℕ) (final : Account) → Ending old at s final →
+    Ending (after_more told carried old) at s (after_more told carried final)
+ending_apart told carried old at s final (inl a) = inl (record {
+  before = a.before;
+  last = a.last;
+  rest = a.rest;
+  packets = a.packets;
+  lasts = ap (λ (x : Account). x.end.carrier.ended) (packets_apart told carried a.before old) ∙ a.lasts;
+  over = ap (λ (x : Account). is_some x.end.carrier.ended) (packets_apart told carried (a.before ++ a.last ∷ []) old) ∙ a.over;
+  account = ap (after_more told carried) a.account ∙ sym (packets_apart told carried (a.before ++ a.last ∷ []) old);
+})
+ending_apart told carried old at s final (inr a) = inr (record {
+  before = a.before;
+  rest = a.rest;
+  fault = a.fault;
+  packets = a.packets;
+  is = a.is;
+  lasts = ap (λ (x : Account). x.end.carrier.ended) (packets_apart told carried a.before old) ∙ a.lasts;
+  account = ap (after_more told carried) a.account ∙ sym (faulted_apart told carried a.fault (with_packets a.before old)) ∙ ap (faulted a.fault) (sym (packets_apart told carried a.before old));
+})
 
 -- ---- two lists of calls
 

@@ -31,3 +31,4 @@ pub mod Endings
 pub mod Alike
 pub mod Hushing
 pub mod Rounds
+pub mod WholeRuns

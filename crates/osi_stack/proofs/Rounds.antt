@@ -1,10 +1,11 @@
 -- Two runs in step come to the same, whatever the pieces.
-use Rattle.std.proofs.Common.{◌≡◌, ℕ, ◌+◌, Bool, true, false, List, [], ◌∷◌, ◌++◌, Option, Some, None, is_some, option_map, refl, sym, ap, subst, ◌∙◌, append_assoc, if◌then◌else◌}
+use Rattle.std.proofs.Common.{◌≡◌, ℕ, ◌+◌, ◌-◌, ◌<◌, ◌^◌, Bool, true, false, List, [], ◌∷◌, ◌++◌, Option, Some, None, is_some, length, option_map, arith, refl, sym, ap, subst, ◌∙◌, append_assoc, if◌then◌else◌}
 use Rattle.std.proofs.lemmas.List.{append-nil}
 use Rattle.std.proofs.lemmas.List.Concat.{flat_map-append}
 use Rattle.std.specs.List.{flat_map}
+use Rattle.osi_tpkt.specs.Held.{Held}
 use Rattle.osi_tpkt.specs.Packet.{IsPartial}
-use Rattle.osi_tpkt.specs.Stream.{ArePackets}
+use Rattle.osi_tpkt.specs.Stream.{ArePackets, offset_of}
 use Rattle.osi_tpdu.specs.Limits.{tsap_octets}
 use Rattle.osi_carrier.proofs.InFront.{apart_all}
 use Rattle.osi_carrier.proofs.Pieces.{OneCut}
@@ -26,37 +27,58 @@ use Rattle.osi_stack.proofs.Hushing.{account_calling}
 use Rattle.osi_stack.proofs.InFront.{apart_session}
 use Rattle.osi_stack.proofs.Runs.{calls_read}
 
--- two ends of which this was told and carried
-record Are (t : List (ℕ × Shown)) (o : List ℕ) (a : Holding) (u : List (ℕ × Shown)) (p : List ℕ) (b : Holding) : Type 0 where
-  octets : a.held.octets ≡ b.held.octets
-  partial : IsPartial a.held.octets
-  account : account_of t o a.end ≡ account_of u p b.end
+-- two ends, of which this was told and carried, that are the same
+pub record Same (t : List (ℕ × Shown)) (o : List ℕ) (a : Holding) (u : List (ℕ × Shown)) (p : List ℕ) (b : Holding) : Type 0 where
+  pub octets : a.held.octets ≡ b.held.octets
+  pub account : account_of t o a.end ≡ account_of u p b.end
+
+-- and whose packet under way stands at one place
+pub record Are (t : List (ℕ × Shown)) (o : List ℕ) (a : Holding) (u : List (ℕ × Shown)) (p : List ℕ) (b : Holding) : Type 0 where
+  pub same : Same t o a u p b
+  pub partial : IsPartial a.held.octets
+  pub offset : a.held.offset ≡ b.held.offset
+  pub bound : a.held.offset < 2 ^ 64
 
 -- ---- octets and indications
 
 -- the account of what these calls led to
-account_on : IsPartial [] → (t : List (ℕ × Shown)) (o : List ℕ) (old : Holding) (calls : List Call) (new : Holding) (packets : List (List ℕ)) →
+account_on : (t : List (ℕ × Shown)) (o : List ℕ) (old : Holding) (calls : List Call) (new : Holding) (packets : List (List ℕ)) →
     account_along calls new.end ≡ with_packets packets (account_of [] [] old.end) →
     account_of (t ++ flat_map told_in calls) (o ++ flat_map carried_in calls) new.end ≡ with_packets packets (account_of t o old.end)
-account_on nothing t o old calls new packets h =
+account_on t o old calls new packets h =
     account_joined t (flat_map told_in calls) o (flat_map carried_in calls) new.end
     ∙ ap (after_more t o) h ∙ sym (packets_apart t o packets (account_of [] [] old.end))
 
-calls_alike : IsPartial [] → OneCut → (t : List (ℕ × Shown)) (o : List ℕ) (a : Holding) (u : List (ℕ × Shown)) (p : List ℕ) (b : Holding) (xs ys : List Call) (c d : Holding) → Are t o a u p b →
+-- what was held and what was used
+pub used_alike : (t : List (ℕ × Shown)) (o : List ℕ) (a : Holding) (u : List (ℕ × Shown)) (p : List ℕ) (b : Holding) (xs ys : List Call) → Same t o a u p b → flat_map used_in xs ≡ flat_map used_in ys →
+    a.held.octets ++ flat_map used_in xs ≡ b.held.octets ++ flat_map used_in ys
+used_alike t o a u p b xs ys same used = ap (λ l. l ++ flat_map used_in xs) same.octets ∙ ap (λ l. b.held.octets ++ l) used
+
+small_offset : (n at : ℕ) → n ≡ offset_of at → n < 2 ^ 64
+small_offset n at e = omega arith
+
+pub calls_alike : IsPartial [] → OneCut → (t : List (ℕ × Shown)) (o : List ℕ) (a : Holding) (u : List (ℕ × Shown)) (p : List ℕ) (b : Holding) (xs ys : List Call) (c d : Holding) → Are t o a u p b →
     CallsAlong a xs c → CallsAlong b ys d → flat_map used_in xs ≡ flat_map used_in ys → c.end.carrier.ended ≡ None → d.end.carrier.ended ≡ None →
     Are (t ++ flat_map told_in xs) (o ++ flat_map carried_in xs) c (u ++ flat_map told_in ys) (p ++ flat_map carried_in ys) d
 calls_alike nothing one_cut t o a u p b xs ys c d are h k used lasts still =
     let m = calls_read nothing a xs c h lasts in
     let n = calls_read nothing b ys d k still in
-    let same : b.held.octets ++ flat_map used_in ys ≡ a.held.octets ++ flat_map used_in xs =
-    ap (λ l. l ++ flat_map used_in ys) (sym are.octets) ∙ ap (λ l. a.held.octets ++ l) (sym used) in
+    let same : a.held.octets ++ flat_map used_in xs ≡ b.held.octets ++ flat_map used_in ys = used_alike t o a u p b xs ys are.same used in
     let one = one_cut (a.held.octets ++ flat_map used_in xs) c.held.octets d.held.octets m.packets n.packets (m.partial are.partial)
-    (n.partial (subst IsPartial are.octets are.partial)) m.cut (subst (λ l. ArePackets n.packets l d.held.octets) same n.cut) in
+    (n.partial (subst IsPartial are.same.octets are.partial)) m.cut (subst (λ l. ArePackets n.packets l d.held.octets) (sym same) n.cut) in
+    let at = m.offset are.bound in
+    let at' = n.offset (subst (λ (k : ℕ). k < 2 ^ 64) are.offset are.bound) in
     record {
-      octets = one.1;
+      same = record {
+        octets = one.1;
+        account = account_on t o a xs c m.packets m.account ∙ ap (λ l. with_packets l (account_of t o a.end)) one.0
+            ∙ ap (with_packets n.packets) are.same.account ∙ sym (account_on u p b ys d n.packets n.account);
+      };
       partial = m.partial are.partial;
-      account = account_on nothing t o a xs c m.packets m.account ∙ ap (λ l. with_packets l (account_of t o a.end)) one.0
-          ∙ ap (with_packets n.packets) are.account ∙ sym (account_on nothing u p b ys d n.packets n.account);
+      offset = at ∙ ap (λ k. offset_of (k + (length (a.held.octets ++ flat_map used_in xs) - length c.held.octets))) are.offset
+          ∙ ap (λ l. offset_of (b.held.offset + (length l - length c.held.octets))) same
+          ∙ ap (λ l. offset_of (b.held.offset + (length (b.held.octets ++ flat_map used_in ys) - length l))) one.1 ∙ sym at';
+      bound = small_offset c.held.offset _ at;
     }
 
 -- ---- a call of the user
@@ -91,19 +113,25 @@ account_called t o (connecting c) e h = called_still t o (connecting c) e h
 account_called t o (calling r call) e h = account_calling t o r call e h
 account_called t o breaking e h = called_still t o breaking e h
 
+-- the packet under way stays as it is
+held_alike : (t : List (ℕ × Shown)) (o : List ℕ) (a : Holding) (u : List (ℕ × Shown)) (p : List ℕ) (b c d : Holding) → Are t o a u p b → c.held ≡ a.held → d.held ≡ b.held →
+    account_of t o c.end ≡ account_of u p d.end → Are t o c u p d
+held_alike t o a u p b c d are h k account = record {
+  same = record { octets = ap (λ (x : Held). x.octets) h ∙ are.same.octets ∙ ap (λ (x : Held). x.octets) (sym k); account = account };
+  partial = subst (λ (x : Held). IsPartial x.octets) (sym h) are.partial;
+  offset = ap (λ (x : Held). x.offset) h ∙ are.offset ∙ ap (λ (x : Held). x.offset) (sym k);
+  bound = subst (λ (x : Held). x.offset < 2 ^ 64) (sym h) are.bound;
+}
+
 user_alike : (t : List (ℕ × Shown)) (o : List ℕ) (a : Holding) (u : List (ℕ × Shown)) (p : List ℕ) (b : Holding) (call : Option UserCall) (c d : Holding) → Are t o a u p b →
     IsCalled a call c → IsCalled b call d → Are t o c u p d
-user_alike t o a u p b None c d are h k = record {
-  octets = ap (λ (x : Holding). x.held.octets) h.1 ∙ are.octets ∙ ap (λ (x : Holding). x.held.octets) (sym k.1);
-  partial = subst (λ (x : Holding). IsPartial x.held.octets) (sym h.1) are.partial;
-  account = ap (λ (x : Holding). account_of t o x.end) h.1 ∙ are.account ∙ ap (λ (x : Holding). account_of u p x.end) (sym k.1);
-}
-user_alike t o a u p b (Some call) c d are h k = record {
-  octets = ap (λ (x : Holding). x.held.octets) h.2 ∙ are.octets ∙ ap (λ (x : Holding). x.held.octets) (sym k.2);
-  partial = subst (λ (x : Holding). IsPartial x.held.octets) (sym h.2) are.partial;
-  account = ap (λ (x : Holding). account_of t o x.end) h.2 ∙ account_called t o call a.end h.1 ∙ ap (called_by call) are.account
-      ∙ sym (account_called u p call b.end k.1) ∙ ap (λ (x : Holding). account_of u p x.end) (sym k.2);
-}
+user_alike t o a u p b None c d are h k =
+    held_alike t o a u p b c d are (ap (λ (x : Holding). x.held) h.1) (ap (λ (x : Holding). x.held) k.1)
+    (ap (λ (x : Holding). account_of t o x.end) h.1 ∙ are.same.account ∙ ap (λ (x : Holding). account_of u p x.end) (sym k.1))
+user_alike t o a u p b (Some call) c d are h k =
+    held_alike t o a u p b c d are (ap (λ (x : Holding). x.held) h.2) (ap (λ (x : Holding). x.held) k.2)
+    (ap (λ (x : Holding). account_of t o x.end) h.2 ∙ account_called t o call a.end h.1 ∙ ap (called_by call) are.same.account
+    ∙ sym (account_called u p call b.end k.1) ∙ ap (λ (x : Holding). account_of u p x.end) (sym k.2))
 
 called_lasts : (old : Holding) (call : Option UserCall) (new : Holding) → IsCalled old call new → old.end.carrier.ended ≡ None
 called_lasts old None new h = h.0
@@ -115,14 +143,16 @@ called_lasts old (Some call) new h = h.0
 joined : {A : Type 0} (f : Call → List A) (front : List A) (calls rest : List Call) → (front ++ flat_map f calls) ++ flat_map f rest ≡ front ++ flat_map f (calls ++ rest)
 joined f front calls rest = append_assoc front (flat_map f calls) (flat_map f rest) ∙ ap (λ l. front ++ l) (sym (flat_map-append f calls rest))
 
-abbrev AreAfter : List (ℕ × Shown) → List ℕ → List Call → Holding → List (ℕ × Shown) → List ℕ → List Call → Holding → Type 0
+abbrev pub SameAfter : List (ℕ × Shown) → List ℕ → List Call → Holding → List (ℕ × Shown) → List ℕ → List Call → Holding → Type 0
+SameAfter t o xs a u p ys b = Same (t ++ flat_map told_in xs) (o ++ flat_map carried_in xs) a (u ++ flat_map told_in ys) (p ++ flat_map carried_in ys) b
+
+abbrev pub AreAfter : List (ℕ × Shown) → List ℕ → List Call → Holding → List (ℕ × Shown) → List ℕ → List Call → Holding → Type 0
 AreAfter t o xs a u p ys b = Are (t ++ flat_map told_in xs) (o ++ flat_map carried_in xs) a (u ++ flat_map told_in ys) (p ++ flat_map carried_in ys) b
 
-are_joined : (t : List (ℕ × Shown)) (o : List ℕ) (u : List (ℕ × Shown)) (p : List ℕ) (xs ys more rest : List Call) (a b : Holding) →
-    AreAfter (t ++ flat_map told_in xs) (o ++ flat_map carried_in xs) more a (u ++ flat_map told_in ys) (p ++ flat_map carried_in ys) rest b → AreAfter t o (xs ++ more) a u p (ys ++ rest) b
-are_joined t o u p xs ys more rest a b h = record {
+pub same_joined : (t : List (ℕ × Shown)) (o : List ℕ) (u : List (ℕ × Shown)) (p : List ℕ) (xs ys more rest : List Call) (a b : Holding) →
+    SameAfter (t ++ flat_map told_in xs) (o ++ flat_map carried_in xs) more a (u ++ flat_map told_in ys) (p ++ flat_map carried_in ys) rest b → SameAfter t o (xs ++ more) a u p (ys ++ rest) b
+same_joined t o u p xs ys more rest a b h = record {
   octets = h.octets;
-  partial = h.partial;
   account = ap (λ l. account_of l (o ++ flat_map carried_in (xs ++ more)) a.end) (sym (joined told_in t xs more))
       ∙ ap (λ l. account_of ((t ++ flat_map told_in xs) ++ flat_map told_in more) l a.end) (sym (joined carried_in o xs more))
       ∙ h.account
@@ -130,16 +160,34 @@ are_joined t o u p xs ys more rest a b h = record {
       ∙ ap (λ l. account_of l (p ++ flat_map carried_in (ys ++ rest)) b.end) (joined told_in u ys rest);
 }
 
-rounds_alike : IsPartial [] → OneCut → (t : List (ℕ × Shown)) (o : List ℕ) (a : Holding) (u : List (ℕ × Shown)) (p : List ℕ) (b : Holding) (xs ys : List Round) (c d : Holding) →
+are_joined : (t : List (ℕ × Shown)) (o : List ℕ) (u : List (ℕ × Shown)) (p : List ℕ) (xs ys more rest : List Call) (a b : Holding) →
+    AreAfter (t ++ flat_map told_in xs) (o ++ flat_map carried_in xs) more a (u ++ flat_map told_in ys) (p ++ flat_map carried_in ys) rest b → AreAfter t o (xs ++ more) a u p (ys ++ rest) b
+are_joined t o u p xs ys more rest a b h =
+    record { same = same_joined t o u p xs ys more rest a b h.same; partial = h.partial; offset = h.offset; bound = h.bound }
+
+-- no round
+are_behind : (t : List (ℕ × Shown)) (o : List ℕ) (a : Holding) (u : List (ℕ × Shown)) (p : List ℕ) (b c d : Holding) → Are t o a u p b → c ≡ a → d ≡ b → Are (t ++ []) (o ++ []) c (u ++ []) (p ++ []) d
+are_behind t o a u p b c d are h k =
+    held_alike (t ++ []) (o ++ []) a (u ++ []) (p ++ []) b c d
+    (record {
+      same = record {
+        octets = are.same.octets;
+        account = ap (λ l. account_of l (o ++ []) a.end) (append-nil t) ∙ ap (λ l. account_of t l a.end) (append-nil o) ∙ are.same.account
+            ∙ ap (λ l. account_of u l b.end) (sym (append-nil p)) ∙ ap (λ l. account_of l (p ++ []) b.end) (sym (append-nil u));
+      };
+      partial = are.partial;
+      offset = are.offset;
+      bound = are.bound;
+    })
+    (ap (λ (x : Holding). x.held) h) (ap (λ (x : Holding). x.held) k)
+    (ap (λ (x : Holding). account_of (t ++ []) (o ++ []) x.end) h
+    ∙ ap (λ l. account_of l (o ++ []) a.end) (append-nil t) ∙ ap (λ l. account_of t l a.end) (append-nil o) ∙ are.same.account
+    ∙ ap (λ l. account_of u l b.end) (sym (append-nil p)) ∙ ap (λ l. account_of l (p ++ []) b.end) (sym (append-nil u))
+    ∙ ap (λ (x : Holding). account_of (u ++ []) (p ++ []) x.end) (sym k))
+
+pub rounds_alike : IsPartial [] → OneCut → (t : List (ℕ × Shown)) (o : List ℕ) (a : Holding) (u : List (ℕ × Shown)) (p : List ℕ) (b : Holding) (xs ys : List Round) (c d : Holding) →
     Are t o a u p b → RoundsAlong a xs c → RoundsAlong b ys d → AreInStep xs ys → AreAfter t o (calls_of xs) c u p (calls_of ys) d
-rounds_alike nothing one_cut t o a u p b [] [] c d are h k step = record {
-  octets = ap (λ (x : Holding). x.held.octets) h ∙ are.octets ∙ ap (λ (x : Holding). x.held.octets) (sym k);
-  partial = subst (λ (x : Holding). IsPartial x.held.octets) (sym h) are.partial;
-  account = ap (λ (x : Holding). account_of (t ++ []) (o ++ []) x.end) h
-      ∙ ap (λ l. account_of l (o ++ []) a.end) (append-nil t) ∙ ap (λ l. account_of t l a.end) (append-nil o) ∙ are.account
-      ∙ ap (λ l. account_of u l b.end) (sym (append-nil p)) ∙ ap (λ l. account_of l (p ++ []) b.end) (sym (append-nil u))
-      ∙ ap (λ (x : Holding). account_of (u ++ []) (p ++ []) x.end) (sym k);
-}
+rounds_alike nothing one_cut t o a u p b [] [] c d are h k step = are_behind t o a u p b c d are h k
 rounds_alike nothing one_cut t o a u p b [] (y ∷ ys) c d are h k step = absurd step
 rounds_alike nothing one_cut t o a u p b (x ∷ xs) [] c d are h k step = absurd step
 rounds_alike nothing one_cut t o a u p b (x ∷ xs) (y ∷ ys) c d are h k step =
@@ -153,8 +201,14 @@ rounds_alike nothing one_cut t o a u p b (x ∷ xs) (y ∷ ys) c d are h k step 
     are_joined t o u p x.calls y.calls (calls_of xs) (calls_of ys) c d
     (rounds_alike nothing one_cut t' o' h.1 u' p' k.1 xs ys c d met h.4 k.4 step.2)
 
-pub runs_alike : IsPartial [] → OneCut → (old a b : Holding) (xs ys : List Round) → IsPartial old.held.octets → RoundsAlong old xs a → RoundsAlong old ys b → AreInStep xs ys →
-    AreAlike a (calls_of xs) b (calls_of ys)
-runs_alike nothing one_cut old a b xs ys partial h k step =
-    let are = rounds_alike nothing one_cut [] [] old [] [] old xs ys a b (record { octets = refl; partial = partial; account = refl }) h k step in
-    record { octets = are.octets; end = ap (λ (x : Account). x.end) are.account; told = ap (λ (x : Account). x.told) are.account }
+-- an end is like itself
+pub are_first : (old : Holding) → IsPartial old.held.octets → old.held.offset < 2 ^ 64 → Are [] [] old [] [] old
+are_first old partial bound = record { same = record { octets = refl; account = refl }; partial = partial; offset = refl; bound = bound }
+
+pub same_alike : (a b : Holding) (xs ys : List Call) → SameAfter [] [] xs a [] [] ys b → AreAlike a xs b ys
+same_alike a b xs ys h = record { octets = h.octets; end = ap (λ (x : Account). x.end) h.account; told = ap (λ (x : Account). x.told) h.account }
+
+pub runs_alike : IsPartial [] → OneCut → (old a b : Holding) (xs ys : List Round) → IsPartial old.held.octets → old.held.offset < 2 ^ 64 → RoundsAlong old xs a → RoundsAlong old ys b →
+    AreInStep xs ys → AreAlike a (calls_of xs) b (calls_of ys)
+runs_alike nothing one_cut old a b xs ys partial bound h k step =
+    same_alike a b (calls_of xs) (calls_of ys) (rounds_alike nothing one_cut [] [] old [] [] old xs ys a b (are_first old partial bound) h k step).same

@@ -1,6 +1,6 @@
 //! Laws of one end. Each function does nothing: its clauses are the laws.
 
-ghost use Rattle.std.specs.Prelude.{◌≡◌, ◌≢◌, ◌<◌, ◌≤◌, ◌^◌, ◌⊎◌, ℕ, Bool, List, [], None, Some, IsSome, is_some, false, true, length, take};
+ghost use Rattle.std.specs.Prelude.{◌≡◌, ◌≢◌, ◌<◌, ◌≤◌, ◌^◌, ◌⊎◌, ℕ, Bool, List, [], ◌++◌, None, Some, IsSome, is_some, false, true, length, take};
 ghost use Rattle.std.specs.List.{flat_map};
 ghost use Rattle.osi_tpkt.specs.Packet.{IsPartial};
 ghost use Rattle.osi_tpkt.specs.declared.cutting.Fed.{Fed};
@@ -234,11 +234,17 @@ pub fn the_pieces_do_not_matter()
 /// So over whole runs too, with the user's calls between: where in each round the same octets were used, in
 /// whatever pieces, and then the user made the same call, the ends come to the same, and the same was told and
 /// put. A session may be called while indications wait; a connection is asked for, and the byte connection
-/// breaks, once all was told that waited.
+/// breaks, once all was told that waited. Behind the rounds the same octets may end them, or they may have
+/// ended: where memory is not wanted there, they come to the same all the same.
 pub fn whole_runs_do_not_hang_on_pieces()
-    ensures { (old a b : Holding) (xs ys : List Round) → IsPartial old.held.octets → RoundsAlong old xs a → RoundsAlong old ys b → AreInStep xs ys →
-        AreAlike a (calls_of xs) b (calls_of ys) }
+    ensures rounds { (old a b : Holding) (xs ys : List Round) → IsPartial old.held.octets → old.held.offset < 2 ^ 64 →
+        RoundsAlong old xs a → RoundsAlong old ys b → AreInStep xs ys → AreAlike a (calls_of xs) b (calls_of ys) }
+    ensures last { (old c d a b : Holding) (xs ys : List Round) (zs ws : List EndCall) → IsPartial old.held.octets → old.held.offset < 2 ^ 64 →
+        RoundsAlong old xs c → RoundsAlong old ys d → AreInStep xs ys →
+        CallsInRoom c zs a → CallsInRoom d ws b → flat_map used_in zs ≡ flat_map used_in ws →
+        AreAlike a (calls_of xs ++ zs) b (calls_of ys ++ ws) }
 {
     a_prefix_of_a_packet();
     a_stream_has_one_cut();
+    no_packet_begins_another();
 }
