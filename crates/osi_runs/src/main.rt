@@ -3,14 +3,20 @@
 //! The program's words name what is run. Behind the word `pair` stand scripts of two ends with their
 //! transcripts; behind `each-way` those that are run in class 0 and in class 2 as well, with octets
 //! that are carried all at once and one by one: how many octets were carried is then all that may
-//! differ. Behind `octets` stand ends that are fed octets, and what they answer; behind `show`
-//! captures with their listings.
+//! differ. Behind `again` stand those in which an event that finds no memory is applied again. Behind
+//! `octets` stand ends that are fed octets, and what they answer; behind `show` captures with their
+//! listings; behind `damaged` captures whose packets are damaged and fed to ends, of which is said how
+//! many did what they should.
 #![tactic(auto)]
 
+mod again;
+mod damaged;
 mod digits;
 mod octets;
 mod ways;
 
+use again::{Replay, replayed};
+use damaged::runs_of;
 use digits::octets_in;
 use octets::played;
 use osi_listing::list;
@@ -28,8 +34,10 @@ const LONGEST: usize = 1_000_000;
 enum Kind {
     Pair,
     EachWay,
+    Again,
     Octets,
     Show,
+    Damaged,
 }
 
 impl Kind {
@@ -38,8 +46,10 @@ impl Kind {
         match word {
             "pair" => Some(Kind::Pair),
             "each-way" => Some(Kind::EachWay),
+            "again" => Some(Kind::Again),
             "octets" => Some(Kind::Octets),
             "show" => Some(Kind::Show),
+            "damaged" => Some(Kind::Damaged),
             _ => None,
         }
     }
@@ -65,8 +75,10 @@ fn judged<R: Files + AllocGlobal>(rt: &R, name: &str, kind: Kind) -> io::Result<
     match kind {
         Kind::Pair => judged_pair(rt, name, false),
         Kind::EachWay => judged_pair(rt, name, true),
+        Kind::Again => judged_again(rt, name),
         Kind::Octets => judged_octets(rt, name),
         Kind::Show => judged_listing(rt, name),
+        Kind::Damaged => judged_damage(rt, name),
     }
 }
 
@@ -85,6 +97,24 @@ fn judged_pair<R: Files + AllocGlobal>(
         return judged_each_way(rt.alloc(), script.as_str(), wanted.as_str());
     }
     as_written(rt.alloc(), came.status)
+}
+
+fn judged_again<R: Files + AllocGlobal>(rt: &R, name: &str) -> io::Result<String> {
+    let script = text_of(rt, name, "script")?;
+    let wanted = text_of(rt, name, "transcript")?;
+    let came = replayed(rt.alloc(), script.as_str())?;
+    if came.is_good && came.is_over {
+        return Ok("is over: an end found no memory".to_string(rt.alloc())?);
+    }
+    if !came.is_good || came.lines.as_slice() != wanted.as_str().as_bytes() {
+        return another(rt.alloc(), came.lines.as_slice(), 0);
+    }
+    let Replay {
+        refused,
+        stopped,
+        ..
+    } = came;
+    Ok(format!(in rt.alloc(); "as it is written, {refused} asked again, {stopped} carried on")?)
 }
 
 fn judged_octets<R: Files + AllocGlobal>(rt: &R, name: &str) -> io::Result<String> {
@@ -106,6 +136,12 @@ fn judged_listing<R: Files + AllocGlobal>(rt: &R, name: &str) -> io::Result<Stri
         return another(rt.alloc(), came.as_slice(), status);
     }
     as_written(rt.alloc(), status)
+}
+
+fn judged_damage<R: Files + AllocGlobal>(rt: &R, name: &str) -> io::Result<String> {
+    let capture = text_of(rt, name, "hex")?;
+    let octets = octets_in(rt.alloc(), capture.as_str())?;
+    runs_of(rt.alloc(), octets.as_slice())
 }
 
 fn text_of<R: Files + AllocGlobal>(rt: &R, name: &str, kind: &str) -> io::Result<String> {

@@ -27,20 +27,30 @@ struct Ends {
 pub(crate) fn played(alloc: Global, text: &str) -> io::Result<Vec<u8>> {
     let mut out = Vec::new(alloc);
     let mut ends = None;
-    for line in text.lines() {
-        if line.is_empty() || line.starts_with('#') {
-            push(&mut out, line)?;
-        }
-        if let Some(asked) = line.strip_prefix("> ") {
-            push(&mut out, line)?;
-            play(alloc, &mut out, &mut ends, asked)?;
-        }
-    }
+    play_all(alloc, &mut out, &mut ends, text)?;
     Ok(out)
 }
 
+fn play_all(
+    alloc: Global,
+    out: &mut Vec<u8>,
+    ends: &mut Option<Ends>,
+    text: &str,
+) -> io::Result<()> {
+    for line in text.lines() {
+        if line.is_empty() || line.starts_with('#') {
+            push(out, line)?;
+        }
+        if let Some(asked) = line.strip_prefix("> ") {
+            push(out, line)?;
+            play(alloc, out, ends, asked)?;
+        }
+    }
+    Ok(())
+}
+
 /// Adds a line.
-fn push(out: &mut Vec<u8>, line: &str) -> Result<(), AllocError> {
+pub(crate) fn push(out: &mut Vec<u8>, line: &str) -> Result<(), AllocError> {
     out.extend_from_slice(line.as_bytes())?;
     out.push(b'\n')?;
     Ok(())
@@ -91,8 +101,8 @@ fn play_at(
     } else if let Some(digits) = asked.strip_prefix("feed right ") {
         feed(alloc, out, &mut ends.right, digits)?;
     } else if asked == "where" {
-        push_where(alloc, out, Side::Left, &ends.left)?;
-        push_where(alloc, out, Side::Right, &ends.right)?;
+        push_where(alloc, out, Side::Left, &ends.left, 4)?;
+        push_where(alloc, out, Side::Right, &ends.right, 4)?;
     } else {
         ask(alloc, out, ends, command)?;
     }
@@ -239,14 +249,16 @@ fn push_sent(
     Ok(())
 }
 
-/// Adds where the first connections of an end stand, and whether it has ended.
-fn push_where(
+/// Adds where the connections of an end with lower references than this stand, how many octets it
+/// keeps, and why it has ended.
+pub(crate) fn push_where(
     alloc: Global,
     out: &mut Vec<u8>,
     side: Side,
     stack: &Stack,
+    references: u16,
 ) -> Result<(), AllocError> {
-    for reference in 1..4u16 {
+    for reference in 1..references {
         push_phase(alloc, out, side, stack, Ref(reference))?;
     }
     let name = side.name();
@@ -260,7 +272,7 @@ fn push_where(
     Ok(())
 }
 
-fn push_phase(
+pub(crate) fn push_phase(
     alloc: Global,
     out: &mut Vec<u8>,
     side: Side,

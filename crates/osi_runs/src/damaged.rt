@@ -1,0 +1,333 @@
+//! Packets that are damaged, and what ends and the listing make of them.
+//!
+//! Each packet of a capture is cut to each length, and each of its octets is set to 13 values. What
+//! comes of it is listed, and fed to twelve ends, whole and octet by octet: with class 0, with class 2
+//! and with both, a caller and a called end on which nothing has happened, and a caller that has asked
+//! for a connection and a called end which have been fed the packets before it.
+
+use bitflags::Flags;
+use osi_carrier::{EndReason, Ref};
+use osi_class::Local;
+use osi_listing::list;
+use osi_session::Phase;
+use osi_spdu::{Requirements, Serial, TokenSetting, Wish};
+use osi_stack::{Connect, Stack};
+use osi_tpdu::{SizeCode, Window};
+use std::alloc::{AllocError, Global};
+use std::io;
+
+/// The most octets that are kept of a packet that is not whole.
+const OF_A_PACKET: usize = 65_535;
+
+/// The most octets that are kept of the unfinished TSDU of a connection.
+const OF_A_TSDU: usize = 1_048_576;
+
+/// What happened to an end before it is fed a damaged packet.
+#[derive(Clone, Copy)]
+enum Past {
+    /// Nothing happened to a caller.
+    OfCaller,
+    /// Nothing happened to a called end.
+    OfCalled,
+    /// A caller has asked for a connection, and was fed the packets before.
+    OfAsking,
+    /// A called end was fed the packets before.
+    OfAnswering,
+}
+
+const PASTS: [Past; 4] = [
+    Past::OfCaller,
+    Past::OfCalled,
+    Past::OfAsking,
+    Past::OfAnswering,
+];
+
+/// The classes of an end: 0, and 2.
+const CLASSES: [(bool, bool); 3] = [(true, false), (false, true), (true, true)];
+
+/// How many runs there were, and how many went as they should.
+#[derive(Clone, Copy)]
+struct Tally {
+    runs: u64,
+    good: u64,
+}
+
+impl Tally {
+    fn add(&mut self, is_good: bool) {
+        self.runs = self.runs.wrapping_add(1);
+        if is_good {
+            self.good = self.good.wrapping_add(1);
+        }
+    }
+}
+
+/// A damaged packet, the packets before it, and whether it is refused as no packet.
+#[derive(Clone, Copy)]
+struct Case<'a> {
+    before: &'a [u8],
+    octets: &'a [u8],
+    is_no_packet: bool,
+}
+
+/// Damages each packet of a capture, and says how many runs there were.
+pub(crate) fn runs_of(alloc: Global, capture: &[u8]) -> io::Result<String> {
+    let mut tally = Tally { runs: 0, good: 0 };
+    let mut at = 0;
+    for _ in 0..capture.len() {
+        let Some(packet) = packet_at(capture, at) else {
+            break;
+        };
+        let before = capture.get(..at).unwrap_or_default();
+        cut(alloc, &mut tally, before, packet)?;
+        set(alloc, &mut tally, before, packet)?;
+        at = at.saturating_add(packet.len());
+    }
+    if at != capture.len() {
+        return Err(io::Error::from(io::ErrorKind::InvalidData));
+    }
+    let Tally { runs, good } = tally;
+    Ok(format!(in alloc; "{runs} runs, {good} as they should be")?)
+}
+
+/// The packet that begins at this octet, if one does.
+fn packet_at(capture: &[u8], at: usize) -> Option<&[u8]> {
+    let high = *capture.get(at.checked_add(2)?)?;
+    let low = *capture.get(at.checked_add(3)?)?;
+    let length = usize::from(u16::from_be_bytes([high, low]));
+    if length == 0 {
+        return None;
+    }
+    capture.get(at..at.checked_add(length)?)
+}
+
+/// Cuts a packet to each length; the last is the whole of it.
+fn cut(alloc: Global, tally: &mut Tally, before: &[u8], packet: &[u8]) -> Result<(), AllocError> {
+    for length in 0..packet.len() {
+        run(alloc, tally, before, &packet[..length])?;
+    }
+    run(alloc, tally, before, packet)
+}
+
+/// Sets each octet of a packet.
+fn set(alloc: Global, tally: &mut Tally, before: &[u8], packet: &[u8]) -> Result<(), AllocError> {
+    for at in 0..packet.len() {
+        set_at(alloc, tally, before, packet, at)?;
+    }
+    Ok(())
+}
+
+/// Sets an octet of a packet to 0, 1, 127, 128, 255, and to itself with each of its bits turned.
+fn set_at(
+    alloc: Global,
+    tally: &mut Tally,
+    before: &[u8],
+    packet: &[u8],
+    at: usize,
+) -> Result<(), AllocError> {
+    let mut octets = Vec::from_slice(alloc, packet)?;
+    let octet = packet.get(at).copied().unwrap_or(0);
+    let values = [
+        0,
+        1,
+        127,
+        128,
+        255,
+        octet ^ 1,
+        octet ^ 2,
+        octet ^ 4,
+        octet ^ 8,
+        octet ^ 16,
+        octet ^ 32,
+        octet ^ 64,
+        octet ^ 128,
+    ];
+    for value in values {
+        if let Some(place) = octets.get_mut(at) {
+            *place = value;
+        }
+        run(alloc, tally, before, octets.as_slice())?;
+    }
+    Ok(())
+}
+
+/// Lists a damaged packet, and feeds it to ends with each past.
+fn run(alloc: Global, tally: &mut Tally, before: &[u8], octets: &[u8]) -> Result<(), AllocError> {
+    let mut lines = Vec::new(alloc);
+    let status = list(alloc, &mut lines, octets)?;
+    let has_fault = has(lines.as_slice(), "fault ");
+    tally.add((status == 1) == has_fault);
+    let packet = Case {
+        before,
+        octets,
+        is_no_packet: !has(lines.as_slice(), "rest "),
+    };
+    for past in PASTS {
+        run_with(alloc, tally, packet, past);
+    }
+    Ok(())
+}
+
+/// Feeds it to ends with each class.
+fn run_with(alloc: Global, tally: &mut Tally, packet: Case, past: Past) {
+    for classes in CLASSES {
+        let whole = fed(alloc, packet, past, classes, usize::MAX);
+        let single = fed(alloc, packet, past, classes, 1);
+        tally.add(is_same(whole, single));
+    }
+}
+
+/// Whether a listing has this word.
+fn has(lines: &[u8], word: &str) -> bool {
+    match str::from_utf8(lines) {
+        Ok(lines) => lines.contains(word),
+        Err(_) => false,
+    }
+}
+
+/// Both ends did what they should, and have come to the same.
+fn is_same(one: Option<Stack>, other: Option<Stack>) -> bool {
+    let (Some(one), Some(other)) = (one, other) else {
+        return false;
+    };
+    if one.outgoing() != other.outgoing() || one.ended() != other.ended() {
+        return false;
+    }
+    one.ended().is_some() || one.kept() == other.kept()
+}
+
+/// Feeds an end, in pieces of at most so many octets; none where it does not what it should.
+fn fed(
+    alloc: Global,
+    packet: Case,
+    past: Past,
+    classes: (bool, bool),
+    piece: usize,
+) -> Option<Stack> {
+    let mut stack = fresh(alloc, past, classes)?;
+    let before = match past {
+        Past::OfCaller | Past::OfCalled => &[],
+        Past::OfAsking | Past::OfAnswering => packet.before,
+    };
+    if does_well(&mut stack, before, packet, piece) {
+        Some(stack)
+    } else {
+        None
+    }
+}
+
+fn does_well(stack: &mut Stack, before: &[u8], packet: Case, piece: usize) -> bool {
+    if feed(stack, before, usize::MAX).is_none() || feed(stack, packet.octets, piece).is_none() {
+        return false;
+    }
+    match stack.ended() {
+        Some(_) => is_still(stack, packet.octets),
+        None => !packet.is_no_packet,
+    }
+}
+
+/// An end that is over uses all that it is fed, shows nothing and sends nothing more.
+fn is_still(stack: &mut Stack, octets: &[u8]) -> bool {
+    let sent = stack.outgoing().len();
+    let fed = stack.feed(octets);
+    fed.used == octets.len() && !fed.whole && stack.outgoing().len() == sent
+}
+
+/// An end with this past, to which no octet has come.
+fn fresh(alloc: Global, past: Past, classes: (bool, bool)) -> Option<Stack> {
+    let (class0, class2) = classes;
+    let local = Local {
+        class0,
+        class2,
+        size: SizeCode::new(10)?,
+        window: Window::new(4)?,
+    };
+    match past {
+        Past::OfCaller => Some(Stack::caller(alloc, local)),
+        Past::OfCalled | Past::OfAnswering => Some(Stack::called(alloc, local)),
+        Past::OfAsking => {
+            let mut stack = Stack::caller(alloc, local);
+            ask(&mut stack)?;
+            Some(stack)
+        }
+    }
+}
+
+/// Asks for a connection with points, restarts and negotiated release; the other side chooses who holds
+/// the tokens.
+fn ask(stack: &mut Stack) -> Option<()> {
+    let connect = Connect {
+        requirements: Requirements::from_bits_retain(0x00B9),
+        serial: Serial::new(1)?,
+        wishes: TokenSetting {
+            data_token: Wish::Choice,
+            minor: Wish::Choice,
+            major: Wish::Choice,
+            release: Wish::Choice,
+        },
+        calling_tsap: None,
+        called_tsap: None,
+        calling_selector: None,
+        called_selector: None,
+        user_data: &[],
+    };
+    stack.connect(&connect).ok()?;
+    Some(())
+}
+
+/// Feeds octets, and fetches what is shown; none where something is not as it should be.
+fn feed(stack: &mut Stack, octets: &[u8], piece: usize) -> Option<()> {
+    let mut rest = octets;
+    for _ in 0..octets.len() {
+        if rest.is_empty() {
+            break;
+        }
+        let used = feed_piece(stack, rest.get(..piece).unwrap_or(rest))?;
+        rest = rest.get(used..)?;
+    }
+    if rest.is_empty() { Some(()) } else { None }
+}
+
+/// Feeds a piece that is not empty. Some of it is used, and all where nothing is shown, and where the
+/// end is over or is ended by it for a fault.
+fn feed_piece(stack: &mut Stack, piece: &[u8]) -> Option<usize> {
+    let is_over = stack.ended().is_some();
+    let fed = stack.feed(piece);
+    let is_spoilt = matches!(stack.ended(), Some(EndReason::Fault(_)));
+    if fed.used == 0 || fed.used > piece.len() {
+        return None;
+    }
+    if fed.used < piece.len() && (is_over || is_spoilt || !fed.whole) {
+        return None;
+    }
+    if fed.whole != stack.next_indication().is_some() || !fetch(stack) || !is_within_bounds(stack) {
+        return None;
+    }
+    Some(fed.used)
+}
+
+/// Fetches all that is shown.
+fn fetch(stack: &mut Stack) -> bool {
+    for _ in 0..100u8 {
+        if stack.next_indication().is_none() {
+            return true;
+        }
+    }
+    false
+}
+
+/// What is kept is within its bound, and an end that is over holds no token.
+fn is_within_bounds(stack: &Stack) -> bool {
+    let mut most = OF_A_PACKET;
+    for reference in 1..65u16 {
+        let Some(phase) = stack.phase(Ref(reference)) else {
+            break;
+        };
+        if !matches!(phase, Phase::Ended) {
+            most = most.saturating_add(OF_A_TSDU);
+        }
+        if stack.ended().is_some() && !stack.held(Ref(reference)).is_empty() {
+            return false;
+        }
+    }
+    stack.kept() <= most
+}
