@@ -1,7 +1,7 @@
 /* Moves TSDUs over a pair of carriers, whose octets go in pieces: the proved ones and the same work by hand. */
 #include <stdio.h>
-#include <time.h>
 #include "carrier.h"
+#include "timer.h"
 
 /* A slice is passed as a pointer and a length; the allocator passes nothing. */
 uint64_t osi_bench_carriers(const uint8_t *tsdu, size_t length, size_t rounds, uint16_t connections, size_t piece,
@@ -39,13 +39,6 @@ static uint64_t move_by_hand(const uint8_t *tsdu, size_t n, size_t rounds, uint1
     close_carrier(caller);
     close_carrier(called);
     return moved.tsdus * 1000003 + moved.octets;
-}
-
-static double now(void)
-{
-    struct timespec t;
-    clock_gettime(CLOCK_MONOTONIC, &t);
-    return (double)t.tv_sec + (double)t.tv_nsec * 1e-9;
 }
 
 typedef uint64_t job(const uint8_t *, size_t, size_t, uint16_t, size_t, bool);

@@ -3,7 +3,7 @@
 #include <stdio.h>
 #include <stdlib.h>
 #include <string.h>
-#include <time.h>
+#include "timer.h"
 
 /* A slice is passed as a pointer and a length; the allocator passes nothing. */
 uint64_t osi_bench_cut(const uint8_t *stream, size_t length, size_t piece);
@@ -124,13 +124,6 @@ __attribute__((noinline)) static uint64_t copy(const uint8_t *stream, size_t len
         at += n;
     }
     return sum;
-}
-
-static double now(void)
-{
-    struct timespec t;
-    clock_gettime(CLOCK_MONOTONIC, &t);
-    return (double)t.tv_sec + (double)t.tv_nsec * 1e-9;
 }
 
 typedef uint64_t job(const uint8_t *, size_t, size_t);

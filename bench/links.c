@@ -4,7 +4,7 @@
 #include <stdio.h>
 #include <stdlib.h>
 #include <string.h>
-#include <time.h>
+#include "timer.h"
 
 /* A slice is passed as a pointer and a length; the allocator passes nothing. */
 uint64_t osi_bench_links(const uint8_t *tsdu, size_t length, size_t rounds, bool class_two);
@@ -284,13 +284,6 @@ static uint64_t move_in_kept_room(const uint8_t *tsdu, size_t n, size_t rounds, 
 {
     keeps_room = true;
     return move(tsdu, n, rounds, class_two);
-}
-
-static double now(void)
-{
-    struct timespec t;
-    clock_gettime(CLOCK_MONOTONIC, &t);
-    return (double)t.tv_sec + (double)t.tv_nsec * 1e-9;
 }
 
 typedef uint64_t job(const uint8_t *, size_t, size_t, bool);

@@ -2,8 +2,8 @@
 #include <stdint.h>
 #include <stdio.h>
 #include <string.h>
-#include <time.h>
 #include "session.h"
+#include "timer.h"
 
 /* A slice is passed as a pointer and a length; the allocator passes nothing. */
 uint64_t osi_bench_sessions(const uint8_t *data, size_t length, size_t rounds, size_t part);
@@ -11,13 +11,6 @@ uint64_t osi_bench_sessions(const uint8_t *data, size_t length, size_t rounds, s
 #define RUNS 101
 #define ROUNDS 1000
 #define PARTS 7
-
-static double now(void)
-{
-    struct timespec t;
-    clock_gettime(CLOCK_MONOTONIC, &t);
-    return (double)t.tv_sec + (double)t.tv_nsec * 1e-9;
-}
 
 struct ends {
     struct session caller, called;

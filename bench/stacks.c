@@ -1,9 +1,9 @@
 /* Data, minor points and their confirmations over a pair of stacks, whose octets go from one to the other: the proved
    ones and the same by hand, a carrier and a session for each of its connections. */
 #include <stdio.h>
-#include <time.h>
 #include "carrier.h"
 #include "session.h"
+#include "timer.h"
 
 /* A slice is passed as a pointer and a length; the allocator passes nothing. */
 uint64_t osi_bench_stacks(const uint8_t *data, size_t length, size_t rounds, uint16_t connections, bool class_two, bool points);
@@ -169,14 +169,6 @@ static uint64_t stacks_by_hand(const uint8_t *octets, size_t length, size_t roun
     return answer;
 }
 
-/* The time that this process has had of a processor, so that other work on the machine counts less. */
-static double now(void)
-{
-    struct timespec t;
-    clock_gettime(CLOCK_PROCESS_CPUTIME_ID, &t);
-    return (double)t.tv_sec + (double)t.tv_nsec * 1e-9;
-}
-
 typedef uint64_t job(const uint8_t *, size_t, size_t, uint16_t, bool, bool);
 
 #define JOBS 2
@@ -198,9 +190,9 @@ static bool timed(double best[JOBS], const uint8_t *data, size_t n, size_t round
     best[0] = best[1] = 1e9;
     for (int i = 0; i < RUNS * JOBS; i++) {
         int k = i % JOBS;
-        double start = now(), taken;
+        double start = worked(), taken;
         good = jobs[k](data, n, rounds, connections, class_two, points) == expected(n, rounds, points) && good;
-        taken = now() - start;
+        taken = worked() - start;
         best[k] = taken < best[k] ? taken : best[k];
     }
     return good;

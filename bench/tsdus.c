@@ -3,8 +3,8 @@
 #include <stdio.h>
 #include <stdlib.h>
 #include <string.h>
-#include <time.h>
 #include "tsdu.h"
+#include "timer.h"
 
 /* A slice is passed as a pointer and a length. */
 uint64_t osi_bench_tsdus(const uint8_t *tsdu, size_t length, size_t rounds);
@@ -12,13 +12,6 @@ uint64_t osi_bench_tsdus(const uint8_t *tsdu, size_t length, size_t rounds);
 #define ROUNDS 10000
 #define RUNS 201
 #define DATA 1000
-
-static double now(void)
-{
-    struct timespec t;
-    clock_gettime(CLOCK_MONOTONIC, &t);
-    return (double)t.tv_sec + (double)t.tv_nsec * 1e-9;
-}
 
 /* What a unit is to be: its SI, the length of its user information, and two serial numbers plus 1, 0 for none. */
 struct wanted {

@@ -3,7 +3,7 @@
 #include <stdio.h>
 #include <stdlib.h>
 #include <string.h>
-#include <time.h>
+#include "timer.h"
 
 /* A slice is passed as a pointer and a length. */
 uint64_t osi_bench_units(const uint8_t *packets, size_t octets, const size_t *lengths, size_t count);
@@ -344,13 +344,6 @@ __attribute__((noinline)) static uint64_t read_once(const uint8_t *packets, size
         octets -= lengths[i];
     }
     return sum;
-}
-
-static double now(void)
-{
-    struct timespec t;
-    clock_gettime(CLOCK_MONOTONIC, &t);
-    return (double)t.tv_sec + (double)t.tv_nsec * 1e-9;
 }
 
 /* Packets that stand one behind the other, their lengths, and how many units they hold. */

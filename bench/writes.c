@@ -2,7 +2,7 @@
 #include <stdint.h>
 #include <stdio.h>
 #include <stdlib.h>
-#include <time.h>
+#include "timer.h"
 
 /* A slice is passed as a pointer and a length, the allocator as nothing. */
 uint64_t osi_bench_writes(const uint8_t *tsdu, size_t length, size_t rounds);
@@ -10,13 +10,6 @@ uint64_t osi_bench_writes(const uint8_t *tsdu, size_t length, size_t rounds);
 #define ROUNDS 10000
 #define RUNS 201
 #define DATA 1000
-
-static double now(void)
-{
-    struct timespec t;
-    clock_gettime(CLOCK_MONOTONIC, &t);
-    return (double)t.tv_sec + (double)t.tv_nsec * 1e-9;
-}
 
 struct work {
     const char *name;
