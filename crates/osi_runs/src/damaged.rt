@@ -1,6 +1,6 @@
 //! Packets that are damaged, and what ends and the listing make of them.
 //!
-//! Each packet of a capture is cut to each length, and each of its octets is set to 13 values. What
+//! Each packet of a capture is cut to each length, and each of its octets is set to each value. What
 //! comes of it is listed, and fed to twelve ends, whole and octet by octet: with class 0, with class 2
 //! and with both, a caller and a called end on which nothing has happened, and a caller that has asked
 //! for a connection and a called end which have been fed the packets before it.
@@ -116,7 +116,7 @@ fn set(alloc: Global, tally: &mut Tally, before: &[u8], packet: &[u8]) -> Result
     Ok(())
 }
 
-/// Sets an octet of a packet to 0, 1, 127, 128, 255, and to itself with each of its bits turned.
+/// Sets an octet of a packet to each value.
 fn set_at(
     alloc: Global,
     tally: &mut Tally,
@@ -125,25 +125,9 @@ fn set_at(
     at: usize,
 ) -> Result<(), AllocError> {
     let mut octets = Vec::from_slice(alloc, packet)?;
-    let octet = packet.get(at).copied().unwrap_or(0);
-    let values = [
-        0,
-        1,
-        127,
-        128,
-        255,
-        octet ^ 1,
-        octet ^ 2,
-        octet ^ 4,
-        octet ^ 8,
-        octet ^ 16,
-        octet ^ 32,
-        octet ^ 64,
-        octet ^ 128,
-    ];
-    for value in values {
-        if let Some(place) = octets.get_mut(at) {
-            *place = value;
+    for value in 0..=u8::MAX {
+        if let Some(octet) = octets.get_mut(at) {
+            *octet = value;
         }
         run(alloc, tally, before, octets.as_slice())?;
     }
