@@ -40,6 +40,8 @@ gateways: all lib
 
 trials: all lib
 	cd crates/osi_trial && rt lib > out.log 2>&1 || { cat out.log; exit 1; }
+	cd crates/osi_runs && rt run > out.log 2>&1 || { cat out.log; exit 1; }
+	rm -f crates/osi_trial/out.log crates/osi_runs/out.log
 	scripts/trials $(PART)
 
 fuzz: lib
