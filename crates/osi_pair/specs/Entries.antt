@@ -29,7 +29,7 @@ error_by (Err error) = Some error
 
 -- an entry in memory
 abbrev pub entry_by : InMemory → Entry
-entry_by (memory.Connect asked answer) = asks (asked_by asked) (answer_by answer)
-entry_by (memory.Call side reference request answer) = calls side reference.0 (owned_call request) (error_by answer)
+entry_by (memory.Connect asked answer) = asks (asked_by asked.value) (answer_by answer)
+entry_by (memory.Call side reference answer request) = calls side reference.0 (owned_call request) (error_by answer)
 entry_by (memory.Indication side reference indication) = shows side reference.0 (shown_by indication)
 entry_by (memory.End side reason) = ends side reason

@@ -65,7 +65,7 @@ pub(crate) fn connect(
     ensures err { OnErr result (stack.new ≡ stack.old) }
     ensures silent { OnErr result (journal.new.items ≡ journal.old.items) }
 {
-    let Ok(asked) = OwnedConnect::copy(alloc, connect) else {
+    let Ok(asked) = OwnedConnect::boxed(alloc, connect) else {
         return Err(PairError::OutOfMemory);
     };
     let Ok(()) = journal.reserve(1) else {

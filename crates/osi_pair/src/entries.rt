@@ -9,8 +9,9 @@ use osi_stack::ConnectError;
 pub enum Entry {
     /// The user of the left end asked for a connection.
     Connect {
-        /// What was asked for.
-        asked: OwnedConnect,
+        /// What was asked for. It has addresses, and so more octets than all else that an entry keeps:
+        /// in memory of its own, which leaves the other entries short.
+        asked: Box<OwnedConnect>,
         /// The reference of the connection, or why there is none.
         answer: Result<Ref, ConnectError>,
     },
@@ -20,10 +21,10 @@ pub enum Entry {
         side: Side,
         /// The connection.
         reference: Ref,
-        /// What was asked for.
-        request: OwnedRequest,
         /// That it was done, or why it was refused.
         answer: Result<(), CallError>,
+        /// What was asked for.
+        request: OwnedRequest,
     },
     /// What a user was shown.
     Indication {

@@ -105,6 +105,17 @@ impl OwnedConnect {
             user_data,
         })
     }
+
+    /// The same, in memory of its own.
+    pub(crate) fn boxed(alloc: Global, connect: &Connect) -> Result<Box<OwnedConnect>, AllocError>
+        ensures { IfOk result (λ copy. asked_by copy.value ≡ asked_of connect.now) }
+    {
+        let copy = OwnedConnect::copy(alloc, connect)?;
+        match Box::new(alloc, copy) {
+            Ok(boxed) => Ok(boxed),
+            Err(_) => Err(AllocError),
+        }
+    }
 }
 
 /// The user data of a call; none for a Give.
