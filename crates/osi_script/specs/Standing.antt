@@ -3,8 +3,6 @@ use Rattle.std.specs.Prelude.{ℕ, List, [], ◌∷◌, ◌++◌, codes}
 use Rattle.std.specs.Fmt.{decimal}
 use Rattle.hex.specs.Hex.{encode_lower}
 use Rattle.osi_spdu.specs.Fields.{bits_of}
-use Rattle.osi_session.specs.declared.phases.Phase.{Phase}
-use Rattle.osi_script.specs.declared.sides.Side.{Side}
 use Rattle.osi_script.specs.declared.standing.Standing.{Standing}
 use Rattle.osi_script.specs.Names.{side_name, phase_name}
 

@@ -12,6 +12,7 @@ mod reading;
 mod scripts;
 mod shown;
 mod sides;
+mod splitting;
 mod standing;
 mod texts;
 mod verbs;

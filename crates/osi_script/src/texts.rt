@@ -1,4 +1,4 @@
-ghost use Rattle.std.specs.Prelude.{◌≡◌, ◌++◌, ◌∷◌, [], codes, OnOk, OnErr};
+ghost use Rattle.std.specs.Prelude.{◌≡◌, ◌++◌, ◌∷◌, [], ◌≤◌, length, take, codes, IfSome, OnOk, OnErr};
 ghost use Rattle.std.specs.List.{flat_map};
 ghost use Rattle.std.specs.Fmt.{decimal};
 ghost use Rattle.hex.specs.Hex.{encode_lower};
@@ -9,6 +9,9 @@ use osi_session::Sides;
 use osi_spdu::{Side, TokenSetting, Wish};
 use std::alloc::{AllocError, Global};
 
+/// How many octets of a line are put together before they are added to a text.
+const SHORT_LINE: usize = 64;
+
 /// Adds words to a text.
 pub(crate) fn push_words(text: &mut Vec<u8>, words: &str) -> Result<(), AllocError>
     ensures { OnOk result (text.new.items ≡ text.old.items ++ words.now) }
@@ -18,7 +21,7 @@ pub(crate) fn push_words(text: &mut Vec<u8>, words: &str) -> Result<(), AllocErr
 
 /// Adds pieces of text one behind the other, or leaves the text as it is where there is no memory.
 #[tactic(auto, using(crate::proofs::Pieces::cut_back))]
-pub(crate) fn push_pieces(text: &mut Vec<u8>, pieces: &[&str]) -> Result<(), AllocError>
+fn push_each(text: &mut Vec<u8>, pieces: &[&str]) -> Result<(), AllocError>
     ensures ok { OnOk result (text.new.items ≡ text.old.items ++ flat_map (λ piece. piece.now) pieces.now) }
     ensures err { OnErr result (text.new.items ≡ text.old.items) }
 {
@@ -30,6 +33,40 @@ pub(crate) fn push_pieces(text: &mut Vec<u8>, pieces: &[&str]) -> Result<(), All
         }
     }
     Ok(())
+}
+
+/// Writes pieces of text one behind the other into a line, and answers how many octets they have together;
+/// none where the line has no room for all of them.
+#[inline(always)]
+fn put_together(line: &mut [u8], pieces: &[&str]) -> Option<usize>
+    ensures within { IfSome result (λ n. n ≤ length line.new) }
+    ensures written { IfSome result (λ n. take n line.new ≡ flat_map (λ piece. piece.now) pieces.now) }
+{
+    let mut length = 0;
+    'pieces: for piece in pieces {
+        let octets = piece.as_bytes();
+        if octets.len() > line.len() - length {
+            return None;
+        }
+        let behind = length + octets.len();
+        line[length..behind].copy_from_slice(octets);
+        length = behind;
+    }
+    Some(length)
+}
+
+/// Adds pieces of text one behind the other, or leaves the text as it is where there is no memory. Those
+/// of a short line are put together first, and added at once.
+#[inline(always)]
+pub(crate) fn push_pieces(text: &mut Vec<u8>, pieces: &[&str]) -> Result<(), AllocError>
+    ensures ok { OnOk result (text.new.items ≡ text.old.items ++ flat_map (λ piece. piece.now) pieces.now) }
+    ensures err { OnErr result (text.new.items ≡ text.old.items) }
+{
+    let mut line = [0; SHORT_LINE];
+    match put_together(&mut line, pieces) {
+        Some(length) => text.extend_from_slice(&line[..length]),
+        None => push_each(text, pieces),
+    }
 }
 
 /// Adds a number in decimal.

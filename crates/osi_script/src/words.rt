@@ -15,10 +15,11 @@ use osi_tpdu::{SizeCode, Window};
 const TOKENS: u8 = 0x55;
 
 /// Whether a word is this one.
+#[inline(always)]
 pub(crate) fn is(word: &[u8], name: &str) -> bool
     ensures { result ≡ is word.now name.now }
 {
-    word == name.as_bytes()
+    word.len() == name.len() && word == name.as_bytes()
 }
 
 /// The number that digits spell behind others, if it is not above a bound.

@@ -1,5 +1,4 @@
 use Rattle.std.proofs.Common.{◌≡◌, ◌∙◌, sym, Some}
-use Rattle.osi_script.specs.Commands.{command_of}
 use Rattle.osi_script.proofs.laws.a_line_asks_for_one_thing.Goals as goal
 
 pub returns : goal.returns

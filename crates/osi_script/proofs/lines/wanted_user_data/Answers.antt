@@ -3,4 +3,4 @@ use Rattle.osi_script.proofs.Carries.{carries_alone}
 use Rattle.osi_script.proofs.lines.wanted_user_data.Goals as goal
 
 pub returns-then-is : goal.returns-then-is
-returns-then-is c = carries_alone (λ word. word.now) c.args.words.now _ _ _ c.in-len1-up.len_at_least (sym c.if-is.true ∙ c.is.ensures)
+returns-then-is c = carries_alone _ _ _ _ _ c.first_word.ensures (sym c.if-is.true ∙ c.is.ensures)

@@ -1,6 +1,6 @@
 use Rattle.std.proofs.Common.{◌≡◌, ◌++◌, rules}
 use Rattle.osi_script.proofs.Pieces.{one_more}
-use Rattle.osi_script.proofs.texts.push_pieces.Goals as goal
+use Rattle.osi_script.proofs.texts.push_each.Goals as goal
 
 pub pieces-preserved : goal.pieces-preserved
 pieces-preserved c =

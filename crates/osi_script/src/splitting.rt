@@ -1,0 +1,53 @@
+//! Where a line is parted into words: at each blank.
+
+ghost use Rattle.std.specs.Prelude.{◌≡◌, ◌-◌, ◌∷◌, [], length, Some};
+ghost use Rattle.std.specs.List.{slice_get};
+ghost use Rattle.std.specs.Option.{option_map_or};
+ghost use Rattle.memchr.specs.Find.{IsFirstByte, is_byte};
+ghost use Rattle.osi_script.specs.Words.{words_of};
+
+use memchr::memrchr;
+
+/// The index of the first blank of a line. A word has few octets: a search in groups of 16 would take longer.
+fn first_blank(line: &[u8]) -> Option<usize>
+    ensures { IsFirstByte (is_byte 32) line.now result }
+{
+    let mut index = 0;
+    'octets: while index < line.len() {
+        if line[index] == b' ' {
+            return Some(index);
+        }
+        index += 1;
+    }
+    None
+}
+
+/// The first word of a line, and what stands behind the blank that ends it, where there is one.
+#[tactic(auto, using(crate::proofs::Blanks::no_blank, crate::proofs::Blanks::first_blank, crate::proofs::Blanks::blank_within))]
+pub(crate) fn first_word(line: &[u8]) -> (&[u8], Option<&[u8]>)
+    ensures { words_of line.now
+        ≡ result.0.now ∷ option_map_or (λ rest. words_of rest.now) result.1 [] }
+{
+    match first_blank(line) {
+        None => (line, None),
+        Some(index) => {
+            let (word, _) = line.split_at(index);
+            let (_, rest) = line.split_at(index + 1);
+            (word, Some(rest))
+        }
+    }
+}
+
+/// The last word of a line: what stands behind its last blank.
+#[tactic(auto, using(crate::proofs::Blanks::no_last_blank, crate::proofs::Blanks::last_blank, crate::proofs::Blanks::last_blank_within))]
+pub(crate) fn last_word(line: &[u8]) -> &[u8]
+    ensures { slice_get (words_of line.now) (length (words_of line.now) - 1) ≡ Some result.now }
+{
+    match memrchr(b' ', line) {
+        None => line,
+        Some(index) => {
+            let (_, word) = line.split_at(index + 1);
+            word
+        }
+    }
+}
