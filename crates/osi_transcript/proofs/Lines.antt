@@ -7,7 +7,7 @@ use Rattle.osi_script.specs.Answers.{answer_line}
 use Rattle.osi_script.specs.Commands.{Command, Ends, Connect, OfUser, Carry, Break, Told, command_of}
 use Rattle.osi_script.specs.declared.answers.Answer.TheVariants.{LineRefused}
 use Rattle.osi_transcript.specs.Asking.{IsEvent, IsNoEvent}
-use Rattle.osi_transcript.specs.Playing.{Lines, Applies, PlaysLine, Plays, Finishes, BeginsWith, Transcribes, event_text, new_texts}
+use Rattle.osi_transcript.specs.Playing.{Lines, Applies, PlaysLine, Plays, BeginsWith, Transcribes, event_text, new_texts}
 use Rattle.osi_transcript.specs.Standings.{all_standings}
 use Rattle.osi_transcript.specs.Starting.{IsStart, IsNoStart}
 use Rattle.osi_transcript.specs.Steps.{DoesEvent, FailsEvent, PlaysEvent, StopsAtLine, GoesBehind, PlaysOne, PlaysAll}

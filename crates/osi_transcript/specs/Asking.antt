@@ -1,5 +1,5 @@
 -- What a line of a script asks of two ends.
-use Rattle.std.specs.Prelude.{◌≡◌, ℕ, List, Option, None}
+use Rattle.std.specs.Prelude.{◌≡◌, ℕ, List, None}
 use Rattle.osi_spdu.specs.declared.settings.TokenSetting.{TokenSetting}
 use Rattle.osi_session.specs.Calls.{called_by}
 use Rattle.osi_pair.specs.Asked.{Asked, asked_of}

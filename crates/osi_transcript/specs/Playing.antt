@@ -10,7 +10,6 @@ use Rattle.osi_pair.specs.declared.faults.PairError.{PairError}
 use Rattle.osi_pair.specs.declared.faults.PairError.TheVariants as error
 use Rattle.osi_script.specs.Answers.{answer_line}
 use Rattle.osi_script.specs.Commands.{Command, Ends, command_of, has_class_0, has_class_2}
-use Rattle.osi_script.specs.declared.answers.Answer.{Answer}
 use Rattle.osi_script.specs.declared.answers.Answer.TheVariants.{Carried, Broken, Told, LineRefused, LineFailed}
 use Rattle.osi_script.specs.declared.answers.LineFault.{LineFault}
 use Rattle.osi_script.specs.declared.answers.LineFault.TheVariants as fault

@@ -3,7 +3,7 @@ use Rattle.std.specs.Prelude.{◌≡◌, ℕ, Bool, true, false, List, ◌∷◌
 use Rattle.osi_pair.specs.Ends.{TwoEnds}
 use Rattle.osi_pair.specs.Events.{Does}
 use Rattle.osi_pair.specs.declared.events.Event.{Event}
-use Rattle.osi_transcript.specs.Playing.{Lines, FailsAt, RefusesLine, Plays, event_text, new_texts}
+use Rattle.osi_transcript.specs.Playing.{Lines, FailsAt, Plays, event_text, new_texts}
 
 -- an event is applied, and the text says what comes of it
 pub record DoesEvent (event : Event) (old : TwoEnds) (before : List ℕ) (new : TwoEnds) (after : List ℕ) : Type 0 where

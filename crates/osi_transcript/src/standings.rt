@@ -47,29 +47,17 @@ fn push_phase(
     Ok(())
 }
 
-/// Adds the line of where a connection stands, if there is one.
-#[tactic(auto, unfolding(crate::specs::Standings::standing_text))]
-fn push_one(
-    alloc: Global,
-    out: &mut Vec<u8>,
-    side: Side,
-    stack: &Stack,
-    reference: Ref,
-) -> Result<(), AllocError>
-    ensures { OnOk result (out.new.items ≡ out.old.items ++ standing_text side reference.0 stack.now.end) }
-{
-    match stack.phase(reference) {
-        None => Ok(()),
-        Some(phase) => push_phase(alloc, out, side, stack, reference, phase),
-    }
-}
-
-/// Adds the lines of where the connections of a side stand, by rising reference.
+/// Adds the lines of where the connections of a side stand, by rising reference, up to the last that was
+/// given.
 fn push_side(alloc: Global, out: &mut Vec<u8>, side: Side, stack: &Stack) -> Result<(), AllocError>
     ensures { OnOk result (out.new.items ≡ out.old.items ++ standing_texts side stack.now.end 65535) }
 {
-    'references: for reference in 0..u16::MAX {
-        push_one(alloc, out, side, stack, Ref(reference + 1))?;
+    'references: for before in 0..u16::MAX {
+        let reference = Ref(before + 1);
+        let Some(phase) = stack.phase(reference) else {
+            return Ok(());
+        };
+        push_phase(alloc, out, side, stack, reference, phase)?;
     }
     Ok(())
 }

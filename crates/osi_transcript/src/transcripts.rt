@@ -52,8 +52,8 @@ pub fn transcribe(alloc: Global, script: &[u8]) -> Result<Transcript, AllocError
     ensures told { IfOk result (λ t. Transcribes (numbered 1 (lines_of script.now)) t.lines.items t.status) }
     ensures status { IfOk result (λ t. t.status < 2) }
 {
+    let mut lines = Vec::with_capacity(alloc, script.len() * 2)?;
     let mut script = Walk::new(script);
-    let mut lines = Vec::new(alloc);
     let Some((number, line)) = script.next_line() else {
         return Ok(Transcript { lines, status: 0 });
     };

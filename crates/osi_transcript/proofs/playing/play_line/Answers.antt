@@ -1,5 +1,5 @@
-use Rattle.std.proofs.Common.{◌≡◌, ◌∙◌, Option, Some, sym}
-use Rattle.osi_script.specs.Commands.{Command, command_by, command_of}
+use Rattle.std.proofs.Common.{◌≡◌, ◌∙◌, Some, sym}
+use Rattle.osi_script.specs.Commands.{command_by, command_of}
 use Rattle.osi_transcript.proofs.Lines.{done, failed, event_goes, event_stops}
 use Rattle.osi_transcript.proofs.playing.play_line.Goals as goal
 

@@ -1,6 +1,6 @@
-use Rattle.std.proofs.Common.{◌≡◌, ◌++◌, ◌-◌}
+use Rattle.std.proofs.Common.{◌≡◌, ◌++◌}
 use Rattle.osi_transcript.specs.Standings.{standing_texts}
 use Rattle.osi_transcript.proofs.standings.push_side.Given as goal
 
 abbrev pub invariant-references : goal.invariant-references
-invariant-references l = l.out.items ≡ l.fn.out.items ++ standing_texts l.side l.stack.end l.reference
+invariant-references l = l.out.items ≡ l.fn.out.items ++ standing_texts l.side l.stack.end l.before

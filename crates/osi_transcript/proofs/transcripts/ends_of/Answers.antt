@@ -1,6 +1,6 @@
 use Rattle.std.proofs.Common.{◌≡◌, ◌∙◌, Option, Some, option_map, sym, ap, subst}
 use Rattle.osi_tpdu.specs.Limits.{size_code, window_units}
-use Rattle.osi_script.specs.Commands.{Command, command_by, command_of}
+use Rattle.osi_script.specs.Commands.{Command, command_by}
 use Rattle.osi_script.specs.declared.commands.Command.TheVariants.{Ends}
 use Rattle.osi_transcript.specs.Starting.{IsStart}
 use Rattle.osi_transcript.proofs.transcripts.ends_of.Goals as goal

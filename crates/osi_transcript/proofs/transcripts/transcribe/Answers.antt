@@ -1,4 +1,4 @@
-use Rattle.std.proofs.Common.{◌≡◌, ◌∙◌, Option, sym, subst}
+use Rattle.std.proofs.Common.{◌∙◌, Option, sym, subst}
 use Rattle.osi_pair.specs.Ends.{TwoEnds}
 use Rattle.osi_script.specs.Commands.{command_of}
 use Rattle.osi_script.specs.Scripts.{lines_of}
@@ -11,6 +11,6 @@ use Rattle.osi_transcript.proofs.transcripts.transcribe.Goals as goal
 pub returns-clause-told : goal.returns-clause-told
 returns-clause-told c =
     transcribed (numbered 1 (lines_of c.args.script.now)) (lines_in c.next_line.new.self) c.in-Some.number c.in-Some.line.now c.in-Some-2.pair
-    c.new-lines.result.items c.play.new.out.items c.in_ok-status.status (sym c.new-script.ensures.value ∙ c.in-Some.ensures.some)
+    c.in_ok-lines.lines.items c.play.new.out.items c.in_ok-status.status (sym c.new-script.ensures.value ∙ c.in-Some.ensures.some)
     (subst (λ (o : Option TwoEnds). StartsWith (command_of c.in-Some.line.now) o) c.in-Some-2.is c.in_ok-pair.ensures)
-    c.new-lines.ensures.items c.in_ok-status.ensures.played
+    c.in_ok-lines.ensures.items c.in_ok-status.ensures.played

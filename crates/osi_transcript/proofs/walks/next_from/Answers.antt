@@ -1,6 +1,6 @@
-use Rattle.std.proofs.Common.{◌≡◌, ◌∙◌, ◌+◌, Bool, true, false, List, ℕ, [], ◌∷◌, length, option_map, sym, ap, arith}
+use Rattle.std.proofs.Common.{◌≡◌, ◌∙◌, ◌+◌, true, false, List, ℕ, [], ◌∷◌, length, option_map, sym, ap, arith}
 use Rattle.std.specs.Option.{option_map_or}
-use Rattle.osi_script.specs.Scripts.{lines_of, is_skipped}
+use Rattle.osi_script.specs.Scripts.{lines_of}
 use Rattle.osi_transcript.specs.Numbered.{numbered, lines_left}
 use Rattle.osi_transcript.proofs.Walking.{same_left, asked_next, skipped_next, none_numbered, flip_false, flip_true}
 use Rattle.osi_transcript.proofs.walks.next_from.Goals as goal

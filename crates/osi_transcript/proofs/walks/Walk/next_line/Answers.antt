@@ -1,4 +1,4 @@
-use Rattle.std.proofs.Common.{◌≡◌, ◌∙◌, option_map, ap}
+use Rattle.std.proofs.Common.{◌∙◌, option_map, ap}
 use Rattle.osi_transcript.specs.Numbered.{numbered, lines_left}
 use Rattle.osi_transcript.proofs.Walking.{none_numbered}
 use Rattle.osi_transcript.proofs.walks.Walk.next_line.Goals as goal
