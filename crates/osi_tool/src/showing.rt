@@ -9,7 +9,7 @@ use std::alloc::Global;
 use std::io::{ErrorKind, Read, Write};
 
 /// How many octets are asked for in one read.
-const PIECE: usize = 65536;
+const PIECE: usize = 16384;
 
 /// Reads to the end, or one octet more than the longest input.
 pub(crate) fn read_input<R: Read>(alloc: Global, reader: &mut R) -> Result<Vec<u8>, ToolFault>
