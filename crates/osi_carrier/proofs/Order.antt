@@ -1,7 +1,13 @@
 -- Rows that rise by reference: each reference stands at one place, and what keeps them rising.
-use Rattle.std.proofs.Common.{◌≡◌, ℕ, Bool, zero, suc, ◌<◌, ◌≤◌, ◌==◌, true, false, [], ◌∷◌, ◌++◌, length, get_or, set, Some, refl, sym, ap, subst, ◌∙◌, arith, ◌+◌, None, inl, inr}
+use Rattle.std.proofs.Common.{◌≡◌, ℕ, Bool, zero, suc, ◌<◌, ◌≤◌, ◌==◌, true, false, [], ◌∷◌, ◌++◌, length, get_or, set, Some, Result, Ok, Err, refl, sym, ap, subst, ◌∙◌, arith, None, inl, inr}
 use Rattle.std.specs.List.{remove, position_or_len}
+use Rattle.std.specs.List.Sorted.{IsSearchInRange, IsBinarySearchResult, IsNonDecreasingBy}
+use Rattle.std.specs.Ordering.{nat_cmp, ordering_index}
+use Rattle.std.specs.Result.{result_ok}
 use Rattle.std.proofs.lemmas.Bool.{eqb-true, eq-eqb, cases_lt}
+use Rattle.std.proofs.lemmas.Bool.Decides.{nat_tests}
+use Rattle.std.proofs.lemmas.Cmp.{ranked}
+use Rattle.std.proofs.lemmas.List.Sorted.{IsNonDecreasingBy-from_default}
 use Rattle.std.proofs.lemmas.List.Sums.{position_or_len_is}
 use Rattle.std.proofs.lemmas.Grind.{common_steps}
 use Rattle.std.proofs.lemmas.List.{length-set}
@@ -39,12 +45,6 @@ place_here r rows i d h within here =
 
 -- ---- a reference that is looked for by halves
 
--- the row at a place, whatever stands for one where there is none
-pub same_at : {X : Type 0} (rows : Rows X) (i : ℕ) (d e : ℕ × X) → i < length rows → get_or rows i d ≡ get_or rows i e
-same_at [] i d e within = absurd (omega arith)
-same_at (row ∷ rows) zero d e within = refl
-same_at (row ∷ rows) (suc i) d e within = same_at rows i d e (omega arith)
-
 -- a row's reference is at most that of a row behind it, or its own
 up_to_at : {X : Type 0} (n : ℕ) (rows : Rows X) (i k : ℕ) (d : ℕ × X) → RiseFrom n rows → i < length rows → k ≤ i → (get_or rows k d).0 ≤ (get_or rows i d).0
 up_to_at n [] i k d h within less = absurd (omega arith)
@@ -53,55 +53,36 @@ up_to_at n ((p, y) ∷ rows) zero (suc k) d h within less = absurd (omega arith)
 up_to_at n ((p, y) ∷ rows) (suc i) zero d h within less = let above = above_at p rows i d h.1 (omega arith) in omega arith
 up_to_at n ((p, y) ∷ rows) (suc i) (suc k) d h within less = up_to_at p rows i k d h.1 (omega arith) (omega arith)
 
--- rows up to `low` are below a reference, and rows from `high` on above it
-pub record IsBetween {X : Type 0} (r : ℕ) (rows : Rows X) (d : ℕ × X) (low high : ℕ) : Type 0 where
-  pub order : low ≤ high
-  pub within : high ≤ length rows
-  pub below : (k : ℕ) → k < low → (get_or rows k d).0 < r
-  pub above : (k : ℕ) → high ≤ k → k < length rows → r < (get_or rows k d).0
-
-pub between_all : {X : Type 0} (r : ℕ) (rows : Rows X) (d : ℕ × X) → IsBetween r rows d 0 (length rows)
-between_all r rows d = record {
-  order = omega arith;
-  within = omega arith;
-  below = λ k less. absurd (omega arith);
-  above = λ k from inside. absurd (omega arith);
-}
-
-pub between_behind : {X : Type 0} (r : ℕ) (rows : Rows X) (d : ℕ × X) (low high m : ℕ) → RiseFrom 0 rows → IsBetween r rows d low high → m < high →
-    (get_or rows m d).0 < r → IsBetween r rows d (m + 1) high
-between_behind r rows d low high m rise b inside lower =
-    let within = b.within in record {
-      order = omega arith;
-      within = within;
-      below = λ k less. (let most = up_to_at 0 rows m k d rise (omega arith) (omega arith) in omega arith);
-      above = b.above;
-    }
-
-pub between_before : {X : Type 0} (r : ℕ) (rows : Rows X) (d : ℕ × X) (low high m : ℕ) → RiseFrom 0 rows → IsBetween r rows d low high → low ≤ m → m < high →
-    r < (get_or rows m d).0 → IsBetween r rows d low m
-between_before r rows d low high m rise b from inside higher =
-    let within = b.within in record {
-      order = from;
-      within = omega arith;
-      below = b.below;
-      above = λ k behind less. (let least = up_to_at 0 rows k m d rise less behind in omega arith);
-    }
+-- so the comparisons with a reference rise along the rows, as a search by halves asks
+comparisons_rise : {X : Type 0} (r : ℕ) (rows : Rows X) (d : ℕ × X) → RiseFrom 0 rows → IsNonDecreasingBy (λ row. ordering_index (nat_cmp row.0 r)) rows
+comparisons_rise r rows d rise =
+    IsNonDecreasingBy-from_default (λ row. ordering_index (nat_cmp row.0 r)) rows d
+    (λ i j before within. let lower = up_to_at 0 rows j i d rise within before in grind (arith, nat_tests))
 
 over_by : (q r : ℕ) (b : Bool) → (q == r) ≡ b → r < q → b ≡ false
 over_by q r true e less = let same = eqb-true q r e in absurd (omega arith)
 over_by q r false e less = refl
 
-pub nowhere_between : {X : Type 0} (r : ℕ) (rows : Rows X) (d : ℕ × X) (low high : ℕ) → IsBetween r rows d low high → high ≤ low → place_of r rows ≡ None
-nowhere_between r rows d low high b met =
+-- rows before a place are below a reference, and those from it on above
+nowhere : {X : Type 0} (r : ℕ) (rows : Rows X) (i : ℕ) (d : ℕ × X) → i ≤ length rows → ((k : ℕ) → k < i → (get_or rows k d).0 < r) →
+    ((k : ℕ) → i ≤ k → k < length rows → r < (get_or rows k d).0) → place_of r rows ≡ None
+nowhere r rows i d within below above =
     let none : position_or_len (λ row. row.0 == r) rows ≡ length rows =
     position_or_len_is (λ row. row.0 == r) rows (length rows) d (omega arith)
-    (λ k less. elim (cases_lt k low) [
-      | inl lower ↦ other_by (get_or rows k d).0 r ((get_or rows k d).0 == r) refl (b.below k lower)
-      | inr behind ↦ over_by (get_or rows k d).0 r ((get_or rows k d).0 == r) refl (b.above k (omega arith) less)
+    (λ k less. elim (cases_lt k i) [
+      | inl lower ↦ other_by (get_or rows k d).0 r ((get_or rows k d).0 == r) refl (below k lower)
+      | inr behind ↦ over_by (get_or rows k d).0 r ((get_or rows k d).0 == r) refl (above k (omega arith) less)
     ])
     (λ inside. absurd (omega arith)) in
     grind (arith, common_steps)
+
+-- what a search by halves answers is the place of a reference
+pub sought : {X : Type 0} (r : ℕ) (rows : Rows X) (d : ℕ × X) (answer : Result ℕ ℕ) → RiseFrom 0 rows → IsSearchInRange answer (length rows) →
+    IsBinarySearchResult (λ row. nat_cmp row.0 r) rows answer → result_ok answer ≡ place_of r rows
+sought r rows d (Ok i) rise within equal = sym (place_here r rows i d rise within (ranked _ r _ (sym (equal d))))
+sought r rows d (Err i) rise within parted =
+    let split = parted (comparisons_rise r rows d rise) in
+    sym (nowhere r rows i d within (λ k less. ranked _ r _ (sym (split.0 k d (omega arith) less))) (λ k from inside. ranked _ r _ (sym (split.1 k d from inside))))
 
 -- ---- what keeps rows rising
 

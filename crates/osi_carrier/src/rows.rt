@@ -198,21 +198,8 @@ fn halve(rows: &[Row], reference: u16) -> Option<usize>
     requires { RiseFrom 0 rows.now }
     ensures { result ≡ place_of reference rows.now }
 {
-    let mut low = 0;
-    let mut high = rows.len();
-    'halves: while low < high {
-        let middle = low + (high - low) / 2;
-        let found = rows[middle].reference();
-        if found == reference {
-            return Some(middle);
-        }
-        if found < reference {
-            low = middle + 1;
-            continue;
-        }
-        high = middle;
-    }
-    None
+    rows.binary_search_by_key(&reference, |row| row.reference())
+        .ok()
 }
 
 /// The place of a reference among rows.
