@@ -1,5 +1,5 @@
 -- The lines of an end stand in the order in which their references were given.
-use Rattle.std.proofs.Common.{◌≡◌, ℕ, ◌+◌, ◌<◌, Bool, true, false, List, [], ◌∷◌, ◌++◌, Option, Some, None, is_some, option_map, refl, sym, subst, arith, if◌then◌else◌}
+use Rattle.std.proofs.Common.{◌≡◌, ℕ, ◌+◌, ◌<◌, Bool, zero, suc, true, false, take, List, [], ◌∷◌, ◌++◌, Option, Some, None, is_some, option_map, refl, sym, subst, arith, if◌then◌else◌}
 use Rattle.osi_tpdu.specs.Value.{Value}
 use Rattle.osi_tpdu.specs.Limits.{tsap_octets}
 use Rattle.osi_carrier.specs.Calls.{asks}
@@ -37,6 +37,12 @@ rise_used_by n p y live lines false used above more =
 pub rise_used : (n : ℕ) (live : Rows Connection) (lines : Rows Line) → RiseFrom n lines → RiseFrom n (used_lines live lines)
 rise_used n live [] rise = tt
 rise_used n live ((p, y) ∷ lines) rise = rise_used_by n p y live lines (is_used live (p, y)) refl rise.0 (rise_used p live lines rise.1)
+
+-- the first of them
+pub rise_take : (n k : ℕ) (lines : Rows Line) → RiseFrom n lines → RiseFrom n (take k lines)
+rise_take n zero lines rise = tt
+rise_take n (suc k) [] rise = tt
+rise_take n (suc k) ((p, y) ∷ lines) rise = (rise.0, rise_take p k lines rise.1)
 
 pub rise_lost : (n : ℕ) (lines : Rows Line) → RiseFrom n lines → RiseFrom n (all_lost lines)
 rise_lost n [] rise = tt

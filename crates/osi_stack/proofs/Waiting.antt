@@ -1,9 +1,13 @@
 -- How many lines have something that waits.
-use Rattle.std.proofs.Common.{◌≡◌, ℕ, ◌+◌, ◌<◌, ◌≤◌, ◌||◌, Bool, true, false, cond, [], ◌∷◌, length, get_or, set, nat_lt, Some, None, refl, sym, ap, ◌∙◌, arith}
+use Rattle.std.proofs.Common.{◌≡◌, ℕ, ◌+◌, ◌<◌, ◌≤◌, ◌||◌, Bool, zero, suc, true, false, cond, [], ◌∷◌, length, get_or, set, nat_lt, Some, None, refl, sym, ap, subst, ◌∙◌, arith}
+use Rattle.std.specs.List.{position, position_or_len}
 use Rattle.std.proofs.lemmas.Bool.{lt-ltb}
+use Rattle.std.proofs.lemmas.Grind.{common_steps}
 use Rattle.std.proofs.lemmas.List.{length-set}
-use Rattle.std.proofs.lemmas.List.Sums.{sum_by-cons, sum_by-set, count_by-le-length}
+use Rattle.std.proofs.lemmas.List.Sums.{sum_by-cons, sum_by-set, count_by-le-length, position_or_len_is}
+use Rattle.osi_carrier.proofs.Order.{set_rise}
 use Rattle.osi_carrier.proofs.Places.{placed}
+use Rattle.osi_carrier.specs.Orderly.{RiseFrom}
 use Rattle.osi_carrier.specs.Rows.{Rows, place_of}
 use Rattle.osi_session.specs.Shown.{Lost}
 use Rattle.osi_stack.specs.State.{Line, line_waits, waits, how_many_wait}
@@ -23,6 +27,52 @@ waits_counted (row ∷ rows) =
 
 pub none_counted : (n : ℕ) (rows : Rows Line) → n ≡ how_many_wait rows → n ≡ 0 → IsNone rows
 none_counted n rows e z = quiet_none rows (waits_counted rows ∙ ap (nat_lt 0) (sym e ∙ z))
+
+-- ---- the only line for which something waits
+
+-- what stands for a line where there is none
+abbrev pub nobody : ℕ × Line
+nobody = (0, record { session = None; waiting = [] })
+
+counted_by : (b : Bool) (n : ℕ) → b ≡ true → 0 < cond b 1 0 + n
+counted_by true n e = omega arith
+counted_by false n e = cc
+
+-- a line that waits is counted
+counted_at : (rows : Rows Line) (i : ℕ) (d : ℕ × Line) → i < length rows → line_waits (get_or rows i d).1 ≡ true → 0 < how_many_wait rows
+counted_at [] i d within here = absurd (omega arith)
+counted_at (row ∷ rows) zero d within here =
+    subst (λ (n : ℕ). 0 < n) (sym (sum_by-cons (λ x. cond (line_waits x.1) 1 0) row rows)) (counted_by (line_waits row.1) (how_many_wait rows) here)
+counted_at (row ∷ rows) (suc i) d within here =
+    let more = counted_at rows i d (omega arith) here in
+    let sum : how_many_wait (row ∷ rows) ≡ cond (line_waits row.1) 1 0 + how_many_wait rows = sum_by-cons (λ x. cond (line_waits x.1) 1 0) row rows in
+    omega arith
+
+-- where one is counted and another waits, a line does not
+quiet_by : (b : Bool) (n : ℕ) → cond b 1 0 + n ≡ 1 → 0 < n → b ≡ false
+quiet_by true n e h = absurd (omega arith)
+quiet_by false n e h = refl
+
+quiet_before : (rows : Rows Line) (i k : ℕ) (d : ℕ × Line) → how_many_wait rows ≡ 1 → i < length rows → line_waits (get_or rows i d).1 ≡ true → k < i →
+    line_waits (get_or rows k d).1 ≡ false
+quiet_before [] i k d one within here less = absurd (omega arith)
+quiet_before (row ∷ rows) zero k d one within here less = absurd (omega arith)
+quiet_before (row ∷ rows) (suc i) zero d one within here less =
+    quiet_by (line_waits row.1) (how_many_wait rows) (sym (sum_by-cons (λ x. cond (line_waits x.1) 1 0) row rows) ∙ one) (counted_at rows i d (omega arith) here)
+quiet_before (row ∷ rows) (suc i) (suc k) d one within here less =
+    let some = counted_at rows i d (omega arith) here in
+    let sum : how_many_wait (row ∷ rows) ≡ cond (line_waits row.1) 1 0 + how_many_wait rows = sum_by-cons (λ x. cond (line_waits x.1) 1 0) row rows in
+    quiet_before rows i k d (omega arith) (omega arith) here (omega arith)
+
+-- the only line for which something waits is the first
+pub only_first : (rows : Rows Line) (i : ℕ) (d : ℕ × Line) → how_many_wait rows ≡ 1 → i < length rows → line_waits (get_or rows i d).1 ≡ true →
+    position (λ row. line_waits row.1) rows ≡ Some i
+only_first rows i d one within here =
+    let at : position_or_len (λ row. line_waits row.1) rows ≡ i =
+    position_or_len_is (λ row. line_waits row.1) rows i d (omega arith)
+    (λ k less. quiet_before rows i k d one within here less)
+    (λ inside. here) in
+    grind (arith, common_steps)
 
 -- ---- a line for which nothing waits
 
@@ -48,3 +98,19 @@ room_of r rows items i row waiting lines e here same counts len h =
     let one : waiting ≡ how_many_wait rows = counts ∙ ap how_many_wait same in
     let two : lines ≡ length rows = len ∙ ap length same in
     omega arith
+
+-- ---- another value of one line
+
+-- what the fields of an end's lines say of them
+abbrev pub AreKept : ℕ → Bool → Rows Line → Type 0
+AreKept waiting rises rows = (waiting ≡ how_many_wait rows) × (rises ≡ true → RiseFrom 0 rows)
+
+pub set_kept : (waiting counted : ℕ) (rises before after : Bool) (rows : Rows Line) (i : ℕ) (row new : ℕ × Line) → AreKept waiting rises rows → row ≡ get_or rows i row → i < length rows →
+    new.0 ≡ row.0 → before ≡ line_waits row.1 → after ≡ line_waits new.1 → counted + cond before 1 0 ≡ waiting + cond after 1 0 → AreKept counted rises (set rows i new)
+set_kept waiting counted rises before after rows i row new kept here within named was is sum =
+    let old : cond {A = ℕ} (line_waits (get_or rows i row).1) 1 0 ≡ cond before 1 0 = ap (λ (x : ℕ × Line). cond {A = ℕ} (line_waits x.1) 1 0) (sym here) ∙ ap (λ (b : Bool). cond {A = ℕ} b 1 0) (sym was) in
+    let one : cond {A = ℕ} (line_waits new.1) 1 0 ≡ cond after 1 0 = ap (λ (b : Bool). cond {A = ℕ} b 1 0) (sym is) in
+    let more : how_many_wait (set rows i new) + cond {A = ℕ} (line_waits (get_or rows i row).1) 1 0 ≡ how_many_wait rows + cond {A = ℕ} (line_waits new.1) 1 0 =
+    sum_by-set (λ x. cond (line_waits x.1) 1 0) rows i new row within in
+    let counts = kept.0 in
+    (omega arith, λ e. set_rise 0 rows i row new here named (kept.1 e))

@@ -8,6 +8,7 @@ mod hearing;
 mod hub;
 pub mod laws;
 mod lines;
+mod places;
 mod stacks;
 mod told;
 mod transport;

@@ -1,6 +1,6 @@
 //! The sessions of one end, each with what its user is still to be shown.
 
-ghost use Rattle.std.specs.Prelude.{◌≡◌, ◌+◌, ◌<◌, ◌++◌, ◌∷◌, ◌==◌, [], true, false, cond, length, take, position, is_some, Some, None, IfOk, IfErr, OnOk, OnErr, option_map};
+ghost use Rattle.std.specs.Prelude.{◌≡◌, ◌+◌, ◌<◌, ◌++◌, ◌∷◌, ◌==◌, [], true, false, cond, length, take, position, is_some, Some, None, IfOk, IfErr, IfSome, OnOk, OnErr, option_map};
 ghost use Rattle.std.specs.VecDeque.{deque_len, deque_capacity};
 ghost use Rattle.osi_carrier.specs.Rows.{value_at, place_of};
 ghost use Rattle.osi_session.specs.Calls.{called_by};
@@ -13,6 +13,7 @@ ghost use Rattle.osi_stack.specs.State.{line_waits, waits, how_many_wait, is_use
 ghost use Rattle.osi_stack.specs.Telling.{told_input};
 
 use crate::hearing::{hear, shows_loss};
+use crate::places::{is_above, place_in};
 use crate::told::Told;
 use osi_carrier::{Carrier, Ref, SendError};
 use osi_session::{AbortCause, CallError, Indication, Request, Session};
@@ -107,14 +108,14 @@ impl Line {
     }
 
     /// The reference that this end gave.
-    fn reference(&self) -> u16
+    pub fn reference(&self) -> u16
         ensures { result ≡ self.now.0 }
     {
         self.reference
     }
 
     /// Whether the connection is of this reference.
-    fn has(&self, reference: u16) -> bool
+    pub fn has(&self, reference: u16) -> bool
         ensures { result ≡ (self.now.0 == reference) }
     {
         self.reference == reference
@@ -143,7 +144,8 @@ impl Line {
 
     /// The oldest indication that waits.
     fn next(&mut self) -> Option<Indication>
-        ensures { TellsOf (option_map shown_by result) self.old self.new }
+        ensures tells { TellsOf (option_map shown_by result) self.old self.new }
+        ensures reference { self.new.0 ≡ self.old.0 }
     {
         self.waiting.pop_front()
     }
@@ -155,6 +157,7 @@ impl Line {
         told: Told<'_>,
         carrier: &mut Carrier,
     ) -> Result<(), AllocError>
+        ensures reference { self.new.0 ≡ self.old.0 }
         ensures ok { OnOk result (self.new ≡ (self.old.0, line_by self.old.1 self.old.1.session (told_input told.entry))) }
         ensures carrier { OnOk result (carrier.new ≡ record carrier.old { state = carrier_by self.old.0 self.old.1.session (told_input told.entry) carrier.old.state }) }
         ensures lost { OnErr result (self.new ≡ (self.old.0, loses self.old.1)) }
@@ -197,6 +200,7 @@ impl Line {
 
     /// A call of the user. Each error changes nothing.
     fn call(&mut self, request: Request, carrier: &mut Carrier) -> Result<(), CallError>
+        ensures reference { self.new.0 ≡ self.old.0 }
         ensures ok { OnOk result (self.new ≡ (self.old.0, line_by self.old.1 self.old.1.session (called (called_by request.entry)))) }
         ensures carrier { OnOk result (carrier.new ≡ record carrier.old { state = carrier_by self.old.0 self.old.1.session (called (called_by request.entry)) carrier.old.state }) }
         ensures allowed { OnOk result (session_refusal self.old.0 self.old.1.session (called_by request.entry) carrier.old.state ≡ None) }
@@ -215,11 +219,17 @@ impl Line {
 #[derive(Drop)]
 pub struct Lines {
     rows: Vec<Line>,
+    /// Each reference is above those before it. They are looked up where they must be as long as that
+    /// is so.
+    rises: bool,
     waiting: usize,
+    /// The place of that which heard last: where an indication waits for one alone, it is mostly this.
+    heard: usize,
 }
 
 impl Model for Lines {
-    ghost use Rattle.std.specs.Prelude.{◌≡◌};
+    ghost use Rattle.std.specs.Prelude.{◌≡◌, true};
+    ghost use Rattle.osi_carrier.specs.Orderly.{RiseFrom};
     ghost use Rattle.osi_carrier.specs.Rows.{Rows};
     ghost use Rattle.osi_stack.specs.State.{Line, how_many_wait};
 
@@ -227,21 +237,31 @@ impl Model for Lines {
 
     ghost view = { λ l. l.rows.items };
 
-    ghost invariant = { λ l. l.waiting ≡ how_many_wait l.rows.items };
+    ghost invariant = { λ l. (l.waiting ≡ how_many_wait l.rows.items) × (l.rises ≡ true → RiseFrom 0 l.rows.items) };
 }
 
-/// The place of a reference among rows.
-fn place_in(rows: &[Line], reference: u16) -> Option<usize>
-    ensures { result ≡ place_of reference rows.now }
+/// The place of the only connection for which an indication waits, where it is that which heard last.
+#[inline]
+fn only_place(rows: &[Line], waiting: usize, heard: usize) -> Option<usize>
+    requires { waiting ≡ how_many_wait rows.now }
+    ensures { IfSome result (λ place. position (λ row. line_waits row.1) rows.now ≡ Some place) }
 {
-    rows.iter().position(|line| line.has(reference))
+    if waiting == 1 && heard < rows.len() && rows[heard].waits() {
+        return Some(heard);
+    }
+    None
 }
 
-/// The place of the first connection for which an indication waits.
-fn first_place(rows: &[Line]) -> Option<usize>
+/// The place of the first connection for which an indication waits, where one waits for so many, and
+/// this one heard last.
+fn first_place(rows: &[Line], waiting: usize, heard: usize) -> Option<usize>
+    requires { waiting ≡ how_many_wait rows.now }
     ensures { result ≡ position (λ row. line_waits row.1) rows.now }
 {
-    rows.iter().position(|line| line.waits())
+    match only_place(rows, waiting, heard) {
+        Some(place) => Some(place),
+        None => rows.iter().position(|line| line.waits()),
+    }
 }
 
 /// For how many connections an indication waits.
@@ -294,7 +314,9 @@ impl Lines {
     {
         Lines {
             rows: Vec::new(alloc),
+            rises: true,
             waiting: 0,
+            heard: 0,
         }
     }
 
@@ -309,14 +331,14 @@ impl Lines {
     pub fn has(&self, reference: u16) -> bool
         ensures { result ≡ is_some (value_at reference self.now) }
     {
-        place_in(self.rows.as_slice(), reference).is_some()
+        place_in(self.rows.as_slice(), self.rises, reference).is_some()
     }
 
     /// The session of a reference.
     pub fn session(&self, reference: u16) -> Option<&Session>
         ensures { option_map (λ s. s.now) result ≡ session_in (value_at reference self.now) }
     {
-        let Some(place) = place_in(self.rows.as_slice(), reference) else {
+        let Some(place) = place_in(self.rows.as_slice(), self.rises, reference) else {
             return None;
         };
         self.rows[place].session()
@@ -330,7 +352,7 @@ impl Lines {
         if self.waiting == 0 {
             return None;
         }
-        let Some(place) = first_place(self.rows.as_slice()) else {
+        let Some(place) = first_place(self.rows.as_slice(), self.waiting, self.heard) else {
             return None;
         };
         let lines = self.rows.len();
@@ -358,7 +380,7 @@ impl Lines {
         ensures lost { OnErr result (all_lost self.new ≡ all_lost self.old) }
         ensures err { OnErr result (carrier.new ≡ carrier.old) }
     {
-        let Some(place) = place_in(self.rows.as_slice(), reference) else {
+        let Some(place) = place_in(self.rows.as_slice(), self.rises, reference) else {
             return Ok(());
         };
         let lines = self.rows.len();
@@ -367,6 +389,7 @@ impl Lines {
         let result = line.hear(alloc, told, carrier);
         let after = line.waits();
         self.waiting = recount(self.waiting, lines, before, after);
+        self.heard = place;
         result
     }
 
@@ -383,7 +406,7 @@ impl Lines {
         ensures refused { IfErr result (λ e. Refuses e (session_error (session_in (value_at reference self.old)) (called_by request.entry)) (session_refusal reference (session_in (value_at reference self.old)) (called_by request.entry) carrier.old.state)) }
         ensures err { OnErr result ((self.new ≡ self.old) × (carrier.new ≡ carrier.old)) }
     {
-        let Some(place) = place_in(self.rows.as_slice(), reference) else {
+        let Some(place) = place_in(self.rows.as_slice(), self.rises, reference) else {
             return Err(CallError::Ended);
         };
         let lines = self.rows.len();
@@ -415,9 +438,11 @@ impl Lines {
         ensures ok { OnOk result (self.new ≡ self.old ++ line ∷ []) }
         ensures err { OnErr result (self.new ≡ self.old) }
     {
+        let rises = self.rises && is_above(self.rows.as_slice(), line.reference());
         let Ok(()) = self.rows.push(line) else {
             return Err(AllocError);
         };
+        self.rises = rises;
         self.waiting = count_waiting(self.rows.as_slice());
         Ok(())
     }

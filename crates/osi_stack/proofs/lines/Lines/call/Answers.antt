@@ -1,11 +1,12 @@
 use Rattle.std.proofs.Common.{rules, length, ◌≡◌, Some, None, get_or, sym, ap, ◌∙◌}
+use Rattle.osi_carrier.proofs.Places.{placed}
 use Rattle.osi_carrier.specs.Rows.{Rows, place_of}
 use Rattle.osi_session.specs.Calls.{called_by}
 use Rattle.osi_session.specs.Moves.{called}
 use Rattle.osi_stack.specs.Calls.{session_refusal}
 use Rattle.osi_stack.specs.State.{Line, session_in}
 use Rattle.osi_stack.proofs.Found.{nowhere, heard_rows, allowed_at, refused_at}
-use Rattle.osi_stack.proofs.Waiting.{room_of}
+use Rattle.osi_stack.proofs.Waiting.{room_of, set_kept}
 use Rattle.osi_stack.proofs.lines.Lines.call.Goals as goal
 
 pub returns-in_default-clause-refused : goal.returns-in_default-clause-refused
@@ -47,4 +48,13 @@ recount-self-inside-requires-clause-room c = λ h.
     let here = c.index_mut-line.ensures.value ∙ ap (λ (l : Rows Line). get_or l c.in-Some.place row) c.self.view_is in
     let lines : c.len-lines.result ≡ length c.self.inside.rows.items = search rules in
     room_of c.args.reference c.args.self.now c.self.inside.rows.items c.in-Some.place row c.self.inside.waiting c.len-lines.result some here c.self.view_is
-    c.self.invariant lines (sym c.waits-before.ensures ∙ h)
+    c.self.invariant.0 lines (sym c.waits-before.ensures ∙ h)
+
+pub invariant_of-self : goal.invariant_of-self
+invariant_of-self c =
+    let row = c.index_mut-line.result.now in
+    let some : place_of c.args.reference c.self.inside.rows.items ≡ Some c.in-Some.place =
+    ap (λ (l : Rows Line). place_of c.args.reference l) (sym c.as_slice.ensures.value) ∙ sym c.place_in.ensures ∙ c.in-Some.is in
+    set_kept c.self.inside.waiting c.recount-self-inside.result c.self.inside.rises c.waits-before.result c.waits-after.result c.self.inside.rows.items c.in-Some.place row c.call-result.new.self
+    c.self.invariant c.index_mut-line.ensures.value (placed c.args.reference c.self.inside.rows.items c.in-Some.place row some).within c.call-result.ensures.reference c.waits-before.ensures
+    c.waits-after.ensures c.recount-self-inside.ensures

@@ -4,4 +4,4 @@ use Rattle.osi_stack.proofs.Waiting.{waits_counted}
 use Rattle.osi_stack.proofs.lines.Lines.wait.Goals as goal
 
 pub returns : goal.returns
-returns c = ap (nat_lt 0) c.self.invariant ∙ sym (waits_counted c.self.inside.rows.items) ∙ ap waits c.self.view_is
+returns c = ap (nat_lt 0) c.self.invariant.0 ∙ sym (waits_counted c.self.inside.rows.items) ∙ ap waits c.self.view_is
