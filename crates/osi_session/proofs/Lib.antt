@@ -25,3 +25,4 @@ pub mod VerdictLaws
 pub mod ClosingLaws
 pub mod AnswerLaws
 pub mod WrittenLaws
+pub mod DataLaws

@@ -1,12 +1,13 @@
 //! What the units of a TSDU do, one after the other.
 
-ghost use Rattle.std.specs.Prelude.{◌≡◌, ◌||◌, ◌++◌, [], false, None, IfOk, OnOk, OnErr};
-ghost use Rattle.osi_message.specs.Meanings.{meant_by};
+ghost use Rattle.std.specs.Prelude.{◌≡◌, ℕ, ◌||◌, ◌++◌, List, [], true, false, None, IfOk, IfSome, OnOk, OnErr};
+ghost use Rattle.osi_message.specs.Meanings.{meant_by, DT};
 ghost use Rattle.osi_message.specs.Plain.{plain_meaning};
 ghost use Rattle.osi_message.specs.Reading.{said_by_units, said_at};
 ghost use Rattle.osi_message.specs.Sendable.{said_of};
 ghost use Rattle.osi_spdu.specs.Groups.{units_of};
-ghost use Rattle.osi_session.specs.Respond.{is_nil, is_silent, nothing, respond_unit, respond, respond_fault, respond_read, and_then, is_faulty, verdict};
+ghost use Rattle.osi_session.specs.Respond.{is_nil, is_silent, nothing, respond_unit, respond, respond_fault, respond_read, and_then, is_faulty, shows, verdict};
+ghost use Rattle.osi_session.specs.Shown.{Data, shown_by};
 ghost use Rattle.osi_session.specs.Steps.{all_shown, outcome_of, outcome_of_all, shown_list};
 
 use crate::faults::UnitFault;
@@ -14,7 +15,7 @@ use crate::indications::Indication;
 use crate::reactions::{Reaction, Reply};
 use crate::state::State;
 use crate::taking::{is_restart, take_unit};
-use osi_message::{Message, PlainUnit};
+use osi_message::{Message, Octets, PlainUnit};
 use osi_spdu::{Group, SpduFault, read_tsdu};
 use std::alloc::{AllocError, Global};
 
@@ -171,4 +172,33 @@ pub(crate) fn take_octets(
         return take_plain(alloc, state, unit);
     }
     take_read(alloc, state, tsdu)
+}
+
+/// Whether data that comes now is shown, and changes nothing: the phase expects it, and the peer has
+/// the data token.
+#[tactic(auto, using(crate::proofs::DataLaws::data_is_shown))]
+fn expects_data(state: &State) -> bool
+    ensures { (octets : List ℕ) → result ≡ true → respond_unit state.now (DT octets) ≡ shows state.now (Data octets) }
+{
+    state.phase.takes_data() && !state.held.data_token
+}
+
+/// The indication of a TSDU with data that is expected; none of any other.
+#[tactic(auto, using(crate::proofs::VerdictLaws::of_said))]
+pub(crate) fn expected_data(
+    alloc: Global,
+    state: &State,
+    tsdu: &[u8],
+) -> Result<Option<Indication>, AllocError>
+    ensures shown { IfOk result (λ shown. IfSome shown (λ i. respond_read state.now (said_at tsdu.now) ≡ shows state.now (shown_by i))) }
+    ensures err { OnErr result (is_silent (respond_read state.now (said_at tsdu.now)) ≡ false) }
+{
+    let Some(PlainUnit::Data { user_data }) = PlainUnit::read(tsdu) else {
+        return Ok(None);
+    };
+    if !expects_data(state) {
+        return Ok(None);
+    }
+    let user_data = Octets::copy(alloc, user_data)?;
+    Ok(Some(Indication::Data { user_data }))
 }

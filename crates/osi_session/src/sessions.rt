@@ -8,7 +8,7 @@ ghost use Rattle.osi_message.specs.Written.{written, user_data_of};
 
 use crate::calling::{MOST_USER_DATA, allow_data, decide};
 use crate::faults::CallError;
-use crate::grouping::{Reactions, take_all, take_octets, unread};
+use crate::grouping::{Reactions, expected_data, take_all, take_octets, unread};
 use crate::indications::Indication;
 use crate::opening::Opening;
 use crate::phases::Phase;
@@ -218,9 +218,9 @@ impl Session {
         }
     }
 
-    /// Data, which changes nothing.
+    /// A call of the user for data, which changes nothing: what [`Session::call`] does with it.
     #[tactic(auto, using(crate::proofs::CallLaws::refused, crate::proofs::CallLaws::wanting), unfolding(osi_message::specs::Written::user_data_of))]
-    fn call_data(&self, user_data: &[u8]) -> Result<Sent, CallError>
+    pub fn call_data(&self, user_data: &[u8]) -> Result<Sent, CallError>
         ensures state { OnOk result (self.now ≡ (react self.now (called (Data user_data.now))).next) }
         ensures sent { IfOk result (λ s. option_map written (react self.now (called (Data user_data.now))).reply ≡ Some s) }
         ensures sendable { OnOk result (CanBeSent (react self.now (called (Data user_data.now))).reply) }
@@ -273,8 +273,31 @@ impl Session {
 
     /// A TSDU that came, as octets: what [`Session::take`] does with its units, and
     /// [`Session::take_bad`] with octets that are none. Data, minor points and confirmations without
-    /// other parameters are read straight.
+    /// other parameters are read straight, and data where it is expected is shown straight.
     pub fn take_tsdu(&mut self, tsdu: &[u8]) -> Result<Taken, AllocError>
+        ensures state { OnOk result (self.new ≡ (react self.old (came tsdu.now)).next) }
+        ensures shown { IfOk result (λ t. shown_in t ≡ (react self.old (came tsdu.now)).shown) }
+        ensures first { IfOk result (λ t. t.first ≡ None → t.more.items ≡ []) }
+        ensures reply { IfOk result (λ t. t.reply ≡ option_map written (react self.old (came tsdu.now)).reply) }
+        ensures closes { IfOk result (λ t. t.closes ≡ (react self.old (came tsdu.now)).closes) }
+        ensures err { OnErr result (self.new ≡ self.old) }
+        ensures memory { OnErr result (is_quiet (react self.old (came tsdu.now)) ≡ false) }
+    {
+        let Some(indication) = expected_data(self.alloc, &self.state, tsdu)? else {
+            return self.take_other(tsdu);
+        };
+        Ok(Taken {
+            first: Some(indication),
+            more: Vec::new(self.alloc),
+            reply: None,
+            closes: false,
+        })
+    }
+
+    /// Any TSDU. It stands out of line: else the room for what its units do would be made on the way to
+    /// data, too.
+    #[inline(never)]
+    fn take_other(&mut self, tsdu: &[u8]) -> Result<Taken, AllocError>
         ensures state { OnOk result (self.new ≡ (react self.old (came tsdu.now)).next) }
         ensures shown { IfOk result (λ t. shown_in t ≡ (react self.old (came tsdu.now)).shown) }
         ensures first { IfOk result (λ t. t.first ≡ None → t.more.items ≡ []) }

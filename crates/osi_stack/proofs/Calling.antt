@@ -1,5 +1,5 @@
 -- What a call sends, and what it does not do.
-use Rattle.std.proofs.Common.{◌≡◌, ℕ, Bool, false, List, [], ◌++◌, Option, Some, None, option_map, Result, Ok, Err, OnOk, refl, sym, ap, subst, ◌∙◌}
+use Rattle.std.proofs.Common.{◌≡◌, ℕ, Bool, false, List, [], ◌++◌, Option, Some, None, option_map, Result, Ok, Err, OnOk, IfErr, refl, sym, ap, subst, ◌∙◌}
 use Rattle.std.proofs.lemmas.List.{append-nil}
 use Rattle.osi_carrier.specs.Packets.{Carrying}
 use Rattle.osi_carrier.specs.Calls.{send_error, open_link}
@@ -8,9 +8,10 @@ use Rattle.osi_message.specs.Meanings.{Meaning}
 use Rattle.osi_message.specs.Written.{written}
 use Rattle.osi_session.specs.Allowed.{Answer, allowed}
 use Rattle.osi_session.specs.Calls.{Call}
+use Rattle.osi_session.specs.declared.faults.CallError.{CallError}
 use Rattle.osi_session.specs.Moves.{Standing, Move, called, answered, react}
 use Rattle.osi_session.specs.Shown.{Shown}
-use Rattle.osi_stack.specs.Calls.{send_refusal, reply_refusal, move_refusal, or_else}
+use Rattle.osi_stack.specs.Calls.{send_refusal, reply_refusal, move_refusal, or_else, Refuses}
 use Rattle.osi_stack.specs.Moving.{answers, line_by, carrier_by}
 use Rattle.osi_stack.specs.State.{Line}
 use Rattle.osi_stack.specs.Transport.{hands, hands_some, answers_by}
@@ -48,6 +49,33 @@ call_sends s call octets r c e = record {
       ∙ reply_by r (react s (called call)).reply octets c e;
   handed = ap (λ (b : Bool). answers_by b r (option_map written (react s (called call)).reply) c) (call_is s call).closes ∙ ap (λ o. hands_some r o c) e;
 }
+
+-- ---- what the carrier answers to what a call sends
+
+pub call_handed : {A E : Type 0} (result : Result A E) (s : Standing) (call : Call) (octets tsdu : List ℕ) (r : ℕ) (c d : Carrying) → option_map written (react s (called call)).reply ≡ Some octets → tsdu ≡ octets →
+    OnOk result (d ≡ record c { state = hands r tsdu c.state }) → OnOk result (d ≡ record c { state = answers r (react s (called call)) c.state })
+call_handed (Err f) s call octets tsdu r c d e same h = tt
+call_handed (Ok a) s call octets tsdu r c d e same h =
+    h ∙ ap (λ (l : List ℕ). record c { state = hands r l c.state }) same ∙ ap (λ (x : Carrier). record c { state = x }) (sym (call_sends s call octets r c.state e).handed)
+
+refusal_is : (s : Standing) (call : Call) (octets tsdu : List ℕ) (r : ℕ) (c : Carrier) → option_map written (react s (called call)).reply ≡ Some octets → tsdu ≡ octets →
+    send_refusal (send_error tsdu (open_link r c)) ≡ move_refusal r (react s (called call)) c
+refusal_is s call octets tsdu r c e same = ap (λ (l : List ℕ). send_refusal (send_error l (open_link r c))) same ∙ sym (call_sends s call octets r c e).refusal
+
+pub call_allowed : {A E : Type 0} (result : Result A E) (s : Standing) (call : Call) (octets tsdu : List ℕ) (r : ℕ) (c : Carrier) → option_map written (react s (called call)).reply ≡ Some octets → tsdu ≡ octets →
+    OnOk result (send_refusal (send_error tsdu (open_link r c)) ≡ None) → OnOk result (move_refusal r (react s (called call)) c ≡ None)
+call_allowed result s call octets tsdu r c e same h = subst (λ (o : Option CallError). OnOk result (o ≡ None)) (refusal_is s call octets tsdu r c e same) h
+
+refuses_is : (e : CallError) (first all other : Option CallError) → first ≡ None → other ≡ all → Refuses e None other → Refuses e first all
+refuses_is e first all other none same h =
+    subst (λ (o : Option CallError). Refuses e o all) (sym none) (subst (λ (o : Option CallError). Refuses e None o) same h)
+
+pub call_refused : {A : Type 0} (result : Result A CallError) (s : Standing) (call : Call) (octets tsdu : List ℕ) (r : ℕ) (c : Carrier) → option_map written (react s (called call)).reply ≡ Some octets →
+    tsdu ≡ octets → IfErr result (λ e. Refuses e None (send_refusal (send_error tsdu (open_link r c)))) →
+    IfErr result (λ e. Refuses e (react s (called call)).error (move_refusal r (react s (called call)) c))
+call_refused (Ok a) s call octets tsdu r c e same h = tt
+call_refused (Err f) s call octets tsdu r c e same h =
+    refuses_is f _ _ _ ((call_is s call).accepted octets e) (refusal_is s call octets tsdu r c e same) h
 
 -- ---- the line and the carrier after a call
 

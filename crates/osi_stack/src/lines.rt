@@ -3,7 +3,7 @@
 ghost use Rattle.std.specs.Prelude.{◌≡◌, ◌+◌, ◌<◌, ◌++◌, ◌∷◌, ◌==◌, [], true, false, cond, length, take, position, is_some, Some, None, IfOk, IfErr, IfSome, OnOk, OnErr, option_map};
 ghost use Rattle.std.specs.VecDeque.{deque_len, deque_capacity};
 ghost use Rattle.osi_carrier.specs.Rows.{value_at, place_of};
-ghost use Rattle.osi_session.specs.Calls.{called_by};
+ghost use Rattle.osi_session.specs.Calls.{Data, called_by};
 ghost use Rattle.osi_session.specs.Moves.{called, react};
 ghost use Rattle.osi_session.specs.Shown.{Lost, shown_by};
 ghost use Rattle.osi_stack.specs.Calls.{move_refusal, session_refusal, session_error, Refuses, first_shown, without_first, TellsOf};
@@ -15,7 +15,8 @@ ghost use Rattle.osi_stack.specs.Telling.{told_input};
 use crate::hearing::{hear, shows_loss};
 use crate::places::{is_above, place_in};
 use crate::told::Told;
-use osi_carrier::{Carrier, Ref, SendError};
+use crate::transport::send_call;
+use osi_carrier::{Carrier, Ref};
 use osi_session::{AbortCause, CallError, Indication, Request, Session};
 use std::alloc::{AllocError, Global};
 use std::collections::VecDeque;
@@ -64,6 +65,49 @@ fn lost() -> Indication
     }
 }
 
+/// Sends data, which leaves the session as it is. Each error changes nothing.
+fn make_data_call(
+    session: &Session,
+    carrier: &mut Carrier,
+    reference: u16,
+    user_data: &[u8],
+) -> Result<(), CallError>
+    ensures session { OnOk result (session.now ≡ (react session.now (called (Data user_data.now))).next) }
+    ensures carrier { OnOk result (carrier.new ≡ record carrier.old { state = answers reference (react session.now (called (Data user_data.now))) carrier.old.state }) }
+    ensures allowed { OnOk result (move_refusal reference (react session.now (called (Data user_data.now))) carrier.old.state ≡ None) }
+    ensures refused { IfErr result (λ e. Refuses e (react session.now (called (Data user_data.now))).error (move_refusal reference (react session.now (called (Data user_data.now))) carrier.old.state)) }
+    ensures err { OnErr result (carrier.new ≡ carrier.old) }
+{
+    let sent = session.call_data(user_data)?;
+    send_call(carrier, reference, sent.as_slice())
+}
+
+/// Sends what a call of the user does, and then the session does it. Each error changes nothing. It
+/// stands out of line: else the room for its plan would be made on the way to data, too.
+#[inline(never)]
+fn make_planned_call(
+    session: &mut Session,
+    carrier: &mut Carrier,
+    reference: u16,
+    request: Request,
+) -> Result<(), CallError>
+    ensures session { OnOk result (session.new ≡ (react session.old (called (called_by request.entry))).next) }
+    ensures carrier { OnOk result (carrier.new ≡ record carrier.old { state = answers reference (react session.old (called (called_by request.entry))) carrier.old.state }) }
+    ensures allowed { OnOk result (move_refusal reference (react session.old (called (called_by request.entry))) carrier.old.state ≡ None) }
+    ensures refused { IfErr result (λ e. Refuses e (react session.old (called (called_by request.entry))).error (move_refusal reference (react session.old (called (called_by request.entry))) carrier.old.state)) }
+    ensures err { OnErr result ((session.new ≡ session.old) × (carrier.new ≡ carrier.old)) }
+{
+    let plan = session.plan(request)?;
+    match send_call(carrier, reference, plan.octets()) {
+        Ok(()) => {}
+        Err(error) => return Err(error),
+    }
+    let Some(_sent) = session.commit(plan) else {
+        unreachable!()
+    };
+    Ok(())
+}
+
 /// Sends what a call of the user does, and then the session does it. Each error changes nothing.
 fn make_call(
     session: &mut Session,
@@ -77,20 +121,10 @@ fn make_call(
     ensures refused { IfErr result (λ e. Refuses e (react session.old (called (called_by request.entry))).error (move_refusal reference (react session.old (called (called_by request.entry))) carrier.old.state)) }
     ensures err { OnErr result ((session.new ≡ session.old) × (carrier.new ≡ carrier.old)) }
 {
-    let plan = match session.plan(request) {
-        Ok(plan) => plan,
-        Err(error) => return Err(error),
-    };
-    match carrier.send(Ref(reference), plan.octets()) {
-        Ok(()) => {}
-        Err(SendError::NotOpen) => return Err(CallError::Ended),
-        Err(SendError::TooLong) => return Err(CallError::TooLong),
-        Err(SendError::OutOfMemory) => return Err(CallError::OutOfMemory),
+    match request {
+        Request::Data { user_data } => make_data_call(session, carrier, reference, user_data),
+        _ => make_planned_call(session, carrier, reference, request),
     }
-    let Some(_sent) = session.commit(plan) else {
-        unreachable!()
-    };
-    Ok(())
 }
 
 impl Line {

@@ -1,11 +1,13 @@
 //! What sessions hand to the carrier.
 
-ghost use Rattle.std.specs.Prelude.{◌≡◌, OnOk, OnErr};
-ghost use Rattle.osi_carrier.specs.Calls.{closed_with};
+ghost use Rattle.std.specs.Prelude.{◌≡◌, None, IfErr, OnOk, OnErr};
+ghost use Rattle.osi_carrier.specs.Calls.{closed_with, send_error, open_link};
+ghost use Rattle.osi_stack.specs.Calls.{send_refusal, Refuses};
 ghost use Rattle.osi_stack.specs.Transport.{hands, hands_some, answers_by};
 
 use osi_carrier::{Carrier, Ref, SendError};
 use osi_message::Sent;
+use osi_session::CallError;
 use std::alloc::AllocError;
 
 /// The reason of a DR by which a session closes its transport connection: 128, a normal disconnect
@@ -64,4 +66,19 @@ pub fn answer(
         return close(carrier, reference);
     }
     hand_some(carrier, reference, tsdu)
+}
+
+/// Sends the TSDU of a call of the user. Each error changes nothing.
+pub fn send_call(carrier: &mut Carrier, reference: u16, tsdu: &[u8]) -> Result<(), CallError>
+    ensures ok { OnOk result (carrier.new ≡ record carrier.old { state = hands reference tsdu.now carrier.old.state }) }
+    ensures allowed { OnOk result (send_refusal (send_error tsdu.now (open_link reference carrier.old.state)) ≡ None) }
+    ensures refused { IfErr result (λ e. Refuses e None (send_refusal (send_error tsdu.now (open_link reference carrier.old.state)))) }
+    ensures err { OnErr result (carrier.new ≡ carrier.old) }
+{
+    match carrier.send(Ref(reference), tsdu) {
+        Ok(()) => Ok(()),
+        Err(SendError::NotOpen) => Err(CallError::Ended),
+        Err(SendError::TooLong) => Err(CallError::TooLong),
+        Err(SendError::OutOfMemory) => Err(CallError::OutOfMemory),
+    }
 }
