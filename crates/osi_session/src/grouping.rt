@@ -19,6 +19,9 @@ use osi_message::{Message, Octets, PlainUnit};
 use osi_spdu::{Group, SpduFault, read_tsdu};
 use std::alloc::{AllocError, Global};
 
+/// The SI of a DT, which stands behind a GT that names no token.
+const DATA_TRANSFER: u8 = 0x01;
+
 /// What the units of a TSDU do: the state after them, the indications in their order, at most one
 /// unit that is sent, and whether the transport connection is closed.
 #[derive(Drop)]
@@ -193,6 +196,9 @@ pub(crate) fn expected_data(
     ensures shown { IfOk result (λ shown. IfSome shown (λ i. respond_read state.now (said_at tsdu.now) ≡ shows state.now (shown_by i))) }
     ensures err { OnErr result (is_silent (respond_read state.now (said_at tsdu.now)) ≡ false) }
 {
+    let [_, _, DATA_TRANSFER, ..] = tsdu else {
+        return Ok(None);
+    };
     let Some(PlainUnit::Data { user_data }) = PlainUnit::read(tsdu) else {
         return Ok(None);
     };
