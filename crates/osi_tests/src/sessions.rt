@@ -150,6 +150,16 @@ fn plan_goes_on(left: &mut Session) -> Result<(), Fail> {
     holds(left, 0x54)
 }
 
+fn data_goes_on(left: &Session) -> Result<(), Fail> {
+    let sent = left.call_data(b"abc")?;
+    same(sent.as_slice(), &[0x01, 0x00, 0x01, 0x00, 0x61, 0x62, 0x63])
+}
+
+#[test]
+fn data_changes_nothing(rt: HostRuntime) -> Result<(), Fail> {
+    data_goes_on(&connected(&rt)?)
+}
+
 #[test]
 fn a_plan_changes_nothing(rt: HostRuntime) -> Result<(), Fail> {
     plan_goes_on(&mut connected(&rt)?)
