@@ -6,6 +6,7 @@ use osi_class::Local;
 use osi_tpdu::Tsap;
 use osi_tpkt::{Cutter, Fed};
 use std::alloc::Global;
+use std::borrow::CowSlice;
 use std::marker::Model;
 
 mod feeding;
@@ -92,7 +93,18 @@ impl Carrier {
         ensures refused { IfErr result (λ e. call_error e ≡ send_error tsdu.now (open_link reference.0 self.old.state)) }
         ensures err { OnErr result (self.new ≡ self.old) }
     {
-        self.switch.send(reference.0, tsdu)
+        self.switch.send(reference.0, CowSlice::Borrowed(tsdu))
+    }
+
+    /// Sends a TSDU as [`Carrier::send`] does, with the room that its octets are in: those that may not
+    /// be sent now are not copied until they may.
+    pub fn send_owned(&mut self, reference: Ref, tsdu: Vec<u8>) -> Result<(), SendError>
+        ensures ok { OnOk result (self.new ≡ record self.old { state = sent reference.0 tsdu.items self.old.state }) }
+        ensures allowed { OnOk result (send_error tsdu.items (open_link reference.0 self.old.state) ≡ None) }
+        ensures refused { IfErr result (λ e. call_error e ≡ send_error tsdu.items (open_link reference.0 self.old.state)) }
+        ensures err { OnErr result (self.new ≡ self.old) }
+    {
+        self.switch.send(reference.0, CowSlice::Owned(tsdu))
     }
 
     /// Closes an open connection, with this reason: in class 2 a DR is written, and the connection is

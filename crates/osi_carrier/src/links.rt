@@ -1,6 +1,7 @@
 //! The links of open connections: units that come for them, and units that they give.
 
 ghost use Rattle.std.specs.Prelude.{◌≡◌, ◌<◌, ◌≤◌, ◌++◌, None, true, false, take, length, IsOk, IfOk, OnOk, OnErr};
+ghost use Rattle.std.specs.Cow.{cow_slice_items};
 ghost use Rattle.osi_tpdu.specs.View.{value};
 ghost use Rattle.osi_class.specs.AnyLink.{any_standing};
 ghost use Rattle.osi_class.specs.Giving.{all_given, octets_in};
@@ -15,7 +16,8 @@ use bytes::BytesMut;
 use osi_class::laws::{all_is_given, giving_ends};
 use osi_class::{AnyLink, Link, LinkFault};
 use osi_tpdu::Tpdu;
-use std::alloc::AllocError;
+use std::alloc::{AllocError, Global};
+use std::borrow::CowSlice;
 
 /// The most octets of a packet's header and the header of a DT or AK in it: 4 and 5.
 const MOST_HEADERS: usize = 9;
@@ -92,22 +94,22 @@ pub fn take_unit(
 }
 
 /// Hands in a TSDU at a link that gives nothing now, and writes all units that it gives then. Where
-/// all of it goes now, its octets are copied straight into these units; else the link keeps a copy. Want
-/// of memory changes nothing: the room for the units is made first.
+/// all of it goes now, its octets are copied straight into these units; else the link keeps it, and copies
+/// it only where it was borrowed. Want of memory changes nothing: the room for the units is made first.
 #[inline(always)]
 pub fn send_on(
     link: &mut AnyLink,
     peer: u16,
-    tsdu: &[u8],
+    tsdu: CowSlice<'_, u8, Global>,
     out: &mut BytesMut,
 ) -> Result<(), AllocError>
     requires { next (any_standing link.old) ≡ None }
-    ensures link { OnOk result (any_standing link.new ≡ pumped (with_tsdu (any_standing link.old) tsdu.now)) }
-    ensures ok { OnOk result (out.new.items ≡ out.old.items ++ packets (written_by peer (with_tsdu (any_standing link.old) tsdu.now))) }
+    ensures link { OnOk result (any_standing link.new ≡ pumped (with_tsdu (any_standing link.old) (cow_slice_items tsdu.entry))) }
+    ensures ok { OnOk result (out.new.items ≡ out.old.items ++ packets (written_by peer (with_tsdu (any_standing link.old) (cow_slice_items tsdu.entry)))) }
     ensures pumped { OnOk result (next (any_standing link.new) ≡ None) }
     ensures err { OnErr result ((any_standing link.new ≡ any_standing link.old) × (out.new.items ≡ out.old.items)) }
 {
-    if send_whole(link, peer, tsdu, out) {
+    if send_whole(link, peer, tsdu.as_slice(), out) {
         return Ok(());
     }
     send_parts(link, peer, tsdu, out)
@@ -141,27 +143,40 @@ fn send_whole(link: &mut AnyLink, peer: u16, tsdu: &[u8], out: &mut BytesMut) ->
     true
 }
 
+/// Hands in a TSDU that is kept by the link: an owned one as it is, and of a borrowed one a copy. Want of
+/// memory changes nothing.
+fn keep(link: &mut AnyLink, tsdu: CowSlice<'_, u8, Global>) -> Result<(), AllocError>
+    ensures ok { OnOk result (any_standing link.new ≡ with_tsdu (any_standing link.old) (cow_slice_items tsdu.entry)) }
+    ensures err { OnErr result (link.new ≡ link.old) }
+{
+    match tsdu {
+        CowSlice::Borrowed(octets) => link.send_tsdu(octets),
+        CowSlice::Owned(octets) => link.send_owned(octets),
+    }
+}
+
 /// Hands in a TSDU of which not all may be sent now, or which takes several units. It is kept only in
 /// the first case.
 fn send_parts(
     link: &mut AnyLink,
     peer: u16,
-    tsdu: &[u8],
+    tsdu: CowSlice<'_, u8, Global>,
     out: &mut BytesMut,
 ) -> Result<(), AllocError>
     requires { next (any_standing link.old) ≡ None }
-    ensures link { OnOk result (any_standing link.new ≡ pumped (with_tsdu (any_standing link.old) tsdu.now)) }
-    ensures ok { OnOk result (out.new.items ≡ out.old.items ++ packets (written_by peer (with_tsdu (any_standing link.old) tsdu.now))) }
+    ensures link { OnOk result (any_standing link.new ≡ pumped (with_tsdu (any_standing link.old) (cow_slice_items tsdu.entry))) }
+    ensures ok { OnOk result (out.new.items ≡ out.old.items ++ packets (written_by peer (with_tsdu (any_standing link.old) (cow_slice_items tsdu.entry)))) }
     ensures pumped { OnOk result (next (any_standing link.new) ≡ None) }
     ensures err { OnErr result ((any_standing link.new ≡ any_standing link.old) × (out.new.items ≡ out.old.items)) }
 {
-    let room = link.room_for(tsdu);
+    let octets = tsdu.as_slice();
+    let room = link.room_for(octets);
     out.reserve(room.octets + MOST_HEADERS * room.units)?;
-    if room.octets == tsdu.len() && room.units > 0 {
-        write_parts(link, peer, tsdu, out);
+    if room.octets == octets.len() && room.units > 0 {
+        write_parts(link, peer, octets, out);
         return Ok(());
     }
-    link.send_tsdu(tsdu)?;
+    keep(link, tsdu)?;
     let Ok(()) = write_all(link, peer, out) else {
         unreachable!()
     };

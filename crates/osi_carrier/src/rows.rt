@@ -1,4 +1,5 @@
 ghost use Rattle.std.specs.Prelude.{◌≡◌, ◌*◌, ◌<◌, ◌≤◌, ◌∷◌, ◌++◌, ◌==◌, [], Some, true, length, is_some, IfOk, IfSome, OnOk, OnErr};
+ghost use Rattle.std.specs.Cow.{cow_slice_items};
 ghost use Rattle.osi_carrier.specs.Calls.{begun_by, kept_in};
 ghost use Rattle.osi_carrier.specs.Live.{connection, IsPumped};
 ghost use Rattle.osi_carrier.specs.Orderly.{RiseFrom};
@@ -17,6 +18,7 @@ use bytes::BytesMut;
 use osi_class::{AnyLink, Link};
 use osi_tpdu::Tpdu;
 use std::alloc::{AllocError, Global};
+use std::borrow::CowSlice;
 use std::marker::Model;
 
 /// How many connections may be live at once.
@@ -123,11 +125,16 @@ impl Row {
 
     /// Hands in a TSDU at the link of the connection, which is open with this reference of the peer,
     /// and writes what the link gives then. Want of memory changes nothing.
-    fn send(&mut self, peer: u16, tsdu: &[u8], out: &mut BytesMut) -> Result<(), AllocError>
+    fn send(
+        &mut self,
+        peer: u16,
+        tsdu: CowSlice<'_, u8, Global>,
+        out: &mut BytesMut,
+    ) -> Result<(), AllocError>
         requires { stage_of (Some self.old.1) ≡ Stage.Open peer }
         ensures reference { self.new.0 ≡ self.old.0 }
-        ensures row { OnOk result (self.new ≡ (self.old.0, linked peer (pumped (with_tsdu (link_in (Some self.old.1)) tsdu.now)))) }
-        ensures ok { OnOk result (out.new.items ≡ out.old.items ++ packets (written_by peer (with_tsdu (link_in (Some self.old.1)) tsdu.now))) }
+        ensures row { OnOk result (self.new ≡ (self.old.0, linked peer (pumped (with_tsdu (link_in (Some self.old.1)) (cow_slice_items tsdu.entry))))) }
+        ensures ok { OnOk result (out.new.items ≡ out.old.items ++ packets (written_by peer (with_tsdu (link_in (Some self.old.1)) (cow_slice_items tsdu.entry)))) }
         ensures err { OnErr result ((self.new ≡ self.old) × (out.new.items ≡ out.old.items)) }
     {
         match &mut self.phase {
@@ -347,13 +354,13 @@ impl Connections {
         place: usize,
         reference: u16,
         peer: u16,
-        tsdu: &[u8],
+        tsdu: CowSlice<'_, u8, Global>,
         out: &mut BytesMut,
     ) -> Result<(), AllocError>
         requires place { place_of reference self.old ≡ Some place }
         requires open { stage_of (value_at reference self.old) ≡ Stage.Open peer }
-        ensures rows { OnOk result (self.new ≡ put reference (linked peer (pumped (with_tsdu (link_in (value_at reference self.old)) tsdu.now))) self.old) }
-        ensures ok { OnOk result (out.new.items ≡ out.old.items ++ packets (written_by peer (with_tsdu (link_in (value_at reference self.old)) tsdu.now))) }
+        ensures rows { OnOk result (self.new ≡ put reference (linked peer (pumped (with_tsdu (link_in (value_at reference self.old)) (cow_slice_items tsdu.entry)))) self.old) }
+        ensures ok { OnOk result (out.new.items ≡ out.old.items ++ packets (written_by peer (with_tsdu (link_in (value_at reference self.old)) (cow_slice_items tsdu.entry)))) }
         ensures err { OnErr result ((self.new ≡ self.old) × (out.new.items ≡ out.old.items)) }
     {
         self.rows[place].send(peer, tsdu, out)

@@ -71,6 +71,10 @@ impl Link for Class2 {
         self.outgoing.add(tsdu)
     }
 
+    fn send_owned(&mut self, tsdu: Vec<u8>) -> Result<(), AllocError> {
+        self.outgoing.add_owned(tsdu)
+    }
+
     #[inline(always)]
     fn give_part<'t>(&mut self, tsdu: &'t [u8]) -> Option<Out<'t>> {
         if !self.outgoing.is_empty() {

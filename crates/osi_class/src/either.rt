@@ -27,6 +27,13 @@ impl Link for AnyLink {
         }
     }
 
+    fn send_owned(&mut self, tsdu: Vec<u8>) -> Result<(), AllocError> {
+        match self {
+            AnyLink::Zero(link) => link.send_owned(tsdu),
+            AnyLink::Two(link) => link.send_owned(tsdu),
+        }
+    }
+
     #[inline(always)]
     fn give_part<'t>(&mut self, tsdu: &'t [u8]) -> Option<Out<'t>> {
         match self {

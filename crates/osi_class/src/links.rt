@@ -29,6 +29,13 @@ pub trait Link {
         ensures err { OnErr result (self.new ≡ self.old) }
         ensures limit { (standing self.new).ends.limit ≡ (standing self.old).ends.limit };
 
+    /// Hands in a TSDU as [`Link::send_tsdu`] does, with the room that its octets are in: none is copied.
+    /// Where no memory is found, nothing has changed.
+    fn send_owned(&mut self, tsdu: Vec<u8>) -> Result<(), AllocError>
+        ensures ok { OnOk result (standing self.new ≡ with_tsdu (standing self.old) tsdu.items) }
+        ensures err { OnErr result (self.new ≡ self.old) }
+        ensures limit { (standing self.new).ends.limit ≡ (standing self.old).ends.limit };
+
     /// The first part of a TSDU that goes at once, since nothing else is to be given: as many octets as
     /// a unit carries, or all of them. The unit lends them from the TSDU, and none is copied. What is
     /// left of the TSDU is not kept: it is to be given by further calls of this one, each for what the

@@ -75,6 +75,22 @@ impl Outgoing {
         Ok(())
     }
 
+    /// Puts a TSDU itself behind those that are to be sent: its octets stay where they are.
+    pub fn add_owned(&mut self, tsdu: Vec<u8>) -> Result<(), AllocError>
+        ensures ok { OnOk result (self.new.unsent ≡ self.old.unsent ++ tsdu.items ∷ []) }
+        ensures err { OnErr result (self.new ≡ self.old) }
+    {
+        if self.has_more || !self.queue.is_empty() {
+            self.queue.push_back(tsdu)?;
+            return Ok(());
+        }
+        self.current = tsdu;
+        self.from = 0;
+        self.to = 0;
+        self.has_more = true;
+        Ok(())
+    }
+
     /// Begins with a copy of a TSDU, where nothing is to be sent. It goes into the room of the TSDU
     /// before it, if that is large enough.
     fn begin(&mut self, tsdu: &[u8]) -> Result<(), AllocError>

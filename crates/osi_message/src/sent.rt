@@ -79,6 +79,13 @@ impl Sent {
         }
     }
 
+    /// The octets, with the room that they are in.
+    pub fn into_vec(self) -> Vec<u8>
+        ensures { result.items ≡ self }
+    {
+        self.octets
+    }
+
     /// The octets.
     pub fn as_slice(&self) -> &[u8]
         ensures { result.now ≡ self.now }

@@ -15,7 +15,7 @@ ghost use Rattle.osi_stack.specs.Telling.{told_input};
 use crate::hearing::{hear, shows_loss};
 use crate::places::{is_above, place_in};
 use crate::told::Told;
-use crate::transport::send_call;
+use crate::transport::{send_call, send_owned_call};
 use osi_carrier::{Carrier, Ref};
 use osi_session::{AbortCause, CallError, Indication, Request, Session};
 use std::alloc::{AllocError, Global};
@@ -79,7 +79,7 @@ fn make_data_call(
     ensures err { OnErr result (carrier.new ≡ carrier.old) }
 {
     let sent = session.call_data(user_data)?;
-    send_call(carrier, reference, sent.as_slice())
+    send_owned_call(carrier, reference, sent)
 }
 
 /// Sends what a call of the user does, and then the session does it. Each error changes nothing. It

@@ -1,7 +1,7 @@
 //! What sessions hand to the carrier.
 
 ghost use Rattle.std.specs.Prelude.{◌≡◌, None, IfErr, OnOk, OnErr};
-ghost use Rattle.osi_carrier.specs.Calls.{closed_with, send_error, open_link};
+ghost use Rattle.osi_carrier.specs.Calls.{closed_with, send_error, open_link, call_error as sending_error};
 ghost use Rattle.osi_stack.specs.Calls.{send_refusal, Refuses};
 ghost use Rattle.osi_stack.specs.Transport.{hands, hands_some, answers_by};
 
@@ -68,6 +68,17 @@ pub fn answer(
     hand_some(carrier, reference, tsdu)
 }
 
+/// What a call of the user is answered where the carrier does not take its TSDU.
+fn call_error(error: SendError) -> CallError
+    ensures { Refuses result None (send_refusal (sending_error error)) }
+{
+    match error {
+        SendError::NotOpen => CallError::Ended,
+        SendError::TooLong => CallError::TooLong,
+        SendError::OutOfMemory => CallError::OutOfMemory,
+    }
+}
+
 /// Sends the TSDU of a call of the user. Each error changes nothing.
 pub fn send_call(carrier: &mut Carrier, reference: u16, tsdu: &[u8]) -> Result<(), CallError>
     ensures ok { OnOk result (carrier.new ≡ record carrier.old { state = hands reference tsdu.now carrier.old.state }) }
@@ -77,8 +88,19 @@ pub fn send_call(carrier: &mut Carrier, reference: u16, tsdu: &[u8]) -> Result<(
 {
     match carrier.send(Ref(reference), tsdu) {
         Ok(()) => Ok(()),
-        Err(SendError::NotOpen) => Err(CallError::Ended),
-        Err(SendError::TooLong) => Err(CallError::TooLong),
-        Err(SendError::OutOfMemory) => Err(CallError::OutOfMemory),
+        Err(error) => Err(call_error(error)),
+    }
+}
+
+/// The same of a TSDU that is given away: what of it may not go yet is not copied.
+pub fn send_owned_call(carrier: &mut Carrier, reference: u16, tsdu: Sent) -> Result<(), CallError>
+    ensures ok { OnOk result (carrier.new ≡ record carrier.old { state = hands reference tsdu carrier.old.state }) }
+    ensures allowed { OnOk result (send_refusal (send_error tsdu (open_link reference carrier.old.state)) ≡ None) }
+    ensures refused { IfErr result (λ e. Refuses e None (send_refusal (send_error tsdu (open_link reference carrier.old.state)))) }
+    ensures err { OnErr result (carrier.new ≡ carrier.old) }
+{
+    match carrier.send_owned(Ref(reference), tsdu.into_vec()) {
+        Ok(()) => Ok(()),
+        Err(error) => Err(call_error(error)),
     }
 }

@@ -1,6 +1,7 @@
 //! Closing connections, the end, and what waits to be taken.
 
 ghost use Rattle.std.specs.Prelude.{◌≡◌, ◌≤◌, ◌*◌, drop, length, IfErr, None, Some, OnOk, OnErr, option_map, is_some};
+ghost use Rattle.std.specs.Cow.{cow_slice_items};
 ghost use Rattle.osi_carrier.specs.Calls.{open_link, close_error, send_error, length_error, call_error, closed_with, closes, sent, ended_by, kept_in, Tells};
 ghost use Rattle.osi_carrier.specs.Happenings.{happening};
 ghost use Rattle.osi_carrier.specs.Packets.{stops, waits, is_spoilt};
@@ -17,6 +18,8 @@ use crate::rows::Phase;
 use crate::stages::Stage;
 use crate::writing::put_disconnect;
 use osi_class::{Class, LONGEST_TSDU};
+use std::alloc::Global;
+use std::borrow::CowSlice;
 
 impl Switch {
     /// Whether an event waits.
@@ -165,10 +168,10 @@ impl Switch {
     }
 
     /// Sends a TSDU on an open connection: all units that may be sent now are written.
-    pub fn send(&mut self, reference: u16, tsdu: &[u8]) -> Result<(), SendError>
-        ensures ok { OnOk result (self.new ≡ sent reference tsdu.now self.old) }
-        ensures allowed { OnOk result (send_error tsdu.now (open_link reference self.old) ≡ None) }
-        ensures refused { IfErr result (λ e. call_error e ≡ send_error tsdu.now (open_link reference self.old)) }
+    pub fn send(&mut self, reference: u16, tsdu: CowSlice<'_, u8, Global>) -> Result<(), SendError>
+        ensures ok { OnOk result (self.new ≡ sent reference (cow_slice_items tsdu.entry) self.old) }
+        ensures allowed { OnOk result (send_error (cow_slice_items tsdu.entry) (open_link reference self.old) ≡ None) }
+        ensures refused { IfErr result (λ e. call_error e ≡ send_error (cow_slice_items tsdu.entry) (open_link reference self.old)) }
         ensures err { OnErr result (self.new ≡ self.old) }
     {
         if self.ended.is_some() {
@@ -188,13 +191,13 @@ impl Switch {
         place: usize,
         reference: u16,
         peer: u16,
-        tsdu: &[u8],
+        tsdu: CowSlice<'_, u8, Global>,
     ) -> Result<(), SendError>
         requires place { place_of reference self.old.live ≡ Some place }
         requires open { stage_of (value_at reference self.old.live) ≡ Stage.Open peer }
-        ensures ok { OnOk result (self.new ≡ pumps reference peer (with_tsdu (link_in (value_at reference self.old.live)) tsdu.now) self.old) }
-        ensures allowed { OnOk result (length_error tsdu.now ≡ None) }
-        ensures refused { IfErr result (λ e. call_error e ≡ length_error tsdu.now) }
+        ensures ok { OnOk result (self.new ≡ pumps reference peer (with_tsdu (link_in (value_at reference self.old.live)) (cow_slice_items tsdu.entry)) self.old) }
+        ensures allowed { OnOk result (length_error (cow_slice_items tsdu.entry) ≡ None) }
+        ensures refused { IfErr result (λ e. call_error e ≡ length_error (cow_slice_items tsdu.entry)) }
         ensures err { OnErr result (self.new ≡ self.old) }
     {
         if tsdu.len() > LONGEST_TSDU {

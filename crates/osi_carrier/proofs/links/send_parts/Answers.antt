@@ -1,4 +1,4 @@
-use Rattle.std.proofs.Common.{◌≤◌, length, sym, subst, arith}
+use Rattle.std.proofs.Common.{◌≤◌, ◌∙◌, length, ap, sym, subst, arith}
 use Rattle.osi_class.specs.AnyLink.{any_standing}
 use Rattle.osi_class.specs.Giving.{all_given}
 use Rattle.osi_class.specs.Link.{Standing, with_tsdu}
@@ -9,7 +9,7 @@ use Rattle.osi_carrier.proofs.links.send_parts.Goals as goal
 
 pub write_parts-requires-clause-room : goal.write_parts-requires-clause-room
 write_parts-requires-clause-room c =
-    let then = with_tsdu (any_standing c.args.link.now) c.args.tsdu.now in
+    let then = with_tsdu (any_standing c.args.link.now) c.as_slice-octets.result.now in
     let units = c.room_for-room.ensures.units c.requires in
     let octets = c.room_for-room.ensures.octets c.requires in
     let room = c.in_ok-reserve.ensures.spare.1 in
@@ -18,12 +18,12 @@ write_parts-requires-clause-room c =
 
 pub unreachable-requires : goal.unreachable-requires
 unreachable-requires c =
-    let then = with_tsdu (any_standing c.args.link.now) c.args.tsdu.now in
+    let then = with_tsdu (any_standing c.args.link.now) c.as_slice-octets.result.now in
     let units = c.room_for-room.ensures.units c.requires in
     let octets = c.room_for-room.ensures.octets c.requires in
     let room = c.in_ok-reserve.ensures.spare.1 in
     let most = packets_most c.args.peer (all_given then) in
     let fits : length (packets (written_by c.args.peer then)) ≤ c.reserve.new.self.spare = omega arith in
     let never = c.in_default.ensures.enough
-    (subst (λ (s : Standing). length (packets (written_by c.args.peer s)) ≤ c.reserve.new.self.spare) (sym c.in_ok-send_tsdu.ensures.ok) fits) in
+    (subst (λ (s : Standing). length (packets (written_by c.args.peer s)) ≤ c.reserve.new.self.spare) (sym (c.in_ok-keep.ensures.ok ∙ ap (with_tsdu (any_standing c.args.link.now)) (sym c.as_slice-octets.ensures.value))) fits) in
     cc

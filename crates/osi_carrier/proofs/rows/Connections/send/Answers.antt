@@ -1,4 +1,5 @@
 use Rattle.std.proofs.Common.{◌≡◌, ◌++◌, Option, OnOk, get_or, ap, sym, subst, ◌∙◌}
+use Rattle.std.specs.Cow.{cow_slice_items}
 use Rattle.osi_class.specs.Link.{with_tsdu}
 use Rattle.osi_carrier.specs.Pump.{pumped, written_by}
 use Rattle.osi_carrier.specs.Rows.{value_at}
@@ -20,15 +21,15 @@ returns-clause-rows c =
     let here = c.index_mut.ensures.value ∙ ap (λ l. get_or l c.args.place row) c.self.view_is in
     let was = here_is c.args.reference c.args.self.now c.args.place row c.requires.place here in
     stepped_rows c.send.result c.args.reference c.args.self.now c.self.inside.rows.items c.args.place row c.send.new.self
-    (linked c.args.peer (pumped (with_tsdu (link_in (value_at c.args.reference c.args.self.now)) c.args.tsdu.now)))
+    (linked c.args.peer (pumped (with_tsdu (link_in (value_at c.args.reference c.args.self.now)) (cow_slice_items c.args.tsdu))))
     c.requires.place here c.self.view_is
-    (subst (λ (o : Option Connection). OnOk c.send.result (c.send.new.self ≡ (row.0, linked c.args.peer (pumped (with_tsdu (link_in o) c.args.tsdu.now))))) (sym was) c.send.ensures.row)
+    (subst (λ (o : Option Connection). OnOk c.send.result (c.send.new.self ≡ (row.0, linked c.args.peer (pumped (with_tsdu (link_in o) (cow_slice_items c.args.tsdu)))))) (sym was) c.send.ensures.row)
 
 pub returns-clause-ok : goal.returns-clause-ok
 returns-clause-ok c =
     let row = c.index_mut.result.now in
     let here = c.index_mut.ensures.value ∙ ap (λ l. get_or l c.args.place row) c.self.view_is in
-    subst (λ (o : Option Connection). OnOk c.send.result (c.send.new.out.items ≡ c.args.out.now.items ++ packets (written_by c.args.peer (with_tsdu (link_in o) c.args.tsdu.now))))
+    subst (λ (o : Option Connection). OnOk c.send.result (c.send.new.out.items ≡ c.args.out.now.items ++ packets (written_by c.args.peer (with_tsdu (link_in o) (cow_slice_items c.args.tsdu)))))
     (sym (here_is c.args.reference c.args.self.now c.args.place row c.requires.place here)) c.send.ensures.ok
 
 pub invariant_of-self : goal.invariant_of-self
