@@ -6,6 +6,7 @@ ghost use Rattle.std.specs.Prelude.{◌<◌};
 use osi_carrier::*;
 use osi_class::{LinkFault, Local};
 use osi_tpdu::{SizeCode, Window};
+use std::alloc::Global;
 use std::test::Fail;
 
 /// What an end supports, with size 0A and window 4.
@@ -171,6 +172,13 @@ fn sends(carrier: &mut Carrier) -> Result<(), Fail> {
     writes(carrier, &[3, 0, 0, 0x0A, 4, 0xF0, 0, 1, 0x80, 0x41])
 }
 
+/// A TSDU is given away, and sent in a DT with number 1.
+fn gives_away(carrier: &mut Carrier, alloc: Global) -> Result<(), Fail> {
+    let tsdu = vec![in alloc; 0x43; 1]?;
+    carrier.send_owned(Ref(1), tsdu)?;
+    writes(carrier, &[3, 0, 0, 0x0A, 4, 0xF0, 0, 1, 0x81, 0x43])
+}
+
 /// A TSDU comes, which is acknowledged.
 fn hands_out(carrier: &mut Carrier) -> Result<(), Fail> {
     takes(carrier, &[3, 0, 0, 0x0A, 4, 0xF0, 0, 1, 0x80, 0x42])?;
@@ -192,6 +200,7 @@ fn closes(carrier: &mut Carrier) -> Result<(), Fail> {
 fn a_connection_of_class_2_carries_and_is_closed(rt: HostRuntime) -> Result<(), Fail> {
     let mut caller = opened(&rt)?;
     sends(&mut caller)?;
+    gives_away(&mut caller, rt.alloc())?;
     hands_out(&mut caller)?;
     closes(&mut caller)
 }

@@ -16,10 +16,14 @@ fn pass_all(from: &mut AnyLink, to: &mut AnyLink) -> Result<(), LinkFault> {
     Ok(())
 }
 
-/// The length of the longest TSDU, sent over these links, as it is handed out.
-fn longest_over(from: &mut AnyLink, to: &mut AnyLink, alloc: Global) -> Result<usize, Fail> {
+/// The longest TSDU.
+fn longest(alloc: Global) -> Result<Vec<u8>, Fail> {
     let tsdu = vec![in alloc; 0x5a; LONGEST_TSDU]?;
-    from.send_tsdu(tsdu.as_slice())?;
+    Ok(tsdu)
+}
+
+/// The length of the TSDU that was handed in at the first link, as the other hands it out.
+fn length_over(from: &mut AnyLink, to: &mut AnyLink) -> Result<usize, Fail> {
     for _ in 0..9u8 {
         pass_all(from, to)?;
         pass_all(to, from)?;
@@ -32,7 +36,8 @@ fn longest_over(from: &mut AnyLink, to: &mut AnyLink, alloc: Global) -> Result<u
 fn the_longest_tsdu_goes_over_class_0(rt: HostRuntime) -> Result<(), Fail> {
     let mut from = AnyLink::Zero(Class0::new(rt.alloc(), SizeCode::new(13)));
     let mut to = AnyLink::Zero(Class0::new(rt.alloc(), SizeCode::new(13)));
-    assert_eq!(rt; longest_over(&mut from, &mut to, rt.alloc())?, 1_048_576);
+    from.send_tsdu(longest(rt.alloc())?.as_slice())?;
+    assert_eq!(rt; length_over(&mut from, &mut to)?, 1_048_576);
     Ok(())
 }
 
@@ -42,7 +47,8 @@ fn the_longest_tsdu_goes_over_class_2(rt: HostRuntime) -> Result<(), Fail> {
     let size = SizeCode::new(13);
     let mut from = AnyLink::Two(Class2::new(rt.alloc(), size, window, Credit::of(15)));
     let mut to = AnyLink::Two(Class2::new(rt.alloc(), size, window, Credit::of(15)));
-    assert_eq!(rt; longest_over(&mut from, &mut to, rt.alloc())?, 1_048_576);
+    from.send_owned(longest(rt.alloc())?)?;
+    assert_eq!(rt; length_over(&mut from, &mut to)?, 1_048_576);
     Ok(())
 }
 
