@@ -1,24 +1,16 @@
 -- Pieces of text one behind the other.
-use Rattle.std.proofs.Common.{◌≡◌, ◌∙◌, ℕ, ◌+◌, ◌<◌, List, [], ◌∷◌, ◌++◌, get_or, length, take, sym, ap}
-use Rattle.std.specs.List.{flat_map}
-use Rattle.std.proofs.lemmas.Grind.{flat_map-append}
-use Rattle.std.proofs.lemmas.List.{append_assoc, append-nil, take_more, take_at}
+use Rattle.std.proofs.Common.{◌≡◌, ◌∙◌, ℕ, List, ◌++◌, sym, ap}
+use Rattle.std.proofs.lemmas.List.{append_assoc}
 
--- one more piece
-pub one_more : {A : Type 0} (f : A → List ℕ) (before mid after piece : List ℕ) (pieces : List A) (i : ℕ) (d : A) → i < length pieces →
-    mid ≡ before ++ flat_map f (take i pieces) → piece ≡ f (get_or pieces i d) → after ≡ mid ++ piece →
-    after ≡ before ++ flat_map f (take (i + 1) pieces)
-one_more {A} f before mid after piece pieces i d within h is says =
-    let last : A = get_or pieces i d in
-    says ∙ ap (λ (t : List ℕ). t ++ piece) h ∙ ap (λ (t : List ℕ). before ++ flat_map f (take i pieces) ++ t) is
-    ∙ append_assoc before (flat_map f (take i pieces)) (f last)
-    ∙ ap (λ (t : List ℕ). before ++ (flat_map f (take i pieces) ++ t)) (sym (append-nil (f last)))
-    ∙ ap (λ (t : List ℕ). before ++ t) (sym (flat_map-append f (take i pieces) (last ∷ [])))
-    ∙ ap (λ (l : List A). before ++ flat_map f l) (sym (take_more pieces i d within))
-
--- what was added is cut off again
-pub cut_back : (before after more : List ℕ) (n : ℕ) → n ≡ length before → after ≡ before ++ more → take n after ≡ before
-cut_back before after more n many h = ap (take n) h ∙ take_at before more n (sym many)
-
-pub cut_back_both : (before after a b : List ℕ) (n : ℕ) → n ≡ length before → after ≡ before ++ a ++ b → take n after ≡ before
-cut_back_both before after a b n many h = cut_back before after (a ++ b) n many (h ∙ append_assoc before a b)
+-- the line of an indication: its head, its fields and its end
+pub line_joined : (out t1 t2 t3 head name fields octets end : List ℕ) → t1 ≡ out ++ (head ++ name) → t2 ≡ t1 ++ fields → t3 ≡ t2 ++ (octets ++ end) →
+    t3 ≡ out ++ (head ++ (name ++ fields ++ octets) ++ end)
+line_joined out t1 t2 t3 head name fields octets end h1 h2 h3 =
+    h3 ∙ ap (λ (t : List ℕ). t ++ (octets ++ end)) (h2 ∙ ap (λ (t : List ℕ). t ++ fields) h1)
+    ∙ ap (λ (t : List ℕ). t ++ (octets ++ end)) (append_assoc out (head ++ name) fields)
+    ∙ append_assoc out (head ++ name ++ fields) (octets ++ end)
+    ∙ ap (λ (t : List ℕ). out ++ t) (
+    sym (append_assoc (head ++ name ++ fields) octets end)
+    ∙ ap (λ (t : List ℕ). t ++ octets ++ end) (append_assoc head name fields)
+    ∙ ap (λ (t : List ℕ). t ++ end) (append_assoc head (name ++ fields) octets)
+    )

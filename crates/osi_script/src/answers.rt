@@ -1,9 +1,10 @@
-ghost use Rattle.std.specs.Prelude.{◌≡◌, ◌++◌, OnOk, OnErr};
-ghost use Rattle.osi_script.specs.Answers.{refusal_name, line_fault_name, answer_line};
+ghost use Rattle.std.specs.Prelude.{◌≡◌, ◌+◌, ◌≤◌, ◌++◌, codes, length, vec_len, vec_capacity, OnOk, OnErr};
+ghost use Rattle.std.specs.Fmt.{decimal};
+ghost use Rattle.osi_script.specs.Answers.{refusal_name, line_fault_name, call_text, answer_line};
 
 use crate::names::{call_error, open_error};
 use crate::sides::Side;
-use crate::texts::push_pieces;
+use crate::texts::{LINE, put, put_decimal, put_side};
 use crate::verbs::Verb;
 use osi_carrier::OpenError;
 use osi_session::CallError;
@@ -79,7 +80,8 @@ pub enum Answer {
 }
 
 fn refusal(refusal: ConnectRefusal) -> &'static str
-    ensures { result.now ≡ refusal_name refusal }
+    ensures value { result.now ≡ refusal_name refusal }
+    ensures short { length result.now ≤ 16 }
 {
     match refusal {
         ConnectRefusal::Open(error) => open_error(error),
@@ -89,7 +91,8 @@ fn refusal(refusal: ConnectRefusal) -> &'static str
 }
 
 fn line_fault(fault: LineFault) -> &'static str
-    ensures { result.now ≡ line_fault_name fault }
+    ensures value { result.now ≡ line_fault_name fault }
+    ensures short { length result.now ≤ 16 }
 {
     match fault {
         LineFault::NotBroken => "NotBroken",
@@ -97,73 +100,133 @@ fn line_fault(fault: LineFault) -> &'static str
     }
 }
 
-/// Adds the line of an answer to a transcript, which is left as it is where there is no memory.
-#[tactic(auto, unfolding(crate::specs::Answers::answer_line, crate::specs::Answers::answer_text, crate::specs::Answers::call_text))]
-pub fn push_answer(_alloc: Global, out: &mut Vec<u8>, answer: &Answer) -> Result<(), AllocError>
-    ensures ok { OnOk result (out.new.items ≡ out.old.items ++ answer_line answer.now) }
-    ensures err { OnErr result (out.new.items ≡ out.old.items) }
+/// Adds a call by its side, its connection and its verb, for which there is room.
+#[tactic(auto, unfolding(crate::specs::Answers::call_text))]
+fn put_call(text: &mut Vec<u8>, side: Side, reference: u16, verb: Verb)
+    requires { vec_len text.old + 41 ≤ vec_capacity text.old }
+    ensures items { text.new.items ≡ text.old.items ++ call_text side reference verb }
+    ensures len { vec_len text.new ≤ vec_len text.old + 41 }
+    ensures capacity { vec_capacity text.old ≤ vec_capacity text.new }
 {
-    let mut digits = itoa::Buffer::new();
+    put_side(text, side);
+    put_decimal(text, u64::from(reference));
+    put(text, " ");
+    put(text, verb.name());
+}
+
+/// Adds the line of what is answered to a connect, for which there is room.
+#[tactic(auto, unfolding(crate::specs::Answers::answer_line, crate::specs::Answers::answer_text))]
+fn put_connecting(text: &mut Vec<u8>, reference: u16)
+    requires { vec_len text.old + 64 ≤ vec_capacity text.old }
+    ensures { text.new.items ≡ text.old.items ++ answer_line (Answer.Connecting reference) }
+{
+    put(text, "left connect ok ");
+    put_decimal(text, u64::from(reference));
+    put(text, "\n");
+}
+
+/// Adds the line of a connect that is refused, for which there is room.
+#[tactic(auto, unfolding(crate::specs::Answers::answer_line, crate::specs::Answers::answer_text))]
+fn put_connect_refused(text: &mut Vec<u8>, why: ConnectRefusal)
+    requires { vec_len text.old + 64 ≤ vec_capacity text.old }
+    ensures { text.new.items ≡ text.old.items ++ answer_line (Answer.ConnectRefused why) }
+{
+    put(text, "left connect refused ");
+    put(text, refusal(why));
+    put(text, "\n");
+}
+
+/// Adds the line of a call that was done, for which there is room.
+#[tactic(auto, unfolding(crate::specs::Answers::answer_line, crate::specs::Answers::answer_text))]
+fn put_called(text: &mut Vec<u8>, side: Side, reference: u16, verb: Verb)
+    requires { vec_len text.old + 64 ≤ vec_capacity text.old }
+    ensures { text.new.items ≡ text.old.items ++ answer_line (Answer.Called side reference verb) }
+{
+    put_call(text, side, reference, verb);
+    put(text, " ok\n");
+}
+
+/// Adds the line of a call that was refused, for which there is room.
+#[tactic(auto, unfolding(crate::specs::Answers::answer_line, crate::specs::Answers::answer_text))]
+fn put_call_refused(text: &mut Vec<u8>, side: Side, reference: u16, verb: Verb, error: CallError)
+    requires { vec_len text.old + 80 ≤ vec_capacity text.old }
+    ensures { text.new.items ≡ text.old.items ++ answer_line (Answer.CallRefused side reference verb error) }
+{
+    put_call(text, side, reference, verb);
+    put(text, " refused ");
+    put(text, call_error(error));
+    put(text, "\n");
+}
+
+/// Adds the line of what was carried, for which there is room.
+#[tactic(auto, unfolding(crate::specs::Answers::answer_line, crate::specs::Answers::answer_text))]
+fn put_carried(text: &mut Vec<u8>, side: Side, octets: u64)
+    requires { vec_len text.old + 64 ≤ vec_capacity text.old }
+    ensures { text.new.items ≡ text.old.items ++ answer_line (Answer.Carried side octets) }
+{
+    put_side(text, side);
+    put(text, "carried ");
+    put_decimal(text, octets);
+    put(text, "\n");
+}
+
+/// Adds the line of a side that was told of the break, for which there is room.
+#[tactic(auto, unfolding(crate::specs::Answers::answer_line, crate::specs::Answers::answer_text))]
+fn put_told(text: &mut Vec<u8>, side: Side)
+    requires { vec_len text.old + 64 ≤ vec_capacity text.old }
+    ensures { text.new.items ≡ text.old.items ++ answer_line (Answer.Told side) }
+{
+    put_side(text, side);
+    put(text, "told\n");
+}
+
+/// Adds the number of a line and what is wrong with it, for which there is room.
+fn put_line(text: &mut Vec<u8>, line: u64, what: &str)
+    requires short { length what.now ≤ 16 }
+    requires room { vec_len text.old + 64 ≤ vec_capacity text.old }
+    ensures { text.new.items ≡ text.old.items ++ (codes "line " ++ decimal line ++ codes " " ++ what.now ++ codes "\n") }
+{
+    put(text, "line ");
+    put_decimal(text, line);
+    put(text, " ");
+    put(text, what);
+    put(text, "\n");
+}
+
+/// Adds the line of an answer, for which there is room.
+#[tactic(auto, unfolding(crate::specs::Answers::answer_line, crate::specs::Answers::answer_text))]
+fn put_answer(text: &mut Vec<u8>, answer: &Answer)
+    requires { vec_len text.old + 160 ≤ vec_capacity text.old }
+    ensures { text.new.items ≡ text.old.items ++ answer_line answer.now }
+{
     match *answer {
-        Answer::Connecting(reference) => {
-            push_pieces(out, &["left connect ok ", digits.format(reference), "\n"])
-        }
-        Answer::ConnectRefused(why) => {
-            push_pieces(out, &["left connect refused ", refusal(why), "\n"])
-        }
+        Answer::Connecting(reference) => put_connecting(text, reference),
+        Answer::ConnectRefused(why) => put_connect_refused(text, why),
         Answer::Called {
             side,
             reference,
             verb,
-        } => {
-            let reference = digits.format(reference);
-            push_pieces(
-                out,
-                &[side.name_and_blank(), reference, " ", verb.name(), " ok\n"],
-            )
-        }
+        } => put_called(text, side, reference, verb),
         Answer::CallRefused {
             side,
             reference,
             verb,
             error,
-        } => {
-            let reference = digits.format(reference);
-            let error = call_error(error);
-            push_pieces(
-                out,
-                &[
-                    side.name_and_blank(),
-                    reference,
-                    " ",
-                    verb.name(),
-                    " refused ",
-                    error,
-                    "\n",
-                ],
-            )
-        }
-        Answer::Carried { side, octets } => {
-            push_pieces(
-                out,
-                &[
-                    side.name_and_blank(),
-                    "carried ",
-                    digits.format(octets),
-                    "\n",
-                ],
-            )
-        }
-        Answer::Broken => push_pieces(out, &["broken\n"]),
-        Answer::Told(side) => push_pieces(out, &[side.name_and_blank(), "told\n"]),
-        Answer::LineRefused(line) => {
-            push_pieces(out, &["line ", digits.format(line), " refused\n"])
-        }
-        Answer::LineFailed { line, fault } => {
-            push_pieces(
-                out,
-                &["line ", digits.format(line), " ", line_fault(fault), "\n"],
-            )
-        }
+        } => put_call_refused(text, side, reference, verb, error),
+        Answer::Carried { side, octets } => put_carried(text, side, octets),
+        Answer::Broken => put(text, "broken\n"),
+        Answer::Told(side) => put_told(text, side),
+        Answer::LineRefused(line) => put_line(text, line, "refused"),
+        Answer::LineFailed { line, fault } => put_line(text, line, line_fault(fault)),
     }
+}
+
+/// Adds the line of an answer to a transcript, which is left as it is where there is no memory.
+pub fn push_answer(_alloc: Global, out: &mut Vec<u8>, answer: &Answer) -> Result<(), AllocError>
+    ensures ok { OnOk result (out.new.items ≡ out.old.items ++ answer_line answer.now) }
+    ensures err { OnErr result (out.new.items ≡ out.old.items) }
+{
+    out.reserve(LINE)?;
+    put_answer(out, answer);
+    Ok(())
 }

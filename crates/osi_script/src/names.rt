@@ -1,4 +1,4 @@
-ghost use Rattle.std.specs.Prelude.{◌≡◌};
+ghost use Rattle.std.specs.Prelude.{◌≡◌, ◌≤◌, length};
 ghost use Rattle.osi_script.specs.Names.{open_error_name, call_error_name, unit_fault_name, phase_name};
 
 use osi_carrier::OpenError;
@@ -6,7 +6,8 @@ use osi_session::{CallError, Phase, UnitFault};
 
 /// Why no connection was asked for.
 pub(crate) fn open_error(error: OpenError) -> &'static str
-    ensures { result.now ≡ open_error_name error }
+    ensures value { result.now ≡ open_error_name error }
+    ensures short { length result.now ≤ 16 }
 {
     match error {
         OpenError::NotCaller => "NotCaller",
@@ -22,7 +23,8 @@ pub(crate) fn open_error(error: OpenError) -> &'static str
 /// Why a call was refused.
 #[tactic(auto, unfolding(crate::specs::Names::call_error_name))]
 pub(crate) fn call_error(error: CallError) -> &'static str
-    ensures { result.now ≡ call_error_name error }
+    ensures value { result.now ≡ call_error_name error }
+    ensures short { length result.now ≤ 16 }
 {
     match error {
         CallError::NoSuchConnection => "NoSuchConnection",
@@ -41,7 +43,8 @@ pub(crate) fn call_error(error: CallError) -> &'static str
 
 /// Why a unit that came is bad.
 pub(crate) fn unit_fault(fault: UnitFault) -> &'static str
-    ensures { result.now ≡ unit_fault_name fault }
+    ensures value { result.now ≡ unit_fault_name fault }
+    ensures short { length result.now ≤ 16 }
 {
     match fault {
         UnitFault::Spelling(_) => "Spelling",
@@ -56,7 +59,8 @@ pub(crate) fn unit_fault(fault: UnitFault) -> &'static str
 /// Where a connection stands.
 #[tactic(auto, unfolding(crate::specs::Names::phase_name))]
 pub(crate) fn phase(phase: Phase) -> &'static str
-    ensures { result.now ≡ phase_name phase }
+    ensures value { result.now ≡ phase_name phase }
+    ensures short { length result.now ≤ 16 }
 {
     match phase {
         Phase::WaitTransport => "WaitTransport",

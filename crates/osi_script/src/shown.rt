@@ -1,27 +1,28 @@
-ghost use Rattle.std.specs.Prelude.{◌≡◌, ◌++◌, codes, OnOk, OnErr, option_copied};
+ghost use Rattle.std.specs.Prelude.{◌≡◌, ◌+◌, ◌*◌, ◌≤◌, ◌++◌, codes, length, vec_len, vec_capacity, IfSome, OnOk, OnErr, option_copied};
 ghost use Rattle.std.specs.Fmt.{decimal};
+ghost use Rattle.osi_spdu.specs.Fields.{unit_bits};
 ghost use Rattle.osi_session.specs.Shown.{shown_by, abort_shown};
-ghost use Rattle.osi_script.specs.Names.{side_name};
+ghost use Rattle.osi_script.specs.Names.{side_name, unit_fault_name};
 ghost use Rattle.osi_script.specs.Shown.{shown_name, shown_fields, shown_octets, shown_line, number_field, octet_field, confirm_word, minor_fields, sides_field, restart_fields, units_field, serial_field, opening_fields, data_word, data_field};
+ghost use Rattle.osi_script.specs.Texts.{data_text, digits_of};
 
 use crate::names::unit_fault;
 use crate::sides::Side;
 use crate::texts::{
-    letters_of_sides, letters_of_wishes, push_data, push_decimal, push_octet, push_pieces,
-    push_short, push_words,
+    LINE, letters_of_sides, letters_of_wishes, put, put_decimal, put_hex, put_letters, put_octet,
+    put_short, put_side,
 };
 use bitflags::Flags;
 use osi_message::Octets;
-use osi_session::{AbortCause, Indication};
+use osi_session::{AbortCause, Indication, UnitFault};
+use osi_spdu::Requirements;
 use std::alloc::{AllocError, Global};
-
-/// More octets than the fields of an indication have.
-const MOST_FIELDS: usize = 64;
 
 /// The name of an indication.
 #[tactic(auto, unfolding(crate::specs::Shown::shown_name))]
 fn name(indication: &Indication) -> &'static str
-    ensures { result.now ≡ shown_name (shown_by indication.now) }
+    ensures value { result.now ≡ shown_name (shown_by indication.now) }
+    ensures short { length result.now ≤ 18 }
 {
     match indication {
         Indication::Connect { .. } => "Connect",
@@ -47,7 +48,8 @@ fn name(indication: &Indication) -> &'static str
 
 #[tactic(auto, unfolding(crate::specs::Shown::shown_name))]
 fn cause_name(cause: AbortCause) -> &'static str
-    ensures { result.now ≡ shown_name (abort_shown cause) }
+    ensures value { result.now ≡ shown_name (abort_shown cause) }
+    ensures short { length result.now ≤ 18 }
 {
     match cause {
         AbortCause::Lost => "ProviderAbort Lost",
@@ -56,125 +58,139 @@ fn cause_name(cause: AbortCause) -> &'static str
     }
 }
 
-fn push_number(text: &mut Vec<u8>, number: u64) -> Result<(), AllocError>
-    ensures ok { OnOk result (text.new.items ≡ text.old.items ++ number_field number) }
-    ensures err { OnErr result (text.new.items ≡ text.old.items) }
+fn put_number(text: &mut Vec<u8>, number: u64)
+    requires { vec_len text.old + 64 ≤ vec_capacity text.old }
+    ensures items { text.new.items ≡ text.old.items ++ number_field number }
+    ensures len { vec_len text.new ≤ vec_len text.old + 21 }
+    ensures capacity { vec_capacity text.old ≤ vec_capacity text.new }
 {
-    let mut digits = itoa::Buffer::new();
-    push_pieces(text, &[" ", digits.format(number)])
+    put(text, " ");
+    put_decimal(text, number);
 }
 
-fn push_bits(alloc: Global, text: &mut Vec<u8>, octet: u8) -> Result<(), AllocError>
-    ensures ok { OnOk result (text.new.items ≡ text.old.items ++ octet_field octet) }
-    ensures err { OnErr result (text.new.items ≡ text.old.items) }
+fn put_bits(text: &mut Vec<u8>, octet: u8)
+    requires { vec_len text.old + 64 ≤ vec_capacity text.old }
+    ensures items { text.new.items ≡ text.old.items ++ octet_field octet }
+    ensures len { vec_len text.new ≤ vec_len text.old + 64 }
+    ensures capacity { vec_capacity text.old ≤ vec_capacity text.new }
 {
-    let mut field = Vec::with_capacity(alloc, MOST_FIELDS)?;
-    push_words(&mut field, " ")?;
-    push_octet(&mut field, octet)?;
-    text.extend_from_slice(field.as_slice())
+    put(text, " ");
+    put_octet(text, octet);
 }
 
-fn push_minor(text: &mut Vec<u8>, number: u32, confirm: bool) -> Result<(), AllocError>
-    ensures ok { OnOk result (text.new.items ≡ text.old.items ++ minor_fields number confirm) }
-    ensures err { OnErr result (text.new.items ≡ text.old.items) }
+fn put_minor(text: &mut Vec<u8>, number: u32, confirm: bool)
+    requires { vec_len text.old + 64 ≤ vec_capacity text.old }
+    ensures items { text.new.items ≡ text.old.items ++ minor_fields number confirm }
+    ensures len { vec_len text.new ≤ vec_len text.old + 64 }
+    ensures capacity { vec_capacity text.old ≤ vec_capacity text.new }
 {
-    let mut digits = itoa::Buffer::new();
-    push_pieces(
-        text,
-        &[
-            " ",
-            digits.format(number),
-            " confirm ",
-            confirmation(confirm),
-        ],
-    )
+    put_number(text, u64::from(number));
+    put(text, " confirm ");
+    put(text, confirmation(confirm));
 }
 
 fn confirmation(confirm: bool) -> &'static str
-    ensures { result.now ≡ confirm_word confirm }
+    ensures value { result.now ≡ confirm_word confirm }
+    ensures short { length result.now ≤ 3 }
 {
     if confirm { "yes" } else { "no" }
 }
 
-fn push_letters(text: &mut Vec<u8>, letters: [u8; 4]) -> Result<(), AllocError>
-    ensures { OnOk result (text.new.items ≡ text.old.items ++ sides_field letters) }
+fn put_sides(text: &mut Vec<u8>, letters: [u8; 4])
+    requires { vec_len text.old + 11 ≤ vec_capacity text.old }
+    ensures items { text.new.items ≡ text.old.items ++ sides_field letters }
+    ensures len { vec_len text.new ≤ vec_len text.old + 11 }
+    ensures capacity { vec_capacity text.old ≤ vec_capacity text.new }
 {
-    push_words(text, " sides ")?;
-    text.extend_from_slice(&letters)
+    put(text, " sides ");
+    put_letters(text, letters);
 }
 
 #[tactic(auto, unfolding(crate::specs::Shown::restart_fields))]
-fn push_restart(
-    alloc: Global,
-    text: &mut Vec<u8>,
-    number: u32,
-    letters: [u8; 4],
-) -> Result<(), AllocError>
-    ensures ok { OnOk result (text.new.items ≡ text.old.items ++ restart_fields number letters) }
-    ensures err { OnErr result (text.new.items ≡ text.old.items) }
+fn put_restart(text: &mut Vec<u8>, number: u32, letters: [u8; 4])
+    requires { vec_len text.old + 64 ≤ vec_capacity text.old }
+    ensures items { text.new.items ≡ text.old.items ++ restart_fields number letters }
+    ensures len { vec_len text.new ≤ vec_len text.old + 64 }
+    ensures capacity { vec_capacity text.old ≤ vec_capacity text.new }
 {
-    let mut fields = Vec::with_capacity(alloc, MOST_FIELDS)?;
-    push_number(&mut fields, u64::from(number))?;
-    push_letters(&mut fields, letters)?;
-    text.extend_from_slice(fields.as_slice())
+    put_number(text, u64::from(number));
+    put_sides(text, letters);
 }
 
-fn push_units(text: &mut Vec<u8>, units: u16) -> Result<(), AllocError>
-    ensures { OnOk result (text.new.items ≡ text.old.items ++ units_field units) }
+fn put_units(text: &mut Vec<u8>, units: u16)
+    requires { vec_len text.old + 11 ≤ vec_capacity text.old }
+    ensures items { text.new.items ≡ text.old.items ++ units_field units }
+    ensures len { vec_len text.new ≤ vec_len text.old + 11 }
+    ensures capacity { vec_capacity text.old ≤ vec_capacity text.new }
 {
-    push_words(text, " units ")?;
-    push_short(text, units)
+    put(text, " units ");
+    put_short(text, units);
 }
 
 #[tactic(auto, unfolding(crate::specs::Shown::serial_field))]
-fn push_serial(text: &mut Vec<u8>, serial: Option<u32>) -> Result<(), AllocError>
-    ensures { OnOk result (text.new.items ≡ text.old.items ++ serial_field serial) }
+fn put_serial(text: &mut Vec<u8>, serial: Option<u32>)
+    requires { vec_len text.old + 28 ≤ vec_capacity text.old }
+    ensures items { text.new.items ≡ text.old.items ++ serial_field serial }
+    ensures len { vec_len text.new ≤ vec_len text.old + 28 }
+    ensures capacity { vec_capacity text.old ≤ vec_capacity text.new }
 {
     match serial {
-        None => push_words(text, " serial -"),
+        None => put(text, " serial -"),
         Some(number) => {
-            push_words(text, " serial ")?;
-            push_decimal(text, u64::from(number))
+            put(text, " serial ");
+            put_decimal(text, u64::from(number));
         }
     }
 }
 
 #[tactic(auto, unfolding(crate::specs::Shown::opening_fields))]
-fn push_opening(
-    alloc: Global,
+fn put_opening(
     text: &mut Vec<u8>,
-    units: u16,
+    requirements: Requirements,
     serial: Option<u32>,
     letters: [u8; 4],
-) -> Result<(), AllocError>
-    ensures ok { OnOk result (text.new.items ≡ text.old.items ++ opening_fields units serial letters) }
-    ensures err { OnErr result (text.new.items ≡ text.old.items) }
+)
+    requires { vec_len text.old + 64 ≤ vec_capacity text.old }
+    ensures items { text.new.items ≡ text.old.items ++ opening_fields (unit_bits requirements) serial letters }
+    ensures len { vec_len text.new ≤ vec_len text.old + 64 }
+    ensures capacity { vec_capacity text.old ≤ vec_capacity text.new }
 {
-    let mut fields = Vec::with_capacity(alloc, MOST_FIELDS)?;
-    push_units(&mut fields, units)?;
-    push_serial(&mut fields, serial)?;
-    push_letters(&mut fields, letters)?;
-    text.extend_from_slice(fields.as_slice())
+    put_units(text, requirements.bits());
+    put_serial(text, serial);
+    put_sides(text, letters);
+}
+
+fn put_fault(text: &mut Vec<u8>, fault: UnitFault)
+    requires { vec_len text.old + 64 ≤ vec_capacity text.old }
+    ensures items { text.new.items ≡ text.old.items ++ (codes " " ++ unit_fault_name fault) }
+    ensures len { vec_len text.new ≤ vec_len text.old + 64 }
+    ensures capacity { vec_capacity text.old ≤ vec_capacity text.new }
+{
+    put(text, " ");
+    put(text, unit_fault(fault));
 }
 
 #[tactic(auto, unfolding(crate::specs::Shown::shown_fields))]
-fn push_cause(alloc: Global, text: &mut Vec<u8>, cause: AbortCause) -> Result<(), AllocError>
-    ensures ok { OnOk result (text.new.items ≡ text.old.items ++ shown_fields (abort_shown cause)) }
-    ensures err { OnErr result (text.new.items ≡ text.old.items) }
+fn put_cause(text: &mut Vec<u8>, cause: AbortCause)
+    requires { vec_len text.old + 64 ≤ vec_capacity text.old }
+    ensures items { text.new.items ≡ text.old.items ++ shown_fields (abort_shown cause) }
+    ensures len { vec_len text.new ≤ vec_len text.old + 64 }
+    ensures capacity { vec_capacity text.old ≤ vec_capacity text.new }
 {
     match cause {
-        AbortCause::Lost => Ok(()),
-        AbortCause::Peer(bits) => push_bits(alloc, text, bits),
-        AbortCause::Unit(fault) => push_pieces(text, &[" ", unit_fault(fault)]),
+        AbortCause::Lost => (),
+        AbortCause::Peer(bits) => put_bits(text, bits),
+        AbortCause::Unit(fault) => put_fault(text, fault),
     }
 }
 
-/// The fields between the name of an indication and its user data.
+/// The fields between the name of an indication and its user data, where there is room.
 #[tactic(auto, unfolding(crate::specs::Shown::shown_fields))]
-fn push_fields(alloc: Global, text: &mut Vec<u8>, indication: &Indication) -> Result<(), AllocError>
-    ensures ok { OnOk result (text.new.items
-        ≡ text.old.items ++ shown_fields (shown_by indication.now)) }
-    ensures err { OnErr result (text.new.items ≡ text.old.items) }
+fn put_fields(text: &mut Vec<u8>, indication: &Indication)
+    requires { vec_len text.old + 64 ≤ vec_capacity text.old }
+    ensures items { text.new.items ≡ text.old.items ++ shown_fields (shown_by indication.now) }
+    ensures len { vec_len text.new ≤ vec_len text.old + 64 }
+    ensures capacity { vec_capacity text.old ≤ vec_capacity text.new }
 {
     match indication {
         Indication::Connect {
@@ -182,49 +198,37 @@ fn push_fields(alloc: Global, text: &mut Vec<u8>, indication: &Indication) -> Re
             serial,
             wishes,
             ..
-        } => push_opening(
-            alloc,
-            text,
-            requirements.bits(),
-            *serial,
-            letters_of_wishes(*wishes),
-        ),
+        } => put_opening(text, *requirements, *serial, letters_of_wishes(*wishes)),
         Indication::Connected {
             requirements,
             serial,
             sides,
             ..
-        } => push_opening(
-            alloc,
-            text,
-            requirements.bits(),
-            *serial,
-            letters_of_sides(*sides),
-        ),
-        Indication::RefusedByTransport { reason } => push_number(text, u64::from(*reason)),
-        Indication::RefusedBySession { reason, .. } => push_number(text, u64::from(*reason)),
-        Indication::Given { tokens } => push_bits(alloc, text, tokens.bits()),
-        Indication::Asked { tokens, .. } => push_bits(alloc, text, tokens.bits()),
+        } => put_opening(text, *requirements, *serial, letters_of_sides(*sides)),
+        Indication::RefusedByTransport { reason } => put_number(text, u64::from(*reason)),
+        Indication::RefusedBySession { reason, .. } => put_number(text, u64::from(*reason)),
+        Indication::Given { tokens } => put_bits(text, tokens.bits()),
+        Indication::Asked { tokens, .. } => put_bits(text, tokens.bits()),
         Indication::Minor {
             number,
             confirm,
             ..
-        } => push_minor(text, *number, *confirm),
-        Indication::MinorConfirmed { number, .. } => push_number(text, u64::from(*number)),
-        Indication::Major { number, .. } => push_number(text, u64::from(*number)),
+        } => put_minor(text, *number, *confirm),
+        Indication::MinorConfirmed { number, .. } => put_number(text, u64::from(*number)),
+        Indication::Major { number, .. } => put_number(text, u64::from(*number)),
         Indication::Restart { number, wishes, .. } => {
-            push_restart(alloc, text, *number, letters_of_wishes(*wishes))
+            put_restart(text, *number, letters_of_wishes(*wishes))
         }
         Indication::Restarted { number, sides, .. } => {
-            push_restart(alloc, text, *number, letters_of_sides(*sides))
+            put_restart(text, *number, letters_of_sides(*sides))
         }
-        Indication::ProviderAbort { cause } => push_cause(alloc, text, *cause),
+        Indication::ProviderAbort { cause } => put_cause(text, *cause),
         Indication::Data { .. }
         | Indication::MajorConfirmed { .. }
         | Indication::Release { .. }
         | Indication::Released { .. }
         | Indication::ReleaseRefused { .. }
-        | Indication::Aborted { .. } => Ok(()),
+        | Indication::Aborted { .. } => (),
     }
 }
 
@@ -256,7 +260,8 @@ fn user_data(indication: &Indication) -> Option<&Octets>
 }
 
 fn data_word(indication: &Indication) -> &'static str
-    ensures { result.now ≡ data_word (shown_by indication.now) }
+    ensures value { result.now ≡ data_word (shown_by indication.now) }
+    ensures short { length result.now ≤ 6 }
 {
     match indication {
         Indication::Data { .. } => " ",
@@ -264,51 +269,65 @@ fn data_word(indication: &Indication) -> &'static str
     }
 }
 
-/// The user data of an indication, and the end of its line.
-fn push_end(
-    alloc: Global,
-    text: &mut Vec<u8>,
-    word: &str,
-    user_data: Option<&Octets>,
-) -> Result<(), AllocError>
-    ensures ok { OnOk result (text.new.items
-        ≡ text.old.items ++ (data_field word.now (option_copied user_data.entry) ++ codes "\n")) }
-    ensures err { OnErr result (text.new.items ≡ text.old.items) }
+/// Room for a line with this user data; none where so many octets cannot be counted.
+fn room(user_data: Option<&Octets>) -> Option<usize>
+    ensures { IfSome result (λ octets. octets ≡ digits_of (option_copied user_data.entry) + 160) }
 {
     match user_data {
-        None => push_pieces(text, &["\n"]),
-        Some(octets) => push_data(alloc, text, word, octets.as_slice()),
+        None => Some(LINE),
+        Some(octets) => octets.as_slice().len().checked_mul(2)?.checked_add(LINE),
     }
 }
 
-/// The side, the connection and the name of an indication.
-fn push_head(
-    text: &mut Vec<u8>,
-    side: Side,
-    reference: u16,
-    indication: &Indication,
-) -> Result<(), AllocError>
-    ensures ok { OnOk result (text.new.items
-        ≡ text.old.items ++ (side_name side ++ codes " " ++ decimal reference ++ codes " " ++ shown_name (shown_by indication.now))) }
-    ensures err { OnErr result (text.new.items ≡ text.old.items) }
+/// Adds a word, octets in hexadecimal or a dash where there is none, and the end of a line, for which there is
+/// room.
+#[tactic(auto, unfolding(crate::specs::Texts::data_text))]
+fn put_data(text: &mut Vec<u8>, word: &str, octets: &[u8])
+    requires short { length word.now ≤ 6 }
+    requires room { vec_len text.old + 2 * length octets.now + 16 ≤ vec_capacity text.old }
+    ensures { text.new.items ≡ text.old.items ++ (word.now ++ data_text octets.now ++ codes "\n") }
 {
-    let mut digits = itoa::Buffer::new();
-    push_pieces(
-        text,
-        &[
-            side.name_and_blank(),
-            digits.format(reference),
-            " ",
-            name(indication),
-        ],
-    )
+    put(text, word);
+    if octets.is_empty() {
+        put(text, "-\n");
+    } else {
+        put_hex(text, octets);
+        put(text, "\n");
+    }
+}
+
+/// Adds the user data of an indication and the end of its line, for which there is room.
+fn put_end(text: &mut Vec<u8>, word: &str, user_data: Option<&Octets>)
+    requires short { length word.now ≤ 6 }
+    requires room { vec_len text.old + digits_of (option_copied user_data) + 16 ≤ vec_capacity text.old }
+    ensures { text.new.items
+        ≡ text.old.items ++ (data_field word.now (option_copied user_data.entry) ++ codes "\n") }
+{
+    match user_data {
+        None => put(text, "\n"),
+        Some(octets) => put_data(text, word, octets.as_slice()),
+    }
+}
+
+/// Adds the side, the connection and the name of an indication, for which there is room.
+fn put_head(text: &mut Vec<u8>, side: Side, reference: u16, indication: &Indication)
+    requires { vec_len text.old + 64 ≤ vec_capacity text.old }
+    ensures items { text.new.items
+        ≡ text.old.items ++ (side_name side ++ codes " " ++ decimal reference ++ codes " " ++ shown_name (shown_by indication.now)) }
+    ensures len { vec_len text.new ≤ vec_len text.old + 64 }
+    ensures capacity { vec_capacity text.old ≤ vec_capacity text.new }
+{
+    put_side(text, side);
+    put_decimal(text, u64::from(reference));
+    put(text, " ");
+    put(text, name(indication));
 }
 
 /// Adds the line of what the user of a side is shown of a connection to a transcript, which is left as
 /// it is where there is no memory.
-#[tactic(auto, using(crate::proofs::Pieces::cut_back, crate::proofs::Pieces::cut_back_both), unfolding(crate::specs::Shown::shown_line, crate::specs::Shown::shown_text))]
+#[tactic(auto, using(crate::proofs::Pieces::line_joined), unfolding(crate::specs::Shown::shown_line, crate::specs::Shown::shown_text))]
 pub fn push_indication(
-    alloc: Global,
+    _alloc: Global,
     out: &mut Vec<u8>,
     side: Side,
     reference: u16,
@@ -318,15 +337,13 @@ pub fn push_indication(
         ≡ out.old.items ++ shown_line side reference (shown_by indication.now)) }
     ensures err { OnErr result (out.new.items ≡ out.old.items) }
 {
-    let before = out.len();
-    push_head(out, side, reference, indication)?;
-    if push_fields(alloc, out, indication).is_err() {
-        out.truncate(before);
+    let octets = user_data(indication);
+    let Some(room) = room(octets) else {
         return Err(AllocError);
-    }
-    if push_end(alloc, out, data_word(indication), user_data(indication)).is_err() {
-        out.truncate(before);
-        return Err(AllocError);
-    }
+    };
+    out.reserve(room)?;
+    put_head(out, side, reference, indication);
+    put_fields(out, indication);
+    put_end(out, data_word(indication), octets);
     Ok(())
 }

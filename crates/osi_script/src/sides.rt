@@ -1,4 +1,4 @@
-ghost use Rattle.std.specs.Prelude.{◌≡◌, ◌++◌, codes};
+ghost use Rattle.std.specs.Prelude.{◌≡◌};
 ghost use Rattle.osi_script.specs.Names.{side_name};
 
 /// One of the two ends of a script.
@@ -18,16 +18,6 @@ impl Side {
         match self {
             Side::Left => "left",
             Side::Right => "right",
-        }
-    }
-
-    /// The same word with a blank behind it.
-    pub(crate) fn name_and_blank(self) -> &'static str
-        ensures { result.now ≡ side_name self ++ codes " " }
-    {
-        match self {
-            Side::Left => "left ",
-            Side::Right => "right ",
         }
     }
 }

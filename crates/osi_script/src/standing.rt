@@ -1,9 +1,9 @@
-ghost use Rattle.std.specs.Prelude.{◌≡◌, ◌++◌, OnOk, OnErr};
+ghost use Rattle.std.specs.Prelude.{◌≡◌, ◌+◌, ◌≤◌, ◌++◌, vec_len, vec_capacity, OnOk, OnErr};
 ghost use Rattle.osi_script.specs.Standing.{standing_line, standing_numbers, standing_text};
 
 use crate::names;
 use crate::sides::Side;
-use crate::texts::{push_decimal, push_octet, push_words};
+use crate::texts::{LINE, put, put_decimal, put_octet, put_side};
 use bitflags::Flags;
 use osi_session::Phase;
 use osi_spdu::TokenSet;
@@ -29,44 +29,49 @@ pub struct Standing {
 }
 
 #[tactic(auto, unfolding(crate::specs::Standing::standing_text))]
-fn push_text(text: &mut Vec<u8>, standing: &Standing) -> Result<(), AllocError>
-    ensures { OnOk result (text.new.items ≡ text.old.items ++ standing_text standing.now) }
+fn put_text(text: &mut Vec<u8>, standing: &Standing)
+    requires { vec_len text.old + 64 ≤ vec_capacity text.old }
+    ensures items { text.new.items ≡ text.old.items ++ standing_text standing.now }
+    ensures len { vec_len text.new ≤ vec_len text.old + 64 }
+    ensures capacity { vec_capacity text.old ≤ vec_capacity text.new }
 {
-    push_words(text, standing.side.name())?;
-    push_words(text, " ")?;
-    push_decimal(text, u64::from(standing.reference))?;
-    push_words(text, " phase ")?;
-    push_words(text, names::phase(standing.phase))?;
-    push_words(text, " held ")?;
-    push_octet(text, standing.held.bits())
+    put_side(text, standing.side);
+    put_decimal(text, u64::from(standing.reference));
+    put(text, " phase ");
+    put(text, names::phase(standing.phase));
+    put(text, " held ");
+    put_octet(text, standing.held.bits());
 }
 
 #[tactic(auto, unfolding(crate::specs::Standing::standing_numbers))]
-fn push_numbers(text: &mut Vec<u8>, standing: &Standing) -> Result<(), AllocError>
-    ensures { OnOk result (text.new.items ≡ text.old.items ++ standing_numbers standing.now) }
+fn put_numbers(text: &mut Vec<u8>, standing: &Standing)
+    requires { vec_len text.old + 81 ≤ vec_capacity text.old }
+    ensures items { text.new.items ≡ text.old.items ++ standing_numbers standing.now }
+    ensures len { vec_len text.new ≤ vec_len text.old + 81 }
+    ensures capacity { vec_capacity text.old ≤ vec_capacity text.new }
 {
-    push_words(text, " next ")?;
-    push_decimal(text, u64::from(standing.next_serial))?;
-    push_words(text, " below ")?;
-    push_decimal(text, u64::from(standing.confirmed_below))?;
-    push_words(text, " lowest ")?;
-    push_decimal(text, u64::from(standing.lowest_restart))
+    put(text, " next ");
+    put_decimal(text, u64::from(standing.next_serial));
+    put(text, " below ");
+    put_decimal(text, u64::from(standing.confirmed_below));
+    put(text, " lowest ");
+    put_decimal(text, u64::from(standing.lowest_restart));
 }
 
 /// Adds the line of where a connection stands to a transcript, which is left as it is where there is
 /// no memory.
 #[tactic(auto, unfolding(crate::specs::Standing::standing_line))]
 pub fn push_standing(
-    alloc: Global,
+    _alloc: Global,
     out: &mut Vec<u8>,
     standing: &Standing,
 ) -> Result<(), AllocError>
     ensures ok { OnOk result (out.new.items ≡ out.old.items ++ standing_line standing.now) }
     ensures err { OnErr result (out.new.items ≡ out.old.items) }
 {
-    let mut line = Vec::new(alloc);
-    push_text(&mut line, standing)?;
-    push_numbers(&mut line, standing)?;
-    push_words(&mut line, "\n")?;
-    out.extend_from_slice(line.as_slice())
+    out.reserve(LINE)?;
+    put_text(out, standing);
+    put_numbers(out, standing);
+    put(out, "\n");
+    Ok(())
 }

@@ -1,117 +1,135 @@
-ghost use Rattle.std.specs.Prelude.{◌≡◌, ◌++◌, ◌∷◌, [], ◌≤◌, length, take, codes, IfSome, OnOk, OnErr};
-ghost use Rattle.std.specs.List.{flat_map};
+ghost use Rattle.std.specs.Prelude.{◌≡◌, ◌++◌, ◌∷◌, [], ◌+◌, ◌*◌, ◌<◌, ◌≤◌, length, codes, vec_len, vec_capacity};
 ghost use Rattle.std.specs.Fmt.{decimal};
 ghost use Rattle.hex.specs.Hex.{encode_lower};
 ghost use Rattle.osi_tpdu.specs.Spelling.{two};
-ghost use Rattle.osi_script.specs.Texts.{data_text, wish_letter, side_letter, wishes_text, sides_text};
+ghost use Rattle.osi_script.specs.Names.{side_name};
+ghost use Rattle.osi_script.specs.Texts.{wish_letter, side_letter, wishes_text, sides_text};
 
+use crate::sides::Side as End;
 use osi_session::Sides;
 use osi_spdu::{Side, TokenSetting, Wish};
-use std::alloc::{AllocError, Global};
 
-/// How many octets of a line are put together before they are added to a text.
-const SHORT_LINE: usize = 64;
+/// More octets than a line has besides its user data.
+pub(crate) const LINE: usize = 160;
 
-/// Adds words to a text.
-pub(crate) fn push_words(text: &mut Vec<u8>, words: &str) -> Result<(), AllocError>
-    ensures { OnOk result (text.new.items ≡ text.old.items ++ words.now) }
+/// Adds a piece of text, for which there is room.
+#[inline(always)]
+pub(crate) fn put(text: &mut Vec<u8>, piece: &str)
+    requires { vec_len text.old + length piece.now ≤ vec_capacity text.old }
+    ensures items { text.new.items ≡ text.old.items ++ piece.now }
+    ensures len { vec_len text.new ≡ vec_len text.old + length piece.now }
+    ensures capacity { vec_capacity text.old ≤ vec_capacity text.new }
 {
-    text.extend_from_slice(words.as_bytes())
+    match text.extend_from_slice(piece.as_bytes()) {
+        Ok(()) => (),
+        Err(_) => unreachable!(),
+    }
 }
 
-/// Adds pieces of text one behind the other, or leaves the text as it is where there is no memory.
-#[tactic(auto, using(crate::proofs::Pieces::cut_back))]
-fn push_each(text: &mut Vec<u8>, pieces: &[&str]) -> Result<(), AllocError>
-    ensures ok { OnOk result (text.new.items ≡ text.old.items ++ flat_map (λ piece. piece.now) pieces.now) }
-    ensures err { OnErr result (text.new.items ≡ text.old.items) }
+/// Adds the word for a side and a blank, for which there is room.
+pub(crate) fn put_side(text: &mut Vec<u8>, side: End)
+    requires { vec_len text.old + 6 ≤ vec_capacity text.old }
+    ensures items { text.new.items ≡ text.old.items ++ (side_name side ++ codes " ") }
+    ensures len { vec_len text.new ≤ vec_len text.old + 6 }
+    ensures capacity { vec_capacity text.old ≤ vec_capacity text.new }
+{
+    match side {
+        End::Left => put(text, "left "),
+        End::Right => put(text, "right "),
+    }
+}
+
+/// Adds a digit, for which there is room.
+#[tactic(auto, using(std::proofs::lemmas::Fmt::decimal_digit))]
+fn put_digit(text: &mut Vec<u8>, digit: u8)
+    requires digit { digit < 10 }
+    requires room { vec_len text.old < vec_capacity text.old }
+    ensures items { text.new.items ≡ text.old.items ++ decimal digit }
+    ensures len { vec_len text.new ≡ vec_len text.old + 1 }
+    ensures capacity { vec_capacity text.old ≤ vec_capacity text.new }
+{
+    match text.push(b'0' + digit) {
+        Ok(()) => (),
+        Err(_) => unreachable!(),
+    }
+}
+
+/// Adds a number in decimal, for which there is room. Most numbers of a transcript have one digit.
+pub(crate) fn put_decimal(text: &mut Vec<u8>, number: u64)
+    requires { vec_len text.old + 20 ≤ vec_capacity text.old }
+    ensures items { text.new.items ≡ text.old.items ++ decimal number }
+    ensures len { vec_len text.new ≤ vec_len text.old + 20 }
+    ensures capacity { vec_capacity text.old ≤ vec_capacity text.new }
+{
+    if number < 10 {
+        put_digit(text, number as u8);
+    } else {
+        let mut digits = itoa::Buffer::new();
+        put(text, digits.format(number));
+    }
+}
+
+/// Adds octets, for which there is room.
+fn put_octets(text: &mut Vec<u8>, octets: &[u8])
+    requires { vec_len text.old + length octets.now ≤ vec_capacity text.old }
+    ensures items { text.new.items ≡ text.old.items ++ octets.now }
+    ensures len { vec_len text.new ≡ vec_len text.old + length octets.now }
+    ensures capacity { vec_capacity text.old ≤ vec_capacity text.new }
+{
+    match text.extend_from_slice(octets) {
+        Ok(()) => (),
+        Err(_) => unreachable!(),
+    }
+}
+
+/// Adds octets in hexadecimal, for which there is room.
+pub(crate) fn put_hex(text: &mut Vec<u8>, octets: &[u8])
+    requires { vec_len text.old + 2 * length octets.now ≤ vec_capacity text.old }
+    ensures items { text.new.items ≡ text.old.items ++ encode_lower octets.now }
+    ensures len { vec_len text.new ≡ vec_len text.old + 2 * length octets.now }
+    ensures capacity { vec_capacity text.old ≤ vec_capacity text.new }
 {
     let before = text.len();
-    'pieces: for piece in pieces {
-        if text.extend_from_slice(piece.as_bytes()).is_err() {
-            text.truncate(before);
-            return Err(AllocError);
-        }
+    match text.resize(before + octets.len() * 2, 0) {
+        Ok(()) => (),
+        Err(_) => unreachable!(),
     }
-    Ok(())
+    let _ = hex::encode_to_slice(octets, &mut text[before..]);
 }
 
-/// Writes pieces of text one behind the other into a line, and answers how many octets they have together;
-/// none where the line has no room for all of them.
-#[inline(always)]
-fn put_together(line: &mut [u8], pieces: &[&str]) -> Option<usize>
-    ensures within { IfSome result (λ n. n ≤ length line.new) }
-    ensures written { IfSome result (λ n. take n line.new ≡ flat_map (λ piece. piece.now) pieces.now) }
-{
-    let mut length = 0;
-    'pieces: for piece in pieces {
-        let octets = piece.as_bytes();
-        if octets.len() > line.len() - length {
-            return None;
-        }
-        let behind = length + octets.len();
-        line[length..behind].copy_from_slice(octets);
-        length = behind;
-    }
-    Some(length)
-}
-
-/// Adds pieces of text one behind the other, or leaves the text as it is where there is no memory. Those
-/// of a short line are put together first, and added at once.
-#[inline(always)]
-pub(crate) fn push_pieces(text: &mut Vec<u8>, pieces: &[&str]) -> Result<(), AllocError>
-    ensures ok { OnOk result (text.new.items ≡ text.old.items ++ flat_map (λ piece. piece.now) pieces.now) }
-    ensures err { OnErr result (text.new.items ≡ text.old.items) }
-{
-    let mut line = [0; SHORT_LINE];
-    match put_together(&mut line, pieces) {
-        Some(length) => text.extend_from_slice(&line[..length]),
-        None => push_each(text, pieces),
-    }
-}
-
-/// Adds a number in decimal.
-pub(crate) fn push_decimal(text: &mut Vec<u8>, number: u64) -> Result<(), AllocError>
-    ensures { OnOk result (text.new.items ≡ text.old.items ++ decimal number) }
-{
-    let mut buffer = itoa::Buffer::new();
-    text.extend_from_slice(buffer.format(number).as_bytes())
-}
-
-/// Adds an octet in hexadecimal.
-pub(crate) fn push_octet(text: &mut Vec<u8>, octet: u8) -> Result<(), AllocError>
-    ensures { OnOk result (text.new.items ≡ text.old.items ++ encode_lower (octet ∷ [])) }
+/// Adds an octet in hexadecimal, for which there is room.
+pub(crate) fn put_octet(text: &mut Vec<u8>, octet: u8)
+    requires { vec_len text.old + 2 ≤ vec_capacity text.old }
+    ensures items { text.new.items ≡ text.old.items ++ encode_lower (octet ∷ []) }
+    ensures len { vec_len text.new ≡ vec_len text.old + 2 }
+    ensures capacity { vec_capacity text.old ≤ vec_capacity text.new }
 {
     let mut digits = [0; 2];
     let _ = hex::encode_to_slice([octet].as_slice(), &mut digits);
-    text.extend_from_slice(&digits)
+    put_octets(text, &digits);
 }
 
-/// Adds 16 bits in hexadecimal.
-pub(crate) fn push_short(text: &mut Vec<u8>, bits: u16) -> Result<(), AllocError>
-    ensures { OnOk result (text.new.items ≡ text.old.items ++ encode_lower (two bits)) }
+/// Adds 16 bits in hexadecimal, for which there is room.
+pub(crate) fn put_short(text: &mut Vec<u8>, bits: u16)
+    requires { vec_len text.old + 4 ≤ vec_capacity text.old }
+    ensures items { text.new.items ≡ text.old.items ++ encode_lower (two bits) }
+    ensures len { vec_len text.new ≡ vec_len text.old + 4 }
+    ensures capacity { vec_capacity text.old ≤ vec_capacity text.new }
 {
     let mut digits = [0; 4];
     let octets = [(bits / 256) as u8, (bits % 256) as u8];
     let _ = hex::encode_to_slice(octets.as_slice(), &mut digits);
-    text.extend_from_slice(&digits)
+    put_octets(text, &digits);
 }
 
-/// Adds a word, octets in hexadecimal or a dash where there is none, and the end of a line.
-#[tactic(auto, unfolding(crate::specs::Texts::data_text))]
-pub(crate) fn push_data(
-    alloc: Global,
-    text: &mut Vec<u8>,
-    word: &str,
-    octets: &[u8],
-) -> Result<(), AllocError>
-    ensures ok { OnOk result (text.new.items ≡ text.old.items ++ (word.now ++ data_text octets.now ++ codes "\n")) }
-    ensures err { OnErr result (text.new.items ≡ text.old.items) }
+/// Adds the letters of four tokens, for which there is room.
+pub(crate) fn put_letters(text: &mut Vec<u8>, letters: [u8; 4])
+    requires { vec_len text.old + 4 ≤ vec_capacity text.old }
+    ensures items { text.new.items ≡ text.old.items ++ letters }
+    ensures len { vec_len text.new ≡ vec_len text.old + 4 }
+    ensures capacity { vec_capacity text.old ≤ vec_capacity text.new }
 {
-    if octets.is_empty() {
-        return push_pieces(text, &[word, "-\n"]);
-    }
-    let digits = hex::encode(alloc, octets)?;
-    push_pieces(text, &[word, digits.as_str(), "\n"])
+    put_octets(text, &letters);
 }
 
 fn letter_of_wish(wish: Wish) -> u8

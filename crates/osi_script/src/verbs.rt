@@ -1,4 +1,4 @@
-ghost use Rattle.std.specs.Prelude.{◌≡◌};
+ghost use Rattle.std.specs.Prelude.{◌≡◌, ◌≤◌, length};
 ghost use Rattle.osi_script.specs.Names.{verb_name, all_verbs};
 
 /// What a call of the user of a session asks for (X.215 section 10), as a script names it.
@@ -63,7 +63,8 @@ impl Verb {
     /// The word for the call.
     #[tactic(auto, unfolding(crate::specs::Names::verb_name))]
     pub fn name(self) -> &'static str
-        ensures { result.now ≡ verb_name self }
+        ensures value { result.now ≡ verb_name self }
+        ensures short { length result.now ≤ 14 }
     {
         match self {
             Verb::Accept => "accept",
