@@ -46,6 +46,17 @@ impl Ends {
         }
     }
 
+    /// Makes room in the journal for so many entries more.
+    pub(crate) fn reserve(&mut self, entries: usize) -> Result<(), PairError>
+        ensures memory { IfErr result (λ error. error ≡ PairError.OutOfMemory) }
+        ensures same { ends_in self.new ≡ ends_in self.old }
+    {
+        match self.journal.reserve(entries) {
+            Ok(()) => Ok(()),
+            Err(_) => Err(PairError::OutOfMemory),
+        }
+    }
+
     fn connect(&mut self, asked: &Connect) -> Result<(), PairError>
         ensures ok { OnOk result (ends_in self.new ≡ after_connect asked.now (ends_in self.old)) }
         ensures memory { IfErr result (λ error. error ≡ PairError.OutOfMemory) }

@@ -56,6 +56,16 @@ impl Pair {
         }
     }
 
+    /// Makes room in the journal for so many entries more. Neither this nor an error changes anything.
+    ///
+    /// An event makes what room it needs. Who knows how many events come spares the journal to grow with them.
+    pub fn reserve(&mut self, entries: usize) -> Result<(), PairError>
+        ensures memory { IfErr result (λ error. error ≡ PairError.OutOfMemory) }
+        ensures same { self.new ≡ self.old }
+    {
+        self.ends.reserve(entries)
+    }
+
     /// What is true of two ends between any two calls. The function does nothing.
     fn is_safe(&self)
         ensures reached { IsReached self.now }

@@ -11,6 +11,9 @@ use osi_pair::Pair;
 use osi_script::{Answer, Command, Line, push_answer};
 use std::alloc::{AllocError, Global};
 
+/// A script has so many octets for each entry of the journal, or more in most.
+const OCTETS_AN_ENTRY: usize = 16;
+
 /// The transcript of a script.
 #[derive(Drop)]
 pub struct Transcript {
@@ -52,7 +55,8 @@ pub fn transcribe(alloc: Global, script: &[u8]) -> Result<Transcript, AllocError
     ensures told { IfOk result (λ t. Transcribes (numbered 1 (lines_of script.now)) t.lines.items t.status) }
     ensures status { IfOk result (λ t. t.status < 2) }
 {
-    let mut lines = Vec::with_capacity(alloc, script.len() * 2)?;
+    let octets = script.len();
+    let mut lines = Vec::with_capacity(alloc, octets * 2)?;
     let mut script = Walk::new(script);
     let Some((number, line)) = script.next_line() else {
         return Ok(Transcript { lines, status: 0 });
@@ -61,6 +65,9 @@ pub fn transcribe(alloc: Global, script: &[u8]) -> Result<Transcript, AllocError
         push_answer(alloc, &mut lines, &Answer::LineRefused(number))?;
         return Ok(Transcript { lines, status: 1 });
     };
+    if pair.reserve(octets / OCTETS_AN_ENTRY).is_err() {
+        return Err(AllocError);
+    }
     let status = play(alloc, &mut lines, &mut pair, &mut script)?;
     Ok(Transcript { lines, status })
 }
