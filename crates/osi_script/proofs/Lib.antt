@@ -1,5 +1,7 @@
 pub mod Blanks
 pub mod Carries
+pub mod Decimals
+pub mod Letters
 pub mod LineEnds
 pub mod ManyWords
 pub mod Numerals

@@ -24,11 +24,11 @@ refused_second true true n h = absurd (cc)
 refused_second true false n h = refl
 refused_second false c n h = refl
 
-both_refused : (a b : Bool) → a ≡ false → (a && b) ≡ false
+pub both_refused : (a b : Bool) → a ≡ false → (a && b) ≡ false
 both_refused true b h = absurd (cc)
 both_refused false b h = refl
 
-one_left : (a b : Bool) → a ≡ true → (a && b) ≡ b
+pub one_left : (a b : Bool) → a ≡ true → (a && b) ≡ b
 one_left true b h = refl
 one_left false b h = absurd (cc)
 

@@ -1,4 +1,4 @@
-ghost use Rattle.std.specs.Prelude.{◌≡◌, option_map, option_copied, IfOk};
+ghost use Rattle.std.specs.Prelude.{◌≡◌, ◌∷◌, codes, true, drop, option_map, option_copied, IfOk};
 ghost use Rattle.osi_script.specs.Words.{words_of, data_of};
 ghost use Rattle.osi_script.specs.Commands.{command_by, command_in, command_of, last_data};
 ghost use Rattle.osi_script.specs.Lines.{line_command};
@@ -38,6 +38,14 @@ fn user_data_in(alloc: Global, word: &[u8]) -> Result<Option<Vec<u8>>, AllocErro
     }
 }
 
+/// Whether a line begins with the word that asks for octets to be carried, and goes on behind it.
+#[tactic(auto, using(crate::proofs::Carries::carry_first))]
+fn carries(line: &[u8]) -> bool
+    ensures { result ≡ true → words_of line.now ≡ codes "carry" ∷ words_of (drop 6 line.now) }
+{
+    matches!(line, [b'c', b'a', b'r', b'r', b'y', b' ', ..])
+}
+
 /// The octets that the last word of a line spells as user data, where the line asks for something that
 /// has user data: none where it carries octets.
 #[tactic(auto, using(crate::proofs::Carries::last_spells))]
@@ -45,8 +53,7 @@ fn wanted_user_data(alloc: Global, line: &[u8]) -> Result<Option<Vec<u8>>, Alloc
     ensures { IfOk result (λ octets. command_in (words_of line.now) (option_map (λ o. o.items) octets)
         ≡ command_in (words_of line.now) (last_data (words_of line.now))) }
 {
-    let (first, _) = first_word(line);
-    if is(first, "carry") {
+    if carries(line) {
         return Ok(None);
     }
     user_data_in(alloc, last_word(line))

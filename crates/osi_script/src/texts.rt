@@ -27,6 +27,7 @@ pub(crate) fn put(text: &mut Vec<u8>, piece: &str)
 }
 
 /// Adds the word for a side and a blank, for which there is room.
+#[inline(always)]
 pub(crate) fn put_side(text: &mut Vec<u8>, side: End)
     requires { vec_len text.old + 6 ≤ vec_capacity text.old }
     ensures items { text.new.items ≡ text.old.items ++ (side_name side ++ codes " ") }
@@ -40,6 +41,7 @@ pub(crate) fn put_side(text: &mut Vec<u8>, side: End)
 }
 
 /// Adds a digit, for which there is room.
+#[inline(always)]
 #[tactic(auto, using(std::proofs::lemmas::Fmt::decimal_digit))]
 fn put_digit(text: &mut Vec<u8>, digit: u8)
     requires digit { digit < 10 }
@@ -54,7 +56,7 @@ fn put_digit(text: &mut Vec<u8>, digit: u8)
     }
 }
 
-/// Adds a number in decimal, for which there is room. Most numbers of a transcript have one digit.
+/// Adds a number in decimal, for which there is room. Most numbers of a transcript have one digit or two.
 pub(crate) fn put_decimal(text: &mut Vec<u8>, number: u64)
     requires { vec_len text.old + 20 ≤ vec_capacity text.old }
     ensures items { text.new.items ≡ text.old.items ++ decimal number }
@@ -63,6 +65,9 @@ pub(crate) fn put_decimal(text: &mut Vec<u8>, number: u64)
 {
     if number < 10 {
         put_digit(text, number as u8);
+    } else if number < 100 {
+        put_digit(text, (number / 10) as u8);
+        put_digit(text, (number % 10) as u8);
     } else {
         let mut digits = itoa::Buffer::new();
         put(text, digits.format(number));

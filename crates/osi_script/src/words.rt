@@ -16,10 +16,22 @@ const TOKENS: u8 = 0x55;
 
 /// Whether a word is this one.
 #[inline(always)]
+#[tactic(auto, using(crate::proofs::Letters::same_letter, crate::proofs::Letters::other_letter, crate::proofs::Letters::all_letters, crate::proofs::Letters::other_length))]
 pub(crate) fn is(word: &[u8], name: &str) -> bool
     ensures { result ≡ is word.now name.now }
 {
-    word.len() == name.len() && word == name.as_bytes()
+    let letters = name.as_bytes();
+    if word.len() != letters.len() {
+        return false;
+    }
+    let mut index = 0;
+    'letters: while index < letters.len() {
+        if word[index] != letters[index] {
+            return false;
+        }
+        index += 1;
+    }
+    true
 }
 
 /// The number that digits spell behind others, if it is not above a bound.
