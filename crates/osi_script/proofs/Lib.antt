@@ -3,7 +3,6 @@ pub mod Carries
 pub mod Decimals
 pub mod Letters
 pub mod LineEnds
-pub mod ManyWords
 pub mod Numerals
 pub mod Parting
 pub mod Pieces

@@ -4,6 +4,7 @@ pub mod Answers
 pub mod Shown
 pub mod Standing
 pub mod Words
+pub mod Splitting
 pub mod Calls
 pub mod Commands
 pub mod Lines

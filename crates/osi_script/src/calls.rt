@@ -1,8 +1,10 @@
-ghost use Rattle.std.specs.Prelude.{◌≡◌, map, option_map, option_copied};
+ghost use Rattle.std.specs.Prelude.{◌≡◌, option_map, option_copied};
 ghost use Rattle.osi_spdu.specs.Fields.{bits_of};
 ghost use Rattle.osi_session.specs.Calls.{called_by};
 ghost use Rattle.osi_script.specs.Calls.{accept_of, plain_data, give_of, asking, please_of, minor_of, minor_confirm_of, restart_of, restart_confirm_of, call_of};
+ghost use Rattle.osi_script.specs.Splitting.{words_in};
 
+use crate::splitting::Words;
 use crate::verbs::Verb;
 use crate::words::{answer, number, serial, sides, tokens, units, wishes};
 use osi_session::Request;
@@ -12,11 +14,15 @@ use osi_spdu::TokenSet;
 const MOST: u32 = 4_294_967_295;
 
 #[tactic(auto, unfolding(crate::specs::Calls::accept_of))]
-fn accept<'a>(words: &[&[u8]], octets: Option<&'a [u8]>) -> Option<Request<'a>>
+fn accept<'a>(mut words: Words, octets: Option<&'a [u8]>) -> Option<Request<'a>>
     ensures { option_map called_by result
-        ≡ accept_of (map (λ w. w.now) words.now) (option_copied octets.entry) }
+        ≡ accept_of (words_in words.entry) (option_copied octets.entry) }
 {
-    let [selected, first, stated, _] = words else {
+    let selected = words.next_word()?;
+    let first = words.next_word()?;
+    let stated = words.next_word()?;
+    words.next_word()?;
+    let None = words.next_word() else {
         return None;
     };
     let requirements = units(selected)?;
@@ -33,21 +39,23 @@ fn accept<'a>(words: &[&[u8]], octets: Option<&'a [u8]>) -> Option<Request<'a>>
 
 /// The user data of a call that has no other word.
 #[tactic(auto, unfolding(crate::specs::Calls::plain_data))]
-fn plain<'a>(words: &[&[u8]], octets: Option<&'a [u8]>) -> Option<&'a [u8]>
+fn plain<'a>(mut words: Words, octets: Option<&'a [u8]>) -> Option<&'a [u8]>
     ensures { option_copied result
-        ≡ plain_data (map (λ w. w.now) words.now) (option_copied octets.entry) }
+        ≡ plain_data (words_in words.entry) (option_copied octets.entry) }
 {
-    let [_] = words else {
+    words.next_word()?;
+    let None = words.next_word() else {
         return None;
     };
     octets
 }
 
 #[tactic(auto, unfolding(crate::specs::Calls::give_of))]
-fn give<'a>(words: &[&[u8]]) -> Option<Request<'a>>
-    ensures { option_map called_by result ≡ give_of (map (λ w. w.now) words.now) }
+fn give<'a>(mut words: Words) -> Option<Request<'a>>
+    ensures { option_map called_by result ≡ give_of (words_in words.entry) }
 {
-    let [named] = words else {
+    let named = words.next_word()?;
+    let None = words.next_word() else {
         return None;
     };
     let tokens = tokens(named)?;
@@ -62,11 +70,13 @@ fn asking<'a>(tokens: TokenSet, user_data: &'a [u8]) -> Request<'a>
 }
 
 #[tactic(auto, unfolding(crate::specs::Calls::please_of))]
-fn please<'a>(words: &[&[u8]], octets: Option<&'a [u8]>) -> Option<Request<'a>>
+fn please<'a>(mut words: Words, octets: Option<&'a [u8]>) -> Option<Request<'a>>
     ensures { option_map called_by result
-        ≡ please_of (map (λ w. w.now) words.now) (option_copied octets.entry) }
+        ≡ please_of (words_in words.entry) (option_copied octets.entry) }
 {
-    let [named, _] = words else {
+    let named = words.next_word()?;
+    words.next_word()?;
+    let None = words.next_word() else {
         return None;
     };
     let tokens = tokens(named)?;
@@ -75,11 +85,13 @@ fn please<'a>(words: &[&[u8]], octets: Option<&'a [u8]>) -> Option<Request<'a>>
 }
 
 #[tactic(auto, unfolding(crate::specs::Calls::minor_of))]
-fn minor<'a>(words: &[&[u8]], octets: Option<&'a [u8]>) -> Option<Request<'a>>
+fn minor<'a>(mut words: Words, octets: Option<&'a [u8]>) -> Option<Request<'a>>
     ensures { option_map called_by result
-        ≡ minor_of (map (λ w. w.now) words.now) (option_copied octets.entry) }
+        ≡ minor_of (words_in words.entry) (option_copied octets.entry) }
 {
-    let [word, _] = words else {
+    let word = words.next_word()?;
+    words.next_word()?;
+    let None = words.next_word() else {
         return None;
     };
     let confirm = answer(word)?;
@@ -88,11 +100,13 @@ fn minor<'a>(words: &[&[u8]], octets: Option<&'a [u8]>) -> Option<Request<'a>>
 }
 
 #[tactic(auto, unfolding(crate::specs::Calls::minor_confirm_of))]
-fn minor_confirm<'a>(words: &[&[u8]], octets: Option<&'a [u8]>) -> Option<Request<'a>>
+fn minor_confirm<'a>(mut words: Words, octets: Option<&'a [u8]>) -> Option<Request<'a>>
     ensures { option_map called_by result
-        ≡ minor_confirm_of (map (λ w. w.now) words.now) (option_copied octets.entry) }
+        ≡ minor_confirm_of (words_in words.entry) (option_copied octets.entry) }
 {
-    let [point, _] = words else {
+    let point = words.next_word()?;
+    words.next_word()?;
+    let None = words.next_word() else {
         return None;
     };
     let number = number(point, MOST)?;
@@ -101,11 +115,14 @@ fn minor_confirm<'a>(words: &[&[u8]], octets: Option<&'a [u8]>) -> Option<Reques
 }
 
 #[tactic(auto, unfolding(crate::specs::Calls::restart_of))]
-fn restart<'a>(words: &[&[u8]], octets: Option<&'a [u8]>) -> Option<Request<'a>>
+fn restart<'a>(mut words: Words, octets: Option<&'a [u8]>) -> Option<Request<'a>>
     ensures { option_map called_by result
-        ≡ restart_of (map (λ w. w.now) words.now) (option_copied octets.entry) }
+        ≡ restart_of (words_in words.entry) (option_copied octets.entry) }
 {
-    let [point, wished, _] = words else {
+    let point = words.next_word()?;
+    let wished = words.next_word()?;
+    words.next_word()?;
+    let None = words.next_word() else {
         return None;
     };
     let number = number(point, MOST)?;
@@ -119,11 +136,13 @@ fn restart<'a>(words: &[&[u8]], octets: Option<&'a [u8]>) -> Option<Request<'a>>
 }
 
 #[tactic(auto, unfolding(crate::specs::Calls::restart_confirm_of))]
-fn restart_confirm<'a>(words: &[&[u8]], octets: Option<&'a [u8]>) -> Option<Request<'a>>
+fn restart_confirm<'a>(mut words: Words, octets: Option<&'a [u8]>) -> Option<Request<'a>>
     ensures { option_map called_by result
-        ≡ restart_confirm_of (map (λ w. w.now) words.now) (option_copied octets.entry) }
+        ≡ restart_confirm_of (words_in words.entry) (option_copied octets.entry) }
 {
-    let [stated, _] = words else {
+    let stated = words.next_word()?;
+    words.next_word()?;
+    let None = words.next_word() else {
         return None;
     };
     let sides = sides(stated)?;
@@ -132,14 +151,11 @@ fn restart_confirm<'a>(words: &[&[u8]], octets: Option<&'a [u8]>) -> Option<Requ
 }
 
 /// What a call asks for, by its verb and the words behind it, of which the last spells this user data.
+#[inline(always)]
 #[tactic(auto, unfolding(crate::specs::Calls::call_of))]
-pub(crate) fn request<'a>(
-    verb: Verb,
-    words: &[&[u8]],
-    octets: Option<&'a [u8]>,
-) -> Option<Request<'a>>
+pub(crate) fn request<'a>(verb: Verb, words: Words, octets: Option<&'a [u8]>) -> Option<Request<'a>>
     ensures { option_map called_by result
-        ≡ call_of verb (map (λ w. w.now) words.now) (option_copied octets.entry) }
+        ≡ call_of verb (words_in words.entry) (option_copied octets.entry) }
 {
     match verb {
         Verb::Accept => accept(words, octets),

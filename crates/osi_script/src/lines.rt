@@ -5,13 +5,10 @@ ghost use Rattle.osi_script.specs.Lines.{line_command};
 
 use crate::commands::Command;
 use crate::reading::command;
-use crate::splitting::{first_word, last_word};
+use crate::splitting::{Words, last_word};
 use crate::words::is;
 use hex::FromHexError;
 use std::alloc::{AllocError, Global};
-
-/// A line with so many words asks for nothing: the longest that asks for anything has one less.
-const MOST_WORDS: usize = 8;
 
 /// A line of a script, and the octets that its last word spells as user data.
 #[derive(Drop)]
@@ -83,18 +80,6 @@ impl<'l> Line<'l> {
     pub fn command(&self) -> Option<Command<'_>>
         ensures { option_map command_by result ≡ line_command self.now }
     {
-        let mut words = [self.octets; MOST_WORDS];
-        let mut count = 0;
-        let mut rest = Some(self.octets);
-        'words: while count < MOST_WORDS {
-            let Some(text) = rest else {
-                return command(&words[..count], octets_in(&self.user_data));
-            };
-            let (word, behind) = first_word(text);
-            words[count] = word;
-            count += 1;
-            rest = behind;
-        }
-        None
+        command(Words::of(self.octets), octets_in(&self.user_data))
     }
 }

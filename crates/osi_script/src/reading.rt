@@ -1,18 +1,24 @@
-ghost use Rattle.std.specs.Prelude.{◌≡◌, map, option_map, option_copied};
+ghost use Rattle.std.specs.Prelude.{◌≡◌, option_map, option_copied};
 ghost use Rattle.osi_script.specs.Commands.{command_by, ends_of, connect_of, carry_of, break_of, told_of, user_call, command_in};
+ghost use Rattle.osi_script.specs.Splitting.{words_in};
 
 use crate::calls::request;
 use crate::commands::Command;
+use crate::splitting::Words;
 use crate::words::{classes, is, number, serial, side, size, units, verb, window, wishes};
 
 /// The greatest count of octets.
 const MOST_OCTETS: u32 = 4_294_967_295;
 
 #[tactic(auto, unfolding(crate::specs::Commands::ends_of))]
-fn ends<'a>(words: &[&[u8]]) -> Option<Command<'a>>
-    ensures { option_map command_by result ≡ ends_of (map (λ w. w.now) words.now) }
+fn ends<'a>(mut words: Words) -> Option<Command<'a>>
+    ensures { option_map command_by result ≡ ends_of (words_in words.entry) }
 {
-    let [caller, called, code, credit] = words else {
+    let caller = words.next_word()?;
+    let called = words.next_word()?;
+    let code = words.next_word()?;
+    let credit = words.next_word()?;
+    let None = words.next_word() else {
         return None;
     };
     let caller = classes(caller)?;
@@ -28,11 +34,15 @@ fn ends<'a>(words: &[&[u8]]) -> Option<Command<'a>>
 }
 
 #[tactic(auto, unfolding(crate::specs::Commands::connect_of))]
-fn connect<'a>(words: &[&[u8]], octets: Option<&'a [u8]>) -> Option<Command<'a>>
+fn connect<'a>(mut words: Words, octets: Option<&'a [u8]>) -> Option<Command<'a>>
     ensures { option_map command_by result
-        ≡ connect_of (map (λ w. w.now) words.now) (option_copied octets.entry) }
+        ≡ connect_of (words_in words.entry) (option_copied octets.entry) }
 {
-    let [offered, first, sides, _] = words else {
+    let offered = words.next_word()?;
+    let first = words.next_word()?;
+    let sides = words.next_word()?;
+    words.next_word()?;
+    let None = words.next_word() else {
         return None;
     };
     let requirements = units(offered)?;
@@ -48,10 +58,12 @@ fn connect<'a>(words: &[&[u8]], octets: Option<&'a [u8]>) -> Option<Command<'a>>
 }
 
 #[tactic(auto, unfolding(crate::specs::Commands::carry_of))]
-fn carry<'a>(words: &[&[u8]]) -> Option<Command<'a>>
-    ensures { option_map command_by result ≡ carry_of (map (λ w. w.now) words.now) }
+fn carry<'a>(mut words: Words) -> Option<Command<'a>>
+    ensures { option_map command_by result ≡ carry_of (words_in words.entry) }
 {
-    let [name, octets] = words else {
+    let name = words.next_word()?;
+    let octets = words.next_word()?;
+    let None = words.next_word() else {
         return None;
     };
     let side = side(name)?;
@@ -60,10 +72,12 @@ fn carry<'a>(words: &[&[u8]]) -> Option<Command<'a>>
 }
 
 #[tactic(auto, unfolding(crate::specs::Commands::break_of))]
-fn breaks<'a>(words: &[&[u8]]) -> Option<Command<'a>>
-    ensures { option_map command_by result ≡ break_of (map (λ w. w.now) words.now) }
+fn breaks<'a>(mut words: Words) -> Option<Command<'a>>
+    ensures { option_map command_by result ≡ break_of (words_in words.entry) }
 {
-    let [left, right] = words else {
+    let left = words.next_word()?;
+    let right = words.next_word()?;
+    let None = words.next_word() else {
         return None;
     };
     let left = number(left, MOST_OCTETS)?;
@@ -72,10 +86,11 @@ fn breaks<'a>(words: &[&[u8]]) -> Option<Command<'a>>
 }
 
 #[tactic(auto, unfolding(crate::specs::Commands::told_of))]
-fn told<'a>(words: &[&[u8]]) -> Option<Command<'a>>
-    ensures { option_map command_by result ≡ told_of (map (λ w. w.now) words.now) }
+fn told<'a>(mut words: Words) -> Option<Command<'a>>
+    ensures { option_map command_by result ≡ told_of (words_in words.entry) }
 {
-    let [name] = words else {
+    let name = words.next_word()?;
+    let None = words.next_word() else {
         return None;
     };
     let side = side(name)?;
@@ -83,17 +98,16 @@ fn told<'a>(words: &[&[u8]]) -> Option<Command<'a>>
 }
 
 #[tactic(auto, unfolding(crate::specs::Commands::user_call))]
-fn call<'a>(first: &[u8], words: &[&[u8]], octets: Option<&'a [u8]>) -> Option<Command<'a>>
+fn call<'a>(first: &[u8], mut words: Words, octets: Option<&'a [u8]>) -> Option<Command<'a>>
     ensures { option_map command_by result
-        ≡ user_call first.now (map (λ w. w.now) words.now) (option_copied octets.entry) }
+        ≡ user_call first.now (words_in words.entry) (option_copied octets.entry) }
 {
-    let [connection, name, behind @ ..] = words else {
-        return None;
-    };
+    let connection = words.next_word()?;
+    let name = words.next_word()?;
     let side = side(first)?;
     let reference = number(connection, 65_535)?;
     let verb = verb(name)?;
-    let request = request(verb, behind, octets)?;
+    let request = request(verb, words, octets)?;
     Some(Command::Call {
         side,
         reference: reference as u16,
@@ -103,27 +117,25 @@ fn call<'a>(first: &[u8], words: &[&[u8]], octets: Option<&'a [u8]>) -> Option<C
 
 /// What a line with these words asks for, where its last word spells this user data.
 #[tactic(auto, unfolding(crate::specs::Commands::command_in))]
-pub(crate) fn command<'a>(words: &[&[u8]], octets: Option<&'a [u8]>) -> Option<Command<'a>>
+pub(crate) fn command<'a>(mut words: Words, octets: Option<&'a [u8]>) -> Option<Command<'a>>
     ensures { option_map command_by result
-        ≡ command_in (map (λ w. w.now) words.now) (option_copied octets.entry) }
+        ≡ command_in (words_in words.entry) (option_copied octets.entry) }
 {
-    let [first, behind @ ..] = words else {
-        return None;
-    };
+    let first = words.next_word()?;
     if is(first, "ends") {
-        return ends(behind);
+        return ends(words);
     }
     if is(first, "connect") {
-        return connect(behind, octets);
+        return connect(words, octets);
     }
     if is(first, "carry") {
-        return carry(behind);
+        return carry(words);
     }
     if is(first, "break") {
-        return breaks(behind);
+        return breaks(words);
     }
     if is(first, "told") {
-        return told(behind);
+        return told(words);
     }
-    call(first, behind, octets)
+    call(first, words, octets)
 }

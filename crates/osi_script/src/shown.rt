@@ -86,14 +86,20 @@ fn put_minor(text: &mut Vec<u8>, number: u32, confirm: bool)
 {
     put_number(text, u64::from(number));
     put(text, " confirm ");
-    put(text, confirmation(confirm));
+    put_confirmation(text, confirm);
 }
 
-fn confirmation(confirm: bool) -> &'static str
-    ensures value { result.now ≡ confirm_word confirm }
-    ensures short { length result.now ≤ 3 }
+fn put_confirmation(text: &mut Vec<u8>, confirm: bool)
+    requires { vec_len text.old + 3 ≤ vec_capacity text.old }
+    ensures items { text.new.items ≡ text.old.items ++ confirm_word confirm }
+    ensures len { vec_len text.new ≤ vec_len text.old + 3 }
+    ensures capacity { vec_capacity text.old ≤ vec_capacity text.new }
 {
-    if confirm { "yes" } else { "no" }
+    if confirm {
+        put(text, "yes");
+    } else {
+        put(text, "no");
+    }
 }
 
 fn put_sides(text: &mut Vec<u8>, letters: [u8; 4])
@@ -259,13 +265,16 @@ fn user_data(indication: &Indication) -> Option<&Octets>
     }
 }
 
-fn data_word(indication: &Indication) -> &'static str
-    ensures value { result.now ≡ data_word (shown_by indication.now) }
-    ensures short { length result.now ≤ 6 }
+/// What stands in front of the user data of an indication.
+fn put_data_word(text: &mut Vec<u8>, indication: &Indication)
+    requires { vec_len text.old + 6 ≤ vec_capacity text.old }
+    ensures items { text.new.items ≡ text.old.items ++ data_word (shown_by indication.now) }
+    ensures len { vec_len text.new ≤ vec_len text.old + 6 }
+    ensures capacity { vec_capacity text.old ≤ vec_capacity text.new }
 {
     match indication {
-        Indication::Data { .. } => " ",
-        _ => " data ",
+        Indication::Data { .. } => put(text, " "),
+        _ => put(text, " data "),
     }
 }
 
@@ -279,15 +288,12 @@ fn room(user_data: Option<&Octets>) -> Option<usize>
     }
 }
 
-/// Adds a word, octets in hexadecimal or a dash where there is none, and the end of a line, for which there is
-/// room.
+/// Adds octets in hexadecimal or a dash where there is none, and the end of a line, for which there is room.
 #[tactic(auto, unfolding(crate::specs::Texts::data_text))]
-fn put_data(text: &mut Vec<u8>, word: &str, octets: &[u8])
-    requires short { length word.now ≤ 6 }
-    requires room { vec_len text.old + 2 * length octets.now + 16 ≤ vec_capacity text.old }
-    ensures { text.new.items ≡ text.old.items ++ (word.now ++ data_text octets.now ++ codes "\n") }
+fn put_data(text: &mut Vec<u8>, octets: &[u8])
+    requires { vec_len text.old + 2 * length octets.now + 8 ≤ vec_capacity text.old }
+    ensures { text.new.items ≡ text.old.items ++ (data_text octets.now ++ codes "\n") }
 {
-    put(text, word);
     if octets.is_empty() {
         put(text, "-\n");
     } else {
@@ -296,16 +302,20 @@ fn put_data(text: &mut Vec<u8>, word: &str, octets: &[u8])
     }
 }
 
-/// Adds the user data of an indication and the end of its line, for which there is room.
-fn put_end(text: &mut Vec<u8>, word: &str, user_data: Option<&Octets>)
-    requires short { length word.now ≤ 6 }
+/// Adds the user data of an indication, where it has some, and the end of its line, for which there is room.
+#[tactic(auto, unfolding(crate::specs::Shown::shown_octets))]
+fn put_end(text: &mut Vec<u8>, indication: &Indication, user_data: Option<&Octets>)
+    requires value { option_copied user_data ≡ shown_octets (shown_by indication.now) }
     requires room { vec_len text.old + digits_of (option_copied user_data) + 16 ≤ vec_capacity text.old }
     ensures { text.new.items
-        ≡ text.old.items ++ (data_field word.now (option_copied user_data.entry) ++ codes "\n") }
+        ≡ text.old.items ++ (data_field (data_word (shown_by indication.now)) (shown_octets (shown_by indication.now)) ++ codes "\n") }
 {
     match user_data {
         None => put(text, "\n"),
-        Some(octets) => put_data(text, word, octets.as_slice()),
+        Some(octets) => {
+            put_data_word(text, indication);
+            put_data(text, octets.as_slice());
+        }
     }
 }
 
@@ -344,6 +354,6 @@ pub fn push_indication(
     out.reserve(room)?;
     put_head(out, side, reference, indication);
     put_fields(out, indication);
-    put_end(out, data_word(indication), octets);
+    put_end(out, indication, octets);
     Ok(())
 }

@@ -1,10 +1,11 @@
 //! Where a line is parted into words: at each blank.
 
-ghost use Rattle.std.specs.Prelude.{◌≡◌, ◌-◌, ◌∷◌, [], length, Some};
+ghost use Rattle.std.specs.Prelude.{◌≡◌, ◌-◌, ◌∷◌, [], length, Some, IfSome, IfNone};
 ghost use Rattle.std.specs.List.{slice_get};
 ghost use Rattle.std.specs.Option.{option_map_or};
 ghost use Rattle.memchr.specs.Find.{IsFirstByte, is_byte};
 ghost use Rattle.osi_script.specs.Words.{words_of};
+ghost use Rattle.osi_script.specs.Splitting.{words_in};
 
 use memchr::memrchr;
 
@@ -49,5 +50,33 @@ pub(crate) fn last_word(line: &[u8]) -> &[u8]
             let (_, word) = line.split_at(index + 1);
             word
         }
+    }
+}
+
+/// The words of a line that were not read yet.
+#[derive(Clone, Copy)]
+pub(crate) struct Words<'l> {
+    rest: Option<&'l [u8]>,
+}
+
+impl<'l> Words<'l> {
+    /// All words of a line.
+    pub(crate) fn of(line: &'l [u8]) -> Words<'l>
+        ensures { words_in result ≡ words_of line.entry.now }
+    {
+        Words { rest: Some(line) }
+    }
+
+    /// Reads the next word, where there is one.
+    pub(crate) fn next_word(&mut self) -> Option<&'l [u8]>
+        ensures some { IfSome result (λ word. words_in self.old ≡ word.now ∷ words_in self.new) }
+        ensures none { IfNone result (words_in self.old ≡ []) }
+    {
+        let Some(line) = self.rest else {
+            return None;
+        };
+        let (word, rest) = first_word(line);
+        self.rest = rest;
+        Some(word)
     }
 }

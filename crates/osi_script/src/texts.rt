@@ -56,7 +56,20 @@ fn put_digit(text: &mut Vec<u8>, digit: u8)
     }
 }
 
+/// Adds a number of many digits in decimal, for which there is room.
+#[inline(never)]
+fn put_digits(text: &mut Vec<u8>, number: u64)
+    requires { vec_len text.old + 20 ≤ vec_capacity text.old }
+    ensures items { text.new.items ≡ text.old.items ++ decimal number }
+    ensures len { vec_len text.new ≤ vec_len text.old + 20 }
+    ensures capacity { vec_capacity text.old ≤ vec_capacity text.new }
+{
+    let mut digits = itoa::Buffer::new();
+    put(text, digits.format(number));
+}
+
 /// Adds a number in decimal, for which there is room. Most numbers of a transcript have one digit or two.
+#[inline(always)]
 pub(crate) fn put_decimal(text: &mut Vec<u8>, number: u64)
     requires { vec_len text.old + 20 ≤ vec_capacity text.old }
     ensures items { text.new.items ≡ text.old.items ++ decimal number }
@@ -69,8 +82,7 @@ pub(crate) fn put_decimal(text: &mut Vec<u8>, number: u64)
         put_digit(text, (number / 10) as u8);
         put_digit(text, (number % 10) as u8);
     } else {
-        let mut digits = itoa::Buffer::new();
-        put(text, digits.format(number));
+        put_digits(text, number);
     }
 }
 
