@@ -60,6 +60,12 @@ serial_field (Some n) = codes " serial " ++ decimal n
 unfoldable pub opening_fields : ℕ → Option ℕ → List ℕ → List ℕ
 opening_fields units serial letters = units_field units ++ serial_field serial ++ sides_field letters
 
+-- the fields of a connection that is asked for or accepted
+unfoldable pub opened_fields : Shown → List ℕ
+opened_fields (Connect units serial wishes octets) = opening_fields units serial (wishes_text wishes)
+opened_fields (Connected units serial sides octets) = opening_fields units serial (sides_text sides)
+opened_fields other = []
+
 unfoldable pub shown_fields : Shown → List ℕ
 shown_fields (Connect units serial wishes octets) = opening_fields units serial (wishes_text wishes)
 shown_fields (Connected units serial sides octets) = opening_fields units serial (sides_text sides)

@@ -3,7 +3,7 @@ ghost use Rattle.std.specs.Fmt.{decimal};
 ghost use Rattle.osi_spdu.specs.Fields.{unit_bits};
 ghost use Rattle.osi_session.specs.Shown.{shown_by, abort_shown};
 ghost use Rattle.osi_script.specs.Names.{side_name, unit_fault_name};
-ghost use Rattle.osi_script.specs.Shown.{shown_name, shown_fields, shown_octets, shown_line, number_field, octet_field, confirm_word, minor_fields, sides_field, restart_fields, units_field, serial_field, opening_fields, data_word, data_field};
+ghost use Rattle.osi_script.specs.Shown.{shown_name, shown_fields, shown_octets, shown_line, number_field, octet_field, confirm_word, minor_fields, sides_field, restart_fields, units_field, serial_field, opening_fields, opened_fields, data_word, data_field};
 ghost use Rattle.osi_script.specs.Texts.{data_text, digits_of};
 
 use crate::names::unit_fault;
@@ -190,11 +190,11 @@ fn put_cause(text: &mut Vec<u8>, cause: AbortCause)
     }
 }
 
-/// The fields between the name of an indication and its user data, where there is room.
-#[tactic(auto, unfolding(crate::specs::Shown::shown_fields))]
-fn put_fields(text: &mut Vec<u8>, indication: &Indication)
+/// The fields of a connection that is asked for or accepted, for which there is room; nothing of another indication.
+#[tactic(auto, unfolding(crate::specs::Shown::opened_fields))]
+fn put_opened(text: &mut Vec<u8>, indication: &Indication)
     requires { vec_len text.old + 64 ≤ vec_capacity text.old }
-    ensures items { text.new.items ≡ text.old.items ++ shown_fields (shown_by indication.now) }
+    ensures items { text.new.items ≡ text.old.items ++ opened_fields (shown_by indication.now) }
     ensures len { vec_len text.new ≤ vec_len text.old + 64 }
     ensures capacity { vec_capacity text.old ≤ vec_capacity text.new }
 {
@@ -211,6 +211,20 @@ fn put_fields(text: &mut Vec<u8>, indication: &Indication)
             sides,
             ..
         } => put_opening(text, *requirements, *serial, letters_of_sides(*sides)),
+        _ => (),
+    }
+}
+
+/// The fields between the name of an indication and its user data, for which there is room.
+#[tactic(auto, unfolding(crate::specs::Shown::shown_fields, crate::specs::Shown::opened_fields))]
+fn put_fields(text: &mut Vec<u8>, indication: &Indication)
+    requires { vec_len text.old + 64 ≤ vec_capacity text.old }
+    ensures items { text.new.items ≡ text.old.items ++ shown_fields (shown_by indication.now) }
+    ensures len { vec_len text.new ≤ vec_len text.old + 64 }
+    ensures capacity { vec_capacity text.old ≤ vec_capacity text.new }
+{
+    match indication {
+        Indication::Connect { .. } | Indication::Connected { .. } => put_opened(text, indication),
         Indication::RefusedByTransport { reason } => put_number(text, u64::from(*reason)),
         Indication::RefusedBySession { reason, .. } => put_number(text, u64::from(*reason)),
         Indication::Given { tokens } => put_bits(text, tokens.bits()),
