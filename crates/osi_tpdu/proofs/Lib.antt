@@ -1,3 +1,5 @@
+pub mod FaultLaws
 pub mod Loops
 pub mod PacketLaws
+pub mod UnitFaults
 pub mod WrittenUnits

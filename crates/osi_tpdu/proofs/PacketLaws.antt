@@ -16,8 +16,9 @@ use Rattle.osi_tpdu.specs.Packet.{AreUnits, AreLeads, IsFirstFault, Follows, uni
 use Rattle.osi_tpdu.specs.Writing.{Fits}
 use Rattle.osi_tpdu.specs.Laws.Written.{spelled_fits}
 use Rattle.osi_tpdu.specs.Rest.{can_be_read, rest_at}
-use Rattle.osi_tpdu.specs.Laws.Steps.{bind_ok, chosen, ok_is, IsOctets-drop}
+use Rattle.osi_tpdu.specs.Laws.Steps.{bind_ok, chosen, ok_is, IsOctets-back, IsOctets-drop}
 use Rattle.osi_tpdu.specs.Laws.OneUnit.{unit_takes, unit_found, unit_spelled, stands_alone}
+use Rattle.osi_tpdu.proofs.UnitFaults.{unit_fault_found, unit_fault_only}
 
 abbrev Read : Type 0
 Read = Result (List Value) TpduFault
@@ -382,7 +383,7 @@ fault_found b f octets bad =
       whole = s.whole;
       are_leads = s.are_leads;
       some = s.some;
-      bad = ap (λ (k : ℕ). unit_at k s.rest) (sym (zero-add (length s.front))) ∙ s.bad;
+      bad = unit_fault_found (length s.front) s.rest f (IsOctets-back s.front s.rest (subst (λ (t : List ℕ). IsOctets t) s.whole octets)) (ap (λ (k : ℕ). unit_at k s.rest) (sym (zero-add (length s.front))) ∙ s.bad);
     }
 
 units_at_bad : (n at : ℕ) (leads : List Value) (front rest : List ℕ) (f : TpduFault) → length (front ++ rest) < n → AreLeads leads front → (1 ≤ length (front ++ rest) → 1 ≤ length rest)
@@ -410,10 +411,11 @@ units_at_bad (suc n) at (v ∷ leads) front rest f enough are some bad =
     let others = units_at_bad n (at + length x) leads y rest f (omega arith) are.5 (λ h. left) bad' in
     rw (read, more, behind, others) refl
 
-pub fault_only : (b : List ℕ) (f : TpduFault) → IsFirstFault b f → units_of b ≡ Err f
+pub fault_only : (b : List ℕ) (f : TpduFault) → IsOctets b → IsFirstFault b f → units_of b ≡ Err f
 unfolding units_of
-fault_only b f first =
+fault_only b f octets first =
+    let behind : IsOctets first.rest = IsOctets-back first.front first.rest (subst (λ (t : List ℕ). IsOctets t) first.whole octets) in
     let some : 1 ≤ length (first.front ++ first.rest) → 1 ≤ length first.rest = λ h. first.some (subst (λ (t : List ℕ). 1 ≤ length t) (sym first.whole) h) in
-    let bad : unit_at (0 + length first.front) first.rest ≡ Err f = ap (λ (k : ℕ). unit_at k first.rest) (zero-add (length first.front)) ∙ first.bad in
+    let bad : unit_at (0 + length first.front) first.rest ≡ Err f = ap (λ (k : ℕ). unit_at k first.rest) (zero-add (length first.front)) ∙ unit_fault_only (length first.front) first.rest f behind first.bad in
     let there = units_at_bad (suc (length (first.front ++ first.rest))) 0 first.leads first.front first.rest f (omega arith) first.are_leads some bad in
     ap (λ (t : List ℕ). units_at (suc (length t)) 0 t) first.whole ∙ there

@@ -7,6 +7,7 @@ use Rattle.osi_tpdu.specs.declared.faults.TpduFault.TheVariants.{BadLi}
 use Rattle.osi_tpdu.specs.Value.{Value, may_be_followed}
 use Rattle.osi_tpdu.specs.Spelling.{Spells}
 use Rattle.osi_tpdu.specs.Reading.{◌>>=◌, unit_at}
+use Rattle.osi_tpdu.specs.Faults.{IsUnitFault}
 
 -- the octets are spellings of the units, one after the other
 abbrev pub AreUnits : List Value → List ℕ → Type 0
@@ -34,8 +35,8 @@ units_at (suc n) at octets = do
 unfoldable pub units_of : List ℕ → Result (List Value) TpduFault
 units_of octets = units_at (suc (length octets)) 0 octets
 
--- the fault of a packet, at its offset: that of the first unit that cannot be read, where something
--- stands behind the units before it, or the packet is empty
+-- the fault of a packet, at its offset: the first of a unit that has one, where something stands behind
+-- the units before it, or the packet is empty
 pub record IsFirstFault (octets : List ℕ) (fault : TpduFault) : Type 0 where
   pub leads : List Value
   pub front : List ℕ
@@ -43,4 +44,4 @@ pub record IsFirstFault (octets : List ℕ) (fault : TpduFault) : Type 0 where
   pub whole : octets ≡ front ++ rest
   pub are_leads : AreLeads leads front
   pub some : 1 ≤ length octets → 1 ≤ length rest
-  pub bad : unit_at (length front) rest ≡ Err fault
+  pub bad : IsUnitFault (length front) rest fault

@@ -1,10 +1,11 @@
 //! Laws of the definitions that the contracts cite. Each function does nothing: its clauses are the
 //! laws.
 
-ghost use Rattle.std.specs.Prelude.{◌≡◌, ℕ, List, [], ◌∷◌, ◌++◌, Ok, Err, ◌↔◌};
+ghost use Rattle.std.specs.Prelude.{◌≡◌, ℕ, List, [], ◌∷◌, ◌++◌, Ok, Err, IsOk, ◌↔◌};
 ghost use Rattle.std.specs.List.{AllByRecursion};
 ghost use Rattle.osi_tpkt.specs.Octets.{IsOctets};
 ghost use Rattle.osi_tpkt.specs.Unit.{IsAtFront};
+ghost use Rattle.osi_tpdu.specs.Faults.{HasFault, IsUnitFault};
 ghost use Rattle.osi_tpdu.specs.Packet.{AreUnits, AreLeads, IsFirstFault, Follows, units_of};
 ghost use Rattle.osi_tpdu.specs.Reading.{unit_at};
 ghost use Rattle.osi_tpdu.specs.Spelling.{Spells};
@@ -20,6 +21,15 @@ pub fn one_unit()
         IsAtFront Spells Follows v n octets }
     ensures only { (v : Value) (n : ℕ) (octets : List ℕ) → IsAtFront Spells Follows v n octets →
         unit_at 0 octets ≡ Ok (v, n) }
+{}
+
+/// The fault that reading answers at a unit is the first of its faults, in the order of its octets,
+/// and the first is answered. A unit that has none is read.
+pub fn first_fault_of_a_unit()
+    ensures fault { (at : ℕ) (octets : List ℕ) (fault : TpduFault) → IsOctets octets →
+        (unit_at at octets ≡ Err fault) ↔ IsUnitFault at octets fault }
+    ensures none { (at : ℕ) (octets : List ℕ) → IsOctets octets →
+        IsOk (unit_at at octets) ↔ ((fault : TpduFault) → ¬ (HasFault at octets fault)) }
 {}
 
 /// The units of a packet: what is read is spelled so, what is spelled so is read, and so a packet

@@ -1,6 +1,6 @@
 //! Writing one unit, in the one form that this product writes (X.224 section 13).
 
-ghost use Rattle.std.specs.Prelude.{◌≡◌, ◌+◌, ◌*◌, ◌<◌, ◌≤◌, ◌^◌, ◌++◌, ◌∷◌, [], length, Ok, IfSome, OnOk, OnErr, option_copied, option_map};
+ghost use Rattle.std.specs.Prelude.{◌≡◌, ◌+◌, ◌*◌, ◌<◌, ◌≤◌, ◌^◌, ◌++◌, ◌∷◌, [], length, Ok, IsOk, IfSome, OnOk, OnErr, option_copied, option_map};
 ghost use Rattle.std.specs.List.{flat_map};
 ghost use Rattle.bytes.specs.Filled.{UsesSpare};
 ghost use Rattle.osi_tpkt.specs.Octets.{IsOctets};
@@ -293,6 +293,8 @@ pub fn write(unit: &Tpdu<'_>, out: &mut BytesMut) -> Result<(), AllocError>
     ensures again { OnOk result (units_of (written (value unit.now)) ≡ Ok (value unit.now ∷ [])) }
     ensures err { OnErr result (out.new.items ≡ out.old.items) }
     ensures full { OnErr result (out.old.spare < length (written (value unit.now))) }
+    // Where there is room for it, it is written.
+    ensures enough { length (written (value unit.now)) ≤ out.old.spare → IsOk result }
     // The room that was there is used for what is written, and for nothing else.
     ensures spare { UsesSpare result out.old.spare out.new.spare (length (written (value unit.now))) }
 {

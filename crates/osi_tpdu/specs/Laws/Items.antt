@@ -39,7 +39,7 @@ Gains-then code a b c xs ys p q =
     ∙ ap (λ (l : List (List ℕ)). l ++ values_of code ys) p
     ∙ q
 
-Adds-then : (a b c : Parameters) (xs ys : List Item) → Adds a xs b → Adds b ys c → Adds a (xs ++ ys) c
+pub Adds-then : (a b c : Parameters) (xs ys : List Item) → Adds a xs b → Adds b ys c → Adds a (xs ++ ys) c
 Adds-then a b c xs ys p q = record {
   size = Gains-then 0xC0 (single a.size) (single b.size) (single c.size) xs ys p.size q.size;
   calling = Gains-then 0xC1 a.calling b.calling c.calling xs ys p.calling q.calling;
@@ -51,7 +51,7 @@ Adds-then a b c xs ys p q = record {
 Gains-none : (code : ℕ) (o : Option (List ℕ)) → Gains code o [] o
 Gains-none code o = append-nil (option_to_list o)
 
-Adds-none : (p : Parameters) → Adds p [] p
+pub Adds-none : (p : Parameters) → Adds p [] p
 Adds-none p = record {
   size = Gains-none 0xC0 (single p.size);
   calling = Gains-none 0xC1 p.calling;
@@ -80,16 +80,20 @@ is_none (Some x) e = absurd cc
 abbrev Adding : ℕ → List ℕ → Parameters → Parameters → Type 0
 Adding code value p m = Adds p (item code value ∷ []) m × AreParameters m
 
+-- this holds in whichever order the last two tests stand
 size_found : (at : ℕ) (value : List ℕ) (p m : Parameters) → AreParameters p → with_size at value p ≡ Ok m → Adding 0xC0 value p m
 unfolding with_size
 size_found at value p m fits e =
     let a = unless_ok (not (eqb (length value) 1)) (BadParameterLength at) _ m e in
-    let b = unless_ok (is_some p.size) (DuplicateParameter at) _ m a.1 in
+    let b = unless_ok _ (DuplicateParameter at) _ m a.1 in
     let n = get_or value 0 0 in
     let c = when_ok (leb 7 n && leb n 13) (BadParameterValue at) (Ok (record p { size = Some n })) m b.1 in
     let whole : value ≡ n ∷ [] = one_long value (eqb-true _ _ (not-false _ a.0)) in
     let bounds = and_parts (leb 7 n) (leb n 13) c.0 in
-    let none : p.size ≡ None = is_none p.size b.0 in
+    let twice = b.0 in
+    let within = c.0 in
+    let once : is_some p.size ≡ false = grind arith in
+    let none : p.size ≡ None = is_none p.size once in
     let gained : Gains 0xC0 (single p.size) (item 0xC0 value ∷ []) (single (Some n)) = rw none (ap (λ (v : List ℕ). v ∷ []) whole) in
     subst (λ (m' : Parameters). Adding 0xC0 value p m') (ok_is (record p { size = Some n }) m c.1) (
       record {
@@ -205,7 +209,7 @@ alternative_found at value p m fits octets e =
       },
     )
 
-with_found : (at code : ℕ) (value : List ℕ) (p m : Parameters) → AreParameters p → IsOctets value → with_parameter at code value p ≡ Ok m → Adding code value p m
+pub with_found : (at code : ℕ) (value : List ℕ) (p m : Parameters) → AreParameters p → IsOctets value → with_parameter at code value p ≡ Ok m → Adding code value p m
 unfolding with_parameter
 with_found at code value p m fits octets e =
     elim (chosen (eqb code 0xC0) (with_size at value p) _ (Ok m) e) [

@@ -1,5 +1,5 @@
 ghost use Rattle.std.specs.Prelude.{◌≡◌, List, Err, IfOk, IfErr, IsOk, IsOkAnd, OnErr, MatchResult};
-ghost use Rattle.osi_tpdu.specs.Packet.{AreUnits, units_of};
+ghost use Rattle.osi_tpdu.specs.Packet.{AreUnits, IsFirstFault, units_of};
 ghost use Rattle.osi_tpdu.specs.Reading.{ReadsAs};
 ghost use Rattle.osi_tpdu.specs.Units.{units_left};
 ghost use Rattle.osi_tpdu.specs.Value.{Value};
@@ -33,7 +33,8 @@ pub fn read_units(packet: &[u8]) -> Result<Units<'_>, TpduFault>
     ensures found { IfOk result (λ u. AreUnits (units_left u) packet.now) }
     ensures only { (vs : List Value) → AreUnits vs packet.now → IsOkAnd result (λ u. units_left u ≡ vs) }
     ensures refused { OnErr result ((vs : List Value) → ¬ (AreUnits vs packet.now)) }
-    // Which fault is the first.
+    // The fault is the first one, in the order of the octets.
+    ensures first { IfErr result (λ f. IsFirstFault packet.now f) }
     ensures exact { ReadsAs units_left result (units_of packet.now) }
 {
     read_to_end(packet)?;

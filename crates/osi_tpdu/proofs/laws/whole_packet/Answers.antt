@@ -14,4 +14,4 @@ pub returns-clause-fits : goal.returns-clause-fits
 returns-clause-fits c vs octets are = units_fit vs octets are
 
 pub returns-clause-faults : goal.returns-clause-faults
-returns-clause-faults c octets f are_octets = (fault_found octets f are_octets, fault_only octets f)
+returns-clause-faults c octets f are_octets = (fault_found octets f are_octets, fault_only octets f are_octets)

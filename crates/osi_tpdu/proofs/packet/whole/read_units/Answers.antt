@@ -1,7 +1,7 @@
 use Rattle.std.proofs.Common.{arith, rules}
 use Rattle.std.proofs.lemmas.Result.{err_from_is_err_and}
 use Rattle.osi_tpkt.specs.Octets.{IsOctets}
-use Rattle.osi_tpdu.proofs.PacketLaws.{units_found, packet_left, no_units, one_reading}
+use Rattle.osi_tpdu.proofs.PacketLaws.{units_found, packet_left, no_units, one_reading, fault_found}
 use Rattle.osi_tpdu.proofs.packet.whole.read_units.Goals as goal
 
 pub returns-in_err-read_to_end-clause-only : goal.returns-in_err-read_to_end-clause-only
@@ -11,6 +11,12 @@ pub returns-in_err-read_to_end-clause-refused : goal.returns-in_err-read_to_end-
 returns-in_err-read_to_end-clause-refused c =
     let e = err_from_is_err_and c.from_residual.result c.from_residual.ensures.1 in
     rw e.1 (λ vs us. no_units c.args.packet.now _ vs c.in_err-read_to_end.ensures us)
+
+pub returns-in_err-read_to_end-clause-first : goal.returns-in_err-read_to_end-clause-first
+returns-in_err-read_to_end-clause-first c =
+    let octets : IsOctets c.args.packet.now = λ i. omega (arith, c.type_inv.packet i) in
+    let e = err_from_is_err_and c.from_residual.result c.from_residual.ensures.1 in
+    rw (e.1, e.2) (fault_found c.args.packet.now _ octets c.in_err-read_to_end.ensures)
 
 pub invariant_of-result : goal.invariant_of-result
 invariant_of-result c = record { room = search rules; readable = (packet_left c.args.packet.now c.in_ok-read_to_end.ensures).0 }
