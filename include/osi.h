@@ -186,14 +186,15 @@ typedef struct osi_fault {
     uint64_t offset;   /* 1: the place of the octet in the TSDU, from 0 */
 } osi_fault;
 
-/* What the user of a connection is shown. Fields that the tag does not have are 0. */
+/* What the user of a connection is shown. Fields that the tag does not have are 0, and user_data then
+ * has no octets. */
 typedef struct osi_indication {
     uint32_t tag;
     uint32_t number;       /* of a point, 0 to 999,999 */
     uint16_t reference;    /* of this end: 1 to 65,535, and 0 for none */
     uint16_t requirements; /* functional units */
-    uint8_t has_number;
-    uint8_t confirm;       /* 1 where the confirmation of the point is asked for */
+    uint8_t has_number;    /* 1 where a CN or AC names a number, else 0 */
+    uint8_t confirm;       /* 1 where the confirmation of the point is asked for, else 0 */
     uint8_t tokens;
     uint8_t reason;
     osi_sides sides;
@@ -275,11 +276,12 @@ typedef struct osi_fed {
 /* Feeds octets that came from the peer, in the order in which they came, cut in any way. It stops
  * behind a packet that gives an indication, and uses nothing while one waits: fetch them all, and
  * then feed the rest of the piece. Once the end has ended it uses all. Where it finds no memory the
- * end ends (OSI_END_NO_MEMORY). Of a slot without an end it uses nothing. OSI_OK, OSI_CLOSED. */
+ * end ends (OSI_END_NO_MEMORY). Of a slot without an end it uses nothing, and nothing waits. OSI_OK,
+ * OSI_CLOSED. */
 uint32_t osi_feed(osi_end *end, const uint8_t *piece, size_t length, osi_fed *fed);
 
 /* Lends the octets that are to be carried to the peer, the first of them first; none of a slot that
- * holds no end. They are there until the next call with this end. */
+ * holds no end. They are there until the next call with this end, which stays as it is. */
 void osi_outgoing(osi_end *end, osi_octets *octets);
 
 /* So many of them, the first, have been carried. OSI_OK, OSI_CLOSED, OSI_BAD_ARGUMENT (more than
@@ -290,8 +292,9 @@ uint32_t osi_taken(osi_end *end, size_t octets);
  * end of his connection is then shown OSI_LOST. Nothing where the end has ended. OSI_OK, OSI_CLOSED. */
 uint32_t osi_broken(osi_end *end);
 
-/* Why the end has ended, and what belongs to it. Where it has, osi_outgoing is still to be carried
- * (unless the byte connection broke); then the byte connection is to be closed. */
+/* Why the end has ended, and in detail what belongs to it, which is 0 where nothing is said of it
+ * below. Where it has, osi_outgoing is still to be carried (unless the byte connection broke); then the
+ * byte connection is to be closed. */
 #define OSI_END_NONE 0u                 /* it has not; and for a slot that holds no end */
 #define OSI_END_BROKEN 1u               /* osi_broken */
 #define OSI_END_CLOSED 2u               /* its connection of class 0 was closed here */
@@ -325,7 +328,7 @@ size_t osi_kept(osi_end *end);
  * memory. OSI_OK, OSI_NOTHING (none waits, and the last one is forgotten), OSI_CLOSED. */
 uint32_t osi_fetch(osi_end *end);
 
-/* Shows the indication that was fetched last; OSI_NONE where there is none. */
+/* Shows the indication that was fetched last; OSI_NONE where there is none. The end stays as it is. */
 void osi_last(osi_end *end, osi_indication *shown);
 
 /* Both: whether there was one. */

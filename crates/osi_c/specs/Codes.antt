@@ -110,3 +110,15 @@ reasons detail =
 -- why an end has ended; none where it has not
 abbrev pub reason_of : ℕ → ℕ → Option (Option EndReason)
 reason_of code detail = coded (reasons detail) code
+
+-- what belongs to the reason: the reason of the peer, or the place of an octet; 0 where nothing does
+abbrev pub detail_of : Option EndReason → ℕ
+detail_of (Some (end.PeerClosed reason)) = reason
+detail_of (Some (end.Fault (carrier.Tpkt (packet.BadVersion at)))) = at
+detail_of (Some (end.Fault (carrier.Tpkt (packet.BadLength at)))) = at
+detail_of (Some (end.Fault (carrier.Tpdu (unit.BadLi at)))) = at
+detail_of (Some (end.Fault (carrier.Tpdu (unit.UnknownCode at)))) = at
+detail_of (Some (end.Fault (carrier.Tpdu (unit.BadParameterLength at)))) = at
+detail_of (Some (end.Fault (carrier.Tpdu (unit.BadParameterValue at)))) = at
+detail_of (Some (end.Fault (carrier.Tpdu (unit.DuplicateParameter at)))) = at
+detail_of _ = 0

@@ -1,5 +1,5 @@
 -- What the functions that C calls do: `old` and `new` are what the slot holds.
-use Rattle.std.specs.Prelude.{◌≡◌, ℕ, ◌≤◌, ◌+◌, ◌*◌, Bool, List, [], length, Option, Some, None, option_map}
+use Rattle.std.specs.Prelude.{◌≡◌, ℕ, ◌≤◌, ◌+◌, ◌*◌, Bool, false, List, [], length, Option, Some, None, option_map}
 use Rattle.osi_tpkt.specs.Held.{fresh}
 use Rattle.osi_class.specs.declared.terms.Local.{Local}
 use Rattle.osi_carrier.specs.Calls.{kept_in}
@@ -81,7 +81,7 @@ CallsIf r None answer old new = ⊥
 abbrev pub FeedsTo : List ℕ → ℕ → Bool → Option (Answer CallError) → Option Contents → Option Contents → Type 0
 FeedsTo piece used waits (Some Done) (Some old) (Some new) =
     Feeds old.stack piece (record { used = used; whole = waits }) new.stack × (new.last ≡ old.last)
-FeedsTo piece used waits (Some Closed) None new = (used ≡ 0) × (new ≡ None)
+FeedsTo piece used waits (Some Closed) None new = (used ≡ 0) × (waits ≡ false) × (new ≡ None)
 FeedsTo piece used waits answer old new = ⊥
 
 -- the octets to be carried; none of a slot that holds no end

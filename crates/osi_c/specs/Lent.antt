@@ -1,13 +1,23 @@
--- What a handle lends.
+-- What a slot lends, and what it holds afterwards.
 use base.Fml.{Fml}
 use denote.Ref.{MutBor}
-use denote.Follow.{follows}
+use denote.Follow.{follows, follows_so}
+use mathlib.Core.Option.{none}
+use Rattle.std.specs.Prelude.{◌≡◌, true, refl, ⊤}
 use Rattle.std.specs.declared.option.Option.TheVariants.{Some}
-use Rattle.osi_c.specs.contracts.handles.Contents.{the_row}
-use Rattle.osi_c.specs.contracts.handles.Handle.{the_row as handle_row}
+use Rattle.osi_c.specs.contracts.handles.Contents.{the_row as contents_row}
+use Rattle.osi_c.specs.contracts.slots.OsiEnd.{the_row}
 use Rattle.osi_c.specs.declared.handles.Contents.{Contents}
-use Rattle.osi_c.specs.declared.handles.Handle.{Handle}
+use Rattle.osi_c.specs.declared.slots.OsiEnd.{OsiEnd}
 
--- once the borrow r ends, the handle behind h holds the last value written through r
-abbrev pub LendsContents : MutBor Handle → MutBor Contents → Fml
-LendsContents h r = follows handle_row the_row h.ghost_name r.ghost_name (λ x. record { at = h.now.at; value = Some x })
+-- the slot with other contents
+abbrev pub holding : OsiEnd → Contents → OsiEnd
+holding s x = record { full = true; inner = record { at = s.inner.at; value = Some x }; tied = refl }
+
+-- once the borrow r ends, the slot behind s holds the last value written through r
+abbrev pub LendsSlot : MutBor OsiEnd → MutBor Contents → Fml
+LendsSlot s r = follows the_row contents_row s.ghost_name r.ghost_name (holding s.now)
+
+-- once what was lent is over, the slot behind s holds what it held
+abbrev pub KeepsSlot : MutBor OsiEnd → Fml
+KeepsSlot s = follows_so the_row the_row s.ghost_name none (λ _ _. ⊤) (λ last. last.inner.value ≡ s.now.inner.value)

@@ -1,36 +1,153 @@
--- What an indication in C says.
-use Rattle.std.specs.Prelude.{◌≡◌, ℕ, Bool, true, false, not, Option, Some, None, ◌==◌, if◌then◌else◌}
+-- What an indication in C says: the whole of it, so that a field that the tag does not have is 0.
+use Rattle.std.specs.Prelude.{◌≡◌, ℕ, Bool, true, false, List, [], Option, Some, None}
+use denote.Ref.{Bor}
 use Rattle.osi_spdu.specs.declared.faults.SpduFault.{SpduFault}
 use Rattle.osi_spdu.specs.declared.faults.SpduFault.TheVariants.{UnknownSi, LengthPastEnd, MissingParameter, DuplicateParameter, BadValue, BadConcatenation, TrailingOctets}
+use Rattle.osi_spdu.specs.declared.settings.Side.{Side}
+use Rattle.osi_spdu.specs.declared.settings.Side.TheVariants as side
+use Rattle.osi_spdu.specs.declared.settings.Wish.{Wish}
+use Rattle.osi_spdu.specs.declared.settings.Wish.TheVariants as wish
+use Rattle.osi_spdu.specs.declared.settings.TokenSetting.{TokenSetting}
 use Rattle.osi_session.specs.Shown.{Shown, Connect, Connected, RefusedByTransport, RefusedBySession, Data, Given, Asked, Minor, MinorConfirmed, Major, MajorConfirmed, Restart, Restarted, Release, Released, ReleaseRefused, Aborted, Lost, PeerAbort, BadUnit}
 use Rattle.osi_session.specs.declared.faults.UnitFault.{UnitFault}
 use Rattle.osi_session.specs.declared.faults.UnitFault.TheVariants.{Spelling, Unexpected, NotSelected, TokenHeld, BadNumber, BadTokens}
-use Rattle.osi_c.specs.Arguments.{sides_of, wishes_of}
+use Rattle.osi_session.specs.declared.sides.Sides.{Sides}
+use Rattle.osi_c.specs.declared.arguments.OsiSides.{OsiSides}
 use Rattle.osi_c.specs.declared.telling.OsiFault.{OsiFault}
 use Rattle.osi_c.specs.declared.telling.OsiIndication.{OsiIndication}
 
--- why octets are no session units
-abbrev pub SaysSpelling : OsiFault → SpduFault → Type 0
-SaysSpelling f (UnknownSi at) = (f.spelling ≡ 1) × (f.offset ≡ at)
-SaysSpelling f (LengthPastEnd at) = (f.spelling ≡ 2) × (f.offset ≡ at)
-SaysSpelling f (MissingParameter code at) = (f.spelling ≡ 3) × (f.parameter ≡ code) × (f.offset ≡ at)
-SaysSpelling f (DuplicateParameter code at) = (f.spelling ≡ 4) × (f.parameter ≡ code) × (f.offset ≡ at)
-SaysSpelling f (BadValue code at) = (f.spelling ≡ 5) × (f.parameter ≡ code) × (f.offset ≡ at)
-SaysSpelling f (BadConcatenation at) = (f.spelling ≡ 6) × (f.offset ≡ at)
-SaysSpelling f (TrailingOctets at) = (f.spelling ≡ 7) × (f.offset ≡ at)
+-- ---- a fault
 
--- why a unit is bad
-abbrev pub SaysFault : OsiFault → UnitFault → Type 0
-SaysFault f (Spelling fault) = (f.fault ≡ 1) × SaysSpelling f fault
-SaysFault f (Unexpected si) = (f.fault ≡ 2) × (f.si ≡ si)
-SaysFault f (NotSelected si) = (f.fault ≡ 3) × (f.si ≡ si)
-SaysFault f (TokenHeld si) = (f.fault ≡ 4) × (f.si ≡ si)
-SaysFault f (BadNumber si) = (f.fault ≡ 5) × (f.si ≡ si)
-SaysFault f (BadTokens si) = (f.fault ≡ 6) × (f.si ≡ si)
+-- why octets are no session units: which fault of spelling, of which parameter, and where
+abbrev pub spelled : ℕ → ℕ → ℕ → OsiFault
+spelled spelling parameter at = record { fault = 1; si = 0; spelling = spelling; parameter = parameter; offset = at }
 
--- a serial number, where one is named
-abbrev pub serial_in : OsiIndication → Option ℕ
-serial_in i = if i.has_number == 0 then None else Some i.number
+abbrev pub spelling_told : SpduFault → OsiFault
+spelling_told (UnknownSi at) = spelled 1 0 at
+spelling_told (LengthPastEnd at) = spelled 2 0 at
+spelling_told (MissingParameter code at) = spelled 3 code at
+spelling_told (DuplicateParameter code at) = spelled 4 code at
+spelling_told (BadValue code at) = spelled 5 code at
+spelling_told (BadConcatenation at) = spelled 6 0 at
+spelling_told (TrailingOctets at) = spelled 7 0 at
+
+-- why a unit is bad, by its SI
+abbrev pub of_unit : ℕ → ℕ → OsiFault
+of_unit fault si = record { fault = fault; si = si; spelling = 0; parameter = 0; offset = 0 }
+
+abbrev pub fault_told : UnitFault → OsiFault
+fault_told (Spelling fault) = spelling_told fault
+fault_told (Unexpected si) = of_unit 2 si
+fault_told (NotSelected si) = of_unit 3 si
+fault_told (TokenHeld si) = of_unit 4 si
+fault_told (BadNumber si) = of_unit 5 si
+fault_told (BadTokens si) = of_unit 6 si
+
+-- ---- the side for each token
+
+abbrev pub side_told : Side → ℕ
+side_told side.Asker = 0
+side_told side.Answerer = 1
+
+abbrev pub wish_told : Wish → ℕ
+wish_told wish.Asker = 0
+wish_told wish.Answerer = 1
+wish_told wish.Choice = 2
+
+abbrev pub sides_told : Sides → OsiSides
+sides_told s = record { data_token = side_told s.data_token; minor = side_told s.minor; major = side_told s.major; release = side_told s.release }
+
+abbrev pub wishes_told : TokenSetting → OsiSides
+wishes_told s = record { data_token = wish_told s.data_token; minor = wish_told s.minor; major = wish_told s.major; release = wish_told s.release }
+
+-- ---- an indication
+
+-- whether a serial number is named, and which
+abbrev pub is_named : Option ℕ → ℕ
+is_named None = 0
+is_named (Some number) = 1
+
+abbrev pub number_named : Option ℕ → ℕ
+number_named None = 0
+number_named (Some number) = number
+
+-- 1 for yes, and 0 for no
+abbrev pub flag : Bool → ℕ
+flag true = 1
+flag false = 0
+
+-- no more than of which connection it is, which it is, and the user data that is lent
+abbrev pub plain : ℕ → ℕ → Bor (List ℕ) → OsiIndication
+plain r tag lent = record {
+  tag = tag;
+  number = 0;
+  reference = r;
+  requirements = 0;
+  has_number = 0;
+  confirm = 0;
+  tokens = 0;
+  reason = 0;
+  sides = record { data_token = 0; minor = 0; major = 0; release = 0 };
+  fault = of_unit 0 0;
+  user_data = lent;
+}
+
+-- what an opening says beside
+abbrev pub opened : ℕ → Option ℕ → OsiSides → OsiIndication → OsiIndication
+opened units serial sides i = record i { requirements = units; has_number = is_named serial; number = number_named serial; sides = sides }
+
+-- what C is told of what a user is shown, with the user data that is lent
+abbrev pub telling : ℕ → Shown → Bor (List ℕ) → OsiIndication
+telling r (Connect units serial wishes octets) lent = opened units serial (wishes_told wishes) (plain r 1 lent)
+telling r (Connected units serial sides octets) lent = opened units serial (sides_told sides) (plain r 2 lent)
+telling r (RefusedByTransport reason) lent = record (plain r 3 lent) { reason = reason }
+telling r (RefusedBySession reason octets) lent = record (plain r 4 lent) { reason = reason }
+telling r (Data octets) lent = plain r 5 lent
+telling r (Given tokens) lent = record (plain r 6 lent) { tokens = tokens }
+telling r (Asked tokens octets) lent = record (plain r 7 lent) { tokens = tokens }
+telling r (Minor number confirm octets) lent = record (plain r 8 lent) { number = number; confirm = flag confirm }
+telling r (MinorConfirmed number octets) lent = record (plain r 9 lent) { number = number }
+telling r (Major number octets) lent = record (plain r 10 lent) { number = number }
+telling r (MajorConfirmed octets) lent = plain r 11 lent
+telling r (Restart number wishes octets) lent = record (plain r 12 lent) { number = number; sides = wishes_told wishes }
+telling r (Restarted number sides octets) lent = record (plain r 13 lent) { number = number; sides = sides_told sides }
+telling r (Release octets) lent = plain r 14 lent
+telling r (Released octets) lent = plain r 15 lent
+telling r (ReleaseRefused octets) lent = plain r 16 lent
+telling r (Aborted octets) lent = plain r 17 lent
+telling r Lost lent = plain r 18 lent
+telling r (PeerAbort bits) lent = record (plain r 19 lent) { reason = bits }
+telling r (BadUnit fault) lent = record (plain r 20 lent) { fault = fault_told fault }
+
+-- the user data; no octets where the tag has none
+abbrev pub data_shown : Shown → List ℕ
+data_shown (Connect _ _ _ octets) = octets
+data_shown (Connected _ _ _ octets) = octets
+data_shown (RefusedBySession _ octets) = octets
+data_shown (Data octets) = octets
+data_shown (Asked _ octets) = octets
+data_shown (Minor _ _ octets) = octets
+data_shown (MinorConfirmed _ octets) = octets
+data_shown (Major _ octets) = octets
+data_shown (MajorConfirmed octets) = octets
+data_shown (Restart _ _ octets) = octets
+data_shown (Restarted _ _ octets) = octets
+data_shown (Release octets) = octets
+data_shown (Released octets) = octets
+data_shown (ReleaseRefused octets) = octets
+data_shown (Aborted octets) = octets
+data_shown _ = []
+
+-- which indication it is, of which connection, and what it says
+abbrev pub Says : OsiIndication → ℕ → Shown → Type 0
+Says i r shown = (i ≡ telling r shown i.user_data) × (i.user_data.now ≡ data_shown shown)
+
+-- nothing, or what the user of a connection is shown
+abbrev pub Tells : OsiIndication → Option (ℕ × Shown) → Type 0
+Tells i None = (i ≡ plain 0 0 i.user_data) × (i.user_data.now ≡ [])
+Tells i (Some (r, shown)) = Says i r shown
+
+-- ---- which indications each function tells of
 
 -- which indications tell of the opening of a connection
 abbrev pub is_opening : Shown → Bool
@@ -52,33 +169,3 @@ abbrev pub is_restart : Shown → Bool
 is_restart (Restart _ _ _) = true
 is_restart (Restarted _ _ _) = true
 is_restart _ = false
-
--- which indication it is, and what it says
-abbrev pub Says : OsiIndication → Shown → Type 0
-Says i (Connect units serial wishes octets) =
-    (i.tag ≡ 1) × (i.requirements ≡ units) × (serial_in i ≡ serial) × (wishes_of i.sides ≡ Some wishes) × (i.user_data.now ≡ octets)
-Says i (Connected units serial sides octets) =
-    (i.tag ≡ 2) × (i.requirements ≡ units) × (serial_in i ≡ serial) × (sides_of i.sides ≡ Some sides) × (i.user_data.now ≡ octets)
-Says i (RefusedByTransport reason) = (i.tag ≡ 3) × (i.reason ≡ reason)
-Says i (RefusedBySession reason octets) = (i.tag ≡ 4) × (i.reason ≡ reason) × (i.user_data.now ≡ octets)
-Says i (Data octets) = (i.tag ≡ 5) × (i.user_data.now ≡ octets)
-Says i (Given tokens) = (i.tag ≡ 6) × (i.tokens ≡ tokens)
-Says i (Asked tokens octets) = (i.tag ≡ 7) × (i.tokens ≡ tokens) × (i.user_data.now ≡ octets)
-Says i (Minor number confirm octets) = (i.tag ≡ 8) × (i.number ≡ number) × (not (i.confirm == 0) ≡ confirm) × (i.user_data.now ≡ octets)
-Says i (MinorConfirmed number octets) = (i.tag ≡ 9) × (i.number ≡ number) × (i.user_data.now ≡ octets)
-Says i (Major number octets) = (i.tag ≡ 10) × (i.number ≡ number) × (i.user_data.now ≡ octets)
-Says i (MajorConfirmed octets) = (i.tag ≡ 11) × (i.user_data.now ≡ octets)
-Says i (Restart number wishes octets) = (i.tag ≡ 12) × (i.number ≡ number) × (wishes_of i.sides ≡ Some wishes) × (i.user_data.now ≡ octets)
-Says i (Restarted number sides octets) = (i.tag ≡ 13) × (i.number ≡ number) × (sides_of i.sides ≡ Some sides) × (i.user_data.now ≡ octets)
-Says i (Release octets) = (i.tag ≡ 14) × (i.user_data.now ≡ octets)
-Says i (Released octets) = (i.tag ≡ 15) × (i.user_data.now ≡ octets)
-Says i (ReleaseRefused octets) = (i.tag ≡ 16) × (i.user_data.now ≡ octets)
-Says i (Aborted octets) = (i.tag ≡ 17) × (i.user_data.now ≡ octets)
-Says i Lost = i.tag ≡ 18
-Says i (PeerAbort bits) = (i.tag ≡ 19) × (i.reason ≡ bits)
-Says i (BadUnit fault) = (i.tag ≡ 20) × SaysFault i.fault fault
-
--- nothing, or what the user of a connection is shown
-abbrev pub Tells : OsiIndication → Option (ℕ × Shown) → Type 0
-Tells i None = i.tag ≡ 0
-Tells i (Some (r, shown)) = (i.reference ≡ r) × Says i shown

@@ -21,7 +21,7 @@ fn call(end: &mut OsiEnd, reference: u16, request: Request<'_>) -> u32
     if !end.full {
         return CLOSED;
     }
-    match end.inner.get_mut().stack.call(Ref(reference), request) {
+    match end.get_mut().stack.call(Ref(reference), request) {
         Ok(()) => OK,
         Err(error) => refusal(error),
     }

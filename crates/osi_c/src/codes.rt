@@ -1,7 +1,7 @@
 //! The numbers that C is answered with.
 
 ghost use Rattle.std.specs.Prelude.{◌≡◌, Some};
-ghost use Rattle.osi_c.specs.Codes.{answer_of, asked_of, phase_of, reason_of, Refused};
+ghost use Rattle.osi_c.specs.Codes.{answer_of, asked_of, phase_of, reason_of, detail_of, Refused};
 
 use osi_carrier::{CarrierFault, EndReason, OpenError};
 use osi_class::LinkFault;
@@ -96,7 +96,8 @@ fn told(code: u32, detail: u64) -> Coded
 
 /// Why an end has ended; 0 where it has not.
 pub(crate) fn end_code(ended: Option<EndReason>) -> Coded
-    ensures { reason_of result.code result.detail ≡ Some ended }
+    ensures value { reason_of result.code result.detail ≡ Some ended }
+    ensures detail { result.detail ≡ detail_of ended }
 {
     match ended {
         None => told(0, 0),
@@ -114,7 +115,8 @@ pub(crate) fn end_code(ended: Option<EndReason>) -> Coded
 }
 
 fn packet_fault(fault: TpktFault) -> Coded
-    ensures { reason_of result.code result.detail ≡ Some (Some (EndReason.Fault (CarrierFault.Tpkt fault))) }
+    ensures value { reason_of result.code result.detail ≡ Some (Some (EndReason.Fault (CarrierFault.Tpkt fault))) }
+    ensures detail { result.detail ≡ detail_of (Some (EndReason.Fault (CarrierFault.Tpkt fault))) }
 {
     match fault {
         TpktFault::BadVersion(offset) => told(10, offset),
@@ -124,7 +126,8 @@ fn packet_fault(fault: TpktFault) -> Coded
 }
 
 fn unit_fault(fault: TpduFault) -> Coded
-    ensures { reason_of result.code result.detail ≡ Some (Some (EndReason.Fault (CarrierFault.Tpdu fault))) }
+    ensures value { reason_of result.code result.detail ≡ Some (Some (EndReason.Fault (CarrierFault.Tpdu fault))) }
+    ensures detail { result.detail ≡ detail_of (Some (EndReason.Fault (CarrierFault.Tpdu fault))) }
 {
     match fault {
         TpduFault::BadLi(offset) => told(13, offset as u64),

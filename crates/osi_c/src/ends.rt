@@ -30,7 +30,7 @@ pub extern "C" fn osi_caller(alloc: Global, end: &mut OsiEnd, own: &OsiTerms) ->
     let Ok(inner) = Handle::new(alloc, contents) else {
         return NO_MEMORY;
     };
-    *end = OsiEnd { full: true, inner };
+    end.fill(inner);
     OK
 }
 
@@ -52,7 +52,7 @@ pub extern "C" fn osi_called(alloc: Global, end: &mut OsiEnd, own: &OsiTerms) ->
     let Ok(inner) = Handle::new(alloc, contents) else {
         return NO_MEMORY;
     };
-    *end = OsiEnd { full: true, inner };
+    end.fill(inner);
     OK
 }
 
@@ -70,16 +70,19 @@ pub extern "C" fn osi_free(alloc: Global, end: &mut OsiEnd)
     );
     if full {
         drop(inner.into_box(alloc));
+    } else {
+        inner.discard();
     }
 }
 
 fn ask(end: &mut OsiEnd, connect: &Connect, reference: &mut u16) -> u32
-    ensures { Connects connect.now (asked_of result) end.old.inner.value reference.new end.new.inner.value }
+    ensures value { Connects connect.now (asked_of result) end.old.inner.value reference.new end.new.inner.value }
+    ensures reference { (result ≡ 0 → ⊥) → reference.new ≡ reference.old }
 {
     if !end.full {
         return CLOSED;
     }
-    match end.inner.get_mut().stack.connect(connect) {
+    match end.get_mut().stack.connect(connect) {
         Ok(given) => {
             *reference = given.0;
             OK
@@ -92,7 +95,8 @@ fn ask(end: &mut OsiEnd, connect: &Connect, reference: &mut u16) -> u32
 #[tactic(auto, using(crate::proofs::Asking::asks_by))]
 #[unsafe(no_mangle)]
 pub extern "C" fn osi_connect(end: &mut OsiEnd, asked: &OsiOpening<'_>, reference: &mut u16) -> u32
-    ensures { Asks asked.now (asked_of result) end.old.inner.value reference.new end.new.inner.value }
+    ensures value { Asks asked.now (asked_of result) end.old.inner.value reference.new end.new.inner.value }
+    ensures reference { (result ≡ 0 → ⊥) → reference.new ≡ reference.old }
 {
     match opening(asked) {
         None => BAD_ARGUMENT,

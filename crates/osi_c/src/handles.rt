@@ -5,6 +5,7 @@ mod loose;
 ghost use Rattle.std.specs.Prelude.{Option};
 ghost use Rattle.osi_c.specs.declared.handles.Contents.{Contents};
 
+use crate::slots::OsiEnd;
 use loose::Loose;
 use osi_carrier::Ref;
 use osi_session::Indication;
@@ -21,9 +22,8 @@ pub struct Contents {
     pub last: Option<(Ref, Indication)>,
 }
 
-/// A box as its pointer, or nothing.
+/// A box as its pointer, or nothing. It is not `Drop`, so that no box is let go of unfreed.
 #[repr(C)]
-#[derive(Drop)]
 pub struct Handle {
     at: *mut u8,
     pub ghost value: { Option Contents },
@@ -36,9 +36,7 @@ impl Model for Handle {
 }
 
 impl Handle {
-    ghost use Rattle.std.specs.Prelude.{◌≡◌, None, Some, IsSome, IfOk};
-    ghost use types.Logic.{sem};
-    ghost use Rattle.osi_c.specs.Lent.{LendsContents};
+    ghost use Rattle.std.specs.Prelude.{◌≡◌, None, Some, IsSome, IsNone, IfOk};
 
     /// Nothing.
     pub(crate) fn empty() -> Handle
@@ -81,12 +79,25 @@ impl Handle {
         self.into_loose(alloc).into_box()
     }
 
-    /// What stands in the box.
-    pub(crate) fn get_mut(&mut self) -> &mut Contents
-        requires { IsSome self.old.value }
-        ensures* writes_back { sem 𝓛 (LendsContents self.entry result) }
-        ensures value { self.old.value ≡ Some result.now }
+    /// Lets go of nothing.
+    pub(crate) fn discard(self)
+        requires { IsNone self.value }
     {
-        unsafe { &mut *self.at.cast() }
+        let Handle { at: _ } = self;
+    }
+}
+
+impl OsiEnd {
+    ghost use Rattle.std.specs.Prelude.{◌≡◌, Some, IsSome};
+    ghost use types.Logic.{sem};
+    ghost use Rattle.osi_c.specs.Lent.{LendsSlot};
+
+    /// What a full slot holds.
+    pub(crate) fn get_mut(&mut self) -> &mut Contents
+        requires { IsSome self.old.inner.value }
+        ensures* writes_back { sem 𝓛 (LendsSlot self.entry result) }
+        ensures value { self.old.inner.value ≡ Some result.now }
+    {
+        unsafe { &mut *self.inner.at.cast() }
     }
 }

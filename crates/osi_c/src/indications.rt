@@ -1,11 +1,14 @@
 //! Fetching and reading indications.
 
-ghost use Rattle.std.specs.Prelude.{◌≡◌};
+ghost use types.Logic.{sem};
+ghost use Rattle.std.specs.Prelude.{◌≡◌, option_map};
 ghost use Rattle.osi_c.specs.Codes.{fetched_of};
 ghost use Rattle.osi_c.specs.Ends.{Fetches, told};
+ghost use Rattle.osi_c.specs.Lent.{KeepsSlot};
 ghost use Rattle.osi_c.specs.Told.{Tells};
 
 use crate::codes::{CLOSED, NOTHING, OK};
+use crate::handles::Contents;
 use crate::slots::OsiEnd;
 use crate::telling::{OsiIndication, nothing, tell};
 
@@ -17,7 +20,7 @@ pub extern "C" fn osi_fetch(end: &mut OsiEnd) -> u32
     if !end.full {
         return CLOSED;
     }
-    let contents = end.inner.get_mut();
+    let contents = end.get_mut();
     contents.last = contents.stack.next_indication();
     if contents.last.is_none() {
         return NOTHING;
@@ -25,15 +28,22 @@ pub extern "C" fn osi_fetch(end: &mut OsiEnd) -> u32
     OK
 }
 
-/// Shows the indication that was fetched last, whose user data is lent.
-#[unsafe(no_mangle)]
-pub extern "C" fn osi_last<'a>(end: &'a mut OsiEnd, shown: &mut OsiIndication<'a>)
-    ensures { Tells shown.new (told end.old.inner.value) }
+fn show<'a>(contents: Option<&'a Contents>, shown: &mut OsiIndication<'a>)
+    ensures { Tells shown.new (told (option_map (λ c. c.now) contents.entry)) }
 {
     *shown = nothing();
-    if end.full
-        && let Some((reference, indication)) = &end.inner.get_mut().last
+    if let Some(contents) = contents
+        && let Some((reference, indication)) = &contents.last
     {
         *shown = tell(reference.0, indication);
     }
+}
+
+/// Shows the indication that was fetched last, whose user data is lent.
+#[unsafe(no_mangle)]
+pub extern "C" fn osi_last<'a>(end: &'a mut OsiEnd, shown: &mut OsiIndication<'a>)
+    ensures* same { sem 𝓛 (KeepsSlot end.entry) }
+    ensures value { Tells shown.new (told end.old.inner.value) }
+{
+    show(end.get(), shown);
 }

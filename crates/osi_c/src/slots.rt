@@ -1,12 +1,42 @@
 ghost use Rattle.std.specs.Prelude.{◌≡◌, is_some};
 
-use crate::handles::Handle;
+use crate::handles::{Contents, Handle};
+use std::mem::replace;
 
 /// What C keeps of an end: a slot that holds one, or none. It begins as zeros.
 #[repr(C)]
-#[derive(Drop)]
 pub struct OsiEnd {
     pub(crate) full: bool,
     pub(crate) inner: Handle,
     ghost tied: { full ≡ is_some inner.value },
+}
+
+impl OsiEnd {
+    ghost use Rattle.std.specs.Prelude.{◌≡◌, IsNone, IsSome, option_map};
+    ghost use types.Logic.{sem};
+    ghost use Rattle.osi_c.specs.Lent.{KeepsSlot};
+
+    /// What the slot holds, to be read.
+    pub(crate) fn get(&mut self) -> Option<&Contents>
+        ensures* same { sem 𝓛 (KeepsSlot self.entry) }
+        ensures value { option_map (λ c. c.now) result ≡ self.old.inner.value }
+    {
+        if !self.full {
+            return None;
+        }
+        Some(self.get_mut())
+    }
+
+    /// Puts a box into an empty slot.
+    pub(crate) fn fill(&mut self, inner: Handle)
+        requires empty { IsNone self.old.inner.value }
+        requires full { IsSome inner.value }
+        ensures { self.new.inner.value ≡ inner.value }
+    {
+        let OsiEnd {
+            full: _,
+            inner: old,
+        } = replace(self, OsiEnd { full: true, inner });
+        old.discard();
+    }
 }

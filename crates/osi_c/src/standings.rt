@@ -18,7 +18,7 @@ pub extern "C" fn osi_held(end: &mut OsiEnd, reference: u16) -> u8
     if !end.full {
         return 0;
     }
-    let tokens = end.inner.get_mut().stack.held(Ref(reference));
+    let tokens = end.get_mut().stack.held(Ref(reference));
     tokens.bits()
 }
 
@@ -31,7 +31,7 @@ pub extern "C" fn osi_phase(end: &mut OsiEnd, reference: u16) -> u32
     if !end.full {
         return 0;
     }
-    phase_code(end.inner.get_mut().stack.phase(Ref(reference)))
+    phase_code(end.get_mut().stack.phase(Ref(reference)))
 }
 
 /// V(M), the number of the next synchronization point.
@@ -43,7 +43,7 @@ pub extern "C" fn osi_next_serial(end: &mut OsiEnd, reference: u16) -> u32
     if !end.full {
         return 0;
     }
-    end.inner.get_mut().stack.next_serial(Ref(reference))
+    end.get_mut().stack.next_serial(Ref(reference))
 }
 
 /// V(A), the lowest number that is not confirmed.
@@ -55,7 +55,7 @@ pub extern "C" fn osi_confirmed_below(end: &mut OsiEnd, reference: u16) -> u32
     if !end.full {
         return 0;
     }
-    end.inner.get_mut().stack.confirmed_below(Ref(reference))
+    end.get_mut().stack.confirmed_below(Ref(reference))
 }
 
 /// V(R), the lowest number at which this end may restart.
@@ -67,5 +67,5 @@ pub extern "C" fn osi_lowest_restart(end: &mut OsiEnd, reference: u16) -> u32
     if !end.full {
         return 0;
     }
-    end.inner.get_mut().stack.lowest_restart(Ref(reference))
+    end.get_mut().stack.lowest_restart(Ref(reference))
 }

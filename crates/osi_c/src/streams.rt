@@ -1,8 +1,10 @@
 //! Octets in and out, and the end of an end.
 
+ghost use types.Logic.{sem};
 ghost use Rattle.std.specs.Prelude.{◌≡◌, ◌≤◌, Some};
-ghost use Rattle.osi_c.specs.Codes.{answer_of, reason_of};
+ghost use Rattle.osi_c.specs.Codes.{answer_of, reason_of, detail_of};
 ghost use Rattle.osi_c.specs.Ends.{FeedsTo, outgoing, Carries, Breaks, ended, kept, most_kept};
+ghost use Rattle.osi_c.specs.Lent.{KeepsSlot};
 
 use crate::codes::{BAD_ARGUMENT, CLOSED, OK, end_code};
 use crate::slots::OsiEnd;
@@ -30,7 +32,7 @@ pub extern "C" fn osi_feed(end: &mut OsiEnd, piece: &[u8], fed: &mut OsiFed) -> 
         };
         return CLOSED;
     }
-    let did = end.inner.get_mut().stack.feed(piece);
+    let did = end.get_mut().stack.feed(piece);
     *fed = OsiFed {
         used: did.used,
         waits: did.whole,
@@ -38,15 +40,24 @@ pub extern "C" fn osi_feed(end: &mut OsiEnd, piece: &[u8], fed: &mut OsiFed) -> 
     OK
 }
 
+/// The octets that are to be carried; none of a slot that holds no end.
+fn lent(end: &mut OsiEnd) -> &[u8]
+    ensures* same { sem 𝓛 (KeepsSlot end.entry) }
+    ensures value { result.now ≡ outgoing end.old.inner.value }
+{
+    match end.get() {
+        None => &[],
+        Some(contents) => contents.stack.outgoing(),
+    }
+}
+
 /// Lends the octets that are to be carried to the peer; none of a slot that holds no end.
 #[unsafe(no_mangle)]
 pub extern "C" fn osi_outgoing<'a>(end: &'a mut OsiEnd, octets: &mut &'a [u8])
-    ensures { octets.new.now ≡ outgoing end.old.inner.value }
+    ensures* same { sem 𝓛 (KeepsSlot end.entry) }
+    ensures value { octets.new.now ≡ outgoing end.old.inner.value }
 {
-    *octets = &[];
-    if end.full {
-        *octets = end.inner.get_mut().stack.outgoing();
-    }
+    *octets = lent(end);
 }
 
 /// The first octets that were lent have been carried, so many.
@@ -57,7 +68,7 @@ pub extern "C" fn osi_taken(end: &mut OsiEnd, octets: usize) -> u32
     if !end.full {
         return CLOSED;
     }
-    let contents = end.inner.get_mut();
+    let contents = end.get_mut();
     if octets > contents.stack.outgoing().len() {
         return BAD_ARGUMENT;
     }
@@ -73,7 +84,7 @@ pub extern "C" fn osi_broken(end: &mut OsiEnd) -> u32
     if !end.full {
         return CLOSED;
     }
-    end.inner.get_mut().stack.broken();
+    end.get_mut().stack.broken();
     OK
 }
 
@@ -82,13 +93,14 @@ pub extern "C" fn osi_broken(end: &mut OsiEnd) -> u32
 #[unsafe(no_mangle)]
 pub extern "C" fn osi_ended(end: &mut OsiEnd, detail: &mut u64) -> u32
     ensures value { reason_of result detail.new ≡ Some (ended end.old.inner.value) }
+    ensures detail { detail.new ≡ detail_of (ended end.old.inner.value) }
     ensures same { end.new.inner.value ≡ end.old.inner.value }
 {
     if !end.full {
         *detail = 0;
         return 0;
     }
-    let why = end_code(end.inner.get_mut().stack.ended());
+    let why = end_code(end.get_mut().stack.ended());
     *detail = why.detail;
     why.code
 }
@@ -104,5 +116,5 @@ pub extern "C" fn osi_kept(end: &mut OsiEnd) -> usize
     if !end.full {
         return 0;
     }
-    end.inner.get_mut().stack.kept()
+    end.get_mut().stack.kept()
 }

@@ -1,10 +1,10 @@
 //! What the user of a connection is shown, for C.
 
-ghost use Rattle.std.specs.Prelude.{◌≡◌, ◌==◌, not, Some, option_map, true};
+ghost use Rattle.std.specs.Prelude.{◌≡◌, None, true};
 ghost use Rattle.osi_spdu.specs.Fields.{bits_of, unit_bits};
 ghost use Rattle.osi_session.specs.Shown.{shown_by, abort_shown};
-ghost use Rattle.osi_c.specs.Arguments.{side_of, wish_of, sides_of, wishes_of};
-ghost use Rattle.osi_c.specs.Told.{SaysSpelling, SaysFault, serial_in, is_opening, is_point, is_restart, Says};
+ghost use Rattle.osi_c.specs.Told as told;
+ghost use Rattle.osi_c.specs.Told.{is_opening, is_point, is_restart, Says, Tells};
 
 use crate::arguments::OsiSides;
 use bitflags::Flags;
@@ -43,7 +43,7 @@ pub struct OsiIndication<'a> {
 }
 
 fn side_code(side: Side) -> u8
-    ensures { side_of result ≡ Some side }
+    ensures { result ≡ told.side_told side }
 {
     match side {
         Side::Asker => 0,
@@ -52,7 +52,7 @@ fn side_code(side: Side) -> u8
 }
 
 fn wish_code(wish: Wish) -> u8
-    ensures { wish_of result ≡ Some wish }
+    ensures { result ≡ told.wish_told wish }
 {
     match wish {
         Wish::Asker => 0,
@@ -62,7 +62,7 @@ fn wish_code(wish: Wish) -> u8
 }
 
 fn side_codes(sides: Sides) -> OsiSides
-    ensures { sides_of result ≡ Some sides }
+    ensures { result ≡ told.sides_told sides }
 {
     OsiSides {
         data_token: side_code(sides.data_token),
@@ -73,7 +73,7 @@ fn side_codes(sides: Sides) -> OsiSides
 }
 
 fn wish_codes(wishes: TokenSetting) -> OsiSides
-    ensures { wishes_of result ≡ Some wishes }
+    ensures { result ≡ told.wishes_told wishes }
 {
     OsiSides {
         data_token: wish_code(wishes.data_token),
@@ -84,7 +84,7 @@ fn wish_codes(wishes: TokenSetting) -> OsiSides
 }
 
 fn spelled(spelling: u8, parameter: u8, offset: usize) -> OsiFault
-    ensures { (result.fault ≡ 1) × (result.spelling ≡ spelling) × (result.parameter ≡ parameter) × (result.offset ≡ offset) }
+    ensures { result ≡ told.spelled spelling parameter offset }
 {
     OsiFault {
         fault: 1,
@@ -96,7 +96,7 @@ fn spelled(spelling: u8, parameter: u8, offset: usize) -> OsiFault
 }
 
 fn spelling_fault(fault: SpduFault) -> OsiFault
-    ensures { (result.fault ≡ 1) × SaysSpelling result fault }
+    ensures { result ≡ told.spelling_told fault }
 {
     match fault {
         SpduFault::UnknownSi(offset) => spelled(1, 0, offset),
@@ -110,7 +110,7 @@ fn spelling_fault(fault: SpduFault) -> OsiFault
 }
 
 fn of_unit(fault: u8, si: u8) -> OsiFault
-    ensures { (result.fault ≡ fault) × (result.si ≡ si) }
+    ensures { result ≡ told.of_unit fault si }
 {
     OsiFault {
         fault,
@@ -122,7 +122,7 @@ fn of_unit(fault: u8, si: u8) -> OsiFault
 }
 
 fn fault_codes(fault: UnitFault) -> OsiFault
-    ensures { SaysFault result fault }
+    ensures { result ≡ told.fault_told fault }
 {
     match fault {
         UnitFault::Spelling(spelling) => spelling_fault(spelling),
@@ -136,7 +136,7 @@ fn fault_codes(fault: UnitFault) -> OsiFault
 
 /// No more than which indication it is, and its user data.
 fn plain(reference: u16, tag: u32, user_data: &[u8]) -> OsiIndication<'_>
-    ensures { (result.reference ≡ reference) × (result.tag ≡ tag) × (result.user_data.now ≡ user_data.now) }
+    ensures { result ≡ told.plain reference tag user_data.entry }
 {
     OsiIndication {
         tag,
@@ -160,7 +160,7 @@ fn plain(reference: u16, tag: u32, user_data: &[u8]) -> OsiIndication<'_>
 
 /// None.
 pub(crate) fn nothing<'a>() -> OsiIndication<'a>
-    ensures { result.tag ≡ 0 }
+    ensures { Tells result None }
 {
     plain(0, 0, &[])
 }
@@ -171,9 +171,7 @@ fn opening<'a>(
     sides: OsiSides,
     plain: OsiIndication<'a>,
 ) -> OsiIndication<'a>
-    ensures same { (result.reference ≡ plain.entry.reference) × (result.tag ≡ plain.entry.tag) × (result.user_data.now ≡ plain.entry.user_data.now) }
-    ensures units { (result.requirements ≡ unit_bits requirements) × (result.sides ≡ sides) }
-    ensures serial { serial_in result ≡ serial }
+    ensures { result ≡ told.opened (unit_bits requirements) serial sides plain.entry }
 {
     let (has_number, number) = match serial {
         None => (0, 0),
@@ -189,7 +187,7 @@ fn opening<'a>(
 }
 
 fn aborted<'a>(reference: u16, cause: AbortCause) -> OsiIndication<'a>
-    ensures { (result.reference ≡ reference) × Says result (abort_shown cause) }
+    ensures { Says result reference (abort_shown cause) }
 {
     match cause {
         AbortCause::Lost => plain(reference, 18, &[]),
@@ -206,7 +204,7 @@ fn aborted<'a>(reference: u16, cause: AbortCause) -> OsiIndication<'a>
 
 /// What is said of an opening: a CN, an AC or a refusal. No other indication comes here.
 fn tell_opening(reference: u16, indication: &Indication) -> OsiIndication<'_>
-    ensures { is_opening (shown_by indication.now) ≡ true → (result.reference ≡ reference) × Says result (shown_by indication.now) }
+    ensures { is_opening (shown_by indication.now) ≡ true → Says result reference (shown_by indication.now) }
 {
     match indication {
         Indication::Connect {
@@ -241,7 +239,7 @@ fn tell_opening(reference: u16, indication: &Indication) -> OsiIndication<'_>
 
 /// What is said with the number of a point. No other indication comes here.
 fn tell_point(reference: u16, indication: &Indication) -> OsiIndication<'_>
-    ensures { is_point (shown_by indication.now) ≡ true → (result.reference ≡ reference) × Says result (shown_by indication.now) }
+    ensures { is_point (shown_by indication.now) ≡ true → Says result reference (shown_by indication.now) }
 {
     match indication {
         Indication::Minor {
@@ -268,7 +266,7 @@ fn tell_point(reference: u16, indication: &Indication) -> OsiIndication<'_>
 /// What is said with the number of a point and who is to hold the tokens. No other indication comes
 /// here.
 fn tell_restart(reference: u16, indication: &Indication) -> OsiIndication<'_>
-    ensures { is_restart (shown_by indication.now) ≡ true → (result.reference ≡ reference) × Says result (shown_by indication.now) }
+    ensures { is_restart (shown_by indication.now) ≡ true → Says result reference (shown_by indication.now) }
 {
     match indication {
         Indication::Restart {
@@ -295,7 +293,7 @@ fn tell_restart(reference: u16, indication: &Indication) -> OsiIndication<'_>
 
 /// What the user of a connection is shown.
 pub(crate) fn tell(reference: u16, indication: &Indication) -> OsiIndication<'_>
-    ensures { (result.reference ≡ reference) × Says result (shown_by indication.now) }
+    ensures { Says result reference (shown_by indication.now) }
 {
     match indication {
         Indication::Connect { .. }

@@ -1,5 +1,5 @@
--- `get_mut` lends what stands at the pointer, and the handle follows it.
-use Rattle.std.proofs.Common.{◌≡◌, ℕ, List, [], ◌∷◌, refl, sym}
+-- `get_mut` lends what stands at the pointer, and the slot follows it.
+use Rattle.std.proofs.Common.{◌≡◌, ℕ, List, [], ◌∷◌, refl, sym, ◌∙◌}
 use Rattle.std.proofs.raw_atomic.Walks.{proved}
 use seplogic.Ra.Ura.{Ura}
 use mir.Syntax.{named}
@@ -24,38 +24,34 @@ use denote.Signature.{plain, mut_ref_to}
 use denote.Steps.{nothing, opens, heard}
 use denote.Triple.Walked.{says, Stays, stay_dropped, walk_of, ends_at, Goes-spent_ref}
 use Rattle.std.proofs.VecSteps.Shapes.{after}
-use Rattle.std.specs.Prelude.{IsSome}
+use Rattle.std.specs.Prelude.{Bool, true, IsSome}
 use Rattle.std.specs.declared.option.Option.{Option}
-use Rattle.std.specs.declared.option.Option.TheVariants.{Some}
 use Rattle.std_alloc.specs.Box.Ownership.{box_owns}
 use Rattle.osi_c.specs.Owned.{block, may_own}
 use Rattle.osi_c.specs.declared.handles.Contents.{Contents}
 use Rattle.osi_c.specs.contracts.handles.Contents.{the_row as R}
-use Rattle.osi_c.specs.contracts.handles.Handle.{the_row as S}
-use Rattle.osi_c.proofs.Boxed.{at_word, handle_out, handle_in, the_some, never_null}
-use Rattle.osi_c.specs.contracts.handles.Handle.get_mut as f
-use Rattle.osi_c.proofs.handles.Handle.get_mut.Statement.{statement}
-use Rattle.osi_c.proofs.handles.Handle.get_mut.Code as code
+use Rattle.osi_c.specs.contracts.slots.OsiEnd.{the_row as S}
+use Rattle.osi_c.specs.Lent.{holding}
+use Rattle.osi_c.proofs.Boxed.{slot_word, slot_out, slot_in, the_some, never_null}
+use Rattle.osi_c.specs.contracts.slots.OsiEnd.get_mut as f
+use Rattle.osi_c.proofs.slots.OsiEnd.get_mut.Statement.{statement}
+use Rattle.osi_c.proofs.slots.OsiEnd.get_mut.Code as code
 
 abbrev stayed : Stays f.ended.signature.params f.ended.kept
 stayed = (stay_dropped (mut_ref_to (0 ∷ []) tt (plain (λ _. S))) no, tt)
 
--- the handle at the same pointer, with this value
-abbrev with_end : S.Denot → Contents → S.Denot
-with_end h w = record { at = h.at; value = Some w }
-
--- all of the handle but what it lends
+-- all of the slot but what it lends
 abbrev Rest : S.Denot → ℕ → ℕ → ℕ → ℕ → Fml
-Rest h rb ro b o = fsep (block (bare (lone R.mir)) (block_ptr b o)) (cell_at full_share S.mir (at_word h.at ∷ []) rb ro)
+Rest h rb ro b o = fsep (block (bare (lone R.mir)) (block_ptr b o)) (cell_at full_share S.mir (slot_word true h.inner.at ∷ []) rb ro)
 
-module _ {M : Type 1} {𝓤 : Ura M} (𝓛 : Logic 𝓤) (h : S.Denot) (rb ro b o : ℕ) (e : h.at ≡ block_ptr b o) where
-  back : (w : Contents) → ent 𝓤 (sep 𝓤 (sem 𝓛 ((mem R).own_at w b o)) (sem 𝓛 (Rest h rb ro b o))) (sem 𝓛 ((mem S).own_at (with_end h w) rb ro))
+module _ {M : Type 1} {𝓤 : Ura M} (𝓛 : Logic 𝓤) (h : S.Denot) (rb ro b o : ℕ) (e : h.inner.at ≡ block_ptr b o) where
+  back : (w : Contents) → ent 𝓤 (sep 𝓤 (sem 𝓛 ((mem R).own_at w b o)) (sem 𝓛 (Rest h rb ro b o))) (sem 𝓛 ((mem S).own_at (holding h w) rb ro))
   unfolding part_of
   back w =
       qed 𝓛 (‵ (part_at R full_share w b o) ∷ ‵ (Rest h rb ro b o) ∷ []) ∵ move ! (1 ∷ []) $ fsplit ! $ move ! (2 ∷ 0 ∷ []) $ fjoin ! $
       use1 𝓛 (‵ (box_owns block R (block_ptr b o) w)) (id⊢ 𝓤 _) $
-      rewrite ! 0 (λ (p : Ptr). ‵ (box_owns block R p w)) (sym e) refl $ handle_in ! h.at (Some w) $ move ! (1 ∷ 0 ∷ []) $ fjoin ! $
-      fpack ! (List Val) (λ us. fsep (cell_at full_share S.mir us rb ro) (S.own_val (with_end h w) us)) (at_word h.at ∷ []) $ done !
+      rewrite ! 0 (λ (p : Ptr). ‵ (box_owns block R p w)) (sym e) refl $ slot_in ! (holding h w) $ move ! (1 ∷ 0 ∷ []) $ fjoin ! $
+      fpack ! (List Val) (λ us. fsep (cell_at full_share S.mir us rb ro) (S.own_val (holding h w) us)) (slot_word true h.inner.at ∷ []) $ done !
 
 pub get_mut_spec : {M : Type 1} → statement M
 get_mut_spec 𝓤 𝓛 𝓜 𝓡 wired =
@@ -64,27 +60,28 @@ get_mut_spec 𝓤 𝓛 𝓜 𝓡 wired =
     (λ κs. (mut_vals, tt)) (λ κs. (mut_Tells (named 0) κs.0 S, tt)) (λ κs qs bounds a g are.
     let κ = κs.0 in let q = qs.0 in let rb = a.0.ref_ptr.0 in let ro = a.0.ref_ptr.1 in let γ = a.0.ghost_name in let h = a.0.now in let vs = mut_vals a.0 in
     let y : (walk_of 𝓛 f.ended stayed c).Ghost = ((κs, qs, bounds, a, (vs, tt)), g) in let Post : Val → SProp 𝓤 = (walk_of 𝓛 f.ended stayed c).post y in
-    qed 𝓛 (((‵ (flft κ q) ⊛ ‵ ftrue) ⊛ ‵ (fsep ((MutRef (named 0) κ S).own_val a.0 vs) ftrue)) ∷ raw (fact 𝓤 (IsSome h.value)) ∷ []) ∵
-    move ! (1 ∷ []) $ heard ! (IsSome h.value) (λ full. let some_end = the_some h.value full in let x = some_end.0 in
+    qed 𝓛 (((‵ (flft κ q) ⊛ ‵ ftrue) ⊛ ‵ (fsep ((MutRef (named 0) κ S).own_val a.0 vs) ftrue)) ∷ raw (fact 𝓤 (IsSome h.inner.value)) ∷ []) ∵
+    move ! (1 ∷ []) $ heard ! (IsSome h.inner.value) (λ full. let some_end = the_some h.inner.value full in let x = some_end.0 in
     split ! $ split ! $ move ! (2 ∷ []) $ fsplit ! $ keep ! (0 ∷ 2 ∷ []) $
     -- [the reference; the token of its lifetime]
     enter ! 𝓣.C 𝓣.Λ code.function vs Post $ alloc_all ! (λ l. pass_all ! refl ((tt, tt), tt) $ let Ev = env code.function.locals l in
-    fsplit3 ! $ drop ! $ opens ! tt S rb ro (λ us. move ! (1 ∷ []) $ handle_out ! h us (λ eh.
-    rewrite ! 0 (λ (m : Option Contents). ‵ (may_own h.at m)) some_end.1 refl $
-    in_a_block ! h.at (λ p. box_owns block R p x) (never_null 𝓛 x) (λ b o e. fsplit ! $
+    fsplit3 ! $ drop ! $ opens ! tt S {h = h} rb ro (λ us. move ! (1 ∷ []) $ slot_out ! h us (λ eh.
+    rewrite ! 0 (λ (m : Option Contents). ‵ (may_own h.inner.at m)) some_end.1 refl $
+    in_a_block ! h.inner.at (λ p. box_owns block R p x) (never_null 𝓛 x) (λ b o e. fsplit ! $
     -- [the end; the right to free it; the handle's cell; its open borrow, in three entries]
     rewrite ! 2 (λ (ws : List Val). ‵ (cell_at full_share S.mir ws rb ro)) eh refl $
-    rewrite ! 2 (λ (p : Ptr). ‵ (cell_at full_share S.mir (at_word p ∷ []) rb ro)) e refl $
+    rewrite ! 2 (λ (t : Bool). ‵ (cell_at full_share S.mir (slot_word t h.inner.at ∷ []) rb ro)) (h.tied ∙ full) refl $
+    rewrite ! 2 (λ (p : Ptr). ‵ (cell_at full_share S.mir (slot_word true p ∷ []) rb ro)) e refl $
     first ! $ blocks ! $
-    sets ! (of_opd ! (load ! (through ! refl (fld ! refl (stop !))) (look_in ! 2 (sub ! 0 refl (whole !))))) refl (tt, tt) $
+    sets ! (of_opd ! (load ! (through ! refl (fld ! refl (fld ! refl (stop !)))) (look_in ! 2 (sub ! 0 refl (sub ! 1 refl (whole !)))))) refl (tt, tt) $
     sets_last ! (addr ! (through ! refl (stop !))) refl (tt, tt) $
     exec ! 𝓣.C 𝓣.Λ Ev (after 1 (code.function).body) (at_ret Ev Post) $
     sets ! (of_opd ! (get ! refl)) refl (tt, tt) $
-    rewrite ! 2 (λ (p : Ptr). ‵ (cell_at full_share S.mir (at_word p ∷ []) rb ro)) (sym e) refl $
+    rewrite ! 2 (λ (p : Ptr). ‵ (cell_at full_share S.mir (slot_word true p ∷ []) rb ro)) (sym e) refl $
     move ! (1 ∷ 2 ∷ []) $ fjoin ! $ move ! (2 ∷ 3 ∷ 4 ∷ 1 ∷ 0 ∷ []) $ group ! 5 $
-    use1 𝓛 (later (some (λ (γ' : GName). raw (Part 𝓛 S R (with_end h) (named 0) κ q rb ro b o γ (sem 𝓛 (Rest h rb ro b o)) (back 𝓛 h rb ro b o e) x γ'))))
-    (lends_Part 𝓛 S R (with_end h) (named 0) κ q rb ro b o γ (sem 𝓛 (Rest h rb ro b o)) (back 𝓛 h rb ro b o e) (S.coded.code h) (S.coded.code h) x) $ await ! tt $ pick ! (λ γ'.
-    use1 𝓛 (‵ ((MutRef (named 0) κ R).own_val (record { ref_ptr = (b, o); ghost_name = γ'; now = x }) (vptr b o ∷ [])) ⊛ ‵ (flft κ q) ⊛ ‵ (follows S R γ γ' (with_end h))) (id⊢ 𝓤 _) $ split ! $ move ! (1 ∷ []) $ split ! $
+    use1 𝓛 (later (some (λ (γ' : GName). raw (Part 𝓛 S R (holding h) (named 0) κ q rb ro b o γ (sem 𝓛 (Rest h rb ro b o)) (back 𝓛 h rb ro b o e) x γ'))))
+    (lends_Part 𝓛 S R (holding h) (named 0) κ q rb ro b o γ (sem 𝓛 (Rest h rb ro b o)) (back 𝓛 h rb ro b o e) (S.coded.code h) (S.coded.code h) x) $ await ! tt $ pick ! (λ γ'.
+    use1 𝓛 (‵ ((MutRef (named 0) κ R).own_val (record { ref_ptr = (b, o); ghost_name = γ'; now = x }) (vptr b o ∷ [])) ⊛ ‵ (flft κ q) ⊛ ‵ (follows S R γ γ' (holding h))) (id⊢ 𝓤 _) $ split ! $ move ! (1 ∷ []) $ split ! $
     -- [the token; the handle follows; the end, lent]
     returns ! (look_at ! 0 refl) $ free_all ! refl $ keep ! (2 ∷ 0 ∷ 1 ∷ []) $
     suffices ! _ (ends_at 𝓛 f.ended stayed c y (vptr b o) (record { ref_ptr = (b, o); ghost_name = γ'; now = x }) (tt, tt) (tt, tt)) $
