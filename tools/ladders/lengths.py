@@ -1,0 +1,83 @@
+"""How many octets a message is written in: session units of X.225, in data units of X.224, in packets."""
+
+PACKET, DATA_UNIT, ACKNOWLEDGED = 4, {"0": 3, "2": 5}, 9
+CLOSING, CLOSED, CONFIRMED = 11, 10, {"0": 14, "2": 17}
+POINTS = 0x08 | 0x10 | 0x20
+SMALLEST_LIMIT = 123
+
+
+def coded(octets):
+    """A code, a length and a value of so many octets."""
+    return (2 if octets <= 254 else 4) + octets
+
+
+def optional(octets):
+    """User data, which is not written where it is empty."""
+    return coded(octets) if octets else 0
+
+
+def serial_length(number):
+    """The parameter with a serial number."""
+    return coded(len(str(int(number))))
+
+
+def opening(fields, data):
+    """CN or AC."""
+    serial = fields.get("serial")
+    has_serial = serial != "-" and bool(int(fields["units"], 16) & POINTS)
+    group = 3 + 3 + (serial_length(serial) if has_serial else 0) + 3
+    return coded(coded(group) + 4 + optional(data))
+
+
+def behind_a_token_item(*parameters):
+    """A unit of category 2 with these parameters, behind an empty GT."""
+    return 2 + coded(sum(parameters))
+
+
+def tsdu_length(name, fields):
+    """How many octets the TSDU of a call has, or None where a field that decides it is not known."""
+    data = fields.get("data")
+    octets = None if data is None else 0 if data == "-" else len(data) // 2
+    try:
+        return WRITTEN[name](fields, octets)
+    except (KeyError, TypeError):
+        return None
+
+
+WRITTEN = {
+    "connect": opening,
+    "accept": opening,
+    "refuse": lambda fields, data: coded(3 + coded(1 + data)),
+    "data": lambda fields, data: 4 + data,
+    "give": lambda fields, data: 5,
+    "please": lambda fields, data: coded(3 + optional(data)),
+    "minor": lambda fields, data: behind_a_token_item(
+        {"yes": 0, "no": 3}[fields["confirm"]], serial_length(fields["number"]), optional(data)),
+    "minorconfirm": lambda fields, data: behind_a_token_item(serial_length(fields["number"]), optional(data)),
+    "major": lambda fields, data: behind_a_token_item(3, serial_length(fields["number"]), optional(data)),
+    "majorconfirm": lambda fields, data: behind_a_token_item(serial_length(fields["number"]), optional(data)),
+    "restart": lambda fields, data: behind_a_token_item(
+        3, 3, serial_length(fields["number"]), optional(data)),
+    "restartconfirm": lambda fields, data: behind_a_token_item(
+        3, serial_length(fields["number"]), optional(data)),
+    "release": lambda fields, data: coded(optional(data)),
+    "releaseaccept": lambda fields, data: coded(optional(data)),
+    "releaserefuse": lambda fields, data: coded(optional(data)),
+    "abort": lambda fields, data: coded(3 + optional(data)),
+    "answer to an abort": lambda fields, data: 2,
+}
+
+
+def parts(tsdu, link_class, limit):
+    """The lengths of the packets of a TSDU, or None where they are not told.
+
+    `limit` is how many octets of a TSDU a data unit has at most, or None where that is not known."""
+    if tsdu is None or link_class not in DATA_UNIT:
+        return None
+    if limit is None and tsdu > SMALLEST_LIMIT:
+        return None
+    header = PACKET + DATA_UNIT[link_class]
+    limit = limit or SMALLEST_LIMIT
+    whole, rest = divmod(tsdu, limit)
+    sizes = [limit] * whole + ([rest] if rest or not whole else [])
+    return [header + size for size in sizes]

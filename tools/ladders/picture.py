@@ -1,0 +1,186 @@
+"""What a picture shows, before it is drawn: rows of text at their sides, arrows, bands and marks."""
+import textwrap
+
+from .history import overlaps
+
+UNITS = {"connect": "CN", "accept": "AC", "refuse": "RF", "data": "DT", "give": "GT", "please": "PT", "minor": "MIP",
+         "minorconfirm": "MIA", "major": "MAP", "majorconfirm": "MAA", "restart": "RS", "restartconfirm": "RA",
+         "release": "FN", "releaseaccept": "DN", "releaserefuse": "NF", "abort": "AB", "answer to an abort": "AA"}
+
+
+class Row:
+    """A line that is shown: its text whole and as it stands at its side, a note below it, and its mark."""
+
+    __slots__ = ("index", "whole", "text", "note", "side", "connection", "mark", "point", "muted")
+
+    def __init__(self, index, whole, text, side, connection, mark):
+        self.index, self.whole, self.text, self.side = index, whole, text, side
+        self.connection, self.mark, self.note, self.point, self.muted = connection, mark, None, None, False
+
+
+class Arrow:
+    """Octets that crossed, from a line to a line, between two parts of the way from 0 to 1.
+
+    `stop` is empty where it arrives, `rest` where more follows, `cut` where it ends inside a packet,
+    `dropped` where nobody is shown it, `open` where the transcript does not tell where it ends."""
+
+    __slots__ = ("side", "connection", "start", "end", "begin", "reach", "label", "whole", "stop", "minor", "carry")
+
+    def __init__(self, side, connection, start, end, begin, reach, label, whole):
+        self.side, self.connection, self.start, self.end = side, connection, start, end
+        self.begin, self.reach, self.label, self.whole = begin, reach, label, whole
+        self.stop, self.minor, self.carry = "", False, end
+
+
+KEY = ("● a call that was accepted · ○ what a user was shown · × refused · ◆ a point, sent · ◇ a point, seen · "
+       "═ the end of a connection",
+       "Bands beside a line, from left to right: the tokens of data (d), minor (m), major (M) and release (r) "
+       "that this end holds.",
+       "An arrow goes from where its octets were written to where they were used; dashed: an acknowledgement.",
+       "A bar at the end of an arrow: nobody is shown it. × at its end: it is cut inside a packet.")
+CAPTURE_KEY = ("An arrow is a packet, from the line that names it to the last line of what is in it.",)
+
+
+class Picture:
+    """All that is drawn. `spans` has for each end of a connection the lines from and to which it is there."""
+
+    key, has_tokens = KEY, True
+
+    def __init__(self, title, description):
+        self.title, self.description = title, description
+        self.rows, self.arrows, self.bands, self.connections, self.notes = [], [], [], [], []
+        self.spans = {}
+
+
+MARKS = {"connect": "call", "call": "call", "shown": "shown", "carried": "carried", "standing": "standing",
+         "broken": "broken", "told": "told", "stop": "stop"}
+
+
+def of_run(lines, wire, history, title, chosen=None):
+    """The picture of a transcript; `chosen` are the connections that are shown, or None for all."""
+    present = sorted({line.connection for line in lines if line.connection is not None})
+    shown = [each for each in present if chosen is None or each in chosen]
+    picture = Picture(title, describe(lines, shown))
+    picture.connections = shown
+    carried = {piece.carry for piece in wire.pieces if piece.run is None or piece.run.message.connection in shown}
+    for line in lines:
+        if line.connection is not None and line.connection not in shown:
+            continue
+        if chosen and line.kind == "carried" and line.index not in carried:
+            continue
+        picture.rows.append(row_of(line, history))
+    for piece in wire.pieces:
+        if piece.run is None or piece.run.message.connection in shown:
+            picture.arrows.append(arrow_of(piece, lines))
+    picture.bands = [band for band in history.bands if band.connection in shown]
+    for key, begun in history.begun.items():
+        if key[1] in shown:
+            picture.spans[key] = begun, history.ended.get(key)
+    picture.notes = notes_of(lines, wire, history, [each for each in present if each not in shown])
+    return picture
+
+
+def row_of(line, history):
+    """The row of a line."""
+    text = line.text.split(" ", 1)[1] if line.side else line.text
+    mark = "refused" if line.error else MARKS[line.kind]
+    row = Row(line.index, line.text, text, line.side, line.connection, mark)
+    row.note = history.notes.get(line.index)
+    row.point = history.marks.get(line.index)
+    row.muted = line.kind in ("carried", "standing")
+    return row
+
+
+def arrow_of(piece, lines):
+    """The arrow of a piece."""
+    octets = piece.reach - piece.begin
+    if piece.run is None:
+        whole = (f"{piece.side} to the other side: {octets} octets, carried at line {piece.carry + 1}; "
+                 "the transcript does not tell what they are")
+        return Arrow(piece.side, None, piece.start, piece.end, 0, 1, f"{octets} octets", whole)
+    run, message = piece.run, piece.run.message
+    total = run.length
+    unit = UNITS.get(message.name, message.name)
+    ends = total is not None and piece.reach == total
+    begin, reach = (piece.begin / total, piece.reach / total) if total else (0, 0.75)
+    of_all = "" if octets == total else f" of {total}" if total else ""
+    whole = (f"{piece.side}, connection {message.connection}: {unit}, {octets}{of_all} octets, "
+             f"written at line {run.line + 1}, carried at line {piece.carry + 1}")
+    whole += f", seen at line {message.shown + 1}" if ends and message.shown is not None else ""
+    arrow = Arrow(piece.side, message.connection, piece.start, piece.end, begin, reach,
+                  f"{unit} {octets}{of_all}", whole)
+    if not ends and piece.reach == run.passed:
+        arrow.stop = "cut" if total else "open"
+    elif not ends:
+        arrow.stop = "rest"
+    elif piece.dropped:
+        arrow.stop, arrow.whole = "dropped", whole + ", shown to nobody"
+    arrow.minor, arrow.carry = unit == "AK", piece.carry
+    return arrow
+
+
+def describe(lines, shown):
+    """What a picture is of, for who does not see it."""
+    count = {kind: sum(line.kind == kind for line in lines) for kind in ("call", "carried", "shown")}
+    refused = sum(line.error is not None for line in lines)
+    numbers = ", ".join(map(str, shown[:12])) + (" and more" if len(shown) > 12 else "")
+    return (f"A ladder of two ends, time downwards: {len(lines)} lines, with {count['call']} calls, "
+            f"{refused} of what was asked for refused, {count['carried']} carries and {count['shown']} indications; "
+            f"connections shown: {numbers or 'none'}. "
+            "Each line stands as text at its side, in its order.")
+
+
+def notes_of(lines, wire, history, hidden):
+    """What has to be said about a picture."""
+    notes = []
+    if wire.untold is not None:
+        notes.append(f"From line {wire.untold + 1} on the transcript does not tell what the octets are: "
+                     "these arrows stand at the line of the carry (the script would tell).")
+    if any(piece.run and piece.run.length is None for piece in wire.pieces):
+        notes.append("An arrow that ends with ? is a packet of which the length is not told, and who used it.")
+    if wire.assumed_window:
+        notes.append("The window is not told: a data unit counts as written when it is asked for, and its arrow begins "
+                     "too early where it waited for an acknowledgement.")
+    notes += never_carried(wire)
+    for first, second in overlaps(history.bands)[:3]:
+        notes.append(f"The lines contradict each other: both sides hold the {first.token} token of connection "
+                     f"{first.connection} at line {second.start + 1}.")
+    if history.unknown:
+        named = ", ".join(str(index + 1) for index in history.unknown[:9])
+        notes.append(f"Which tokens are held behind line {named} is not told: none is drawn until it is.")
+    if hidden:
+        notes.append(f"Not shown: {len(hidden)} more connection{'s' * (len(hidden) > 1)} "
+                     f"({', '.join(map(str, hidden[:9]))}{' ..' * (len(hidden) > 9)}).")
+    return notes
+
+
+def never_carried(wire):
+    """What was written and never carried, where that is told."""
+    if wire.untold is not None:
+        return []
+    notes = []
+    for side, queue in wire.queues.items():
+        rows = sorted({packet.run.line + 1 for packet in queue if packet.length and packet.passed < packet.length})
+        if rows:
+            named = ", ".join(map(str, rows[:9])) + (" .." if len(rows) > 9 else "")
+            plural = "s" * (len(rows) > 1)
+            notes.append(f"Not carried up to the end: octets that the {side} wrote at line{plural} {named}.")
+    return notes
+
+
+def cut(text, width):
+    """A text of at most so many columns, with an ellipsis where it is longer."""
+    return text if len(text) <= width else text[:max(width - 1, 0)] + "…"
+
+
+def wrapped(text, width, most):
+    """A text in at most so many lines of so many columns; the last has an ellipsis where more is left."""
+    if len(text) <= width:
+        return [text]
+    if len(text) > width * (most + 1):
+        text = text[:width * (most + 1)]
+    rows = textwrap.wrap(text, width, break_long_words=True, break_on_hyphens=False)
+    if len(rows) > most:
+        rows = rows[:most]
+        rows[-1] = cut(rows[-1] + "…" * width, width) if len(rows[-1]) >= width else rows[-1] + "…"
+    return rows

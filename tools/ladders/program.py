@@ -1,0 +1,185 @@
+"""The program `ladder`: reads its words and its input, and writes one picture or nothing."""
+import argparse
+import os
+import sys
+import tempfile
+
+from . import captures, drawing, history, picture, script, terminal, transcript, wire
+from .transcript import BadInput
+
+ABOUT = """Draws a ladder of a run of two ends, as SVG: of what `osi pair` printed, of a script, for which it runs
+`osi pair`, or of the two captures of a gateway, for which it runs `osi show`."""
+
+
+class Words(argparse.ArgumentParser):
+    """Words that can't be read are one line on standard error, status 2."""
+
+    def error(self, message):
+        raise BadInput(message)
+
+
+def words():
+    """What the program takes."""
+    parser = Words(prog="ladder", description=ABOUT)
+    parser.add_argument("file", nargs="?", help="a transcript or a script; standard input where none is named or -")
+    parser.add_argument("--script", help="the script that the transcript is of: then all octets are known")
+    parser.add_argument("--left", help="a capture of what the left end, which calls, sent; or its listing")
+    parser.add_argument("--right", help="a capture of what the right end sent; or its listing")
+    parser.add_argument("--connection", type=int, action="append", metavar="N",
+                        help="show this connection (and others so named)")
+    parser.add_argument("--from", dest="first", type=int, default=1, metavar="LINE", help="the first line to show")
+    parser.add_argument("--to", dest="last", type=int, default=10 ** 9, metavar="LINE", help="the last line to show")
+    parser.add_argument("--text", action="store_true", help="draw in the columns of a terminal")
+    parser.add_argument("--columns", type=int, default=100, metavar="N", help="so many columns (100; at least 60)")
+    parser.add_argument("--title", help="what the picture is of")
+    parser.add_argument("--output", "-o", help="the file to write; standard output where none is named")
+    parser.add_argument("--osi", help="the program osi (else the one of this repository)")
+    return parser
+
+
+class Progress:
+    """How far a long run is, on a terminal; its line is cleared in the end."""
+
+    def __init__(self, stream):
+        self.stream, self.shown = stream, False
+        self.is_terminal = stream.isatty()
+
+    def __call__(self, done, of):
+        if self.is_terminal and of >= 5000 and done % 1000 == 0:
+            self.say(f"ladder: {done:,} of {of:,} lines")
+
+    def running(self, what):
+        """What is told each second that a program runs."""
+        self.say(f"ladder: running {what}")
+        return lambda seconds: self.say(f"ladder: running {what}, {seconds} s")
+
+    def say(self, text):
+        """Shows a text in the place of the one before."""
+        if self.is_terminal:
+            self.shown = True
+            self.stream.write(f"\r\x1b[K{text}")
+            self.stream.flush()
+
+    def end(self):
+        """Leaves nothing on the line."""
+        if self.shown:
+            self.stream.write("\r\x1b[K")
+            self.stream.flush()
+            self.shown = False
+
+
+def read_text(name):
+    """The text of a file, or of standard input."""
+    try:
+        if name in (None, "-"):
+            return sys.stdin.buffer.read().decode("ascii")
+        with open(name, "rb") as file:
+            return file.read().decode("ascii")
+    except OSError as error:
+        raise BadInput(f"{name or 'standard input'}: {error.strerror}") from None
+    except UnicodeDecodeError:
+        raise BadInput(f"{name or 'standard input'}: no text of ASCII letters") from None
+
+
+def picture_of_run(options, progress):
+    """The picture of a transcript or a script."""
+    text = read_text(options.file)
+    written = said = None
+    if script.is_script(text):
+        written = script.read(text)
+        said = script.title_of(text)
+        text = script.run(options.osi, "pair", text, progress.running("osi pair"))
+    elif options.script:
+        asked_for = script_text(options.script)
+        written, said = script.read(asked_for), script.title_of(asked_for)
+    lines = transcript.read(text)
+    asked = script.match(written, lines) if written else {}
+    known = transcript.connections(lines)
+    for number in options.connection or []:
+        if number not in known:
+            raise BadInput(f"there is no connection {number}")
+    followed = wire.Wire(lines, asked, written.ends if written else None).run()
+    story = history.History(lines, followed, asked).run()
+    named = os.path.basename(options.file) if options.file not in (None, "-") else "a run of two ends"
+    title = options.title or said or named
+    return picture.of_run(lines, followed, story, title, options.connection)
+
+
+def script_text(name):
+    """The text of a script."""
+    text = read_text(name)
+    if not script.is_script(text):
+        raise BadInput(f"{name} is no script: its first line is not `ends`")
+    return text
+
+
+def picture_of_captures(options, progress):
+    """The picture of two captures, or of their listings."""
+    listings = {}
+    for side, name in (("left", options.left), ("right", options.right)):
+        text = read_text(name)
+        listings[side] = text if captures.is_listing(text) else script.run(
+            options.osi, "show", text, progress.running("osi show"))
+    return captures.picture_of(listings, options.title or "two captures")
+
+
+def write(name, text):
+    """Writes all of it or nothing: beside the file, and then in its place. What is no file is written as it is."""
+    if name is None:
+        sys.stdout.buffer.write(text.encode("utf-8"))
+        sys.stdout.flush()
+        return
+    name = os.path.realpath(name)
+    if os.path.exists(name) and not os.path.isfile(name):
+        with open(name, "wb") as file:
+            file.write(text.encode("utf-8"))
+        return
+    handle, beside = tempfile.mkstemp(dir=os.path.dirname(name), prefix=".ladder")
+    try:
+        with os.fdopen(handle, "wb") as file:
+            file.write(text.encode("utf-8"))
+        mask = os.umask(0)
+        os.umask(mask)
+        os.chmod(beside, 0o666 & ~mask)
+        os.replace(beside, name)
+    except BaseException:
+        os.unlink(beside)
+        raise
+
+
+def make(options, progress):
+    """Reads, draws and writes."""
+    if (options.left is None) != (options.right is None):
+        raise BadInput("--left and --right go together")
+    if options.left and (options.file or options.script or options.connection):
+        raise BadInput("captures are drawn without a transcript, a script and --connection")
+    if not 1 <= options.first <= options.last:
+        raise BadInput("--from and --to are lines from 1 on, the one not behind the other")
+    made = picture_of_captures(options, progress) if options.left else picture_of_run(options, progress)
+    if made.rows and options.first > made.rows[-1].index + 1:
+        raise BadInput(f"there is no line {options.first}")
+    span = options.first - 1, options.last - 1
+    if options.text:
+        return terminal.draw(made, *span, columns=options.columns, progress=progress)
+    return drawing.draw(made, *span, progress=progress)
+
+
+def main(arguments=None):
+    """Runs the program; its status."""
+    progress = Progress(sys.stderr)
+    try:
+        options = words().parse_args(arguments)
+        text = make(options, progress)
+        progress.end()
+        write(options.output, text)
+        return 0
+    except (BadInput, OSError) as error:
+        progress.end()
+        said = error if isinstance(error, BadInput) else f"{error.filename or 'standard output'}: {error.strerror}"
+        print(f"ladder: {' '.join(str(said).split())}", file=sys.stderr)
+        if isinstance(error, BrokenPipeError):
+            os.dup2(os.open(os.devnull, os.O_WRONLY), sys.stdout.fileno())
+        return 2
+    except KeyboardInterrupt:
+        progress.end()
+        return 130

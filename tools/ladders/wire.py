@@ -1,0 +1,356 @@
+"""Works out of a transcript which octets each carry carried: from which line on they were there, and what used them.
+
+Each direction is a queue of packets. Its lengths come from the script, or from what the other user was
+shown; what neither tells stays open until a carry tells it, and where none does nothing more is claimed.
+"""
+from collections import deque
+
+from . import lengths
+from .octets import Link, Message, Packet, Piece, Run
+from .transcript import SHOWN_BY, other
+
+SELECTED = {("0", "0"): "0", ("0", "20"): "0", ("20", "0"): "0",
+            ("2", "2"): "2", ("2", "20"): "2", ("20", "2"): "2", ("20", "20"): "2"}
+ASKED = {"0": 14, "2": 17}
+
+
+class Untold(Exception):
+    """The transcript does not tell what these octets are."""
+
+
+class Wire:
+    """Both directions of the byte connection, along a transcript."""
+
+    def __init__(self, lines, asked=None, ends=None):
+        self.lines, self.asked, self.ends = lines, asked or {}, ends
+        self.queues = {"left": deque(), "right": deque()}
+        self.links, self.next, self.pieces, self.messages, self.asked_at = {}, {}, [], {}, {}
+        self.restarting, self.aborting, self.over, self.ended = set(), set(), set(), set()
+        self.unread, self.untold, self.assumed_window, self.reached = {}, None, False, {}
+        self.first_request, self.link_class = None, None
+        self.limit = self.window = None
+        self.opening = self.look_ahead()
+        if ends:
+            self.first_request = ASKED.get(ends["caller"], 20)
+            self.selected = SELECTED.get((ends["caller"], ends["called"]))
+        else:
+            self.infer_class()
+
+    def look_ahead(self):
+        """What CN and AC of each connection say, as it is shown; and which connections were denied."""
+        found = {}
+        self.denied = set()
+        for line in self.lines:
+            if line.kind == "shown" and line.name in ("Connect", "Connected"):
+                found[line.name, line.connection] = line.fields
+            elif line.name == "Refused" and "reason" in line.fields:
+                self.denied.add(line.connection)
+        return found
+
+    def infer_class(self):
+        """The class, as the octets tell it that cross before the first session unit does."""
+        sums, stage = [0, 0], 0
+        for line in self.lines:
+            if line.kind == "carried" and line.octets:
+                stage = max(stage, 1 if line.side == "right" else 2 if stage else 0)
+                if stage == 2:
+                    break
+                sums[stage] += line.octets
+        heard = stage == 2 or any(line.kind == "standing" and line.side == "left" and
+                                  line.fields["phase"] != "WaitTransport" for line in self.lines)
+        self.first_request = sums[0] if stage and sums[0] in (14, 17, 20) else None
+        certain = sums[1] if heard or sums[1] == 17 else 0
+        self.selected = {14: "0", 17: "2"}.get(certain) or {14: "0", 17: "2"}.get(self.first_request)
+
+    def run(self):
+        """Follows all lines."""
+        follow = {"connect": self.asks, "call": self.calls, "carried": self.carries, "told": self.is_told}
+        for line in self.lines:
+            if self.untold is not None:
+                if line.kind == "carried" and line.octets:
+                    self.pieces.append(Piece(line.side, None, 0, line.octets, line.index, line.index))
+            elif line.kind in follow and not line.error:
+                follow[line.kind](line)
+        return self
+
+    # What is written.
+
+    def put(self, side, connection, unit, length, line):
+        """A unit in a packet of its own."""
+        run = Run(Message(side, connection, unit, line), line)
+        run.length = length
+        self.queues[side].append(Packet(run, unit, length))
+        return run.message
+
+    def send(self, side, connection, name, line, fields):
+        """The TSDU of a call is handed to the link."""
+        message = Message(side, connection, name, line, fields)
+        link = self.links.get((side, connection))
+        if link is None or link.closing or side in self.ended:
+            return message
+        sizes = lengths.parts(lengths.tsdu_length(name, fields), self.link_class, self.limit) or [None]
+        for place, size in enumerate(sizes, 1):
+            link.waiting.append((message, size, place == len(sizes)))
+        self.flush(side, connection, line)
+        return message
+
+    def flush(self, side, connection, line):
+        """The link writes what its credit allows."""
+        link = self.links[side, connection]
+        runs = {}
+        while link.waiting and (link.credit is None or link.credit > 0):
+            message, size, last = link.waiting.popleft()
+            run = runs.setdefault(message, Run(message, line))
+            run.length = None if size is None or run.length is None else run.length + size
+            self.queues[side].append(Packet(run, "DT", size, last))
+            if link.credit is not None:
+                link.credit -= 1
+            elif self.link_class == "2":
+                self.assumed_window = True
+
+    def asks(self, line):
+        """A connect: its CR."""
+        self.asked_at[line.connection] = line.index
+        held = self.link_class is not None or line.reference > 1
+        length = self.first_request
+        if held and length in (20, None):
+            length = 17 if self.link_class == "2" else None
+        self.messages[line.index] = self.put("left", line.connection, "CR", length, line.index)
+
+    def calls(self, line):
+        """A call that was accepted: its session unit."""
+        key = line.side, line.connection
+        fields = dict(self.asked.get(line.index, {}))
+        if line.name == "accept":
+            fields.update(self.opening.get(("Connected", line.connection), {}))
+        self.number(line.name, key, fields)
+        self.messages[line.index] = self.send(line.side, line.connection, line.name, line.index, fields)
+        if line.name == "restart":
+            self.restarting.add(key)
+        elif line.name == "abort":
+            self.aborting.add(key)
+        elif line.name in ("refuse", "releaseaccept"):
+            self.over.add(key)
+
+    def number(self, name, key, fields):
+        """Numbers a point or its confirmation, where the number is known."""
+        if name == "accept":
+            shown = self.opening.get(("Connect", key[1]), {})
+            serial = fields.get("serial", shown.get("serial"))
+            points = int(fields.get("units", "0"), 16) & lengths.POINTS
+            self.next[key] = int(serial) if serial and serial != "-" and points else 0
+        known = self.next.get(key)
+        if name in ("minor", "major") and known is not None:
+            fields["number"] = known
+            self.next[key] = known + 1
+        elif name in ("majorconfirm", "restartconfirm") and known is not None:
+            fields["number"] = known - (name == "majorconfirm")
+        elif name == "restart":
+            self.next[key] = int(fields["number"]) if "number" in fields else None
+
+    def is_told(self, line):
+        """An end is told of the break: it has ended."""
+        self.ended.add(line.side)
+
+    # What is carried.
+
+    def carries(self, line):
+        """A carry: the first octets of the queue go over, and what they make whole arrives."""
+        self.unread = self.shown_by(line.index)
+        kept = len(self.pieces)
+        try:
+            self.consume(line)
+            left = [index for queue in self.unread.values() for index in queue
+                    if self.lines[index].name != "ProviderAbort"]
+            if left:
+                raise Untold
+        except Untold:
+            self.untold = line.index
+            del self.pieces[kept:]
+            self.pieces.append(Piece(line.side, None, 0, line.octets, line.index, line.index))
+
+    def shown_by(self, index):
+        """The lines of what was shown by the carry at a line, by connection."""
+        found, place = {}, index + 1
+        while place < len(self.lines) and self.lines[place].kind == "shown":
+            found.setdefault(self.lines[place].connection, deque()).append(place)
+            place += 1
+        return found
+
+    def consume(self, line):
+        """Takes the octets of a carry from the queue."""
+        queue, left = self.queues[line.side], line.octets
+        while left:
+            if not queue:
+                raise Untold
+            packet = queue[0]
+            if packet.length is None:
+                packet = self.resolve(queue, left)
+            taken = left if packet.length is None else min(left, packet.length - packet.passed)
+            self.pass_over(line, packet, taken)
+            left -= taken
+            if packet.passed == packet.length:
+                queue.popleft()
+                self.arrive(packet, line.index)
+
+    def pass_over(self, line, packet, octets):
+        """Octets of a packet go over, as a piece."""
+        run, last = packet.run, self.pieces[-1] if self.pieces else None
+        packet.passed += octets
+        if last is None or last.run is not run or last.carry != line.index:
+            start = self.reached.get(run, run.line) if run.passed else run.line
+            last = Piece(line.side, run, run.passed, run.passed, start, line.index)
+            self.pieces.append(last)
+        run.passed += octets
+        last.reach = run.passed
+        self.reached[run] = line.index
+
+    def resolve(self, queue, left):
+        """The first packet of a queue, of which the length is told now if ever."""
+        packet, rest = queue[0], len(queue) > 1
+        message = packet.run.message
+        receiver = other(message.side), message.connection
+        shown = self.unread.get(message.connection)
+        if message.name == "CR" or not shown or self.lines[shown[0]].name != SHOWN_BY.get(message.name):
+            if receiver in self.restarting and self.link_class == "0" and not rest and message.name != "abort":
+                return packet
+            if receiver in self.restarting | self.over | self.aborting or receiver[0] in self.ended:
+                raise Untold
+            return packet
+        message.fields = {**message.fields, **self.lines[shown[0]].fields}
+        sizes = lengths.parts(lengths.tsdu_length(message.name, message.fields), self.link_class, self.limit)
+        if sizes is None and (rest or self.link_class != "0"):
+            raise Untold
+        sizes = sizes or [packet.passed + left]
+        packet.length = packet.run.length = sum(sizes)
+        if len(sizes) > 1 or packet.length < packet.passed:
+            raise Untold
+        return packet
+
+    # What arrives.
+
+    def arrive(self, packet, index):
+        """A whole packet arrives at the other side."""
+        message = packet.run.message
+        side = other(message.side)
+        if side in self.ended:
+            self.pieces[-1].dropped = packet.last and packet.unit == "DT"
+            return
+        if packet.unit == "DT":
+            self.data_arrives(packet, side, index)
+        elif packet.unit == "AK":
+            self.acknowledged(side, message.connection, index)
+        elif packet.unit in ("CR", "CC", "DR"):
+            {"CR": self.asked_for, "CC": self.agreed, "DR": self.closed}[packet.unit](
+                message, side, message.connection, index)
+
+    def asked_for(self, message, side, connection, index):
+        """A CR: it is agreed to or denied."""
+        if self.link_class is None and self.selected and connection not in self.denied:
+            self.link_class = self.selected
+            size = self.ends and 2 ** self.ends["size"]
+            self.limit = size and size - lengths.DATA_UNIT[self.selected]
+            self.window = self.ends and self.ends["window"]
+        message.arrived = True
+        if connection in self.denied or (self.ends and not self.selected):
+            self.put(side, connection, "DR", lengths.CLOSING, index)
+            return
+        self.open(side, connection)
+        self.put(side, connection, "CC", lengths.CONFIRMED.get(self.link_class), index)
+
+    def open(self, side, connection):
+        """An end of a transport connection is open."""
+        self.links[side, connection] = Link(self.window if self.link_class == "2" else None)
+
+    def agreed(self, message, side, connection, index):
+        """A CC: the CN follows."""
+        self.open(side, connection)
+        fields = dict(self.asked.get(self.asked_at.get(connection), {}))
+        fields.update(self.opening.get(("Connect", connection), {}))
+        self.send(side, connection, "connect", index, fields)
+
+    def data_arrives(self, packet, side, index):
+        """A data unit: acknowledged in class 2, and the last of its TSDU brings it."""
+        message = packet.run.message
+        link = self.links.get((side, message.connection))
+        if link is None or link.closing:
+            self.pieces[-1].dropped = packet.last
+            return
+        if self.link_class == "2":
+            self.put(side, message.connection, "AK", lengths.ACKNOWLEDGED, index)
+        if packet.last:
+            self.deliver(message, side, index)
+
+    def acknowledged(self, side, connection, index):
+        """An acknowledgement: one more may be sent."""
+        link = self.links.get((side, connection))
+        if link is not None and not link.closing:
+            if link.credit is not None:
+                link.credit += 1
+            self.flush(side, connection, index)
+
+    def deliver(self, message, side, index):
+        """A message arrives at the session of the other side, and may be seen there."""
+        key = side, message.connection
+        message.arrived = True
+        name = SHOWN_BY.get(message.name)
+        if self.see(key, name):
+            message.shown = self.pieces[-1].end = self.seen
+            self.settle(key, name, self.lines[self.seen].fields)
+            if name in ("Released", "Refused"):
+                self.close(key, index)
+        else:
+            self.pieces[-1].dropped = name is not None
+        if message.name == "abort":
+            self.aborted(key, index)
+        elif message.name == "answer to an abort" and key in self.aborting:
+            self.close(key, index)
+
+    def see(self, key, name):
+        """Whether the next that the user was shown by this carry is so named; then it was seen."""
+        shown = self.unread.get(key[1])
+        if not shown or self.lines[shown[0]].name != name:
+            return False
+        self.seen = shown.popleft()
+        return True
+
+    def settle(self, key, name, fields):
+        """The numbers behind what was shown."""
+        number = fields.get("number")
+        if name in ("Minor", "Major"):
+            self.next[key] = int(number) + 1
+        elif name in ("Restart", "Restarted"):
+            self.restarting.discard(key)
+            self.next[key] = int(number)
+        elif name == "Connected":
+            self.next[key] = 0 if fields["serial"] == "-" else int(fields["serial"])
+
+    def aborted(self, key, index):
+        """An AB: it is answered, or closes the connection where one was sent here too."""
+        if key in self.aborting:
+            self.close(key, index)
+        else:
+            self.over.add(key)
+            self.send(*key, "answer to an abort", index, {})
+
+    def close(self, key, index):
+        """The session closes its transport connection."""
+        self.over.add(key)
+        self.aborting.discard(key)
+        if self.link_class == "0":
+            self.ended.add(key[0])
+        else:
+            self.links[key].closing = True
+            self.put(*key, "DR", lengths.CLOSING, index)
+
+    def closed(self, message, side, connection, index):
+        """A DR: a refusal, or the end of an open connection, which is confirmed."""
+        link = self.links.get((side, connection))
+        if link is None:
+            if self.see((side, connection), "Refused"):
+                message.shown = self.pieces[-1].end = self.seen
+        elif not link.closing:
+            link.closing = True
+            self.over.add((side, connection))
+            self.put(side, connection, "DC", lengths.CLOSED, index)
+        message.arrived = True
