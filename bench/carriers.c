@@ -67,13 +67,15 @@ static bool report(const uint8_t *tsdu, size_t n, size_t rounds, uint16_t connec
     return good;
 }
 
-/* With the words `job class connections piece octets rounds` one job runs once, to be counted. */
+/* With the words `job class connections piece octets rounds` one job runs once, to be counted; it says how many TSDUs that
+   were. */
 static int once(char **words, const uint8_t *tsdu)
 {
     size_t rounds = strtoul(words[6], NULL, 10);
     size_t n = strtoul(words[5], NULL, 10);
     job *run = jobs[strcmp(words[1], "proved") == 0 ? 0 : 1];
     uint64_t answer = run(tsdu, n, rounds, (uint16_t)atoi(words[3]), strtoul(words[4], NULL, 10), words[2][0] == '2');
+    printf("%zu operations\n", rounds);
     return answer == rounds * 1000003 + rounds * n ? 0 : 1;
 }
 

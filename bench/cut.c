@@ -162,15 +162,33 @@ static size_t fill(uint8_t *stream, size_t length, size_t packet)
     return at;
 }
 
-int main(void)
+static job *const jobs[JOBS] = {osi_bench_cut, cut_by_hand, copy};
+
+/* With the words `job packet piece rounds` one job goes over a stream of 1 MiB so many times, to be counted; it says how
+   many packets that were. */
+static int once(char **words, uint8_t *stream)
+{
+    size_t packet = strtoul(words[2], NULL, 10), piece = strtoul(words[3], NULL, 10), rounds = strtoul(words[4], NULL, 10);
+    size_t filled = fill(stream, 1 << 20, packet), packets = filled / packet;
+    job *run = jobs[strcmp(words[1], "proved") == 0 ? 0 : 1];
+    uint64_t wanted = packets * 1000003 + filled - 4 * packets;
+    for (size_t i = 0; i < rounds; i++)
+        if (run(stream, filled, piece) != wanted)
+            return 1;
+    printf("%zu operations\n", rounds * packets);
+    return 0;
+}
+
+int main(int count, char **words)
 {
     static const size_t packets[] = {12, 1031, 8199};
     static const size_t pieces[] = {1, 1448, 65536};
-    static job *const jobs[JOBS] = {osi_bench_cut, cut_by_hand, copy};
     size_t length = 4 << 20;
     uint8_t *stream = malloc(length);
     if (stream == NULL)
         return 1;
+    if (count == 5)
+        return once(words, stream);
     printf("%8s %8s %10s %10s %10s %8s\n", "packet", "piece", "proved", "C", "memcpy", "ratio");
     for (size_t i = 0; i < 3; i++)
         for (size_t j = 0; j < 3; j++) {

@@ -103,6 +103,6 @@ int main(int count, char **words)
     memset(data, 0x41, sizeof data);
     uint64_t seen = (strcmp(words[1], "c") == 0 ? over_c : osi_bench_stacks)(data, length, rounds, connections,
                                                                              class_two, points);
-    printf("%llu\n", (unsigned long long)seen);
+    printf("%zu operations\n", rounds);
     return seen == 0;
 }

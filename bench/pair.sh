@@ -9,22 +9,9 @@ mkdir -p bench/out
 gcc -O2 -Wall -Wextra -Iinclude -o bench/out/pair bench/pair.c build/libosi.a
 python3 - bench/out <<'P'
 import re, subprocess, sys, time
-opening = """ends 2 2 13 15
-connect 00b9 1 aaaa -
-carry left 999
-carry right 999
-carry left 999
-right 1 accept 00b9 1 aaaa -
-carry right 999
-"""
-# data, a minor point and its confirmation
-turn = """left 1 data 6f6e652074776f
-carry left 9999
-left 1 minor yes -
-carry left 9999
-right 1 minorconfirm %d -
-carry right 9999
-"""
+sys.dont_write_bytecode = True
+sys.path.insert(0, "bench")
+from script import script
 
 
 def timed(command, script):
@@ -46,14 +33,14 @@ def alike(transcript, counts):
 took = {}
 for lines in (1000, 10000):
     turns = (lines - 7) // 6
-    script = f"{sys.argv[1]}/pair-{lines}.script"
-    with open(script, "w") as out:
-        out.write(opening + "".join(turn % (number + 1) for number in range(turns)))
+    path = f"{sys.argv[1]}/pair-{lines}.script"
+    with open(path, "w") as out:
+        out.write(script(turns))
     program = stacks = 1e9
     for _ in range(25):
-        seconds, transcript = timed(["crates/osi_tool/out/osi_tool", "pair"], script)
+        seconds, transcript = timed(["crates/osi_tool/out/osi_tool", "pair"], path)
         program = min(program, seconds)
-        seconds, counts = timed([f"{sys.argv[1]}/pair", str(turns)], script)
+        seconds, counts = timed([f"{sys.argv[1]}/pair", str(turns)], path)
         stacks = min(stacks, seconds)
     assert alike(transcript, counts), (transcript[:200], counts)
     took[lines] = program, stacks

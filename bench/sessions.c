@@ -156,10 +156,12 @@ int main(int argc, char **argv)
     int good = 1;
     for (size_t i = 0; i < sizeof data; i++)
         data[i] = (uint8_t)(i * 31);
-    /* One side and one part alone, for counting instructions. */
-    if (argc == 4) {
-        side *run = strcmp(argv[1], "c") ? osi_bench_sessions : by_hand;
-        printf("%llu\n", (unsigned long long)run(data, 100, (size_t)atoi(argv[3]), (size_t)atoi(argv[2])));
+    /* With the words `job part octets rounds` one job runs once, to be counted; it says how many octets that were, so that
+       both can be compared. */
+    if (argc == 5) {
+        side *run = strcmp(argv[1], "proved") == 0 ? osi_bench_sessions : by_hand;
+        size_t part = strtoul(argv[2], NULL, 10), length = strtoul(argv[3], NULL, 10), rounds = strtoul(argv[4], NULL, 10);
+        printf("%zu operations: %llu\n", rounds, (unsigned long long)run(data, length, rounds, part));
         return 0;
     }
     printf("%8s %-28s %10s %10s %8s\n", "octets", "ns for", "proved", "C", "proved/C");

@@ -218,12 +218,14 @@ static bool report(const uint8_t *data, size_t n, size_t rounds, uint16_t connec
     return good;
 }
 
-/* With the words `job class connections data|points octets rounds` one job runs once, to be counted. */
+/* With the words `job class connections data|points octets rounds` one job runs once, to be counted; it says how many
+   rounds that were. */
 static int once(char **words, const uint8_t *data)
 {
     size_t n = strtoul(words[5], NULL, 10), rounds = strtoul(words[6], NULL, 10);
     bool points = words[4][0] == 'p';
     job *run = jobs[strcmp(words[1], "proved") == 0 ? 0 : 1];
+    printf("%zu operations\n", rounds);
     return run(data, n, rounds, (uint16_t)atoi(words[3]), words[2][0] == '2', points) == expected(n, rounds, points) ? 0 : 1;
 }
 

@@ -102,11 +102,12 @@ int main(int argc, char **argv)
     int good = 1;
     for (size_t i = 4; i < DATA; i++)
         data[i] = (uint8_t)(i * 31);
-    /* One reader and one TSDU alone, for counting instructions. */
-    if (argc == 3) {
+    /* With the words `job TSDU rounds` one job runs once, to be counted; it says what it saw, so that both can be compared. */
+    if (argc == 4) {
         const struct work *w = &works[atoi(argv[2]) % 3];
-        reader *run = strcmp(argv[1], "c") ? osi_bench_tsdus : by_hand;
-        printf("%llu\n", (unsigned long long)run(w->octets, w->length, ROUNDS));
+        size_t rounds = strtoul(argv[3], NULL, 10);
+        reader *run = strcmp(argv[1], "proved") == 0 ? osi_bench_tsdus : by_hand;
+        printf("%zu operations: %llu\n", rounds, (unsigned long long)run(w->octets, w->length, rounds));
         return 0;
     }
     printf("%16s %8s %8s %8s %8s %8s\n", "TSDU", "octets", "units", "proved", "C", "proved/C");

@@ -500,10 +500,38 @@ static int report(struct work *w)
     return same(answers);
 }
 
-int main(void)
+static int fill_named(struct work *w, const char *name)
+{
+    if (strcmp(name, "mixed") == 0)
+        return fill_mixed(w, name, 10000);
+    return fill_data(w, name, 10000, (size_t)atoi(name));
+}
+
+/* With the words `job 128|6|mixed rounds` one job goes over the packets so many times, to be counted; it says how many
+   units that were. */
+static int once(char **words)
 {
     struct work w;
-    int good = agree_on_faults();
+    size_t rounds = strtoul(words[3], NULL, 10);
+    int k = strcmp(words[1], "proved") == 0 ? 0 : strcmp(words[1], "once") == 0 ? 2 : 1;
+    uint64_t first;
+    if (!fill_named(&w, words[2]))
+        return 1;
+    first = jobs[k](w.packets, w.octets, w.lengths, w.count);
+    for (size_t i = 1; i < rounds; i++)
+        if (jobs[k](w.packets, w.octets, w.lengths, w.count) != first)
+            return 1;
+    printf("%zu operations: %llu\n", rounds * w.units, (unsigned long long)first);
+    return 0;
+}
+
+int main(int count, char **words)
+{
+    struct work w;
+    int good;
+    if (count == 4)
+        return once(words);
+    good = agree_on_faults();
     printf("%16s %8s %8s %8s %8s %8s %8s\n", "packets", "units", "proved", "C twice", "C once", "/ twice", "/ once");
     good = good && fill_data(&w, "DT, 128 octets", 10000, 128) && report(&w);
     good = good && fill_data(&w, "DT, 6 octets", 10000, 6) && report(&w);

@@ -64,10 +64,11 @@ int main(int argc, char **argv)
     int good = 1;
     for (size_t i = 4; i < DATA; i++)
         data[i] = (uint8_t)(i * 31);
-    /* One TSDU alone, for counting instructions. */
-    if (argc == 2) {
-        const struct work *w = &works[atoi(argv[1]) % 3];
-        printf("%llu\n", (unsigned long long)osi_bench_writes(w->octets, w->length, ROUNDS));
+    /* With the words `proved TSDU rounds` it runs once, to be counted. */
+    if (argc == 4) {
+        const struct work *w = &works[atoi(argv[2]) % 3];
+        size_t rounds = strtoul(argv[3], NULL, 10);
+        printf("%zu operations: %llu\n", rounds, (unsigned long long)osi_bench_writes(w->octets, w->length, rounds));
         return 0;
     }
     printf("%20s %8s %8s\n", "TSDU", "octets", "ns");
