@@ -6,7 +6,11 @@
 # runs the programs of examples/gateway (scripts/gateways does so with what was built before).
 # make trials: builds the same and runs what is proved against hostile octets, want of memory and breaks
 # (docs/TRIALS.md); make trials PART=--part runs a part of it. make fuzz SECONDS=60 SEED=1 feeds ends octets at random.
-.PHONY: all test edits bench lib install gateways trials fuzz
+# make ladders: draws the pictures of docs/ladders from examples/ladders (docs/LADDERS.md); make ladders-check runs the
+# tests of the program that draws them, and compares.
+# make ledger: builds the same and the benchmarks, counts the instructions of each operation that a benchmark times, and
+# fails where one takes more than bench/ledger.txt says; some minutes where all is proved.
+.PHONY: all test edits bench ledger lib install gateways trials fuzz ladders ladders-check
 PREFIX ?= /usr/local
 SECONDS ?= 60
 
@@ -24,6 +28,11 @@ edits:
 
 bench:
 	bench/run
+
+ledger: all lib
+	cd crates/osi_bench && rt lib > out.log 2>&1 || { cat out.log; exit 1; }
+	rm -f crates/osi_bench/out.log
+	bench/ledger
 
 lib:
 	PREFIX=$(PREFIX) scripts/library
@@ -46,3 +55,10 @@ trials: all lib
 
 fuzz: lib
 	scripts/trials --fuzz $(SECONDS) $(SEED)
+
+ladders:
+	scripts/draw_ladders docs/ladders
+
+ladders-check:
+	python3 -m unittest discover -s tools -t tools
+	scripts/draw_ladders --check docs/ladders
