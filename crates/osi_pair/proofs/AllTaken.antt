@@ -26,6 +26,7 @@ use Rattle.osi_machine.specs.Worlds.{Message}
 use Rattle.osi_machine.specs.Worlds as worlds
 use Rattle.osi_pair.specs.Ends.{TwoEnds, end_at}
 use Rattle.osi_pair.specs.Promises.{sent_by, taken_by, AreTakenInOrder, AreAtRest, IsOpenAt, kept_at, kept_of, IsAllTaken}
+use Rattle.osi_pair.specs.Reached.{HoldLess}
 use Rattle.osi_pair.specs.Sides.{other}
 use Rattle.osi_pair.specs.Standing.{terms_in, is_caller, transport_in, message_in, carriers_of, AreAlike, StandsAt}
 use Rattle.osi_pair.specs.declared.reach.Reach.{Reach}
@@ -35,6 +36,16 @@ use Rattle.osi_pair.proofs.NothingKept.{open_there, open_here, none_begun}
 use Rattle.osi_pair.proofs.StandingActed.{live_place}
 use Rattle.osi_pair.proofs.StandingFinish.{order_of}
 use Rattle.osi_pair.proofs.StandingPromises.{tables_at, line_at, outside_by, within}
+
+-- two ends at rest, each of which holds less than a packet
+record Resting (p : TwoEnds) : Type 0 where
+  unbroken : p.reach ≡ None
+  lasts : (side : Side) → (end_at side p).end.carrier.ended ≡ None
+  outgoing : (side : Side) → (end_at side p).end.carrier.outgoing ≡ []
+  held : HoldLess p
+
+resting : (p : TwoEnds) → HoldLess p → AreAtRest p → Resting p
+resting p held rest = record { unbroken = rest.unbroken; lasts = rest.lasts; outgoing = rest.outgoing; held = held }
 
 -- what is proved of the tables, and of two carriers
 abbrev pub Heard : Type 0
@@ -88,10 +99,10 @@ none_coming held arriving units lost part none whole w = by units w.sendable all
     by (u ∷ us) sendable e =
         absurd (partial_not_whole (packet_of (written u)) (completed_partial (packet_of (written u)) (packets us) (subst IsPartial e part)) (written u, unit_packet u sendable.0))
 
-none_lost : (from : Bool) (p : TwoEnds) (steps : List Step) (h : StandsAt p steps) → AreAtRest p → lost_from from h.now ≡ []
+none_lost : (from : Bool) (p : TwoEnds) (steps : List Step) (h : StandsAt p steps) → Resting p → lost_from from h.now ≡ []
 none_lost from p steps h rest = h.stands.between.unbroken (ap (option_map (λ r. (r.left, r.right))) rest.unbroken) from
 
-rests_at : (side : Side) (p : TwoEnds) (steps : List Step) (h : StandsAt p steps) → AreAtRest p → (units_from (is_caller (other side)) h.now ≡ []) × ((end_at side p).held.octets ≡ [])
+rests_at : (side : Side) (p : TwoEnds) (steps : List Step) (h : StandsAt p steps) → Resting p → (units_from (is_caller (other side)) h.now ≡ []) × ((end_at side p).held.octets ≡ [])
 rests_at Left p steps h rest =
     none_coming p.left.held.octets (arriving false (carriers_of p)) h.now.coming h.now.coming_lost (rest.held Left)
     (ap (λ (r : Option Reach). within_reach (reach_of false (option_map (λ r. (r.left, r.right)) r)) p.right.end.carrier.outgoing) rest.unbroken ∙ rest.outgoing Right)
@@ -101,7 +112,7 @@ rests_at Right p steps h rest =
     (ap (λ (r : Option Reach). within_reach (reach_of true (option_map (λ r. (r.left, r.right)) r)) p.left.end.carrier.outgoing) rest.unbroken ∙ rest.outgoing Left)
     (none_lost true p steps h rest) (h.stands.between.comes true (rest.lasts Right))
 
-at_rest : (p : TwoEnds) (steps : List Step) → StandsAt p steps → AreAtRest p → IsStill (carriers_of p)
+at_rest : (p : TwoEnds) (steps : List Step) → StandsAt p steps → Resting p → IsStill (carriers_of p)
 at_rest p steps h rest = record {
   unbroken = ap (option_map (λ r. (r.left, r.right))) rest.unbroken;
   lasts = rest.lasts Left;
@@ -127,8 +138,8 @@ open_given r p steps h o = by (within r p.left.end.carrier.given)
 none_left : (heard said : List Meaning) (ms : List Message) → ms ≡ [] → heard ++ units_in ms ≡ said → heard ≡ said
 none_left heard said ms e h = sym (append-nil heard) ∙ ap (λ (us : List Meaning). heard ++ us) (sym (ap units_in e)) ∙ h
 
-pub all_taken : Heard → Empties → (p : TwoEnds) (steps : List Step) (r : ℕ) → StandsAt p steps → AreAtRest p → IsOpenAt r p.left.end → IsOpenAt r p.right.end → IsAllTaken r p steps
-all_taken heard empties p steps r h rest left right =
+all_there : Heard → Empties → (p : TwoEnds) (steps : List Step) (r : ℕ) → StandsAt p steps → Resting p → IsOpenAt r p.left.end → IsOpenAt r p.right.end → IsAllTaken r p steps
+all_there heard empties p steps r h rest left right =
     let terms = terms_in (terms_of p.left.end.carrier.local p.right.end.carrier.local) in
     let given = open_given r p steps h left in
     let here = line_at r p steps h given.0 given.1 in
@@ -152,9 +163,13 @@ all_taken heard empties p steps r h rest left right =
     kept there Left = ap kept_of left.live ∙ ap length there.links.begun
     kept there Right = ap kept_of right.live ∙ ap length there.links.begun_there
 
+pub all_taken : Heard → Empties → (p : TwoEnds) (steps : List Step) (r : ℕ) → StandsAt p steps → HoldLess p → AreAtRest p → IsOpenAt r p.left.end → IsOpenAt r p.right.end →
+    IsAllTaken r p steps
+all_taken heard empties p steps r h held rest left right = all_there heard empties p steps r h (resting p held rest) left right
+
 -- ---- nothing is kept
 
-joined_at_rest : (p : TwoEnds) (steps : List Step) (h : StandsAt p steps) → AreAtRest p
+joined_at_rest : (p : TwoEnds) (steps : List Step) (h : StandsAt p steps) → Resting p
     → AreJoinedBy (terms_of p.left.end.carrier.local p.right.end.carrier.local) p.left.end.carrier p.right.end.carrier [] []
 joined_at_rest p steps h rest =
     let terms = terms_of p.left.end.carrier.local p.right.end.carrier.local in
@@ -165,7 +180,7 @@ joined_at_rest p steps h rest =
     (subst (λ (l : List Value). AreJoinedBy terms h.now.caller h.now.called l []) going
     (subst (λ (l : List Value). AreJoinedBy terms h.now.caller h.now.called (h.now.going ++ h.now.going_lost) l) coming h.stands.between.joined)))
 
-none_begun_at : Empties → (side : Side) (p : TwoEnds) (steps : List Step) → StandsAt p steps → AreAtRest p → (r : ℕ) (x : Connection) → value_at r (end_at side p).end.carrier.live ≡ Some x → begun_by x ≡ 0
+none_begun_at : Empties → (side : Side) (p : TwoEnds) (steps : List Step) → StandsAt p steps → Resting p → (r : ℕ) (x : Connection) → value_at r (end_at side p).end.carrier.live ≡ Some x → begun_by x ≡ 0
 none_begun_at empties side p steps h rest r asked at = refl
 none_begun_at empties side p steps h rest r (closing peer) at = refl
 none_begun_at empties Left p steps h rest r (linked peer link) at =
@@ -177,9 +192,12 @@ none_begun_at empties Right p steps h rest r (linked peer link) at =
     let here = open_here terms p.left.end.carrier p.right.end.carrier r peer link (joined_at_rest p steps h rest) at in
     ap length (empties terms (carriers_of p) h.now r here.peer peer here.link link h.stands.between (at_rest p steps h rest) here.live at).links.begun_there
 
-pub nothing_kept : Empties → (p : TwoEnds) (steps : List Step) → StandsAt p steps → AreAtRest p → (side : Side) → kept_at side p ≡ 0
-nothing_kept empties p steps h rest side =
+none_kept : Empties → (p : TwoEnds) (steps : List Step) → StandsAt p steps → Resting p → (side : Side) → kept_at side p ≡ 0
+none_kept empties p steps h rest side =
     let held : length (end_at side p).held.octets ≡ 0 = ap length (rests_at side p steps h rest).1 in
     let begun : kept_in (end_at side p).end.carrier.live ≡ 0 =
     none_begun 0 (end_at side p).end.carrier.live (order_of side p h.now (tables_at p steps) h.stands (rest.lasts side)).sound.orderly.rise (none_begun_at empties side p steps h rest) in
     omega arith
+
+pub nothing_kept : Empties → (p : TwoEnds) (steps : List Step) → StandsAt p steps → HoldLess p → AreAtRest p → (side : Side) → kept_at side p ≡ 0
+nothing_kept empties p steps h held rest side = none_kept empties p steps h (resting p held rest) side

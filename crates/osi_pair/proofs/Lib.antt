@@ -3,7 +3,10 @@ pub mod NothingKept
 pub mod Waiting
 pub mod Showing
 pub mod Pieces
-pub mod Lists
+pub mod Running
+pub mod CarryingAll
+pub mod Applying
+pub mod HoldingLess
 pub mod StandingArriving
 pub mod StandingRows
 pub mod StandingWays

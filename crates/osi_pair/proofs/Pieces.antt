@@ -1,5 +1,5 @@
 -- Pieces are carried one after the other.
-use Rattle.std.proofs.Common.{◌≡◌, ◌∙◌, ℕ, ◌+◌, ◌-◌, Bool, false, List, [], ◌∷◌, sum, map, Result, Ok, Err, OnOk, is_err, refl, sym, ap, subst}
+use Rattle.std.proofs.Common.{◌≡◌, ◌∙◌, ℕ, ◌+◌, ◌-◌, Bool, true, false, List, [], ◌∷◌, sum, map, Result, Ok, Err, OnOk, OnErr, is_err, refl, sym, ap, subst}
 use Rattle.std.proofs.Math.Nat.{add_comm}
 use Rattle.std.proofs.lemmas.List.Sums.{sum_by-cons}
 use Rattle.osi_stack.specs.State.{Holding}
@@ -31,3 +31,8 @@ carries_then side most carried used old mid from to said after h more same =
 pub not_refused : {T E : Type 0} (P : Type 0) (r : Result T E) (b : Bool) → b ≡ is_err r → b ≡ false → OnOk r P → P
 not_refused P (Ok x) b e f h = h
 not_refused P (Err x) b e f h = cc
+
+-- where one was refused, what holds of an error holds
+pub was_refused : {T E : Type 0} (P : Type 0) (r : Result T E) (b : Bool) → b ≡ is_err r → b ≡ true → OnErr r P → P
+was_refused P (Ok x) b e f h = cc
+was_refused P (Err x) b e f h = h

@@ -5,27 +5,29 @@ use Rattle.osi_machine.specs.Machine.{Step}
 use Rattle.osi_pair.specs.Advancing.{CanHappen, StandsAfter}
 use Rattle.osi_pair.specs.Ends.{TwoEnds, end_at}
 use Rattle.osi_pair.specs.Events.{misfit, Does}
-use Rattle.osi_pair.specs.Reached.{IsReached}
+use Rattle.osi_pair.specs.Reached.{HoldLess, IsReached}
 use Rattle.osi_pair.specs.Standing.{StandsAt, StandsAtTold}
 use Rattle.osi_pair.specs.declared.events.Event.{Event}
 use Rattle.osi_pair.specs.declared.events.Event.TheVariants.{Connect, Call, Carry, Break, Told}
 use Rattle.osi_pair.specs.declared.sides.Side.{Side}
+use Rattle.osi_pair.proofs.HoldingLess.{event_less}
 use Rattle.osi_pair.proofs.StandingEvent.{EventLaws, event_stands}
 
-reached_by : (p : TwoEnds) (steps : List Step) → StandsAt p steps → IsReached p
-reached_by p steps s = record { steps = steps; stands = s }
+reached_by : (p : TwoEnds) (steps : List Step) → HoldLess p → StandsAt p steps → IsReached p
+reached_by p steps held s = record { steps = steps; stands = s; held = held }
 
-reached_told : (before : Option EndReason) (side : Side) (p : TwoEnds) (steps : List Step) → StandsAtTold before side p steps → IsReached p
-reached_told (Some reason) side p steps s = reached_by p steps s
-reached_told None side p steps s = reached_by p _ s.stands
+reached_told : (before : Option EndReason) (side : Side) (p : TwoEnds) (steps : List Step) → HoldLess p → StandsAtTold before side p steps → IsReached p
+reached_told (Some reason) side p steps held s = reached_by p steps held s
+reached_told None side p steps held s = reached_by p _ held s.stands
 
-pub reached_after : (event : Event) (old new : TwoEnds) (steps : List Step) → StandsAfter event old new steps → IsReached new
-reached_after (Connect asked) old new steps s = reached_by new _ s
-reached_after (Call side reference request) old new steps s = reached_by new _ s
-reached_after (Carry side most) old new steps s = reached_by new _ s.stands
-reached_after (Break left right) old new steps s = reached_by new _ s.stands
-reached_after (Told side) old new steps s = reached_told (end_at side old).end.carrier.ended side new steps s
+reached_after : (event : Event) (old new : TwoEnds) (steps : List Step) → HoldLess new → StandsAfter event old new steps → IsReached new
+reached_after (Connect asked) old new steps held s = reached_by new _ held s
+reached_after (Call side reference request) old new steps held s = reached_by new _ held s
+reached_after (Carry side most) old new steps held s = reached_by new _ held s.stands
+reached_after (Break left right) old new steps held s = reached_by new _ held s.stands
+reached_after (Told side) old new steps held s = reached_told (end_at side old).end.carrier.ended side new steps held s
 
-pub reached_event : EventLaws → (event : Event) (old new : TwoEnds) (octets : ℕ) → CanHappen event → misfit event old ≡ None → Does event old octets new → IsReached old → IsReached new
+pub reached_event : EventLaws → (event : Event) (old new : TwoEnds) (octets : ℕ) → CanHappen event → misfit event old ≡ None → Does event old octets new → IsReached old →
+    IsReached new
 reached_event laws event old new octets can fits does at =
-    reached_after event old new at.steps (event_stands laws event old new octets at.steps can fits does at.stands)
+    reached_after event old new at.steps (event_less event old new octets does at.held) (event_stands laws event old new octets at.steps can fits does at.stands)

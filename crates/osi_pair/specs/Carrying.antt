@@ -1,5 +1,5 @@
 -- Octets are carried from one end to the other.
-use Rattle.std.specs.Prelude.{◌≡◌, ℕ, ◌-◌, List, [], ◌∷◌, ◌++◌, sum, take, min}
+use Rattle.std.specs.Prelude.{◌≡◌, ℕ, ◌-◌, ◌<◌, List, [], ◌∷◌, ◌++◌, sum, take, min}
 use Rattle.osi_session.specs.Shown.{Shown}
 use Rattle.osi_stack.specs.Calls.{carried}
 use Rattle.osi_stack.specs.Feeding.{Feeds}
@@ -39,6 +39,13 @@ abbrev pub CarriesPieces : Side → ℕ → List ℕ → Crossing → Crossing �
 CarriesPieces side most [] old new = new ≡ old
 CarriesPieces side most (used ∷ before) old new =
     (between : Crossing) × CarriesPieces side most before old between × CarriesPiece side (most - sum before) between used new
+
+-- an end was fed something last, and took nothing of it
+pub record TakesNothing (side : Side) (new : Crossing) : Type 0 where
+  pub old : Crossing
+  pub most : ℕ
+  pub some : 0 < most
+  pub piece : CarriesPiece side most old 0 new
 
 pub record Carries (side : Side) (most : ℕ) (old : Crossing) (octets : ℕ) (new : Crossing) : Type 0 where
   pub pieces : List ℕ

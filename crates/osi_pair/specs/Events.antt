@@ -1,5 +1,5 @@
 -- What an event does to two ends, and when it does not fit.
-use Rattle.std.specs.Prelude.{◌≡◌, ◌<◌, ◌≤◌, ℕ, Bool, true, not, List, [], ◌∷◌, ◌++◌, min, Option, Some, None, IsSome}
+use Rattle.std.specs.Prelude.{◌≡◌, ◌<◌, ◌≤◌, ℕ, Bool, true, false, not, List, [], ◌∷◌, ◌++◌, min, Option, Some, None, IsSome}
 use Rattle.osi_session.specs.Calls.{called_by}
 use Rattle.osi_session.specs.Shown.{Shown}
 use Rattle.osi_stack.specs.Calls.{breaks}
@@ -9,6 +9,7 @@ use Rattle.osi_pair.specs.Ends.{TwoEnds, end_at, after_connect, after_call, afte
 use Rattle.osi_pair.specs.Entries.{Entry}
 use Rattle.osi_pair.specs.Sides.{other}
 use Rattle.osi_pair.specs.Telling.{ShowsFirst, told_entries}
+use Rattle.osi_pair.specs.declared.events.Applied.{Applied}
 use Rattle.osi_pair.specs.declared.events.Event.{Event}
 use Rattle.osi_pair.specs.declared.events.Event.TheVariants.{Connect, Call, Carry, Break, Told}
 use Rattle.osi_pair.specs.declared.faults.PairError.{PairError}
@@ -61,20 +62,29 @@ Does (Carry side most) old octets new = CarriesFrom side most old octets new
 Does (Break left right) old octets new = (new ≡ after_break left right old) × (octets ≡ 0)
 Does (Told side) old octets new = TellsBreak side old new × (octets ≡ 0)
 
--- A carry carries no more than it was asked to and than there is, and something where there is
--- something and no indication waits. All else carries nothing.
-pub record Moves (most : ℕ) (is_quiet : Bool) (octets : ℕ) : Type 0 where
-  pub at_most : octets ≤ most
-  pub some : is_quiet ≡ true → 0 < most → 0 < octets
+-- So much is carried, of this at most: all of it, unless the carry is cut short; and something where there is
+-- something and no indication waits.
+pub record Moves (is_quiet : Bool) (most : ℕ) (applied : Applied) : Type 0 where
+  pub at_most : applied.carried ≤ most
+  pub whole : applied.is_cut_short ≡ false → applied.carried ≡ most
+  pub less : applied.is_cut_short ≡ true → applied.carried < most
+  pub some : is_quiet ≡ true → 0 < most → 0 < applied.carried
 
-abbrev pub CarriesAsMuch : Event → TwoEnds → ℕ → Type 0
-CarriesAsMuch (Carry side most) p octets = Moves (min most (reachable side p)) (not (waits (end_at (other side) p).end.lines)) octets
-CarriesAsMuch event p octets = octets ≡ 0
+-- nothing is carried, and nothing was to be
+pub record CarriesNothing (applied : Applied) : Type 0 where
+  pub nothing : applied.carried ≡ 0
+  pub all : applied.is_cut_short ≡ false
 
--- what events one after the other do
-abbrev pub DoAll : List Event → TwoEnds → TwoEnds → Type 0
-DoAll [] old new = new ≡ old
-DoAll (event ∷ events) old new = (between : TwoEnds) × (octets : ℕ) × Does event old octets between × DoAll events between new
+-- A carry carries what it was asked to, or all where there is less, and is cut short only behind some of it. All else
+-- carries nothing.
+abbrev pub CarriesAsMuch : Event → TwoEnds → Applied → Type 0
+CarriesAsMuch (Carry side most) p applied = Moves true (min most (reachable side p)) applied
+CarriesAsMuch event p applied = CarriesNothing applied
+
+-- the same, where the end that is fed may have indications that wait
+abbrev pub CarriesWhereQuiet : Event → TwoEnds → Applied → Type 0
+CarriesWhereQuiet (Carry side most) p applied = Moves (not (waits (end_at (other side) p).end.lines)) (min most (reachable side p)) applied
+CarriesWhereQuiet event p applied = CarriesNothing applied
 
 -- the journal says what it said, and perhaps more
 pub record Adds (old new : List Entry) : Type 0 where

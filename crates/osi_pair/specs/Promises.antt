@@ -2,7 +2,6 @@
 -- says of its connections.
 use Rattle.std.specs.Prelude.{◌≡◌, ℕ, ◌+◌, ◌<◌, ◌≤◌, true, false, ◌&&◌, List, [], ◌∷◌, ◌++◌, length, map, Option, Some, None, is_some}
 use Rattle.std.specs.List.{list_any}
-use Rattle.osi_tpkt.specs.Packet.{IsPartial}
 use Rattle.osi_carrier.specs.Calls.{begun_by, kept_in}
 use Rattle.osi_carrier.specs.Rows.{value_at}
 use Rattle.osi_carrier.specs.State.{Connection, linked}
@@ -17,13 +16,13 @@ use Rattle.osi_machine.specs.Machine.{Ending, IsLegal, Step, connection_at}
 use Rattle.osi_machine.specs.Machine as entries
 use Rattle.osi_machine.specs.Runs.{is_loss, loses}
 use Rattle.osi_machine.specs.Sayings.{said_in, heard_in}
-use Rattle.osi_machine.specs.Tables.{Tables, start, run}
+use Rattle.osi_machine.specs.Tables.{Tables, start}
 use Rattle.osi_machine.specs.Views.{Told, told_of}
 use Rattle.osi_stack.specs.Calls.{held_by, numbers_of}
 use Rattle.osi_stack.specs.State.{End, session_at}
 use Rattle.osi_pair.specs.Ends.{TwoEnds, end_at}
 use Rattle.osi_pair.specs.Entries.{Entry}
-use Rattle.osi_pair.specs.Standing.{side_in, entry_in, ending_in, terms_in}
+use Rattle.osi_pair.specs.Standing.{side_in, entry_in, ending_in, terms_in, StandsAt}
 use Rattle.osi_pair.specs.declared.sides.Side.{Side}
 use Rattle.osi_pair.specs.declared.sides.Side.TheVariants.{Left, Right}
 
@@ -124,12 +123,11 @@ abbrev pub AreTakenInOrder : List Step → TwoEnds → Type 0
 AreTakenInOrder steps p = (r : ℕ) →
     Begins (taken_by Right r p steps) (sent_by Left r p steps) × Begins (taken_by Left r p steps) (sent_by Right r p steps)
 
--- there was no break, neither end has ended or has octets to hand over, and neither holds a whole packet
+-- there was no break, and neither end has ended or has octets to hand over
 pub record AreAtRest (p : TwoEnds) : Type 0 where
   pub unbroken : p.reach ≡ None
   pub lasts : (side : Side) → (end_at side p).end.carrier.ended ≡ None
   pub outgoing : (side : Side) → (end_at side p).end.carrier.outgoing ≡ []
-  pub held : (side : Side) → IsPartial (end_at side p).held.octets
 
 -- a connection is open at an end
 pub record IsOpenAt (r : ℕ) (e : End) : Type 0 where
@@ -152,11 +150,11 @@ pub record IsAllTaken (r : ℕ) (p : TwoEnds) (steps : List Step) : Type 0 where
   pub leftward : taken_by Left r p steps ≡ sent_by Right r p steps
   pub kept : (side : Side) → kept_of (value_at r (end_at side p).end.carrier.live) ≡ 0
 
--- Steps of the machine that give this journal: over them the units that one session took are how those that the
--- other's sent begin, and all of them where nothing is under way; then nothing of what came is kept.
+-- Steps of the machine at which the two ends stand: over them the units that one session took are how those that
+-- the other's sent begin, and all of them where nothing is under way; then nothing of what came is kept.
 pub record TakeWhatWasSent (p : TwoEnds) : Type 0 where
   pub steps : List Step
-  pub journal : map Some (run (fresh_tables p) steps).journal ≡ map entry_in p.journal
+  pub stands : StandsAt p steps
   pub prefix : AreTakenInOrder steps p
   pub all_taken : (r : ℕ) → AreAtRest p → IsOpenAt r p.left.end → IsOpenAt r p.right.end → IsAllTaken r p steps
   pub nothing_kept : AreAtRest p → (side : Side) → kept_at side p ≡ 0

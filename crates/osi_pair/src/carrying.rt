@@ -1,12 +1,14 @@
 //! Octets are carried from one end to the other.
 
-ghost use Rattle.std.specs.Prelude.{◌≡◌, ◌+◌, ◌<◌, ◌≤◌, false, length, map, vec_len, vec_capacity, IfOk, IfErr, OnErr};
+ghost use Rattle.std.specs.Prelude.{◌≡◌, ◌+◌, ◌<◌, ◌≤◌, ◌⊎◌, true, false, not, length, map, vec_len, vec_capacity, IfOk, IfErr, OnErr};
 ghost use Rattle.osi_stack.specs.Calls.{carried};
 ghost use Rattle.osi_stack.specs.State.{waits};
-ghost use Rattle.osi_pair.specs.Carrying.{FeedsFirst, CarriesPiece, Carries};
+ghost use Rattle.osi_pair.specs.Carrying.{FeedsFirst, CarriesPiece, Carries, TakesNothing};
 ghost use Rattle.osi_pair.specs.Entries.{entry_by};
+ghost use Rattle.osi_pair.specs.Events.{Moves};
 
 use crate::entries::Entry;
+use crate::events::{Applied, DONE};
 use crate::faults::PairError;
 use crate::sides::Side;
 use crate::telling::{ROOM, note_end, show};
@@ -57,20 +59,22 @@ pub(crate) fn carry(
     to: &mut Stack,
     octets: usize,
     journal: &mut Vec<Entry>,
-) -> Result<usize, PairError>
+) -> Result<Applied, PairError>
     requires { octets ≤ length from.old.end.carrier.outgoing }
-    ensures carries { IfOk result (λ carried. Carries side octets
-        (record { from = from.old; to = to.old; journal = map entry_by journal.old.items }) carried
+    ensures carries { IfOk result (λ applied. Carries side octets
+        (record { from = from.old; to = to.old; journal = map entry_by journal.old.items }) applied.carried
         (record { from = from.new; to = to.new; journal = map entry_by journal.new.items })) }
-    ensures most { IfOk result (λ carried. carried ≤ octets) }
-    ensures progress { IfOk result (λ carried. waits to.old.end.lines ≡ false → 0 < octets → 0 < carried) }
+    ensures moves { IfOk result (λ applied. Moves (not (waits to.old.end.lines)) octets applied) }
+    ensures short { IfOk result (λ applied. applied.is_cut_short ≡ true →
+        (vec_capacity journal.new ≤ vec_len journal.new + 81)
+        ⊎ TakesNothing side (record { from = from.new; to = to.new; journal = map entry_by journal.new.items })) }
     ensures memory { IfErr result (λ error. error ≡ PairError.OutOfMemory) }
     ensures from { OnErr result (from.new ≡ from.old) }
     ensures to { OnErr result (to.new ≡ to.old) }
     ensures journal { OnErr result (journal.new.items ≡ journal.old.items) }
 {
     if octets == 0 {
-        return Ok(0);
+        return Ok(DONE);
     }
     let Ok(()) = journal.reserve(ROOM) else {
         return Err(PairError::OutOfMemory);
@@ -80,7 +84,10 @@ pub(crate) fn carry(
         let used = carry_piece(side, from, to, octets - carried, journal);
         carried += used;
         if used == 0 || carried == octets || journal.reserve(ROOM).is_err() {
-            return Ok(carried);
+            return Ok(Applied {
+                carried,
+                is_cut_short: carried < octets,
+            });
         }
     }
 }

@@ -2,7 +2,7 @@ use crate::asking::{call, connect};
 use crate::breaking::tell_break;
 use crate::carrying::carry;
 use crate::entries::Entry;
-use crate::events::Event;
+use crate::events::{Applied, DONE, Event};
 use crate::faults::PairError;
 use crate::reach::{Reach, reach_after, within};
 use crate::sides::Side;
@@ -24,12 +24,12 @@ pub(crate) struct Ends {
 }
 
 impl Ends {
-    ghost use Rattle.std.specs.Prelude.{◌≡◌, ◌<◌, ◌≤◌, true, false, min, is_some, IfOk, IfErr, OnOk, OnErr};
+    ghost use Rattle.std.specs.Prelude.{◌≡◌, ◌≤◌, true, false, not, min, is_some, IfOk, IfErr, OnOk, OnErr};
     ghost use Rattle.osi_session.specs.Calls.{called_by};
     ghost use Rattle.osi_stack.specs.State.{waits};
     ghost use Rattle.osi_pair.specs.Carrying.{CarriesFrom};
     ghost use Rattle.osi_pair.specs.Ends.{fresh_ends, end_at, after_connect, after_call, after_break, sent_by, reachable};
-    ghost use Rattle.osi_pair.specs.Events.{misfit, misfit_told, error_by_rule, TellsBreak, Does, CarriesAsMuch};
+    ghost use Rattle.osi_pair.specs.Events.{misfit, misfit_told, error_by_rule, TellsBreak, Does, CarriesWhereQuiet, Moves};
     ghost use Rattle.osi_pair.specs.Memory.{ends_in};
     ghost use Rattle.osi_pair.specs.Sides.{other};
 
@@ -104,11 +104,10 @@ impl Ends {
         }
     }
 
-    fn carry(&mut self, side: Side, octets: usize) -> Result<usize, PairError>
-        ensures ok { IfOk result (λ carried. CarriesFrom side octets (ends_in self.old) carried (ends_in self.new)) }
-        ensures most { IfOk result (λ carried. carried ≤ min octets (reachable side (ends_in self.old))) }
-        ensures progress { IfOk result (λ carried. waits (end_at (other side) (ends_in self.old)).end.lines ≡ false →
-            0 < min octets (reachable side (ends_in self.old)) → 0 < carried) }
+    fn carry(&mut self, side: Side, octets: usize) -> Result<Applied, PairError>
+        ensures ok { IfOk result (λ applied. CarriesFrom side octets (ends_in self.old) applied.carried (ends_in self.new)) }
+        ensures moves { IfOk result (λ applied. Moves (not (waits (end_at (other side) (ends_in self.old)).end.lines))
+            (min octets (reachable side (ends_in self.old))) applied) }
         ensures memory { IfErr result (λ error. error ≡ PairError.OutOfMemory) }
         ensures err { OnErr result (ends_in self.new ≡ ends_in self.old) }
     {
@@ -116,14 +115,14 @@ impl Ends {
         let journal = &mut self.journal;
         match side {
             Side::Left => {
-                let carried = carry(Side::Right, &mut self.left, &mut self.right, most, journal)?;
-                self.reach = reach_after(side, carried, self.reach);
-                Ok(carried)
+                let applied = carry(Side::Right, &mut self.left, &mut self.right, most, journal)?;
+                self.reach = reach_after(side, applied.carried, self.reach);
+                Ok(applied)
             }
             Side::Right => {
-                let carried = carry(Side::Left, &mut self.right, &mut self.left, most, journal)?;
-                self.reach = reach_after(side, carried, self.reach);
-                Ok(carried)
+                let applied = carry(Side::Left, &mut self.right, &mut self.left, most, journal)?;
+                self.reach = reach_after(side, applied.carried, self.reach);
+                Ok(applied)
             }
         }
     }
@@ -161,30 +160,30 @@ impl Ends {
     }
 
     /// What happens to the two ends, and how many octets were carried.
-    pub(crate) fn apply(&mut self, event: &Event) -> Result<usize, PairError>
-        ensures does { IfOk result (λ octets. Does event.now (ends_in self.old) octets (ends_in self.new)) }
+    pub(crate) fn apply(&mut self, event: &Event) -> Result<Applied, PairError>
+        ensures does { IfOk result (λ applied. Does event.now (ends_in self.old) applied.carried (ends_in self.new)) }
         ensures fits { OnOk result (misfit event.now (ends_in self.old) ≡ None) }
         ensures refused { IfErr result (λ error. error_by_rule error ≡ misfit event.now (ends_in self.old)) }
         ensures err { OnErr result (ends_in self.new ≡ ends_in self.old) }
-        ensures carried { IfOk result (λ octets. CarriesAsMuch event.now (ends_in self.old) octets) }
+        ensures carried { IfOk result (λ applied. CarriesWhereQuiet event.now (ends_in self.old) applied) }
     {
         match *event {
             Event::Connect(asked) => {
                 self.connect(&asked)?;
-                Ok(0)
+                Ok(DONE)
             }
             Event::Call(side, reference, request) => {
                 self.call(side, reference, request)?;
-                Ok(0)
+                Ok(DONE)
             }
             Event::Carry(side, octets) => self.carry(side, octets),
             Event::Break(left, right) => {
                 self.break_off(left, right)?;
-                Ok(0)
+                Ok(DONE)
             }
             Event::Told(side) => {
                 self.tell(side)?;
-                Ok(0)
+                Ok(DONE)
             }
         }
     }

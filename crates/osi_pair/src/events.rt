@@ -25,4 +25,13 @@ pub enum Event<'a> {
 pub struct Applied {
     /// How many octets were carried; 0 for all events but a carry.
     pub carried: usize,
+    /// A carry ended before it had carried all that it was asked to and that there was, since there was no
+    /// memory for what the journal may have to say of more; `false` for all other events.
+    pub is_cut_short: bool,
 }
+
+/// What is done by an event that carries nothing.
+pub(crate) const DONE: Applied = Applied {
+    carried: 0,
+    is_cut_short: false,
+};

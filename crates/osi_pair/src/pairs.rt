@@ -37,10 +37,10 @@ impl Pair {
     ghost use Rattle.osi_pair.specs.Advancing.{StandsAfter};
     ghost use Rattle.osi_pair.specs.Ends.{fresh_ends, end_at};
     ghost use Rattle.osi_pair.specs.Entries.{entry_by};
-    ghost use Rattle.osi_pair.specs.Events.{misfit, error_by_rule, Does, DoAll, CarriesAsMuch, Adds};
+    ghost use Rattle.osi_pair.specs.Events.{misfit, error_by_rule, Does, CarriesAsMuch, Adds};
     ghost use Rattle.osi_pair.specs.Promises.{AgreeUnlessDuplex, AllWereAskedFor, ConfirmedIsSeen, EndsForFewReasons, HaveOneHolder, IsLegalJournal, IsSafe, IsShownAsAsked, LoseAsTheyEnd, OfEachConnection, ShowNoFault, TakeWhatWasSent};
     ghost use Rattle.osi_pair.specs.Reached.{IsReached};
-    ghost use Rattle.osi_pair.specs.Running.{StopsAt};
+    ghost use Rattle.osi_pair.specs.Running.{RunsThrough, StopsAt};
     ghost use Rattle.osi_pair.specs.Standing.{StandsAt};
 
     /// Two ends on which nothing has happened.
@@ -79,8 +79,8 @@ impl Pair {
     ///
     /// The octets that a side has sent and the other has not been fed are under way. A
     /// [`Event::Carry`] carries the first of them, and the users of the other end are shown what
-    /// comes of it; it carries fewer than it was asked to where there is no memory for what the
-    /// journal may have to say of more. After an [`Event::Break`] only those can be carried that it
+    /// comes of it; where there is no memory for what the journal may have to say of more, it is cut
+    /// short, as [`Applied`] says. After an [`Event::Break`] only those can be carried that it
     /// leaves, and an [`Event::Told`] ends an end that has not ended.
     ///
     /// For each list of steps of the machine at which the two ends stood, they stand at that list
@@ -92,7 +92,7 @@ impl Pair {
     #[tactic(auto, using(crate::proofs::Growing::does_add))]
     pub fn apply(&mut self, event: &Event) -> Result<Applied, PairError>
         ensures does { IfOk result (λ applied. Does event.now self.old applied.carried self.new) }
-        ensures carried { IfOk result (λ applied. CarriesAsMuch event.now self.old applied.carried) }
+        ensures carried { IfOk result (λ applied. CarriesAsMuch event.now self.old applied) }
         ensures fits { OnOk result (misfit event.now self.old ≡ None) }
         ensures refused { IfErr result (λ error. error_by_rule error ≡ misfit event.now self.old) }
         ensures err { OnErr result (self.new ≡ self.old) }
@@ -105,13 +105,16 @@ impl Pair {
         how_two_ends_are_called();
         how_two_ends_carry();
         what_two_ends_tell();
-        let carried = self.ends.apply(event)?;
-        Ok(Applied { carried })
+        self.ends.apply(event)
     }
 
     /// Applies events one after the other, up to the first that is refused.
+    ///
+    /// Of each event holds what [`Pair::apply`] says of one. So where the two ends stood at a list of
+    /// steps of the machine, they stand at that list and the steps of all events. An error gives the
+    /// place of the event that was refused, counted from 0, and why it was; those before it are applied.
     pub fn run(&mut self, events: &[Event]) -> Result<(), RunError>
-        ensures all { OnOk result (DoAll events.now self.old self.new) }
+        ensures all { OnOk result (RunsThrough events.now self.old self.new) }
         ensures stops { IfErr result (λ error. StopsAt events.now self.old error self.new) }
         ensures safe { IsSafe self.new }
     {

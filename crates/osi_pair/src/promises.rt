@@ -4,7 +4,7 @@ ghost use Rattle.std.specs.Prelude.{◌≡◌, ℕ, List};
 ghost use Rattle.osi_machine.specs.Machine.{Step};
 ghost use Rattle.osi_pair.specs.Ends.{TwoEnds};
 ghost use Rattle.osi_pair.specs.Promises.{AgreeUnlessDuplex, AllWereAskedFor, AreAtRest, AreTakenInOrder, ConfirmedIsSeen, EndsForFewReasons, HaveOneHolder, IsAllTaken, IsLegalJournal, IsOpenAt, IsSafe, IsShownAsAsked, LoseAsTheyEnd, OfEachConnection, ShowNoFault, kept_at};
-ghost use Rattle.osi_pair.specs.Reached.{IsReached};
+ghost use Rattle.osi_pair.specs.Reached.{HoldLess, IsReached};
 ghost use Rattle.osi_pair.specs.Standing.{StandsAt};
 ghost use Rattle.osi_pair.specs.declared.sides.Side.{Side};
 
@@ -42,13 +42,13 @@ pub fn what_two_ends_tell()
 /// Of each connection, each way, the units that one session took are how those that the other's session sent
 /// begin, whole and in order, whatever the cuts, the credits and the other connections. They are all of them,
 /// and no octet of it is kept at either end, where there was no break, neither end has ended or has octets to
-/// hand over, neither holds a whole packet, and the connection is open at both ends. Each end then keeps
-/// nothing at all of what came.
+/// hand over, and the connection is open at both ends. Each end then keeps nothing at all of what came. For
+/// both, an end holds less than a packet, as those of every pair do between two events.
 pub fn what_is_taken_was_sent()
     ensures prefix { (p : TwoEnds) (steps : List Step) → StandsAt p steps → AreTakenInOrder steps p }
-    ensures all_taken { (p : TwoEnds) (steps : List Step) (r : ℕ) → StandsAt p steps → AreAtRest p → IsOpenAt r p.left.end → IsOpenAt r p.right.end →
+    ensures all_taken { (p : TwoEnds) (steps : List Step) (r : ℕ) → StandsAt p steps → HoldLess p → AreAtRest p → IsOpenAt r p.left.end → IsOpenAt r p.right.end →
         IsAllTaken r p steps }
-    ensures nothing_kept { (p : TwoEnds) (steps : List Step) → StandsAt p steps → AreAtRest p → (side : Side) → kept_at side p ≡ 0 }
+    ensures nothing_kept { (p : TwoEnds) (steps : List Step) → StandsAt p steps → HoldLess p → AreAtRest p → (side : Side) → kept_at side p ≡ 0 }
 {
     whatever_becomes_of_two_carriers();
     what_is_heard_was_said();

@@ -41,9 +41,9 @@ returns-clause-all c p at = record {
   losses = promises.losses c.what_two_tables_tell.ensures.lost p at.steps at.stands;
   taken = record {
     steps = at.steps;
-    journal = at.stands.stands.journal;
+    stands = at.stands;
     prefix = c.what_is_taken_was_sent.ensures.prefix p at.steps at.stands;
-    all_taken = λ r rest left right. c.what_is_taken_was_sent.ensures.all_taken p at.steps r at.stands rest left right;
-    nothing_kept = λ rest side. c.what_is_taken_was_sent.ensures.nothing_kept p at.steps at.stands rest side;
+    all_taken = λ r rest left right. c.what_is_taken_was_sent.ensures.all_taken p at.steps r at.stands at.held rest left right;
+    nothing_kept = λ rest side. c.what_is_taken_was_sent.ensures.nothing_kept p at.steps at.stands at.held rest side;
   };
 }

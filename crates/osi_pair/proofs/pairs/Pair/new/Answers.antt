@@ -1,6 +1,8 @@
 use Rattle.std.proofs.Common.{[], sym, subst}
 use Rattle.osi_pair.specs.Ends.{TwoEnds}
+use Rattle.osi_pair.specs.Reached.{HoldLess}
 use Rattle.osi_pair.specs.Standing.{StandsAt}
+use Rattle.osi_pair.proofs.HoldingLess.{fresh_less}
 use Rattle.osi_pair.proofs.pairs.Pair.new.Goals as goal
 
 pub returns-clause-stands : goal.returns-clause-stands
@@ -12,4 +14,12 @@ returns-clause-safe c =
     (record {
       steps = [];
       stands = subst (λ (p : TwoEnds). StandsAt p []) (sym c.new.ensures) (c.how_two_ends_stand.ensures.begins c.args.left c.args.right);
+      held = subst HoldLess (sym c.new.ensures) (fresh_less c.args.left c.args.right);
     })
+
+pub invariant_of-result : goal.invariant_of-result
+invariant_of-result c = record {
+  steps = [];
+  stands = subst (λ (p : TwoEnds). StandsAt p []) (sym c.new.ensures) (c.how_two_ends_stand.ensures.begins c.args.left c.args.right);
+  held = subst HoldLess (sym c.new.ensures) (fresh_less c.args.left c.args.right);
+}

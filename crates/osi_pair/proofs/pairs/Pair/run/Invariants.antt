@@ -1,6 +1,6 @@
 use Rattle.std.proofs.Common.{take}
-use Rattle.osi_pair.specs.Events.{DoAll}
+use Rattle.osi_pair.specs.Running.{HappenAll}
 use Rattle.osi_pair.proofs.pairs.Pair.run.Given as goal
 
 abbrev pub invariant-events : goal.invariant-events
-invariant-events l = DoAll (take l.place l.events) l.fn.self l.self
+invariant-events l = HappenAll (take l.place l.events) l.fn.self l.self
