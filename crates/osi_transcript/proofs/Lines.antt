@@ -7,7 +7,7 @@ use Rattle.osi_script.specs.Answers.{answer_line}
 use Rattle.osi_script.specs.Commands.{Command, Ends, Connect, OfUser, Carry, Break, Told, command_of}
 use Rattle.osi_script.specs.declared.answers.Answer.TheVariants.{LineRefused}
 use Rattle.osi_transcript.specs.Asking.{IsEvent, IsNoEvent}
-use Rattle.osi_transcript.specs.Playing.{Lines, Applies, PlaysLine, Plays, BeginsWith, Transcribes, event_text, new_texts}
+use Rattle.osi_transcript.specs.Playing.{Lines, Applies, PlaysLine, Plays, BeginsWith, Transcribes, carried_by, event_text, new_texts}
 use Rattle.osi_transcript.specs.Standings.{all_standings}
 use Rattle.osi_transcript.specs.Starting.{IsStart, IsNoStart}
 use Rattle.osi_transcript.specs.Steps.{DoesEvent, FailsEvent, PlaysEvent, StopsAtLine, GoesBehind, PlaysOne, PlaysAll}
@@ -30,10 +30,10 @@ plays_event number line c event lines p text status read is h =
 pub done : (number : ℕ) (line : List ℕ) (c : Command) (event : Event) (old new : TwoEnds) (before after : List ℕ) →
     command_of line ≡ Some c → IsEvent c event → DoesEvent event old before new after → GoesBehind number line old before new after
 done number line c event old new before after read is h = record {
-  text = event_text event h.octets ++ new_texts old new;
-  says = h.says ∙ append_assoc before (event_text event h.octets) (new_texts old new);
-  plays = λ lines more status rest. plays_event number line c event lines old ((event_text event h.octets ++ new_texts old new) ++ more) status read is
-      (inl (h.octets, new, more, h.does, refl, rest));
+  text = event_text event (carried_by event old) ++ new_texts old new;
+  says = h.says ∙ append_assoc before (event_text event (carried_by event old)) (new_texts old new);
+  plays = λ lines more status rest. plays_event number line c event lines old ((event_text event (carried_by event old) ++ new_texts old new) ++ more) status read is
+      (inl (new, more, h.fits, h.does, refl, rest));
 }
 
 pub failed : (number : ℕ) (line : List ℕ) (c : Command) (event : Event) (old : TwoEnds) (before after : List ℕ) →

@@ -1,19 +1,21 @@
 -- The lines of entries one after the other.
-use Rattle.std.proofs.Common.{◌≡◌, ◌∙◌, ℕ, ◌+◌, ◌<◌, List, [], ◌∷◌, ◌++◌, get_or, length, map, take, drop, Some, refl, sym, ap, ap₂}
+use Rattle.std.proofs.Common.{◌≡◌, ◌∙◌, ℕ, ◌+◌, ◌<◌, false, List, [], ◌∷◌, ◌++◌, get_or, length, map, take, drop, Some, None, refl, sym, ap, ap₂, subst}
 use Rattle.std.proofs.lemmas.Grind.{flat_map-append}
 use Rattle.std.proofs.lemmas.List.{append_assoc, append-nil, map-append, drop-map, length-map, take_more}
 use Rattle.osi_pair.specs.Ends.{TwoEnds}
 use Rattle.osi_pair.specs.Entries.{entry_by}
-use Rattle.osi_pair.specs.Events.{Does, misfit, error_by_rule}
+use Rattle.osi_pair.specs.Events.{Does, CarriesAsMuch, misfit, error_by_rule}
 use Rattle.osi_pair.specs.declared.entries.Entry.{Entry}
+use Rattle.osi_pair.specs.declared.events.Applied.{Applied}
 use Rattle.osi_pair.specs.declared.events.Event.{Event}
+use Rattle.osi_pair.specs.declared.events.Event.TheVariants.{Connect, Call, Carry, Break, Told}
 use Rattle.osi_pair.specs.declared.faults.PairError.{PairError}
 use Rattle.osi_pair.specs.declared.faults.PairError.TheVariants.{NotBroken, AlreadyBroken, OutOfMemory}
 use Rattle.osi_script.specs.Answers.{answer_line}
 use Rattle.osi_script.specs.declared.answers.Answer.TheVariants.{LineFailed}
 use Rattle.osi_script.specs.declared.answers.LineFault.{LineFault}
 use Rattle.osi_transcript.specs.Entries.{entry_text, entry_texts}
-use Rattle.osi_transcript.specs.Playing.{event_text, new_texts, fault_by, fault_of}
+use Rattle.osi_transcript.specs.Playing.{carried_by, event_text, new_texts, fault_by, fault_of}
 use Rattle.osi_transcript.specs.Steps.{DoesEvent, FailsEvent}
 
 -- one more entry
@@ -38,16 +40,29 @@ new_texts_are old new xs ys h k =
     ap entry_texts (sym (drop-map entry_by (length xs) ys))
     ∙ ap₂ (λ n l. entry_texts (drop n l)) many k
 
+-- a carry that is not cut short carries all
+pub all_carried : (event : Event) (p : TwoEnds) (applied : Applied) → CarriesAsMuch event p applied → applied.is_cut_short ≡ false →
+    applied.carried ≡ carried_by event p
+all_carried (Carry side most) p applied h e = h.whole e
+all_carried (Connect asked) p applied h e = h.nothing
+all_carried (Call side reference request) p applied h e = h.nothing
+all_carried (Break left right) p applied h e = h.nothing
+all_carried (Told side) p applied h e = h.nothing
+
 -- an event is applied, and its text is added
-pub event_done : (event : Event) (old new : TwoEnds) (octets : ℕ) (before mid after : List ℕ) (xs ys shown : List Entry) →
-    Does event old octets new → map entry_by xs ≡ old.journal → map entry_by ys ≡ new.journal → shown ≡ drop (length xs) ys →
-    mid ≡ before ++ event_text event octets → after ≡ mid ++ entry_texts (map entry_by shown) → DoesEvent event old before new after
-event_done event old new octets before mid after xs ys shown does h k from says more = record {
-  octets = octets;
-  does = does;
-  says = more ∙ ap₂ (λ (t : List ℕ) (l : List Entry). t ++ entry_texts (map entry_by l)) says from
-      ∙ ap (λ (t : List ℕ). (before ++ event_text event octets) ++ t) (new_texts_are old new xs ys h k);
-}
+pub event_done : (event : Event) (old new : TwoEnds) (applied : Applied) (before mid after : List ℕ) (xs ys shown : List Entry) →
+    misfit event old ≡ None → Does event old applied.carried new → CarriesAsMuch event old applied → applied.is_cut_short ≡ false →
+    map entry_by xs ≡ old.journal → map entry_by ys ≡ new.journal → shown ≡ drop (length xs) ys →
+    mid ≡ before ++ event_text event applied.carried → after ≡ mid ++ entry_texts (map entry_by shown) → DoesEvent event old before new after
+event_done event old new applied before mid after xs ys shown fits does much whole h k from says more =
+    let all = all_carried event old applied much whole in
+    record {
+      fits = fits;
+      does = subst (λ (n : ℕ). Does event old n new) all does;
+      says = more ∙ ap₂ (λ (t : List ℕ) (l : List Entry). t ++ entry_texts (map entry_by l)) says from
+          ∙ ap (λ (t : List ℕ). (before ++ event_text event applied.carried) ++ t) (new_texts_are old new xs ys h k)
+          ∙ ap (λ (n : ℕ). (before ++ event_text event n) ++ new_texts old new) all;
+    }
 
 fault_is : (error : PairError) (why : LineFault) → fault_by error ≡ Some why → fault_of (error_by_rule error) ≡ Some why
 fault_is NotBroken why is = is

@@ -1,8 +1,8 @@
 -- The transcript of a script.
-use Rattle.std.specs.Prelude.{◌≡◌, ℕ, List, [], ◌∷◌, ◌++◌, drop, length, ◌⊎◌, Option, Some, None}
+use Rattle.std.specs.Prelude.{◌≡◌, ℕ, List, [], ◌∷◌, ◌++◌, drop, length, min, ◌⊎◌, Option, Some, None}
 use Rattle.osi_class.specs.declared.terms.Local.{Local}
 use Rattle.osi_tpdu.specs.Limits.{size_code, window_units}
-use Rattle.osi_pair.specs.Ends.{TwoEnds, fresh_ends}
+use Rattle.osi_pair.specs.Ends.{TwoEnds, fresh_ends, reachable}
 use Rattle.osi_pair.specs.Events.{misfit, Does}
 use Rattle.osi_pair.specs.declared.events.Event.{Event}
 use Rattle.osi_pair.specs.declared.events.Event.TheVariants as event
@@ -19,6 +19,11 @@ use Rattle.osi_transcript.specs.Entries.{name_of, entry_texts}
 use Rattle.osi_transcript.specs.Standings.{all_standings}
 
 -- ---- one event
+
+-- How many octets an event carries: a carry all that it was asked to, or all there are where there are fewer.
+abbrev pub carried_by : Event → TwoEnds → ℕ
+carried_by (event.Carry side most) p = min most (reachable side p)
+carried_by event p = 0
 
 -- what is answered to an event, where its entry does not say it
 unfoldable pub event_text : Event → (octets : ℕ) → List ℕ
@@ -69,11 +74,11 @@ Lines = List (ℕ × List ℕ)
 abbrev pub Rest : Type 1
 Rest = TwoEnds → List ℕ → ℕ → Type 0
 
--- an event is applied, and the rest of the lines follows; or it does not fit
+-- an event that fits is applied, and the rest of the lines follows; or it does not fit
 abbrev pub Applies : ℕ → Event → Rest → TwoEnds → List ℕ → ℕ → Type 0
 Applies number event rest p text status =
-    ((octets : ℕ) × (new : TwoEnds) × (more : List ℕ) × Does event p octets new
-    × (text ≡ event_text event octets ++ new_texts p new ++ more) × rest new more status)
+    ((new : TwoEnds) × (more : List ℕ) × (misfit event p ≡ None) × Does event p (carried_by event p) new
+    × (text ≡ event_text event (carried_by event p) ++ new_texts p new ++ more) × rest new more status)
     ⊎ FailsAt number event p text status
 
 -- a line that can be read and is not that of the two ends asks for an event

@@ -48,7 +48,8 @@ fn fault(error: PairError) -> Option<LineFault>
     }
 }
 
-/// Applies an event, and adds what comes of it. Says whether it fits.
+/// Applies an event, and adds what comes of it. Says whether it fits. A carry that is cut short for want
+/// of memory is no line of a transcript.
 fn play_event(
     alloc: Global,
     out: &mut Vec<u8>,
@@ -61,6 +62,9 @@ fn play_event(
     let before = pair.journal().len();
     match pair.apply(event) {
         Ok(applied) => {
+            if applied.is_cut_short {
+                return Err(AllocError);
+            }
             push_event(alloc, out, event, applied)?;
             let (_, added) = pair.journal().split_at(before);
             push_entries(alloc, out, added)?;
