@@ -47,7 +47,7 @@ pub(crate) fn replayed(alloc: Global, script: &str) -> io::Result<Replay> {
 }
 
 /// The two ends that a script asks for.
-fn pair_in(alloc: Global, script: &str) -> io::Result<Pair> {
+pub(crate) fn pair_in(alloc: Global, script: &str) -> io::Result<Pair> {
     for line in script.lines() {
         if line.starts_with("ends ") {
             return pair_of(alloc, line);
@@ -87,7 +87,7 @@ fn play_all(alloc: Global, replay: &mut Replay, pair: &mut Pair, script: &str) -
 }
 
 /// Whether a line asks for an event.
-fn asks(line: &str) -> bool {
+pub(crate) fn asks(line: &str) -> bool {
     !line.is_empty() && !line.starts_with('#') && !line.starts_with("ends ")
 }
 
@@ -102,7 +102,7 @@ fn play(alloc: Global, replay: &mut Replay, pair: &mut Pair, asked: &str) -> io:
     }
 }
 
-fn unreadable() -> io::Error {
+pub(crate) fn unreadable() -> io::Error {
     io::Error::from(io::ErrorKind::InvalidData)
 }
 
@@ -121,7 +121,7 @@ fn named(side: osi_pair::Side) -> Side {
 }
 
 /// What a line asks for; none for the line of the two ends.
-fn event_of(command: Command<'_>) -> Option<Event<'_>> {
+pub(crate) fn event_of(command: Command<'_>) -> Option<Event<'_>> {
     match command {
         Command::Ends { .. } => None,
         Command::Connect {
@@ -206,7 +206,7 @@ fn apply(alloc: Global, replay: &mut Replay, pair: &mut Pair, event: &Event) -> 
 }
 
 /// All that can be asked of two ends, as octets; of the journal its length and its last entry.
-fn state_of(alloc: Global, pair: &Pair) -> Result<Vec<u8>, AllocError> {
+pub(crate) fn state_of(alloc: Global, pair: &Pair) -> Result<Vec<u8>, AllocError> {
     let mut out = Vec::with_capacity(alloc, 10_000)?;
     for side in [osi_pair::Side::Left, osi_pair::Side::Right] {
         push_where(alloc, &mut out, named(side), pair.stack(side), ALL)?;
@@ -242,7 +242,7 @@ fn push_said(
 }
 
 /// Adds the line of an entry, with the verb of the line that asked for it.
-fn push_entry(
+pub(crate) fn push_entry(
     alloc: Global,
     out: &mut Vec<u8>,
     asked: &str,

@@ -6,28 +6,36 @@
 //! differ. Behind `again` stand those in which an event that finds no memory is applied again. Behind
 //! `octets` stand ends that are fed octets, and what they answer; behind `show` captures with their
 //! listings; behind `damaged` captures whose packets are damaged and fed to ends, of which is said how
-//! many did what they should.
+//! many did what they should. Behind `long` stand scripts and transcripts that are written short, behind
+//! `together` those whose events are given in one list, and behind `texts` files with the text of each
+//! fault and error.
 #![tactic(auto)]
 
 mod again;
 mod damaged;
 mod digits;
+mod long;
 mod octets;
+mod texts;
+mod together;
 mod ways;
 
 use again::{Replay, replayed};
 use damaged::runs_of;
 use digits::octets_in;
+use long::written_out;
 use octets::played;
 use osi_listing::list;
 use osi_transcript::{Transcript, transcribe};
 use std::alloc::{AllocError, Global};
 use std::rt::{Env, Files};
 use std::{env, fs, io};
+use texts::all_texts;
+use together::run_together;
 use ways::{WAYS, Way, counts_left_out, script_in};
 
 /// No script has more octets.
-const LONGEST: usize = 1_000_000;
+const LONGEST: usize = 16_777_216;
 
 /// How a word of the program is to be taken.
 #[derive(Clone, Copy)]
@@ -38,6 +46,9 @@ enum Kind {
     Octets,
     Show,
     Damaged,
+    Long,
+    Together,
+    Texts,
 }
 
 impl Kind {
@@ -50,6 +61,9 @@ impl Kind {
             "octets" => Some(Kind::Octets),
             "show" => Some(Kind::Show),
             "damaged" => Some(Kind::Damaged),
+            "long" => Some(Kind::Long),
+            "together" => Some(Kind::Together),
+            "texts" => Some(Kind::Texts),
             _ => None,
         }
     }
@@ -79,6 +93,9 @@ fn judged<R: Files + AllocGlobal>(rt: &R, name: &str, kind: Kind) -> io::Result<
         Kind::Octets => judged_octets(rt, name),
         Kind::Show => judged_listing(rt, name),
         Kind::Damaged => judged_damage(rt, name),
+        Kind::Long => judged_long(rt, name),
+        Kind::Together => judged_together(rt, name),
+        Kind::Texts => judged_texts(rt, name),
     }
 }
 
@@ -142,6 +159,37 @@ fn judged_damage<R: Files + AllocGlobal>(rt: &R, name: &str) -> io::Result<Strin
     let capture = text_of(rt, name, "hex")?;
     let octets = octets_in(rt.alloc(), capture.as_str())?;
     runs_of(rt.alloc(), octets.as_slice())
+}
+
+fn judged_long<R: Files + AllocGlobal>(rt: &R, name: &str) -> io::Result<String> {
+    let script = written_out(rt.alloc(), text_of(rt, name, "script")?.as_str())?;
+    let wanted = written_out(rt.alloc(), text_of(rt, name, "transcript")?.as_str())?;
+    let came = told(rt.alloc(), script.as_str())?;
+    if came.lines.as_slice() != wanted.as_str().as_bytes() {
+        return Ok("GIVES SOMETHING ELSE".to_string(rt.alloc())?);
+    }
+    as_written(rt.alloc(), came.status)
+}
+
+fn judged_together<R: Files + AllocGlobal>(rt: &R, name: &str) -> io::Result<String> {
+    let script = written_out(rt.alloc(), text_of(rt, name, "script")?.as_str())?;
+    let came = run_together(rt.alloc(), script.as_str())?;
+    if !came.is_same {
+        return Ok("GIVES SOMETHING ELSE".to_string(rt.alloc())?);
+    }
+    Ok(match came.refused {
+        Some(error) => format!(in rt.alloc(); "as one by one, up to {error}")?,
+        None => "as one by one".to_string(rt.alloc())?,
+    })
+}
+
+fn judged_texts<R: Files + AllocGlobal>(rt: &R, name: &str) -> io::Result<String> {
+    let wanted = text_of(rt, name, "texts")?;
+    let came = all_texts(rt.alloc())?;
+    if came.as_str() != wanted.as_str() {
+        return another(rt.alloc(), came.as_str().as_bytes(), 0);
+    }
+    as_written(rt.alloc(), 0)
 }
 
 fn text_of<R: Files + AllocGlobal>(rt: &R, name: &str, kind: &str) -> io::Result<String> {

@@ -1,0 +1,67 @@
+//! Scripts and transcripts that are written short.
+//!
+//! A word `41*10240` stands for the two digits so many times. A line `3 times A | B` stands for the
+//! lines `A` and `B`, three times. So what is asked for at the greatest lengths is a file of few
+//! octets.
+
+use std::alloc::{AllocError, Global};
+
+/// No word or line is repeated more often.
+const MOST: u32 = 2_000_000;
+
+/// A text whose repetitions are written out.
+pub(crate) fn written_out(alloc: Global, text: &str) -> Result<String, AllocError> {
+    let mut out = String::new(alloc);
+    for line in text.lines() {
+        push_line(&mut out, line)?;
+    }
+    Ok(out)
+}
+
+fn push_line(out: &mut String, line: &str) -> Result<(), AllocError> {
+    let Some((count, lines)) = line.split_once(" times ") else {
+        return push_words(out, line);
+    };
+    for _ in 0..number(count) {
+        push_lines(out, lines)?;
+    }
+    Ok(())
+}
+
+fn push_lines(out: &mut String, lines: &str) -> Result<(), AllocError> {
+    for line in lines.split(" | ") {
+        push_words(out, line)?;
+    }
+    Ok(())
+}
+
+/// Adds the words of a line, and the line's end.
+fn push_words(out: &mut String, line: &str) -> Result<(), AllocError> {
+    let mut is_first = true;
+    for word in line.split(' ') {
+        if !is_first {
+            out.push(' ')?;
+        }
+        is_first = false;
+        push_word(out, word)?;
+    }
+    out.push('\n')
+}
+
+fn push_word(out: &mut String, word: &str) -> Result<(), AllocError> {
+    let Some((digits, count)) = word.split_once('*') else {
+        return out.push_str(word);
+    };
+    for _ in 0..number(count) {
+        out.push_str(digits)?;
+    }
+    Ok(())
+}
+
+/// How often a word or a line stands there.
+fn number(digits: &str) -> u32 {
+    match digits.parse::<u32>() {
+        Ok(number) => number.min(MOST),
+        Err(_) => 0,
+    }
+}

@@ -1,0 +1,73 @@
+//! Scripts of two ends whose events are given in one list.
+
+use crate::again::{asks, event_of, pair_in, push_entry, state_of, unreadable};
+use osi_pair::{Event, Pair, RunError};
+use osi_script::Line;
+use std::alloc::{AllocError, Global};
+use std::io;
+
+/// What came of a list of events.
+#[derive(Drop)]
+pub(crate) struct Together {
+    /// Whether the two ends, their journal and the error are those of the same events one by one.
+    pub(crate) is_same: bool,
+    /// Which event was refused, and why.
+    pub(crate) refused: Option<RunError>,
+}
+
+/// Runs the events of a script, of which each line can be read, and applies them one by one.
+pub(crate) fn run_together(alloc: Global, script: &str) -> io::Result<Together> {
+    let lines = lines_in(alloc, script)?;
+    let events = events_in(alloc, lines.as_slice())?;
+    let mut together = pair_in(alloc, script)?;
+    let refused = together.run(events.as_slice()).err();
+    let mut single = pair_in(alloc, script)?;
+    let stopped = apply_each(&mut single, events.as_slice());
+    let came = all_of(alloc, &together)?;
+    let wanted = all_of(alloc, &single)?;
+    Ok(Together {
+        is_same: refused == stopped && came.as_slice() == wanted.as_slice(),
+        refused,
+    })
+}
+
+/// The lines that ask for events.
+fn lines_in(alloc: Global, script: &str) -> Result<Vec<Line<'_>>, AllocError> {
+    let mut lines = Vec::new(alloc);
+    for line in script.lines() {
+        if asks(line) {
+            lines.push(Line::read(alloc, line.as_bytes())?)?;
+        }
+    }
+    Ok(lines)
+}
+
+fn events_in<'a>(alloc: Global, lines: &'a [Line<'a>]) -> io::Result<Vec<Event<'a>>> {
+    let mut events = Vec::new(alloc);
+    for line in lines {
+        let Some(event) = line.command().and_then(event_of) else {
+            return Err(unreadable());
+        };
+        events.push(event)?;
+    }
+    Ok(events)
+}
+
+/// Applies events one by one, up to the first that is refused.
+fn apply_each(pair: &mut Pair, events: &[Event]) -> Option<RunError> {
+    for (place, event) in events.iter().enumerate() {
+        if let Err(error) = pair.apply(event) {
+            return Some(RunError { place, error });
+        }
+    }
+    None
+}
+
+/// All that can be asked of two ends, and each entry of their journal.
+fn all_of(alloc: Global, pair: &Pair) -> Result<Vec<u8>, AllocError> {
+    let mut out = state_of(alloc, pair)?;
+    for entry in pair.journal() {
+        push_entry(alloc, &mut out, "", entry)?;
+    }
+    Ok(out)
+}
