@@ -39,27 +39,27 @@ pub returns-then-used-eq0-clause-short : goal.returns-then-used-eq0-clause-short
 returns-then-used-eq0-clause-short c is =
     let less = ltb-true (c.pieces.carried + c.carry_piece-used.result) c.args.octets is in
     elim c.then-used-eq0.branch [
-  | then-used-eq0-via-then-used-eq0 w ↦
-      (let none : c.carry_piece-used.result ≡ 0 = omega arith in
-      let same : c.then-used-eq0.journal.items ≡ c.carry_piece-used.new.journal.items = ap vec_items w.journal-is in
-      let some : 0 < c.args.octets - c.pieces.carried = omega (arith, less, none) in
-      inr (record {
-        old = record { from = c.pieces.from; to = c.pieces.to; journal = map entry_by c.pieces.journal.items };
-        most = c.args.octets - c.pieces.carried;
-        some = some;
-        piece = subst (λ (n : ℕ). CarriesPiece c.args.side (c.args.octets - c.pieces.carried)
-            (record { from = c.pieces.from; to = c.pieces.to; journal = map entry_by c.pieces.journal.items }) n
-            (record { from = c.carry_piece-used.new.from; to = c.carry_piece-used.new.to; journal = map entry_by c.then-used-eq0.journal.items })) none
-            (subst (λ (l : List Entry). CarriesPiece c.args.side (c.args.octets - c.pieces.carried)
-            (record { from = c.pieces.from; to = c.pieces.to; journal = map entry_by c.pieces.journal.items }) c.carry_piece-used.result
-            (record { from = c.carry_piece-used.new.from; to = c.carry_piece-used.new.to; journal = map entry_by l })) (sym same) c.carry_piece-used.ensures.carries);
-      }))
-  | then-used-eq0-via-else-used-eq0+then-carried-octets w ↦ inl (omega (arith, less, w.if-carried-octets.true))
-  | then-used-eq0-via-else-used-eq0+else-carried-octets+then-is_err w ↦
-      (let full = was_refused _ w.reserve-else-carried-octets.result w.is_err.result w.is_err.ensures.value w.if-is_err.true w.reserve-else-carried-octets.ensures.full in
-      let rests = was_refused _ w.reserve-else-carried-octets.result w.is_err.result w.is_err.ensures.value w.if-is_err.true w.reserve-else-carried-octets.ensures.err in
-      let len = w.reserve-else-carried-octets.ensures.len in
-      let capacity_now = ap vec_capacity w.journal-is in
-      let len_now = ap vec_len w.journal-is in
-      inl (omega (arith, full, rests, len, capacity_now, len_now)))
-]
+      | then-used-eq0-via-then-used-eq0 w ↦
+          (let none : c.carry_piece-used.result ≡ 0 = omega arith in
+          let same : c.then-used-eq0.journal.items ≡ c.carry_piece-used.new.journal.items = ap vec_items w.journal-is in
+          let some : 0 < c.args.octets - c.pieces.carried = omega (arith, less, none) in
+          inr (record {
+            old = record { from = c.pieces.from; to = c.pieces.to; journal = map entry_by c.pieces.journal.items };
+            most = c.args.octets - c.pieces.carried;
+            some = some;
+            piece = subst (λ (n : ℕ). CarriesPiece c.args.side (c.args.octets - c.pieces.carried)
+                (record { from = c.pieces.from; to = c.pieces.to; journal = map entry_by c.pieces.journal.items }) n
+                (record { from = c.carry_piece-used.new.from; to = c.carry_piece-used.new.to; journal = map entry_by c.then-used-eq0.journal.items })) none
+                (subst (λ (l : List Entry). CarriesPiece c.args.side (c.args.octets - c.pieces.carried)
+                (record { from = c.pieces.from; to = c.pieces.to; journal = map entry_by c.pieces.journal.items }) c.carry_piece-used.result
+                (record { from = c.carry_piece-used.new.from; to = c.carry_piece-used.new.to; journal = map entry_by l })) (sym same) c.carry_piece-used.ensures.carries);
+          }))
+      | then-used-eq0-via-else-used-eq0+then-carried-octets w ↦ inl (omega (arith, less, w.if-carried-octets.true))
+      | then-used-eq0-via-else-used-eq0+else-carried-octets+then-is_err w ↦
+          (let full = was_refused _ w.reserve-else-carried-octets.result w.is_err.result w.is_err.ensures.value w.if-is_err.true w.reserve-else-carried-octets.ensures.full in
+          let rests = was_refused _ w.reserve-else-carried-octets.result w.is_err.result w.is_err.ensures.value w.if-is_err.true w.reserve-else-carried-octets.ensures.err in
+          let len = w.reserve-else-carried-octets.ensures.len in
+          let capacity_now = ap vec_capacity w.journal-is in
+          let len_now = ap vec_len w.journal-is in
+          inl (omega (arith, full, rests, len, capacity_now, len_now)))
+    ]
