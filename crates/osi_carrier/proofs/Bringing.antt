@@ -9,7 +9,7 @@ use Rattle.osi_class.specs.Joining.{Joining, joined, with_part}
 use Rattle.osi_class.specs.Link.{Standing, Given, part0, part2, ack, taken, taken_by, taken_flow, unit_of, with_tsdu, with_joined, with_sender}
 use Rattle.osi_class.specs.declared.faults.LinkFault.{LinkFault}
 use Rattle.osi_class.specs.declared.faults.LinkFault.TheVariants.{TsduTooLong, OutOfSequence}
-use Rattle.osi_class.specs.declared.limits.TheConstants.{LONGEST_TSDU}
+use Rattle.osi_class.specs.Limits.{longest_tsdu}
 use Rattle.osi_class.proofs.Giving.{drained_leaves}
 use Rattle.osi_class.proofs.Order.{choose_ok, at_ok}
 use Rattle.osi_carrier.specs.Messages.{Message, message, bye, over, messages_after, begun_at, kind_of, AreLike}
@@ -82,13 +82,13 @@ sender_two e f credit n number (Ok sender) none = record { begun = refl; whole =
 sender_two e f credit n number (Err fault) none = tt
 
 brought_by : (e : Ends) (flow : Option Flow) (n : ℕ) (g : Given) → e.joining.whole ≡ [] → IfOk (taken_by e flow (unit_of n g)) (HasBrought e.joining.begun (unit_of n g))
-brought_by e None n (part0 end octets) none = joined_zero e None end octets (nat_lt LONGEST_TSDU (length e.joining.begun + length octets)) none
+brought_by e None n (part0 end octets) none = joined_zero e None end octets (nat_lt longest_tsdu (length e.joining.begun + length octets)) none
 brought_by e None n (part2 number end octets) none = tt
 brought_by e None n (ack number credit) none = tt
 brought_by e (Some f) n (part0 end octets) none = tt
 brought_by e (Some f) n (part2 number end octets) none =
     choose_ok (HasBrought e.joining.begun (data2 n number end octets)) (is_awaited f.receiver number) (with_joined e (Some (taken_flow f)) (joined e.joining end octets)) (Err OutOfSequence)
-    (λ _. joined_two e (Some (taken_flow f)) n number end octets (nat_lt LONGEST_TSDU (length e.joining.begun + length octets)) none)
+    (λ _. joined_two e (Some (taken_flow f)) n number end octets (nat_lt longest_tsdu (length e.joining.begun + length octets)) none)
     (λ _. tt)
 brought_by e (Some f) n (ack number credit) none = sender_two e f credit n number (acknowledged f.sender number credit) none
 

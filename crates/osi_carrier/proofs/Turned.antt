@@ -15,7 +15,7 @@ use Rattle.osi_class.specs.Runs.{hand_in, give_out, take_in, hand_out, MovesAlon
 use Rattle.osi_class.specs.Sound.{HasGivenInRange}
 use Rattle.osi_class.specs.declared.faults.LinkFault.{LinkFault}
 use Rattle.osi_class.specs.declared.faults.LinkFault.TheVariants.{TsduTooLong, OutOfSequence}
-use Rattle.osi_class.specs.declared.limits.TheConstants.{LONGEST_TSDU}
+use Rattle.osi_class.specs.Limits.{longest_tsdu}
 use Rattle.osi_class.proofs.Classes.{zero_turns}
 use Rattle.osi_class.proofs.FitLaws.{in_range, stays_octets, unit_fits}
 use Rattle.osi_class.proofs.Flows.{agree_turns}
@@ -265,10 +265,10 @@ sender_one e f (Ok sender) none = ap (drop 1) none
 sender_one e f (Err fault) none = tt
 
 taken_one_by : (e : Ends) (flow : Option Flow) (unit : Value) → e.joining.whole ≡ [] → IfOk (taken_by e flow unit) HasOne
-taken_one_by e None (data0 end octets) none = joined_one e None end octets (nat_lt LONGEST_TSDU (length e.joining.begun + length octets)) none
+taken_one_by e None (data0 end octets) none = joined_one e None end octets (nat_lt longest_tsdu (length e.joining.begun + length octets)) none
 taken_one_by e (Some f) (data2 destination number end octets) none =
     choose_ok HasOne (is_awaited f.receiver number) (with_joined e (Some (taken_flow f)) (joined e.joining end octets)) (Err OutOfSequence)
-    (λ _. joined_one e (Some (taken_flow f)) end octets (nat_lt LONGEST_TSDU (length e.joining.begun + length octets)) none)
+    (λ _. joined_one e (Some (taken_flow f)) end octets (nat_lt longest_tsdu (length e.joining.begun + length octets)) none)
     (λ _. tt)
 taken_one_by e (Some f) (acknowledge credit destination number) none = sender_one e f (acknowledged f.sender number credit) none
 taken_one_by e None (data2 destination number end octets) none = tt

@@ -2,7 +2,7 @@
 use Rattle.std.proofs.Common.{◌≡◌, ℕ, ◌+◌, Bool, true, false, List, [], ◌∷◌, ◌++◌, length, take, drop, Option, Some, Result, Ok, Err, refl, sym, ◌∙◌, ap, subst, nat_lt, if◌then◌else◌, IfSome, IfOk}
 use Rattle.std.proofs.lemmas.List.{append_assoc, take-append-drop}
 use Rattle.osi_class.specs.declared.faults.LinkFault.TheVariants.{TsduTooLong}
-use Rattle.osi_class.specs.declared.limits.TheConstants.{LONGEST_TSDU}
+use Rattle.osi_class.specs.Limits.{longest_tsdu}
 use Rattle.osi_class.specs.Joining.{Joining, with_part, joined}
 use Rattle.osi_class.specs.Tsdus.{Part, tsdus, tsdus_after, uncut, give, MakeTheSame}
 
@@ -68,5 +68,5 @@ JoinsPart j end octets k = (later : List Part) → made j ((end, octets) ∷ lat
 
 pub joined_makes : (j : Joining) (end : Bool) (octets : List ℕ) → IfOk (joined j end octets) (JoinsPart j end octets)
 joined_makes j end octets =
-    choose_ok (JoinsPart j end octets) (nat_lt LONGEST_TSDU (length j.begun + length octets)) (Err TsduTooLong) (Ok (with_part j end octets))
+    choose_ok (JoinsPart j end octets) (nat_lt longest_tsdu (length j.begun + length octets)) (Err TsduTooLong) (Ok (with_part j end octets))
     (λ _. tt) (λ _ later. with_part_makes j end octets later)

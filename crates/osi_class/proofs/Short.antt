@@ -3,7 +3,7 @@ use Rattle.std.proofs.Common.{◌≡◌, ℕ, ◌+◌, ◌≤◌, Bool, true, fa
 use Rattle.std.specs.List.{flat_map, AllByRecursion}
 use Rattle.std.proofs.lemmas.Bool.{le-ltb}
 use Rattle.std.proofs.lemmas.List.{append_cancel_left, map-append}
-use Rattle.osi_class.specs.declared.limits.TheConstants.{LONGEST_TSDU}
+use Rattle.osi_class.specs.Limits.{longest_tsdu}
 use Rattle.osi_class.specs.Between.{LinkPair, Turn, TurnsAlong, left_in, right_out, parts_under_way, under_way, HasWholeTsdus, IsShortTsdu}
 use Rattle.osi_class.specs.Joining.{with_part, joined}
 use Rattle.osi_class.specs.Tsdus.{Part, tsdus_after, uncut}
@@ -38,7 +38,7 @@ begun_short ((true, octets) ∷ parts) begun ends all =
     omega arith
 
 part_short : (end : Bool) (octets : List ℕ) (rest : List Part) (begun : List ℕ) → End begun ((end, octets) ∷ rest) →
-    AllByRecursion IsShortTsdu (tsdus_after begun ((end, octets) ∷ rest)) → length begun + length octets ≤ LONGEST_TSDU
+    AllByRecursion IsShortTsdu (tsdus_after begun ((end, octets) ∷ rest)) → length begun + length octets ≤ longest_tsdu
 part_short false octets rest begun ends all =
     let more = begun_short rest (begun ++ octets) ends all in
     let n = length-append begun octets in
@@ -80,7 +80,7 @@ not_too_long p end octets rest whole all first =
     (append_nil p.left.ends.unsent) all in
     let parts = subst Shorts here (all_behind j.whole (tsdus_after j.begun (pending p)) under) in
     let short = part_short end octets (rest ++ uncut p.left.ends.unsent) j.begun ends parts in
-    let no : nat_lt LONGEST_TSDU (length j.begun + length octets) ≡ false = le-ltb LONGEST_TSDU (length j.begun + length octets) short in
+    let no : nat_lt longest_tsdu (length j.begun + length octets) ≡ false = le-ltb longest_tsdu (length j.begun + length octets) short in
     rw no
 
 pub stays_short : (old new : LinkPair) (turns : List Turn) → HasWholeTsdus old → AllByRecursion IsShortTsdu (under_way old) →

@@ -8,7 +8,7 @@ use Rattle.osi_tpdu.specs.Value.{Value, request, confirm, disconnect, disconnect
 use Rattle.osi_tpdu.specs.Value as values
 use Rattle.osi_class.specs.declared.faults.LinkFault.{LinkFault}
 use Rattle.osi_class.specs.declared.faults.LinkFault.TheVariants.{OutOfSequence, CreditReduced, TsduTooLong}
-use Rattle.osi_class.specs.declared.limits.TheConstants.{LONGEST_TSDU}
+use Rattle.osi_class.specs.Limits.{longest_tsdu}
 use Rattle.osi_class.specs.Ends.{Ends, unit_size, fresh_ends}
 use Rattle.osi_class.specs.Flow.{Flow, Sender, steps_before, acknowledged, is_awaited, ack_number, after_acked}
 use Rattle.osi_class.specs.Joining.{Joining, with_part, joined}
@@ -21,14 +21,14 @@ use Rattle.osi_class.proofs.Order.{choose_some, choose_ok, at_some, at_ok}
 
 -- what a call does to bounds
 abbrev Safe : Ends → Option Flow → Standing → Type 0
-Safe e flow new = (new.ends.limit ≡ e.limit) × (length new.ends.joining.begun ≤ LONGEST_TSDU) × IfSome new.flow IsSoundFlow × (is_some new.flow ≡ is_some flow)
+Safe e flow new = (new.ends.limit ≡ e.limit) × (length new.ends.joining.begun ≤ longest_tsdu) × IfSome new.flow IsSoundFlow × (is_some new.flow ≡ is_some flow)
 
-zero_safe : (e : Ends) → length e.joining.begun ≤ LONGEST_TSDU → (o : Option (Part × List (List ℕ))) →
+zero_safe : (e : Ends) → length e.joining.begun ≤ longest_tsdu → (o : Option (Part × List (List ℕ))) →
     IfSome (given_part e None None o) (λ p. Safe e None p.1)
 zero_safe e begun None = tt
 zero_safe e begun (Some ((end, octets), rest)) = (refl, begun, tt, refl)
 
-two_safe : (e : Ends) (f g : Flow) (number : ℕ) → length e.joining.begun ≤ LONGEST_TSDU → IsSoundFlow g → (o : Option (Part × List (List ℕ))) →
+two_safe : (e : Ends) (f g : Flow) (number : ℕ) → length e.joining.begun ≤ longest_tsdu → IsSoundFlow g → (o : Option (Part × List (List ℕ))) →
     IfSome (given_part e (Some g) (Some number) o) (λ p. Safe e (Some f) p.1)
 two_safe e f g number begun sound None = tt
 two_safe e f g number begun sound (Some ((end, octets), rest)) = (refl, begun, sound, refl)
@@ -57,7 +57,7 @@ acked_sound f h =
       waiting = omega arith;
     }
 
-next_safe : (e : Ends) (flow : Option Flow) → length e.joining.begun ≤ LONGEST_TSDU → IfSome flow IsSoundFlow →
+next_safe : (e : Ends) (flow : Option Flow) → length e.joining.begun ≤ longest_tsdu → IfSome flow IsSoundFlow →
     IfSome (next_by e flow) (λ p. Safe e flow p.1)
 next_safe e None begun sound = zero_safe e begun (give e.limit e.unsent)
 next_safe e (Some f) begun sound =
@@ -71,20 +71,20 @@ next_safe e (Some f) begun sound =
     two_safe e f (sent_flow f) f.sender.next begun (sent_sound f sound some) (give e.limit e.unsent))
     (λ _. tt))
 
-part_safe : (j : Joining) (end : Bool) (octets : List ℕ) → length j.begun + length octets ≤ LONGEST_TSDU →
-    length (with_part j end octets).begun ≤ LONGEST_TSDU
+part_safe : (j : Joining) (end : Bool) (octets : List ℕ) → length j.begun + length octets ≤ longest_tsdu →
+    length (with_part j end octets).begun ≤ longest_tsdu
 part_safe j false octets short = let n = length-append j.begun octets in omega arith
 part_safe j true octets short = omega arith
 
 joined_short : (j : Joining) (end : Bool) (octets : List ℕ) →
-    IfOk (joined j end octets) (λ (k : Joining). length k.begun ≤ LONGEST_TSDU)
+    IfOk (joined j end octets) (λ (k : Joining). length k.begun ≤ longest_tsdu)
 joined_short j end octets =
-    choose_ok (λ (k : Joining). length k.begun ≤ LONGEST_TSDU) (nat_lt LONGEST_TSDU (length j.begun + length octets)) (Err TsduTooLong) (Ok (with_part j end octets))
+    choose_ok (λ (k : Joining). length k.begun ≤ longest_tsdu) (nat_lt longest_tsdu (length j.begun + length octets)) (Err TsduTooLong) (Ok (with_part j end octets))
     (λ _. tt)
-    (λ b. part_safe j end octets (ltb-false LONGEST_TSDU (length j.begun + length octets) b))
+    (λ b. part_safe j end octets (ltb-false longest_tsdu (length j.begun + length octets) b))
 
 joined_safe : (e : Ends) (flow after : Option Flow) → IfSome after IsSoundFlow → is_some after ≡ is_some flow →
-    (r : Result Joining LinkFault) → IfOk r (λ (k : Joining). length k.begun ≤ LONGEST_TSDU) →
+    (r : Result Joining LinkFault) → IfOk r (λ (k : Joining). length k.begun ≤ longest_tsdu) →
     IfOk (with_joined e after r) (Safe e flow)
 joined_safe e flow after sound same (Err fault) short = tt
 joined_safe e flow after sound same (Ok joining) short = (refl, short, sound, same)
@@ -117,7 +117,7 @@ acknowledged_sound s number credit below most =
     (λ b. let enough : s.credit + left ≤ credit = ltb-false credit (s.credit + left) b in
     record { next = below; credit = omega arith }))
 
-sender_safe : (e : Ends) (f : Flow) → length e.joining.begun ≤ LONGEST_TSDU → IsSoundFlow f → (r : Result Sender LinkFault) → IfOk r IsSoundSender →
+sender_safe : (e : Ends) (f : Flow) → length e.joining.begun ≤ longest_tsdu → IsSoundFlow f → (r : Result Sender LinkFault) → IfOk r IsSoundSender →
     IfOk (with_sender e f r) (Safe e (Some f))
 sender_safe e f begun h (Err fault) sound = tt
 sender_safe e f begun h (Ok sender) sound = (
@@ -141,7 +141,7 @@ second false b e = cc
 awaited_open : (f : Flow) (number : ℕ) → is_awaited f.receiver number ≡ true → f.receiver.waiting < f.receiver.window
 awaited_open f number e = ltb-true f.receiver.waiting f.receiver.window (second (number == f.receiver.expected) (nat_lt f.receiver.waiting f.receiver.window) e)
 
-taken_safe : (e : Ends) (flow : Option Flow) (unit : Value) → length e.joining.begun ≤ LONGEST_TSDU → IfSome flow IsSoundFlow → values.HasFieldsInRange unit →
+taken_safe : (e : Ends) (flow : Option Flow) (unit : Value) → length e.joining.begun ≤ longest_tsdu → IfSome flow IsSoundFlow → values.HasFieldsInRange unit →
     IfOk (taken_by e flow unit) (Safe e flow)
 taken_safe e None (data0 end octets) begun sound range =
     joined_safe e None None tt refl (joined e.joining end octets) (joined_short e.joining end octets)
@@ -166,7 +166,7 @@ taken_safe e (Some f) (disconnect destination source reason user) begun sound ra
 taken_safe e (Some f) (disconnected destination source) begun sound range = tt
 taken_safe e (Some f) (error destination cause) begun sound range = tt
 
-move_safe : (move : Move) (old new : Standing) → length old.ends.joining.begun ≤ LONGEST_TSDU → IfSome old.flow IsSoundFlow → TakesInRange move →
+move_safe : (move : Move) (old new : Standing) → length old.ends.joining.begun ≤ longest_tsdu → IfSome old.flow IsSoundFlow → TakesInRange move →
     Moves move old new → Safe old.ends old.flow new
 move_safe (hand_in tsdu) old new begun sound range e =
     subst (λ (s : Standing). Safe old.ends old.flow s) (sym e) (refl, begun, sound, refl)
@@ -179,7 +179,7 @@ move_safe (hand_out tsdu) old new begun sound range e =
     let same : old.ends.joining.begun ≡ new.ends.joining.begun = ap (λ (s : Standing). s.ends.joining.begun) e in
     let flow : old.flow ≡ new.flow = ap (λ (s : Standing). s.flow) e in (
       sym limit,
-      subst (λ (b : List ℕ). length b ≤ LONGEST_TSDU) same begun,
+      subst (λ (b : List ℕ). length b ≤ longest_tsdu) same begun,
       subst (λ (f : Option Flow). IfSome f IsSoundFlow) flow sound,
       ap (λ (f : Option Flow). is_some f) (sym flow),
     )

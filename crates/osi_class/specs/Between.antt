@@ -2,7 +2,7 @@
 use Rattle.std.specs.Prelude.{◌≡◌, ℕ, Bool, List, [], ◌∷◌, ◌++◌, ◌≤◌, length, None, Ok}
 use Rattle.std.specs.List.{flat_map, AllByRecursion}
 use Rattle.osi_tpdu.specs.Value.{Value}
-use Rattle.osi_class.specs.declared.limits.TheConstants.{LONGEST_TSDU}
+use Rattle.osi_class.specs.Limits.{longest_tsdu}
 use Rattle.osi_class.specs.Link.{Standing, Given, next, taken, given_in, is_of_two}
 use Rattle.osi_class.specs.Runs.{Move, hand_in, give_out, take_in, hand_out, Moves, given_parts, tsdu_in, tsdu_out}
 use Rattle.osi_class.specs.Tsdus.{Part, tsdus_after, uncut}
@@ -119,4 +119,4 @@ pub record TakesOldest (p : LinkPair) (unit : Value) (rest : List Given) : Type 
 
 -- short enough to be taken
 abbrev pub IsShortTsdu : List ℕ → Type 0
-IsShortTsdu tsdu = length tsdu ≤ LONGEST_TSDU
+IsShortTsdu tsdu = length tsdu ≤ longest_tsdu

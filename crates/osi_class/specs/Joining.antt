@@ -2,7 +2,7 @@
 use Rattle.std.specs.Prelude.{◌≡◌, ℕ, ◌+◌, Bool, true, false, List, [], ◌∷◌, ◌++◌, length, nat_lt, Option, Some, None, Result, Ok, Err, if◌then◌else◌}
 use Rattle.osi_class.specs.declared.faults.LinkFault.{LinkFault}
 use Rattle.osi_class.specs.declared.faults.LinkFault.TheVariants.{TsduTooLong}
-use Rattle.osi_class.specs.declared.limits.TheConstants.{LONGEST_TSDU}
+use Rattle.osi_class.specs.Limits.{longest_tsdu}
 
 pub record Joining : Type 0 where
   pub begun : List ℕ
@@ -14,7 +14,7 @@ with_part j true octets = record { begun = []; whole = j.whole ++ (j.begun ++ oc
 
 -- a TSDU has at most 1,048,576 octets
 abbrev pub joined : Joining → Bool → List ℕ → Result Joining LinkFault
-joined j last octets = if nat_lt LONGEST_TSDU (length j.begun + length octets) then Err TsduTooLong else Ok (with_part j last octets)
+joined j last octets = if nat_lt longest_tsdu (length j.begun + length octets) then Err TsduTooLong else Ok (with_part j last octets)
 
 -- one part joined to a TSDU of which so much was taken
 abbrev pub joined_to : List ℕ → Bool → List ℕ → Result Joining LinkFault

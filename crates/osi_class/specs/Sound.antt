@@ -2,7 +2,7 @@
 use Rattle.std.specs.Prelude.{◌+◌, ◌<◌, ◌≤◌, length, IfSome}
 use Rattle.osi_tpkt.specs.Octets.{IsOctets}
 use Rattle.osi_tpdu.specs.Value as values
-use Rattle.osi_class.specs.declared.limits.TheConstants.{LONGEST_TSDU}
+use Rattle.osi_class.specs.Limits.{longest_tsdu}
 use Rattle.osi_class.specs.Flow.{Flow}
 use Rattle.osi_class.specs.Link.{Standing, Given, part0, part2, ack}
 use Rattle.osi_class.specs.Runs.{Move, take_in}
@@ -21,7 +21,7 @@ pub record IsSoundFlow (f : Flow) : Type 0 where
 pub record IsSound (s : Standing) : Type 0 where
   pub least : 123 ≤ s.ends.limit
   pub most : s.ends.limit ≤ 8189
-  pub begun : length s.ends.joining.begun ≤ LONGEST_TSDU
+  pub begun : length s.ends.joining.begun ≤ longest_tsdu
   pub flow : IfSome s.flow IsSoundFlow
 
 -- the numbers of a unit are in the range of their fields, and its octets go into a unit of 8,192

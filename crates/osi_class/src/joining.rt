@@ -1,5 +1,6 @@
 ghost use Rattle.std.specs.Prelude.{◌≡◌, ◌≤◌, ◌+◌, [], true, length, option_map};
 ghost use Rattle.osi_class.specs.Joining.{Pops, joined};
+ghost use Rattle.osi_class.specs.Limits.{longest_tsdu};
 ghost use Rattle.osi_class.specs.Link.{part_needs_memory};
 ghost use Rattle.osi_class.specs.Taking.{TakesUnit};
 
@@ -20,14 +21,14 @@ pub struct Incoming {
 
 impl Model for Incoming {
     ghost use Rattle.std.specs.Prelude.{◌≤◌, length, map};
-    ghost use Rattle.osi_class.specs.declared.limits.TheConstants.{LONGEST_TSDU};
+    ghost use Rattle.osi_class.specs.Limits.{longest_tsdu};
     ghost use Rattle.osi_class.specs.Joining.{Joining};
 
     ghost Value = { Joining };
 
     ghost view = { λ i. record { begun = i.begun.items; whole = map (λ v. v.items) i.whole.items } };
 
-    ghost invariant = { λ i. length i.begun.items ≤ LONGEST_TSDU };
+    ghost invariant = { λ i. length i.begun.items ≤ longest_tsdu };
 }
 
 impl Incoming {
@@ -62,7 +63,7 @@ impl Incoming {
     /// Takes a part that begins, continues or ends a TSDU of several.
     #[inline(never)]
     fn take_part(&mut self, last: bool, octets: &[u8]) -> Result<(), LinkFault>
-        requires { length self.old.begun + length octets.now ≤ LONGEST_TSDU }
+        requires { length self.old.begun + length octets.now ≤ longest_tsdu }
         ensures { TakesUnit result (part_needs_memory last octets.now) (joined self.old last octets.now) self.old self.new }
     {
         if last {
@@ -81,7 +82,7 @@ impl Incoming {
     #[inline(always)]
     fn take_whole(&mut self, octets: &[u8]) -> Result<(), LinkFault>
         requires begun { self.old.begun ≡ [] }
-        requires short { length octets.now ≤ LONGEST_TSDU }
+        requires short { length octets.now ≤ longest_tsdu }
         ensures { TakesUnit result true (joined self.old true octets.now) self.old self.new }
     {
         let Ok(tsdu) = Vec::from_slice(self.alloc, octets) else {
@@ -95,7 +96,7 @@ impl Incoming {
 
     /// Takes the last part of a TSDU. The room for it among those that stand whole is made first.
     fn finish(&mut self, octets: &[u8]) -> Result<(), LinkFault>
-        requires { length self.old.begun + length octets.now ≤ LONGEST_TSDU }
+        requires { length self.old.begun + length octets.now ≤ longest_tsdu }
         ensures { TakesUnit result true (joined self.old true octets.now) self.old self.new }
     {
         if self.whole.reserve(1).is_err() {
@@ -112,7 +113,7 @@ impl Incoming {
     /// How many octets were taken of the TSDU whose end has not come, at most [`LONGEST_TSDU`].
     pub fn begun_octets(&self) -> usize
         ensures value { result ≡ length self.now.begun }
-        ensures at_most { result ≤ LONGEST_TSDU }
+        ensures at_most { result ≤ longest_tsdu }
     {
         self.begun.len()
     }

@@ -10,12 +10,12 @@ use std::alloc::AllocError;
 /// their order. What a link holds and each call does is stated on its `standing`, which both
 /// classes have; the laws over lists of calls are in [`crate::laws`].
 pub trait Link {
-    ghost use Rattle.std.specs.Prelude.{◌≡◌, ◌≤◌, ◌+◌, ◌*◌, None, length, IfSome, IfNone, IsSome, OnOk, OnErr, option_map};
+    ghost use Rattle.std.specs.Prelude.{◌≡◌, ◌≤◌, ◌+◌, ◌*◌, [], None, length, IfSome, IfNone, IsOk, IsSome, OnOk, OnErr, option_map};
     ghost use Rattle.std.specs.Borrow.{sem};
     ghost use Rattle.std.specs.Io.BufRead.{Rests};
     ghost use Rattle.osi_tpdu.specs.View.{value};
-    ghost use Rattle.osi_class.specs.declared.limits.TheConstants.{LONGEST_TSDU};
     ghost use Rattle.osi_class.specs.Giving.{all_given, octets_in, GoesAtOnce, GivesPart};
+    ghost use Rattle.osi_class.specs.Limits.{longest_tsdu};
     ghost use Rattle.osi_class.specs.Link.{Standing, with_tsdu, given, taken, needs_memory, next, Gives, Hands, FitsAUnit};
     ghost use Rattle.osi_class.specs.Sound.{IsSound};
     ghost use Rattle.osi_class.specs.Taking.{TakesUnit};
@@ -30,10 +30,12 @@ pub trait Link {
         ensures limit { (standing self.new).ends.limit ≡ (standing self.old).ends.limit };
 
     /// Hands in a TSDU as [`Link::send_tsdu`] does, with the room that its octets are in: none is copied.
-    /// Where no memory is found, nothing has changed.
+    /// Where nothing is to be sent before it, no memory is needed. Where none is found, nothing has
+    /// changed.
     fn send_owned(&mut self, tsdu: Vec<u8>) -> Result<(), AllocError>
         ensures ok { OnOk result (standing self.new ≡ with_tsdu (standing self.old) tsdu.items) }
         ensures err { OnErr result (self.new ≡ self.old) }
+        ensures alone { (standing self.old).ends.unsent ≡ [] → IsOk result }
         ensures limit { (standing self.new).ends.limit ≡ (standing self.old).ends.limit };
 
     /// The first part of a TSDU that goes at once, since nothing else is to be given: as many octets as
@@ -82,7 +84,7 @@ pub trait Link {
     /// How many octets were taken of the TSDU whose end has not come, at most 1,048,576.
     fn begun_octets(&self) -> usize
         ensures value { result ≡ length (standing self.now).ends.joining.begun }
-        ensures at_most { result ≤ LONGEST_TSDU }
+        ensures at_most { result ≤ longest_tsdu }
         ensures sound { IsSound (standing self.now) };
 
     /// What the units take that [`Link::next_out`] gives, up to none, once this TSDU is handed in at

@@ -1,4 +1,4 @@
-ghost use Rattle.std.specs.Prelude.{◌≡◌, ◌≢◌, ◌≤◌, ◌++◌, [], ◌∷◌, true, false, IfNone, OnOk, OnErr, option_map};
+ghost use Rattle.std.specs.Prelude.{◌≡◌, ◌≢◌, ◌≤◌, ◌++◌, [], ◌∷◌, true, false, IfNone, IsOk, OnOk, OnErr, option_map};
 ghost use Rattle.osi_class.specs.Tsdus.{give};
 
 use std::alloc::{AllocError, Global};
@@ -75,10 +75,12 @@ impl Outgoing {
         Ok(())
     }
 
-    /// Puts a TSDU itself behind those that are to be sent: its octets stay where they are.
+    /// Puts a TSDU itself behind those that are to be sent: its octets stay where they are. Where there
+    /// are none, no memory is needed.
     pub fn add_owned(&mut self, tsdu: Vec<u8>) -> Result<(), AllocError>
         ensures ok { OnOk result (self.new.unsent ≡ self.old.unsent ++ tsdu.items ∷ []) }
         ensures err { OnErr result (self.new ≡ self.old) }
+        ensures alone { self.old.unsent ≡ [] → IsOk result }
     {
         if self.has_more || !self.queue.is_empty() {
             self.queue.push_back(tsdu)?;
