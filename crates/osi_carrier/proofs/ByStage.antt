@@ -7,7 +7,7 @@ use Rattle.osi_tpdu.specs.Value.{Value, data0, data2, acknowledge}
 use Rattle.osi_class.specs.Link.{taken}
 use Rattle.osi_class.specs.declared.terms.Class.TheVariants.{Zero, Two}
 use Rattle.osi_carrier.specs.Rows.{Rows, value_at, place_of, first_of}
-use Rattle.osi_carrier.specs.Calls.{open_link, link_of}
+use Rattle.osi_carrier.specs.Calls.{open_link, link_of, WaitsAlone, WaitsOn}
 use Rattle.osi_carrier.specs.React.{to_connection, to_reference, to_unknown, to_asked, to_linked, to_closing, to_only, taking, in_zero, in_two, in_class}
 use Rattle.osi_carrier.specs.Stages.{stage_of, link_in}
 use Rattle.osi_carrier.specs.State.{State, Connection, asked, linked, closing}
@@ -117,3 +117,14 @@ pub data0_taken : (r peer : ℕ) (end : Bool) (user : List ℕ) (s : State) → 
 data0_taken r peer end user s zero first opened =
     ap (λ c. in_class c (data0 end user) s) zero ∙ zero_data s.is_caller end user s ∙ only_is r s.live (data0 end user) s first
     ∙ by_open r peer (value_at r s.live) (data0 end user) s opened
+
+-- a TSDU that waits at an open connection waits at its link
+waits_by : (over : Bool) (o : Option Connection) (octets : List ℕ) → WaitsOn (if over then None else link_of o) octets → WaitsAlone (link_in o) octets
+waits_by true o octets h = absurd h
+waits_by false None octets h = absurd h
+waits_by false (Some asked) octets h = absurd h
+waits_by false (Some (linked peer link)) octets h = h
+waits_by false (Some (closing peer)) octets h = absurd h
+
+pub waits_at : (r : ℕ) (s : State) (octets : List ℕ) → WaitsOn (open_link r s) octets → WaitsAlone (link_in (value_at r s.live)) octets
+waits_at r s octets h = waits_by (is_some s.ended) (value_at r s.live) octets h

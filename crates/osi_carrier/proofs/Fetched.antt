@@ -1,9 +1,9 @@
 -- What the cutter answered, as the carrier's look at the stream.
-use Rattle.std.proofs.Common.{◌≡◌, ℕ, ◌+◌, ◌<◌, Bool, true, false, List, [], ◌++◌, length, take, None, Ok, Err, MatchBool, refl, sym, ap, subst, ◌∙◌, inl, inr, arith}
+use Rattle.std.proofs.Common.{◌≡◌, ℕ, ◌+◌, ◌<◌, Bool, true, false, List, [], ◌++◌, length, take, None, Result, Ok, Err, MatchBool, refl, sym, ap, subst, ◌∙◌, inl, inr, arith}
 use Rattle.std.proofs.lemmas.List.{take_all, length-take-le}
 use Rattle.osi_tpkt.specs.Cutter.{TakesPiece, Passes}
 use Rattle.osi_tpkt.specs.Held.{Held, IsHolding}
-use Rattle.osi_tpkt.specs.Packet.{IsPacket, IsOnePacket, IsPartial}
+use Rattle.osi_tpkt.specs.Packet.{IsPacket, IsOnePacket, IsPartial, IsFaultOf}
 use Rattle.osi_tpkt.specs.Stream.{offset_of}
 use Rattle.osi_tpkt.specs.declared.cutting.Fed.{Fed}
 use Rattle.osi_tpkt.specs.declared.faults.TpktFault.{TpktFault}
@@ -23,11 +23,27 @@ second_out : (b : Bool) (A B : Type 0) → MatchBool b A B → (B → ⊥) → b
 second_out true A B h never = refl
 second_out false A B h never = absurd (never h)
 
+-- where any fault would have been answered, and none was
+never_faulty : (at : ℕ) (octets : List ℕ) → ((f : TpktFault) → IsFaultOf at octets f → f ≡ OutOfMemory) → (place : ℕ) (f : TpktFault) → IsFaultOf place octets f → ⊥
+never_faulty at octets only place (BadVersion o) h = let e = only (BadVersion at) (h.0, refl) in cc
+never_faulty at octets only place (BadLength o) h = let e = only (BadLength at) (h.0, refl) in cc
+never_faulty at octets only place OutOfMemory h = h
+
+abbrev Refuses : TpktFault → Result Fed TpktFault
+Refuses fault = Err fault
+
+pub same_fault : (f fault : TpktFault) → Refuses fault ≡ Refuses f → f ≡ fault
+same_fault f fault e = cc
+
 pub ended_over : (old new : Carrying) (octets : List ℕ) (fault : TpktFault) (held : Held) → TakesPiece old.held octets (Err fault) held →
+    ((f : TpktFault) → IsFaultOf old.held.offset (old.held.octets ++ octets) f → f ≡ fault) →
     new.state ≡ after_refusal fault old.state → new.held.octets ≡ [] → EndsOver old octets new
-ended_over old new octets (BadVersion at) held taken h none = record { how = inl (record { fault = BadVersion at; is = taken.0; ended = h }); held = none }
-ended_over old new octets (BadLength at) held taken h none = record { how = inl (record { fault = BadLength at; is = taken.0; ended = h }); held = none }
-ended_over old new octets OutOfMemory held taken h none = record { how = inr h; held = none }
+ended_over old new octets (BadVersion at) held taken only h none = record { how = inl (record { fault = BadVersion at; is = taken.0; ended = h }); held = none }
+ended_over old new octets (BadLength at) held taken only h none = record { how = inl (record { fault = BadLength at; is = taken.0; ended = h }); held = none }
+ended_over old new octets OutOfMemory held taken only h none = record {
+  how = inr (record { faultless = never_faulty old.held.offset (old.held.octets ++ octets) only; ended = h });
+  held = none;
+}
 
 pub fetched_part : Proper → (old new : Carrying) (octets : List ℕ) (fed : Fed) → TakesPiece old.held octets (Ok fed) new.held → IsPartial new.held.octets →
     new.state ≡ old.state → PartHeld old octets new

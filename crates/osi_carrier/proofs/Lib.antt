@@ -51,3 +51,4 @@ pub mod Holdings
 pub mod Firsts
 pub mod Tellings
 pub mod Having
+pub mod Growing

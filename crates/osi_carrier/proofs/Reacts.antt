@@ -2,6 +2,7 @@
 use Rattle.std.proofs.Common.{◌≡◌, List, [], ◌∷◌, ◌++◌, Option, Some, None, refl, sym, ap, subst, ◌∙◌, true, false, is_some, inl, inr, append_assoc}
 use Rattle.std.proofs.lemmas.List.{append-nil}
 use Rattle.osi_tpdu.specs.Value.{Value}
+use Rattle.osi_carrier.specs.Growth.{grows}
 use Rattle.osi_carrier.specs.Packets.{Act}
 use Rattle.osi_carrier.specs.React.{react, react_by, reacts, in_class}
 use Rattle.osi_carrier.specs.State.{State, ends}
@@ -58,14 +59,15 @@ along_over start now after all left more unit h e acts over =
 
 -- a unit for which there was no memory did nothing
 pub along_starved : (start now tried after : State) (all left more : List Value) (unit : Value) → IsAlong start all now left → left ≡ unit ∷ more →
-    ends NoMemory tried ≡ ends NoMemory now → after ≡ ends NoMemory tried → Act start all after
-along_starved start now tried after all left more unit h e nothing ended = inr (record {
+    ends NoMemory tried ≡ ends NoMemory now → grows now (in_class now.class unit now) ≡ true → after ≡ ends NoMemory tried → Act start all after
+along_starved start now tried after all left more unit h e nothing needs ended = inr (record {
   done = h.done;
   next = unit;
   more = more;
   all = h.parts ∙ ap (λ l. h.done ++ l) e;
   lasts = subst (λ (s : State). s.ended ≡ None) h.acted h.lasts;
   ended = ended ∙ nothing ∙ ap (ends NoMemory) h.acted;
+  needs = subst (λ (s : State). grows s (react unit s) ≡ true) h.acted (subst (λ (t : State). grows now t ≡ true) (sym (react_quiet unit now h.lasts)) needs);
 })
 
 pub none_of : {A : Type 0} (o : Option A) → is_some o ≡ false → o ≡ None
@@ -77,9 +79,9 @@ pub one_acts : (start after : State) (unit : Value) → start.ended ≡ None →
 one_acts start after unit quiet acts = inl (acts ∙ sym (react_quiet unit start quiet))
 
 pub one_starved : (start tried after : State) (unit : Value) → start.ended ≡ None → ends NoMemory tried ≡ ends NoMemory start →
-    after ≡ ends NoMemory tried → Act start (unit ∷ []) after
-one_starved start tried after unit quiet nothing ended =
-    along_starved start start tried after (unit ∷ []) (unit ∷ []) [] unit (along_first start (unit ∷ []) quiet) refl nothing ended
+    grows start (in_class start.class unit start) ≡ true → after ≡ ends NoMemory tried → Act start (unit ∷ []) after
+one_starved start tried after unit quiet nothing needs ended =
+    along_starved start start tried after (unit ∷ []) (unit ∷ []) [] unit (along_first start (unit ∷ []) quiet) refl nothing needs ended
 
 pub one_taken : (start after then : State) (unit : Value) → start.ended ≡ None → in_class start.class unit start ≡ then → after ≡ then → Act start (unit ∷ []) after
 one_taken start after then unit quiet acts is = one_acts start after unit quiet (is ∙ sym acts)

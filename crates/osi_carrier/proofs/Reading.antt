@@ -1,16 +1,18 @@
 -- A piece of the stream, read packet by packet.
-use Rattle.std.proofs.Common.{◌≡◌, ℕ, ◌+◌, ◌-◌, ◌<◌, ◌≤◌, ◌||◌, true, false, Bool, List, [], ◌∷◌, ◌++◌, length, take, drop, Option, Some, None, Result, Ok, Err, is_some, refl, sym, ap, subst, ◌∙◌, inl, inr, ◌⊎◌, arith, length-append, length-take, append_assoc, if◌then◌else◌}
+use Rattle.std.proofs.Common.{◌≡◌, ℕ, ◌+◌, ◌-◌, ◌*◌, ◌<◌, ◌≤◌, ◌||◌, true, false, Bool, List, [], ◌∷◌, ◌++◌, length, take, drop, Option, Some, None, Result, Ok, Err, is_some, refl, sym, ap, subst, ◌∙◌, inl, inr, ◌⊎◌, arith, length-append, length-take, append_assoc, if◌then◌else◌}
 use Rattle.std.proofs.lemmas.List.{append-nil, take-append-drop, take_at}
+use Rattle.std.proofs.Math.Seq.{drop-append_seam}
 use Rattle.osi_tpkt.specs.Packet.{IsPacket, IsFaultOf}
 use Rattle.osi_tpkt.specs.Stream.{ArePackets, offset_of}
+use Rattle.osi_tpkt.specs.declared.faults.TpktFault.{TpktFault}
+use Rattle.osi_tpkt.specs.declared.faults.TpktFault.TheVariants.{BadVersion, BadLength, OutOfMemory}
 use Rattle.osi_tpdu.specs.Packet.{units_of}
 use Rattle.osi_tpdu.specs.Value.{Value}
 use Rattle.osi_tpdu.specs.declared.faults.TpduFault.{TpduFault}
-use Rattle.osi_carrier.specs.Fetching.{PacketActs, PartHeld, Faults, EndsOver}
+use Rattle.osi_carrier.specs.Fetching.{PacketActs, PartHeld, Faults, FindsNoRoom, EndsOver}
 use Rattle.osi_carrier.specs.Packets.{Carrying, IsReading, Acts, ActsBy, acts_by, after_packet, stops, waits, is_spoilt, TakesPackets, StopsBehind, Starves, FindsNoMemory, Goes, RunsOut}
-use Rattle.osi_carrier.specs.State.{State, ends}
+use Rattle.osi_carrier.specs.State.{State}
 use Rattle.osi_carrier.specs.declared.ends.EndReason.{EndReason}
-use Rattle.osi_carrier.specs.declared.ends.EndReason.TheVariants.{NoMemory}
 
 -- ---- packets
 
@@ -167,6 +169,18 @@ spoilt_over (Some reason) e = refl
 spoilt_stops : (s : State) → is_spoilt s.ended ≡ true → stops s ≡ true
 spoilt_stops s e = ap (λ b. b || waits s) (spoilt_over s.ended e)
 
+-- what begins with a packet has no fault
+spelled_faultless : (reserved high low : ℕ) (u more : List ℕ) → 256 * high + low ≡ length u + 4 → 3 ≤ length u → (at : ℕ) (fault : TpktFault) →
+    IsFaultOf at ((3 ∷ reserved ∷ high ∷ low ∷ u) ++ more) fault → ⊥
+spelled_faultless reserved high low u more counted least at (BadVersion o) h = h.0.1 refl
+spelled_faultless reserved high low u more counted least at (BadLength o) h = let short : 256 * high + low < 7 = h.0.2 in omega arith
+spelled_faultless reserved high low u more counted least at OutOfMemory h = h
+
+packet_faultless : (u b more : List ℕ) → IsPacket u b → (at : ℕ) (fault : TpktFault) → IsFaultOf at (b ++ more) fault → ⊥
+packet_faultless u b more p =
+    subst (λ x. (at : ℕ) (fault : TpktFault) → IsFaultOf at (x ++ more) fault → ⊥) (sym p.spelled)
+    (spelled_faultless p.reserved p.high p.low u more p.counted p.at_least)
+
 starved_by : (old : Carrying) (piece : List ℕ) (now : Carrying) (rest : List ℕ) (used : ℕ) (new : Carrying) (read : IsRead old piece now rest) (acts : PacketActs now rest used new) →
     Starves now.state acts.packet new.state → FindsNoMemory old piece (length piece) new
 starved_by old piece now rest used new read acts starves =
@@ -186,6 +200,7 @@ starved_by old piece now rest used new read acts starves =
       quiet = read.quiet;
       how = inr (acts.packet, (now.held.octets ++ take used rest, [], acts.whole, sym (append-nil (now.held.octets ++ take used rest)), refl), starves);
       held = acts.held;
+      faultless = packet_faultless acts.packet (now.held.octets ++ take used rest) (drop (length (read.front ++ take used rest)) piece) acts.whole;
     }
 
 pub read_spoilt : (old : Carrying) (piece : List ℕ) (now : Carrying) (rest : List ℕ) (used : ℕ) (new : Carrying) → IsRead old piece now rest →
@@ -231,7 +246,7 @@ read_part old piece now rest new read part =
     }))
 
 over_by : (old : Carrying) (piece : List ℕ) (now : Carrying) (rest : List ℕ) (new : Carrying) → IsRead old piece now rest →
-    new.held.octets ≡ [] → Faults now rest new ⊎ (new.state ≡ ends NoMemory now.state) → Goes old piece (length piece) new
+    new.held.octets ≡ [] → Faults now rest new ⊎ FindsNoRoom now rest new → Goes old piece (length piece) new
 over_by old piece now rest new read held (inl fault) =
     inr (inl (record {
       units = read.units;
@@ -251,6 +266,7 @@ over_by old piece now rest new read held (inl fault) =
 over_by old piece now rest new read held (inr none) =
     let sizes = ap length read.cut ∙ length-append read.front rest in
     let seen : take (length read.front) piece ≡ read.front = ap (take (length read.front)) read.cut ∙ take_at read.front rest (length read.front) refl in
+    let behind : drop (length read.front) piece ≡ rest = ap (drop (length read.front)) read.cut ∙ drop-append_seam read.front rest in
     inr (inr (record {
       within = length read.front;
       units = read.units;
@@ -261,8 +277,9 @@ over_by old piece now rest new read held (inr none) =
       packets = subst (λ l. ArePackets read.units (old.held.octets ++ l) now.held.octets) (sym seen) read.packets;
       taken = read.taken;
       quiet = read.quiet;
-      how = inl none;
+      how = inl none.ended;
       held = held;
+      faultless = subst (λ l. (at : ℕ) (fault : TpktFault) → IsFaultOf at (now.held.octets ++ l) fault → ⊥) (sym behind) none.faultless;
     }))
 
 pub read_over : (old : Carrying) (piece : List ℕ) (now : Carrying) (rest : List ℕ) (new : Carrying) → IsRead old piece now rest →

@@ -2,7 +2,7 @@
 use Rattle.std.specs.Prelude.{◌≡◌, ℕ, ◌+◌, Bool, List, [], ◌∷◌, length, nat_le, nat_lt, Option, Some, None, is_some, not, if◌then◌else◌}
 use Rattle.std.specs.List.{sum_by}
 use Rattle.osi_tpdu.specs.Value.{request, disconnect}
-use Rattle.osi_class.specs.Link.{Standing, with_tsdu}
+use Rattle.osi_class.specs.Link.{Standing, next, with_tsdu}
 use Rattle.osi_class.specs.declared.terms.Class.{Class}
 use Rattle.osi_class.specs.declared.terms.Class.TheVariants.{Zero, Two}
 use Rattle.osi_class.specs.declared.terms.Local.{Local}
@@ -100,6 +100,16 @@ sent_on r tsdu (Some (peer, link)) s = pumps r peer (with_tsdu link tsdu) s
 
 abbrev pub sent : ℕ → List ℕ → State → State
 sent r tsdu s = sent_on r tsdu (open_link r s) s
+
+-- A TSDU that is handed in now waits at its link, and nothing else does: none of it may go now.
+pub record WaitsAlone (link : Standing) (tsdu : List ℕ) : Type 0 where
+  pub alone : link.ends.unsent ≡ []
+  pub none : next (with_tsdu link tsdu) ≡ None
+
+-- at the link of an open connection
+abbrev pub WaitsOn : Option (ℕ × Standing) → List ℕ → Type 0
+WaitsOn None tsdu = ⊥
+WaitsOn (Some (peer, link)) tsdu = WaitsAlone link tsdu
 
 -- in class 2 a DR asks the peer to close the connection; in class 0 the carrier ends
 abbrev pub closes : ℕ → ℕ → ℕ → Option Class → State → State

@@ -33,9 +33,14 @@ pub record Faults (old : Carrying) (octets : List ℕ) (new : Carrying) : Type 0
   pub is : IsFaultOf old.held.offset (old.held.octets ++ octets) fault
   pub ended : new.state ≡ fails (Tpkt fault) old.state
 
+-- there was no memory to hold the octets, which have no fault behind what was held
+pub record FindsNoRoom (old : Carrying) (octets : List ℕ) (new : Carrying) : Type 0 where
+  pub faultless : (at : ℕ) (fault : TpktFault) → IsFaultOf at (old.held.octets ++ octets) fault → ⊥
+  pub ended : new.state ≡ ends NoMemory old.state
+
 -- what was held and the octets are no packet, or there was no memory; nothing is held any more
 pub record EndsOver (old : Carrying) (octets : List ℕ) (new : Carrying) : Type 0 where
-  pub how : Faults old octets new ⊎ (new.state ≡ ends NoMemory old.state)
+  pub how : Faults old octets new ⊎ FindsNoRoom old octets new
   pub held : new.held.octets ≡ []
 
 abbrev pub Fetches : Carrying → List ℕ → Fetched → Carrying → Type 0

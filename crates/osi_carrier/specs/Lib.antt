@@ -8,8 +8,9 @@ pub mod Negotiation
 pub mod React
 pub mod Steps
 pub mod Feeding
-pub mod Packets
 pub mod Calls
+pub mod Growth
+pub mod Packets
 pub mod Fetching
 pub mod Orderly
 pub mod OpenLinks

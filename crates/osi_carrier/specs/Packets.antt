@@ -1,7 +1,7 @@
 -- What packets do to a carrier, and what feeding a piece of the stream does.
-use Rattle.std.specs.Prelude.{◌≡◌, ℕ, ◌+◌, ◌-◌, ◌<◌, ◌≤◌, ◌||◌, ◌==◌, not, Bool, true, false, List, [], ◌∷◌, ◌++◌, length, take, Option, Some, None, is_some, IsSome, Result, Ok, Err, ◌⊎◌, if◌then◌else◌}
+use Rattle.std.specs.Prelude.{◌≡◌, ℕ, ◌+◌, ◌-◌, ◌<◌, ◌≤◌, ◌||◌, ◌==◌, not, Bool, true, false, List, [], ◌∷◌, ◌++◌, length, take, drop, Option, Some, None, is_some, IsSome, Result, Ok, Err, ◌⊎◌, if◌then◌else◌}
 use Rattle.osi_tpkt.specs.Held.{Held, IsHolding}
-use Rattle.osi_tpkt.specs.Packet.{IsPartial}
+use Rattle.osi_tpkt.specs.Packet.{IsPartial, IsFaultOf}
 use Rattle.osi_tpkt.specs.Stream.{ArePackets, CutsFrom, offset_of}
 use Rattle.osi_tpkt.specs.Stream.Ending.{Faulty}
 use Rattle.osi_tpkt.specs.declared.faults.TpktFault.{TpktFault}
@@ -11,7 +11,8 @@ use Rattle.osi_tpdu.specs.Packet.{units_of}
 use Rattle.osi_tpdu.specs.Value.{Value}
 use Rattle.osi_tpdu.specs.declared.faults.TpduFault.{TpduFault}
 use Rattle.osi_carrier.specs.Feeding.{TakesAll}
-use Rattle.osi_carrier.specs.React.{reacts}
+use Rattle.osi_carrier.specs.Growth.{grows}
+use Rattle.osi_carrier.specs.React.{react, reacts}
 use Rattle.osi_carrier.specs.State.{State, ends, fails}
 use Rattle.osi_carrier.specs.declared.ends.CarrierFault.TheVariants.{Tpkt, Tpdu}
 use Rattle.osi_carrier.specs.declared.ends.EndReason.{EndReason}
@@ -29,7 +30,7 @@ unfoldable pub after_packet : State → List ℕ → State
 after_packet s packet = acts_by (units_of packet) s
 
 -- For one of the units there was no memory: it did nothing, and those before it had not ended the
--- carrier.
+-- carrier. With memory it would have written, told or kept something.
 pub record RunsOut (old : State) (units : List Value) (new : State) : Type 0 where
   pub done : List Value
   pub next : Value
@@ -37,6 +38,7 @@ pub record RunsOut (old : State) (units : List Value) (new : State) : Type 0 whe
   pub all : units ≡ done ++ (next ∷ more)
   pub lasts : (reacts done old).ended ≡ None
   pub ended : new ≡ ends NoMemory (reacts done old)
+  pub needs : grows (reacts done old) (react next (reacts done old)) ≡ true
 
 -- what units did: all that they do, or for one there was no memory
 abbrev pub Act : State → List Value → State → Type 0
@@ -129,10 +131,12 @@ pub record Refuses (old : Carrying) (piece : List ℕ) (used : ℕ) (new : Carry
   pub ended : new.state ≡ fails (Tpkt fault) before
   pub held : new.held.octets ≡ []
 
--- There was no memory to hold what belongs to a packet, or for a unit of the next packet.
+-- For a unit of a packet there was no memory.
 abbrev pub Starves : State → List ℕ → State → Type 0
 Starves old packet new = (units : List Value) × (units_of packet ≡ Ok units) × RunsOut old units new
 
+-- There was no memory to hold what belongs to a packet, or for a unit of the next packet. What stands
+-- behind the packets that acted has no fault: else the carrier would have ended by that.
 pub record FindsNoMemory (old : Carrying) (piece : List ℕ) (used : ℕ) (new : Carrying) : Type 0 where
   pub within : ℕ
   pub units : List (List ℕ)
@@ -145,6 +149,7 @@ pub record FindsNoMemory (old : Carrying) (piece : List ℕ) (used : ℕ) (new :
   pub quiet : stops before ≡ false
   pub how : (new.state ≡ ends NoMemory before) ⊎ ((packet : List ℕ) × ArePackets (packet ∷ []) rest [] × Starves before packet new.state)
   pub held : new.held.octets ≡ []
+  pub faultless : (at : ℕ) (fault : TpktFault) → IsFaultOf at (rest ++ drop within piece) fault → ⊥
 
 -- feeding a piece where nothing waits and nothing has ended
 abbrev pub Goes : Carrying → List ℕ → ℕ → Carrying → Type 0

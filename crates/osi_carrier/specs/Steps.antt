@@ -1,5 +1,5 @@
 -- What a unit does to the link that takes it.
-use Rattle.std.specs.Prelude.{◌≡◌, ℕ, List, [], take, Result, Ok, Err, IsOk, option_map, option_to_list}
+use Rattle.std.specs.Prelude.{◌≡◌, ℕ, Bool, ◌||◌, List, [], length, nat_lt, take, Result, Ok, Err, IsOk, option_map, option_to_list}
 use Rattle.osi_tpdu.specs.Value.{Value}
 use Rattle.osi_class.specs.Link.{Standing}
 use Rattle.osi_class.specs.declared.faults.LinkFault.{LinkFault}
@@ -20,6 +20,12 @@ units_after peer (Err fault) = []
 abbrev pub whole_after : Result Standing LinkFault → List (List ℕ)
 whole_after (Ok link) = take 1 link.ends.joining.whole
 whole_after (Err fault) = []
+
+-- units are written, a TSDU is told, or octets of an unfinished one are kept
+unfoldable pub link_grows : ℕ → Standing → Result Standing LinkFault → Bool
+link_grows peer old taken =
+    nat_lt 0 (length (units_after peer taken))
+    || (nat_lt 0 (length (whole_after taken)) || nat_lt (length old.ends.joining.begun) (length (link_after old taken).ends.joining.begun))
 
 -- what is answered of it
 abbrev pub StepsTo : Step → Result Standing LinkFault → Type 0

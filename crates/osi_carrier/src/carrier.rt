@@ -33,10 +33,10 @@ impl Model for Carrier {
 }
 
 impl Carrier {
-    ghost use Rattle.std.specs.Prelude.{◌≡◌, ◌+◌, ◌*◌, ◌≤◌, true, false, None, [], length, drop, IfOk, IfErr, OnOk, OnErr, MatchResult, option_map, is_some};
+    ghost use Rattle.std.specs.Prelude.{◌≡◌, ◌≢◌, ◌+◌, ◌*◌, ◌≤◌, true, false, None, Err, [], length, drop, IfOk, IfErr, OnOk, OnErr, MatchResult, option_map, is_some};
     ghost use Rattle.osi_tpkt.specs.Held.{fresh};
     ghost use Rattle.osi_tpdu.specs.Limits.{tsap_octets};
-    ghost use Rattle.osi_carrier.specs.Calls.{fresh_state, may_connect, open_error, asks, open_link, close_error, send_error, call_error, closed_with, sent, ended_by, kept_in, Tells};
+    ghost use Rattle.osi_carrier.specs.Calls.{fresh_state, may_connect, open_error, asks, open_link, close_error, send_error, call_error, closed_with, sent, ended_by, kept_in, Tells, WaitsOn};
     ghost use Rattle.osi_carrier.specs.Rows.{value_at};
     ghost use Rattle.osi_carrier.specs.Happenings.{happening};
     ghost use Rattle.osi_carrier.specs.Packets.{Feeds};
@@ -97,12 +97,14 @@ impl Carrier {
     }
 
     /// Sends a TSDU as [`Carrier::send`] does, with the room that its octets are in: those that may not
-    /// be sent now are not copied until they may.
+    /// be sent now are not copied until they may. Where none may, and nothing else waits at the connection,
+    /// no memory is needed.
     pub fn send_owned(&mut self, reference: Ref, tsdu: Vec<u8>) -> Result<(), SendError>
         ensures ok { OnOk result (self.new ≡ record self.old { state = sent reference.0 tsdu.items self.old.state }) }
         ensures allowed { OnOk result (send_error tsdu.items (open_link reference.0 self.old.state) ≡ None) }
         ensures refused { IfErr result (λ e. call_error e ≡ send_error tsdu.items (open_link reference.0 self.old.state)) }
         ensures err { OnErr result (self.new ≡ self.old) }
+        ensures kept { WaitsOn (open_link reference.0 self.old.state) tsdu.items → result ≢ Err SendError.OutOfMemory }
     {
         self.switch.send(reference.0, CowSlice::Owned(tsdu))
     }

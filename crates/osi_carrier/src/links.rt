@@ -1,15 +1,16 @@
 //! The links of open connections: units that come for them, and units that they give.
 
-ghost use Rattle.std.specs.Prelude.{◌≡◌, ◌<◌, ◌≤◌, ◌++◌, None, true, false, take, length, IsOk, IfOk, OnOk, OnErr};
-ghost use Rattle.std.specs.Cow.{cow_slice_items};
+ghost use Rattle.std.specs.Prelude.{◌≡◌, ◌<◌, ◌≤◌, ◌++◌, [], None, true, false, nat_lt, take, length, IsOk, IfOk, OnOk, OnErr};
+ghost use Rattle.std.specs.Cow.{cow_slice_items, IsOwnedSlice};
 ghost use Rattle.osi_tpdu.specs.View.{value};
 ghost use Rattle.osi_class.specs.AnyLink.{any_standing};
 ghost use Rattle.osi_class.specs.Giving.{all_given, octets_in};
 ghost use Rattle.osi_class.specs.Link.{taken, next, with_tsdu};
+ghost use Rattle.osi_carrier.specs.Calls.{WaitsAlone};
 ghost use Rattle.osi_carrier.specs.Pump.{pumped, written_by};
 ghost use Rattle.osi_carrier.specs.React.{handed_out};
 ghost use Rattle.osi_carrier.specs.State.{packets};
-ghost use Rattle.osi_carrier.specs.Steps.{StepsTo, link_after, units_after};
+ghost use Rattle.osi_carrier.specs.Steps.{StepsTo, link_after, units_after, link_grows};
 
 use crate::writing::put_given;
 use bytes::BytesMut;
@@ -35,13 +36,14 @@ pub enum Step {
 }
 
 /// Writes all units that a link gives now, to this reference of the peer. Want of memory leaves the
-/// octets of `out` as they were.
+/// octets of `out` as they were, and comes only where the link gives a unit.
 #[inline(always)]
 pub fn pump(link: &mut AnyLink, peer: u16, out: &mut BytesMut) -> Result<(), AllocError>
     ensures link { OnOk result (any_standing link.new ≡ pumped (any_standing link.old)) }
     ensures ok { OnOk result (out.new.items ≡ out.old.items ++ packets (written_by peer (any_standing link.old))) }
     ensures pumped { OnOk result (next (any_standing link.new) ≡ None) }
     ensures err { OnErr result (out.new.items ≡ out.old.items) }
+    ensures needs { OnErr result (nat_lt 0 (length (written_by peer (any_standing link.old))) ≡ true) }
 {
     let before = out.len();
     let Ok(()) = write_all(link, peer, out) else {
@@ -69,7 +71,7 @@ fn write_all(link: &mut AnyLink, peer: u16, out: &mut BytesMut) -> Result<(), Al
 }
 
 /// Hands a unit to the link, and what the link gives then to `out`. Want of memory leaves the octets
-/// of `out` as they were.
+/// of `out` as they were, and comes only where something is to be written, told or kept.
 #[inline(always)]
 pub fn take_unit(
     link: &mut AnyLink,
@@ -82,6 +84,7 @@ pub fn take_unit(
     ensures ok { OnOk result (out.new.items ≡ out.old.items ++ packets (units_after peer (taken (any_standing link.old) (value unit.now)))) }
     ensures pumped { next (any_standing link.old) ≡ None → OnOk result (next (any_standing link.new) ≡ None) }
     ensures err { OnErr result (out.new.items ≡ out.old.items) }
+    ensures needs { OnErr result (link_grows peer (any_standing link.old) (taken (any_standing link.old) (value unit.now)) ≡ true) }
 {
     match link.take(unit) {
         Ok(()) => {}
@@ -95,7 +98,8 @@ pub fn take_unit(
 
 /// Hands in a TSDU at a link that gives nothing now, and writes all units that it gives then. Where
 /// all of it goes now, its octets are copied straight into these units; else the link keeps it, and copies
-/// it only where it was borrowed. Want of memory changes nothing: the room for the units is made first.
+/// it only where it was borrowed. Want of memory changes nothing: the room for the units is made first. An
+/// owned TSDU that waits alone needs none.
 #[inline(always)]
 pub fn send_on(
     link: &mut AnyLink,
@@ -108,6 +112,7 @@ pub fn send_on(
     ensures ok { OnOk result (out.new.items ≡ out.old.items ++ packets (written_by peer (with_tsdu (any_standing link.old) (cow_slice_items tsdu.entry)))) }
     ensures pumped { OnOk result (next (any_standing link.new) ≡ None) }
     ensures err { OnErr result ((any_standing link.new ≡ any_standing link.old) × (out.new.items ≡ out.old.items)) }
+    ensures kept { IsOwnedSlice tsdu.entry → WaitsAlone (any_standing link.old) (cow_slice_items tsdu.entry) → IsOk result }
 {
     if send_whole(link, peer, tsdu.as_slice(), out) {
         return Ok(());
@@ -148,6 +153,7 @@ fn send_whole(link: &mut AnyLink, peer: u16, tsdu: &[u8], out: &mut BytesMut) ->
 fn keep(link: &mut AnyLink, tsdu: CowSlice<'_, u8, Global>) -> Result<(), AllocError>
     ensures ok { OnOk result (any_standing link.new ≡ with_tsdu (any_standing link.old) (cow_slice_items tsdu.entry)) }
     ensures err { OnErr result (link.new ≡ link.old) }
+    ensures alone { IsOwnedSlice tsdu.entry → (any_standing link.old).ends.unsent ≡ [] → IsOk result }
 {
     match tsdu {
         CowSlice::Borrowed(octets) => link.send_tsdu(octets),
@@ -168,7 +174,9 @@ fn send_parts(
     ensures ok { OnOk result (out.new.items ≡ out.old.items ++ packets (written_by peer (with_tsdu (any_standing link.old) (cow_slice_items tsdu.entry)))) }
     ensures pumped { OnOk result (next (any_standing link.new) ≡ None) }
     ensures err { OnErr result ((any_standing link.new ≡ any_standing link.old) × (out.new.items ≡ out.old.items)) }
+    ensures kept { IsOwnedSlice tsdu.entry → WaitsAlone (any_standing link.old) (cow_slice_items tsdu.entry) → IsOk result }
 {
+    all_is_given();
     let octets = tsdu.as_slice();
     let room = link.room_for(octets);
     out.reserve(room.octets + MOST_HEADERS * room.units)?;

@@ -1,6 +1,6 @@
-ghost use Rattle.std.specs.Prelude.{◌≡◌, ◌*◌, ◌<◌, ◌≤◌, ◌∷◌, ◌++◌, ◌==◌, [], Some, true, length, is_some, IfOk, IfSome, OnOk, OnErr};
-ghost use Rattle.std.specs.Cow.{cow_slice_items};
-ghost use Rattle.osi_carrier.specs.Calls.{begun_by, kept_in};
+ghost use Rattle.std.specs.Prelude.{◌≡◌, ◌*◌, ◌<◌, ◌≤◌, ◌∷◌, ◌++◌, ◌==◌, [], Some, true, length, is_some, IsOk, IfOk, IfSome, OnOk, OnErr};
+ghost use Rattle.std.specs.Cow.{cow_slice_items, IsOwnedSlice};
+ghost use Rattle.osi_carrier.specs.Calls.{begun_by, kept_in, WaitsAlone};
 ghost use Rattle.osi_carrier.specs.Live.{connection, IsPumped};
 ghost use Rattle.osi_carrier.specs.Orderly.{RiseFrom};
 ghost use Rattle.osi_carrier.specs.Pump.{pumped, written_by};
@@ -8,7 +8,7 @@ ghost use Rattle.osi_carrier.specs.React.{has_peer, is_of_peer};
 ghost use Rattle.osi_carrier.specs.Rows.{value_at, first_of, place_of, put, without};
 ghost use Rattle.osi_carrier.specs.Stages.{stage_of, link_in};
 ghost use Rattle.osi_carrier.specs.State.{Connection, linked, packets};
-ghost use Rattle.osi_carrier.specs.Steps.{StepsTo, link_after, units_after};
+ghost use Rattle.osi_carrier.specs.Steps.{StepsTo, link_after, units_after, link_grows};
 ghost use Rattle.osi_class.specs.Link.{taken, with_tsdu};
 ghost use Rattle.osi_tpdu.specs.View.{value};
 
@@ -111,6 +111,7 @@ impl Row {
         ensures row { OnOk result (self.new ≡ (self.old.0, linked peer (link_after (link_in (Some self.old.1)) (taken (link_in (Some self.old.1)) (value unit.now))))) }
         ensures ok { OnOk result (out.new.items ≡ out.old.items ++ packets (units_after peer (taken (link_in (Some self.old.1)) (value unit.now)))) }
         ensures err { OnErr result (out.new.items ≡ out.old.items) }
+        ensures needs { OnErr result (link_grows peer (link_in (Some self.old.1)) (taken (link_in (Some self.old.1)) (value unit.now)) ≡ true) }
     {
         let result = match &mut self.phase {
             Phase::Asked | Phase::Closing(_) => unreachable!(),
@@ -136,6 +137,7 @@ impl Row {
         ensures row { OnOk result (self.new ≡ (self.old.0, linked peer (pumped (with_tsdu (link_in (Some self.old.1)) (cow_slice_items tsdu.entry))))) }
         ensures ok { OnOk result (out.new.items ≡ out.old.items ++ packets (written_by peer (with_tsdu (link_in (Some self.old.1)) (cow_slice_items tsdu.entry)))) }
         ensures err { OnErr result ((self.new ≡ self.old) × (out.new.items ≡ out.old.items)) }
+        ensures kept { IsOwnedSlice tsdu.entry → WaitsAlone (link_in (Some self.old.1)) (cow_slice_items tsdu.entry) → IsOk result }
     {
         match &mut self.phase {
             Phase::Asked | Phase::Closing(_) => unreachable!(),
@@ -343,6 +345,7 @@ impl Connections {
         ensures rows { OnOk result (self.new ≡ put reference (linked peer (link_after (link_in (value_at reference self.old)) (taken (link_in (value_at reference self.old)) (value unit.now)))) self.old) }
         ensures ok { OnOk result (out.new.items ≡ out.old.items ++ packets (units_after peer (taken (link_in (value_at reference self.old)) (value unit.now)))) }
         ensures err { OnErr result (out.new.items ≡ out.old.items) }
+        ensures needs { OnErr result (link_grows peer (link_in (value_at reference self.old)) (taken (link_in (value_at reference self.old)) (value unit.now)) ≡ true) }
     {
         self.rows[place].step(peer, unit, out)
     }
@@ -362,6 +365,7 @@ impl Connections {
         ensures rows { OnOk result (self.new ≡ put reference (linked peer (pumped (with_tsdu (link_in (value_at reference self.old)) (cow_slice_items tsdu.entry)))) self.old) }
         ensures ok { OnOk result (out.new.items ≡ out.old.items ++ packets (written_by peer (with_tsdu (link_in (value_at reference self.old)) (cow_slice_items tsdu.entry)))) }
         ensures err { OnErr result ((self.new ≡ self.old) × (out.new.items ≡ out.old.items)) }
+        ensures kept { IsOwnedSlice tsdu.entry → WaitsAlone (link_in (value_at reference self.old)) (cow_slice_items tsdu.entry) → IsOk result }
     {
         self.rows[place].send(peer, tsdu, out)
     }

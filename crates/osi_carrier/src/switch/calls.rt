@@ -1,8 +1,8 @@
 //! Closing connections, the end, and what waits to be taken.
 
-ghost use Rattle.std.specs.Prelude.{◌≡◌, ◌≤◌, ◌*◌, drop, length, IfErr, None, Some, OnOk, OnErr, option_map, is_some};
-ghost use Rattle.std.specs.Cow.{cow_slice_items};
-ghost use Rattle.osi_carrier.specs.Calls.{open_link, close_error, send_error, length_error, call_error, closed_with, closes, sent, ended_by, kept_in, Tells};
+ghost use Rattle.std.specs.Prelude.{◌≡◌, ◌≢◌, ◌≤◌, ◌*◌, drop, length, Err, IfErr, None, Some, OnOk, OnErr, option_map, is_some};
+ghost use Rattle.std.specs.Cow.{cow_slice_items, IsOwnedSlice};
+ghost use Rattle.osi_carrier.specs.Calls.{open_link, close_error, send_error, length_error, call_error, closed_with, closes, sent, ended_by, kept_in, Tells, WaitsAlone, WaitsOn};
 ghost use Rattle.osi_carrier.specs.Happenings.{happening};
 ghost use Rattle.osi_carrier.specs.Packets.{stops, waits, is_spoilt};
 ghost use Rattle.osi_carrier.specs.React.{pumps};
@@ -173,6 +173,7 @@ impl Switch {
         ensures allowed { OnOk result (send_error (cow_slice_items tsdu.entry) (open_link reference self.old) ≡ None) }
         ensures refused { IfErr result (λ e. call_error e ≡ send_error (cow_slice_items tsdu.entry) (open_link reference self.old)) }
         ensures err { OnErr result (self.new ≡ self.old) }
+        ensures kept { IsOwnedSlice tsdu.entry → WaitsOn (open_link reference self.old) (cow_slice_items tsdu.entry) → result ≢ Err SendError.OutOfMemory }
     {
         if self.ended.is_some() {
             return Err(SendError::NotOpen);
@@ -199,6 +200,7 @@ impl Switch {
         ensures allowed { OnOk result (length_error (cow_slice_items tsdu.entry) ≡ None) }
         ensures refused { IfErr result (λ e. call_error e ≡ length_error (cow_slice_items tsdu.entry)) }
         ensures err { OnErr result (self.new ≡ self.old) }
+        ensures kept { IsOwnedSlice tsdu.entry → WaitsAlone (link_in (value_at reference self.old.live)) (cow_slice_items tsdu.entry) → result ≢ Err SendError.OutOfMemory }
     {
         if tsdu.len() > LONGEST_TSDU {
             return Err(SendError::TooLong);

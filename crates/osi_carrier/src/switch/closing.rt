@@ -1,9 +1,10 @@
 //! Units for a reference that is not live, and for connections that await an answer or are closing
 //! (X.224 sections 6.6 to 6.8).
 
-ghost use Rattle.std.specs.Prelude.{◌≡◌, Some, OnOk, OnErr};
+ghost use Rattle.std.specs.Prelude.{◌≡◌, Some, true, OnOk, OnErr};
 ghost use Rattle.osi_tpdu.specs.View.{value};
 ghost use Rattle.osi_carrier.specs.Happenings.{happening, refused};
+ghost use Rattle.osi_carrier.specs.Growth.{grows};
 ghost use Rattle.osi_carrier.specs.React.{to_unknown, to_closing};
 ghost use Rattle.osi_carrier.specs.Rows.{place_of};
 ghost use Rattle.osi_carrier.specs.State.{ends, drops, tells};
@@ -22,6 +23,7 @@ impl Switch {
     pub fn to_unknown(&mut self, unit: &Tpdu<'_>) -> Result<(), AllocError>
         ensures ok { OnOk result (self.new ≡ to_unknown (value unit.now) self.old) }
         ensures err { OnErr result (ends NoMemory self.new ≡ ends NoMemory self.old) }
+        ensures needs { OnErr result (grows self.old (to_unknown (value unit.now) self.old) ≡ true) }
     {
         match unit {
             Tpdu::Dr(request) => {
@@ -56,6 +58,7 @@ impl Switch {
         requires { place_of reference self.old.live ≡ Some place }
         ensures ok { OnOk result (self.new ≡ tells (happening event) (drops reference self.old)) }
         ensures err { OnErr result (ends NoMemory self.new ≡ ends NoMemory self.old) }
+        ensures needs { OnErr result (grows self.old (tells (happening event) (drops reference self.old)) ≡ true) }
     {
         self.events.reserve(1)?;
         self.events.push_back_reserved(event);
@@ -68,6 +71,7 @@ impl Switch {
         requires { place_of reference self.old.live ≡ Some place }
         ensures ok { OnOk result (self.new ≡ tells (refused reference reason) (drops reference self.old)) }
         ensures err { OnErr result (ends NoMemory self.new ≡ ends NoMemory self.old) }
+        ensures needs { OnErr result (grows self.old (tells (refused reference reason) (drops reference self.old)) ≡ true) }
     {
         self.drop_telling(place, reference, Event::Refused(Ref(reference), reason))
     }

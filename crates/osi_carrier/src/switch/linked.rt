@@ -1,8 +1,9 @@
 //! Units for open connections (X.224 sections 6.7 and 6.22).
 
-ghost use Rattle.std.specs.Prelude.{◌≡◌, Some, OnOk, OnErr};
+ghost use Rattle.std.specs.Prelude.{◌≡◌, Some, true, OnOk, OnErr};
 ghost use Rattle.osi_tpdu.specs.View.{value};
 ghost use Rattle.osi_class.specs.Link.{taken};
+ghost use Rattle.osi_carrier.specs.Growth.{grows};
 ghost use Rattle.osi_carrier.specs.React.{breaks, leaves, taking, to_linked};
 ghost use Rattle.osi_carrier.specs.Rows.{place_of, value_at};
 ghost use Rattle.osi_carrier.specs.Stages.{stage_of, link_in};
@@ -36,6 +37,7 @@ impl Switch {
         requires open { stage_of (value_at reference self.old.live) ≡ Stage.Open peer }
         ensures ok { OnOk result (self.new ≡ to_linked reference peer (link_in (value_at reference self.old.live)) (value unit.now) self.old) }
         ensures err { OnErr result (ends NoMemory self.new ≡ ends NoMemory self.old) }
+        ensures needs { OnErr result (grows self.old (to_linked reference peer (link_in (value_at reference self.old.live)) (value unit.now) self.old) ≡ true) }
     {
         match unit {
             Tpdu::Dr(request) => self.leave(place, reference, peer, request.reason),
@@ -49,7 +51,7 @@ impl Switch {
         }
     }
 
-    /// The link takes the unit or refuses it.
+    /// The link takes the unit or refuses it. Room for an event is made only where there is one.
     #[inline(always)]
     pub fn take(
         &mut self,
@@ -62,14 +64,19 @@ impl Switch {
         requires open { stage_of (value_at reference self.old.live) ≡ Stage.Open peer }
         ensures ok { OnOk result (self.new ≡ taking reference peer (taken (link_in (value_at reference self.old.live)) (value unit.now)) self.old) }
         ensures err { OnErr result (ends NoMemory self.new ≡ ends NoMemory self.old) }
+        ensures needs { OnErr result (grows self.old (taking reference peer (taken (link_in (value_at reference self.old.live)) (value unit.now)) self.old) ≡ true) }
     {
-        self.events.reserve(1)?;
+        let before = self.outgoing.len();
         match self
             .live
             .step(place, reference, peer, unit, &mut self.outgoing)?
         {
             Step::Took(None) => Ok(()),
             Step::Took(Some(whole)) => {
+                let Ok(()) = self.events.reserve(1) else {
+                    self.outgoing.truncate(before);
+                    return Err(AllocError);
+                };
                 self.events
                     .push_back_reserved(Event::Tsdu(Ref(reference), whole));
                 Ok(())
@@ -90,10 +97,11 @@ impl Switch {
         requires { place_of reference self.old.live ≡ Some place }
         ensures ok { OnOk result (self.new ≡ breaks reference peer fault self.old.class self.old) }
         ensures err { OnErr result (ends NoMemory self.new ≡ ends NoMemory self.old) }
+        ensures needs { OnErr result (grows self.old (breaks reference peer fault self.old.class self.old) ≡ true) }
     {
-        self.events.reserve(1)?;
         match self.class {
             Some(Class::Two) => {
+                self.events.reserve(1)?;
                 put_disconnect(&mut self.outgoing, peer, reference, PROTOCOL_ERROR)?;
                 self.events
                     .push_back_reserved(Event::Faulted(Ref(reference), fault));
@@ -116,6 +124,7 @@ impl Switch {
         requires { place_of reference self.old.live ≡ Some place }
         ensures ok { OnOk result (self.new ≡ leaves reference peer reason self.old.class self.old) }
         ensures err { OnErr result (ends NoMemory self.new ≡ ends NoMemory self.old) }
+        ensures needs { OnErr result (grows self.old (leaves reference peer reason self.old.class self.old) ≡ true) }
     {
         self.events.reserve(1)?;
         match self.class {

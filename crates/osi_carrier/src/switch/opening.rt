@@ -1,10 +1,11 @@
 //! Connections that this end asks for, and those that the peer asks for (X.224 section 6.5).
 
-ghost use Rattle.std.specs.Prelude.{◌≡◌, ◌+◌, ◌<◌, None, Some, MatchResult, IfOk, IfErr, OnOk, OnErr, option_map, length};
+ghost use Rattle.std.specs.Prelude.{◌≡◌, ◌+◌, ◌<◌, None, Some, true, MatchResult, IfOk, IfErr, OnOk, OnErr, option_map, length};
 ghost use Rattle.osi_tpdu.specs.Limits.{tsap_octets, size_code};
 ghost use Rattle.osi_tpdu.specs.View.{request_content};
 ghost use Rattle.osi_class.specs.Negotiation.{selection};
 ghost use Rattle.osi_carrier.specs.Calls.{may_connect, open_error, asks};
+ghost use Rattle.osi_carrier.specs.Growth.{grows};
 ghost use Rattle.osi_carrier.specs.React.{answers_request, answers, accepts, denies};
 ghost use Rattle.osi_carrier.specs.State.{ends};
 ghost use Rattle.osi_carrier.specs.declared.ends.EndReason.TheVariants.{NoMemory};
@@ -96,6 +97,7 @@ impl Switch {
     pub fn answer_request(&mut self, request: &ConnectRequest<'_>) -> Result<(), AllocError>
         ensures ok { OnOk result (self.new ≡ answers_request (request_content request.now) self.old) }
         ensures err { OnErr result (ends NoMemory self.new ≡ ends NoMemory self.old) }
+        ensures needs { OnErr result (grows self.old (answers_request (request_content request.now) self.old) ≡ true) }
     {
         if self.live.has_peer(request.fields.source) {
             return self.deny(request.fields.source, DUPLICATE_REFERENCE);
@@ -117,6 +119,7 @@ impl Switch {
         requires given { self.old.given < 65535 }
         ensures ok { OnOk result (self.new ≡ answers (request_content request.now) (selection selected) self.old.class self.old) }
         ensures err { OnErr result (ends NoMemory self.new ≡ ends NoMemory self.old) }
+        ensures needs { OnErr result (grows self.old (answers (request_content request.now) (selection selected) self.old.class self.old) ≡ true) }
     {
         match selected {
             Answer::Disconnect(reason) => self.deny(request.fields.source, reason),
@@ -138,6 +141,7 @@ impl Switch {
     fn deny(&mut self, peer: u16, reason: u8) -> Result<(), AllocError>
         ensures ok { OnOk result (self.new ≡ denies reason peer self.old) }
         ensures err { OnErr result (ends NoMemory self.new ≡ ends NoMemory self.old) }
+        ensures needs { OnErr result (grows self.old (denies reason peer self.old) ≡ true) }
     {
         put_disconnect(&mut self.outgoing, peer, 0, reason)
     }
@@ -153,6 +157,7 @@ impl Switch {
         requires given { self.old.given < 65535 }
         ensures ok { OnOk result (self.new ≡ accepts class (option_map size_code size) (request_content request.now) self.old) }
         ensures err { OnErr result (ends NoMemory self.new ≡ ends NoMemory self.old) }
+        ensures needs { OnErr result (grows self.old (accepts class (option_map size_code size) (request_content request.now) self.old) ≡ true) }
     {
         let reference = self.given + 1;
         let link = opened_link(self.alloc, class, size, &self.local, request.fields.credit);

@@ -5,6 +5,7 @@ ghost use Rattle.std.specs.Prelude.{◌≡◌, Some, None, false, true, OnOk, On
 ghost use Rattle.osi_tpdu.specs.Value.{request};
 ghost use Rattle.osi_tpdu.specs.View.{value, confirm_content, request_content};
 ghost use Rattle.osi_carrier.specs.Negotiation.{confirmed};
+ghost use Rattle.osi_carrier.specs.Growth.{grows};
 ghost use Rattle.osi_carrier.specs.React.{opens, to_asked, to_reference, to_only, before_class, in_zero, in_two, in_class, answers_request};
 ghost use Rattle.osi_carrier.specs.Rows.{place_of, value_at};
 ghost use Rattle.osi_carrier.specs.State.{ends};
@@ -26,6 +27,7 @@ impl Switch {
         requires { place_of reference self.old.live ≡ Some place }
         ensures ok { OnOk result (self.new ≡ to_asked reference (value unit.now) self.old) }
         ensures err { OnErr result (ends NoMemory self.new ≡ ends NoMemory self.old) }
+        ensures needs { OnErr result (grows self.old (to_asked reference (value unit.now) self.old) ≡ true) }
     {
         match unit {
             Tpdu::Cc(answer) => self.open(place, reference, answer),
@@ -47,6 +49,7 @@ impl Switch {
         requires { place_of reference self.old.live ≡ Some place }
         ensures ok { OnOk result (self.new ≡ opens reference (confirm_content answer.now) (confirmed (confirm_content answer.now) self.old.local self.old.class) self.old) }
         ensures err { OnErr result (ends NoMemory self.new ≡ ends NoMemory self.old) }
+        ensures needs { OnErr result (grows self.old (opens reference (confirm_content answer.now) (confirmed (confirm_content answer.now) self.old.local self.old.class) self.old) ≡ true) }
     {
         match confirmed(answer, &self.local, self.class) {
             None => {
@@ -68,6 +71,7 @@ impl Switch {
         requires { place_of reference self.old.live ≡ Some place }
         ensures ok { OnOk result (self.new ≡ opens reference (confirm_content answer.now) (Some class) self.old) }
         ensures err { OnErr result (ends NoMemory self.new ≡ ends NoMemory self.old) }
+        ensures needs { OnErr result (grows self.old (opens reference (confirm_content answer.now) (Some class) self.old) ≡ true) }
     {
         self.events.reserve(1)?;
         let size = agreed_size(answer.fields.parameters.size, &self.local);
@@ -83,6 +87,7 @@ impl Switch {
     fn to_reference(&mut self, reference: u16, unit: &Tpdu<'_>) -> Result<(), AllocError>
         ensures ok { OnOk result (self.new ≡ to_reference reference (value unit.now) self.old) }
         ensures err { OnErr result (ends NoMemory self.new ≡ ends NoMemory self.old) }
+        ensures needs { OnErr result (grows self.old (to_reference reference (value unit.now) self.old) ≡ true) }
     {
         let Some(place) = self.live.find(reference) else {
             return self.to_unknown(unit);
@@ -102,6 +107,7 @@ impl Switch {
     fn before_class(&mut self, unit: &Tpdu<'_>) -> Result<(), AllocError>
         ensures ok { OnOk result (self.new ≡ before_class self.old.is_caller (value unit.now) self.old) }
         ensures err { OnErr result (ends NoMemory self.new ≡ ends NoMemory self.old) }
+        ensures needs { OnErr result (grows self.old (before_class self.old.is_caller (value unit.now) self.old) ≡ true) }
     {
         if self.is_caller {
             self.answered(unit)
@@ -114,6 +120,7 @@ impl Switch {
     fn answered(&mut self, unit: &Tpdu<'_>) -> Result<(), AllocError>
         ensures ok { OnOk result (self.new ≡ before_class true (value unit.now) self.old) }
         ensures err { OnErr result (ends NoMemory self.new ≡ ends NoMemory self.old) }
+        ensures needs { OnErr result (grows self.old (before_class true (value unit.now) self.old) ≡ true) }
     {
         match unit {
             Tpdu::Cc(answer) => self.to_reference(answer.destination, unit),
@@ -130,6 +137,7 @@ impl Switch {
     fn asked(&mut self, unit: &Tpdu<'_>) -> Result<(), AllocError>
         ensures ok { OnOk result (self.new ≡ before_class false (value unit.now) self.old) }
         ensures err { OnErr result (ends NoMemory self.new ≡ ends NoMemory self.old) }
+        ensures needs { OnErr result (grows self.old (before_class false (value unit.now) self.old) ≡ true) }
     {
         match unit {
             Tpdu::Cr(request) => self.answer_request(request),
@@ -150,6 +158,7 @@ impl Switch {
     fn in_zero(&mut self, unit: &Tpdu<'_>) -> Result<(), AllocError>
         ensures ok { OnOk result (self.new ≡ in_zero self.old.is_caller (value unit.now) self.old) }
         ensures err { OnErr result (ends NoMemory self.new ≡ ends NoMemory self.old) }
+        ensures needs { OnErr result (grows self.old (in_zero self.old.is_caller (value unit.now) self.old) ≡ true) }
     {
         if self.is_caller
             && let Tpdu::Cr(_) = unit
@@ -164,6 +173,7 @@ impl Switch {
     fn to_only(&mut self, unit: &Tpdu<'_>) -> Result<(), AllocError>
         ensures ok { OnOk result (self.new ≡ to_only self.old.live (value unit.now) self.old) }
         ensures err { OnErr result (ends NoMemory self.new ≡ ends NoMemory self.old) }
+        ensures needs { OnErr result (grows self.old (to_only self.old.live (value unit.now) self.old) ≡ true) }
     {
         let Some(reference) = self.live.first() else {
             return Ok(());
@@ -175,6 +185,7 @@ impl Switch {
     fn in_two(&mut self, unit: &Tpdu<'_>) -> Result<(), AllocError>
         ensures ok { OnOk result (self.new ≡ in_two self.old.is_caller (value unit.now) self.old) }
         ensures err { OnErr result (ends NoMemory self.new ≡ ends NoMemory self.old) }
+        ensures needs { OnErr result (grows self.old (in_two self.old.is_caller (value unit.now) self.old) ≡ true) }
     {
         match unit {
             Tpdu::Cr(request) => self.asked_in_two(request),
@@ -195,6 +206,7 @@ impl Switch {
     fn asked_in_two(&mut self, cr: &ConnectRequest<'_>) -> Result<(), AllocError>
         ensures ok { OnOk result (self.new ≡ in_two self.old.is_caller (request (request_content cr.now)) self.old) }
         ensures err { OnErr result (ends NoMemory self.new ≡ ends NoMemory self.old) }
+        ensures needs { OnErr result (grows self.old (in_two self.old.is_caller (request (request_content cr.now)) self.old) ≡ true) }
     {
         if self.is_caller {
             self.fail(CarrierFault::UnexpectedUnit);
@@ -207,6 +219,7 @@ impl Switch {
     pub fn react(&mut self, unit: &Tpdu<'_>) -> Result<(), AllocError>
         ensures ok { OnOk result (self.new ≡ in_class self.old.class (value unit.now) self.old) }
         ensures err { OnErr result (ends NoMemory self.new ≡ ends NoMemory self.old) }
+        ensures needs { OnErr result (grows self.old (in_class self.old.class (value unit.now) self.old) ≡ true) }
     {
         match self.class {
             None => self.before_class(unit),

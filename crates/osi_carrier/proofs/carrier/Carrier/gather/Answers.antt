@@ -3,7 +3,7 @@ use Rattle.osi_tpkt.specs.Held.{Held}
 use Rattle.osi_carrier.specs.Fetching.{EndsOver, PacketActs}
 use Rattle.osi_carrier.specs.Packets.{Carrying}
 use Rattle.osi_carrier.specs.contracts.carrier.Carrier.{the_view}
-use Rattle.osi_carrier.proofs.Fetched.{ended_over, fetched_packet}
+use Rattle.osi_carrier.proofs.Fetched.{ended_over, fetched_packet, same_fault}
 use Rattle.osi_carrier.proofs.carrier.Carrier.gather.Goals as goal
 
 pub returns-in-Err : goal.returns-in-Err
@@ -11,7 +11,8 @@ returns-in-Err c =
     let new = the_view (record c.self.inside { switch = c.end_for.new.self; cutter = c.new.result }) in
     subst (λ (x : Carrying). EndsOver x c.args.octets.now new) c.self.view_is
     (ended_over (the_view c.self.inside) new c.args.octets.now c.in-Err.fault c.feed.new.self
-    (c.in-Err.ensures.taken c.self.invariant.fault c.self.invariant.partial) c.end_for.ensures (ap (λ (h : Held). h.octets) c.new.ensures.value))
+    (c.in-Err.ensures.taken c.self.invariant.fault c.self.invariant.partial)
+    (λ f is. same_fault f c.in-Err.fault (c.in-Err.ensures.refused c.self.invariant.fault c.self.invariant.partial f is)) c.end_for.ensures (ap (λ (h : Held). h.octets) c.new.ensures.value))
 
 pub returns : goal.returns
 returns c =

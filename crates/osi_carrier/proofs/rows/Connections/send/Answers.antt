@@ -1,6 +1,7 @@
-use Rattle.std.proofs.Common.{◌≡◌, ◌++◌, Option, OnOk, get_or, ap, sym, subst, ◌∙◌}
-use Rattle.std.specs.Cow.{cow_slice_items}
+use Rattle.std.proofs.Common.{◌≡◌, ◌++◌, Option, IsOk, OnOk, get_or, ap, sym, subst, ◌∙◌}
+use Rattle.std.specs.Cow.{cow_slice_items, IsOwnedSlice}
 use Rattle.osi_class.specs.Link.{with_tsdu}
+use Rattle.osi_carrier.specs.Calls.{WaitsAlone}
 use Rattle.osi_carrier.specs.Pump.{pumped, written_by}
 use Rattle.osi_carrier.specs.Rows.{value_at}
 use Rattle.osi_carrier.specs.Stages.{stage_of, link_in}
@@ -36,3 +37,10 @@ pub invariant_of-self : goal.invariant_of-self
 invariant_of-self c =
     set_kept c.self.inside.rises c.self.inside.rows.items c.args.place c.index_mut.result.now c.send.new.self c.index_mut.ensures.value c.send.ensures.reference
     c.self.invariant
+
+pub returns-clause-kept : goal.returns-clause-kept
+returns-clause-kept c =
+    let row = c.index_mut.result.now in
+    let here = c.index_mut.ensures.value ∙ ap (λ l. get_or l c.args.place row) c.self.view_is in
+    subst (λ (o : Option Connection). IsOwnedSlice c.args.tsdu → WaitsAlone (link_in o) (cow_slice_items c.args.tsdu) → IsOk c.send.result)
+    (sym (here_is c.args.reference c.args.self.now c.args.place row c.requires.place here)) c.send.ensures.kept

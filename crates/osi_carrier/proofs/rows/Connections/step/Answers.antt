@@ -1,9 +1,9 @@
-use Rattle.std.proofs.Common.{◌≡◌, ◌++◌, Option, IfOk, OnOk, get_or, ap, sym, subst, ◌∙◌}
+use Rattle.std.proofs.Common.{◌≡◌, ◌++◌, true, Option, IfOk, OnOk, OnErr, get_or, ap, sym, subst, ◌∙◌}
 use Rattle.osi_tpdu.specs.View.{value}
 use Rattle.osi_class.specs.Link.{taken}
 use Rattle.osi_carrier.specs.Stages.{stage_of, link_in}
 use Rattle.osi_carrier.specs.State.{Connection, linked, packets}
-use Rattle.osi_carrier.specs.Steps.{StepsTo, link_after, units_after}
+use Rattle.osi_carrier.specs.Steps.{StepsTo, link_after, link_grows, units_after}
 use Rattle.osi_carrier.specs.Rows.{value_at}
 use Rattle.osi_carrier.proofs.Places.{here_is, stepped_rows}
 use Rattle.osi_carrier.proofs.Order.{set_kept}
@@ -43,3 +43,10 @@ pub invariant_of-self : goal.invariant_of-self
 invariant_of-self c =
     set_kept c.self.inside.rises c.self.inside.rows.items c.args.place c.index_mut.result.now c.step.new.self c.index_mut.ensures.value c.step.ensures.reference
     c.self.invariant
+
+pub returns-clause-needs : goal.returns-clause-needs
+returns-clause-needs c =
+    let row = c.index_mut.result.now in
+    let here = c.index_mut.ensures.value ∙ ap (λ l. get_or l c.args.place row) c.self.view_is in
+    subst (λ (o : Option Connection). OnErr c.step.result (link_grows c.args.peer (link_in o) (taken (link_in o) (value c.args.unit.now)) ≡ true))
+    (sym (here_is c.args.reference c.args.self.now c.args.place row c.requires.place here)) c.step.ensures.needs

@@ -1,7 +1,8 @@
-use Rattle.std.proofs.Common.{◌≡◌, ◌++◌, ◌∷◌, [], Some, map, subst}
+use Rattle.std.proofs.Common.{◌≡◌, ◌++◌, ◌∷◌, [], Some, true, map, subst}
 use Rattle.std.proofs.Common.{rules}
 use Rattle.osi_class.specs.declared.terms.Class.TheVariants.{Two}
 use Rattle.osi_tpdu.specs.Value.{disconnect}
+use Rattle.osi_carrier.specs.Growth.{grows}
 use Rattle.osi_carrier.specs.Happenings.{happening, faulted}
 use Rattle.osi_carrier.specs.React.{breaks}
 use Rattle.osi_carrier.specs.Rows.{put}
@@ -9,6 +10,7 @@ use Rattle.osi_carrier.specs.State.{State, closing, packets}
 use Rattle.osi_carrier.specs.contracts.switch.Switch.{the_view}
 use Rattle.osi_carrier.specs.declared.events.Event.TheVariants.{Faulted}
 use Rattle.osi_carrier.proofs.Breaking.{changed, told, breaks_two}
+use Rattle.osi_carrier.proofs.Growing.{breaks_grows, on_want}
 use Rattle.osi_carrier.proofs.switch.Switch.break_off.Goals as goal
 
 pub returns-in_ok-put_disconnect-in-Some-Two-clause-ok : goal.returns-in_ok-put_disconnect-in-Some-Two-clause-ok
@@ -23,3 +25,18 @@ returns-in_ok-put_disconnect-in-Some-Two-clause-ok c =
     (map happening c.push_back_reserved.new.self.items) (s.events ++ faulted c.args.reference fault ∷ [])
     c.set.ensures c.in_ok-put_disconnect-in-Some-Two.ensures.ok
     (told (Faulted (record { 0 = c.args.reference }) fault) c.self.inside.events.items c.reserve.new.self.items c.push_back_reserved.new.self.items c.reserve.ensures.items c.push_back_reserved.ensures.items)))
+
+pub returns-in_err-reserve-in-Some-Two-clause-needs : goal.returns-in_err-reserve-in-Some-Two-clause-needs
+returns-in_err-reserve-in-Some-Two-clause-needs c =
+    let s = the_view c.self.inside in
+    let class : c.self.inside.class ≡ Some Two = search rules in
+    on_want c.from_residual.result (subst (λ (x : State). grows x (breaks c.args.reference c.args.peer c.args.fault x.class x) ≡ true) c.self.view_is
+    (breaks_grows c.args.reference c.args.peer c.args.fault s.class s class))
+
+pub returns-in_err-put_disconnect-in-Some-Two-clause-needs : goal.returns-in_err-put_disconnect-in-Some-Two-clause-needs
+returns-in_err-put_disconnect-in-Some-Two-clause-needs c =
+    let s = the_view c.self.inside in
+    let class : c.self.inside.class ≡ Some Two = search rules in
+    on_want c.from_residual-in_err-put_disconnect-in-Some-Two.result
+    (subst (λ (x : State). grows x (breaks c.args.reference c.args.peer c.args.fault x.class x) ≡ true) c.self.view_is
+    (breaks_grows c.args.reference c.args.peer c.args.fault s.class s class))

@@ -1,7 +1,7 @@
-use Rattle.std.proofs.Common.{◌≡◌, OnOk, map, ap, subst, ◌∙◌}
+use Rattle.std.proofs.Common.{◌≡◌, true, OnOk, OnErr, refl, ap, subst, ◌∙◌}
 use Rattle.osi_tpdu.specs.View.{value}
 use Rattle.osi_class.specs.Link.{taken}
-use Rattle.osi_carrier.specs.Happenings.{happening}
+use Rattle.osi_carrier.specs.Growth.{grows}
 use Rattle.osi_carrier.specs.React.{taking}
 use Rattle.osi_carrier.specs.Rows.{value_at, place_of}
 use Rattle.osi_carrier.specs.Stages.{link_in, stage_of}
@@ -9,7 +9,9 @@ use Rattle.osi_carrier.specs.State.{State}
 use Rattle.osi_carrier.specs.Steps.{StepsTo}
 use Rattle.osi_carrier.specs.contracts.switch.Switch.{the_view}
 use Rattle.osi_carrier.specs.declared.links.Step.{Step}
+use Rattle.osi_carrier.specs.declared.links.Step.TheVariants.{Took}
 use Rattle.osi_carrier.proofs.Breaking.{broke_rows, broke_octets, broke_taking, changed}
+use Rattle.osi_carrier.proofs.Growing.{taking_grows, took_grows, broke_grows, on_want}
 use Rattle.osi_carrier.proofs.switch.Switch.take.Goals as goal
 
 pub break_off-requires : goal.break_off-requires
@@ -30,8 +32,40 @@ returns-in-Broke-clause-ok c =
     let stage = ap (λ (x : State). stage_of (value_at c.args.reference x.live)) c.self.view_is ∙ c.requires.open in
     let rows = broke_rows c.args.reference c.args.peer live c.step.new.self t c.in-Broke.fault fault stage c.in_ok-step.ensures.rows in
     let octets = broke_octets c.args.peer c.self.inside.outgoing.items c.step.new.out.items t c.in-Broke.fault fault c.in_ok-step.ensures.ok in
-    let same = changed s c.step.new.self live c.step.new.out.items s.outgoing (map happening c.reserve.new.self.items) s.events rows octets (ap (map happening) c.reserve.ensures.items) in
+    let same = changed s c.step.new.self live c.step.new.out.items s.outgoing s.events s.events rows octets refl in
     subst (λ (x : State). OnOk c.break_off.result (c.break_off.new.self ≡ taking c.args.reference c.args.peer (taken (link_in (value_at c.args.reference x.live)) (value c.args.unit.now)) x))
     c.self.view_is
-    (broke_taking c.break_off.result c.args.reference c.args.peer s (the_view (record c.self.inside { live = c.step.new.self; outgoing = c.step.new.out; events = c.reserve.new.self }))
+    (broke_taking c.break_off.result c.args.reference c.args.peer s (the_view (record c.self.inside { live = c.step.new.self; outgoing = c.step.new.out }))
     c.break_off.new.self t c.in-Broke.fault fault same c.break_off.ensures.ok)
+
+pub returns-in_err-step-clause-needs : goal.returns-in_err-step-clause-needs
+returns-in_err-step-clause-needs c =
+    let s = the_view c.self.inside in
+    let t = taken (link_in (value_at c.args.reference c.self.inside.live)) (value c.args.unit.now) in
+    let stage = ap (λ (x : State). stage_of (value_at c.args.reference x.live)) c.self.view_is ∙ c.requires.open in
+    on_want c.from_residual.result
+    (subst (λ (x : State). grows x (taking c.args.reference c.args.peer (taken (link_in (value_at c.args.reference x.live)) (value c.args.unit.now)) x) ≡ true) c.self.view_is
+    (taking_grows c.args.reference c.args.peer s t stage c.in_err-step.ensures.needs))
+
+pub returns-in_default-clause-needs : goal.returns-in_default-clause-needs
+returns-in_default-clause-needs c =
+    let s = the_view c.self.inside in
+    let t = taken (link_in (value_at c.args.reference c.self.inside.live)) (value c.args.unit.now) in
+    let took = subst (λ o. StepsTo (Took o) t) c.in-Took-Some.field-0-is (subst (λ (x : Step). StepsTo x t) c.in-Took-Some.is c.in_ok-step.ensures.step) in
+    subst (λ (x : State). grows x (taking c.args.reference c.args.peer (taken (link_in (value_at c.args.reference x.live)) (value c.args.unit.now)) x) ≡ true) c.self.view_is
+    (took_grows c.args.reference c.args.peer s t c.in-Took-Some.whole.items took.0 took.1)
+
+pub returns-in-Broke-clause-needs : goal.returns-in-Broke-clause-needs
+returns-in-Broke-clause-needs c =
+    let s = the_view c.self.inside in
+    let live = c.self.inside.live in
+    let t = taken (link_in (value_at c.args.reference live)) (value c.args.unit.now) in
+    let fault = subst (λ (x : Step). StepsTo x t) (c.in-Broke.is) c.in_ok-step.ensures.step in
+    let stage = ap (λ (x : State). stage_of (value_at c.args.reference x.live)) c.self.view_is ∙ c.requires.open in
+    let rows = broke_rows c.args.reference c.args.peer live c.step.new.self t c.in-Broke.fault fault stage c.in_ok-step.ensures.rows in
+    let octets = broke_octets c.args.peer c.self.inside.outgoing.items c.step.new.out.items t c.in-Broke.fault fault c.in_ok-step.ensures.ok in
+    let same = changed s c.step.new.self live c.step.new.out.items s.outgoing s.events s.events rows octets refl in
+    subst (λ (x : State). OnErr c.break_off.result (grows x (taking c.args.reference c.args.peer (taken (link_in (value_at c.args.reference x.live)) (value c.args.unit.now)) x) ≡ true))
+    c.self.view_is
+    (broke_grows c.break_off.result c.args.reference c.args.peer s (the_view (record c.self.inside { live = c.step.new.self; outgoing = c.step.new.out }))
+    t c.in-Broke.fault fault same c.break_off.ensures.needs)

@@ -1,0 +1,7 @@
+use Rattle.osi_carrier.specs.Happenings.{happening}
+use Rattle.osi_carrier.proofs.Growing.{tells_drops_grows, on_want}
+use Rattle.osi_carrier.proofs.switch.Switch.drop_telling.Goals as goal
+
+pub returns-in_err-reserve-clause-needs : goal.returns-in_err-reserve-clause-needs
+returns-in_err-reserve-clause-needs c =
+    on_want c.from_residual.result (tells_drops_grows (happening c.args.event) c.args.reference c.args.self.now)
