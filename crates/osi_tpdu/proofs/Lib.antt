@@ -1,4 +1,5 @@
 pub mod FaultLaws
+mod LeadCodes
 pub mod Loops
 pub mod PacketLaws
 pub mod UnitFaults

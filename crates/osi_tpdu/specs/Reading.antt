@@ -1,5 +1,5 @@
 -- Reading a unit from left to right, with the first fault that is met.
-use Rattle.std.specs.Prelude.{◌≡◌, ℕ, zero, suc, ◌+◌, ◌*◌, ◌/◌, ◌%◌, ◌||◌, ◌&&◌, not, List, [], ◌∷◌, length, take, drop, slice_index, Some, None, is_some, Result, Ok, Err, nat_lt, nat_le, ◌==◌, if◌then◌else◌}
+use Rattle.std.specs.Prelude.{◌≡◌, ℕ, zero, suc, Bool, ◌+◌, ◌*◌, ◌/◌, ◌%◌, ◌||◌, ◌&&◌, not, List, [], ◌∷◌, length, take, drop, slice_index, Some, None, is_some, Result, Ok, Err, nat_lt, nat_le, ◌==◌, if◌then◌else◌}
 use Rattle.osi_tpdu.specs.declared.faults.TpduFault.{TpduFault}
 use Rattle.osi_tpdu.specs.declared.faults.TpduFault.TheVariants.{BadLi, UnknownCode, BadParameterLength, BadParameterValue, DuplicateParameter}
 use Rattle.osi_tpdu.specs.Value.{Parameters, Connect, Value, request, confirm, disconnect, disconnected, data0, data2, acknowledge, error, may_be_followed}
@@ -160,6 +160,14 @@ value_of at header user =
     else if code == 0xF0 then transfer_of at header user
     else if code == 0x70 then error_of at header
     else Err (UnknownCode (at + 1))
+
+-- the code octets of AK, DC and ER, which another unit may follow
+unfoldable pub is_lead_code : ℕ → Bool
+is_lead_code code = (code / 16 == 0x6) || (code == 0xC0 || code == 0x70)
+
+-- how many of so many octets a unit with this header takes: AK, DC and ER their own, all others the rest
+abbrev pub used_by : List ℕ → ℕ → ℕ
+used_by header n = if is_lead_code (slice_index header 0) then 1 + length header else n
 
 -- the first unit of the octets, and how many of them spell it
 unfoldable pub unit_at : ℕ → List ℕ → Result (Value × ℕ) TpduFault

@@ -3,7 +3,7 @@
 ghost use Rattle.std.specs.Prelude.{◌≡◌, ◌+◌, ◌<◌, ◌^◌, true, length};
 ghost use Rattle.osi_tpdu.specs.Rest.{can_be_read};
 
-use crate::reading::read_unit;
+use crate::reading::{known_fields, read_front};
 use crate::unit::Tpdu;
 use std::iter::FusedIterator;
 
@@ -32,17 +32,20 @@ impl<'a> Iterator for Units<'a> {
     ghost remaining = { item_count units_left };
 
     /// The next unit, in the order of the packet.
+    #[inline(always)]
     fn next(&mut self) -> Option<Tpdu<'a>> {
         if self.rest.is_empty() {
             return None;
         }
-        let Ok((unit, used)) = read_unit(self.at, self.rest) else {
+        let (place, octets) = (self.at, self.rest);
+        let Ok((header, behind, used)) = read_front(place, octets) else {
             unreachable!()
         };
-        let (_, rest) = self.rest.split_at(used);
-        let at = self.at + used;
+        let (_, rest) = octets.split_at(used);
+        let at = place + used;
         *self = Units { at, rest };
-        Some(unit)
+        // The unit is made last, so that nothing but it is between its reader and the caller.
+        Some(known_fields(place, header, behind))
     }
 }
 

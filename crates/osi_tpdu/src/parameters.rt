@@ -21,6 +21,7 @@ pub(crate) const ADDITIONAL_OPTIONS: u8 = 0xC6;
 pub(crate) const ALTERNATIVE_CLASSES: u8 = 0xC7;
 
 // The parameter at the front: its code, its value, and the octets behind it.
+#[inline(always)]
 #[tactic(auto, unfolding(crate::specs::Reading::parameter_at))]
 fn read_parameter(at: usize, octets: &[u8]) -> Result<(u8, &[u8], &[u8]), TpduFault>
     requires { 1 ≤ length octets.now }
@@ -39,13 +40,10 @@ fn read_parameter(at: usize, octets: &[u8]) -> Result<(u8, &[u8], &[u8]), TpduFa
     Ok((octets[0], value, rest))
 }
 
+#[inline(always)]
 #[tactic(auto, unfolding(crate::specs::Reading::with_size))]
-fn add_size<'a>(
-    at: usize,
-    value: &[u8],
-    known: ConnectParameters<'a>,
-) -> Result<ConnectParameters<'a>, TpduFault>
-    ensures { ReadsAs parameter_values result (with_size at value.now (parameter_values known.entry)) }
+fn add_size<'a>(at: usize, value: &[u8], known: &mut ConnectParameters<'a>) -> Result<(), TpduFault>
+    ensures { ReadsAs (λ _. parameter_values known.new) result (with_size at value.now (parameter_values known.old)) }
 {
     if value.len() != 1 {
         return Err(TpduFault::BadParameterLength(at));
@@ -56,18 +54,18 @@ fn add_size<'a>(
     let Some(size) = SizeCode::new(value[0]) else {
         return Err(TpduFault::BadParameterValue(at));
     };
-    let mut known = known;
     known.size = Some(size);
-    Ok(known)
+    Ok(())
 }
 
+#[inline(always)]
 #[tactic(auto, unfolding(crate::specs::Reading::with_calling))]
 fn add_calling<'a>(
     at: usize,
     value: &'a [u8],
-    known: ConnectParameters<'a>,
-) -> Result<ConnectParameters<'a>, TpduFault>
-    ensures { ReadsAs parameter_values result (with_calling at value.now (parameter_values known.entry)) }
+    known: &mut ConnectParameters<'a>,
+) -> Result<(), TpduFault>
+    ensures { ReadsAs (λ _. parameter_values known.new) result (with_calling at value.now (parameter_values known.old)) }
 {
     let Some(selector) = Selector::new(value) else {
         return Err(TpduFault::BadParameterLength(at));
@@ -75,18 +73,18 @@ fn add_calling<'a>(
     if known.calling.is_some() {
         return Err(TpduFault::DuplicateParameter(at));
     }
-    let mut known = known;
     known.calling = Some(selector);
-    Ok(known)
+    Ok(())
 }
 
+#[inline(always)]
 #[tactic(auto, unfolding(crate::specs::Reading::with_called))]
 fn add_called<'a>(
     at: usize,
     value: &'a [u8],
-    known: ConnectParameters<'a>,
-) -> Result<ConnectParameters<'a>, TpduFault>
-    ensures { ReadsAs parameter_values result (with_called at value.now (parameter_values known.entry)) }
+    known: &mut ConnectParameters<'a>,
+) -> Result<(), TpduFault>
+    ensures { ReadsAs (λ _. parameter_values known.new) result (with_called at value.now (parameter_values known.old)) }
 {
     let Some(selector) = Selector::new(value) else {
         return Err(TpduFault::BadParameterLength(at));
@@ -94,18 +92,18 @@ fn add_called<'a>(
     if known.called.is_some() {
         return Err(TpduFault::DuplicateParameter(at));
     }
-    let mut known = known;
     known.called = Some(selector);
-    Ok(known)
+    Ok(())
 }
 
+#[inline(always)]
 #[tactic(auto, unfolding(crate::specs::Reading::with_additional))]
 fn add_additional_options<'a>(
     at: usize,
     value: &[u8],
-    known: ConnectParameters<'a>,
-) -> Result<ConnectParameters<'a>, TpduFault>
-    ensures { ReadsAs parameter_values result (with_additional at value.now (parameter_values known.entry)) }
+    known: &mut ConnectParameters<'a>,
+) -> Result<(), TpduFault>
+    ensures { ReadsAs (λ _. parameter_values known.new) result (with_additional at value.now (parameter_values known.old)) }
 {
     if value.len() != 1 {
         return Err(TpduFault::BadParameterLength(at));
@@ -113,36 +111,36 @@ fn add_additional_options<'a>(
     if known.additional_options.is_some() {
         return Err(TpduFault::DuplicateParameter(at));
     }
-    let mut known = known;
     known.additional_options = Some(value[0]);
-    Ok(known)
+    Ok(())
 }
 
+#[inline(always)]
 #[tactic(auto, unfolding(crate::specs::Reading::with_alternative))]
 fn add_alternative_classes<'a>(
     at: usize,
     value: &'a [u8],
-    known: ConnectParameters<'a>,
-) -> Result<ConnectParameters<'a>, TpduFault>
-    ensures { ReadsAs parameter_values result (with_alternative at value.now (parameter_values known.entry)) }
+    known: &mut ConnectParameters<'a>,
+) -> Result<(), TpduFault>
+    ensures { ReadsAs (λ _. parameter_values known.new) result (with_alternative at value.now (parameter_values known.old)) }
 {
     if known.alternative_classes.is_some() {
         return Err(TpduFault::DuplicateParameter(at));
     }
-    let mut known = known;
     known.alternative_classes = Some(value);
-    Ok(known)
+    Ok(())
 }
 
-// What is known with one more parameter of a CR or CC.
+// Adds one more parameter of a CR or CC to those known.
+#[inline(always)]
 #[tactic(auto, unfolding(crate::specs::Reading::with_parameter))]
 fn add_parameter<'a>(
     at: usize,
     code: u8,
     value: &'a [u8],
-    known: ConnectParameters<'a>,
-) -> Result<ConnectParameters<'a>, TpduFault>
-    ensures { ReadsAs parameter_values result (with_parameter at code value.now (parameter_values known.entry)) }
+    known: &mut ConnectParameters<'a>,
+) -> Result<(), TpduFault>
+    ensures { ReadsAs (λ _. parameter_values known.new) result (with_parameter at code value.now (parameter_values known.old)) }
 {
     match code {
         SIZE => add_size(at, value, known),
@@ -150,11 +148,12 @@ fn add_parameter<'a>(
         CALLED => add_called(at, value, known),
         ADDITIONAL_OPTIONS => add_additional_options(at, value, known),
         ALTERNATIVE_CLASSES => add_alternative_classes(at, value, known),
-        _ => Ok(known),
+        _ => Ok(()),
     }
 }
 
 // The parameters of a CR or CC, which fill the octets.
+#[inline(always)]
 pub(crate) fn read_parameters(
     start: usize,
     octets: &[u8],
@@ -167,7 +166,7 @@ pub(crate) fn read_parameters(
     let mut rest = octets;
     'parameters: while !rest.is_empty() {
         let (code, value, behind) = read_parameter(at, rest)?;
-        known = add_parameter(at, code, value, known)?;
+        add_parameter(at, code, value, &mut known)?;
         at += 2 + value.len();
         rest = behind;
     }
@@ -175,6 +174,7 @@ pub(crate) fn read_parameters(
 }
 
 // Parameters that fill the octets, of which none is known.
+#[inline(always)]
 pub(crate) fn skip_parameters(start: usize, octets: &[u8]) -> Result<(), TpduFault>
     requires { start + length octets.now < 2 ^ 64 }
     ensures { ReadsAs (λ _. tt) result (all_skipped_at start octets.now) }

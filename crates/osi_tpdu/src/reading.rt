@@ -1,8 +1,10 @@
 //! Reading one unit (X.224 section 13).
 
-ghost use Rattle.std.specs.Prelude.{◌≡◌, ◌+◌, ◌<◌, ◌≤◌, ◌^◌, length, IfOk};
-ghost use Rattle.osi_tpdu.specs.Reading.{ReadsAs, header_at, connect_of, request_of, confirm_of, disconnect_of, disconnected_of, transfer_of, acknowledge_of, error_of, value_of, unit_at};
+ghost use Rattle.std.specs.Prelude.{◌≡◌, ◌+◌, ◌<◌, ◌≤◌, ◌^◌, length, slice_index, nat_le, Ok, IfOk, IsOk};
+ghost use Rattle.osi_tpkt.specs.Octets.{IsOctets};
+ghost use Rattle.osi_tpdu.specs.Reading.{ReadsAs, header_at, connect_of, request_of, confirm_of, disconnect_of, disconnected_of, transfer_of, acknowledge_of, error_of, value_of, is_lead_code, used_by, unit_at};
 ghost use Rattle.osi_tpdu.specs.View.{connect_content, value};
+ghost use Rattle.osi_tpdu.specs.Value.{data0};
 ghost use Rattle.osi_tpdu.specs.Writing.{Fits};
 
 use crate::acknowledgement::DataAcknowledgement;
@@ -23,6 +25,7 @@ use crate::unit::Tpdu;
 const GREATEST_LI: usize = 254;
 
 // The header of the unit at the front, and the octets behind it.
+#[inline(always)]
 #[tactic(auto, unfolding(crate::specs::Reading::header_at))]
 fn read_header(at: usize, octets: &[u8]) -> Result<(&[u8], &[u8]), TpduFault>
     ensures gives { ReadsAs (λ r. (r.0.now, r.1.now)) result (header_at at octets.now) }
@@ -38,6 +41,35 @@ fn read_header(at: usize, octets: &[u8]) -> Result<(&[u8], &[u8]), TpduFault>
     }
     let (_, counted) = octets.split_at(1);
     Ok(counted.split_at(li))
+}
+
+// Whether this is the code octet of a unit that another may follow: AK, DC or ER.
+#[inline(always)]
+#[tactic(auto, unfolding(crate::specs::Reading::is_lead_code))]
+fn is_lead_code(code: u8) -> bool
+    ensures { result ≡ is_lead_code code }
+{
+    high_half(code) == 0x6 || code == 0xC0 || code == 0x70
+}
+
+/// The header of the first unit of the octets, what stands behind the header, and how many octets
+/// the unit takes, if one with this header can be read.
+#[inline(always)]
+pub(crate) fn read_front(at: usize, octets: &[u8]) -> Result<(&[u8], &[u8], usize), TpduFault>
+    ensures gives { ReadsAs (λ r. (r.0.now, r.1.now)) result (header_at at octets.now) }
+    ensures lengths { IfOk result (λ r. length r.0.now + length r.1.now + 1 ≡ length octets.now) }
+    ensures least { IfOk result (λ r. 1 ≤ length r.0.now) }
+    ensures octets { IsOctets octets.now }
+    ensures used { IfOk result (λ r. r.2 ≡ used_by r.0.now (length octets.now)) }
+    ensures most { IfOk result (λ r. r.2 ≤ length octets.now) }
+{
+    let (header, behind) = read_header(at, octets)?;
+    let used = if is_lead_code(header[0]) {
+        1 + header.len()
+    } else {
+        octets.len()
+    };
+    Ok((header, behind, used))
 }
 
 // What a CR and a CC share. It is inlined, as `read_fields` is.
@@ -67,6 +99,7 @@ fn read_connect<'a>(
     })
 }
 
+#[inline(always)]
 #[tactic(auto, unfolding(crate::specs::Reading::request_of))]
 fn read_request<'a>(at: usize, header: &'a [u8], user: &'a [u8]) -> Result<Tpdu<'a>, TpduFault>
     requires { at + length header.now + 1 < 2 ^ 64 }
@@ -76,6 +109,7 @@ fn read_request<'a>(at: usize, header: &'a [u8], user: &'a [u8]) -> Result<Tpdu<
     Ok(Tpdu::Cr(ConnectRequest { fields }))
 }
 
+#[inline(always)]
 #[tactic(auto, unfolding(crate::specs::Reading::confirm_of))]
 fn read_confirm<'a>(at: usize, header: &'a [u8], user: &'a [u8]) -> Result<Tpdu<'a>, TpduFault>
     requires { at + length header.now + 1 < 2 ^ 64 }
@@ -88,6 +122,7 @@ fn read_confirm<'a>(at: usize, header: &'a [u8], user: &'a [u8]) -> Result<Tpdu<
     }))
 }
 
+#[inline(always)]
 #[tactic(auto, unfolding(crate::specs::Reading::disconnect_of))]
 fn read_disconnect<'a>(at: usize, header: &[u8], user: &'a [u8]) -> Result<Tpdu<'a>, TpduFault>
     requires { at + length header.now + 1 < 2 ^ 64 }
@@ -106,6 +141,7 @@ fn read_disconnect<'a>(at: usize, header: &[u8], user: &'a [u8]) -> Result<Tpdu<
     }))
 }
 
+#[inline(always)]
 #[tactic(auto, unfolding(crate::specs::Reading::disconnected_of))]
 fn read_disconnected<'a>(at: usize, header: &[u8]) -> Result<Tpdu<'a>, TpduFault>
     ensures { ReadsAs value result (disconnected_of at header.now) }
@@ -119,16 +155,26 @@ fn read_disconnected<'a>(at: usize, header: &[u8]) -> Result<Tpdu<'a>, TpduFault
     }))
 }
 
+// A DT of class 0.
+#[inline(always)]
+fn data_class_0<'a>(header: &[u8], user: &'a [u8]) -> Tpdu<'a>
+    requires { 2 ≤ length header.now }
+    ensures { value result ≡ data0 (nat_le 128 (slice_index header.now 1)) user.now }
+{
+    Tpdu::Dt0(DataClass0 {
+        end: header[1] >= 0x80,
+        user,
+    })
+}
+
 // The length of its header tells the class of a DT.
+#[inline(always)]
 #[tactic(auto, unfolding(crate::specs::Reading::transfer_of))]
 fn read_transfer<'a>(at: usize, header: &[u8], user: &'a [u8]) -> Result<Tpdu<'a>, TpduFault>
     ensures { ReadsAs value result (transfer_of at header.now user.now) }
 {
     match header.len() {
-        2 => Ok(Tpdu::Dt0(DataClass0 {
-            end: header[1] >= 0x80,
-            user,
-        })),
+        2 => Ok(data_class_0(header, user)),
         4 => Ok(Tpdu::Dt2(DataClass2 {
             destination: reference(1, header),
             number: number(header[3]),
@@ -139,6 +185,7 @@ fn read_transfer<'a>(at: usize, header: &[u8], user: &'a [u8]) -> Result<Tpdu<'a
     }
 }
 
+#[inline(always)]
 #[tactic(auto, unfolding(crate::specs::Reading::acknowledge_of))]
 fn read_acknowledge<'a>(at: usize, header: &[u8]) -> Result<Tpdu<'a>, TpduFault>
     ensures { ReadsAs value result (acknowledge_of at header.now) }
@@ -153,6 +200,7 @@ fn read_acknowledge<'a>(at: usize, header: &[u8]) -> Result<Tpdu<'a>, TpduFault>
     }))
 }
 
+#[inline(always)]
 #[tactic(auto, unfolding(crate::specs::Reading::error_of))]
 fn read_error<'a>(at: usize, header: &[u8]) -> Result<Tpdu<'a>, TpduFault>
     requires { at + length header.now + 1 < 2 ^ 64 }
@@ -169,8 +217,8 @@ fn read_error<'a>(at: usize, header: &[u8]) -> Result<Tpdu<'a>, TpduFault>
     }))
 }
 
-// The unit with this header, by its code, and these octets behind it. It is inlined, and so is
-// `read_unit`: else each unit would be moved through memory several times as the largest of them.
+// The unit with this header, by its code, and these octets behind it. All readers are inlined: else
+// each unit would be moved through memory several times as the largest of them.
 #[inline(always)]
 #[tactic(auto, unfolding(crate::specs::Reading::value_of))]
 fn read_fields<'a>(at: usize, header: &'a [u8], user: &'a [u8]) -> Result<Tpdu<'a>, TpduFault>
@@ -189,6 +237,41 @@ fn read_fields<'a>(at: usize, header: &'a [u8], user: &'a [u8]) -> Result<Tpdu<'
             0xF0 => read_transfer(at, header, user),
             0x70 => read_error(at, header),
             _ => Err(TpduFault::UnknownCode(at + 1)),
+        },
+    }
+}
+
+// A unit that is known to be there.
+#[inline(always)]
+fn known(read: Result<Tpdu<'_>, TpduFault>) -> Tpdu<'_>
+    requires { IsOk read }
+    ensures { read.entry ≡ Ok result }
+{
+    let Ok(unit) = read else { unreachable!() };
+    unit
+}
+
+/// The same where a unit with this header is known to be there. Each kind is made on its own, with no
+/// result that could be a fault between, so that a caller's `match` of the unit needs no copy of it.
+#[inline(always)]
+#[tactic(auto, unfolding(crate::specs::Reading::value_of, crate::specs::Reading::transfer_of))]
+pub(crate) fn known_fields<'a>(at: usize, header: &'a [u8], user: &'a [u8]) -> Tpdu<'a>
+    requires least { 1 ≤ length header.now }
+    requires room { at + length header.now + 1 < 2 ^ 64 }
+    requires known { IsOk (value_of at header.now user.now) }
+    ensures { value_of at header.now user.now ≡ Ok (value result) }
+{
+    let code = header[0];
+    match high_half(code) {
+        0xE => known(read_request(at, header, user)),
+        0xD => known(read_confirm(at, header, user)),
+        0x6 => known(read_acknowledge(at, header)),
+        _ => match code {
+            0x80 => known(read_disconnect(at, header, user)),
+            0xC0 => known(read_disconnected(at, header)),
+            0xF0 if header.len() == 2 => data_class_0(header, user),
+            0xF0 => known(read_transfer(at, header, user)),
+            _ => known(read_error(at, header)),
         },
     }
 }

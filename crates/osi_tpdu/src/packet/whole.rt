@@ -9,6 +9,7 @@ use crate::faults::TpduFault;
 use crate::reading::read_unit;
 
 // Reads a packet to its end, or to its first fault.
+#[inline(always)]
 fn read_to_end(packet: &[u8]) -> Result<(), TpduFault>
     ensures { MatchResult result (λ _. IsOk (units_of packet.now)) (λ f. units_of packet.now ≡ Err f) }
 {
@@ -28,6 +29,7 @@ fn read_to_end(packet: &[u8]) -> Result<(), TpduFault>
 /// The units that the octets of a packet spell, one after the other: at least one, AK, DC and ER in
 /// any number, and then at most one CR, CC, DR or DT (X.224 section 6.4). Where one of them is bad
 /// none is given, and the `Err` names the first fault.
+#[inline(always)]
 pub fn read_units(packet: &[u8]) -> Result<Units<'_>, TpduFault>
     // What is given is spelled so, and what is spelled so is given.
     ensures found { IfOk result (λ u. AreUnits (units_left u) packet.now) }

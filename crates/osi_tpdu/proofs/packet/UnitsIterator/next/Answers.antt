@@ -1,6 +1,7 @@
-use Rattle.std.proofs.Common.{◌≡◌, ◌≤◌, [], length, ap, arith, rules}
+use Rattle.std.proofs.Common.{◌≡◌, ◌≤◌, [], length, refl, ap, arith, rules}
 use Rattle.std.proofs.lemmas.List.{nil_from_length}
-use Rattle.osi_tpdu.proofs.PacketLaws.{first_left, none_bad, nothing_left}
+use Rattle.osi_tpdu.proofs.LeadCodes.{first_read, first_stands, no_bad_header}
+use Rattle.osi_tpdu.proofs.PacketLaws.{first_left, nothing_left, read_fits}
 use Rattle.osi_tpdu.proofs.packet.UnitsIterator.next.Goals as goal
 
 pub returns-then-is_empty-clause-steps : goal.returns-then-is_empty-clause-steps
@@ -14,30 +15,42 @@ pub unreachable-requires : goal.unreachable-requires
 unreachable-requires c =
     let s = c.args.self.now in
     let some : 1 ≤ length s.rest.now = search rules in
-    none_bad s.at s.rest.now c.in_default.field-0 some s.readable c.in_default.ensures.gives
+    no_bad_header s.at s.rest.now c.in_default.field-0 some s.readable c.in_default.ensures.gives
 
 pub invariant_of-self : goal.invariant_of-self
 invariant_of-self c =
     let s = c.args.self.now in
     let some : 1 ≤ length s.rest.now = search rules in
-    let g = first_left s.at s.rest.now _ some s.readable c.in-Ok.ensures.gives in
+    let first = first_stands s.at s.rest.now _ some s.readable c.in-Ok.ensures.gives in
+    let g = first_left s.at s.rest.now _ some s.readable first.2 in
     record {
       room = omega (arith, s.room, c.split_at.ensures.back_len);
-      readable = rw c.split_at.ensures.back g.readable;
+      readable = rw (c.split_at.ensures.back, c.in-Ok.ensures.used) g.readable;
     }
+
+pub known_fields-requires-clause-known : goal.known_fields-requires-clause-known
+known_fields-requires-clause-known c =
+    let s = c.args.self.now in
+    let some : 1 ≤ length s.rest.now = search rules in
+    let first = first_stands s.at s.rest.now _ some s.readable c.in-Ok.ensures.gives in
+    rw first.1 refl
 
 pub returns-clause-steps : goal.returns-clause-steps
 returns-clause-steps c =
     let s = c.args.self.now in
     let some : 1 ≤ length s.rest.now = search rules in
-    let g = first_left s.at s.rest.now _ some s.readable c.in-Ok.ensures.gives in
-    (rw c.split_at.ensures.back g.given, c.in-Ok.ensures.fits)
+    let read = first_read s.at s.rest.now _ _ c.in-Ok.ensures.gives c.known_fields.ensures in
+    let g = first_left s.at s.rest.now _ some s.readable read in (
+      rw (c.split_at.ensures.back, c.in-Ok.ensures.used) g.given,
+      read_fits s.at s.rest.now _ _ c.in-Ok.ensures.octets c.in-Ok.ensures.gives c.known_fields.ensures,
+    )
 
 pub returns-clause-goes : goal.returns-clause-goes
 returns-clause-goes c =
     let s = c.args.self.now in
     let some : 1 ≤ length s.rest.now = search rules in
-    let g = first_left s.at s.rest.now _ some s.readable c.in-Ok.ensures.gives in
+    let read = first_read s.at s.rest.now _ _ c.in-Ok.ensures.gives c.known_fields.ensures in
+    let g = first_left s.at s.rest.now _ some s.readable read in
     let shorter = ap length g.given in
-    let shorter' = rw (← c.split_at.ensures.back) at shorter in
+    let shorter' = rw (← c.in-Ok.ensures.used, ← c.split_at.ensures.back) at shorter in
     search rules
