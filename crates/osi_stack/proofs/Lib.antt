@@ -17,6 +17,7 @@ pub mod Shortness
 pub mod Answering
 pub mod Attending
 pub mod Rising
+pub mod Lowest
 pub mod Waiting
 pub mod Settling
 pub mod Empties

@@ -39,6 +39,7 @@ use Rattle.osi_stack.proofs.Comings.{attended_then}
 use Rattle.osi_stack.proofs.Events.{concluded_carrier}
 use Rattle.osi_stack.proofs.Lifting.{both, or_first, or_second, packet_is}
 use Rattle.osi_stack.proofs.Linking.{SessionLaws}
+use Rattle.osi_stack.proofs.Ordering.{fresh_ordered, connect_ordered, call_ordered, feeds_ordered, first_ordered, carried_ordered, breaks_ordered}
 use Rattle.osi_stack.proofs.Soundness.{Fits, carrier_leaves, times_fits, up_more, units_rise, packet_rises, lasting_of, open_none, packet_sound, packets_sound, fresh_sound, connect_sound, call_sound, feeds_sound, first_sound, carried_sound, breaks_sound}
 use Rattle.osi_stack.specs.Links.{IsSound}
 
@@ -167,6 +168,7 @@ fresh_settled is_caller local = record {
   attended = λ over. refl;
   orderly = orderly_fresh is_caller local;
   sound = fresh_sound is_caller local;
+  ordered = fresh_ordered is_caller local;
   came = tt;
 }
 
@@ -175,6 +177,7 @@ connect_settled c e allowed s = record {
   attended = connect_attended c e s.attended;
   orderly = connect_orderly c e allowed s.orderly;
   sound = connect_sound c e allowed s.sound;
+  ordered = connect_ordered c e allowed s.sound s.ordered;
   came = connect_all c e s.came;
 }
 
@@ -183,6 +186,7 @@ call_settled laws r call e serial s = record {
   attended = session_attended r (called call) e s.attended;
   orderly = session_orderly r (called call) e s.orderly;
   sound = call_sound laws r call e s.sound;
+  ordered = call_ordered r (called call) e s.ordered;
   came = call_all r call e serial s.came;
 }
 
@@ -191,17 +195,25 @@ feeds_settled steps old new piece fed h s = record {
   attended = feeds_attended old new piece fed h s.attended;
   orderly = feeds_orderly steps.laws old new piece fed h s.attended s.sound s.orderly;
   sound = feeds_sound steps.laws old new piece fed h s.attended s.sound;
+  ordered = feeds_ordered steps.laws old new piece fed h s.attended s.sound s.ordered;
   came = feeds_all steps.units old new piece fed h s.came;
 }
 
 pub first_settled : (e : End) → IsSettled e → IsSettled (record e { lines = without_first e.lines })
-first_settled e s = record { attended = s.attended; orderly = s.orderly; sound = first_sound e s.sound; came = told_all e.lines s.came }
+first_settled e s = record {
+  attended = s.attended;
+  orderly = s.orderly;
+  sound = first_sound e s.sound;
+  ordered = first_ordered e s.ordered;
+  came = told_all e.lines s.came;
+}
 
 pub carried_settled : (octets : ℕ) (e : End) → IsSettled e → IsSettled (carried octets e)
 carried_settled octets e s = record {
   attended = s.attended;
   orderly = orderly_same e.carrier (drop octets e.carrier.outgoing) e.carrier.events s.orderly;
   sound = carried_sound octets e s.sound;
+  ordered = carried_ordered octets e s.ordered;
   came = s.came;
 }
 
@@ -210,6 +222,7 @@ breaks_settled e s = record {
   attended = breaks_attended e s.attended;
   orderly = breaks_orderly e s.orderly;
   sound = breaks_sound e;
+  ordered = breaks_ordered e s.ordered;
   came = breaks_all e s.came;
 }
 

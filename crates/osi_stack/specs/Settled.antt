@@ -2,6 +2,7 @@
 use Rattle.osi_carrier.specs.Orderly.{IsOrderly}
 use Rattle.osi_stack.specs.Folds.{AllCameAbout}
 use Rattle.osi_stack.specs.Links.{IsSound}
+use Rattle.osi_stack.specs.Ordered.{IsOrdered}
 use Rattle.osi_stack.specs.State.{End, IsAttended}
 
 pub record IsSettled (e : End) : Type 0 where
@@ -11,5 +12,7 @@ pub record IsSettled (e : End) : Type 0 where
   pub orderly : IsOrderly e.carrier
   -- while it lasts, each session that can be called has an open connection
   pub sound : IsSound e
+  -- its lines stand in the order of their references
+  pub ordered : IsOrdered e
   -- each session is what its inputs made of it
   pub came : AllCameAbout e.lines

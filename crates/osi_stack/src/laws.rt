@@ -25,7 +25,7 @@ ghost use Rattle.osi_stack.specs.Feeding.{Feeds};
 ghost use Rattle.osi_stack.specs.Hearing.{after_packet, all_lost};
 ghost use Rattle.osi_stack.specs.Messages.{Message, Effect, begins, IsWhole, Acts, effect_at, told_at, CanHear, Arrives, kept_at, Becomes, Says, AreLost, all_waiting, IsFirstOf};
 ghost use Rattle.osi_stack.specs.Moving.{to_session};
-ghost use Rattle.osi_stack.specs.Ordered.{IsOrdered};
+ghost use Rattle.osi_stack.specs.Ordered.{IsOrdered, TellsLowest};
 ghost use Rattle.osi_stack.specs.Rounds.{Round, RoundsAlong, AreInStep, calls_of};
 ghost use Rattle.osi_stack.specs.Runs.{Call as EndCall, CallsAlong, CallsInRoom, Reads, AreAlike, LookAlike, used_in};
 ghost use Rattle.osi_stack.specs.Settled.{IsSettled};
@@ -74,10 +74,12 @@ pub fn what_an_end_shows()
     ensures { (lines : Rows Line) → AreLost lines (all_lost lines) }
 {}
 
-/// Indications are told in one order: those of the lowest reference first, and of one connection the
-/// oldest. Telling one changes no session.
+/// Indications are told in one order: line after line, and of one connection the oldest first. Telling one
+/// changes no session. Where lines stand in the order of their references, as those of each end do, what is
+/// told is the oldest indication of the lowest reference for which one waits.
 pub fn what_waits_is_told_in_order()
     ensures next { (lines : Rows Line) → IsFirstOf (first_shown lines) (all_waiting lines) (all_waiting (without_first lines)) }
+    ensures lowest { (lines : Rows Line) → RiseFrom 0 lines → TellsLowest (first_shown lines) lines (without_first lines) }
     ensures sessions { (r : ℕ) (lines : Rows Line) → kept_at r (without_first lines) ≡ kept_at r lines }
     ensures none { (lines : Rows Line) → waits lines ≡ false → all_waiting lines ≡ [] }
     ensures lines { (r : ℕ) (live : Rows Connection) (lines : Rows Line) → is_some (value_at r live) ≡ true →

@@ -2,6 +2,7 @@ use crate::connecting::{Connect, ConnectError};
 use crate::hub::Hub;
 use crate::laws::{
     a_call_of_a_settled_end_is_answered_by_its_session, an_end_is_settled_between_calls,
+    what_waits_is_told_in_order,
 };
 use osi_carrier::{Carrier, EndReason, Ref};
 use osi_class::Local;
@@ -42,6 +43,7 @@ impl Stack {
     ghost use Rattle.osi_stack.specs.Calls.{connect_error, refusal, connects, call_error, table_error, Refuses, by_rule, held_by, phase_at, numbers_of, first_shown, without_first, carried, breaks};
     ghost use Rattle.osi_stack.specs.Feeding.{Feeds};
     ghost use Rattle.osi_stack.specs.Moving.{to_session};
+    ghost use Rattle.osi_stack.specs.Ordered.{TellsLowest};
     ghost use Rattle.osi_stack.specs.State.{fresh_end, session_at};
 
     /// The calling end of a byte connection. Nothing is written yet.
@@ -125,13 +127,15 @@ impl Stack {
         }
     }
 
-    /// The oldest indication of the connection with the lowest reference that has one, with this
-    /// reference. Takes no memory.
+    /// The oldest indication of the lowest reference for which one waits, with this reference; all others wait
+    /// on. Takes no memory.
     pub fn next_indication(&mut self) -> Option<(Ref, Indication)>
         ensures shown { option_map (λ p. (p.0.0, shown_by p.1)) result ≡ first_shown self.old.end.lines }
+        ensures lowest { TellsLowest (option_map (λ p. (p.0.0, shown_by p.1)) result) self.old.end.lines self.new.end.lines }
         ensures rest { self.new ≡ record self.old { end = record self.old.end { lines = without_first self.old.end.lines } } }
     {
         an_end_is_settled_between_calls();
+        what_waits_is_told_in_order();
         self.hub.next_indication()
     }
 

@@ -1,0 +1,87 @@
+-- What is told first, where the lines stand in the order of their references.
+use Rattle.std.proofs.Common.{◌≡◌, ℕ, ◌≤◌, ◌==◌, Bool, true, false, List, [], ◌∷◌, Option, Some, None, refl, sym, ap, ◌∙◌, arith}
+use Rattle.std.proofs.lemmas.Bool.{eqb-true, eq-eqb}
+use Rattle.osi_carrier.proofs.Apart.{absent}
+use Rattle.osi_carrier.specs.Orderly.{RiseFrom}
+use Rattle.osi_carrier.specs.Rows.{Rows, value_at}
+use Rattle.osi_session.specs.Shown.{Shown}
+use Rattle.osi_stack.specs.Calls.{first_by, first_shown, rest_by, without_first}
+use Rattle.osi_stack.specs.Messages.{kept_at, waiting_of, waiting_at}
+use Rattle.osi_stack.specs.Ordered.{IsLowest, TellsLowest}
+use Rattle.osi_stack.specs.State.{Line}
+use Rattle.osi_stack.proofs.Linking.{unlike}
+
+-- ---- one line in front
+
+here_at : (q : ℕ) (line : Line) (lines : Rows Line) → value_at q ((q, line) ∷ lines) ≡ Some line
+here_at q line lines = let e = eq-eqb q q refl in rw e refl
+
+behind_at : (q r : ℕ) (line : Line) (lines : Rows Line) → (q == r) ≡ false → value_at r ((q, line) ∷ lines) ≡ value_at r lines
+behind_at q r line lines e = rw e refl
+
+-- nothing waits for a reference that no line has
+none_at : (m n : ℕ) (lines : Rows Line) → m ≤ n → RiseFrom n lines → waiting_at m lines ≡ []
+none_at m n lines le rise = ap waiting_of (absent m n lines le rise)
+
+nothing_by : (q r : ℕ) (line : Line) (lines : Rows Line) (b : Bool) → (q == r) ≡ b → line.waiting ≡ [] → waiting_at r lines ≡ [] → waiting_at r ((q, line) ∷ lines) ≡ []
+nothing_by q r line lines true e none more = rw e none
+nothing_by q r line lines false e none more = rw e more
+
+-- ---- the first line has none
+
+-- what is told is of a line behind it
+differ_by : (q r : ℕ) (shown : Shown) (rest : List Shown) (lines : Rows Line) (b : Bool) → (q == r) ≡ b → RiseFrom q lines → waiting_at r lines ≡ shown ∷ rest → (q == r) ≡ false
+differ_by q r shown rest lines false e rise oldest = e
+differ_by q r shown rest lines true e rise oldest =
+    let none : waiting_at q lines ≡ [] = none_at q q lines (omega arith) rise in
+    let there : waiting_at q lines ≡ shown ∷ rest = ap (λ n. waiting_at n lines) (eqb-true q r e) ∙ oldest in
+    let no : [] ≡ shown ∷ rest = sym none ∙ there in
+    cc
+
+others_by : (q r p : ℕ) (line : Line) (old new : Rows Line) (b : Bool) → (q == p) ≡ b → value_at p new ≡ value_at p old → value_at p ((q, line) ∷ new) ≡ value_at p ((q, line) ∷ old)
+others_by q r p line old new true e same = rw e refl
+others_by q r p line old new false e same = rw e same
+
+kept_behind : (q r : ℕ) (line : Line) (old new : Rows Line) → (q == r) ≡ false → kept_at r new ≡ kept_at r old → kept_at r ((q, line) ∷ new) ≡ kept_at r ((q, line) ∷ old)
+kept_behind q r line old new e same = rw e same
+
+behind_lowest : (q r : ℕ) (shown : Shown) (line : Line) (old new : Rows Line) → (q == r) ≡ false → line.waiting ≡ [] → IsLowest r shown old new →
+    IsLowest r shown ((q, line) ∷ old) ((q, line) ∷ new)
+behind_lowest q r shown line old new e none l = record {
+  oldest = ap waiting_of (behind_at q r line old e) ∙ l.oldest ∙ ap (λ w. shown ∷ waiting_of w) (sym (behind_at q r line new e));
+  lowest = λ p below. nothing_by q p line old (q == p) refl none (l.lowest p below);
+  session = kept_behind q r line old new e l.session;
+  others = λ p ne. others_by q r p line old new (q == p) refl (l.others p ne);
+}
+
+behind_by : (q : ℕ) (line : Line) (first : Option (ℕ × Shown)) (old new : Rows Line) → line.waiting ≡ [] → RiseFrom q old → TellsLowest first old new →
+    TellsLowest first ((q, line) ∷ old) ((q, line) ∷ new)
+behind_by q line None old new none rise h = (
+  λ r. nothing_by q r line old (q == r) refl none (h.0 r),
+  ap (λ (lines : Rows Line). (q, line) ∷ lines) h.1,
+)
+behind_by q line (Some first) old new none rise h =
+    behind_lowest q first.0 first.1 line old new (differ_by q first.0 first.1 (waiting_at first.0 new) old (q == first.0) refl rise h.oldest) none h
+
+-- ---- the first line has one
+
+kept_here : (q : ℕ) (waiting : List Shown) (line : Line) (lines : Rows Line) → kept_at q ((q, record line { waiting = waiting }) ∷ lines) ≡ kept_at q ((q, line) ∷ lines)
+kept_here q waiting line lines = let e = eq-eqb q q refl in rw e refl
+
+here_lowest : (q : ℕ) (shown : Shown) (waiting : List Shown) (line : Line) (lines : Rows Line) → line.waiting ≡ shown ∷ waiting → RiseFrom q lines →
+    IsLowest q shown ((q, line) ∷ lines) ((q, record line { waiting = waiting }) ∷ lines)
+here_lowest q shown waiting line lines is rise = record {
+  oldest = ap waiting_of (here_at q line lines) ∙ is ∙ ap (λ w. shown ∷ waiting_of w) (sym (here_at q (record line { waiting = waiting }) lines));
+  lowest = λ p below. ap waiting_of (behind_at q p line lines (unlike q p (λ same. absurd (omega arith)))) ∙ none_at p q lines (omega arith) rise;
+  session = kept_here q waiting line lines;
+  others = λ p ne. behind_at q p (record line { waiting = waiting }) lines (unlike q p ne) ∙ sym (behind_at q p line lines (unlike q p ne));
+}
+
+lowest_by : (q : ℕ) (line : Line) (waiting : List Shown) (lines : Rows Line) → line.waiting ≡ waiting → RiseFrom q lines → TellsLowest (first_shown lines) lines (without_first lines) →
+    TellsLowest (first_by q waiting (first_shown lines)) ((q, line) ∷ lines) (rest_by q line waiting lines (without_first lines))
+lowest_by q line [] lines is rise more = behind_by q line (first_shown lines) lines (without_first lines) is rise more
+lowest_by q line (shown ∷ waiting) lines is rise more = here_lowest q shown waiting line lines is rise
+
+pub lowest_first : (n : ℕ) (lines : Rows Line) → RiseFrom n lines → TellsLowest (first_shown lines) lines (without_first lines)
+lowest_first n [] rise = (λ r. refl, refl)
+lowest_first n ((q, line) ∷ lines) rise = lowest_by q line line.waiting lines refl rise.1 (lowest_first q lines rise.1)
