@@ -33,3 +33,4 @@ pub mod Alike
 pub mod Hushing
 pub mod Rounds
 pub mod WholeRuns
+pub mod Made

@@ -508,7 +508,7 @@ opened_apart : (q : ℕ) (e : End) (o : Option Line) → value_at q e.lines ≡ 
 opened_apart q e None here apart = apart_joins q awaits e here apart
 opened_apart q e (Some line) here apart = session_apart q opened e apart
 
-hears_apart : (event : Happening) (e : End) → AreApart e.lines → AreApart (hears event e).lines
+pub hears_apart : (event : Happening) (e : End) → AreApart e.lines → AreApart (hears event e).lines
 hears_apart (told.opened q) e apart = opened_apart q e (value_at q e.lines) refl apart
 hears_apart (told.refused q reason) e apart = session_apart q _ e apart
 hears_apart (told.tsdu q octets) e apart = session_apart q _ e apart

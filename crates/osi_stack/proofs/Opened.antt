@@ -1,7 +1,9 @@
 -- Which connections units open: those that were asked for, and at a called end new ones.
-use Rattle.std.proofs.Common.{◌≡◌, ◌≢◌, ℕ, ◌+◌, ◌<◌, ◌≤◌, ◌==◌, Bool, true, false, List, [], ◌∷◌, ◌++◌, take, Option, Some, None, Result, Ok, Err, is_some, refl, sym, ap, subst, ◌∙◌, inl, inr, ◌⊎◌, arith, append_assoc, if◌then◌else◌}
+use Rattle.std.proofs.Common.{◌≡◌, ◌≢◌, ℕ, ◌+◌, ◌<◌, ◌≤◌, ◌==◌, Bool, true, false, List, [], ◌∷◌, ◌++◌, take, nat_le, Option, Some, None, Result, Ok, Err, is_some, IsSome, refl, sym, ap, subst, ◌∙◌, inl, inr, ◌⊎◌, arith, append_assoc, if◌then◌else◌}
 use Rattle.std.proofs.lemmas.Bool.{eqb-true, eq-eqb}
+use Rattle.std.proofs.lemmas.Bool.Decides.{nat_tests}
 use Rattle.std.proofs.lemmas.List.{append-nil}
+use Rattle.std.specs.List.{AllByRecursion}
 use Rattle.osi_tpdu.specs.Value.{Value, Connect, request, confirm, disconnect, disconnected, data0, data2, acknowledge, error}
 use Rattle.osi_class.specs.Link.{Standing, taken}
 use Rattle.osi_class.specs.Negotiation.{Selection, accept, refuse, selected_by}
@@ -10,14 +12,15 @@ use Rattle.osi_class.specs.declared.terms.Class.{Class}
 use Rattle.osi_class.specs.declared.terms.Class.TheVariants.{Zero, Two}
 use Rattle.osi_carrier.specs.Happenings.{Happening, opened, refused, tsdu, closed, faulted}
 use Rattle.osi_carrier.specs.Negotiation.{confirmed}
-use Rattle.osi_carrier.specs.Orderly.{RiseFrom, IsOrderly}
+use Rattle.osi_carrier.specs.Orderly.{RiseFrom, told_of, IsOrderly}
 use Rattle.osi_carrier.specs.React.{denies, answers, is_full, has_peer, answers_request, to_unknown, opens, to_asked, tells_of, taking, breaks, leaves, to_linked, to_closing, to_connection, to_reference, before_class, to_only, in_zero, in_two, in_class, react, react_by, reacts}
 use Rattle.osi_carrier.specs.Rows.{Rows, value_at, put, without}
 use Rattle.osi_carrier.specs.State.{Connection, asked, linked, closing, State, ends}
 use Rattle.osi_carrier.specs.declared.ends.EndReason.{EndReason}
 use Rattle.osi_carrier.proofs.Apart.{put_here, without_here}
 use Rattle.osi_carrier.proofs.AtReferences.{put_other, without_other, put_none}
-use Rattle.osi_carrier.proofs.Effects.{orderly_unit}
+use Rattle.osi_carrier.proofs.Effects.{stays_gone, orderly_unit}
+use Rattle.osi_stack.proofs.Soundness.{units_rise, up_at}
 
 -- ---- connections that await a CC
 
@@ -96,19 +99,22 @@ opened_join (faulted r fault ∷ a) b = opened_join a b
 -- one that was asked for
 record Agreed (old new : State) (told : List Happening) : Type 0 where
   reference : ℕ
+  event : told ≡ opened reference ∷ []
   is : opened_in told ≡ reference ∷ []
   here : value_at reference old.live ≡ Some asked
   given : new.given ≡ old.given
 
 -- a new one
 record Accepted (old new : State) (told : List Happening) : Type 0 where
+  event : told ≡ opened (old.given + 1) ∷ []
   is : opened_in told ≡ (old.given + 1) ∷ []
   given : new.given ≡ old.given + 1
   called : old.is_caller ≡ false
 
--- none
+-- none; what is told is of a connection that is there
 record Unopened (old new : State) (told : List Happening) : Type 0 where
   is : opened_in told ≡ []
+  about : AllByRecursion (λ event. IsSome (value_at (told_of event) old.live)) told
   given : new.given ≡ old.given
 
 record Opens (old new : State) : Type 0 where
@@ -122,17 +128,17 @@ silent : (old new : State) → new.events ≡ old.events → new.given ≡ old.g
 silent old new same given side awaited = record {
   told = [];
   events = same ∙ sym (append-nil old.events);
-  how = inl (record { is = refl; given = given });
+  how = inl (record { is = refl; about = tt; given = given });
   side = side;
   awaited = awaited;
 }
 
-telling : (old new : State) (event : Happening) → opened_in (event ∷ []) ≡ [] → new.events ≡ old.events ++ event ∷ [] → new.given ≡ old.given → new.is_caller ≡ old.is_caller →
+telling : (old new : State) (event : Happening) → opened_in (event ∷ []) ≡ [] → IsSome (value_at (told_of event) old.live) → new.events ≡ old.events ++ event ∷ [] → new.given ≡ old.given → new.is_caller ≡ old.is_caller →
     AwaitedBefore old.live new.live → Opens old new
-telling old new event none same given side awaited = record {
+telling old new event none here same given side awaited = record {
   told = event ∷ [];
   events = same;
-  how = inl (record { is = none; given = given });
+  how = inl (record { is = none; about = (here, tt); given = given });
   side = side;
   awaited = awaited;
 }
@@ -152,14 +158,14 @@ opens_accepts : (class : Class) (size : Option ℕ) (c : Connect) (s : State) �
 opens_accepts Zero size c s called = record {
   told = opened (s.given + 1) ∷ [];
   events = refl;
-  how = inr (inr (record { is = refl; given = refl; called = called }));
+  how = inr (inr (record { event = refl; is = refl; given = refl; called = called }));
   side = refl;
   awaited = awaited_push (s.given + 1) _ s.live (linked_not_asked _ _);
 }
 opens_accepts Two size c s called = record {
   told = opened (s.given + 1) ∷ [];
   events = refl;
-  how = inr (inr (record { is = refl; given = refl; called = called }));
+  how = inr (inr (record { event = refl; is = refl; given = refl; called = called }));
   side = refl;
   awaited = awaited_push (s.given + 1) _ s.live (linked_not_asked _ _);
 }
@@ -196,7 +202,7 @@ opens_confirm r c None s here = opens_end _ s
 opens_confirm r c (Some class) s here = record {
   told = opened r ∷ [];
   events = refl;
-  how = inr (inl (record { reference = r; is = refl; here = here; given = refl }));
+  how = inr (inl (record { reference = r; event = refl; is = refl; here = here; given = refl }));
   side = refl;
   awaited = awaited_put r _ s.live (linked_not_asked _ _);
 }
@@ -204,45 +210,45 @@ opens_confirm r c (Some class) s here = record {
 opens_asked : (r : ℕ) (unit : Value) (s : State) → RiseFrom 0 s.live → value_at r s.live ≡ Some asked → Opens s (to_asked r unit s)
 opens_asked r (confirm destination c) s rise here = opens_confirm r c (confirmed c s.local s.class) s here
 opens_asked r (disconnect destination source reason user) s rise here =
-    telling s (to_asked r (disconnect destination source reason user) s) (refused r reason) refl refl refl refl (awaited_without r s.live rise)
-opens_asked r (error destination cause) s rise here = telling s (to_asked r (error destination cause) s) (refused r 0) refl refl refl refl (awaited_without r s.live rise)
+    telling s (to_asked r (disconnect destination source reason user) s) (refused r reason) refl (ap is_some here) refl refl refl (awaited_without r s.live rise)
+opens_asked r (error destination cause) s rise here = telling s (to_asked r (error destination cause) s) (refused r 0) refl (ap is_some here) refl refl refl (awaited_without r s.live rise)
 opens_asked r (request c) s rise here = opens_unknown (request c) s
 opens_asked r (disconnected destination source) s rise here = opens_unknown (disconnected destination source) s
 opens_asked r (data0 end user) s rise here = opens_unknown (data0 end user) s
 opens_asked r (data2 destination number end user) s rise here = opens_unknown (data2 destination number end user) s
 opens_asked r (acknowledge credit destination number) s rise here = opens_unknown (acknowledge credit destination number) s
 
-opens_settles : (r : ℕ) (whole : List (List ℕ)) (c : Connection) (s t : State) → (c ≡ asked → ⊥) → t.given ≡ s.given → t.is_caller ≡ s.is_caller → t.live ≡ put r c s.live →
+opens_settles : (r : ℕ) (whole : List (List ℕ)) (c : Connection) (s t : State) → IsSome (value_at r s.live) → (c ≡ asked → ⊥) → t.given ≡ s.given → t.is_caller ≡ s.is_caller → t.live ≡ put r c s.live →
     t.events ≡ s.events → Opens s (tells_of r (take 1 whole) t)
-opens_settles r [] c s t other given side live events =
+opens_settles r [] c s t here other given side live events =
     silent s (tells_of r [] t) (append-nil t.events ∙ events) given side (subst (AwaitedBefore s.live) (sym live) (awaited_put r c s.live other))
-opens_settles r (first ∷ more) c s t other given side live events =
-    telling s (tells_of r (first ∷ []) t) (tsdu r first) refl (ap (λ l. l ++ tsdu r first ∷ []) events) given side (subst (AwaitedBefore s.live) (sym live) (awaited_put r c s.live other))
+opens_settles r (first ∷ more) c s t here other given side live events =
+    telling s (tells_of r (first ∷ []) t) (tsdu r first) refl here (ap (λ l. l ++ tsdu r first ∷ []) events) given side (subst (AwaitedBefore s.live) (sym live) (awaited_put r c s.live other))
 
-opens_breaks : (r peer : ℕ) (fault : LinkFault) (held : Option Class) (s : State) → Opens s (breaks r peer fault held s)
-opens_breaks r peer fault None s = opens_end _ s
-opens_breaks r peer fault (Some Zero) s = opens_end _ s
-opens_breaks r peer fault (Some Two) s =
-    telling s (breaks r peer fault (Some Two) s) (faulted r fault) refl refl refl refl (awaited_put r (closing peer) s.live (closing_not_asked peer))
+opens_breaks : (r peer : ℕ) (fault : LinkFault) (held : Option Class) (s : State) → IsSome (value_at r s.live) → Opens s (breaks r peer fault held s)
+opens_breaks r peer fault None s here = opens_end _ s
+opens_breaks r peer fault (Some Zero) s here = opens_end _ s
+opens_breaks r peer fault (Some Two) s here =
+    telling s (breaks r peer fault (Some Two) s) (faulted r fault) refl here refl refl refl (awaited_put r (closing peer) s.live (closing_not_asked peer))
 
-opens_taking : (r peer : ℕ) (result : Result Standing LinkFault) (s : State) → Opens s (taking r peer result s)
-opens_taking r peer (Ok link) s = opens_settles r link.ends.joining.whole _ s _ (linked_not_asked _ _) refl refl refl refl
-opens_taking r peer (Err fault) s = opens_breaks r peer fault s.class s
+opens_taking : (r peer : ℕ) (result : Result Standing LinkFault) (s : State) → IsSome (value_at r s.live) → Opens s (taking r peer result s)
+opens_taking r peer (Ok link) s here = opens_settles r link.ends.joining.whole _ s _ here (linked_not_asked _ _) refl refl refl refl
+opens_taking r peer (Err fault) s here = opens_breaks r peer fault s.class s here
 
-opens_leaves : (r peer reason : ℕ) (held : Option Class) (s : State) → RiseFrom 0 s.live → Opens s (leaves r peer reason held s)
-opens_leaves r peer reason None s rise = telling s (leaves r peer reason None s) (closed r reason) refl refl refl refl (λ q h. cc)
-opens_leaves r peer reason (Some Zero) s rise = telling s (leaves r peer reason (Some Zero) s) (closed r reason) refl refl refl refl (λ q h. cc)
-opens_leaves r peer reason (Some Two) s rise = telling s (leaves r peer reason (Some Two) s) (closed r reason) refl refl refl refl (awaited_without r s.live rise)
+opens_leaves : (r peer reason : ℕ) (held : Option Class) (s : State) → RiseFrom 0 s.live → IsSome (value_at r s.live) → Opens s (leaves r peer reason held s)
+opens_leaves r peer reason None s rise here = telling s (leaves r peer reason None s) (closed r reason) refl here refl refl refl (λ q h. cc)
+opens_leaves r peer reason (Some Zero) s rise here = telling s (leaves r peer reason (Some Zero) s) (closed r reason) refl here refl refl refl (λ q h. cc)
+opens_leaves r peer reason (Some Two) s rise here = telling s (leaves r peer reason (Some Two) s) (closed r reason) refl here refl refl refl (awaited_without r s.live rise)
 
-opens_linked : (r peer : ℕ) (link : Standing) (unit : Value) (s : State) → RiseFrom 0 s.live → Opens s (to_linked r peer link unit s)
-opens_linked r peer link (disconnect destination source reason user) s rise = opens_leaves r peer reason s.class s rise
-opens_linked r peer link (request c) s rise = opens_taking r peer (taken link (request c)) s
-opens_linked r peer link (confirm destination c) s rise = opens_taking r peer (taken link (confirm destination c)) s
-opens_linked r peer link (disconnected destination source) s rise = opens_taking r peer (taken link (disconnected destination source)) s
-opens_linked r peer link (data0 end user) s rise = opens_taking r peer (taken link (data0 end user)) s
-opens_linked r peer link (data2 destination number end user) s rise = opens_taking r peer (taken link (data2 destination number end user)) s
-opens_linked r peer link (acknowledge credit destination number) s rise = opens_taking r peer (taken link (acknowledge credit destination number)) s
-opens_linked r peer link (error destination cause) s rise = opens_taking r peer (taken link (error destination cause)) s
+opens_linked : (r peer : ℕ) (link : Standing) (unit : Value) (s : State) → RiseFrom 0 s.live → IsSome (value_at r s.live) → Opens s (to_linked r peer link unit s)
+opens_linked r peer link (disconnect destination source reason user) s rise here = opens_leaves r peer reason s.class s rise here
+opens_linked r peer link (request c) s rise here = opens_taking r peer (taken link (request c)) s here
+opens_linked r peer link (confirm destination c) s rise here = opens_taking r peer (taken link (confirm destination c)) s here
+opens_linked r peer link (disconnected destination source) s rise here = opens_taking r peer (taken link (disconnected destination source)) s here
+opens_linked r peer link (data0 end user) s rise here = opens_taking r peer (taken link (data0 end user)) s here
+opens_linked r peer link (data2 destination number end user) s rise here = opens_taking r peer (taken link (data2 destination number end user)) s here
+opens_linked r peer link (acknowledge credit destination number) s rise here = opens_taking r peer (taken link (acknowledge credit destination number)) s here
+opens_linked r peer link (error destination cause) s rise here = opens_taking r peer (taken link (error destination cause)) s here
 
 opens_dropped : (r : ℕ) (s : State) → RiseFrom 0 s.live → Opens s (record s { live = without r s.live })
 opens_dropped r s rise = silent s (record s { live = without r s.live }) refl refl refl (awaited_without r s.live rise)
@@ -260,7 +266,7 @@ opens_closing r (error destination cause) s rise = opens_none s
 opens_connection : (r : ℕ) (o : Option Connection) (unit : Value) (s : State) → RiseFrom 0 s.live → value_at r s.live ≡ o → Opens s (to_connection r o unit s)
 opens_connection r None unit s rise here = opens_unknown unit s
 opens_connection r (Some asked) unit s rise here = opens_asked r unit s rise here
-opens_connection r (Some (linked peer link)) unit s rise here = opens_linked r peer link unit s rise
+opens_connection r (Some (linked peer link)) unit s rise here = opens_linked r peer link unit s rise (ap is_some here)
 opens_connection r (Some (closing peer)) unit s rise here = opens_closing r unit s rise
 
 opens_reference : (r : ℕ) (unit : Value) (s : State) → RiseFrom 0 s.live → Opens s (to_reference r unit s)
@@ -359,6 +365,49 @@ awaited_join live (r ∷ a) b first second = (first.0, awaited_join live a b fir
 abbrev pub NoneAwaited : Rows Connection → Type 0
 NoneAwaited live = (q : ℕ) → value_at q live ≡ Some asked → ⊥
 
+-- ---- which connections events are of
+
+all_join : {X : Type 0} (P : X → Type 0) (a b : List X) → AllByRecursion P a → AllByRecursion P b → AllByRecursion P (a ++ b)
+all_join P [] b all more = more
+all_join P (x ∷ a) b all more = (all.0, all_join P a b all.1 more)
+
+all_still : {X : Type 0} (P Q : X → Type 0) (l : List X) → ((x : X) → P x → Q x) → AllByRecursion P l → AllByRecursion Q l
+all_still P Q [] still all = tt
+all_still P Q (x ∷ l) still all = (still x all.0, all_still P Q l still all.1)
+
+-- one that is there, or one that is new
+abbrev pub IsOf : State → Happening → Type 0
+IsOf s event = IsSome (value_at (told_of event) s.live) ⊎ (s.given < told_of event)
+
+-- one that was given
+abbrev pub IsGiven : ℕ → Happening → Type 0
+IsGiven g event = told_of event ≤ g
+
+-- at a called end: each is new where it is opened, and was given before else
+abbrev pub Comes : ℕ → List Happening → ℕ → Type 0
+Comes g [] h = h ≡ g
+Comes g (opened r ∷ more) h = (g < r) × Comes r more h
+Comes g (refused r reason ∷ more) h = (r ≤ g) × Comes g more h
+Comes g (tsdu r octets ∷ more) h = (r ≤ g) × Comes g more h
+Comes g (closed r reason ∷ more) h = (r ≤ g) × Comes g more h
+Comes g (faulted r fault ∷ more) h = (r ≤ g) × Comes g more h
+
+comes_join : (g : ℕ) (a : List Happening) (h : ℕ) (b : List Happening) (k : ℕ) → Comes g a h → Comes h b k → Comes g (a ++ b) k
+comes_join g [] h b k first second = subst (λ n. Comes n b k) first second
+comes_join g (opened r ∷ a) h b k first second = (first.0, comes_join r a h b k first.1 second)
+comes_join g (refused r reason ∷ a) h b k first second = (first.0, comes_join g a h b k first.1 second)
+comes_join g (tsdu r octets ∷ a) h b k first second = (first.0, comes_join g a h b k first.1 second)
+comes_join g (closed r reason ∷ a) h b k first second = (first.0, comes_join g a h b k first.1 second)
+comes_join g (faulted r fault ∷ a) h b k first second = (first.0, comes_join g a h b k first.1 second)
+
+comes_quiet : (g : ℕ) (l : List Happening) (h : ℕ) → h ≡ g → opened_in l ≡ [] → AllByRecursion (IsGiven g) l → Comes g l h
+comes_quiet g [] h same none all = same
+comes_quiet g (opened r ∷ more) h same none all = cc
+comes_quiet g (refused r reason ∷ more) h same none all = (all.0, comes_quiet g more h same none all.1)
+comes_quiet g (tsdu r octets ∷ more) h same none all = (all.0, comes_quiet g more h same none all.1)
+comes_quiet g (closed r reason ∷ more) h same none all = (all.0, comes_quiet g more h same none all.1)
+comes_quiet g (faulted r fault ∷ more) h same none all = (all.0, comes_quiet g more h same none all.1)
+
 -- what was told opens what a caller asked for, and at a called end what is new
 pub record OpensAlong (old new : State) : Type 0 where
   pub told : List Happening
@@ -367,6 +416,11 @@ pub record OpensAlong (old new : State) : Type 0 where
   pub called : old.is_caller ≡ false → NoneAwaited old.live → Rises old.given (opened_in told) new.given
   pub side : new.is_caller ≡ old.is_caller
   pub awaited : AwaitedBefore old.live new.live
+  pub about : AllByRecursion (IsOf old) told
+  pub known : old.is_caller ≡ true → (new.given ≡ old.given) × AllByRecursion (IsGiven old.given) told
+  pub comes : old.is_caller ≡ false → NoneAwaited old.live → Comes old.given told new.given
+  pub rises : old.given ≤ new.given
+  pub gone : (q : ℕ) → q ≤ old.given → value_at q old.live ≡ None → value_at q new.live ≡ None
 
 true_false : {A : Type 0} (b : Bool) → b ≡ true → b ≡ false → A
 true_false true h k = cc
@@ -384,9 +438,31 @@ called_by old new told (inr (inl h)) none = absurd (none h.reference h.here)
 called_by old new told (inr (inr h)) none =
     subst (λ (l : List ℕ). Rises old.given l new.given) (sym h.is) ((omega arith), (let more = h.given in omega arith))
 
-along_unit : (unit : Value) (s : State) → RiseFrom 0 s.live → OpensAlong s (react unit s)
-along_unit unit s rise =
-    let o = opens_unit unit s rise in
+about_by : (old new : State) (told : List Happening) → Unopened old new told ⊎ (Agreed old new told ⊎ Accepted old new told) → AllByRecursion (IsOf old) told
+about_by old new told (inl h) = all_still (λ event. IsSome (value_at (told_of event) old.live)) (IsOf old) told (λ event here. inl here) h.about
+about_by old new told (inr (inl h)) = subst (AllByRecursion (IsOf old)) (sym h.event) (inl (ap is_some h.here), tt)
+about_by old new told (inr (inr h)) = subst (AllByRecursion (IsOf old)) (sym h.event) (inr (omega arith), tt)
+
+given_here : (s : State) → IsOrderly s → (l : List Happening) → AllByRecursion (λ event. IsSome (value_at (told_of event) s.live)) l → AllByRecursion (IsGiven s.given) l
+given_here s o l all = all_still (λ event. IsSome (value_at (told_of event) s.live)) (IsGiven s.given) l (λ event here. up_at (told_of event) s.given s.live o.up_to here) all
+
+known_by : (old new : State) (told : List Happening) → IsOrderly old → Unopened old new told ⊎ (Agreed old new told ⊎ Accepted old new told) → old.is_caller ≡ true →
+    (new.given ≡ old.given) × AllByRecursion (IsGiven old.given) told
+known_by old new told o (inl h) caller = (h.given, given_here old o told h.about)
+known_by old new told o (inr (inl h)) caller =
+    (h.given, subst (AllByRecursion (IsGiven old.given)) (sym h.event) (up_at h.reference old.given old.live o.up_to (ap is_some h.here), tt))
+known_by old new told o (inr (inr h)) caller = true_false old.is_caller caller h.called
+
+comes_by : (old new : State) (told : List Happening) → IsOrderly old → Unopened old new told ⊎ (Agreed old new told ⊎ Accepted old new told) → NoneAwaited old.live →
+    Comes old.given told new.given
+comes_by old new told o (inl h) none = comes_quiet old.given told new.given h.given h.is (given_here old o told h.about)
+comes_by old new told o (inr (inl h)) none = absurd (none h.reference h.here)
+comes_by old new told o (inr (inr h)) none =
+    subst (λ (l : List Happening). Comes old.given l new.given) (sym h.event) ((omega arith), h.given)
+
+along_unit : (unit : Value) (s : State) → IsOrderly s → OpensAlong s (react unit s)
+along_unit unit s orderly =
+    let o = opens_unit unit s orderly.rise in
     record {
       told = o.told;
       events = o.events;
@@ -394,7 +470,35 @@ along_unit unit s rise =
       called = λ called none. called_by s (react unit s) o.told o.how none;
       side = o.side;
       awaited = o.awaited;
+      about = about_by s (react unit s) o.told o.how;
+      known = λ caller. known_by s (react unit s) o.told orderly o.how caller;
+      comes = λ called none. comes_by s (react unit s) o.told orderly o.how none;
+      rises = units_rise (unit ∷ []) s;
+      gone = λ q up none. stays_gone unit s q up none;
     }
+
+-- one that is there later was there, or is new
+of_before : (old mid : State) (r : ℕ) (o : Option Connection) (b : Bool) → value_at r old.live ≡ o → nat_le r old.given ≡ b → (r ≤ old.given → value_at r old.live ≡ None → value_at r mid.live ≡ None) →
+    IsSome (value_at r mid.live) → IsSome (value_at r old.live) ⊎ (old.given < r)
+of_before old mid r (Some c) b is e gone here = inl (ap is_some is)
+of_before old mid r None false is e gone here = inr (grind (arith, nat_tests))
+of_before old mid r None true is e gone here =
+    let up : r ≤ old.given = grind (arith, nat_tests) in
+    let no : false ≡ true = sym (ap is_some (gone up is)) ∙ here in
+    cc
+
+about_join : (old mid : State) (event : Happening) → old.given ≤ mid.given → ((q : ℕ) → q ≤ old.given → value_at q old.live ≡ None → value_at q mid.live ≡ None) → IsOf mid event → IsOf old event
+about_join old mid event rises gone (inl here) = of_before old mid (told_of event) (value_at (told_of event) old.live) (nat_le (told_of event) old.given) refl refl (gone (told_of event)) here
+about_join old mid event rises gone (inr above) = inr (omega arith)
+
+gone_join : (old mid new : State) → OpensAlong old mid → OpensAlong mid new → (q : ℕ) → q ≤ old.given → value_at q old.live ≡ None → value_at q new.live ≡ None
+gone_join old mid new a b q up none = let more = a.rises in b.gone q (omega arith) (a.gone q up none)
+
+known_join : (old mid new : State) (a : OpensAlong old mid) (b : OpensAlong mid new) → old.is_caller ≡ true → (new.given ≡ old.given) × AllByRecursion (IsGiven old.given) (a.told ++ b.told)
+known_join old mid new a b caller =
+    let first = a.known caller in
+    let second = b.known (a.side ∙ caller) in
+    (second.0 ∙ first.0, all_join (IsGiven old.given) a.told b.told first.1 (subst (λ n. AllByRecursion (IsGiven n) b.told) first.0 second.1))
 
 along_join : (old mid new : State) → OpensAlong old mid → OpensAlong mid new → OpensAlong old new
 along_join old mid new a b = record {
@@ -406,18 +510,47 @@ along_join old mid new a b = record {
       (rises_join old.given (opened_in a.told) mid.given (opened_in b.told) new.given (a.called called none) (b.called (a.side ∙ called) (λ q h. none q (a.awaited q h))));
   side = b.side ∙ a.side;
   awaited = λ q h. a.awaited q (b.awaited q h);
+  about = all_join (IsOf old) a.told b.told a.about (all_still (IsOf mid) (IsOf old) b.told (λ event. about_join old mid event a.rises a.gone) b.about);
+  known = λ caller. known_join old mid new a b caller;
+  comes = λ called none. comes_join old.given a.told mid.given b.told new.given (a.comes called none) (b.comes (a.side ∙ called) (λ q h. none q (a.awaited q h)));
+  rises = let first = a.rises in let second = b.rises in omega arith;
+  gone = gone_join old mid new a b;
 }
 
 along_none : (s : State) → OpensAlong s s
-along_none s = record { told = []; events = sym (append-nil s.events); caller = λ caller. tt; called = λ called none. omega arith; side = refl; awaited = λ q h. h }
+along_none s = record {
+  told = [];
+  events = sym (append-nil s.events);
+  caller = λ caller. tt;
+  called = λ called none. omega arith;
+  side = refl;
+  awaited = λ q h. h;
+  about = tt;
+  known = λ caller. (refl, tt);
+  comes = λ called none. refl;
+  rises = omega arith;
+  gone = λ q up none. none;
+}
 
 pub along_units : (units : List Value) (s : State) → IsOrderly s → OpensAlong s (reacts units s)
 along_units [] s orderly = along_none s
 along_units (unit ∷ units) s orderly =
-    along_join s (react unit s) (reacts units (react unit s)) (along_unit unit s orderly.rise) (along_units units (react unit s) (orderly_unit unit s orderly))
+    along_join s (react unit s) (reacts units (react unit s)) (along_unit unit s orderly) (along_units units (react unit s) (orderly_unit unit s orderly))
 
 pub along_end : (old mid : State) (reason : EndReason) → OpensAlong old mid → OpensAlong old (ends reason mid)
-along_end old mid reason a = record { told = a.told; events = a.events; caller = a.caller; called = a.called; side = a.side; awaited = λ q h. cc }
+along_end old mid reason a = record {
+  told = a.told;
+  events = a.events;
+  caller = a.caller;
+  called = a.called;
+  side = a.side;
+  awaited = λ q h. cc;
+  about = a.about;
+  known = a.known;
+  comes = a.comes;
+  rises = a.rises;
+  gone = λ q up none. refl;
+}
 
 pub along_over : (s : State) (reason : EndReason) → OpensAlong s (ends reason s)
 along_over s reason = along_end s s reason (along_none s)

@@ -155,17 +155,17 @@ has_used r live lines apart here h = elim (used_at r live lines apart) [
 
 -- ---- what a caller hears
 
-abbrev HaveLines : Rows Line → List ℕ → Type 0
+abbrev pub HaveLines : Rows Line → List ℕ → Type 0
 HaveLines lines [] = Unit {0}
 HaveLines lines (r ∷ more) = IsSome (value_at r lines) × HaveLines lines more
 
-have_still : (old new : Rows Line) (l : List ℕ) → ((r : ℕ) → IsSome (value_at r old) → IsSome (value_at r new)) → HaveLines old l → HaveLines new l
+pub have_still : (old new : Rows Line) (l : List ℕ) → ((r : ℕ) → IsSome (value_at r old) → IsSome (value_at r new)) → HaveLines old l → HaveLines new l
 have_still old new [] kept all = tt
 have_still old new (r ∷ more) kept all = (kept r all.0, have_still old new more kept all.1)
 
-record Heard (old new : End) : Type 0 where
-  rise : RiseFrom 0 new.lines
-  kept : (r : ℕ) → IsSome (value_at r old.lines) → IsSome (value_at r new.lines)
+pub record Heard (old new : End) : Type 0 where
+  pub rise : RiseFrom 0 new.lines
+  pub kept : (r : ℕ) → IsSome (value_at r old.lines) → IsSome (value_at r new.lines)
 
 kept_by : (r : ℕ) (input : Input) (e : End) (o : Option Line) (q : ℕ) → IsSome (value_at q e.lines) → IsSome (value_at q (by_line r o input e).lines)
 kept_by r input e None q h = h
@@ -178,14 +178,14 @@ opens_heard : (r : ℕ) (o : Option Line) (e : End) → IsSome o → RiseFrom 0 
 opens_heard r None e some rise = cc
 opens_heard r (Some line) e some rise = session_heard r linked_up e rise
 
-one_heard : (event : Happening) (rest : List Happening) (e : End) → HaveLines e.lines (opened_in (event ∷ rest)) → RiseFrom 0 e.lines → Heard e (hears event e)
+pub one_heard : (event : Happening) (rest : List Happening) (e : End) → HaveLines e.lines (opened_in (event ∷ rest)) → RiseFrom 0 e.lines → Heard e (hears event e)
 one_heard (opened r) rest e all rise = opens_heard r (value_at r e.lines) e all.0 rise
 one_heard (refused r reason) rest e all rise = session_heard r _ e rise
 one_heard (tsdu r octets) rest e all rise = session_heard r _ e rise
 one_heard (closed r reason) rest e all rise = session_heard r _ e rise
 one_heard (faulted r fault) rest e all rise = session_heard r _ e rise
 
-have_rest : (event : Happening) (rest : List Happening) (lines : Rows Line) → HaveLines lines (opened_in (event ∷ rest)) → HaveLines lines (opened_in rest)
+pub have_rest : (event : Happening) (rest : List Happening) (lines : Rows Line) → HaveLines lines (opened_in (event ∷ rest)) → HaveLines lines (opened_in rest)
 have_rest (opened r) rest lines all = all.1
 have_rest (refused r reason) rest lines all = all
 have_rest (tsdu r octets) rest lines all = all
@@ -261,7 +261,7 @@ times_up (suc n) (faulted r fault ∷ rest) e g h is rises rise up =
 -- ---- what is heard
 
 -- of connections that awaited a CC
-awaited_lines : (e : End) (l : List ℕ) → IsOrdered e → AreAwaited e.carrier.live l → HaveLines e.lines l
+pub awaited_lines : (e : End) (l : List ℕ) → IsOrdered e → AreAwaited e.carrier.live l → HaveLines e.lines l
 awaited_lines e [] o all = tt
 awaited_lines e (r ∷ more) o all = ((o.awaiting r all.0).1, awaited_lines e more o all.1)
 
@@ -303,11 +303,11 @@ acts_along : (units : Result (List Value) TpduFault) (c : Carrier) → IsOrderly
 acts_along (Ok units) c orderly = along_units units c orderly
 acts_along (Err fault) c orderly = along_over c _
 
-packet_along : (packet : List ℕ) (c : Carrier) → IsOrderly c → OpensAlong c (carriers.after_packet c packet)
+pub packet_along : (packet : List ℕ) (c : Carrier) → IsOrderly c → OpensAlong c (carriers.after_packet c packet)
 unfolding carriers.after_packet
 packet_along packet c orderly = acts_along (units_of packet) c orderly
 
-packet_ordered : (packet : List ℕ) (e : End) → e.carrier.events ≡ [] → Soundness e → IsOrdered e → IsOrdered (after_packet e packet)
+pub packet_ordered : (packet : List ℕ) (e : End) → e.carrier.events ≡ [] → Soundness e → IsOrdered e → IsOrdered (after_packet e packet)
 packet_ordered packet e none s o =
     subst IsOrdered (sym (packet_is e packet)) (attends_ordered e (carriers.after_packet e.carrier packet) none s.known o (packet_along packet e.carrier s.orderly))
 

@@ -34,7 +34,7 @@ feeds_lasts : (old : Holding) (piece : List ℕ) (fed : Fed) (new : Holding) (ov
 feeds_lasts old piece fed new false e h lasts = none_of old.end.carrier.ended e
 feeds_lasts old piece fed new true e h lasts = ap (λ (x : Holding). x.end.carrier.ended) (sym (h.over e).1) ∙ lasts
 
-call_lasts : (old : Holding) (call : Call) (new : Holding) → Calls old call new → new.end.carrier.ended ≡ None → old.end.carrier.ended ≡ None
+pub call_lasts : (old : Holding) (call : Call) (new : Holding) → Calls old call new → new.end.carrier.ended ≡ None → old.end.carrier.ended ≡ None
 call_lasts old (feeding piece fed) new h lasts = feeds_lasts old piece fed new (is_some old.end.carrier.ended) refl h lasts
 call_lasts old (telling shown) new h lasts = ap (λ (x : Holding). x.end.carrier.ended) (sym h.1) ∙ lasts
 call_lasts old (carrying octets) new h lasts = ap (λ (x : Holding). x.end.carrier.ended) h ∙ lasts
@@ -54,7 +54,7 @@ pub record ReadsOne (old : Holding) (call : Call) (new : Holding) : Type 0 where
   pub offset : old.held.offset < 2 ^ 64 → new.held.offset ≡ offset_of (old.held.offset + (length (old.held.octets ++ used_in call) - length new.held.octets))
 
 -- nothing was used, and the octets held are the same
-reads_still : (old : Holding) (call : Call) (new : Holding) → used_in call ≡ [] → new.held ≡ old.held → account_of (told_in call) (carried_in call) new.end ≡ account_of [] [] old.end →
+pub reads_still : (old : Holding) (call : Call) (new : Holding) → used_in call ≡ [] → new.held ≡ old.held → account_of (told_in call) (carried_in call) new.end ≡ account_of [] [] old.end →
     ReadsOne old call new
 reads_still old call new nothing held account =
     let same : new.held.octets ≡ old.held.octets = ap (λ (h : Held). h.octets) held in
@@ -70,7 +70,7 @@ reads_still old call new nothing held account =
       offset = λ bound. omega arith;
     }
 
-reads_dry : (old : Holding) (piece : List ℕ) (fed : Fed) (new : Holding) → RunsDry old piece fed.used new → ReadsOne old (feeding piece fed) new
+unfoldable pub reads_dry : (old : Holding) (piece : List ℕ) (fed : Fed) (new : Holding) → RunsDry old piece fed.used new → ReadsOne old (feeding piece fed) new
 reads_dry old piece fed new dry =
     let whole : take fed.used piece ≡ piece = let all = dry.all in take_all fed.used piece (omega arith) in
     record {
@@ -81,7 +81,7 @@ reads_dry old piece fed new dry =
       offset = λ bound. dry.offset ∙ ap (λ l. offset_of (old.held.offset + (length (old.held.octets ++ l) - length new.held.octets))) (sym whole);
     }
 
-reads_stopped : IsPartial [] → (old : Holding) (piece : List ℕ) (fed : Fed) (new : Holding) → StopsBehind old piece fed.used new → new.end.carrier.ended ≡ None →
+unfoldable pub reads_stopped : IsPartial [] → (old : Holding) (piece : List ℕ) (fed : Fed) (new : Holding) → StopsBehind old piece fed.used new → new.end.carrier.ended ≡ None →
     ReadsOne old (feeding piece fed) new
 reads_stopped nothing old piece fed new stop lasts =
     let used : fed.used ≡ stop.within = uses_within new.end (length piece) stop.within fed.used stop.stopped lasts stop.uses in
@@ -104,7 +104,7 @@ starved_ended e new packet (inl h) =
 starved_ended e new packet (inr h) =
     ap (λ (x : End). is_some x.carrier.ended) h.2.starved ∙ starved_over (with_events h.2.more (hears_times h.2.heard (with_carrier h.0 e)))
 
-none_ended : (old : Holding) (piece : List ℕ) (used : ℕ) (new : Holding) → FindsNoMemory old piece used new → is_some new.end.carrier.ended ≡ true
+pub none_ended : (old : Holding) (piece : List ℕ) (used : ℕ) (new : Holding) → FindsNoMemory old piece used new → is_some new.end.carrier.ended ≡ true
 none_ended old piece used new h = elim (h.how) [
   | inl is ↦ ap (λ (x : End). is_some x.carrier.ended) is
   | inr p ↦ starved_ended h.before new.end p.0 p.2

@@ -87,7 +87,7 @@ up_at_by r n rows false e up some =
     cc
 
 -- a live connection has a reference that was given
-up_at : (r n : ℕ) (rows : Rows Connection) → AreUpTo n rows → IsSome (value_at r rows) → r ≤ n
+pub up_at : (r n : ℕ) (rows : Rows Connection) → AreUpTo n rows → IsSome (value_at r rows) → r ≤ n
 up_at r n rows up some = up_at_by r n rows (nat_le r n) refl up some
 
 up_used_by : (n p : ℕ) (y : Line) (live : Rows Connection) (lines : Rows Line) (u : Bool) → is_used live (p, y) ≡ u → (u ≡ true → p ≤ n) → AreUpTo n (used_lines live lines) →
@@ -209,7 +209,7 @@ packet_linked e packet orderly none l over =
     })
     )
 
-concludes_lasting : (o : Option EndReason) (e : End) → o ≡ None → (if is_some o then record e { lines = all_lost e.lines } else e) ≡ e
+pub concludes_lasting : (o : Option EndReason) (e : End) → o ≡ None → (if is_some o then record e { lines = all_lost e.lines } else e) ≡ e
 concludes_lasting None e h = refl
 concludes_lasting (Some reason) e h = cc
 

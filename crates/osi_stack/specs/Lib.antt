@@ -14,3 +14,4 @@ pub mod Settled
 pub mod Ordered
 pub mod Runs
 pub mod Rounds
+pub mod Inputs

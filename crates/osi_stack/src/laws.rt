@@ -2,6 +2,7 @@
 
 ghost use Rattle.std.specs.Prelude.{◌≡◌, ◌≢◌, ◌<◌, ◌≤◌, ◌^◌, ◌⊎◌, ℕ, Bool, List, [], ◌++◌, None, Some, IsSome, is_some, false, true, length, take};
 ghost use Rattle.std.specs.List.{flat_map};
+ghost use Rattle.osi_tpkt.specs.Held.{fresh};
 ghost use Rattle.osi_tpkt.specs.Packet.{IsPartial};
 ghost use Rattle.osi_tpkt.specs.declared.cutting.Fed.{Fed};
 ghost use Rattle.osi_tpdu.specs.Value.{Value};
@@ -17,6 +18,7 @@ ghost use Rattle.osi_session.specs.Calls.{Call, HasSerial};
 ghost use Rattle.osi_session.specs.Moves.{Input, called, react};
 ghost use Rattle.osi_stack.specs.Calls.{call_error, table_error, connect_error, connects, carried, breaks, first_shown, without_first};
 ghost use Rattle.osi_stack.specs.Folds.{AllCameAbout};
+ghost use Rattle.osi_stack.specs.Inputs.{AreMadeBy, Past, Step, StepsAlong, no_past};
 ghost use Rattle.osi_stack.specs.Links.{IsSound, Soundness};
 ghost use Rattle.osi_stack.specs.declared.connecting.Connect.{Connect};
 ghost use Rattle.osi_class.specs.declared.terms.Local.{Local};
@@ -116,6 +118,23 @@ pub fn a_session_is_what_its_inputs_made_it()
     ensures heard { (e : End) (unit : Value) → IsSendable unit → AllCameAbout e.lines → AllCameAbout (after_unit e unit).lines }
 {
     what_happens_has_numbers();
+}
+
+/// And these inputs are no others than its user's calls, the TSDUs that came for it and the other events that
+/// its carrier told of its connection, all of them, in the order in which they came. Over every list of steps
+/// from a new end, in which octets come and go, indications are told and its user calls, while the end lasts:
+/// each session is what the inputs of its reference made of what it began as, at a caller with the CN of the
+/// `connect` that was given the reference, at a called end awaiting a CN.
+pub fn a_session_is_made_by_what_came_for_it()
+    ensures { (is_caller : Bool) (local : Local) (steps : List Step) (new : Holding) (past : Past) →
+        StepsAlong (record { end = fresh_end is_caller local; held = fresh }) no_past steps new past → new.end.carrier.ended ≡ None →
+        AreMadeBy past new.end }
+{
+    a_prefix_of_a_packet();
+    a_stream_has_one_cut();
+    an_ended_session_stays_ended();
+    what_closes_sends_nothing();
+    where_a_call_is_accepted();
 }
 
 /// So what a call is answered is what the table of its session says: a session by which it is accepted has an
