@@ -11,7 +11,7 @@ use Rattle.osi_session.specs.Moves.{Standing, called, react}
 use Rattle.osi_session.specs.declared.faults.CallError.{CallError}
 use Rattle.osi_session.specs.declared.faults.CallError.TheVariants.{NoSuchConnection}
 use Rattle.osi_stack.specs.Calls.{has_given, connect_error, call_error, or_else, reply_refusal, session_refusal, phase_of, phase_at}
-use Rattle.osi_stack.specs.Runs.{quieted, hushed, put_back, Call, told_of, carried_in, AreAlike, LookAlike}
+use Rattle.osi_stack.specs.Runs.{quieted, hushed, put_back, Call, told_of, carried_in, AreAlike, AreAlikeByReference, LookAlike}
 use Rattle.osi_stack.specs.State.{Line, End, Holding, session_in, session_at}
 
 -- what waits is no matter to a session
@@ -20,7 +20,7 @@ quieted_by : (r q : ℕ) (line : Line) (lines : Rows Line) (b : Bool) → (q == 
 quieted_by r q line lines true e more = rw e refl
 quieted_by r q line lines false e more = rw e more
 
-quieted_at : (r : ℕ) (lines : Rows Line) → session_in (value_at r (quieted lines)) ≡ session_in (value_at r lines)
+pub quieted_at : (r : ℕ) (lines : Rows Line) → session_in (value_at r (quieted lines)) ≡ session_in (value_at r lines)
 quieted_at r [] = refl
 quieted_at r ((q, line) ∷ lines) = quieted_by r q line lines (q == r) refl (quieted_at r lines)
 
@@ -49,14 +49,18 @@ call_hushed r call e = ap (λ (s : Option Standing). if not (has_given r e.carri
 call_same : (o : List ℕ) (r : ℕ) (call : SessionCall) (e : End) → call_error r call (put_back o (hushed e)) ≡ call_error r call e
 call_same o r call e = call_apart o r call (hushed e) ∙ call_hushed r call e
 
-pub look_alike : (a b : Holding) (xs ys : List Call) → AreAlike a xs b ys → LookAlike a xs b ys
-look_alike a b xs ys h = record {
+-- also where what was told of several references stands in another order
+pub look_apart : (a b : Holding) (xs ys : List Call) → AreAlikeByReference a xs b ys → LookAlike a xs b ys
+look_apart a b xs ys h = record {
   phases = λ r. sym (phase_hushed r a.end) ∙ ap (phase_at r) h.end ∙ phase_hushed r b.end;
   sessions = λ r. sym (session_hushed r a.end) ∙ ap (session_at r) h.end ∙ session_hushed r b.end;
-  indications = λ r. ap (told_of r) h.told;
+  indications = h.told;
   octets = ap (λ (e : End). e.carrier.outgoing) h.end;
   ended = ap (λ (e : End). e.carrier.ended) h.end;
   kept = ap (λ (l : List ℕ). length l + kept_in a.end.carrier.live) h.octets ∙ ap (λ (e : End). length b.held.octets + kept_in e.carrier.live) h.end;
   requests = λ c. ap (connect_error c) h.end;
   answers = λ r call. sym (call_same (flat_map carried_in xs) r call a.end) ∙ ap (call_error r call) h.end ∙ call_same (flat_map carried_in ys) r call b.end;
 }
+
+pub look_alike : (a b : Holding) (xs ys : List Call) → AreAlike a xs b ys → LookAlike a xs b ys
+look_alike a b xs ys h = look_apart a b xs ys (record { octets = h.octets; end = h.end; told = λ r. ap (told_of r) h.told })

@@ -31,6 +31,8 @@ pub mod Lasting
 pub mod Endings
 pub mod Alike
 pub mod Hushing
+pub mod Asking
 pub mod Rounds
+pub mod Breaking
 pub mod WholeRuns
 pub mod Made

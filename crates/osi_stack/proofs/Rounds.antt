@@ -11,18 +11,21 @@ use Rattle.osi_carrier.proofs.InFront.{apart_all}
 use Rattle.osi_carrier.proofs.Pieces.{OneCut}
 use Rattle.osi_carrier.specs.Runs.Act.{user}
 use Rattle.osi_carrier.specs.Runs.UserCall.{connects as connects_call}
-use Rattle.osi_carrier.specs.State.{State as Carrier}
+use Rattle.osi_carrier.specs.Rows.{Rows}
+use Rattle.osi_carrier.specs.State.{asked, State as Carrier}
 use Rattle.osi_carrier.specs.declared.ends.EndReason.TheVariants.{Broken}
 use Rattle.osi_session.specs.Moves.{called}
 use Rattle.osi_session.specs.Shown.{Shown}
 use Rattle.osi_stack.specs.Calls.{connects, calls_with}
 use Rattle.osi_stack.specs.Hearing.{ends}
-use Rattle.osi_stack.specs.Rounds.{UserCall, user_does, Round, MayCall, IsCalled, RoundsAlong, calls_of, AreInStep}
+use Rattle.osi_stack.specs.Messages.{all_waiting}
+use Rattle.osi_stack.specs.Rounds.{UserCall, user_does, Round, WaitForLive, MayCall, IsCalled, RoundsAlong, calls_of, AreInStep}
 use Rattle.osi_stack.specs.Rounds.UserCall.{connecting, calling, breaking}
-use Rattle.osi_stack.specs.Runs.{put_back, Account, account_of, with_packets, Call, CallsAlong, used_in, told_in, carried_in, account_along, AreAlike}
-use Rattle.osi_stack.specs.State.{End, Holding, joins, waits}
+use Rattle.osi_stack.specs.Runs.{hushed, put_back, Account, account_of, with_packets, Call, CallsAlong, used_in, told_in, carried_in, account_along, AreAlike}
+use Rattle.osi_stack.specs.State.{Line, End, Holding, joins, waits}
 use Rattle.osi_stack.specs.declared.connecting.Connect.{Connect}
 use Rattle.osi_stack.proofs.Accounts.{made, after_more, account_quiet, account_joined, packets_apart}
+use Rattle.osi_stack.proofs.Asking.{wait_push, joins_alike}
 use Rattle.osi_stack.proofs.Hushing.{account_calling}
 use Rattle.osi_stack.proofs.InFront.{apart_session}
 use Rattle.osi_stack.proofs.Runs.{calls_read}
@@ -108,8 +111,21 @@ called_by call a = account_of a.told [] (user_does call a.end)
 called_still : (t : List (ℕ × Shown)) (o : List ℕ) (call : UserCall) (e : End) → waits e.lines ≡ false → account_of t o (user_does call e) ≡ called_by call (account_of t o e)
 called_still t o call e quiet = ap (account_of t []) (sym (user_apart o call e)) ∙ ap (called_by call) (sym (account_still t o e quiet))
 
+-- a connection is asked for while indications wait, of live connections alone
+account_connecting : (t : List (ℕ × Shown)) (o : List ℕ) (c : Connect) (e : End) → WaitForLive e.carrier.live e.lines →
+    account_of t o (connects c e) ≡ called_by (connecting c) (account_of t o e)
+account_connecting t o c e h =
+    let there = connects c (hushed e) in
+    let told = t ++ all_waiting e.lines in
+    let q = e.carrier.given + 1 in
+    let j = joins_alike (e.carrier.live ++ (q, asked) ∷ []) q (calls_with c) e.lines (wait_push q asked e.carrier.live e.lines h) in
+    ap (λ (l : Rows Line). made (put_back o (record (connects c e) { lines = l })) (t ++ all_waiting (connects c e).lines)) j.same
+    ∙ ap (λ (w : List (ℕ × Shown)). made (put_back o (hushed there)) (t ++ w)) j.waiting
+    ∙ ap (made (put_back o (hushed there))) (sym (append-nil told) ∙ ap (λ (w : List (ℕ × Shown)). told ++ w) (sym j.none))
+    ∙ ap (account_of told []) (sym (connects_apart o c (hushed e)))
+
 account_called : (t : List (ℕ × Shown)) (o : List ℕ) (call : UserCall) (e : End) → MayCall call e → account_of t o (user_does call e) ≡ called_by call (account_of t o e)
-account_called t o (connecting c) e h = called_still t o (connecting c) e h
+account_called t o (connecting c) e h = account_connecting t o c e h
 account_called t o (calling r call) e h = account_calling t o r call e h
 account_called t o breaking e h = called_still t o breaking e h
 

@@ -1,13 +1,15 @@
 -- Whole runs of an end: rounds in which octets come and go and indications are told, with its user's calls
 -- between them.
-use Rattle.std.specs.Prelude.{◌≡◌, ℕ, false, List, [], ◌∷◌, Option, Some, None}
+use Rattle.std.specs.Prelude.{◌≡◌, ℕ, true, false, ◌||◌, not, List, [], ◌∷◌, Option, Some, None, is_some}
 use Rattle.std.specs.List.{flat_map}
+use Rattle.osi_carrier.specs.Rows.{Rows, value_at}
+use Rattle.osi_carrier.specs.State.{Connection}
 use Rattle.osi_session.specs.Calls.{Call as SessionCall}
 use Rattle.osi_session.specs.Moves.{called}
 use Rattle.osi_stack.specs.Calls.{connects, breaks, call_error}
 use Rattle.osi_stack.specs.Moving.{to_session}
 use Rattle.osi_stack.specs.Runs.{Call, CallsAlong, used_in}
-use Rattle.osi_stack.specs.State.{End, Holding, waits}
+use Rattle.osi_stack.specs.State.{Line, End, Holding, line_waits, waits}
 use Rattle.osi_stack.specs.declared.connecting.Connect.{Connect}
 
 -- an accepted call of the user: it asks for a connection, calls the session of one, or finds that the byte
@@ -27,10 +29,15 @@ pub record Round : Type 0 where
   pub calls : List Call
   pub user : Option UserCall
 
--- a session is called whatever waits; and a connection is asked for, and a break found, once all was told that
--- waits
+-- indications wait for live connections alone
+abbrev pub WaitForLive : Rows Connection → Rows Line → Type 0
+WaitForLive live [] = Unit {0}
+WaitForLive live ((r, line) ∷ lines) = ((is_some (value_at r live) || not (line_waits line)) ≡ true) × WaitForLive live lines
+
+-- A session is called whatever waits; a connection is asked for once all was told that waits for connections
+-- that are gone; and a break is found once all was told that waits.
 abbrev pub MayCall : UserCall → End → Type 0
-MayCall (connecting c) e = waits e.lines ≡ false
+MayCall (connecting c) e = WaitForLive e.carrier.live e.lines
 MayCall (calling r call) e = call_error r call e ≡ None
 MayCall breaking e = waits e.lines ≡ false
 

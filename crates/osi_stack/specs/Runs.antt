@@ -121,6 +121,12 @@ pub record AreAlike (a : Holding) (xs : List Call) (b : Holding) (ys : List Call
 abbrev pub told_of : ℕ → List (ℕ × Shown) → List (ℕ × Shown)
 told_of r told = filter (λ first. first.0 == r) told
 
+-- The same, but for the order of what was told of several references: of each by itself it is the same.
+pub record AreAlikeByReference (a : Holding) (xs : List Call) (b : Holding) (ys : List Call) : Type 0 where
+  pub octets : a.held.octets ≡ b.held.octets
+  pub end : put_back (flat_map carried_in xs) (hushed a.end) ≡ put_back (flat_map carried_in ys) (hushed b.end)
+  pub told : (r : ℕ) → told_of r (flat_map told_in xs ++ all_waiting a.end.lines) ≡ told_of r (flat_map told_in ys ++ all_waiting b.end.lines)
+
 -- What is seen of two such ends: at each reference the same phase, the same session with its tokens and serial
 -- numbers, and the same indications; the same octets for the peer, the same reason of the end, and as many
 -- octets kept; and each call of the user is answered the same.

@@ -29,7 +29,7 @@ ghost use Rattle.osi_stack.specs.Messages.{Message, Effect, begins, IsWhole, Act
 ghost use Rattle.osi_stack.specs.Moving.{to_session};
 ghost use Rattle.osi_stack.specs.Ordered.{IsOrdered, TellsLowest};
 ghost use Rattle.osi_stack.specs.Rounds.{Round, RoundsAlong, AreInStep, calls_of};
-ghost use Rattle.osi_stack.specs.Runs.{Call as EndCall, CallsAlong, CallsInRoom, Reads, AreAlike, LookAlike, used_in};
+ghost use Rattle.osi_stack.specs.Runs.{Call as EndCall, CallsAlong, CallsInRoom, Reads, AreAlike, AreAlikeByReference, LookAlike, used_in};
 ghost use Rattle.osi_stack.specs.Settled.{IsSettled};
 ghost use Rattle.osi_stack.specs.State.{Line, End, Holding, IsAttended, fresh_end, session_at, waits, used_lines};
 
@@ -254,9 +254,12 @@ pub fn the_pieces_do_not_matter()
 
 /// So over whole runs too, with the user's calls between: where in each round the same octets were used, in
 /// whatever pieces, and then the user made the same call, the ends come to the same, and the same was told and
-/// put. A session may be called while indications wait; a connection is asked for, and the byte connection
-/// breaks, once all was told that waited. Behind the rounds the same octets may end them, or they may have
-/// ended: where memory is not wanted there, they come to the same all the same.
+/// put. A session may be called while indications wait, and a connection asked for while they wait for live
+/// connections: `connect` drops the lines of connections that are gone and for which nothing waits. Behind the
+/// rounds the same octets may end them, or they may have ended: where memory is not wanted there, they come to
+/// the same all the same. And the byte connection may break whatever waits: then the same is told of each
+/// reference, in the same order, if not of several (of 1 that it is lost before what waits of 2, where that was
+/// not yet told), and all else is the same.
 pub fn whole_runs_do_not_hang_on_pieces()
     ensures rounds { (old a b : Holding) (xs ys : List Round) → IsPartial old.held.octets → old.held.offset < 2 ^ 64 →
         RoundsAlong old xs a → RoundsAlong old ys b → AreInStep xs ys → AreAlike a (calls_of xs) b (calls_of ys) }
@@ -264,6 +267,9 @@ pub fn whole_runs_do_not_hang_on_pieces()
         RoundsAlong old xs c → RoundsAlong old ys d → AreInStep xs ys →
         CallsInRoom c zs a → CallsInRoom d ws b → flat_map used_in zs ≡ flat_map used_in ws →
         AreAlike a (calls_of xs ++ zs) b (calls_of ys ++ ws) }
+    ensures broken { (a b : Holding) (xs ys : List EndCall) → IsSettled a.end → IsSettled b.end → AreAlike a xs b ys →
+        AreAlikeByReference (record a { end = breaks a.end }) xs (record b { end = breaks b.end }) ys }
+    ensures seen { (a b : Holding) (xs ys : List EndCall) → AreAlikeByReference a xs b ys → LookAlike a xs b ys }
 {
     a_prefix_of_a_packet();
     a_stream_has_one_cut();

@@ -1,0 +1,89 @@
+-- A connection is asked for while indications wait, for live connections alone: as where all was told.
+use Rattle.std.proofs.Common.{◌≡◌, ℕ, ◌==◌, Bool, true, false, ◌||◌, not, List, [], ◌∷◌, ◌++◌, Some, is_some, refl, sym, ap, ◌∙◌}
+use Rattle.osi_carrier.specs.Rows.{Rows, value_at}
+use Rattle.osi_carrier.specs.State.{Connection}
+use Rattle.osi_session.specs.Moves.{Standing}
+use Rattle.osi_session.specs.Shown.{Shown}
+use Rattle.osi_stack.specs.Messages.{shown_of, all_waiting}
+use Rattle.osi_stack.specs.Rounds.{WaitForLive}
+use Rattle.osi_stack.specs.Runs.{quieted}
+use Rattle.osi_stack.specs.State.{Line, line_waits, is_used, used_lines}
+use Rattle.osi_stack.proofs.FirstShown.{quiet_line}
+use Rattle.osi_stack.proofs.Linking.{used_by, joined_lines}
+
+-- the same line, for which nothing waits
+abbrev hush : Line → Line
+hush line = record line { waiting = [] }
+
+or_not : (b w : Bool) → b ≡ false → (b || not w) ≡ true → w ≡ false
+or_not true w e h = cc
+or_not false true e h = cc
+or_not false false e h = refl
+
+-- ---- live connections stay so where one is asked for
+
+push_by : (r p q : ℕ) (c d : Connection) (live : Rows Connection) (b : Bool) → (p == r) ≡ b → is_some (value_at r ((p, d) ∷ live)) ≡ true →
+    (is_some (value_at r live) ≡ true → is_some (value_at r (live ++ (q, c) ∷ [])) ≡ true) → is_some (value_at r ((p, d) ∷ (live ++ (q, c) ∷ []))) ≡ true
+push_by r p q c d live true e here more = rw e refl
+push_by r p q c d live false e here more = rw e (more (rw e at here))
+
+live_push : (r q : ℕ) (c : Connection) (live : Rows Connection) → is_some (value_at r live) ≡ true → is_some (value_at r (live ++ (q, c) ∷ [])) ≡ true
+live_push r q c [] here = cc
+live_push r q c ((p, d) ∷ live) here = push_by r p q c d live (p == r) refl here (live_push r q c live)
+
+or_more : (a b w : Bool) → (a ≡ true → b ≡ true) → (a || w) ≡ true → (b || w) ≡ true
+or_more true b w imp h = ap (λ x. x || w) (imp refl)
+or_more false true w imp h = refl
+or_more false false w imp h = h
+
+pub wait_push : (q : ℕ) (c : Connection) (live : Rows Connection) (lines : Rows Line) → WaitForLive live lines → WaitForLive (live ++ (q, c) ∷ []) lines
+wait_push q c live [] all = tt
+wait_push q c live ((r, line) ∷ lines) all =
+    (or_more (is_some (value_at r live)) (is_some (value_at r (live ++ (q, c) ∷ []))) (not (line_waits line)) (live_push r q c live) all.0, wait_push q c live lines all.1)
+
+-- ---- the lines that are kept
+
+-- a new line joins, where indications wait and where all was told
+pub record Joins (live : Rows Connection) (q : ℕ) (s : Standing) (lines : Rows Line) : Type 0 where
+  pub same : quieted (used_lines live (joined_lines q s lines)) ≡ quieted (used_lines live (joined_lines q s (quieted lines)))
+  pub waiting : all_waiting (used_lines live (joined_lines q s lines)) ≡ all_waiting lines
+  pub none : all_waiting (used_lines live (joined_lines q s (quieted lines))) ≡ []
+
+abbrev new_line : ℕ → Standing → ℕ × Line
+new_line q s = (q, record { session = Some s; waiting = [] })
+
+last_waiting : (live : Rows Connection) (q : ℕ) (s : Standing) (b : Bool) → is_used live (new_line q s) ≡ b → all_waiting (used_lines live (new_line q s ∷ [])) ≡ []
+last_waiting live q s true e = ap all_waiting (used_by live (new_line q s) [] true e)
+last_waiting live q s false e = ap all_waiting (used_by live (new_line q s) [] false e)
+
+row_joins : (live : Rows Connection) (q p : ℕ) (s : Standing) (y : Line) (lines : Rows Line) (b : Bool) → is_some (value_at p live) ≡ b →
+    (is_some (value_at p live) || not (line_waits y)) ≡ true → Joins live q s lines → Joins live q s ((p, y) ∷ lines)
+row_joins live q p s y lines true e may j =
+    let used : is_used live (p, y) ≡ true = ap (λ x. x || line_waits y) e in
+    let still : is_used live (p, hush y) ≡ true = ap (λ x. x || false) e in
+    let kept = used_by live (p, y) (joined_lines q s lines) true used in
+    let hushed = used_by live (p, hush y) (joined_lines q s (quieted lines)) true still in
+    record {
+      same = ap quieted kept ∙ ap (λ (l : Rows Line). (p, hush y) ∷ l) j.same ∙ ap quieted (sym hushed);
+      waiting = ap all_waiting kept ∙ ap (λ (l : List (ℕ × Shown)). shown_of p y.waiting ++ l) j.waiting;
+      none = ap all_waiting hushed ∙ j.none;
+    }
+row_joins live q p s y lines false e may j =
+    let quiet = or_not (is_some (value_at p live)) (line_waits y) e may in
+    let used : is_used live (p, y) ≡ false = ap (λ x. x || line_waits y) e ∙ quiet in
+    let still : is_used live (p, hush y) ≡ false = ap (λ x. x || false) e in
+    let kept = used_by live (p, y) (joined_lines q s lines) false used in
+    let hushed = used_by live (p, hush y) (joined_lines q s (quieted lines)) false still in
+    record {
+      same = ap quieted kept ∙ j.same ∙ ap quieted (sym hushed);
+      waiting = ap all_waiting kept ∙ j.waiting ∙ sym (ap (λ (w : List Shown). shown_of p w ++ all_waiting lines) (quiet_line y quiet));
+      none = ap all_waiting hushed ∙ j.none;
+    }
+
+pub joins_alike : (live : Rows Connection) (q : ℕ) (s : Standing) (lines : Rows Line) → WaitForLive live lines → Joins live q s lines
+joins_alike live q s [] all = record {
+  same = refl;
+  waiting = last_waiting live q s (is_used live (new_line q s)) refl;
+  none = last_waiting live q s (is_used live (new_line q s)) refl;
+}
+joins_alike live q s ((p, y) ∷ lines) all = row_joins live q p s y lines (is_some (value_at p live)) refl all.0 (joins_alike live q s lines all.1)
