@@ -12,6 +12,7 @@ pub mod DeadLines
 pub mod Deaf
 pub mod Dispatch
 pub mod EarlyLines
+pub mod FaultShown
 pub mod Fewer
 pub mod GiveCall
 pub mod Heard

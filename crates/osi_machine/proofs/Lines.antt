@@ -83,7 +83,7 @@ pub other_side : (side : Side) → is_side (other side) side ≡ false
 other_side Left = refl
 other_side Right = refl
 
-own_entry : (side : Side) (r : ℕ) → (is_side side side && (r == r)) ≡ true
+pub own_entry : (side : Side) (r : ℕ) → (is_side side side && (r == r)) ≡ true
 own_entry side r = rw (self_side side, same_number r) refl
 
 -- what the own record then tells

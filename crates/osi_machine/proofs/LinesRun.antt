@@ -41,7 +41,9 @@ mute_lines P b j es k (w ∷ ws) [] f h = absurd h
 pub record IsGood (terms : Terms) (P : Bool → World → Offer → Told → Told → Type 0) (m : Machine) : Type 0 where
   pub offers : List Offer
   pub lines : Lines P m.broken m.journal 1 m.worlds offers
+  -- nothing is told of a reference that was not given, nor of 0
   pub fresh : (d : Side) (n : ℕ) (o : Offer) → length m.worlds < n → told_of d n o m.journal ≡ untold d o
+  pub none : (d : Side) (o : Offer) → told_of d 0 o m.journal ≡ untold d o
   pub agreed : m.terms ≡ terms
 
 -- a note that tells nothing
@@ -50,6 +52,7 @@ mute_good terms P m es f g = record {
   offers = g.offers;
   lines = mute_lines P m.broken m.journal es 1 m.worlds g.offers f g.lines;
   fresh = λ d n o l. told_more d n o m.journal es ∙ f d n _ ∙ g.fresh d n o l;
+  none = λ d o. told_more d 0 o m.journal es ∙ f d 0 _ ∙ g.none d o;
   agreed = g.agreed;
 }
 
@@ -91,6 +94,7 @@ move_good terms P k m side (suc r) w v es f e by tells moves g = record {
       let q = replaced_length r (seen_from side v) m.worlds in
       let z = get_below m.worlds r w e in
       told_same d n o m.journal es (by d n (and_no (is_side d side) (suc r == n) (other_number (suc r) n (λ y. omega arith)))) ∙ g.fresh d n o (omega arith);
+  none = λ d o. told_same d 0 o m.journal es (by d 0 (and_no (is_side d side) (suc r == 0) (other_number (suc r) 0 (λ y. omega arith)))) ∙ g.none d o;
   agreed = g.agreed;
 }
   where
@@ -137,6 +141,7 @@ asked_good terms P k m o small g None h = record {
   lines = append_line P m.broken m.journal 1 m.worlds g.offers _ o
       (seen_told P m.broken _ o _ _ _ _ (sym (g.fresh Left (1 + length m.worlds) o (omega arith))) (sym (g.fresh Right (1 + length m.worlds) o (omega arith))) (by m.broken)) g.lines;
   fresh = λ d n p l. g.fresh d n p (let e = length-append m.worlds (new m.broken ∷ []) in omega arith);
+  none = g.none;
   agreed = g.agreed;
 }
   where
@@ -236,8 +241,8 @@ ended_length side keep k [] = refl
 ended_length side keep k (w ∷ ws) = ap suc (ended_length side keep (k + 1) ws)
 
 marked_good : (terms : Terms) (P : Bool → World → Offer → Told → Told → Type 0) (side : Side) (e : Ending) (m : Machine) → IsGood terms P m → IsGood terms P (marked_ended side e m)
-marked_good terms P Left e m g = record { offers = g.offers; lines = g.lines; fresh = g.fresh; agreed = g.agreed }
-marked_good terms P Right e m g = record { offers = g.offers; lines = g.lines; fresh = g.fresh; agreed = g.agreed }
+marked_good terms P Left e m g = record { offers = g.offers; lines = g.lines; fresh = g.fresh; none = g.none; agreed = g.agreed }
+marked_good terms P Right e m g = record { offers = g.offers; lines = g.lines; fresh = g.fresh; none = g.none; agreed = g.agreed }
 
 end_good : (terms : Terms) (P : Bool → World → Offer → Told → Told → Type 0) → IsKept terms P → (m : Machine) (side : Side) (e : Ending) (keep : ℕ → ℕ) → IsGood terms P m
     → IsGood terms P (after_end side e keep m)
@@ -246,18 +251,18 @@ end_good terms P q m side e keep g = marked_good terms P side e _ (record {
   lines = subst (λ (x : List Entry). Lines P m.broken x 1 (ended_worlds side keep 1 m.worlds) g.offers) (append_assoc m.journal (shown_in_order side 1 m.worlds) (ended side e ∷ []))
       (mute_lines P m.broken (m.journal ++ shown_in_order side 1 m.worlds) (ended side e ∷ []) 1 (ended_worlds side keep 1 m.worlds) g.offers (ended_mute side e)
       (end_lines terms P q m.broken side keep m.journal [] 1 m.worlds g.offers (λ d n l. refl) g.lines));
-  fresh = λ d n o l.
-      let z = ended_length side keep 1 m.worlds in
-      told_same d n o m.journal (shown_in_order side 1 m.worlds ++ ended side e ∷ [])
-      (record_append d n (shown_in_order side 1 m.worlds) (ended side e ∷ []) ∙ append_nil (record_of d n (shown_in_order side 1 m.worlds))
-      ∙ early side d n 1 m.worlds (omega arith)) ∙ g.fresh d n o (omega arith);
+  fresh = λ d n o l. let z = ended_length side keep 1 m.worlds in told_same d n o m.journal _ (none_told d n (early side d n 1 m.worlds (omega arith))) ∙ g.fresh d n o (omega arith);
+  none = λ d o. told_same d 0 o m.journal _ (none_told d 0 (late side d 0 1 m.worlds (omega arith))) ∙ g.none d o;
   agreed = g.agreed;
 })
+  where
+    none_told : (d : Side) (n : ℕ) → record_of d n (shown_in_order side 1 m.worlds) ≡ [] → record_of d n (shown_in_order side 1 m.worlds ++ ended side e ∷ []) ≡ []
+    none_told d n f = record_append d n (shown_in_order side 1 m.worlds) (ended side e ∷ []) ∙ append_nil (record_of d n (shown_in_order side 1 m.worlds)) ∙ f
 
 -- ---- a delivery
 
 known_good : (terms : Terms) (P : Bool → World → Offer → Told → Told → Type 0) (m : Machine) (known : Option Class) → IsGood terms P m → IsGood terms P (record m { known = known })
-known_good terms P m known g = record { offers = g.offers; lines = g.lines; fresh = g.fresh; agreed = g.agreed }
+known_good terms P m known g = record { offers = g.offers; lines = g.lines; fresh = g.fresh; none = g.none; agreed = g.agreed }
 
 -- a side takes a message, with these terms
 taking_good : (terms : Terms) (P : Bool → World → Offer → Told → Told → Type 0) → IsKept terms P → (m : Machine) (side : Side) (r : ℕ) (keep : ℕ → ℕ) (w : World) (x : Message) (xs : List Message)
@@ -328,6 +333,7 @@ break_good terms P q m left right g = by m.broken refl
       offers = g.offers;
       lines = cut_lines terms P q m.journal left right 1 m.worlds g.offers (subst (λ (b : Bool). Lines P b m.journal 1 m.worlds g.offers) e g.lines);
       fresh = λ d n o l. g.fresh d n o (let z = cut_length left right 1 m.worlds in omega arith);
+      none = g.none;
       agreed = g.agreed;
     }
 
@@ -355,4 +361,4 @@ run_good terms P q m [] small g = g
 run_good terms P q m (s ∷ steps) small g = run_good terms P q (step m s) steps small.1 (step_good terms P q m s small.0 g)
 
 pub all_good : (terms : Terms) (P : Bool → World → Offer → Told → Told → Type 0) → IsKept terms P → (steps : List Step) → AllByRecursion HasNumber steps → IsGood terms P (run (start terms) steps)
-all_good terms P q steps small = run_good terms P q (start terms) steps small (record { offers = []; lines = tt; fresh = λ d n o l. refl; agreed = refl })
+all_good terms P q steps small = run_good terms P q (start terms) steps small (record { offers = []; lines = tt; fresh = λ d n o l. refl; none = λ d o. refl; agreed = refl })

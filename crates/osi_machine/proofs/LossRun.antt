@@ -1,12 +1,12 @@
 -- After every list of steps, a side is shown a loss only where it was told of a break or found no memory.
-use Rattle.std.proofs.Common.{◌≡◌, refl, sym, ◌∙◌, ap, subst, ℕ, zero, suc, ◌+◌, Bool, true, false, not, ◌&&◌, ◌||◌, nat_le, if◌then◌else◌, List, [], ◌∷◌, ◌++◌, map, length, Option, Some, None, is_some, inl, inr, ◌⊎◌}
+use Rattle.std.proofs.Common.{◌≡◌, refl, sym, ◌∙◌, ap, subst, ℕ, zero, suc, ◌+◌, Bool, true, false, not, ◌&&◌, ◌||◌, if◌then◌else◌, List, [], ◌∷◌, ◌++◌, map, Option, Some, None, is_some, inl, inr, ◌⊎◌}
 use Rattle.std.specs.List.{AllByRecursion, list_any, slice_get}
 use Rattle.osi_session.specs.declared.faults.CallError.TheVariants as error
 use Rattle.osi_session.specs.Shown.{Shown, Lost}
-use Rattle.osi_machine.specs.Floor.{CallError, Call, HasSerial, allowed, is_over, is_profile, shows_loss}
+use Rattle.osi_machine.specs.Floor.{Call, allowed, shows_loss}
 use Rattle.osi_machine.specs.Core.{Offer, Side, Left, Right}
 use Rattle.osi_machine.specs.Worlds.{Class, class_0, class_2, Message, agree, Transport, waiting, World, turned, session_of, asked_with, after_answer, Taking, Terms, accepts, denies, message_taken, closed, ended_at, shown_at_end}
-use Rattle.osi_machine.specs.Machine.{Ending, told_of_break, closed_here, no_memory, Refusal, Step, connects, calls, delivers, breaks, ends, Entry, connect_answered, call_answered, shown_at, ended, Machine, start, connection_at, replaced, with_connection, seen_from, end_of, stays, noted, is_given, is_waiting, is_known, is_class_0, transport_of, live_count, is_long, refusal_by, refusal, asked_in, error_of, call_in, side_of, ends_there, ended_worlds, shown_in_order, marked_ended, after_end, closes_by, after_taking, without_first, learns, taken_in, delivered_to, cut_channels, is_told, step, run, HasNumber}
+use Rattle.osi_machine.specs.Machine.{Ending, told_of_break, closed_here, no_memory, Refusal, Step, connects, calls, delivers, breaks, ends, Entry, connect_answered, call_answered, shown_at, ended, Machine, start, connection_at, replaced, with_connection, seen_from, end_of, stays, noted, is_given, is_waiting, is_known, is_class_0, transport_of, refusal, asked_in, error_of, call_in, side_of, ends_there, ended_worlds, shown_in_order, marked_ended, after_end, closes_by, after_taking, without_first, learns, taken_in, delivered_to, cut_channels, is_told, step, run, HasNumber}
 use Rattle.osi_machine.specs.Views.{Told, is_side}
 use Rattle.osi_machine.specs.Runs.{is_loss, loses, LosesByItsEnd, IsRun}
 use Rattle.osi_machine.proofs.CoreLaws.{SessionLaws}
@@ -625,7 +625,7 @@ pub losses_have_an_end : SessionLaws → (m : Machine) → IsRun m → LosesByIt
 losses_have_an_end laws m h side e = subst (λ (x : Machine). list_any (is_loss side) x.journal ≡ true → loses (end_of side x) ≡ true) h.reached (by (loses (end_of side (run (start h.agreed) h.steps))) refl) e
   where
     calm : IsCalm (run (start h.agreed) h.steps)
-    calm = run_calm laws h.agreed (start h.agreed) h.steps h.numbered (record { offers = []; lines = tt; fresh = λ d n o l. refl; agreed = refl }) (start_calm h.agreed)
+    calm = run_calm laws h.agreed (start h.agreed) h.steps h.numbered (record { offers = []; lines = tt; fresh = λ d n o l. refl; none = λ d o. refl; agreed = refl }) (start_calm h.agreed)
 
     by : (b : Bool) → loses (end_of side (run (start h.agreed) h.steps)) ≡ b → list_any (is_loss side) (run (start h.agreed) h.steps).journal ≡ true → b ≡ true
     by true q k = refl

@@ -1,12 +1,13 @@
 -- What the records of both sides tell after every list of steps of the machine.
-use Rattle.std.proofs.Common.{◌≡◌, refl, sym, ◌∙◌, ap, subst, ℕ, zero, suc, ◌+◌, ◌<◌, Bool, true, false, not, ◌&&◌, ◌||◌, List, [], ◌∷◌, ◌++◌, length, Option, Some, None, inl, inr, arith}
+use Rattle.std.proofs.Common.{◌≡◌, refl, sym, ◌∙◌, ap, subst, ℕ, zero, suc, ◌+◌, ◌<◌, Bool, true, false, not, ◌&&◌, ◌||◌, List, [], ◌∷◌, ◌++◌, length, Option, Some, None, inl, inr, ◌⊎◌, arith}
+use Rattle.std.proofs.Math.Bool.{or_comm}
 use Rattle.std.specs.List.{slice_get}
 use Rattle.osi_machine.specs.Floor.{has, is_over, FunctionalUnits}
 use Rattle.osi_machine.specs.Histories.{Item, Point, PointKind, points, Begins, Agree}
 use Rattle.osi_machine.specs.Owners.{turned_owner, is_own}
 use Rattle.osi_machine.specs.Core.{Offer, Left, Right, Core, turned as turned_core}
 use Rattle.osi_machine.specs.Parties.{is_opening}
-use Rattle.osi_machine.specs.Worlds.{World, Kept, turned, session_of}
+use Rattle.osi_machine.specs.Worlds.{World, turned, session_of}
 use Rattle.osi_machine.specs.Machine.{Machine, Entry, connection_at}
 use Rattle.osi_machine.specs.Views.{Told, told_of}
 use Rattle.osi_machine.specs.Runs.{IsRun, OfEach, HasOneHolder, ShowNoFault, RecordsAgree, ShownAsAsked, ConfirmedThere, ConfirmedInBoth}
@@ -46,11 +47,14 @@ line_at b j k (suc r) (v ∷ ws) (o ∷ os) w e h =
 line_at b j k zero (v ∷ ws) [] w e h = absurd h
 line_at b j k (suc r) (v ∷ ws) [] w e h = absurd h
 
+pub good_run : SessionLaws → (m : Machine) (h : IsRun m) → IsGood h.agreed Whole m
+good_run laws m h = subst (IsGood h.agreed Whole) h.reached (all_good h.agreed Whole (whole_kept laws h.agreed) h.steps h.numbered)
+
 pub stage_at : SessionLaws → (m : Machine) → IsRun m → (r : ℕ) (w : World) → connection_at r m.worlds ≡ Some w
     → Stage m.broken w (told_of Left r w.offer m.journal) (told_of Right r w.offer m.journal)
 stage_at laws m h zero w e = absurd (cc)
 stage_at laws m h (suc r) w e =
-    let g = subst (IsGood h.agreed Whole) h.reached (all_good h.agreed Whole (whole_kept laws h.agreed) h.steps h.numbered) in
+    let g = good_run laws m h in
     subst (λ (n : ℕ). Stage m.broken w (told_of Left n w.offer m.journal) (told_of Right n w.offer m.journal)) (omega arith)
     (line_at m.broken m.journal 1 r m.worlds g.offers w e g.lines)
 
@@ -102,22 +106,37 @@ records_agree b w s t (inr (inr h)) d e =
 begins_nil : {A : Type 0} → (xs ys : List A) → xs ≡ [] → Begins xs ys
 begins_nil xs ys e = subst (λ r. Begins r ys) (sym e) (ys, refl)
 
+-- a record of a side that is open tells whether duplex is selected
+told_duplex : (t : Told) (c : Core) → Stands c → Tells t c.own.session c.own.view c.own.said c.own.got → is_opening c.own.session.phase ≡ false → t.duplex ≡ c.own.session.units.duplex
+told_duplex t c s h e = h.duplex (rw (e, alive c.owner c.own c.peer s.own) refl)
+
+-- and both sides that are open have the same units
+same_duplex : (c : Core) → Stands c → is_opening c.own.session.phase ≡ false → is_opening c.peer.session.phase ≡ false → c.peer.session.units.duplex ≡ c.own.session.units.duplex
+same_duplex c s e f = ap (λ (u : FunctionalUnits). u.duplex)
+    (sym (flush_open c.peer.session c.own.sent f s.peer.fits).units ∙ sym s.own.meeting.units ∙ (flush_open c.own.session c.peer.sent e s.own.fits).units)
+
+-- so that duplex is selected at a side that is open, where either record tells so
+either_duplex : (a b d : Bool) → a ≡ d → (b ≡ false) ⊎ (b ≡ d) → (a || b) ≡ true → d ≡ true
+either_duplex true b d p q h = sym p
+either_duplex false true d p (inl q) h = absurd (cc)
+either_duplex false true d p (inr q) h = sym q
+either_duplex false false d p q h = absurd (cc)
+
 -- what one side is shown
 shown_there : (s t : Told) (c : Core) → Stands c → Tells s c.own.session c.own.view c.own.said c.own.got → Tells t c.peer.session c.peer.view c.peer.said c.peer.got
-    → s.duplex ≡ true → Begins s.indicated t.requested
+    → (s.duplex || t.duplex) ≡ true → Begins s.indicated t.requested
 shown_there s t c k h j d = by (is_opening c.own.session.phase) refl
   where
-    begun : (a e : Bool) → a ≡ false → e ≡ false → not (a || e) ≡ true
-    begun a e p q = rw (p, q) refl
+    peer_told : is_opening c.own.session.phase ≡ false → (b : Bool) → is_opening c.peer.session.phase ≡ b → (t.duplex ≡ false) ⊎ (t.duplex ≡ c.own.session.units.duplex)
+    peer_told e true f = inl (j.unselected f)
+    peer_told e false f = inr (told_duplex t (turned_core c) (turned_stands c k) j f ∙ same_duplex c k e f)
 
     own_duplex : is_opening c.own.session.phase ≡ false → c.own.session.units.duplex ≡ true
-    own_duplex e = sym (h.duplex (begun (is_opening c.own.session.phase) (is_over c.own.session.phase) e (alive c.owner c.own c.peer k.own))) ∙ d
+    own_duplex e = either_duplex s.duplex t.duplex c.own.session.units.duplex (told_duplex s c k h e) (peer_told e (is_opening c.peer.session.phase) refl) d
 
     asked : is_opening c.own.session.phase ≡ false → (b : Bool) → is_opening c.peer.session.phase ≡ b → t.requested ≡ c.peer.said
     asked e true f = (j.silent f).0 ∙ sym (k.consistent.peer.fresh f).said
-    asked e false f =
-        let units = sym (flush_open c.peer.session c.own.sent f k.peer.fits).units ∙ sym k.own.meeting.units ∙ (flush_open c.own.session c.peer.sent e k.own.fits).units in
-        j.said (ap (λ (u : FunctionalUnits). u.duplex) units ∙ own_duplex e)
+    asked e false f = j.said (same_duplex c k e f ∙ own_duplex e)
 
     by : (b : Bool) → is_opening c.own.session.phase ≡ b → Begins s.indicated t.requested
     by true e = begins_nil s.indicated t.requested (h.silent e).1
@@ -126,17 +145,17 @@ shown_there s t c k h j d = by (is_opening c.own.session.phase) refl
         (subst (Begins c.own.got) (sym (asked e (is_opening c.peer.session.phase) refl)) (got_what_was_said c k (own_duplex e)))
 
 pub shown_as_asked : (b : Bool) (w : World) (s t : Told) → Stage b w s t → ShownAsAsked w s t
-shown_as_asked b w s t (inl h) = (
-  λ d. begins_nil s.indicated t.requested (ap (λ (x : Told). x.indicated) h.own_told),
-  λ d. begins_nil t.indicated s.requested (ap (λ (x : Told). x.indicated) h.peer_told),
+shown_as_asked b w s t (inl h) d = (
+  begins_nil s.indicated t.requested (ap (λ (x : Told). x.indicated) h.own_told),
+  begins_nil t.indicated s.requested (ap (λ (x : Told). x.indicated) h.peer_told),
 )
-shown_as_asked b w s t (inr (inl h)) = (
-  λ d. begins_nil s.indicated t.requested (ap (λ (x : Told). x.indicated) h.peer_told),
-  λ d. begins_nil t.indicated s.requested (ap (λ (x : Told). x.indicated) h.own_told),
+shown_as_asked b w s t (inr (inl h)) d = (
+  begins_nil s.indicated t.requested (ap (λ (x : Told). x.indicated) h.peer_told),
+  begins_nil t.indicated s.requested (ap (λ (x : Told). x.indicated) h.own_told),
 )
-shown_as_asked b w s t (inr (inr h)) = (
-  λ d. shown_there s t h.core h.stands h.own h.peer d,
-  λ d. shown_there t s (turned_core h.core) (turned_stands h.core h.stands) h.peer h.own d,
+shown_as_asked b w s t (inr (inr h)) d = (
+  shown_there s t h.core h.stands h.own h.peer d,
+  shown_there t s (turned_core h.core) (turned_stands h.core h.stands) h.peer h.own (or_comm t.duplex s.duplex ∙ d),
 )
 
 -- ---- what is confirmed

@@ -87,8 +87,8 @@ start_repeats broken w t u h k e b = record {
   core = core_start w.offer;
   stands = offer_stands w.offer h.small h.profile;
   projects = record { history = h.history; own = started_own broken w t u h k e; peer = started_peer broken w t u h b e };
-  own = subst (λ (d : Told). Tells d (offering w.offer) [] [] []) (sym h.own_told) (record { asked = λ c. (refl, refl); fresh = λ o. refl; base = refl; view = λ d. refl; asking = refl; duplex = λ o. absurd (cc); fine = refl; silent = λ k. (refl, refl); said = λ k. refl; got = λ k. refl; pointed = refl });
-  peer = subst (λ (d : Told). Tells d awaiting [] [] []) (sym h.peer_told) (record { asked = λ c. absurd (cc); fresh = λ o. refl; base = refl; view = λ d. refl; asking = refl; duplex = λ o. absurd (cc); fine = refl; silent = λ k. (refl, refl); said = λ k. refl; got = λ k. refl; pointed = refl });
+  own = subst (λ (d : Told). Tells d (offering w.offer) [] [] []) (sym h.own_told) (record { asked = λ c. (refl, refl); fresh = λ o. refl; base = refl; view = λ d. refl; asking = refl; duplex = λ o. absurd (cc); fine = refl; unselected = λ k. refl; silent = λ k. (refl, refl); said = λ k. refl; got = λ k. refl; pointed = refl });
+  peer = subst (λ (d : Told). Tells d awaiting [] [] []) (sym h.peer_told) (record { asked = λ c. absurd (cc); fresh = λ o. refl; base = refl; view = λ d. refl; asking = refl; duplex = λ o. absurd (cc); fine = refl; unselected = λ k. refl; silent = λ k. (refl, refl); said = λ k. refl; got = λ k. refl; pointed = refl });
 }
 
 -- ---- what the caller takes

@@ -1,6 +1,6 @@
 -- What two users may rely on, read from the tables and the journal.
 use Rattle.std.proofs.Common.{◌≡◌, refl, sym, ◌∙◌, ap, subst, ℕ, zero, suc, List, [], ◌∷◌, map, Option, Some, None}
-use Rattle.std.specs.List.{AllByRecursion, slice_get}
+use Rattle.std.specs.List.{AllByRecursion, list_any, slice_get}
 use Rattle.osi_machine.specs.Floor.{State}
 use Rattle.osi_machine.specs.Core.{Offer, Side, Left, Right}
 use Rattle.osi_machine.specs.Worlds.{World, Terms, turned, session_of}
@@ -8,13 +8,14 @@ use Rattle.osi_machine.specs.Machine.{IsLegal, Step, Entry, Machine, start, conn
 use Rattle.osi_machine.specs.Tables.{Line, Tables}
 use Rattle.osi_machine.specs.Tables as tables
 use Rattle.osi_machine.specs.Views.{Told, told_of}
-use Rattle.osi_machine.specs.Runs.{IsRun, loses, LosesByItsEnd}
-use Rattle.osi_machine.specs.AsTables.{IsSeat, IsLine, AreLines, IsAsTables, offers_in, IsTableRun, IsOffered, AreOffered, OfEachLine, HoldNoneTwice, AreNoFaults, AreAgreed, IsShownAsAsked, IsSeenInBoth, LosesAsItEnds}
+use Rattle.osi_machine.specs.Runs.{IsRun, is_fault, loses, LosesByItsEnd}
+use Rattle.osi_machine.specs.AsTables.{IsLine, AreLines, IsAsTables, offers_in, IsTableRun, AreOffered, OfEachLine, HoldNoneTwice, AreNoFaults, AreAgreed, IsShownAsAsked, IsSeenInBoth, TellsNoFault, LosesAsItEnds}
 use Rattle.osi_machine.proofs.CoreLaws.{SessionLaws}
+use Rattle.osi_machine.proofs.FaultShown.{no_fault_shown}
 use Rattle.osi_machine.proofs.OffersTold.{offer_of, Offered, run_offered}
 use Rattle.osi_machine.proofs.MachineLaws.{holders, no_faults, agreements, duplex_agreements, confirmations}
 use Rattle.osi_machine.proofs.LossRun.{losses_have_an_end}
-use Rattle.osi_machine.proofs.TableLines.{line_of, Tabled, SaysItsUnit}
+use Rattle.osi_machine.proofs.TableLines.{Tabled, SaysItsUnit}
 use Rattle.osi_machine.proofs.TableRuns.{AllTabled, At, tables_of, Follows, line_there, all_follow}
 
 -- ---- the machine and its tables side by side
@@ -137,7 +138,14 @@ table_duplex laws says = of_runs laws says IsShownAsAsked (duplex_agreements law
 pub table_confirmations : SessionLaws → SaysItsUnit → (t : Tables) → IsTableRun t → OfEachLine IsSeenInBoth t
 table_confirmations laws says = of_runs laws says IsSeenInBoth (confirmations laws)
 
--- ---- losses
+-- ---- what the whole journal says
+
+pub table_faultless : SessionLaws → SaysItsUnit → (t : Tables) → IsTableRun t → TellsNoFault t
+table_faultless laws says t h =
+    let same = all_follow laws says h.agreed h.steps h.numbered in
+    subst TellsNoFault h.reached
+    (ap (λ (x : Tables). list_any is_fault x.journal) same.same
+    ∙ no_fault_shown laws (run (start h.agreed) h.steps) (record { agreed = h.agreed; steps = h.steps; numbered = h.numbered; reached = refl }))
 
 ends_as : (side : Side) (m : Machine) (ls : List Line) → tables.end_of side (tables_of m ls) ≡ end_of side m
 ends_as Left m ls = refl

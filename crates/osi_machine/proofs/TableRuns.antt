@@ -1,28 +1,24 @@
 -- Over every list of steps the tables do what the machine does.
-use Rattle.std.proofs.Common.{◌≡◌, refl, sym, ◌∙◌, ap, subst, ℕ, zero, suc, ◌+◌, Bool, true, false, not, ◌||◌, if◌then◌else◌, List, [], ◌∷◌, ◌++◌, map, length, take, Option, Some, None, is_some, inl, inr}
+use Rattle.std.proofs.Common.{◌≡◌, refl, sym, ◌∙◌, ap, subst, ℕ, zero, suc, ◌+◌, Bool, true, false, not, ◌||◌, if◌then◌else◌, List, [], ◌∷◌, ◌++◌, map, Option, Some, None, is_some, inl, inr}
 use Rattle.std.specs.List.{AllByRecursion, slice_get}
-use Rattle.osi_session.specs.declared.faults.CallError.TheVariants as error
-use Rattle.osi_session.specs.Moves.{called, taken, broken as broken_off, react}
+use Rattle.osi_session.specs.Moves.{taken, broken as broken_off, react}
 use Rattle.osi_session.specs.Shown.{Shown}
 use Rattle.osi_message.specs.Sendable.{said_of}
 use Rattle.osi_machine.specs.Floor.{CallError, Call, HasSerial, Meaning, allowed}
 use Rattle.osi_machine.specs.Core.{Offer, Side, Left, Right}
-use Rattle.osi_machine.specs.Worlds.{Class, class_0, class_2, Message, unit, Transport, linked, World, turned, session_of, asked_with, after_answer, Taking, unit_taken, Terms, message_taken, closed, ended_at, shown_at_end}
+use Rattle.osi_machine.specs.Worlds.{Class, class_0, class_2, Message, unit, Transport, linked, World, turned, session_of, after_answer, Taking, unit_taken, Terms, message_taken, ended_at, shown_at_end}
 use Rattle.osi_machine.specs.Machine.{Ending, closed_here, Refusal, Step, connects, calls, delivers, breaks, ends, Entry, connect_answered, call_answered, shown_at, ended, Machine, start, connection_at, replaced, with_connection, seen_from, end_of, stays, noted, is_given, refusal_by, transport_of, refusal, asked_in, error_of, call_in, side_of, ends_there, ended_worlds, shown_in_order, marked_ended, after_end, closes_by, after_taking, without_first, learns, taken_in, delivered_to, cut_channels, is_told, step, run, HasNumber}
 use Rattle.osi_machine.specs.Tables.{Seat, Line, Turn, Tables}
 use Rattle.osi_machine.specs.Tables as tables
 use Rattle.osi_machine.specs.AsTables.{cut_line}
 use Rattle.osi_machine.specs.Views.{Told, told_of}
 use Rattle.osi_machine.proofs.CoreLaws.{SessionLaws}
-use Rattle.osi_machine.proofs.Projects.{is_begun}
-use Rattle.osi_machine.proofs.ProjectWorld.{Repeats}
-use Rattle.osi_machine.proofs.ProjectStart.{Way, nothing_sent, asked, agreed, denied, asks, replies, Opens, caller_refuses, called_refuses, Refuses}
-use Rattle.osi_machine.proofs.Lines.{Lines, cut_to}
+use Rattle.osi_machine.proofs.ProjectStart.{Way, nothing_sent, asked, agreed, denied, asks, replies, caller_refuses, called_refuses, Refuses}
 use Rattle.osi_machine.proofs.LinesRun.{IsGood, step_good}
 use Rattle.osi_machine.proofs.Whole.{Stage, Whole, whole_kept, turned_back, turned_stage}
 use Rattle.osi_machine.proofs.MachineLaws.{line_at}
-use Rattle.osi_machine.proofs.TableLines.{line_of, AreSeated, Tabled, turn_of, TurnTabled, turned_tabled, call_tabled, refused_tabled, error_as, SaysItsUnit, unit_tabled}
-use Rattle.osi_machine.proofs.TableMessages.{is_heard, message_tabled, close_tabled, shown_as, end_tabled, break_tabled, new_tabled}
+use Rattle.osi_machine.proofs.TableLines.{line_of, AreSeated, Tabled, TurnTabled, turned_tabled, call_tabled, refused_tabled, error_as, SaysItsUnit, unit_tabled}
+use Rattle.osi_machine.proofs.TableMessages.{message_tabled, close_tabled, shown_as, end_tabled, break_tabled, new_tabled}
 
 -- ---- all connections
 
@@ -339,4 +335,4 @@ run_follows laws says terms t m (s ∷ steps) small h g =
 
 pub all_follow : SessionLaws → SaysItsUnit → (terms : Terms) (steps : List Step) → AllByRecursion HasNumber steps → Follows (tables.run (tables.start terms) steps) (run (start terms) steps)
 all_follow laws says terms steps small =
-    run_follows laws says terms (tables.start terms) (start terms) steps small (record { lines = []; all = tt; same = refl }) (record { offers = []; lines = tt; fresh = λ d n o l. refl; agreed = refl })
+    run_follows laws says terms (tables.start terms) (start terms) steps small (record { lines = []; all = tt; same = refl }) (record { offers = []; lines = tt; fresh = λ d n o l. refl; none = λ d o. refl; agreed = refl })

@@ -25,6 +25,8 @@ pub record Tells (t : Told) (s : State) (v : List Item) (spoken heard : List (Li
   pub asking : t.asking ≡ is_restarting s.phase
   pub duplex : is_open s.phase ≡ true → t.duplex ≡ s.units.duplex
   pub fine : t.faulted ≡ false
+  -- before it is open
+  pub unselected : is_opening s.phase ≡ true → t.duplex ≡ false
   -- with duplex, the data of both directions
   pub silent : is_opening s.phase ≡ true → (t.requested ≡ []) × (t.indicated ≡ [])
   pub said : s.units.duplex ≡ true → t.requested ≡ spoken
@@ -45,6 +47,7 @@ same_tells t s r v w x x' y y' p u n b e f g h = record {
   asking = h.asking ∙ ap is_restarting (sym p);
   duplex = λ o. h.duplex (ap is_open (sym p) ∙ o) ∙ ap (λ (z : FunctionalUnits). z.duplex) (sym u);
   fine = h.fine;
+  unselected = λ o. h.unselected (ap is_opening (sym p) ∙ o);
   silent = λ o. h.silent (ap is_opening (sym p) ∙ o);
   said = λ d. h.said (ap (λ (z : FunctionalUnits). z.duplex) (sym u) ∙ d) ∙ sym f;
   got = λ d. h.got (ap (λ (z : FunctionalUnits). z.duplex) (sym u) ∙ d) ∙ sym g;
@@ -78,6 +81,7 @@ calm_tells t s v said got c b e a d f x y q =
       asking = a ∙ sym p.1;
       duplex = d;
       fine = f;
+      unselected = λ k. absurd (cc);
       silent = λ k. absurd (cc);
       said = x;
       got = y;
@@ -151,6 +155,7 @@ call_tells t s (Restart m wishes octets) v said got k p n f h =
       asking = refl;
       duplex = λ o. h.duplex (implied may_restart is_open refl s.phase p);
       fine = h.fine;
+      unselected = λ c. absurd (cc);
       silent = λ c. absurd (cc);
       said = λ d. h.said d ∙ sym (append_nil said);
       got = h.got;
@@ -198,6 +203,7 @@ unit_tells t s (CN w r n x from to o) v said got p g f h =
       asking = not_asking t s v said got h (excluded is_wait_cn is_restarting refl s.phase g.expected);
       duplex = λ c. absurd (cc);
       fine = h.fine;
+      unselected = λ c. h.unselected open_now;
       silent = λ c. h.silent open_now;
       said = λ d. (h.silent open_now).0 ∙ sym (f open_now).1;
       got = λ d. (h.silent open_now).1 ∙ sym (append_nil got ∙ (f open_now).2);

@@ -203,8 +203,8 @@ run_tells laws w (step ∷ steps) left right small s h =
 
 starts_told : (o : Offer) → TellBoth (core_start o) (untold Left o) (untold Right o)
 starts_told o = record {
-  left = record { asked = λ c. (refl, refl); fresh = λ k. refl; base = refl; view = λ d. refl; asking = refl; duplex = λ o. absurd (cc); fine = refl; silent = λ k. (refl, refl); said = λ d. refl; got = λ d. refl; pointed = refl };
-  right = record { asked = λ c. absurd (cc); fresh = λ k. refl; base = refl; view = λ d. refl; asking = refl; duplex = λ o. absurd (cc); fine = refl; silent = λ k. (refl, refl); said = λ d. refl; got = λ d. refl; pointed = refl };
+  left = record { asked = λ c. (refl, refl); fresh = λ k. refl; base = refl; view = λ d. refl; asking = refl; duplex = λ o. absurd (cc); fine = refl; unselected = λ k. refl; silent = λ k. (refl, refl); said = λ d. refl; got = λ d. refl; pointed = refl };
+  right = record { asked = λ c. absurd (cc); fresh = λ k. refl; base = refl; view = λ d. refl; asking = refl; duplex = λ o. absurd (cc); fine = refl; unselected = λ k. refl; silent = λ k. (refl, refl); said = λ d. refl; got = λ d. refl; pointed = refl };
 }
 
 pub are_told : SessionLaws → (o : Offer) (steps : List CoreStep) → AllByRecursion IsNumberedStep steps → Stands (core_start o) → AreTold o steps

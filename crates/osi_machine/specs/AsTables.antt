@@ -1,5 +1,5 @@
 -- The machine beside its tables, and what two users may rely on, read from the tables and the journal alone.
-use Rattle.std.specs.Prelude.{◌≡◌, ℕ, ◌<◌, true, false, ◌&&◌, List, [], ◌∷◌, ◌++◌, take, Option, Some, None}
+use Rattle.std.specs.Prelude.{◌≡◌, ℕ, ◌<◌, true, false, ◌&&◌, ◌||◌, List, [], ◌∷◌, ◌++◌, take, Some, None}
 use Rattle.std.specs.List.{AllByRecursion, list_any}
 use Rattle.osi_session.specs.Sessions.{CanBeSent}
 use Rattle.osi_machine.specs.Floor.{State, Token, has, IsSound, IsSendable}
@@ -8,7 +8,7 @@ use Rattle.osi_machine.specs.Core.{Offer, Side, Left, Right}
 use Rattle.osi_machine.specs.Worlds.{Message, unit, World, Terms, turned, session_of}
 use Rattle.osi_machine.specs.Machine.{Step, Entry, connect_answered, Machine, HasNumber, connection_at}
 use Rattle.osi_machine.specs.Tables.{Seat, Line, Tables, start, run, end_of}
-use Rattle.osi_machine.specs.Runs.{is_loss, loses}
+use Rattle.osi_machine.specs.Runs.{is_fault, is_loss, loses}
 use Rattle.osi_machine.specs.Views.{Told, told_of}
 
 -- a side as the tables have it is the first side of a connection of the machine
@@ -105,10 +105,10 @@ AreNoFaults s p left right = (left.faulted ≡ false) × (right.faulted ≡ fals
 abbrev pub AreAgreed : State → State → Told → Told → Type 0
 AreAgreed s p left right = left.duplex ≡ false → right.duplex ≡ false → Agree left.view right.view
 
--- with duplex, the data that a side is shown is how the data that the other asked to send begins
+-- where either record tells that duplex is selected, the data that each side is shown is how the data that
+-- the other asked to send begins
 abbrev pub IsShownAsAsked : State → State → Told → Told → Type 0
-IsShownAsAsked s p left right =
-    (left.duplex ≡ true → Begins left.indicated right.requested) × (right.duplex ≡ true → Begins right.indicated left.requested)
+IsShownAsAsked s p left right = (left.duplex || right.duplex) ≡ true → Begins left.indicated right.requested × Begins right.indicated left.requested
 
 -- each point in the view of a side with a number below its V(A) is in the view of the other, behind the
 -- same items; unless the other has asked for a restart and has seen no answer
@@ -119,6 +119,10 @@ IsSeenThere s own other =
 
 abbrev pub IsSeenInBoth : State → State → Told → Told → Type 0
 IsSeenInBoth s p left right = IsSeenThere s left right × IsSeenThere p right left
+
+-- no entry of the journal is a fault that is shown, whatever its reference
+abbrev pub TellsNoFault : Tables → Type 0
+TellsNoFault t = list_any is_fault t.journal ≡ false
 
 -- a side is shown a loss only where it was told of a break or found no memory
 abbrev pub LosesAsItEnds : Tables → Type 0

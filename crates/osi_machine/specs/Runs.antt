@@ -1,7 +1,7 @@
 -- What two users may rely on after every list of steps of the machine, by what their records tell.
-use Rattle.std.specs.Prelude.{◌≡◌, ℕ, ◌<◌, Bool, true, false, ◌&&◌, List, [], ◌∷◌, ◌++◌, take, Option, Some}
+use Rattle.std.specs.Prelude.{◌≡◌, ℕ, ◌<◌, Bool, true, false, ◌&&◌, ◌||◌, List, [], ◌∷◌, ◌++◌, take, Option, Some}
 use Rattle.std.specs.List.{AllByRecursion, list_any}
-use Rattle.osi_session.specs.Shown.{Lost}
+use Rattle.osi_session.specs.Shown.{Lost, PeerAbort, BadUnit}
 use Rattle.osi_machine.specs.Floor.{Token, has, Call, Meaning}
 use Rattle.osi_machine.specs.Histories.{Item, Point, PointKind, Begins, Agree}
 use Rattle.osi_machine.specs.Core.{Offer, Side, Left, Right}
@@ -34,10 +34,10 @@ ShowNoFault w left right = (left.faulted ≡ false) × (right.faulted ≡ false)
 abbrev pub RecordsAgree : World → Told → Told → Type 0
 RecordsAgree w left right = left.duplex ≡ false → right.duplex ≡ false → Agree left.view right.view
 
--- with duplex, the data that a side is shown is how the data that the other asked to send begins
+-- where either record tells that duplex is selected, the data that each side is shown is how the data that
+-- the other asked to send begins
 abbrev pub ShownAsAsked : World → Told → Told → Type 0
-ShownAsAsked w left right =
-    (left.duplex ≡ true → Begins left.indicated right.requested) × (right.duplex ≡ true → Begins right.indicated left.requested)
+ShownAsAsked w left right = (left.duplex || right.duplex) ≡ true → Begins left.indicated right.requested × Begins right.indicated left.requested
 
 -- each point in the view of a side with a number below its V(A) is in the view of the other, behind the
 -- same items; unless the other has asked for a restart and has seen no answer
@@ -66,6 +66,18 @@ pub record AreApart (m : Machine) : Type 0 where
   pub called : (side : Side) (r q : ℕ) (c : Call) → (q ≡ r → ⊥) → connection_at q (step m (calls side r c)).worlds ≡ connection_at q m.worlds
   pub delivered : (side : Side) (r q : ℕ) (keep : ℕ → ℕ) → (q ≡ r → ⊥) → end_of side (step m (delivers side r keep)) ≡ end_of side m
       → connection_at q (step m (delivers side r keep)).worlds ≡ connection_at q m.worlds
+
+-- ---- a fault that is shown
+
+-- of this side or of the other
+abbrev pub is_fault : Entry → Bool
+is_fault (shown_at side r (PeerAbort bits)) = true
+is_fault (shown_at side r (BadUnit fault)) = true
+is_fault e = false
+
+-- no entry of the journal is one, whatever its reference
+abbrev pub HasNoFault : Machine → Type 0
+HasNoFault m = list_any is_fault m.journal ≡ false
 
 -- ---- a connection that is lost
 

@@ -2,7 +2,7 @@
 
 ghost use Rattle.std.specs.Prelude.{◌≡◌, ◌<◌, ◌≤◌, ℕ, suc, List, [], ◌∷◌, ◌++◌, length, Some, None, is_some, true, false};
 ghost use Rattle.std.specs.List.{AllByRecursion};
-ghost use Rattle.osi_machine.specs.AsTables.{cut_line, AreSoundLines, IsAsTables, IsTableRun, AreOffered, OfEachLine, HoldNoneTwice, AreNoFaults, AreAgreed, IsShownAsAsked, IsSeenInBoth, LosesAsItEnds};
+ghost use Rattle.osi_machine.specs.AsTables.{cut_line, AreSoundLines, IsAsTables, IsTableRun, AreOffered, OfEachLine, HoldNoneTwice, AreNoFaults, AreAgreed, IsShownAsAsked, IsSeenInBoth, TellsNoFault, LosesAsItEnds};
 ghost use Rattle.osi_machine.specs.Core.{Core, CoreStep, Offer, Side, Left, Right, core_run, core_start};
 ghost use Rattle.osi_machine.specs.Examples.{all_tokens, lost_give_seen, after_lost_give, crossing_seen, after_crossing, two_points_seen, restart_below_seen, after_restart_below, last_point, last_point_seen, lost_release_seen, after_lost_release, both_send, both_send_seen, to_right, held_in, stands_at, next_at, lowest_at, history_of, up_to_first_point};
 ghost use Rattle.osi_machine.specs.Floor.{no_token, is_profile};
@@ -10,7 +10,7 @@ ghost use Rattle.osi_machine.specs.Histories.{Agree};
 ghost use Rattle.osi_machine.specs.Machine.{IsLegal, Machine, Step, HasNumber, run, start, step, connection_at, with_connection};
 ghost use Rattle.osi_machine.specs.Parties.{AreConsistent, IsNumberedStep};
 ghost use Rattle.osi_machine.specs.Promises.{IsReached, OfBoth, OneHolder, HoldsItsOwn, TakesNoFault, SeesTheHistory, ViewsAgree, GotWhatWasSaid, TakesTheNextItem, ConfirmedIsSeen};
-ghost use Rattle.osi_machine.specs.Runs.{IsRun, OfEach, HasOneHolder, ShowNoFault, RecordsAgree, ShownAsAsked, ConfirmedInBoth, TakeTheirItems, AreApart, LosesByItsEnd};
+ghost use Rattle.osi_machine.specs.Runs.{IsRun, OfEach, HasOneHolder, ShowNoFault, RecordsAgree, ShownAsAsked, ConfirmedInBoth, TakeTheirItems, AreApart, HasNoFault, LosesByItsEnd};
 ghost use Rattle.osi_machine.specs.Sayings.{IsHeardAsSaid};
 ghost use Rattle.osi_machine.specs.Tables.{Line, Tables};
 ghost use Rattle.osi_machine.specs.Tables as tables;
@@ -112,12 +112,13 @@ pub fn what_a_record_tells()
 /// After every list of steps of the machine, with any number of connections, with closes, breaks and
 /// ends, and whatever is lost: of each connection no token is held by both sides; neither user is shown
 /// a fault of its own side or of the other; unless duplex is selected, one of both views begins with the
-/// other, and with duplex the data that a side is shown is how the data that the other asked to send
-/// begins; and each point in the view of a side with a number below its V(A) is in the view of the other,
-/// behind the same items, unless the other awaits the answer to a restart. All this is read from the
-/// journal alone, but for V(A). Data or a point that is taken is the item of the history at the mark of
-/// the side that takes it. And a side is shown that a connection was lost only where it was told of
-/// a break or found no memory.
+/// other, and with duplex, as soon as one of the two has sent or seen the answer that selects it, the data
+/// that a side is shown is how the data that the other asked to send begins; and each point in the view of
+/// a side with a number below its V(A) is in the view of the other, behind the same items, unless the other
+/// awaits the answer to a restart. All this is read from the journal alone, but for V(A). Data or a point
+/// that is taken is the item of the history at the mark of the side that takes it. No entry of the journal
+/// is a fault that is shown, whatever its reference. And a side is shown that a connection was lost only
+/// where it was told of a break or found no memory.
 pub fn what_two_records_tell()
     ensures holder { (m : Machine) → IsRun m → OfEach HasOneHolder m }
     ensures fault { (m : Machine) → IsRun m → OfEach ShowNoFault m }
@@ -125,6 +126,7 @@ pub fn what_two_records_tell()
     ensures duplex { (m : Machine) → IsRun m → OfEach ShownAsAsked m }
     ensures confirmed { (m : Machine) → IsRun m → OfEach ConfirmedInBoth m }
     ensures item { (m : Machine) → IsRun m → OfEach TakeTheirItems m }
+    ensures faultless { (m : Machine) → IsRun m → HasNoFault m }
     ensures lost { (m : Machine) → IsRun m → LosesByItsEnd m }
 {
     session::numbers_stay_in_order();
@@ -184,17 +186,19 @@ pub fn what_is_under_way_can_be_sent()
 
 /// What two records tell, read from the tables and the journal alone: of each connection no token is held
 /// by both sessions; neither user is shown a fault of its own side or of the other; unless duplex is
-/// selected, one of both views begins with the other, and with duplex the data that a side is shown is
-/// how the data that the other asked to send begins; and each point in the view of a side with a number
-/// below its V(A) is in the view of the other, behind the same items, unless the other awaits the answer
-/// to a restart. A side is shown that a connection was lost only where it was told of a break or found no
-/// memory. The journal has what was asked for with each connection.
+/// selected, one of both views begins with the other, and with duplex, as soon as one of the two has sent
+/// or seen the answer that selects it, the data that a side is shown is how the data that the other asked
+/// to send begins; and each point in the view of a side with a number below its V(A) is in the view of the
+/// other, behind the same items, unless the other awaits the answer to a restart. No entry of the journal
+/// is a fault that is shown, whatever its reference. A side is shown that a connection was lost only where
+/// it was told of a break or found no memory. The journal has what was asked for with each connection.
 pub fn what_two_tables_tell()
     ensures holder { (t : Tables) → IsTableRun t → OfEachLine HoldNoneTwice t }
     ensures fault { (t : Tables) → IsTableRun t → OfEachLine AreNoFaults t }
     ensures agreement { (t : Tables) → IsTableRun t → OfEachLine AreAgreed t }
     ensures duplex { (t : Tables) → IsTableRun t → OfEachLine IsShownAsAsked t }
     ensures confirmed { (t : Tables) → IsTableRun t → OfEachLine IsSeenInBoth t }
+    ensures faultless { (t : Tables) → IsTableRun t → TellsNoFault t }
     ensures lost { (t : Tables) → IsTableRun t → LosesAsItEnds t }
     ensures offered { (t : Tables) → IsTableRun t → AreOffered t }
 {

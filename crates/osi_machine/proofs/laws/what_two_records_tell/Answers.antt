@@ -1,3 +1,4 @@
+use Rattle.osi_machine.proofs.FaultShown.{no_fault_shown}
 use Rattle.osi_machine.proofs.ItemLaws.{items_taken}
 use Rattle.osi_machine.proofs.LossRun.{losses_have_an_end}
 use Rattle.osi_machine.proofs.MachineLaws.{holders, no_faults, agreements, duplex_agreements, confirmations}
@@ -30,3 +31,7 @@ returns-clause-lost c =
 pub returns-clause-item : goal.returns-clause-item
 returns-clause-item c =
     items_taken (record { sound = c.numbers_stay_in_order.ensures.kept; sendable = c.what_is_sent_can_be_sent.ensures.called; one_unit = c.what_two_units_do.ensures.alone; passed = c.what_an_accepted_call_passed.ensures.passed })
+
+pub returns-clause-faultless : goal.returns-clause-faultless
+returns-clause-faultless c =
+    no_fault_shown (record { sound = c.numbers_stay_in_order.ensures.kept; sendable = c.what_is_sent_can_be_sent.ensures.called; one_unit = c.what_two_units_do.ensures.alone; passed = c.what_an_accepted_call_passed.ensures.passed })

@@ -1,0 +1,96 @@
+-- After every list of steps no entry of the journal is a fault that is shown, whatever its reference.
+use Rattle.std.proofs.Common.{◌≡◌, refl, sym, ◌∙◌, ap, ℕ, zero, suc, ◌<◌, Bool, true, false, ◌||◌, if◌then◌else◌, List, [], ◌∷◌, length, Option, Some, None, arith}
+use Rattle.std.proofs.Math.Bool.{or_assoc, or-false, or-true}
+use Rattle.std.specs.List.{list_any, slice_get}
+use Rattle.osi_session.specs.Shown.{Shown, PeerAbort, BadUnit}
+use Rattle.osi_machine.specs.Floor.{Call, Accept, Data, Minor, Major, Restart}
+use Rattle.osi_machine.specs.Core.{Offer, Side, Left, Right}
+use Rattle.osi_machine.specs.Worlds.{World}
+use Rattle.osi_machine.specs.Machine.{Machine, Entry, connect_answered, call_answered, shown_at, ended, connection_at}
+use Rattle.osi_machine.specs.Views.{Told, told_call, told_shown, told_entry, told_by, is_of, record_of, untold, told_of}
+use Rattle.osi_machine.specs.Runs.{IsRun, is_fault, HasNoFault}
+use Rattle.osi_machine.specs.Examples.{for_asker}
+use Rattle.osi_machine.proofs.CoreLaws.{SessionLaws}
+use Rattle.osi_machine.proofs.DeadLines.{or_parts}
+use Rattle.osi_machine.proofs.Lines.{own_entry}
+use Rattle.osi_machine.proofs.LinesRun.{IsGood}
+use Rattle.osi_machine.proofs.MachineLaws.{good_run, no_faults}
+use Rattle.osi_machine.proofs.Whole.{Whole}
+
+-- ---- a record tells whether one of its entries is a fault
+
+call_faulted : (t : Told) (c : Call) → (told_call t c).faulted ≡ t.faulted
+call_faulted t (Accept requirements serial sides octets) = refl
+call_faulted t (Data octets) = refl
+call_faulted t (Minor confirm octets) = refl
+call_faulted t (Major octets) = refl
+call_faulted t (Restart n wishes octets) = refl
+call_faulted t _ = refl
+
+shown_faulted : (t : Told) (side : Side) (r : ℕ) (i : Shown) → (told_shown t i).faulted ≡ (t.faulted || is_fault (shown_at side r i))
+shown_faulted t side r (PeerAbort bits) = sym (or-true t.faulted)
+shown_faulted t side r (BadUnit fault) = sym (or-true t.faulted)
+shown_faulted t side r _ = sym (or-false t.faulted)
+
+entry_faulted : (t : Told) (e : Entry) → (told_entry t e).faulted ≡ (t.faulted || is_fault e)
+entry_faulted t (call_answered side r c None) = call_faulted t c ∙ sym (or-false t.faulted)
+entry_faulted t (shown_at side r i) = shown_faulted t side r i
+entry_faulted t _ = sym (or-false t.faulted)
+
+told_faulted : (t : Told) (es : List Entry) → (told_by t es).faulted ≡ (t.faulted || list_any is_fault es)
+told_faulted t [] = sym (or-false t.faulted)
+told_faulted t (e ∷ es) = told_faulted (told_entry t e) es ∙ ap (λ (b : Bool). b || list_any is_fault es) (entry_faulted t e) ∙ or_assoc t.faulted (is_fault e) (list_any is_fault es)
+
+fine_record : (t : Told) (es : List Entry) → (told_by t es).faulted ≡ false → list_any is_fault es ≡ false
+fine_record t es h = (or_parts t.faulted (list_any is_fault es) (sym (told_faulted t es) ∙ h)).1
+
+-- ---- each entry that is shown is of a record
+
+shown_fine : (side : Side) (r : ℕ) (i : Shown) (es : List Entry) → list_any is_fault (record_of side r (shown_at side r i ∷ es)) ≡ false → is_fault (shown_at side r i) ≡ false
+shown_fine side r i es h =
+    (or_parts (is_fault (shown_at side r i)) (list_any is_fault (record_of side r es))
+    (sym (ap (λ (b : Bool). list_any is_fault (if b then shown_at side r i ∷ record_of side r es else record_of side r es)) (own_entry side r)) ∙ h)).0
+
+entry_fine : (e : Entry) (es : List Entry) → ((d : Side) (n : ℕ) → list_any is_fault (record_of d n (e ∷ es)) ≡ false) → is_fault e ≡ false
+entry_fine (shown_at side r i) es h = shown_fine side r i es (h side r)
+entry_fine (call_answered side r c e) es h = refl
+entry_fine (connect_answered o a) es h = refl
+entry_fine (ended side e) es h = refl
+
+fine_behind : (e : Entry) (es : List Entry) (b : Bool) → list_any is_fault (if b then e ∷ es else es) ≡ false → list_any is_fault es ≡ false
+fine_behind e es true h = (or_parts (is_fault e) (list_any is_fault es) h).1
+fine_behind e es false h = h
+
+fine_journal : (j : List Entry) → ((d : Side) (n : ℕ) → list_any is_fault (record_of d n j) ≡ false) → list_any is_fault j ≡ false
+fine_journal [] h = refl
+fine_journal (e ∷ es) h =
+    let first = entry_fine e es h in
+    let rest = fine_journal es (λ d n. fine_behind e (record_of d n es) (is_of d n e) (h d n)) in
+    rw (first, rest) refl
+
+-- ---- the record of each reference, also of one that was not given
+
+an_offer : Offer
+an_offer = record { requirements = 0; serial = 0; wishes = for_asker; calling_selector = None; called_selector = None; octets = [] }
+
+untold_fine : (d : Side) (o : Offer) → (untold d o).faulted ≡ false
+untold_fine Left o = refl
+untold_fine Right o = refl
+
+none_from : (ws : List World) (r : ℕ) → slice_get ws r ≡ None → length ws < suc r
+none_from [] r e = omega arith
+none_from (w ∷ ws) zero e = absurd (cc)
+none_from (w ∷ ws) (suc r) e = let k = none_from ws r e in omega arith
+
+not_given : (m : Machine) (h : IsRun m) → IsGood h.agreed Whole m → (d : Side) (n : ℕ) (o : Offer) → connection_at n m.worlds ≡ None → told_of d n o m.journal ≡ untold d o
+not_given m h g d zero o e = g.none d o
+not_given m h g d (suc r) o e = g.fresh d (suc r) o (none_from m.worlds r e)
+
+fine_at : SessionLaws → (m : Machine) → IsRun m → (d : Side) (n : ℕ) (a : Option World) → connection_at n m.worlds ≡ a → list_any is_fault (record_of d n m.journal) ≡ false
+fine_at laws m h d n None e =
+    fine_record (untold d an_offer) (record_of d n m.journal) (ap (λ (t : Told). t.faulted) (not_given m h (good_run laws m h) d n an_offer e) ∙ untold_fine d an_offer)
+fine_at laws m h Left n (Some w) e = fine_record (untold Left w.offer) (record_of Left n m.journal) (no_faults laws m h n w e).0
+fine_at laws m h Right n (Some w) e = fine_record (untold Right w.offer) (record_of Right n m.journal) (no_faults laws m h n w e).1
+
+pub no_fault_shown : SessionLaws → (m : Machine) → IsRun m → HasNoFault m
+no_fault_shown laws m h = fine_journal m.journal (λ d n. fine_at laws m h d n (connection_at n m.worlds) refl)
