@@ -2,8 +2,9 @@
 # make edits, or make edits CRATE=osi_spdu: tries the edits of crates/*/edits, which the prover must refuse, and the
 # functions of scripts/refused_borrows, which must not compile.
 # make lib: builds the library for C, into build/: libosi.a, libosi.so and osi.pc. make install PREFIX=.. puts them,
-# with include/osi.h, where the compiler finds them. make gateways: builds the program and the library, and builds and
-# runs the programs of examples/gateway (scripts/gateways does so with what was built before).
+# with include/osi.h and osi.hpp, where the compiler finds them. make gateways: builds the program and the library, and
+# builds and runs the programs of examples/gateway, and the tests and clients of bindings/ (scripts/gateways does so with
+# what was built before).
 # make trials: builds the same and runs what is proved against hostile octets, want of memory and breaks
 # (docs/TRIALS.md); make trials PART=--part runs a part of it. make fuzz SECONDS=60 SEED=1 feeds ends octets at random.
 # make ladders: draws the pictures of docs/ladders from examples/ladders (docs/LADDERS.md); make ladders-check runs the
@@ -39,7 +40,7 @@ lib:
 
 install: lib
 	install -d $(DESTDIR)$(PREFIX)/include $(DESTDIR)$(PREFIX)/lib/pkgconfig
-	install -m 644 include/osi.h $(DESTDIR)$(PREFIX)/include
+	install -m 644 include/osi.h include/osi.hpp $(DESTDIR)$(PREFIX)/include
 	install -m 644 build/libosi.a $(DESTDIR)$(PREFIX)/lib
 	install -m 755 build/libosi.so $(DESTDIR)$(PREFIX)/lib
 	install -m 644 build/osi.pc $(DESTDIR)$(PREFIX)/lib/pkgconfig

@@ -58,7 +58,11 @@ typedef struct osi_end {
 } osi_end;
 
 /* A slot that holds no end, as each begins. */
+#ifdef __cplusplus
+#define OSI_END { false, { nullptr } }
+#else
 #define OSI_END { false, { NULL } }
+#endif
 
 /* ---- codes: what the functions answer -----------------------------------------------------
  * Each function says which of these it answers. All but OSI_OK change nothing, unless it is said.
@@ -94,8 +98,13 @@ typedef struct osi_octets {
 } osi_octets;
 
 /* No octets, as an osi_octets, and as the two arguments of a call. */
+#ifdef __cplusplus
+#define OSI_NO_OCTETS { reinterpret_cast<const uint8_t *>(""), 0 }
+#define OSI_NO_DATA reinterpret_cast<const uint8_t *>(""), static_cast<size_t>(0)
+#else
 #define OSI_NO_OCTETS { (const uint8_t *)"", 0 }
 #define OSI_NO_DATA ((const uint8_t *)""), ((size_t)0)
+#endif
 
 /* The transport protocol of an end. */
 typedef struct osi_terms {

@@ -1,0 +1,221 @@
+/* One end over a TCP socket, in C++: what client.cpp and server.cpp have in common. */
+#ifndef LINE_HPP
+#define LINE_HPP
+
+#include "osi.hpp"
+
+#include <arpa/inet.h>
+#include <netinet/in.h>
+#include <netinet/tcp.h>
+#include <poll.h>
+#include <sys/socket.h>
+#include <unistd.h>
+
+#include <array>
+#include <cerrno>
+#include <cstdio>
+#include <cstring>
+#include <fstream>
+#include <iostream>
+#include <string>
+#include <utility>
+
+/* A socket that is closed when it goes. */
+class connection {
+public:
+    explicit connection(int handle) noexcept : handle_(handle) {}
+    connection(connection &&other) noexcept : handle_(std::exchange(other.handle_, -1)) {}
+    connection &operator=(connection &&) = delete;
+    ~connection()
+    {
+        if (handle_ >= 0)
+            ::close(handle_);
+    }
+
+    int handle() const noexcept { return handle_; }
+    explicit operator bool() const noexcept { return handle_ >= 0; }
+
+private:
+    int handle_;
+};
+
+inline sockaddr_in loopback(const std::string &port)
+{
+    sockaddr_in place = {};
+    place.sin_family = AF_INET;
+    place.sin_port = htons(static_cast<std::uint16_t>(std::stoi(port)));
+    place.sin_addr.s_addr = htonl(INADDR_LOOPBACK);
+    return place;
+}
+
+inline std::string option(int count, char **words, const std::string &name, std::string otherwise)
+{
+    for (int i = 1; i + 1 < count; i++)
+        if (words[i] == name)
+            return words[i + 1];
+    return otherwise;
+}
+
+inline osi::terms terms_of(const std::string &classes)
+{
+    osi::terms own;
+    own.classes = (classes.find('0') != std::string::npos ? osi::classes::class_0 : osi::classes::none) |
+                  (classes.find('2') != std::string::npos ? osi::classes::class_2 : osi::classes::none);
+    return own;
+}
+
+/* ---- the log, in the words of a transcript (docs/SCRIPTS.md) */
+
+inline std::string hex(osi::octets octets)
+{
+    static constexpr char digits[] = "0123456789abcdef";
+    std::string text;
+    for (const std::uint8_t octet : octets)
+        text += {digits[octet >> 4], digits[octet & 15]};
+    return text.empty() ? "-" : text;
+}
+
+inline std::string hex(unsigned value, int width)
+{
+    std::array<char, 16> text{};
+    std::snprintf(text.data(), text.size(), "%0*x", width, value);
+    return text.data();
+}
+
+inline std::string letters(osi::sides s)
+{
+    static constexpr char letter[] = "arc";
+    std::string text = " sides ";
+    for (const osi::side holder : {s.data, s.minor, s.major, s.release})
+        text += letter[static_cast<unsigned>(holder)];
+    return text;
+}
+
+inline std::string opened(const osi::indication &shown)
+{
+    return " units " + hex(static_cast<unsigned>(shown.requirements), 4) + " serial " +
+           (shown.number ? std::to_string(*shown.number) : "-") + letters(shown.sides);
+}
+
+inline std::string words(const osi::indication &shown)
+{
+    static constexpr const char *faults[] = {"",          "Spelling",  "Unexpected", "NotSelected",
+                                             "TokenHeld", "BadNumber", "BadTokens"};
+    const std::string number = std::to_string(shown.number.value_or(0));
+    const std::string tokens = hex(static_cast<unsigned>(shown.tokens), 2);
+    const std::string data = " data " + hex(shown.user_data);
+    switch (shown.tag) {
+    case osi::tag::none: return "";
+    case osi::tag::connect: return "Connect" + opened(shown) + data;
+    case osi::tag::connected: return "Connected" + opened(shown) + data;
+    case osi::tag::refused_by_transport: return "Refused transport " + std::to_string(shown.reason);
+    case osi::tag::refused_by_session: return "Refused session " + std::to_string(shown.reason) + data;
+    case osi::tag::data: return "Data " + hex(shown.user_data);
+    case osi::tag::given: return "Given " + tokens;
+    case osi::tag::asked: return "Asked " + tokens + data;
+    case osi::tag::minor: return "Minor " + number + " confirm " + (shown.confirm ? "yes" : "no") + data;
+    case osi::tag::minor_confirmed: return "MinorConfirmed " + number + data;
+    case osi::tag::major: return "Major " + number + data;
+    case osi::tag::major_confirmed: return "MajorConfirmed" + data;
+    case osi::tag::restart: return "Restart " + number + letters(shown.sides) + data;
+    case osi::tag::restarted: return "Restarted " + number + letters(shown.sides) + data;
+    case osi::tag::release: return "Release" + data;
+    case osi::tag::released: return "Released" + data;
+    case osi::tag::release_refused: return "ReleaseRefused" + data;
+    case osi::tag::aborted: return "Aborted" + data;
+    case osi::tag::lost: return "ProviderAbort Lost";
+    case osi::tag::peer_abort: return "ProviderAbort Peer " + hex(shown.reason, 2);
+    case osi::tag::bad_unit:
+        return std::string("ProviderAbort Unit ") + faults[static_cast<unsigned>(shown.fault.kind)];
+    }
+    return "";
+}
+
+/* ---- an end on its socket */
+
+/* An end, its socket and its log. Who uses it overrides shown. */
+class line {
+public:
+    line(osi::end made, connection socket, const char *side, const std::string &log)
+        : end(std::move(made)), socket_(std::move(socket)), side_(side)
+    {
+        if (log != "-")
+            file_.open(log);
+    }
+    line(const line &) = delete;
+    line &operator=(const line &) = delete;
+    virtual ~line() = default;
+
+    /* Goes on until the byte connection is closed, by this side or by the other. */
+    void run()
+    {
+        while (turn()) {
+        }
+        (void)end.broken();
+        show({});
+    }
+
+protected:
+    osi::end end;
+
+    virtual void shown(const osi::indication &one) = 0;
+
+    std::ostream &log() { return (file_.is_open() ? file_ : std::cout) << side_ << ' '; }
+
+    /* Writes the line of a call, as "left 1 data ok", and answers whether it was done. */
+    bool did(osi::reference of, const char *call, osi::code answer)
+    {
+        log() << of << ' ' << call << (answer == osi::code::ok ? " ok" : " refused: ")
+              << (answer == osi::code::ok ? "" : osi::text(answer)) << '\n';
+        return answer == osi::code::ok;
+    }
+
+private:
+    void show(osi::octets piece)
+    {
+        (void)end.feed_all(piece, [this](const osi::indication &one) {
+            log() << one.reference << ' ' << words(one) << '\n';
+            shown(one);
+        });
+    }
+
+    /* Waits for the socket once, and carries what can be carried. False once it is closed. */
+    bool turn()
+    {
+        const bool waits = !end.outgoing().empty();
+        if (!waits && end.ended())
+            return false;
+        pollfd ready = {socket_.handle(), static_cast<short>(waits ? POLLIN | POLLOUT : POLLIN), 0};
+        if (poll(&ready, 1, 10000) <= 0)
+            return false;
+        if ((ready.revents & POLLOUT) != 0 && !transmit())
+            return false;
+        return (ready.revents & (POLLIN | POLLERR | POLLHUP)) == 0 || receive();
+    }
+
+    /* Writes what the socket takes, once. */
+    bool transmit()
+    {
+        const osi::octets waiting = end.outgoing();
+        const ssize_t count = send(socket_.handle(), waiting.data(), waiting.size(), MSG_NOSIGNAL | MSG_DONTWAIT);
+        if (count < 0)
+            return errno == EAGAIN || errno == EWOULDBLOCK || errno == EINTR;
+        return end.taken(static_cast<std::size_t>(count)) == osi::code::ok;
+    }
+
+    /* Reads what there is, once. */
+    bool receive()
+    {
+        const ssize_t count = recv(socket_.handle(), piece_.data(), piece_.size(), MSG_DONTWAIT);
+        if (count > 0)
+            show({piece_.data(), static_cast<std::size_t>(count)});
+        return count > 0 || (count < 0 && (errno == EAGAIN || errno == EWOULDBLOCK || errno == EINTR));
+    }
+
+    connection socket_;
+    const char *side_;
+    std::ofstream file_;
+    std::array<std::uint8_t, 65536> piece_{};
+};
+
+#endif

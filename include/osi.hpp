@@ -1,0 +1,803 @@
+/*
+ * osi.hpp: one end of an OSI session (ITU-T X.225 version 2) over the transport classes 0 and 2 of
+ * X.224 in TPKT packets (RFC 1006), for C++17 and later. It is osi.h with types of C++: an end that
+ * frees itself and can be moved, views of octets, and enumerations in the place of numbers.
+ *
+ *     osi::end end = *osi::end::caller();              // empty where there was no memory
+ *     osi::opening asked;
+ *     asked.user_data = "gateway";
+ *     const auto connection = end.connect(asked);      // its reference, or connection.code says why not
+ *     for (;;) {
+ *         const osi::octets waiting = end.outgoing();  // to the socket ..
+ *         (void)end.taken(written);                    // .. as many as it took
+ *         (void)end.feed_all(piece, [&](const osi::indication &shown) {
+ *             if (shown.tag == osi::tag::connected)
+ *                 (void)end.data(shown.reference, "hello");
+ *         });
+ *     }                                                // until end.ended()
+ *
+ * Nothing here throws, and it compiles with -fno-exceptions and -fno-rtti. What a call answers is an
+ * osi::code, or an osi::result that has one; the compiler warns where it is not looked at. Which codes
+ * a call answers, and what each number means, stands at its function in osi.h.
+ *
+ * What the caller owes, and nothing checks:
+ *   - An end is used by one thread at a time. Different ends share nothing.
+ *   - Octets that an end has lent (end::outgoing, and user_data of an indication) are there until the
+ *     next call with this end, whichever it is, and until the end is moved onto or goes.
+ *   - An osi::octets does not own what it views.
+ */
+#ifndef OSI_HPP
+#define OSI_HPP
+
+#include "osi.h"
+
+#include <cstddef>
+#include <cstdint>
+#include <cstring>
+#include <iterator>
+#include <memory>
+#include <new>
+#include <optional>
+#include <string_view>
+#include <type_traits>
+#include <utility>
+
+namespace osi {
+
+/* ---- octets ------------------------------------------------------------------------------------- */
+
+namespace detail {
+
+/* Where a view of no octets points to. */
+inline constexpr std::uint8_t no_octet = 0;
+
+template <class T>
+inline constexpr bool is_octet =
+    std::is_same_v<T, unsigned char> || std::is_same_v<T, char> || std::is_same_v<T, std::byte>;
+
+template <class T>
+using element = std::remove_cv_t<std::remove_pointer_t<decltype(std::data(std::declval<const T &>()))>>;
+
+template <class T, class = void>
+inline constexpr bool holds_octets = false;
+
+/* What has octets in a row: a vector, an array, a string, a span. An array of char is text. */
+template <class T>
+inline constexpr bool holds_octets<T, std::void_t<element<T>, decltype(std::size(std::declval<const T &>()))>> =
+    is_octet<element<T>> && !(std::is_array_v<T> && std::is_same_v<element<T>, char>);
+
+} // namespace detail
+
+/* A view of octets that somebody else holds. It never points to null. */
+class octets {
+public:
+    using value_type = std::uint8_t;
+    using const_iterator = const std::uint8_t *;
+
+    constexpr octets() noexcept = default;
+    octets(std::nullptr_t) = delete;
+
+    constexpr octets(const std::uint8_t *at, std::size_t length) noexcept
+        : at_(at != nullptr ? at : &detail::no_octet), length_(at != nullptr ? length : 0)
+    {
+    }
+
+    octets(const void *at, std::size_t length) noexcept : octets(static_cast<const std::uint8_t *>(at), length) {}
+
+    octets(osi_octets lent) noexcept : octets(lent.at, lent.length) {}
+
+    /* The characters of a text, up to its end. */
+    octets(const char *text) noexcept : octets(text, std::strlen(text)) {}
+
+    /* All of a std::string, std::string_view, std::vector, std::array, std::span or array of octets. */
+    template <class T, class = std::enable_if_t<detail::holds_octets<T>>>
+    octets(const T &all) noexcept : octets(static_cast<const void *>(std::data(all)), std::size(all))
+    {
+    }
+
+    constexpr const std::uint8_t *data() const noexcept { return at_; }
+    constexpr std::size_t size() const noexcept { return length_; }
+    constexpr bool empty() const noexcept { return length_ == 0; }
+    constexpr const_iterator begin() const noexcept { return at_; }
+    constexpr const_iterator end() const noexcept { return at_ + length_; }
+
+    /* The octet at a place below size(). */
+    constexpr std::uint8_t operator[](std::size_t place) const noexcept { return at_[place]; }
+
+    /* The first octets, and those behind them: as many as there are. */
+    constexpr octets first(std::size_t count) const noexcept { return {at_, count < length_ ? count : length_}; }
+    constexpr octets from(std::size_t count) const noexcept
+    {
+        return count < length_ ? octets(at_ + count, length_ - count) : octets();
+    }
+
+    /* The same octets as characters. */
+    std::string_view text() const noexcept { return {reinterpret_cast<const char *>(at_), length_}; }
+
+    operator osi_octets() const noexcept { return {at_, length_}; }
+
+    friend bool operator==(octets left, octets right) noexcept { return left.text() == right.text(); }
+    friend bool operator!=(octets left, octets right) noexcept { return !(left == right); }
+
+private:
+    const std::uint8_t *at_ = &detail::no_octet;
+    std::size_t length_ = 0;
+};
+
+/* ---- what calls answer --------------------------------------------------------------------------- */
+
+/* The answer of a call. All but ok change nothing, unless osi.h says so. */
+enum class [[nodiscard]] code : std::uint32_t {
+    ok = OSI_OK,                                       /* done */
+    closed = OSI_CLOSED,                               /* the osi::end holds no end */
+    bad_argument = OSI_BAD_ARGUMENT,                   /* a number or a length is outside its range */
+    no_memory = OSI_NO_MEMORY,                         /* there is none; call again when there is some */
+    in_use = OSI_IN_USE,                               /* a slot of osi.h holds an end already */
+    nothing = OSI_NOTHING,                             /* no indication waits */
+    no_such_connection = OSI_NO_SUCH_CONNECTION,       /* this end never gave the reference */
+    ended = OSI_ENDED,                                 /* the connection, or the end, is over */
+    bad_state = OSI_BAD_STATE,                         /* not allowed in this phase (X.225 annex A) */
+    not_selected = OSI_NOT_SELECTED,                   /* a unit or token is not there, or units do not go together */
+    token_not_held = OSI_TOKEN_NOT_HELD,               /* the other side holds a token that is needed */
+    token_already_held = OSI_TOKEN_ALREADY_HELD,       /* a token is asked for that is held */
+    bad_number = OSI_BAD_NUMBER,                       /* the number is of no point that the call may name */
+    serials_used_up = OSI_SERIALS_USED_UP,             /* all numbers of points, up to 999,999, are used */
+    empty = OSI_EMPTY,                                 /* no octet of data, or no token */
+    too_long = OSI_TOO_LONG,                           /* too many octets */
+    not_caller = OSI_NOT_CALLER,                       /* only the calling end asks for connections */
+    negotiating = OSI_NEGOTIATING,                     /* the first connection is not answered yet */
+    one_connection = OSI_ONE_CONNECTION,               /* class 0 holds, which has one connection */
+    too_many = OSI_TOO_MANY,                           /* 64 connections are live */
+    references_used_up = OSI_REFERENCES_USED_UP,       /* all 65,535 references were given */
+};
+
+/* What a code says, in a few words. */
+constexpr std::string_view text(code answer) noexcept
+{
+    switch (answer) {
+    case code::ok: return "done";
+    case code::closed: return "there is no end here";
+    case code::bad_argument: return "a number or a length is outside its range";
+    case code::no_memory: return "there is no memory";
+    case code::in_use: return "there is an end here already";
+    case code::nothing: return "no indication waits";
+    case code::no_such_connection: return "this end never gave the reference";
+    case code::ended: return "the connection is over";
+    case code::bad_state: return "the call is not allowed in this phase";
+    case code::not_selected: return "a functional unit or a token is not selected";
+    case code::token_not_held: return "the other side holds a token that the call needs";
+    case code::token_already_held: return "a token is held already";
+    case code::bad_number: return "the number is of no point that the call may name";
+    case code::serials_used_up: return "all numbers of points are used";
+    case code::empty: return "there is no octet of data, or no token";
+    case code::too_long: return "there are too many octets";
+    case code::not_caller: return "only the calling end asks for connections";
+    case code::negotiating: return "the first connection is not answered yet";
+    case code::one_connection: return "class 0 has one connection";
+    case code::too_many: return "64 connections are live";
+    case code::references_used_up: return "all references were given";
+    }
+    return "a code without a name";
+}
+
+/* A code, and a value, which is that of T{} where the code is not ok. */
+template <class T>
+struct [[nodiscard]] result {
+    osi::code code = osi::code::ok;
+    T value{};
+
+    constexpr explicit operator bool() const noexcept { return code == osi::code::ok; }
+    constexpr T &operator*() &noexcept { return value; }
+    constexpr const T &operator*() const &noexcept { return value; }
+    constexpr T &&operator*() &&noexcept { return std::move(value); }
+    constexpr T *operator->() noexcept { return &value; }
+    constexpr const T *operator->() const noexcept { return &value; }
+};
+
+/* ---- what is passed -------------------------------------------------------------------------------- */
+
+/* Names a connection of one end: 1 to 65,535, and no number twice. */
+using reference = std::uint16_t;
+
+/* Sets of transport classes, functional units and tokens are joined by |, intersected by & and asked
+ * by has(set, part). */
+enum class classes : std::uint8_t {
+    none = 0,
+    class_0 = OSI_CLASS_0,
+    class_2 = OSI_CLASS_2,
+    both = OSI_CLASS_0 | OSI_CLASS_2,
+};
+
+/* Functional units (X.225 section 8): half_duplex with any of the last four, or duplex alone. */
+enum class units : std::uint16_t {
+    none = 0,
+    half_duplex = OSI_HALF_DUPLEX,
+    duplex = OSI_DUPLEX,
+    minor_sync = OSI_MINOR_SYNC,
+    major_sync = OSI_MAJOR_SYNC,
+    resynchronize = OSI_RESYNCHRONIZE,
+    negotiated_release = OSI_NEGOTIATED_RELEASE,
+};
+
+/* Tokens (X.215 section 7). Each is there where its unit is selected. */
+enum class tokens : std::uint8_t {
+    none = 0,
+    data = OSI_TOKEN_DATA,
+    minor = OSI_TOKEN_MINOR,
+    major = OSI_TOKEN_MAJOR,
+    release = OSI_TOKEN_RELEASE,
+};
+
+namespace detail {
+
+template <class T>
+inline constexpr bool is_set = std::is_same_v<T, classes> || std::is_same_v<T, units> || std::is_same_v<T, tokens>;
+
+template <class T>
+using if_set = std::enable_if_t<is_set<T>, T>;
+
+template <class T>
+constexpr std::underlying_type_t<T> bits(T value) noexcept
+{
+    return static_cast<std::underlying_type_t<T>>(value);
+}
+
+} // namespace detail
+
+template <class T>
+constexpr detail::if_set<T> operator|(T left, T right) noexcept
+{
+    return static_cast<T>(detail::bits(left) | detail::bits(right));
+}
+
+template <class T>
+constexpr detail::if_set<T> operator&(T left, T right) noexcept
+{
+    return static_cast<T>(detail::bits(left) & detail::bits(right));
+}
+
+/* Whether a set has all of a part. */
+template <class T>
+constexpr bool has(T set, detail::if_set<T> part) noexcept
+{
+    return (set & part) == part;
+}
+
+/* The transport protocol of an end (X.224 section 6.5). */
+struct terms {
+    osi::classes classes = osi::classes::both; /* a caller with none takes class 0 */
+    std::uint8_t size = 13;                    /* the exponent of the largest TPDU: 7 (128 octets) to 13 (8,192) */
+    std::uint8_t window = 15;                  /* units of class 2 that the peer may send ahead: 1 to 15 */
+};
+
+/* A side of a connection or a restart. */
+enum class side : std::uint8_t {
+    asker = OSI_ASKER,       /* the side that asks */
+    answerer = OSI_ANSWERER, /* the side that answers */
+    choice = OSI_CHOICE,     /* in a wish alone: whom the answer names */
+};
+
+/* Who holds, or is to hold, each token at first. */
+struct sides {
+    side data = side::asker;
+    side minor = side::asker;
+    side major = side::asker;
+    side release = side::asker;
+
+    constexpr operator osi_sides() const noexcept
+    {
+        return {detail::bits(data), detail::bits(minor), detail::bits(major), detail::bits(release)};
+    }
+};
+
+/* A connection that is asked for. */
+struct opening {
+    units requirements = units::half_duplex;
+    std::uint32_t serial = 0; /* the number of the first point, 0 to 999,999 */
+    sides wishes;             /* who is to hold each token */
+    octets calling_tsap;      /* the transport address of this end, 1 to 32 octets; none: no address */
+    octets called_tsap;       /* that of the other end */
+    octets calling_selector;  /* the session address of this user, 1 to 16 octets; none: no address */
+    octets called_selector;   /* that of the other user */
+    octets user_data;         /* at most 10,240 octets */
+};
+
+/* ---- what is shown ----------------------------------------------------------------------------------- */
+
+/* Which indication it is (X.215 section 10), and which fields it has beside its reference. */
+enum class tag : std::uint32_t {
+    none = OSI_NONE,
+    connect = OSI_CONNECT,                           /* requirements, perhaps number, sides as wishes, user_data */
+    connected = OSI_CONNECTED,                       /* requirements, perhaps number, sides, user_data */
+    refused_by_transport = OSI_REFUSED_BY_TRANSPORT, /* reason (X.224 section 13.5.3) */
+    refused_by_session = OSI_REFUSED_BY_SESSION,     /* reason (0, 1 and 2 are of the called user), user_data */
+    data = OSI_DATA_SHOWN,                           /* user_data, an octet at least */
+    given = OSI_GIVEN,                               /* tokens */
+    asked = OSI_ASKED,                               /* tokens, user_data */
+    minor = OSI_MINOR,                               /* number, confirm, user_data */
+    minor_confirmed = OSI_MINOR_CONFIRMED,           /* number, user_data */
+    major = OSI_MAJOR,                               /* number, user_data */
+    major_confirmed = OSI_MAJOR_CONFIRMED,           /* user_data */
+    restart = OSI_RESTART,                           /* number, sides as wishes, user_data */
+    restarted = OSI_RESTARTED,                       /* number, sides, user_data */
+    release = OSI_RELEASE,                           /* user_data */
+    released = OSI_RELEASED,                         /* user_data */
+    release_refused = OSI_RELEASE_REFUSED,           /* user_data */
+    aborted = OSI_ABORTED,                           /* by the peer's user: user_data */
+    lost = OSI_LOST,                                 /* the transport connection is gone, or had a fault */
+    peer_abort = OSI_PEER_ABORT,                     /* by the peer's provider: reason, its parameter 17 */
+    bad_unit = OSI_BAD_UNIT,                         /* by this end, since a unit that came is bad: fault */
+};
+
+/* What an indication is called, in a few words. */
+constexpr std::string_view text(tag shown) noexcept
+{
+    switch (shown) {
+    case tag::none: return "nothing";
+    case tag::connect: return "a connection is asked for";
+    case tag::connected: return "connected";
+    case tag::refused_by_transport: return "refused by the transport provider";
+    case tag::refused_by_session: return "refused by the session user or provider";
+    case tag::data: return "data";
+    case tag::given: return "tokens given";
+    case tag::asked: return "tokens asked for";
+    case tag::minor: return "minor point";
+    case tag::minor_confirmed: return "minor point confirmed";
+    case tag::major: return "major point";
+    case tag::major_confirmed: return "major point confirmed";
+    case tag::restart: return "restart";
+    case tag::restarted: return "restarted";
+    case tag::release: return "release";
+    case tag::released: return "released";
+    case tag::release_refused: return "release refused";
+    case tag::aborted: return "aborted by the peer's user";
+    case tag::lost: return "the transport connection is lost";
+    case tag::peer_abort: return "aborted by the peer's provider";
+    case tag::bad_unit: return "aborted here, since a unit that came is bad";
+    }
+    return "an indication without a name";
+}
+
+/* Whether the connection is over with this indication. */
+constexpr bool is_over(tag shown) noexcept
+{
+    switch (shown) {
+    case tag::refused_by_transport:
+    case tag::refused_by_session:
+    case tag::released:
+    case tag::aborted:
+    case tag::lost:
+    case tag::peer_abort:
+    case tag::bad_unit: return true;
+    default: return false;
+    }
+}
+
+/* Why a unit that came is bad. */
+enum class fault_kind : std::uint8_t {
+    none = 0,
+    spelling = 1,       /* its octets are no unit: fault::spelling, and fault::offset */
+    unexpected = 2,     /* not in this phase */
+    not_selected = 3,   /* its functional unit is not selected */
+    token_not_held = 4, /* the peer does not hold a token that the unit needs */
+    bad_number = 5,     /* the number is of no point that the unit may name */
+    bad_tokens = 6,     /* its tokens or sides are not as they may be */
+};
+
+/* What is wrong with the octets of a unit. */
+enum class spelling : std::uint8_t {
+    none = 0,
+    unknown_si = 1,
+    length_past_end = 2,
+    missing_parameter = 3,
+    duplicate_parameter = 4,
+    bad_value = 5,
+    bad_concatenation = 6,
+    octets_left_over = 7,
+};
+
+struct fault {
+    fault_kind kind = fault_kind::none;
+    std::uint8_t si = 0; /* of all but spelling: the SI of the unit (X.225 section 8) */
+    osi::spelling spelling = osi::spelling::none;
+    std::uint8_t parameter = 0; /* of the third to fifth spelling: the code of the parameter */
+    std::uint64_t offset = 0;   /* of a spelling: the place of the octet in the TSDU, from 0 */
+};
+
+/* What the user of a connection is shown. Fields that the tag does not have are as here. */
+struct indication {
+    osi::tag tag = osi::tag::none;
+    osi::reference reference = 0;
+    units requirements = units::none;
+    std::optional<std::uint32_t> number; /* of a point, 0 to 999,999 */
+    bool confirm = false;                /* the confirmation of the minor point is asked for */
+    osi::tokens tokens = osi::tokens::none;
+    std::uint8_t reason = 0;
+    osi::sides sides;
+    osi::fault fault;
+    octets user_data; /* lent until the next call with the end: copy what is to be kept */
+};
+
+/* Why an end has ended. */
+enum class ending : std::uint32_t {
+    broken = OSI_END_BROKEN,           /* end::broken was called */
+    closed = OSI_END_CLOSED,           /* its connection of class 0 was closed here */
+    peer_closed = OSI_END_PEER_CLOSED, /* the peer closed it by a DR: detail is the reason */
+    no_memory = OSI_END_NO_MEMORY,     /* end::feed found no memory */
+    unknown_reference = OSI_END_UNKNOWN_REFERENCE, /* from here on: the peer broke a rule of X.224 or RFC 1006 */
+    bad_answer = OSI_END_BAD_ANSWER,
+    unexpected_unit = OSI_END_UNEXPECTED_UNIT,
+    bad_version = OSI_END_BAD_VERSION, /* detail: the place in the stream of the packet's first octet */
+    bad_length = OSI_END_BAD_LENGTH,   /* the same */
+    no_memory_for_packet = OSI_END_NO_MEMORY_FOR_PACKET,
+    bad_li = OSI_END_BAD_LI, /* this one and the next four: detail is the place of the octet in the packet's units */
+    unknown_code = OSI_END_UNKNOWN_CODE,
+    bad_parameter_length = OSI_END_BAD_PARAMETER_LENGTH,
+    bad_parameter_value = OSI_END_BAD_PARAMETER_VALUE,
+    duplicate_parameter = OSI_END_DUPLICATE_PARAMETER,
+    wrong_form = OSI_END_WRONG_FORM,
+    out_of_sequence = OSI_END_OUT_OF_SEQUENCE,
+    credit_reduced = OSI_END_CREDIT_REDUCED,
+    tsdu_too_long = OSI_END_TSDU_TOO_LONG,
+    no_memory_for_tsdu = OSI_END_NO_MEMORY_FOR_TSDU,
+};
+
+/* Why an end has ended, in a few words. */
+constexpr std::string_view text(ending why) noexcept
+{
+    switch (why) {
+    case ending::broken: return "the byte connection is broken or closed";
+    case ending::closed: return "its connection was closed here";
+    case ending::peer_closed: return "the peer closed its connection";
+    case ending::no_memory: return "there was no memory for what came";
+    case ending::unknown_reference: return "a unit names an unknown reference";
+    case ending::bad_answer: return "a CC answers what was not asked for";
+    case ending::unexpected_unit: return "a unit came that is not expected";
+    case ending::bad_version: return "a packet is not of TPKT version 3";
+    case ending::bad_length: return "the length of a packet is out of range";
+    case ending::no_memory_for_packet: return "there was no memory for a packet";
+    case ending::bad_li: return "the length indicator of a unit is bad";
+    case ending::unknown_code: return "the code of a unit is unknown";
+    case ending::bad_parameter_length: return "the length of a parameter is bad";
+    case ending::bad_parameter_value: return "the value of a parameter is bad";
+    case ending::duplicate_parameter: return "a parameter stands twice";
+    case ending::wrong_form: return "a unit has the form of another class";
+    case ending::out_of_sequence: return "a unit is out of sequence";
+    case ending::credit_reduced: return "a credit was reduced";
+    case ending::tsdu_too_long: return "a TSDU is too long";
+    case ending::no_memory_for_tsdu: return "there was no memory for a TSDU";
+    }
+    return "a reason without a name";
+}
+
+/* That an end has ended. */
+struct ended {
+    ending why = ending::broken;
+    std::uint64_t detail = 0; /* 0 where osi::ending says nothing of it */
+};
+
+/* Where a connection stands (X.225 annex A, states). */
+enum class phase : std::uint32_t {
+    none = OSI_PHASE_NONE,                     /* the reference was never given, or there is no end */
+    wait_transport = OSI_PHASE_WAIT_TRANSPORT, /* the transport connection is awaited */
+    wait_cn = OSI_PHASE_WAIT_CN,               /* a CN is awaited */
+    connecting = OSI_PHASE_CONNECTING,         /* the answer to the CN is awaited */
+    answering = OSI_PHASE_ANSWERING,           /* the user is to accept or refuse */
+    ready = OSI_PHASE_READY,
+    major_asked = OSI_PHASE_MAJOR_ASKED,   /* the confirmation of a major point is awaited */
+    major_due = OSI_PHASE_MAJOR_DUE,       /* the user is to confirm a major point */
+    releasing = OSI_PHASE_RELEASING,       /* the answer to the release is awaited */
+    release_due = OSI_PHASE_RELEASE_DUE,   /* the user is to answer the release */
+    restarting = OSI_PHASE_RESTARTING,     /* the answer to the restart is awaited */
+    restart_due = OSI_PHASE_RESTART_DUE,   /* the user is to answer the restart */
+    aborting = OSI_PHASE_ABORTING,         /* the answer to the abort is awaited */
+    ended = OSI_PHASE_ENDED,               /* the connection is gone */
+};
+
+/* What a phase is, in a few words. */
+constexpr std::string_view text(phase stands) noexcept
+{
+    switch (stands) {
+    case phase::none: return "no such connection";
+    case phase::wait_transport: return "awaits the transport connection";
+    case phase::wait_cn: return "awaits a CN";
+    case phase::connecting: return "awaits the answer to its CN";
+    case phase::answering: return "is to be accepted or refused";
+    case phase::ready: return "ready";
+    case phase::major_asked: return "awaits the confirmation of a major point";
+    case phase::major_due: return "is to confirm a major point";
+    case phase::releasing: return "awaits the answer to the release";
+    case phase::release_due: return "is to answer the release";
+    case phase::restarting: return "awaits the answer to the restart";
+    case phase::restart_due: return "is to answer the restart";
+    case phase::aborting: return "awaits the answer to the abort";
+    case phase::ended: return "over";
+    }
+    return "a phase without a name";
+}
+
+/* What end::feed did. */
+struct fed {
+    std::size_t used = 0; /* so many octets of the piece were used, at most all */
+    bool waits = false;   /* an indication waits */
+};
+
+namespace detail {
+
+constexpr side side_of(std::uint8_t number) noexcept { return static_cast<side>(number); }
+
+constexpr sides sides_of(osi_sides s) noexcept
+{
+    return {side_of(s.data), side_of(s.minor), side_of(s.major), side_of(s.release)};
+}
+
+constexpr bool names_point(tag shown) noexcept
+{
+    switch (shown) {
+    case tag::minor:
+    case tag::minor_confirmed:
+    case tag::major:
+    case tag::restart:
+    case tag::restarted: return true;
+    default: return false;
+    }
+}
+
+inline fault fault_of(const osi_fault &f) noexcept
+{
+    return {static_cast<fault_kind>(f.fault), f.si, static_cast<spelling>(f.spelling), f.parameter, f.offset};
+}
+
+inline indication indication_of(const osi_indication &said) noexcept
+{
+    indication shown;
+    shown.tag = static_cast<tag>(said.tag);
+    shown.reference = said.reference;
+    shown.requirements = static_cast<units>(said.requirements);
+    if (said.has_number != 0 || names_point(shown.tag))
+        shown.number = said.number;
+    shown.confirm = said.confirm != 0;
+    shown.tokens = static_cast<osi::tokens>(said.tokens);
+    shown.reason = said.reason;
+    shown.sides = sides_of(said.sides);
+    shown.fault = fault_of(said.fault);
+    shown.user_data = said.user_data;
+    return shown;
+}
+
+} // namespace detail
+
+/* ---- an end ----------------------------------------------------------------------------------------- */
+
+/* One end of a byte connection, or none. It frees what it holds, can be moved, and is not copied. One
+ * that was moved from, or never made, holds none: its calls answer code::closed, and it has nothing to
+ * send and nothing to show.
+ *
+ * No function of it is const, also where it only looks: each is a call with the end, and ends what the
+ * end has lent. */
+class end {
+public:
+    /* Holds no end. */
+    end() noexcept = default;
+
+    /* The calling end of a byte connection, or the called one: ok, bad_argument (terms), no_memory. */
+    static result<end> caller(const terms &own = {}) noexcept { return make(osi_caller, own); }
+    static result<end> called(const terms &own = {}) noexcept { return make(osi_called, own); }
+
+    /* Whether it holds an end. */
+    explicit operator bool() const noexcept { return slot_ != nullptr; }
+
+    /* Frees the end that it holds, with all that was lent. */
+    void reset() noexcept { slot_.reset(); }
+
+    /* The slot, for a function of osi.h; null where it holds no end. It is not to be freed. */
+    osi_end *get() noexcept { return slot_.get(); }
+
+    /* ---- connections and calls of their users, as osi.h has them (X.215 section 10) */
+
+    /* Asks for a connection, and gives its reference. The answer comes as an indication. */
+    result<osi::reference> connect(const opening &asked) noexcept
+    {
+        const osi_opening passed = {
+            detail::bits(asked.requirements), asked.serial,           asked.wishes,          asked.calling_tsap,
+            asked.called_tsap,                asked.calling_selector, asked.called_selector, asked.user_data,
+        };
+        result<osi::reference> made;
+        made.code = call(osi_connect, &passed, &made.value);
+        return made;
+    }
+
+    /* Answers tag::connect: with the units that are selected, the number of the first point, and the
+     * sides of the tokens that were this side's choice; or by a refusal. */
+    code accept(osi::reference of, units selected, std::uint32_t number = 0, sides holders = {},
+                octets data = {}) noexcept
+    {
+        const osi_sides passed = holders;
+        return call(osi_accept, of, detail::bits(selected), number, &passed, data.data(), data.size());
+    }
+    code refuse(osi::reference of, octets data = {}) noexcept { return say(osi_refuse, of, data); }
+
+    /* Sends data, 1 to 1,048,572 octets. */
+    code data(osi::reference of, octets all) noexcept { return say(osi_data, of, all); }
+
+    /* Gives tokens that are held, or asks for tokens that are not. */
+    code give(osi::reference of, osi::tokens given) noexcept { return call(osi_give, of, detail::bits(given)); }
+    code please(osi::reference of, osi::tokens asked, octets data = {}) noexcept
+    {
+        return call(osi_please, of, detail::bits(asked), data.data(), data.size());
+    }
+
+    /* Sets a minor point, whose number is next_serial before the call; confirms all up to a number.
+     * (Some systems have macros that are called minor and major.) */
+    code minor_point(osi::reference of, bool confirm = true, octets data = {}) noexcept
+    {
+        return call(osi_minor, of, static_cast<std::uint8_t>(confirm), data.data(), data.size());
+    }
+    code minor_confirm(osi::reference of, std::uint32_t number, octets data = {}) noexcept
+    {
+        return call(osi_minor_confirm, of, number, data.data(), data.size());
+    }
+
+    /* Sets a major point; answers tag::major. */
+    code major_point(osi::reference of, octets data = {}) noexcept { return say(osi_major, of, data); }
+    code major_confirm(osi::reference of, octets data = {}) noexcept { return say(osi_major_confirm, of, data); }
+
+    /* Restarts at a point, whose number the next one then has; answers tag::restart. */
+    code restart(osi::reference of, std::uint32_t number, sides wishes = {}, octets data = {}) noexcept
+    {
+        const osi_sides passed = wishes;
+        return call(osi_restart, of, number, &passed, data.data(), data.size());
+    }
+    code restart_confirm(osi::reference of, sides holders = {}, octets data = {}) noexcept
+    {
+        const osi_sides passed = holders;
+        return call(osi_restart_confirm, of, &passed, data.data(), data.size());
+    }
+
+    /* Asks for the release; answers tag::release. */
+    code release(osi::reference of, octets data = {}) noexcept { return say(osi_release, of, data); }
+    code release_accept(osi::reference of, octets data = {}) noexcept { return say(osi_release_accept, of, data); }
+    code release_refuse(osi::reference of, octets data = {}) noexcept { return say(osi_release_refuse, of, data); }
+
+    /* Aborts the connection. */
+    code abort(osi::reference of, octets data = {}) noexcept { return say(osi_abort, of, data); }
+
+    /* ---- octets */
+
+    /* Feeds octets that came from the peer, cut in any way. It stops behind a packet that gives an
+     * indication, and uses nothing while one waits. */
+    result<fed> feed(octets piece) noexcept
+    {
+        osi_fed did = {0, false};
+        result<fed> answer;
+        answer.code = call(osi_feed, piece.data(), piece.size(), &did);
+        answer.value = {did.used, did.waits};
+        return answer;
+    }
+
+    /* Feeds all of a piece, and hands each indication to a function, which may call this end: also those
+     * that waited before. It is ok, or closed. */
+    template <class Shown>
+    code feed_all(octets piece, Shown &&shown) noexcept(noexcept(shown(std::declval<const indication &>())))
+    {
+        for (;;) {
+            while (const std::optional<indication> one = next())
+                shown(*one);
+            if (piece.empty())
+                return slot_ ? code::ok : code::closed;
+            const result<fed> did = feed(piece);
+            if (!did)
+                return did.code;
+            piece = piece.from(did->used);
+        }
+    }
+
+    /* The octets that are to be carried to the peer, the first of them first. They are lent. */
+    octets outgoing() noexcept
+    {
+        osi_octets lent = OSI_NO_OCTETS;
+        if (slot_)
+            osi_outgoing(slot_.get(), &lent);
+        return lent;
+    }
+
+    /* So many of them, the first, have been carried: ok, closed, bad_argument (more than there are). */
+    code taken(std::size_t count) noexcept { return call(osi_taken, count); }
+
+    /* The byte connection broke, or the peer closed it: ok, closed. Who has not been told the end of his
+     * connection is then shown tag::lost. */
+    code broken() noexcept { return call(osi_broken); }
+
+    /* Why it has ended; nothing while it goes on. Where it has, send what is outgoing, and close. */
+    std::optional<osi::ended> ended() noexcept
+    {
+        std::uint64_t more = 0;
+        const std::uint32_t why = slot_ ? osi_ended(slot_.get(), &more) : OSI_END_NONE;
+        if (why == OSI_END_NONE)
+            return std::nullopt;
+        return osi::ended{static_cast<ending>(why), more};
+    }
+
+    /* How many octets are kept of what is not whole yet. */
+    std::size_t kept() noexcept { return slot_ ? osi_kept(slot_.get()) : 0; }
+
+    /* ---- indications */
+
+    /* The oldest indication of the connection with the lowest reference that has one. */
+    std::optional<indication> next() noexcept
+    {
+        if (call(osi_fetch) != code::ok)
+            return std::nullopt;
+        return last();
+    }
+
+    /* The one that was fetched last; tag::none where there is none. */
+    indication last() noexcept
+    {
+        if (!slot_)
+            return {};
+        osi_indication said;
+        osi_last(slot_.get(), &said);
+        return detail::indication_of(said);
+    }
+
+    /* ---- where a connection stands */
+
+    osi::phase phase(osi::reference of) noexcept { return static_cast<osi::phase>(look(osi_phase, of)); }
+
+    /* The tokens that this end holds. */
+    osi::tokens held(osi::reference of) noexcept { return static_cast<osi::tokens>(look(osi_held, of)); }
+
+    /* V(M), the number of the next point; V(A), below which all are confirmed; V(R), the lowest at which
+     * this end may restart (X.225 section 5.9). Each is 0 for a connection that is gone or never was. */
+    std::uint32_t next_serial(osi::reference of) noexcept { return look(osi_next_serial, of); }
+    std::uint32_t confirmed_below(osi::reference of) noexcept { return look(osi_confirmed_below, of); }
+    std::uint32_t lowest_restart(osi::reference of) noexcept { return look(osi_lowest_restart, of); }
+
+private:
+    struct freed {
+        void operator()(osi_end *slot) const noexcept
+        {
+            osi_free(slot);
+            delete slot;
+        }
+    };
+
+    using makes = std::uint32_t (*)(osi_end *, const osi_terms *);
+    using says = std::uint32_t (*)(osi_end *, std::uint16_t, const std::uint8_t *, std::size_t);
+
+    static result<end> make(makes made, const terms &own) noexcept
+    {
+        const osi_terms passed = {detail::bits(own.classes), own.size, own.window};
+        result<end> answer;
+        answer.value.slot_.reset(new (std::nothrow) osi_end OSI_END);
+        answer.code = answer.value ? static_cast<osi::code>(made(answer.value.get(), &passed)) : code::no_memory;
+        if (!answer)
+            answer.value.reset();
+        return answer;
+    }
+
+    /* A call with the slot. */
+    template <class Function, class... Arguments>
+    code call(Function function, Arguments... arguments) noexcept
+    {
+        return slot_ ? static_cast<code>(function(slot_.get(), arguments...)) : code::closed;
+    }
+
+    code say(says function, osi::reference of, octets data) noexcept
+    {
+        return call(function, of, data.data(), data.size());
+    }
+
+    template <class T>
+    T look(T (*function)(osi_end *, std::uint16_t), osi::reference of) noexcept
+    {
+        return slot_ ? function(slot_.get(), of) : T{0};
+    }
+
+    std::unique_ptr<osi_end, freed> slot_;
+};
+
+} // namespace osi
+
+#endif
