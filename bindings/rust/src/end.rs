@@ -1,0 +1,436 @@
+//! One end of a byte connection.
+
+use crate::codes::{Ending, Error};
+use crate::ffi;
+use crate::indications::Indication;
+use crate::terms::{Opening, Phase, Reference, Sides, Terms, Tokens, Units};
+use std::fmt;
+use std::mem::MaybeUninit;
+use std::slice;
+
+/// What [`End::feed`] did.
+#[derive(Clone, Copy, Debug, PartialEq, Eq, Hash)]
+#[must_use = "the octets that were not used are to be fed again"]
+pub struct Fed {
+    /// So many octets of the piece were used, at most all.
+    pub used: usize,
+    /// An indication waits.
+    pub waits: bool,
+}
+
+/// One end of a byte connection, with up to 64 session connections in transport class 2, and one in
+/// class 0. It is freed when it is dropped.
+///
+/// It may be handed to another thread, and is used by one at a time. All calls take `&mut self`: octets
+/// that the end has lent are there until the next call, whichever it is.
+///
+/// User data of a call is at most 10,240 octets unless it is said, and is copied. A call that is refused
+/// changes nothing; it answers the first [`Error`] that applies.
+pub struct End {
+    /// The library is given the address of the slot, and nothing else touches what is in it. So it lies
+    /// in a box, and stays where it is while the `End` moves.
+    slot: Box<ffi::osi_end>,
+}
+
+// SAFETY: an end of the library shares nothing with another, has no state of a thread, and may be used
+// by one thread after the other (`osi.h`). All calls take `&mut self`.
+unsafe impl Send for End {}
+
+fn answer(code: u32) -> Result<(), Error> {
+    match code {
+        ffi::OSI_OK => Ok(()),
+        code => Err(Error::of(code)),
+    }
+}
+
+/// The octets that C lends.
+///
+/// # Safety
+/// They are there for `'a`, and nobody writes to them.
+unsafe fn lent<'a>(octets: ffi::osi_octets) -> &'a [u8] {
+    // SAFETY: the caller's; the pointer is never null (`osi.h`).
+    unsafe { slice::from_raw_parts(octets.at, octets.length) }
+}
+
+// SAFETY, of each call below: `slot` began as `OSI_END`, and is at an address that does not change; no
+// pointer is null, and each points to what it says for the time of the call, and to no octet that the
+// end has lent, since a slice of those would hold the borrow of `self` that the call needs.
+impl End {
+    /// The calling end of a byte connection. Nothing is written yet.
+    ///
+    /// # Errors
+    /// [`Error::BadArgument`] where a number of the terms is outside its range, [`Error::NoMemory`].
+    pub fn caller(terms: Terms) -> Result<End, Error> {
+        End::make(ffi::osi_caller, terms)
+    }
+
+    /// The called end of a byte connection. Nothing is written yet.
+    ///
+    /// # Errors
+    /// [`Error::BadArgument`] where a number of the terms is outside its range, [`Error::NoMemory`].
+    pub fn called(terms: Terms) -> Result<End, Error> {
+        End::make(ffi::osi_called, terms)
+    }
+
+    fn make(
+        made: unsafe extern "C" fn(*mut ffi::osi_end, *const ffi::osi_terms) -> u32,
+        terms: Terms,
+    ) -> Result<End, Error> {
+        let mut end = End { slot: Box::new(ffi::OSI_END) };
+        let passed = ffi::osi_terms { classes: terms.classes.bits(), size: terms.size, window: terms.window };
+        answer(unsafe { made(end.at(), &passed) })?;
+        Ok(end)
+    }
+
+    fn at(&mut self) -> *mut ffi::osi_end {
+        &mut *self.slot
+    }
+
+    fn say(&mut self, call: ffi::Says, of: Reference, data: &[u8]) -> Result<(), Error> {
+        answer(unsafe { call(self.at(), of.0, data.as_ptr(), data.len()) })
+    }
+
+    /// Asks for a connection, and gives its reference. The answer comes as an indication:
+    /// [`Connected`](Indication::Connected), one of the two refusals, or why it is over.
+    ///
+    /// # Errors
+    /// The first that applies of [`BadArgument`](Error::BadArgument) (the serial, a transport address of
+    /// over 32 octets), [`NotCaller`](Error::NotCaller), [`Ended`](Error::Ended),
+    /// [`Negotiating`](Error::Negotiating), [`OneConnection`](Error::OneConnection),
+    /// [`TooMany`](Error::TooMany), [`ReferencesUsedUp`](Error::ReferencesUsedUp),
+    /// [`NotSelected`](Error::NotSelected) (units that do not go together),
+    /// [`TooLong`](Error::TooLong) and [`NoMemory`](Error::NoMemory).
+    pub fn connect(&mut self, asked: &Opening<'_>) -> Result<Reference, Error> {
+        let passed = ffi::osi_opening {
+            requirements: asked.requirements.bits(),
+            serial: asked.serial,
+            wishes: asked.wishes.passed(),
+            calling_tsap: ffi::lend(asked.calling_tsap),
+            called_tsap: ffi::lend(asked.called_tsap),
+            calling_selector: ffi::lend(asked.calling_selector),
+            called_selector: ffi::lend(asked.called_selector),
+            user_data: ffi::lend(asked.user_data),
+        };
+        let mut reference = 0;
+        answer(unsafe { ffi::osi_connect(self.at(), &passed, &mut reference) })?;
+        Ok(Reference(reference))
+    }
+
+    /// Answers [`Indication::Connect`]. The units are some of those that were offered, half-duplex among
+    /// them, or duplex alone; the number is that of the first point, 0 to 999,999; the sides hold the
+    /// tokens whose holder was this side's choice.
+    ///
+    /// # Errors
+    /// [`BadArgument`](Error::BadArgument) (a number above 999,999, a side that is
+    /// [`Choice`](crate::Side::Choice)), [`BadState`](Error::BadState),
+    /// [`NotSelected`](Error::NotSelected), [`TooLong`](Error::TooLong), and those of every call:
+    /// [`NoSuchConnection`](Error::NoSuchConnection), [`Ended`](Error::Ended),
+    /// [`NoMemory`](Error::NoMemory).
+    pub fn accept(
+        &mut self,
+        of: Reference,
+        selected: Units,
+        number: u32,
+        sides: Sides,
+        user_data: &[u8],
+    ) -> Result<(), Error> {
+        let (data, length) = (user_data.as_ptr(), user_data.len());
+        let (units, sides) = (selected.bits(), sides.passed());
+        answer(unsafe { ffi::osi_accept(self.at(), of.0, units, number, &sides, data, length) })
+    }
+
+    /// Refuses what [`Indication::Connect`] asks for.
+    ///
+    /// # Errors
+    /// [`BadState`](Error::BadState), [`TooLong`](Error::TooLong), and those of every call.
+    pub fn refuse(&mut self, of: Reference, user_data: &[u8]) -> Result<(), Error> {
+        self.say(ffi::osi_refuse, of, user_data)
+    }
+
+    /// Sends data, 1 to 1,048,572 octets.
+    ///
+    /// # Errors
+    /// [`BadState`](Error::BadState), [`TokenNotHeld`](Error::TokenNotHeld), [`Empty`](Error::Empty),
+    /// [`TooLong`](Error::TooLong), and those of every call.
+    pub fn data(&mut self, of: Reference, user_data: &[u8]) -> Result<(), Error> {
+        self.say(ffi::osi_data, of, user_data)
+    }
+
+    /// Gives tokens that are held, one at least.
+    ///
+    /// # Errors
+    /// [`BadState`](Error::BadState), [`NotSelected`](Error::NotSelected) (a token is not there),
+    /// [`TokenNotHeld`](Error::TokenNotHeld), [`Empty`](Error::Empty), and those of every call.
+    pub fn give(&mut self, of: Reference, tokens: Tokens) -> Result<(), Error> {
+        answer(unsafe { ffi::osi_give(self.at(), of.0, tokens.bits()) })
+    }
+
+    /// Asks for tokens that are not held, one at least.
+    ///
+    /// # Errors
+    /// [`BadState`](Error::BadState), [`NotSelected`](Error::NotSelected) (a token is not there),
+    /// [`TokenAlreadyHeld`](Error::TokenAlreadyHeld), [`Empty`](Error::Empty),
+    /// [`TooLong`](Error::TooLong), and those of every call.
+    pub fn please(&mut self, of: Reference, tokens: Tokens, user_data: &[u8]) -> Result<(), Error> {
+        let (data, length) = (user_data.as_ptr(), user_data.len());
+        answer(unsafe { ffi::osi_please(self.at(), of.0, tokens.bits(), data, length) })
+    }
+
+    /// Sets a minor point, whose number is [`next_serial`](End::next_serial) before the call, and asks
+    /// for its confirmation or not.
+    ///
+    /// # Errors
+    /// [`BadState`](Error::BadState), [`NotSelected`](Error::NotSelected),
+    /// [`TokenNotHeld`](Error::TokenNotHeld) (of data and minor),
+    /// [`SerialsUsedUp`](Error::SerialsUsedUp), [`TooLong`](Error::TooLong), and those of every call.
+    pub fn minor(&mut self, of: Reference, confirm: bool, user_data: &[u8]) -> Result<(), Error> {
+        let (data, length) = (user_data.as_ptr(), user_data.len());
+        answer(unsafe { ffi::osi_minor(self.at(), of.0, u8::from(confirm), data, length) })
+    }
+
+    /// Confirms all minor points up to this number.
+    ///
+    /// # Errors
+    /// [`BadState`](Error::BadState), [`NotSelected`](Error::NotSelected),
+    /// [`BadNumber`](Error::BadNumber), [`TooLong`](Error::TooLong), and those of every call.
+    pub fn minor_confirm(&mut self, of: Reference, number: u32, user_data: &[u8]) -> Result<(), Error> {
+        let (data, length) = (user_data.as_ptr(), user_data.len());
+        answer(unsafe { ffi::osi_minor_confirm(self.at(), of.0, number, data, length) })
+    }
+
+    /// Sets a major point.
+    ///
+    /// # Errors
+    /// [`BadState`](Error::BadState), [`NotSelected`](Error::NotSelected),
+    /// [`TokenNotHeld`](Error::TokenNotHeld) (of data, minor and major),
+    /// [`SerialsUsedUp`](Error::SerialsUsedUp), [`TooLong`](Error::TooLong), and those of every call.
+    pub fn major(&mut self, of: Reference, user_data: &[u8]) -> Result<(), Error> {
+        self.say(ffi::osi_major, of, user_data)
+    }
+
+    /// Answers [`Indication::Major`].
+    ///
+    /// # Errors
+    /// [`BadState`](Error::BadState), [`TooLong`](Error::TooLong), and those of every call.
+    pub fn major_confirm(&mut self, of: Reference, user_data: &[u8]) -> Result<(), Error> {
+        self.say(ffi::osi_major_confirm, of, user_data)
+    }
+
+    /// Restarts at a point, whose number the next one then has.
+    ///
+    /// # Errors
+    /// [`BadState`](Error::BadState), [`NotSelected`](Error::NotSelected),
+    /// [`BadNumber`](Error::BadNumber) (below [`lowest_restart`](End::lowest_restart), or above what the
+    /// next point would have), [`TooLong`](Error::TooLong), and those of every call.
+    pub fn restart(
+        &mut self,
+        of: Reference,
+        number: u32,
+        wishes: Sides,
+        user_data: &[u8],
+    ) -> Result<(), Error> {
+        let (data, length) = (user_data.as_ptr(), user_data.len());
+        let wishes = wishes.passed();
+        answer(unsafe { ffi::osi_restart(self.at(), of.0, number, &wishes, data, length) })
+    }
+
+    /// Answers [`Indication::Restart`]. The sides hold the tokens whose holder was this side's choice.
+    ///
+    /// # Errors
+    /// [`BadArgument`](Error::BadArgument) (a side that is [`Choice`](crate::Side::Choice)),
+    /// [`BadState`](Error::BadState), [`TooLong`](Error::TooLong), and those of every call.
+    pub fn restart_confirm(&mut self, of: Reference, sides: Sides, user_data: &[u8]) -> Result<(), Error> {
+        let (data, length) = (user_data.as_ptr(), user_data.len());
+        let sides = sides.passed();
+        answer(unsafe { ffi::osi_restart_confirm(self.at(), of.0, &sides, data, length) })
+    }
+
+    /// Asks for the release.
+    ///
+    /// # Errors
+    /// [`BadState`](Error::BadState), [`TokenNotHeld`](Error::TokenNotHeld) (all tokens that are there,
+    /// and with duplex the side of the caller), [`TooLong`](Error::TooLong), and those of every call.
+    pub fn release(&mut self, of: Reference, user_data: &[u8]) -> Result<(), Error> {
+        self.say(ffi::osi_release, of, user_data)
+    }
+
+    /// Answers [`Indication::Release`]: the connection is over.
+    ///
+    /// # Errors
+    /// [`BadState`](Error::BadState), [`TooLong`](Error::TooLong), and those of every call.
+    pub fn release_accept(&mut self, of: Reference, user_data: &[u8]) -> Result<(), Error> {
+        self.say(ffi::osi_release_accept, of, user_data)
+    }
+
+    /// Answers [`Indication::Release`]: the connection goes on.
+    ///
+    /// # Errors
+    /// [`BadState`](Error::BadState), [`NotSelected`](Error::NotSelected) (negotiated release),
+    /// [`TooLong`](Error::TooLong), and those of every call.
+    pub fn release_refuse(&mut self, of: Reference, user_data: &[u8]) -> Result<(), Error> {
+        self.say(ffi::osi_release_refuse, of, user_data)
+    }
+
+    /// Aborts the connection.
+    ///
+    /// # Errors
+    /// [`BadState`](Error::BadState) (there is no transport connection yet),
+    /// [`TooLong`](Error::TooLong), and those of every call.
+    pub fn abort(&mut self, of: Reference, user_data: &[u8]) -> Result<(), Error> {
+        self.say(ffi::osi_abort, of, user_data)
+    }
+
+    /// Feeds octets that came from the peer, in the order in which they came, cut in any way.
+    ///
+    /// It stops behind a packet that gives an indication, and uses nothing while one waits: fetch them
+    /// all, and then feed the rest of the piece. [`feed_next`](End::feed_next) does both. Once the end
+    /// has ended it uses all. Where it finds no memory the end ends with [`Ending::NoMemory`].
+    pub fn feed(&mut self, piece: &[u8]) -> Fed {
+        let mut fed = ffi::osi_fed { used: 0, waits: false };
+        // It answers OSI_OK, since the slot holds an end.
+        unsafe { ffi::osi_feed(self.at(), piece.as_ptr(), piece.len(), &mut fed) };
+        Fed { used: fed.used, waits: fed.waits }
+    }
+
+    /// The next indication: one that waits, or else the first that the octets of the piece give. What it
+    /// uses it takes from the front of the piece. `None`: all of the piece is used, and nothing waits.
+    ///
+    /// ```
+    /// # use osi_session::{End, Error, Indication, Sides};
+    /// fn received(end: &mut End, mut piece: &[u8]) -> Result<(), Error> {
+    ///     while let Some((connection, indication)) = end.feed_next(&mut piece) {
+    ///         match indication {
+    ///             Indication::Connect { requirements, number, .. } => {
+    ///                 end.accept(connection, requirements, number.unwrap_or(0), Sides::default(), b"")?;
+    ///             }
+    ///             Indication::Data { user_data } => println!("{} octets", user_data.len()),
+    ///             _ => {}
+    ///         }
+    ///     }
+    ///     Ok(())
+    /// }
+    /// ```
+    pub fn feed_next(&mut self, piece: &mut &[u8]) -> Option<(Reference, Indication<&[u8]>)> {
+        while !self.fetch() {
+            if piece.is_empty() {
+                return None;
+            }
+            let used = self.feed(piece).used;
+            *piece = &piece[used..];
+        }
+        self.last_indication()
+    }
+
+    /// The octets that are to be carried to the peer, the first of them first. They stay until
+    /// [`taken`](End::taken) says that they have been.
+    pub fn outgoing(&mut self) -> &[u8] {
+        let mut octets = ffi::lend(&[]);
+        // SAFETY, beside that of each call: the octets are lent until the next call with this end,
+        // and the slice holds the borrow that a call needs.
+        unsafe {
+            ffi::osi_outgoing(self.at(), &mut octets);
+            lent(octets)
+        }
+    }
+
+    /// So many octets of [`outgoing`](End::outgoing), the first, have been carried.
+    ///
+    /// # Errors
+    /// [`Error::BadArgument`] where there are not so many.
+    pub fn taken(&mut self, octets: usize) -> Result<(), Error> {
+        answer(unsafe { ffi::osi_taken(self.at(), octets) })
+    }
+
+    /// The byte connection is over: it broke, or the peer closed it. Each user that has not been told
+    /// the end of his connection is then shown [`Indication::Lost`]. Nothing where the end has ended.
+    pub fn broken(&mut self) {
+        // It answers OSI_OK, since the slot holds an end.
+        unsafe { ffi::osi_broken(self.at()) };
+    }
+
+    /// Why the end has ended; `None` while it goes on. Where it has, send what is still outgoing (unless
+    /// the byte connection broke), and close the byte connection.
+    pub fn ended(&mut self) -> Option<Ending> {
+        let mut detail = 0;
+        match unsafe { ffi::osi_ended(self.at(), &mut detail) } {
+            ffi::OSI_END_NONE => None,
+            number => Some(Ending::of(number, detail)),
+        }
+    }
+
+    /// How many octets are kept of a packet and of TSDUs that are not whole yet: at most 65,535, and
+    /// 1,048,576 for each live connection.
+    pub fn kept(&mut self) -> usize {
+        unsafe { ffi::osi_kept(self.at()) }
+    }
+
+    /// The oldest indication of the connection with the lowest reference that has one. It takes no
+    /// memory.
+    ///
+    /// # Panics
+    /// Where the library shows what this crate does not know, which none that it was made for does.
+    pub fn next_indication(&mut self) -> Option<(Reference, Indication<&[u8]>)> {
+        self.feed_next(&mut [].as_slice())
+    }
+
+    fn fetch(&mut self) -> bool {
+        unsafe { ffi::osi_fetch(self.at()) == ffi::OSI_OK }
+    }
+
+    /// The indication that was fetched last.
+    fn last_indication(&mut self) -> Option<(Reference, Indication<&[u8]>)> {
+        let mut shown = MaybeUninit::<ffi::osi_indication>::uninit();
+        // SAFETY, beside that of each call: an indication is filled in whole; its user data is lent
+        // until the next call with this end, and the slice holds the borrow that a call needs.
+        let (shown, user_data) = unsafe {
+            ffi::osi_last(self.at(), shown.as_mut_ptr());
+            let shown = shown.assume_init();
+            (shown, lent(shown.user_data))
+        };
+        let indication = Indication::of(&shown, user_data);
+        let Some(indication) = indication else {
+            panic!("the library shows an indication {} that is not known here", shown.tag)
+        };
+        Some((Reference(shown.reference), indication))
+    }
+
+    /// Where a connection stands; `None` for a reference that was never given.
+    pub fn phase(&mut self, of: Reference) -> Option<Phase> {
+        Phase::of(unsafe { ffi::osi_phase(self.at(), of.0) })
+    }
+
+    /// The tokens that this end holds; none for a connection that is gone or never was.
+    pub fn held(&mut self, of: Reference) -> Tokens {
+        Tokens::from_bits(unsafe { ffi::osi_held(self.at(), of.0) })
+    }
+
+    /// V(M) (X.225 section 5.9): the number of the next point. 0 for a connection that is gone or never
+    /// was.
+    pub fn next_serial(&mut self, of: Reference) -> u32 {
+        unsafe { ffi::osi_next_serial(self.at(), of.0) }
+    }
+
+    /// V(A): the number below which all points are confirmed. 0 for a connection that is gone or never
+    /// was.
+    pub fn confirmed_below(&mut self, of: Reference) -> u32 {
+        unsafe { ffi::osi_confirmed_below(self.at(), of.0) }
+    }
+
+    /// V(R): the lowest number at which this end may restart. 0 for a connection that is gone or never
+    /// was.
+    pub fn lowest_restart(&mut self, of: Reference) -> u32 {
+        unsafe { ffi::osi_lowest_restart(self.at(), of.0) }
+    }
+}
+
+impl Drop for End {
+    fn drop(&mut self) {
+        unsafe { ffi::osi_free(self.at()) }
+    }
+}
+
+impl fmt::Debug for End {
+    fn fmt(&self, f: &mut fmt::Formatter<'_>) -> fmt::Result {
+        f.debug_struct("End").finish_non_exhaustive()
+    }
+}

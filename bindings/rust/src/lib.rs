@@ -1,0 +1,90 @@
+//! One end of an OSI session (ITU-T X.225 version 2) over the transport classes 0 and 2 of X.224 in
+//! TPKT packets (RFC 1006), as a value that is fed octets and gives octets.
+//!
+//! Nothing here opens a socket, starts a thread or reads a clock: an [`End`] is what stands between a
+//! byte connection and the users of its session connections. You feed it the octets that came from the
+//! peer, and it gives you octets to send; you call it for your user, and it shows you indications.
+//!
+//! This crate is the safe way to the library for C of the same project (`include/osi.h`), whose
+//! functions are proved: whatever octets come, in whatever pieces, a call returns, and refuses what the
+//! standards' tables refuse. That the calls of this crate keep what that library asks of its caller is
+//! not proved; it is what the types below are for, and is tested.
+//!
+//! # Two ends
+//!
+//! ```
+//! use osi_session::{End, Error, Indication, Opening, Sides, Terms};
+//!
+//! /// Carries what one end has to send to the other, as a socket would.
+//! fn carry(from: &mut End, to: &mut End, mut shown: impl FnMut(&Indication<&[u8]>)) -> Result<(), Error> {
+//!     let octets = from.outgoing().to_vec();
+//!     from.taken(octets.len())?;
+//!     let mut piece = octets.as_slice();
+//!     while let Some((_, indication)) = to.feed_next(&mut piece) {
+//!         shown(&indication);
+//!     }
+//!     Ok(())
+//! }
+//!
+//! # fn main() -> Result<(), Error> {
+//! let mut caller = End::caller(Terms::default())?;
+//! let mut called = End::called(Terms::default())?;
+//! let asked = Opening { user_data: b"who is there?", ..Opening::default() };
+//! let connection = caller.connect(&asked)?;
+//! carry(&mut caller, &mut called, |_| {})?; // the transport connection is asked for,
+//! carry(&mut called, &mut caller, |_| {})?; // and agreed to
+//! let mut seen = false;
+//! carry(&mut caller, &mut called, |indication| {
+//!     seen = matches!(indication, Indication::Connect { user_data: b"who is there?", .. });
+//! })?;
+//! assert!(seen);
+//! called.accept(connection, asked.requirements, 0, Sides::default(), b"a gateway")?;
+//! carry(&mut called, &mut caller, |_| {})?;
+//! caller.data(connection, b"hello")?;
+//! # Ok(())
+//! # }
+//! ```
+//!
+//! # The loop of a gateway
+//!
+//! Three things happen in any order, as the socket says.
+//!
+//! 1. Octets go out: write as much of [`End::outgoing`] as the socket takes, and say how much by
+//!    [`End::taken`].
+//! 2. Octets come in: give them to [`End::feed_next`] until it answers `None`.
+//! 3. The peer is gone: [`End::broken`], and then fetch the indications by [`End::next_indication`].
+//!
+//! After each turn look at [`End::ended`]: where the end has ended, send what is still outgoing, and
+//! close the socket. The example `client` is such a loop over [`std::net::TcpStream`].
+//!
+//! # What is lent
+//!
+//! [`End::outgoing`] and the user data of an [`Indication`] are octets of the end, which are there until
+//! the next call with it. The compiler holds you to that: all calls take `&mut self`, also those that
+//! only look, since that is what the library for C says of them. Copy what is to be kept, or call
+//! [`Indication::into_owned`].
+//!
+//! ```compile_fail
+//! # use osi_session::{End, Terms};
+//! let mut end = End::caller(Terms::default()).unwrap();
+//! let lent = end.outgoing();
+//! end.taken(0).unwrap();
+//! assert!(lent.is_empty()); // lent is used after the next call
+//! ```
+//!
+//! # Linking
+//!
+//! The build script finds `libosi.a` (or `libosi.so`) in the folder that `OSI_SESSION_DIR` names, or by
+//! `pkg-config osi`. `OSI_SESSION_SHARED=1` links the shared library also where both are there.
+
+mod codes;
+mod end;
+#[allow(missing_docs, non_camel_case_types)]
+mod ffi;
+mod indications;
+mod terms;
+
+pub use codes::{Ending, Error, Fault, Spelling};
+pub use end::{End, Fed};
+pub use indications::Indication;
+pub use terms::{Classes, Opening, Phase, Reference, Side, Sides, Terms, Tokens, Units};
