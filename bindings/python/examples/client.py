@@ -1,0 +1,135 @@
+#!/usr/bin/env python3
+"""The calling side of a gateway over asyncio: it sends messages with a minor point behind each, whose
+confirmation it awaits, gives the tokens and accepts the release.
+
+    client.py [--port 4000] [--classes 0|2|20] [--messages 5] [--log FILE]
+
+The status is 0 where the connection was released, and 3 where it was lost.
+"""
+import argparse
+import asyncio
+import sys
+
+from osi_session import (
+    Asked,
+    BadUnit,
+    Classes,
+    Connect,
+    Connected,
+    Data,
+    Given,
+    Lost,
+    Minor,
+    MinorConfirmed,
+    Opening,
+    PeerAbort,
+    RefusedBySession,
+    RefusedByTransport,
+    Release,
+    SessionError,
+    Terms,
+    Tokens,
+    Units,
+    aio,
+)
+
+UNITS = Units.HALF_DUPLEX | Units.MINOR_SYNC | Units.NEGOTIATED_RELEASE
+TOKENS = Tokens.DATA | Tokens.MINOR | Tokens.RELEASE
+
+
+def opened(shown, sides):
+    serial = "-" if shown.number is None else shown.number
+    letters = "".join("arc"[side] for side in (sides.data, sides.minor, sides.major, sides.release))
+    return f"units {shown.requirements:04x} serial {serial} sides {letters}"
+
+
+def fields(shown):
+    """What stands between the name of an indication and its user data, of those that come here."""
+    if isinstance(shown, Connect):
+        return " " + opened(shown, shown.wishes)
+    if isinstance(shown, Connected):
+        return " " + opened(shown, shown.sides)
+    if isinstance(shown, (Given, Asked)):
+        return f" {shown.tokens:02x}"
+    if isinstance(shown, Minor):
+        return f" {shown.number} confirm {'yes' if shown.confirm else 'no'}"
+    if isinstance(shown, PeerAbort):
+        return f" {shown.reason:02x}"
+    if isinstance(shown, BadUnit):
+        return f" {shown.fault.kind.name}"
+    return "".join(f" {getattr(shown, name)}" for name in ("number", "reason") if hasattr(shown, name))
+
+
+NAMES = {
+    RefusedByTransport: "Refused transport",
+    RefusedBySession: "Refused session",
+    Lost: "ProviderAbort Lost",
+    PeerAbort: "ProviderAbort Peer",
+    BadUnit: "ProviderAbort Unit",
+}
+
+
+def words(shown):
+    """The words of an indication in a transcript (docs/SCRIPTS.md)."""
+    text = NAMES.get(type(shown), type(shown).__name__) + fields(shown)
+    if not hasattr(shown, "user_data"):
+        return text
+    data = shown.user_data.hex() or "-"
+    return f"{text} {data}" if isinstance(shown, Data) else f"{text} data {data}"
+
+
+class Client:
+    def __init__(self, line, messages, log):
+        self.line, self.end, self.log = line, line.end, log
+        self.messages, self.said = messages, 0
+        self.released = self.lost = False
+
+    def tell(self, text):
+        print(f"left {text}", file=self.log)
+
+    def did(self, reference, verb, call, *arguments):
+        """Makes a call, writes its line, and answers whether it was done."""
+        try:
+            call(reference, *arguments)
+        except SessionError as error:
+            self.tell(f"{reference} {verb} refused: {error}")
+            return False
+        self.tell(f"{reference} {verb} ok")
+        return True
+
+    def go_on(self, reference):
+        """The next message, and a point behind it; or the tokens where all was said."""
+        if self.said == self.messages:
+            self.did(reference, "give", self.end.give, TOKENS)
+            return
+        self.said += 1
+        self.did(reference, "data", self.end.data, f"message {self.said}".encode())
+        self.did(reference, "minor", self.end.minor)
+
+    async def run(self):
+        self.tell(f"connect ok {self.end.connect(Opening(requirements=UNITS, user_data=b'gateway'))}")
+        async for shown in self.line:
+            self.tell(f"{shown.reference} {words(shown)}")
+            if isinstance(shown, (Connected, MinorConfirmed)):
+                self.go_on(shown.reference)
+            elif isinstance(shown, Release):
+                self.released = self.did(shown.reference, "releaseaccept", self.end.release_accept)
+            elif shown.is_over:
+                self.lost = not self.released
+        return 3 if self.lost else 0 if self.released else 2
+
+
+async def main():
+    options = argparse.ArgumentParser(description=__doc__.splitlines()[0])
+    options.add_argument("--port", type=int, default=4000)
+    options.add_argument("--classes", default="20")
+    options.add_argument("--messages", type=int, default=5)
+    options.add_argument("--log", type=argparse.FileType("w"), default=sys.stdout)
+    options = options.parse_args()
+    classes = Classes(("0" in options.classes) | ("2" in options.classes) << 1)
+    async with aio.dial("127.0.0.1", options.port, Terms(classes=classes)) as line:
+        return await asyncio.wait_for(Client(line, options.messages, options.log).run(), 20)
+
+
+if __name__ == "__main__":
+    sys.exit(asyncio.run(main()))

@@ -1,0 +1,103 @@
+"""One end of an OSI session (ITU-T X.225 version 2) over the transport classes 0 and 2 of X.224 in TPKT
+packets (RFC 1006), as a value that is fed octets and gives octets.
+
+    from osi_session import Connect, End, Opening
+
+    caller, called = End.caller(), End.called()
+    connection = caller.connect(Opening(user_data=b"who is there?"))
+
+Octets of ``end.outgoing()`` go to the peer, and ``end.taken(count)`` says how many went; octets that come
+go to ``end.feed_all(piece)``, which gives the indications. ``osi_session.aio`` does this over asyncio.
+
+It calls the shared library libosi.so of the same project over ctypes: from the folder that
+OSI_SESSION_DIR names (or the file OSI_SESSION_LIBRARY), else where the loader or pkg-config finds it.
+"""
+from ._codes import (
+    Classes,
+    Code,
+    FaultKind,
+    Phase,
+    Reason,
+    SessionError,
+    Side,
+    Spelling,
+    Tokens,
+    Units,
+)
+from ._end import End
+from ._library import LibraryNotFound
+from ._values import (
+    Aborted,
+    Asked,
+    BadUnit,
+    Connect,
+    Connected,
+    Data,
+    Ending,
+    Fault,
+    Fed,
+    Given,
+    Indication,
+    Lost,
+    Major,
+    MajorConfirmed,
+    Minor,
+    MinorConfirmed,
+    Opening,
+    PeerAbort,
+    RefusedBySession,
+    RefusedByTransport,
+    Release,
+    Released,
+    ReleaseRefused,
+    Restart,
+    Restarted,
+    Shown,
+    Sides,
+    Terms,
+)
+
+__version__ = "0.1.0"
+
+__all__ = [
+    "Aborted",
+    "Asked",
+    "BadUnit",
+    "Classes",
+    "Code",
+    "Connect",
+    "Connected",
+    "Data",
+    "End",
+    "Ending",
+    "Fault",
+    "FaultKind",
+    "Fed",
+    "Given",
+    "Indication",
+    "LibraryNotFound",
+    "Lost",
+    "Major",
+    "MajorConfirmed",
+    "Minor",
+    "MinorConfirmed",
+    "Opening",
+    "PeerAbort",
+    "Phase",
+    "Reason",
+    "RefusedBySession",
+    "RefusedByTransport",
+    "Release",
+    "ReleaseRefused",
+    "Released",
+    "Restart",
+    "Restarted",
+    "SessionError",
+    "Shown",
+    "Side",
+    "Sides",
+    "Spelling",
+    "Terms",
+    "Tokens",
+    "Units",
+]

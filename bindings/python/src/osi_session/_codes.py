@@ -1,0 +1,227 @@
+"""The numbers of osi.h by name, and the error of a call that is refused."""
+from __future__ import annotations
+
+from enum import IntEnum, IntFlag
+
+
+class Code(IntEnum):
+    """What a call answers. All but OK change nothing."""
+
+    OK = 0
+    CLOSED = 1
+    """The end is closed."""
+    BAD_ARGUMENT = 2
+    """A number or a length is outside its range: a mistake in the program that calls."""
+    NO_MEMORY = 3
+    """There is none. Call again when there is some, or close the socket and call ``End.broken``."""
+    IN_USE = 4
+    """The slot holds an end already. No call of this package answers it."""
+    NOTHING = 5
+    """No indication waits. No call of this package answers it."""
+    NO_SUCH_CONNECTION = 10
+    """This end never gave the reference."""
+    ENDED = 11
+    """The connection, or the end, is over."""
+    BAD_STATE = 12
+    """The call is not allowed in this phase (X.225 annex A)."""
+    NOT_SELECTED = 13
+    """A functional unit or a token is not there, or units do not go together."""
+    TOKEN_NOT_HELD = 14
+    """The call needs a token that the other side holds."""
+    TOKEN_ALREADY_HELD = 15
+    """A token is asked for that is held."""
+    BAD_NUMBER = 16
+    """The number is of no point that the call may name."""
+    SERIALS_USED_UP = 17
+    """All numbers of points, up to 999,999, are used."""
+    EMPTY = 18
+    """No octet of data, or no token."""
+    TOO_LONG = 19
+    """Too many octets; each call says how many there may be."""
+    NOT_CALLER = 20
+    """Only the calling end asks for connections."""
+    NEGOTIATING = 21
+    """The first connection is not answered yet: ask again later."""
+    ONE_CONNECTION = 22
+    """Class 0 holds, which has one connection."""
+    TOO_MANY = 23
+    """64 connections are live."""
+    REFERENCES_USED_UP = 24
+    """All 65,535 references were given."""
+
+
+_TEXTS = {
+    Code.CLOSED: "the end is closed",
+    Code.BAD_ARGUMENT: "a number or a length is outside its range",
+    Code.NO_MEMORY: "there is no memory",
+    Code.IN_USE: "the slot holds an end already",
+    Code.NOTHING: "no indication waits",
+    Code.NO_SUCH_CONNECTION: "this end never gave the reference",
+    Code.ENDED: "the connection is over",
+    Code.BAD_STATE: "the call is not allowed in this phase",
+    Code.NOT_SELECTED: "a functional unit or a token is not selected",
+    Code.TOKEN_NOT_HELD: "the other side holds a token that the call needs",
+    Code.TOKEN_ALREADY_HELD: "a token is held already",
+    Code.BAD_NUMBER: "the number is of no point that the call may name",
+    Code.SERIALS_USED_UP: "all numbers of points are used",
+    Code.EMPTY: "there is no octet of data, or no token",
+    Code.TOO_LONG: "there are too many octets",
+    Code.NOT_CALLER: "only the calling end asks for connections",
+    Code.NEGOTIATING: "the first connection is not answered yet",
+    Code.ONE_CONNECTION: "class 0 has one connection",
+    Code.TOO_MANY: "64 connections are live",
+    Code.REFERENCES_USED_UP: "all references were given",
+}
+
+
+class SessionError(Exception):
+    """A call is refused, and has changed nothing. ``code`` says why."""
+
+    code: Code
+
+    def __init__(self, code: Code) -> None:
+        super().__init__(_TEXTS.get(code, f"the library answers {int(code)}"))
+        self.code = code
+
+    def __reduce__(self) -> tuple[type[SessionError], tuple[Code]]:
+        return SessionError, (self.code,)
+
+
+class Classes(IntFlag):
+    """Classes of the transport protocol (X.224 section 5.4)."""
+
+    NONE = 0
+    """A caller with none takes class 0; a called end with none refuses every connection."""
+    CLASS_0 = 1
+    """One connection on each byte connection."""
+    CLASS_2 = 2
+    """With explicit flow control: up to 64 connections."""
+    BOTH = 3
+
+
+class Units(IntFlag):
+    """Functional units (X.225 section 8): half-duplex with any of the last four, or duplex alone."""
+
+    NONE = 0
+    HALF_DUPLEX = 0x0001
+    DUPLEX = 0x0002
+    MINOR_SYNC = 0x0008
+    MAJOR_SYNC = 0x0010
+    RESYNCHRONIZE = 0x0020
+    NEGOTIATED_RELEASE = 0x0080
+
+
+class Tokens(IntFlag):
+    """Tokens (X.215 section 7). A token is there where its functional unit is selected."""
+
+    NONE = 0
+    DATA = 0x01
+    MINOR = 0x04
+    MAJOR = 0x10
+    RELEASE = 0x40
+
+
+class Side(IntEnum):
+    """A side of a connection or of a restart (X.215 section 12.1.2)."""
+
+    ASKER = 0
+    """The side that asks."""
+    ANSWERER = 1
+    """The side that answers."""
+    CHOICE = 2
+    """In a wish alone: whom the answer names."""
+
+
+class Phase(IntEnum):
+    """Where a connection stands (X.225 annex A, states)."""
+
+    NONE = 0
+    """The reference was never given, or the end is closed."""
+    WAIT_TRANSPORT = 1
+    """The transport connection is awaited."""
+    WAIT_CN = 2
+    """A CN is awaited."""
+    CONNECTING = 3
+    """The answer to the CN is awaited."""
+    ANSWERING = 4
+    """The user is to accept or refuse."""
+    READY = 5
+    MAJOR_ASKED = 6
+    """The confirmation of a major point is awaited."""
+    MAJOR_DUE = 7
+    """The user is to confirm a major point."""
+    RELEASING = 8
+    """The answer to the release is awaited."""
+    RELEASE_DUE = 9
+    """The user is to answer the release."""
+    RESTARTING = 10
+    """The answer to the restart is awaited."""
+    RESTART_DUE = 11
+    """The user is to answer the restart."""
+    ABORTING = 12
+    """The answer to the abort is awaited."""
+    ENDED = 13
+    """The connection is gone."""
+
+
+class Reason(IntEnum):
+    """Why an end has ended. Those from UNKNOWN_REFERENCE on say which rule of X.224 or RFC 1006 the peer
+    broke, or that there was no memory for what it sent."""
+
+    BROKEN = 1
+    """``End.broken`` was called."""
+    CLOSED = 2
+    """Its connection of class 0 was closed here."""
+    PEER_CLOSED = 3
+    """The peer closed it by a DR: the detail is the reason (X.224 section 13.5.3)."""
+    NO_MEMORY = 4
+    """There was no memory for what was fed."""
+    UNKNOWN_REFERENCE = 5
+    BAD_ANSWER = 6
+    UNEXPECTED_UNIT = 7
+    BAD_VERSION = 10
+    """The detail is the place in the stream of the packet's first octet."""
+    BAD_LENGTH = 11
+    """The detail is the place in the stream of the packet's first octet."""
+    NO_MEMORY_FOR_PACKET = 12
+    BAD_LI = 13
+    """Of this one and the next four the detail is the place of the octet in the packet's units."""
+    UNKNOWN_CODE = 14
+    BAD_PARAMETER_LENGTH = 15
+    BAD_PARAMETER_VALUE = 16
+    DUPLICATE_PARAMETER = 17
+    WRONG_FORM = 18
+    OUT_OF_SEQUENCE = 19
+    CREDIT_REDUCED = 20
+    TSDU_TOO_LONG = 21
+    NO_MEMORY_FOR_TSDU = 22
+
+
+class FaultKind(IntEnum):
+    """Why a session unit that came is bad (X.225 section 8 and annex A)."""
+
+    SPELLING = 1
+    """Its octets are no unit."""
+    UNEXPECTED = 2
+    """It is not expected in this phase."""
+    NOT_SELECTED = 3
+    """Its functional unit is not selected."""
+    TOKEN_NOT_HELD = 4
+    """The peer does not hold a token that it needs."""
+    BAD_NUMBER = 5
+    """Its number is of no point that it may name."""
+    BAD_TOKENS = 6
+    """Its tokens or sides are not as they may be."""
+
+
+class Spelling(IntEnum):
+    """What is wrong with the octets of a session unit (X.225 section 8)."""
+
+    NONE = 0
+    UNKNOWN_SI = 1
+    LENGTH_PAST_END = 2
+    MISSING_PARAMETER = 3
+    DUPLICATE_PARAMETER = 4
+    BAD_VALUE = 5
+    BAD_CONCATENATION = 6
+    OCTETS_LEFT_OVER = 7

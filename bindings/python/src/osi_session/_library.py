@@ -1,0 +1,187 @@
+"""The library for C, over ctypes: its structs as include/osi.h lays them out, and its functions."""
+from __future__ import annotations
+
+import ctypes
+import os
+import shutil
+import subprocess
+from ctypes import POINTER, c_bool, c_size_t, c_uint8, c_uint16, c_uint32, c_uint64, c_void_p
+from typing import Iterator, Optional
+
+
+class Inner(ctypes.Structure):
+    _fields_ = [("at", c_void_p)]
+
+
+class Slot(ctypes.Structure):
+    """osi_end: a slot that holds one end, or none. It begins as zeros, which is OSI_END."""
+
+    _fields_ = [("full", c_bool), ("inner", Inner)]
+
+
+class Octets(ctypes.Structure):
+    _fields_ = [("at", c_void_p), ("length", c_size_t)]
+
+
+class TermsOfC(ctypes.Structure):
+    _fields_ = [("classes", c_uint8), ("size", c_uint8), ("window", c_uint8)]
+
+
+class SidesOfC(ctypes.Structure):
+    _fields_ = [("data", c_uint8), ("minor", c_uint8), ("major", c_uint8), ("release", c_uint8)]
+
+
+class OpeningOfC(ctypes.Structure):
+    _fields_ = [
+        ("requirements", c_uint16),
+        ("serial", c_uint32),
+        ("wishes", SidesOfC),
+        ("calling_tsap", Octets),
+        ("called_tsap", Octets),
+        ("calling_selector", Octets),
+        ("called_selector", Octets),
+        ("user_data", Octets),
+    ]
+
+
+class FaultOfC(ctypes.Structure):
+    _fields_ = [
+        ("fault", c_uint8),
+        ("si", c_uint8),
+        ("spelling", c_uint8),
+        ("parameter", c_uint8),
+        ("offset", c_uint64),
+    ]
+
+
+class IndicationOfC(ctypes.Structure):
+    _fields_ = [
+        ("tag", c_uint32),
+        ("number", c_uint32),
+        ("reference", c_uint16),
+        ("requirements", c_uint16),
+        ("has_number", c_uint8),
+        ("confirm", c_uint8),
+        ("tokens", c_uint8),
+        ("reason", c_uint8),
+        ("sides", SidesOfC),
+        ("fault", FaultOfC),
+        ("user_data", Octets),
+    ]
+
+
+class FedOfC(ctypes.Structure):
+    _fields_ = [("used", c_size_t), ("waits", c_bool)]
+
+
+STRUCTS = {
+    "osi_end": Slot,
+    "osi_octets": Octets,
+    "osi_terms": TermsOfC,
+    "osi_sides": SidesOfC,
+    "osi_opening": OpeningOfC,
+    "osi_fault": FaultOfC,
+    "osi_indication": IndicationOfC,
+    "osi_fed": FedOfC,
+}
+
+_DATA = [c_void_p, c_size_t]
+# What each function takes behind the slot, and what it answers.
+FUNCTIONS = {
+    "osi_caller": ([POINTER(TermsOfC)], c_uint32),
+    "osi_called": ([POINTER(TermsOfC)], c_uint32),
+    "osi_free": ([], None),
+    "osi_connect": ([POINTER(OpeningOfC), POINTER(c_uint16)], c_uint32),
+    "osi_accept": ([c_uint16, c_uint16, c_uint32, POINTER(SidesOfC), *_DATA], c_uint32),
+    "osi_refuse": ([c_uint16, *_DATA], c_uint32),
+    "osi_data": ([c_uint16, *_DATA], c_uint32),
+    "osi_give": ([c_uint16, c_uint8], c_uint32),
+    "osi_please": ([c_uint16, c_uint8, *_DATA], c_uint32),
+    "osi_minor": ([c_uint16, c_uint8, *_DATA], c_uint32),
+    "osi_minor_confirm": ([c_uint16, c_uint32, *_DATA], c_uint32),
+    "osi_major": ([c_uint16, *_DATA], c_uint32),
+    "osi_major_confirm": ([c_uint16, *_DATA], c_uint32),
+    "osi_restart": ([c_uint16, c_uint32, POINTER(SidesOfC), *_DATA], c_uint32),
+    "osi_restart_confirm": ([c_uint16, POINTER(SidesOfC), *_DATA], c_uint32),
+    "osi_release": ([c_uint16, *_DATA], c_uint32),
+    "osi_release_accept": ([c_uint16, *_DATA], c_uint32),
+    "osi_release_refuse": ([c_uint16, *_DATA], c_uint32),
+    "osi_abort": ([c_uint16, *_DATA], c_uint32),
+    "osi_feed": ([c_void_p, c_size_t, POINTER(FedOfC)], c_uint32),
+    "osi_outgoing": ([POINTER(Octets)], None),
+    "osi_taken": ([c_size_t], c_uint32),
+    "osi_broken": ([], c_uint32),
+    "osi_ended": ([POINTER(c_uint64)], c_uint32),
+    "osi_kept": ([], c_size_t),
+    "osi_fetch": ([], c_uint32),
+    "osi_last": ([POINTER(IndicationOfC)], None),
+    "osi_phase": ([c_uint16], c_uint32),
+    "osi_held": ([c_uint16], c_uint8),
+    "osi_next_serial": ([c_uint16], c_uint32),
+    "osi_confirmed_below": ([c_uint16], c_uint32),
+    "osi_lowest_restart": ([c_uint16], c_uint32),
+}
+
+
+class LibraryNotFound(ImportError):
+    """The shared library libosi.so is nowhere where it is looked for."""
+
+
+def _named() -> Optional[list[str]]:
+    """Where the environment says that the library is."""
+    path = os.environ.get("OSI_SESSION_LIBRARY")
+    if path:
+        return [path]
+    folder = os.environ.get("OSI_SESSION_DIR")
+    if folder:
+        return [os.path.join(folder, "libosi.so"), os.path.join(folder, "lib", "libosi.so")]
+    return None
+
+
+def _by_pkg_config() -> Iterator[str]:
+    program = os.environ.get("PKG_CONFIG", "pkg-config")
+    if shutil.which(program):
+        done = subprocess.run([program, "--variable=libdir", "osi"], capture_output=True, text=True, check=False)
+        if done.returncode == 0:
+            yield os.path.join(done.stdout.strip(), "libosi.so")
+
+
+def _places() -> Iterator[str]:
+    """Where the library may be: as the environment says, else as the loader and pkg-config find it."""
+    named = _named()
+    if named is not None:
+        yield from named
+        return
+    yield "libosi.so"
+    yield from _by_pkg_config()
+
+
+def load() -> ctypes.CDLL:
+    """The library, with its functions declared."""
+    tried = []
+    for place in _places():
+        try:
+            library = ctypes.CDLL(place)
+        except OSError as error:
+            tried.append(str(error))
+            continue
+        for name, (takes, answers) in FUNCTIONS.items():
+            function = getattr(library, name)
+            function.argtypes = [POINTER(Slot), *takes]
+            function.restype = answers
+        return library
+    raise LibraryNotFound(
+        "libosi.so is not found. Set OSI_SESSION_DIR to the folder that has it, or to the PREFIX of its"
+        " `make install`. Tried: " + "; ".join(tried)
+    )
+
+
+_loaded: Optional[ctypes.CDLL] = None
+
+
+def library() -> ctypes.CDLL:
+    """The library, which is loaded when it is first asked for."""
+    global _loaded
+    if _loaded is None:
+        _loaded = load()
+    return _loaded

@@ -1,0 +1,323 @@
+"""What is passed to an end, and what its users are shown."""
+from __future__ import annotations
+
+from dataclasses import dataclass, field
+from typing import Callable, ClassVar, Dict, Optional, Union
+
+from ._codes import Classes, FaultKind, Reason, Side, Spelling, Tokens, Units
+from ._library import IndicationOfC, SidesOfC
+
+
+@dataclass(frozen=True)
+class Terms:
+    """The transport protocol of an end (X.224 section 6.5)."""
+
+    classes: Classes = Classes.BOTH
+    size: int = 13
+    """The exponent of the largest TPDU in octets: 7 (128 octets) to 13 (8,192)."""
+    window: int = 15
+    """How many units of class 2 the peer may send ahead: 1 to 15."""
+
+
+@dataclass(frozen=True)
+class Sides:
+    """Who holds, or is to hold, each token at first."""
+
+    data: Side = Side.ASKER
+    minor: Side = Side.ASKER
+    major: Side = Side.ASKER
+    release: Side = Side.ASKER
+
+
+@dataclass(frozen=True)
+class Opening:
+    """A connection that is asked for."""
+
+    requirements: Units = Units.HALF_DUPLEX
+    serial: int = 0
+    """The number of the first point, 0 to 999,999."""
+    wishes: Sides = field(default_factory=Sides)
+    """Who is to hold each token at first."""
+    calling_tsap: bytes = b""
+    """The transport address of this end, 1 to 32 octets. Where it is empty, none is sent."""
+    called_tsap: bytes = b""
+    calling_selector: bytes = b""
+    """The session address of this user, 1 to 16 octets. Where it is empty, none is sent."""
+    called_selector: bytes = b""
+    user_data: bytes = b""
+    """At most 10,240 octets."""
+
+
+@dataclass(frozen=True)
+class Fed:
+    """What ``End.feed`` did."""
+
+    used: int
+    """So many octets of the piece were used, at most all."""
+    waits: bool
+    """An indication waits."""
+
+
+@dataclass(frozen=True)
+class Ending:
+    """Why an end has ended."""
+
+    reason: Reason
+    detail: int
+    """0 where ``Reason`` says nothing of it."""
+
+
+@dataclass(frozen=True)
+class Fault:
+    """Why a session unit that came is bad."""
+
+    kind: FaultKind
+    si: int = 0
+    """Of all but SPELLING: the SI of the unit (X.225 section 8)."""
+    spelling: Spelling = Spelling.NONE
+    parameter: int = 0
+    """Where the spelling is of a parameter: its code."""
+    offset: int = 0
+    """Of SPELLING: the place of the octet in the TSDU, from 0."""
+
+
+@dataclass(frozen=True)
+class Shown:
+    """What the user of a connection is shown (X.215 section 10, indications and confirms)."""
+
+    reference: int
+    """The connection, as this end names it: 1 to 65,535."""
+    is_over: ClassVar[bool] = False
+    """Whether the connection is over with this indication."""
+
+
+@dataclass(frozen=True)
+class Connect(Shown):
+    """CN: a connection is asked for. Answer by ``End.accept`` or ``End.refuse``."""
+
+    requirements: Units
+    number: Optional[int]
+    """The number of the first point, 0 to 999,999, where the CN names one."""
+    wishes: Sides
+    user_data: bytes
+
+
+@dataclass(frozen=True)
+class Connected(Shown):
+    """AC: the connection that was asked for is there."""
+
+    requirements: Units
+    number: Optional[int]
+    """The number of the first point, 0 to 999,999, where the AC names one."""
+    sides: Sides
+    user_data: bytes
+
+
+@dataclass(frozen=True)
+class RefusedByTransport(Shown):
+    """DR: there is no transport connection."""
+
+    reason: int
+    """X.224 section 13.5.3."""
+    is_over: ClassVar[bool] = True
+
+
+@dataclass(frozen=True)
+class RefusedBySession(Shown):
+    """RF: the session connection is refused."""
+
+    reason: int
+    """0, 1 and 2 are of the called user."""
+    user_data: bytes
+    is_over: ClassVar[bool] = True
+
+
+@dataclass(frozen=True)
+class Data(Shown):
+    """DT: data, an octet at least."""
+
+    user_data: bytes
+
+
+@dataclass(frozen=True)
+class Given(Shown):
+    """GT: tokens are given to this side."""
+
+    tokens: Tokens
+
+
+@dataclass(frozen=True)
+class Asked(Shown):
+    """PT: tokens are asked for."""
+
+    tokens: Tokens
+    user_data: bytes
+
+
+@dataclass(frozen=True)
+class Minor(Shown):
+    """MIP: a minor point."""
+
+    number: int
+    confirm: bool
+    """Whether ``End.minor_confirm`` is asked for."""
+    user_data: bytes
+
+
+@dataclass(frozen=True)
+class MinorConfirmed(Shown):
+    """MIA: the minor points up to this number are confirmed."""
+
+    number: int
+    user_data: bytes
+
+
+@dataclass(frozen=True)
+class Major(Shown):
+    """MAP: a major point. Answer by ``End.major_confirm``."""
+
+    number: int
+    user_data: bytes
+
+
+@dataclass(frozen=True)
+class MajorConfirmed(Shown):
+    """MAA: the major point is confirmed."""
+
+    user_data: bytes
+
+
+@dataclass(frozen=True)
+class Restart(Shown):
+    """RS: a restart at a point. Answer by ``End.restart_confirm``."""
+
+    number: int
+    """The number that the next point has then."""
+    wishes: Sides
+    user_data: bytes
+
+
+@dataclass(frozen=True)
+class Restarted(Shown):
+    """RA: the restart is confirmed."""
+
+    number: int
+    sides: Sides
+    user_data: bytes
+
+
+@dataclass(frozen=True)
+class Release(Shown):
+    """FN: the release is asked for. Answer by ``End.release_accept`` or ``End.release_refuse``."""
+
+    user_data: bytes
+
+
+@dataclass(frozen=True)
+class Released(Shown):
+    """DN: the connection is released."""
+
+    user_data: bytes
+    is_over: ClassVar[bool] = True
+
+
+@dataclass(frozen=True)
+class ReleaseRefused(Shown):
+    """NF: the release is refused."""
+
+    user_data: bytes
+
+
+@dataclass(frozen=True)
+class Aborted(Shown):
+    """AB of the peer's user."""
+
+    user_data: bytes
+    is_over: ClassVar[bool] = True
+
+
+@dataclass(frozen=True)
+class Lost(Shown):
+    """The transport connection was closed or broken, or had a fault."""
+
+    is_over: ClassVar[bool] = True
+
+
+@dataclass(frozen=True)
+class PeerAbort(Shown):
+    """AB of the peer's provider."""
+
+    reason: int
+    """The octet of its parameter 17 (X.225 section 8)."""
+    is_over: ClassVar[bool] = True
+
+
+@dataclass(frozen=True)
+class BadUnit(Shown):
+    """This end aborts, since a unit that came is bad."""
+
+    fault: Fault
+    is_over: ClassVar[bool] = True
+
+
+Indication = Union[
+    Connect,
+    Connected,
+    RefusedByTransport,
+    RefusedBySession,
+    Data,
+    Given,
+    Asked,
+    Minor,
+    MinorConfirmed,
+    Major,
+    MajorConfirmed,
+    Restart,
+    Restarted,
+    Release,
+    Released,
+    ReleaseRefused,
+    Aborted,
+    Lost,
+    PeerAbort,
+    BadUnit,
+]
+"""Each kind of indication."""
+
+
+def _sides(sides: SidesOfC) -> Sides:
+    return Sides(Side(sides.data), Side(sides.minor), Side(sides.major), Side(sides.release))
+
+
+def _number(said: IndicationOfC) -> Optional[int]:
+    return said.number if said.has_number else None
+
+
+def _fault(said: IndicationOfC) -> Fault:
+    fault = said.fault
+    return Fault(FaultKind(fault.fault), fault.si, Spelling(fault.spelling), fault.parameter, fault.offset)
+
+
+# By its tag, what an indication is made of: osi.h says which fields each has.
+KINDS: Dict[int, Callable[[IndicationOfC, bytes], Indication]] = {
+    1: lambda i, data: Connect(i.reference, Units(i.requirements), _number(i), _sides(i.sides), data),
+    2: lambda i, data: Connected(i.reference, Units(i.requirements), _number(i), _sides(i.sides), data),
+    3: lambda i, data: RefusedByTransport(i.reference, i.reason),
+    4: lambda i, data: RefusedBySession(i.reference, i.reason, data),
+    5: lambda i, data: Data(i.reference, data),
+    6: lambda i, data: Given(i.reference, Tokens(i.tokens)),
+    7: lambda i, data: Asked(i.reference, Tokens(i.tokens), data),
+    8: lambda i, data: Minor(i.reference, i.number, i.confirm != 0, data),
+    9: lambda i, data: MinorConfirmed(i.reference, i.number, data),
+    10: lambda i, data: Major(i.reference, i.number, data),
+    11: lambda i, data: MajorConfirmed(i.reference, data),
+    12: lambda i, data: Restart(i.reference, i.number, _sides(i.sides), data),
+    13: lambda i, data: Restarted(i.reference, i.number, _sides(i.sides), data),
+    14: lambda i, data: Release(i.reference, data),
+    15: lambda i, data: Released(i.reference, data),
+    16: lambda i, data: ReleaseRefused(i.reference, data),
+    17: lambda i, data: Aborted(i.reference, data),
+    18: lambda i, data: Lost(i.reference),
+    19: lambda i, data: PeerAbort(i.reference, i.reason),
+    20: lambda i, data: BadUnit(i.reference, _fault(i)),
+}

@@ -1,0 +1,219 @@
+"""An end over asyncio: a protocol that carries its octets, and gives its indications.
+
+    async with aio.dial("127.0.0.1", 4000) as line:
+        connection = line.end.connect(Opening(user_data=b"gateway"))
+        await line.expect(Connected)
+        line.end.data(connection, b"hello")
+        await line.drain()
+"""
+from __future__ import annotations
+
+import asyncio
+from collections import deque
+from contextlib import asynccontextmanager
+from typing import Any, AsyncIterator, Awaitable, Callable, Deque, Optional, Set, Type, TypeVar, cast, overload
+
+from ._codes import Code, SessionError
+from ._end import End
+from ._values import Indication, Shown, Terms
+
+S = TypeVar("S", bound=Shown)
+
+# So many octets are handed to the transport at once.
+_PIECE = 65536
+# Where so many indications wait, no more is read until they are fetched.
+_MOST = 64
+
+
+class UnexpectedIndication(Exception):
+    """Something else was shown than was expected: ``indication``, or None where the line is closed."""
+
+    def __init__(self, indication: Optional[Indication]) -> None:
+        super().__init__(f"shown: {indication!r}" if indication is not None else "the line is closed")
+        self.indication = indication
+
+
+class EndProtocol(asyncio.Protocol):
+    """An end on a byte connection of asyncio.
+
+    Calls go to ``end``; what they send is written at once, as fast as the peer takes it. Indications are
+    fetched by ``next``, ``expect`` or ``async for``; who wants them as they come overrides
+    ``indication_received``. One line is used in one event loop, and by its thread alone.
+    """
+
+    def __init__(self, end: End) -> None:
+        self.end = end
+        end.on_outgoing = self.flush
+        self._transport: Optional[asyncio.Transport] = None
+        self._shown: Deque[Indication] = deque()
+        self._news: asyncio.Event = asyncio.Event()
+        self._closed = False
+        self._paused = False
+        self._reading = True
+
+    # ---- what the user of a line calls
+
+    async def next(self) -> Optional[Indication]:
+        """The next indication; None once the line is closed and all was fetched."""
+        while not self._shown:
+            if self._closed:
+                return None
+            self._news.clear()
+            await self._news.wait()
+        indication = self._shown.popleft()
+        if not self._reading and len(self._shown) < _MOST and self._transport is not None:
+            self._reading = True
+            self._transport.resume_reading()
+        return indication
+
+    @overload
+    async def expect(self, kind: Type[S]) -> S: ...
+
+    @overload
+    async def expect(self, *kinds: Type[Shown]) -> Indication: ...
+
+    async def expect(self, *kinds: Type[Shown]) -> Any:
+        """The next indication, which is to be of one of these kinds; else UnexpectedIndication."""
+        indication = await self.next()
+        if not isinstance(indication, kinds):
+            raise UnexpectedIndication(indication)
+        return indication
+
+    def __aiter__(self) -> EndProtocol:
+        return self
+
+    async def __anext__(self) -> Indication:
+        indication = await self.next()
+        if indication is None:
+            raise StopAsyncIteration
+        return indication
+
+    async def drain(self) -> None:
+        """Waits until the transport has room again, and has all that is outgoing. Who sends much calls it
+        now and then: what is not written yet is kept."""
+        while not self._closed and self.end.outgoing_length() > 0:
+            self._news.clear()
+            await self._news.wait()
+
+    async def wait_closed(self) -> None:
+        """Waits until the byte connection is closed, by either side."""
+        while not self._closed:
+            self._news.clear()
+            await self._news.wait()
+
+    def close(self) -> None:
+        """Closes the byte connection once all that is outgoing is written."""
+        if self._transport is not None:
+            self._transport.close()
+
+    # ---- what a subclass may override
+
+    def indication_received(self, indication: Indication) -> None:
+        """Told of each indication, in order. It may call the end."""
+        self._shown.append(indication)
+
+    # ---- what asyncio calls
+
+    def connection_made(self, transport: asyncio.BaseTransport) -> None:
+        self._transport = cast(asyncio.Transport, transport)
+        self.flush()
+
+    def data_received(self, data: bytes) -> None:
+        self._show(data)
+        self.flush()
+        if self._reading and len(self._shown) >= _MOST and self._transport is not None:
+            self._reading = False
+            self._transport.pause_reading()
+
+    def connection_lost(self, error: Optional[Exception]) -> None:
+        self._closed = True
+        if not self.end.closed:
+            self.end.broken()
+            self._show(b"")
+        self._news.set()
+
+    def pause_writing(self) -> None:
+        self._paused = True
+
+    def resume_writing(self) -> None:
+        self._paused = False
+        self.flush()
+
+    # ---- octets
+
+    def flush(self) -> None:
+        """Writes what is outgoing, as long as the transport takes it; where the end has ended, closes."""
+        transport = self._transport
+        if transport is None or self._closed or self.end.closed:
+            return
+        while not self._paused:
+            octets = self.end.outgoing(_PIECE)
+            if not octets:
+                break
+            self.end.taken(len(octets))
+            transport.write(octets)
+        if self.end.outgoing_length() == 0:
+            self._news.set()
+            if self.end.ended() is not None:
+                transport.close()
+
+    def _show(self, piece: bytes) -> None:
+        if self.end.closed:
+            return
+        try:
+            for indication in self.end.feed_all(piece):
+                self.indication_received(indication)
+        except SessionError as error:
+            # The user has closed the end, in the middle of the piece.
+            if error.code is not Code.CLOSED:
+                raise
+        self._news.set()
+
+
+@asynccontextmanager
+async def dial(
+    host: str, port: int, terms: Terms = Terms(), protocol: Callable[[End], EndProtocol] = EndProtocol, **options: Any
+) -> AsyncIterator[EndProtocol]:
+    """A line with a calling end to a TCP port. Behind the block the byte connection is closed, and the
+    end freed. Options are those of ``loop.create_connection``."""
+    loop = asyncio.get_running_loop()
+    line = protocol(End.caller(terms))
+    try:
+        await loop.create_connection(lambda: line, host, port, **options)
+        yield line
+    finally:
+        line.close()
+        if line._transport is not None:
+            await line.wait_closed()
+        line.end.close()
+
+
+async def serve(
+    handler: Callable[[EndProtocol], Awaitable[None]],
+    host: Optional[str],
+    port: Optional[int],
+    terms: Terms = Terms(),
+    **options: Any,
+) -> asyncio.AbstractServer:
+    """Listens on a TCP port. For each byte connection the handler is called with a line with a called
+    end; behind it the byte connection is closed, and the end freed. Options are those of
+    ``loop.create_server``."""
+    loop = asyncio.get_running_loop()
+    tasks: Set[asyncio.Task[None]] = set()
+
+    async def handle(line: EndProtocol) -> None:
+        try:
+            await handler(line)
+        finally:
+            line.close()
+            await line.wait_closed()
+            line.end.close()
+
+    class Accepted(EndProtocol):
+        def connection_made(self, transport: asyncio.BaseTransport) -> None:
+            super().connection_made(transport)
+            task = loop.create_task(handle(self))
+            tasks.add(task)
+            task.add_done_callback(tasks.discard)
+
+    return await loop.create_server(lambda: Accepted(End.called(terms)), host, port, **options)

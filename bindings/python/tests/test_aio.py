@@ -1,0 +1,160 @@
+"""A caller and a called end over asyncio, on a loopback port."""
+import asyncio
+import unittest
+
+from osi_session import (
+    Classes,
+    Connect,
+    Connected,
+    Data,
+    End,
+    Given,
+    Lost,
+    Minor,
+    MinorConfirmed,
+    Opening,
+    Release,
+    Released,
+    Terms,
+    Tokens,
+    Units,
+    aio,
+)
+
+UNITS = Units.HALF_DUPLEX | Units.MINOR_SYNC | Units.NEGOTIATED_RELEASE
+TOKENS = Tokens.DATA | Tokens.MINOR | Tokens.RELEASE
+
+
+class Server:
+    """Accepts, confirms points, and answers the tokens with a release."""
+
+    def __init__(self):
+        self.shown = []
+        self.done = asyncio.Event()
+
+    async def __call__(self, line):
+        async for shown in line:
+            self.shown.append(shown)
+            of = shown.reference
+            if isinstance(shown, Connect):
+                line.end.accept(of, shown.requirements & UNITS)
+            elif isinstance(shown, Minor) and shown.confirm:
+                line.end.minor_confirm(of, shown.number)
+            elif isinstance(shown, Given):
+                line.end.release(of)
+        self.done.set()
+
+
+class Lines(unittest.IsolatedAsyncioTestCase):
+    async def asyncSetUp(self):
+        self.server = Server()
+        self.listener = await aio.serve(self.server, "127.0.0.1", 0)
+        self.port = self.listener.sockets[0].getsockname()[1]
+
+    async def asyncTearDown(self):
+        self.listener.close()
+        await self.listener.wait_closed()
+
+    async def test_a_connection(self):
+        for classes in (Classes.CLASS_0, Classes.CLASS_2):
+            async with aio.dial("127.0.0.1", self.port, Terms(classes)) as line:
+                of = line.end.connect(Opening(UNITS, user_data=b"gateway"))
+                opened = await line.expect(Connected)
+                self.assertEqual((opened.reference, opened.requirements), (of, UNITS))
+                line.end.data(of, b"hello")
+                line.end.minor(of)
+                self.assertEqual((await line.expect(MinorConfirmed)).number, 0)
+                line.end.give(of, TOKENS)
+                await line.expect(Release)
+                line.end.release_accept(of)
+                await line.drain()
+            self.assertTrue(line.end.closed)
+            await asyncio.wait_for(self.server.done.wait(), 5)
+            self.server.done.clear()
+            self.assertIn(Data(of, b"hello"), self.server.shown)
+            self.assertEqual(self.server.shown.pop(), Released(of, b""))
+
+    async def test_much_data(self):
+        """More than the transport takes at once, in messages of more than a packet."""
+        async with aio.dial("127.0.0.1", self.port) as line:
+            of = line.end.connect(Opening(UNITS))
+            await line.expect(Connected)
+            for number in range(40):
+                line.end.data(of, bytes([number]) * 100_000)
+                await line.drain()
+            line.end.minor(of)
+            await line.expect(MinorConfirmed)
+        data = [shown.user_data for shown in self.server.shown if isinstance(shown, Data)]
+        self.assertEqual(data, [bytes([number]) * 100_000 for number in range(40)])
+
+    async def test_many_indications_are_not_lost(self):
+        async with aio.dial("127.0.0.1", self.port) as line:
+            of = line.end.connect(Opening(UNITS))
+            await line.expect(Connected)
+            for _ in range(500):
+                line.end.minor(of)
+            numbers = [(await line.expect(MinorConfirmed)).number for _ in range(500)]
+        self.assertEqual(numbers, list(range(500)))
+
+    async def test_a_loss_is_shown(self):
+        async with aio.dial("127.0.0.1", self.port) as line:
+            of = line.end.connect(Opening(UNITS))
+            await line.expect(Connected)
+        await asyncio.wait_for(self.server.done.wait(), 5)
+        self.assertEqual(self.server.shown[-1], Lost(of))
+
+    async def test_what_is_not_expected(self):
+        async with aio.dial("127.0.0.1", self.port) as line:
+            of = line.end.connect(Opening(UNITS))
+            with self.assertRaises(aio.UnexpectedIndication) as raised:
+                await line.expect(Release, Released)
+            self.assertIsInstance(raised.exception.indication, Connected)
+            line.close()
+            await line.wait_closed()
+            self.assertEqual([shown async for shown in line], [Lost(of)])
+            with self.assertRaises(aio.UnexpectedIndication) as raised:
+                await line.expect(Release)
+            self.assertIsNone(raised.exception.indication)
+
+    async def test_indications_as_they_come(self):
+        shown = []
+
+        class Told(aio.EndProtocol):
+            def indication_received(self, indication):
+                shown.append(indication)
+                if isinstance(indication, Connected):
+                    self.end.give(indication.reference, TOKENS)
+                elif isinstance(indication, Release):
+                    self.end.release_accept(indication.reference)
+
+        async with aio.dial("127.0.0.1", self.port, Terms(Classes.CLASS_0), Told) as line:
+            line.end.connect(Opening(UNITS))
+            await asyncio.wait_for(line.wait_closed(), 5)
+        self.assertEqual([type(one) for one in shown], [Connected, Release])
+
+    async def test_nobody_listens(self):
+        self.listener.close()
+        made = []
+
+        def kept(end):
+            made.append(end)
+            return aio.EndProtocol(end)
+
+        with self.assertRaises(OSError):
+            async with aio.dial("127.0.0.1", 1, protocol=kept):
+                pass
+        self.assertTrue(made[0].closed)
+
+    async def test_an_end_of_ones_own(self):
+        """The protocol on an end that was made before, as create_connection takes it."""
+        line = aio.EndProtocol(End.caller())
+        of = line.end.connect(Opening(UNITS))
+        await asyncio.get_running_loop().create_connection(lambda: line, "127.0.0.1", self.port)
+        self.assertEqual((await line.expect(Connected)).reference, of)
+        line.close()
+        await line.wait_closed()
+        line.end.close()
+
+
+if __name__ == "__main__":
+    unittest.main()

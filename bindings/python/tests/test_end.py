@@ -1,0 +1,375 @@
+"""Two ends in memory: each kind of indication, each code that is quick to come by, and what is freed."""
+import copy
+import gc
+import pickle
+import threading
+import unittest
+import weakref
+
+from osi_session import (
+    Aborted,
+    Asked,
+    BadUnit,
+    Classes,
+    Code,
+    Connect,
+    Connected,
+    Data,
+    End,
+    Ending,
+    Fault,
+    FaultKind,
+    Given,
+    Lost,
+    Major,
+    MajorConfirmed,
+    Minor,
+    MinorConfirmed,
+    Opening,
+    PeerAbort,
+    Phase,
+    Reason,
+    RefusedBySession,
+    RefusedByTransport,
+    Release,
+    Released,
+    ReleaseRefused,
+    Restart,
+    Restarted,
+    SessionError,
+    Side,
+    Sides,
+    Spelling,
+    Terms,
+    Tokens,
+    Units,
+)
+
+ALL_UNITS = (
+    Units.HALF_DUPLEX | Units.MINOR_SYNC | Units.MAJOR_SYNC | Units.RESYNCHRONIZE | Units.NEGOTIATED_RELEASE
+)
+ALL_TOKENS = Tokens.DATA | Tokens.MINOR | Tokens.MAJOR | Tokens.RELEASE
+ASKED = Opening(ALL_UNITS, 1, Sides(), b"here", b"there", b"caller", b"called", b"who is there?")
+
+
+def carry(source, to, piece=7):
+    """Carries what one end sends to the other, in pieces of so many octets; and what was shown."""
+    shown = []
+    while source.outgoing_length() > 0:
+        octets = source.outgoing(piece)
+        source.taken(len(octets))
+        shown += to.feed_all(octets)
+    return shown
+
+
+class Pair:
+    def __init__(self, caller=Classes.BOTH, called=Classes.BOTH):
+        self.caller, self.called = End.caller(Terms(caller)), End.called(Terms(called))
+
+    def carry(self):
+        """Both ways until nothing is left: what the caller and the called end were shown."""
+        by_caller, by_called = [], []
+        for _ in range(3):
+            by_called += carry(self.caller, self.called)
+            by_caller += carry(self.called, self.caller)
+        return by_caller, by_called
+
+    @classmethod
+    def opened(cls, classes=Classes.CLASS_0, asked=ASKED):
+        pair = cls(classes, classes)
+        of = pair.caller.connect(asked)
+        pair.carry()
+        pair.called.accept(of, asked.requirements, asked.serial, user_data=b"a gateway")
+        pair.carry()
+        return pair
+
+
+def packet(tsdu):
+    """A packet of class 0 with a TSDU."""
+    return bytes([3, 0, 0, 7 + len(tsdu), 2, 0xF0, 0x80]) + tsdu
+
+
+class Case(unittest.TestCase):
+    def refused(self, code, call, *arguments):
+        with self.assertRaises(SessionError) as raised:
+            call(*arguments)
+        self.assertEqual(raised.exception.code, code)
+
+    def shown(self, pair, *, to_caller=(), to_called=()):
+        self.assertEqual(pair.carry(), (list(to_caller), list(to_called)))
+
+
+class Indications(Case):
+    def test_an_opening(self):
+        pair = Pair()
+        wishes = Sides(Side.ANSWERER, Side.CHOICE, Side.ASKER, Side.ASKER)
+        asked = Opening(ALL_UNITS, 1, wishes, user_data=b"who is there?")
+        self.assertEqual(pair.caller.connect(asked), 1)
+        self.assertEqual(pair.caller.phase(1), Phase.WAIT_TRANSPORT)
+        self.shown(pair, to_called=[Connect(1, ALL_UNITS, 1, wishes, b"who is there?")])
+        self.assertEqual(pair.called.phase(1), Phase.ANSWERING)
+        self.refused(Code.BAD_ARGUMENT, pair.called.accept, 1, ALL_UNITS, 7, Sides(minor=Side.CHOICE))
+        pair.called.accept(1, ALL_UNITS, 7, Sides(minor=Side.ANSWERER), b"a gateway")
+        sides = Sides(Side.ANSWERER, Side.ANSWERER, Side.ASKER, Side.ASKER)
+        self.shown(pair, to_caller=[Connected(1, ALL_UNITS, 7, sides, b"a gateway")])
+        self.assertEqual(pair.called.held(1), Tokens.DATA | Tokens.MINOR)
+        self.assertEqual(pair.caller.held(1), Tokens.MAJOR | Tokens.RELEASE)
+        self.assertEqual(pair.caller.next_serial(1), 7)
+
+    def test_duplex_has_no_number(self):
+        pair = Pair()
+        pair.caller.connect(Opening(Units.DUPLEX))
+        self.shown(pair, to_called=[Connect(1, Units.DUPLEX, None, Sides(), b"")])
+
+    def test_refusals(self):
+        pair = Pair()
+        pair.caller.connect(ASKED)
+        pair.carry()
+        pair.called.refuse(1, b"not now")
+        self.shown(pair, to_caller=[RefusedBySession(1, 2, b"not now")])
+        pair = Pair(called=Classes.NONE)
+        pair.caller.connect(ASKED)
+        self.shown(pair, to_caller=[RefusedByTransport(1, 130)])
+
+    def test_data_and_tokens(self):
+        for classes in (Classes.CLASS_0, Classes.CLASS_2):
+            pair = Pair.opened(classes)
+            pair.caller.data(1, bytearray(b"x" * 300))
+            self.shown(pair, to_called=[Data(1, b"x" * 300)])
+            pair.called.please(1, Tokens.DATA, memoryview(b"please"))
+            self.shown(pair, to_caller=[Asked(1, Tokens.DATA, b"please")])
+            pair.caller.give(1, Tokens.DATA)
+            self.shown(pair, to_called=[Given(1, Tokens.DATA)])
+
+    def test_points(self):
+        pair = Pair.opened()
+        pair.caller.minor(1, False)
+        pair.caller.minor(1, user_data=b"m")
+        self.shown(pair, to_called=[Minor(1, 1, False, b""), Minor(1, 2, True, b"m")])
+        pair.called.minor_confirm(1, 2, b"c")
+        self.shown(pair, to_caller=[MinorConfirmed(1, 2, b"c")])
+        pair.caller.major(1, b"M")
+        self.assertEqual(pair.caller.phase(1), Phase.MAJOR_ASKED)
+        self.shown(pair, to_called=[Major(1, 3, b"M")])
+        pair.called.major_confirm(1)
+        self.shown(pair, to_caller=[MajorConfirmed(1, b"")])
+        self.assertEqual((pair.caller.confirmed_below(1), pair.caller.lowest_restart(1)), (4, 4))
+
+    def test_a_restart(self):
+        pair = Pair.opened()
+        wishes = Sides(release=Side.CHOICE)
+        pair.caller.restart(1, 1, wishes, b"again")
+        self.shown(pair, to_called=[Restart(1, 1, wishes, b"again")])
+        pair.called.restart_confirm(1, user_data=b"yes")
+        self.shown(pair, to_caller=[Restarted(1, 1, Sides(), b"yes")])
+        self.assertEqual(pair.caller.held(1), ALL_TOKENS)
+
+    def test_a_release(self):
+        pair = Pair.opened()
+        pair.caller.release(1, b"bye")
+        self.shown(pair, to_called=[Release(1, b"bye")])
+        pair.called.release_refuse(1, b"stay")
+        self.shown(pair, to_caller=[ReleaseRefused(1, b"stay")])
+        pair.caller.release(1)
+        pair.carry()
+        pair.called.release_accept(1)
+        self.shown(pair, to_caller=[Released(1, b"")])
+        self.assertEqual(pair.caller.phase(1), Phase.ENDED)
+        self.assertEqual(pair.caller.ended(), Ending(Reason.CLOSED, 0))
+
+    def test_an_abort_and_a_loss(self):
+        pair = Pair.opened()
+        pair.called.abort(1, b"enough")
+        self.shown(pair, to_caller=[Aborted(1, b"enough")])
+        pair = Pair.opened()
+        pair.caller.broken()
+        self.assertEqual(list(pair.caller.feed_all(b"")), [Lost(1)])
+        self.assertIsNone(pair.caller.next_indication())
+        self.assertEqual(pair.caller.ended(), Ending(Reason.BROKEN, 0))
+
+    def test_bad_units(self):
+        cases = {
+            b"\x21\x00": Fault(FaultKind.SPELLING, spelling=Spelling.UNKNOWN_SI),
+            b"\x01\x00\x31\x00": Fault(
+                FaultKind.SPELLING, spelling=Spelling.MISSING_PARAMETER, parameter=42, offset=2
+            ),
+            b"\x0a\x00": Fault(FaultKind.UNEXPECTED, si=10),
+        }
+        for tsdu, fault in cases.items():
+            pair = Pair.opened()
+            self.assertEqual(list(pair.called.feed_all(packet(tsdu))), [BadUnit(1, fault)])
+            self.shown(pair, to_caller=[PeerAbort(1, 5)])
+
+    def test_those_that_are_an_end(self):
+        over = {kind for kind in (Lost, PeerAbort, BadUnit, Aborted, Released) if kind.is_over}
+        self.assertEqual(len(over), 5)
+        self.assertTrue(RefusedBySession.is_over and RefusedByTransport.is_over)
+        self.assertFalse(Release.is_over or Data.is_over or ReleaseRefused.is_over)
+
+    def test_connections_are_told_apart(self):
+        pair = Pair.opened(Classes.CLASS_2)
+        second = pair.caller.connect(Opening(Units.DUPLEX))
+        pair.carry()
+        pair.called.accept(second, Units.DUPLEX)
+        pair.carry()
+        pair.caller.data(second, b"two")
+        pair.caller.data(1, b"one")
+        self.shown(pair, to_called=[Data(2, b"two"), Data(1, b"one")])
+
+
+class Octets(Case):
+    def test_feeding_stops_where_an_indication_waits(self):
+        pair = Pair.opened()
+        pair.caller.data(1, b"one")
+        one = pair.caller.outgoing()
+        fed = pair.called.feed(one + one)
+        self.assertEqual((fed.used, fed.waits), (len(one), True))
+        self.assertEqual(pair.called.feed(one).used, 0)
+        self.assertEqual(list(pair.called.feed_all(one + b"\x03")), [Data(1, b"one")] * 2)
+        self.assertEqual(pair.called.kept(), 1)
+
+    def test_what_is_outgoing_stays_until_it_is_taken(self):
+        pair = Pair.opened()
+        pair.caller.data(1, b"one")
+        waiting = pair.caller.outgoing()
+        self.assertEqual(len(waiting), pair.caller.outgoing_length())
+        pair.caller.taken(3)
+        self.assertEqual(pair.caller.outgoing(), waiting[3:])
+        self.assertEqual(pair.caller.outgoing(2), waiting[3:5])
+        self.refused(Code.BAD_ARGUMENT, pair.caller.taken, len(waiting))
+        self.refused(Code.BAD_ARGUMENT, pair.caller.taken, -1)
+
+    def test_an_end_says_why_it_has_ended(self):
+        end = End.called()
+        self.assertIsNone(end.ended())
+        self.assertEqual(list(end.feed_all(b"\x04")), [])
+        self.assertEqual(end.ended(), Ending(Reason.BAD_VERSION, 0))
+
+    def test_octets_are_octets(self):
+        pair = Pair.opened()
+        for wrong in ("text", 5, None, [1]):
+            with self.assertRaises(TypeError):
+                pair.caller.data(1, wrong)
+            with self.assertRaises(TypeError):
+                pair.caller.feed(wrong)
+
+
+class Ends(Case):
+    def test_a_closed_end(self):
+        pair = Pair.opened()
+        pair.caller.data(1, b"lost")
+        self.assertFalse(pair.caller.closed)
+        with pair.caller as end:
+            self.assertIs(end, pair.caller)
+        pair.caller.close()
+        self.assertTrue(end.closed)
+        self.refused(Code.CLOSED, end.data, 1, b"x")
+        self.refused(Code.CLOSED, end.connect)
+        self.refused(Code.CLOSED, end.feed, b"x")
+        self.refused(Code.CLOSED, end.taken, 0)
+        self.refused(Code.CLOSED, end.broken)
+        self.assertEqual((end.outgoing(), end.kept(), end.ended()), (b"", 0, None))
+        self.assertEqual((end.phase(1), end.held(1), end.next_serial(1)), (Phase.NONE, Tokens.NONE, 0))
+        self.assertIsNone(end.next_indication())
+
+    def test_an_end_is_freed_when_nobody_has_it(self):
+        end = End.caller()
+        freed, slot, gone = end._free, end._slot, weakref.ref(end)
+        self.assertTrue(freed.alive and slot.full)
+        del end
+        gc.collect()
+        self.assertIsNone(gone())
+        self.assertFalse(freed.alive or slot.full)
+
+    def test_an_end_is_not_copied(self):
+        end = End.caller()
+        for copied in (copy.copy, copy.deepcopy, pickle.dumps):
+            with self.assertRaises(TypeError):
+                copied(end)
+
+    def test_threads_wait_for_each_other(self):
+        pair = Pair.opened(Classes.CLASS_0)
+        size, failures = 200, []
+
+        def send():
+            try:
+                for _ in range(size):
+                    pair.caller.data(1, b"x" * 100)
+                    pair.caller.outgoing(10)
+            except Exception as error:
+                failures.append(error)
+
+        threads = [threading.Thread(target=send) for _ in range(4)]
+        for thread in threads:
+            thread.start()
+        for thread in threads:
+            thread.join()
+        self.assertEqual(failures, [])
+        self.assertEqual(carry(pair.caller, pair.called, 65536), [Data(1, b"x" * 100)] * 4 * size)
+
+    def test_what_is_outgoing_is_told(self):
+        pair, told = Pair.opened(), []
+        pair.caller.on_outgoing = lambda: told.append(pair.caller.outgoing_length())
+        pair.caller.data(1, b"x")
+        self.refused(Code.EMPTY, pair.caller.data, 1, b"")
+        self.assertEqual(len(told), 1)
+        self.assertGreater(told[0], 0)
+
+
+class Codes(Case):
+    def test_terms(self):
+        for terms in (Terms(size=6), Terms(size=14), Terms(window=0), Terms(window=16), Terms(size=256 + 13)):
+            self.refused(Code.BAD_ARGUMENT, End.caller, terms)
+            self.refused(Code.BAD_ARGUMENT, End.called, terms)
+
+    def test_connects(self):
+        pair = Pair()
+        self.refused(Code.NOT_CALLER, pair.called.connect, ASKED)
+        self.refused(Code.BAD_ARGUMENT, pair.caller.connect, Opening(serial=1000000))
+        self.refused(Code.BAD_ARGUMENT, pair.caller.connect, Opening(serial=1 << 32))
+        self.refused(Code.BAD_ARGUMENT, pair.caller.connect, Opening(called_tsap=b"x" * 33))
+        self.refused(Code.NOT_SELECTED, pair.caller.connect, Opening(Units.MINOR_SYNC))
+        self.refused(Code.TOO_LONG, pair.caller.connect, Opening(called_selector=b"x" * 17))
+        self.refused(Code.TOO_LONG, pair.caller.connect, Opening(user_data=b"x" * 10241))
+        self.assertEqual(pair.caller.connect(ASKED), 1)
+        self.refused(Code.NEGOTIATING, pair.caller.connect, ASKED)
+        self.refused(Code.ONE_CONNECTION, Pair.opened(Classes.CLASS_0).caller.connect, ASKED)
+        pair = Pair.opened(Classes.CLASS_2)
+        self.assertEqual([pair.caller.connect(ASKED) for _ in range(63)], list(range(2, 65)))
+        self.refused(Code.TOO_MANY, pair.caller.connect, ASKED)
+        pair.caller.broken()
+        self.refused(Code.ENDED, pair.caller.connect, ASKED)
+
+    def test_calls(self):
+        pair = Pair.opened()
+        caller, called = pair.caller, pair.called
+        self.refused(Code.NO_SUCH_CONNECTION, caller.data, 9, b"x")
+        self.refused(Code.BAD_ARGUMENT, caller.data, 65537, b"x")
+        self.refused(Code.BAD_STATE, caller.accept, 1, ALL_UNITS)
+        self.refused(Code.BAD_ARGUMENT, caller.accept, 1, ALL_UNITS, 1000000)
+        self.refused(Code.TOKEN_NOT_HELD, called.data, 1, b"x")
+        self.refused(Code.TOKEN_ALREADY_HELD, caller.please, 1, Tokens.DATA)
+        self.refused(Code.BAD_NUMBER, called.minor_confirm, 1, 5)
+        self.refused(Code.EMPTY, caller.data, 1, b"")
+        self.refused(Code.EMPTY, caller.give, 1, Tokens.NONE)
+        self.refused(Code.TOO_LONG, caller.data, 1, bytes(1048573))
+        self.assertEqual(caller.outgoing(), b"")
+        caller.data(1, bytes(1048572))
+        caller.broken()
+        self.refused(Code.ENDED, caller.data, 1, b"x")
+        plain = Pair.opened(asked=Opening())
+        self.refused(Code.NOT_SELECTED, plain.caller.major, 1)
+        last = Pair.opened(asked=Opening(ALL_UNITS, 999999))
+        last.caller.minor(1)
+        self.refused(Code.SERIALS_USED_UP, last.caller.minor, 1)
+
+    def test_errors_have_texts(self):
+        texts = {str(SessionError(code)) for code in Code if code != Code.OK}
+        self.assertEqual(len(texts), len(Code) - 1)
+        self.assertEqual(str(SessionError(Code.TOKEN_NOT_HELD)), "the other side holds a token that the call needs")
+        again = pickle.loads(pickle.dumps(SessionError(Code.EMPTY)))
+        self.assertEqual((again.code, str(again)), (Code.EMPTY, str(SessionError(Code.EMPTY))))
+
+
+if __name__ == "__main__":
+    unittest.main()

@@ -1,0 +1,106 @@
+"""Compares each struct and each number with what the C compiler says of include/osi.h, by the program
+bindings/layout.c; and the names of that program and of the functions with the header."""
+import ctypes
+import os
+import re
+import shutil
+import subprocess
+import tempfile
+import unittest
+
+import osi_session
+from osi_session import _library, _values
+
+TOP = os.path.dirname(os.path.dirname(os.path.dirname(os.path.dirname(os.path.abspath(__file__)))))
+HEADER, PROGRAM = os.path.join(TOP, "include", "osi.h"), os.path.join(TOP, "bindings", "layout.c")
+CC = os.environ.get("CC", "cc")
+
+# How each enumeration is written in osi.h: what stands before the names of its members.
+PREFIXES = {
+    osi_session.Code: "OSI_",
+    osi_session.Classes: "OSI_",
+    osi_session.Units: "OSI_",
+    osi_session.Tokens: "OSI_TOKEN_",
+    osi_session.Side: "OSI_",
+    osi_session.Phase: "OSI_PHASE_",
+    osi_session.Reason: "OSI_END_",
+}
+# Members that stand for more than one number, or for none, and so have no name in C.
+JOINED = {("Classes", "BOTH"), ("Classes", "NONE"), ("Units", "NONE"), ("Tokens", "NONE")}
+
+
+def capitals(name):
+    """MinorConfirmed as MINOR_CONFIRMED."""
+    return re.sub(r"(?<!^)(?=[A-Z])", "_", name).upper()
+
+
+@unittest.skipUnless(os.path.exists(PROGRAM) and shutil.which(CC), "no C compiler, or no bindings/layout.c")
+class Layout(unittest.TestCase):
+    @classmethod
+    def setUpClass(cls):
+        with tempfile.TemporaryDirectory() as room:
+            program = os.path.join(room, "layout")
+            subprocess.run([CC, "-I", os.path.join(TOP, "include"), PROGRAM, "-o", program], check=True)
+            text = subprocess.run([program], capture_output=True, text=True, check=True).stdout
+        cls.lines = {"struct": {}, "field": {}, "value": {}}
+        for line in text.splitlines():
+            kind, name, *numbers = line.split()
+            cls.lines[kind][name] = tuple(map(int, numbers))
+
+    def test_the_program_says_all_of_the_header(self):
+        with open(HEADER, encoding="utf-8") as file:
+            names = re.findall(r"^#define (OSI_\w+) (?:\d|0x)", file.read(), re.MULTILINE)
+        self.assertEqual(sorted(names), sorted(self.lines["value"]))
+
+    def test_structs(self):
+        here = {name: (ctypes.sizeof(s), ctypes.alignment(s)) for name, s in _library.STRUCTS.items()}
+        self.assertEqual(here, self.lines["struct"])
+
+    def test_fields(self):
+        here = {}
+        for name, struct in _library.STRUCTS.items():
+            for field, *_ in struct._fields_:
+                place = getattr(struct, field)
+                here[f"{name}.{field}"] = (place.offset, place.size)
+        self.assertEqual(here, self.lines["field"])
+
+    def test_enumerations(self):
+        of_c = {name: number for name, (number,) in self.lines["value"].items()}
+        seen = set()
+        for kind, prefix in PREFIXES.items():
+            for member, value in kind.__members__.items():
+                if (kind.__name__, member) not in JOINED:
+                    self.assertEqual(of_c[prefix + member], value, f"{kind.__name__}.{member}")
+                    seen.add(prefix + member)
+        tags = self.tags()
+        self.assertEqual(seen | set(tags), set(of_c) - {"OSI_NONE", "OSI_END_NONE"})
+        self.assertEqual({of_c[name] for name in tags}, set(_values.KINDS))
+
+    def tags(self):
+        """The names of all indications in C, each looked up by what its number makes."""
+        names = {}
+        for tag, made in _values.KINDS.items():
+            said = _library.IndicationOfC(tag=tag)
+            said.fault.fault = 2
+            name = "OSI_" + capitals(type(made(said, b"")).__name__)
+            name = "OSI_DATA_SHOWN" if name == "OSI_DATA" else name
+            self.assertEqual(self.lines["value"][name], (tag,))
+            names[name] = tag
+        return names
+
+
+class Functions(unittest.TestCase):
+    @unittest.skipUnless(os.path.exists(HEADER), "no include/osi.h")
+    def test_all_of_the_header_are_declared(self):
+        with open(HEADER, encoding="utf-8") as file:
+            text = re.sub(r"/\*.*?\*/", "", file.read(), flags=re.DOTALL)
+        names = set(re.findall(r"^(?:uint32_t|uint8_t|size_t|void) (osi_\w+)\(", text, re.MULTILINE))
+        self.assertEqual(names, set(_library.FUNCTIONS))
+
+    def test_all_are_in_the_library(self):
+        for name in _library.FUNCTIONS:
+            self.assertTrue(hasattr(_library.library(), name), name)
+
+
+if __name__ == "__main__":
+    unittest.main()
