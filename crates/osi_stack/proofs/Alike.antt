@@ -40,7 +40,7 @@ refusal_apart : (o : List ℕ) (r : ℕ) (session : Option Standing) (call : Ses
 refusal_apart o r None call c = refl
 refusal_apart o r (Some session) call c = ap (or_else (react session (called call)).error) (reply_apart o r (react session (called call)).reply c)
 
-call_apart : (o : List ℕ) (r : ℕ) (call : SessionCall) (e : End) → call_error r call (put_back o e) ≡ call_error r call e
+pub call_apart : (o : List ℕ) (r : ℕ) (call : SessionCall) (e : End) → call_error r call (put_back o e) ≡ call_error r call e
 call_apart o r call e = ap (λ (x : Option CallError). if not (has_given r e.carrier) then Some NoSuchConnection else x) (refusal_apart o r (session_at r e) call e.carrier)
 
 pub call_hushed : (r : ℕ) (call : SessionCall) (e : End) → call_error r call (hushed e) ≡ call_error r call e

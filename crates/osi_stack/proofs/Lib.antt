@@ -33,6 +33,7 @@ pub mod Alike
 pub mod Hushing
 pub mod Asking
 pub mod Rounds
+pub mod Asked
 pub mod Breaking
 pub mod WholeRuns
 pub mod Made

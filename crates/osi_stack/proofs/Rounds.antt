@@ -86,7 +86,7 @@ calls_alike nothing one_cut t o a u p b xs ys c d are h k used lasts still =
 
 -- ---- a call of the user
 
-connects_apart : (o : List ℕ) (c : Connect) (e : End) → connects c (put_back o e) ≡ put_back o (connects c e)
+pub connects_apart : (o : List ℕ) (c : Connect) (e : End) → connects c (put_back o e) ≡ put_back o (connects c e)
 connects_apart o c e =
     ap (λ (x : Carrier). joins (e.carrier.given + 1) (calls_with c) (record e { carrier = x }))
     (apart_all [] o (user (connects_call (option_map tsap_octets c.calling_tsap) (option_map tsap_octets c.called_tsap)) ∷ []) e.carrier)

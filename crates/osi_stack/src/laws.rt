@@ -255,9 +255,10 @@ pub fn the_pieces_do_not_matter()
 /// So over whole runs too, with the user's calls between: where in each round the same octets were used, in
 /// whatever pieces, and then the user made the same call, the ends come to the same, and the same was told and
 /// put. A session may be called while indications wait, and a connection asked for while they wait for live
-/// connections: `connect` drops the lines of connections that are gone and for which nothing waits. Behind the
-/// rounds the same octets may end them, or they may have ended: where memory is not wanted there, they come to
-/// the same all the same. And the byte connection may break whatever waits: then the same is told of each
+/// connections: `connect` drops the lines of connections that are gone and for which nothing waits. Where it is
+/// called whatever waits, one of two ends may keep such a line; what is seen of them is still the same. Behind
+/// the rounds the same octets may end them, or they may have ended: where memory is not wanted there, they come
+/// to the same all the same. And the byte connection may break whatever waits: then the same is told of each
 /// reference, in the same order, if not of several (of 1 that it is lost before what waits of 2, where that was
 /// not yet told), and all else is the same.
 pub fn whole_runs_do_not_hang_on_pieces()
@@ -267,6 +268,8 @@ pub fn whole_runs_do_not_hang_on_pieces()
         RoundsAlong old xs c → RoundsAlong old ys d → AreInStep xs ys →
         CallsInRoom c zs a → CallsInRoom d ws b → flat_map used_in zs ≡ flat_map used_in ws →
         AreAlike a (calls_of xs ++ zs) b (calls_of ys ++ ws) }
+    ensures asked { (c : Connect) (a b : Holding) (xs ys : List EndCall) → AreAlike a xs b ys →
+        LookAlike (record a { end = connects c a.end }) xs (record b { end = connects c b.end }) ys }
     ensures broken { (a b : Holding) (xs ys : List EndCall) → IsSettled a.end → IsSettled b.end → AreAlike a xs b ys →
         AreAlikeByReference (record a { end = breaks a.end }) xs (record b { end = breaks b.end }) ys }
     ensures seen { (a b : Holding) (xs ys : List EndCall) → AreAlikeByReference a xs b ys → LookAlike a xs b ys }
