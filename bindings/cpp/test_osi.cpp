@@ -8,6 +8,7 @@
 
 #include <array>
 #include <cstdio>
+#include <new>
 #include <string>
 #include <type_traits>
 #include <vector>
@@ -25,6 +26,14 @@ static void check(bool holds, const char *what, int line)
     failed += !holds;
     if (!holds)
         std::printf("FAILED, line %d: %s\n", line, what);
+}
+
+/* Where this is set there is no memory for a slot. */
+static bool no_slot = false;
+
+void *operator new(std::size_t size, const std::nothrow_t &) noexcept
+{
+    return no_slot ? nullptr : ::operator new(size);
 }
 
 /* ---- what the compiler answers */
@@ -410,6 +419,12 @@ static void terms_are_judged()
     CHECK(osi::end::caller(small).code == code::bad_argument && !osi::end::caller(small).value);
     CHECK(osi::end::called(wide).code == code::bad_argument);
     CHECK(osi::end::caller(none).code == code::ok);
+    no_slot = true;
+    CHECK(osi::end::caller().code == code::no_memory && !osi::end::called().value);
+    no_slot = false;
+    osi::end full = *osi::end::caller();
+    const osi_terms again = {OSI_CLASS_0, 13, 15};
+    CHECK(static_cast<code>(osi_caller(full.get(), &again)) == code::in_use && full);
 }
 
 static void connects_are_judged()

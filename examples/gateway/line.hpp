@@ -160,6 +160,9 @@ protected:
 
     virtual void shown(const osi::indication &one) = 0;
 
+    /* This side has said all: once that is sent it closes its direction. */
+    void finish() noexcept { done_ = true; }
+
     std::ostream &log() { return (file_.is_open() ? file_ : std::cout) << side_ << ' '; }
 
     /* Writes the line of a call, as "left 1 data ok", and answers whether it was done. */
@@ -185,6 +188,8 @@ private:
         const bool waits = !end.outgoing().empty();
         if (!waits && end.ended())
             return false;
+        if (!waits && std::exchange(done_, false))
+            shutdown(socket_.handle(), SHUT_WR);
         pollfd ready = {socket_.handle(), static_cast<short>(waits ? POLLIN | POLLOUT : POLLIN), 0};
         if (poll(&ready, 1, 10000) <= 0)
             return false;
@@ -214,6 +219,7 @@ private:
 
     connection socket_;
     const char *side_;
+    bool done_ = false;
     std::ofstream file_;
     std::array<std::uint8_t, 65536> piece_{};
 };

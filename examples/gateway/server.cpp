@@ -35,6 +35,7 @@ private:
                 did(of, "minorconfirm", end.minor_confirm(of, *one.number));
             break;
         case osi::tag::given: answer(of); break;
+        case osi::tag::released: finish(); break;
         default: break;
         }
     }
