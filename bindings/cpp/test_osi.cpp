@@ -28,12 +28,19 @@ static void check(bool holds, const char *what, int line)
         std::printf("FAILED, line %d: %s\n", line, what);
 }
 
-/* Where this is set there is no memory for a slot. */
+/* Where this is set there is no memory for a slot. (Under valgrind there is, which has its own new.) */
 static bool no_slot = false;
 
 void *operator new(std::size_t size, const std::nothrow_t &) noexcept
 {
     return no_slot ? nullptr : ::operator new(size);
+}
+
+static bool is_refused()
+{
+    void *volatile got = ::operator new(1, std::nothrow);
+    ::operator delete(got);
+    return got == nullptr;
 }
 
 /* ---- what the compiler answers */
@@ -420,7 +427,8 @@ static void terms_are_judged()
     CHECK(osi::end::called(wide).code == code::bad_argument);
     CHECK(osi::end::caller(none).code == code::ok);
     no_slot = true;
-    CHECK(osi::end::caller().code == code::no_memory && !osi::end::called().value);
+    if (is_refused())
+        CHECK(osi::end::caller().code == code::no_memory && !osi::end::called().value);
     no_slot = false;
     osi::end full = *osi::end::caller();
     const osi_terms again = {OSI_CLASS_0, 13, 15};
