@@ -1,5 +1,5 @@
 """Compares each struct and each number with what the C compiler says of include/osi.h, by the program
-bindings/layout.c; and the names of that program and of the functions with the header."""
+bindings/layout.c; and the names in that program, here, in osi.hpp and in the crate with the header."""
 import ctypes
 import os
 import re
@@ -29,6 +29,26 @@ PREFIXES = {
 JOINED = {("Classes", "BOTH"), ("Classes", "NONE"), ("Units", "NONE"), ("Tokens", "NONE")}
 
 
+def header():
+    """The text of osi.h, without its comments."""
+    with open(HEADER, encoding="utf-8") as file:
+        return re.sub(r"/\*.*?\*/", "", file.read(), flags=re.DOTALL)
+
+
+def structs():
+    """The fields of each struct of osi.h."""
+    found = re.findall(r"^typedef struct (\w+) \{(.*?)^\} \1;", header(), re.MULTILINE | re.DOTALL)
+    return {name: re.findall(r"(\w+);", re.sub(r"\{.*?\}", "", body, flags=re.DOTALL)) for name, body in found}
+
+
+def functions():
+    return set(re.findall(r"^(?:uint32_t|uint8_t|size_t|void) (osi_\w+)\(", header(), re.MULTILINE))
+
+
+def numbers():
+    return set(re.findall(r"^#define (OSI_\w+) (?:\d|0x)", header(), re.MULTILINE))
+
+
 def capitals(name):
     """MinorConfirmed as MINOR_CONFIRMED."""
     return re.sub(r"(?<!^)(?=[A-Z])", "_", name).upper()
@@ -48,9 +68,10 @@ class Layout(unittest.TestCase):
             cls.lines[kind][name] = tuple(map(int, numbers))
 
     def test_the_program_says_all_of_the_header(self):
-        with open(HEADER, encoding="utf-8") as file:
-            names = re.findall(r"^#define (OSI_\w+) (?:\d|0x)", file.read(), re.MULTILINE)
-        self.assertEqual(sorted(names), sorted(self.lines["value"]))
+        fields = {f"{name}.{field}" for name, all_of_it in structs().items() for field in all_of_it}
+        self.assertEqual(numbers(), set(self.lines["value"]))
+        self.assertEqual(set(structs()), set(self.lines["struct"]))
+        self.assertEqual(fields, set(self.lines["field"]))
 
     def test_structs(self):
         here = {name: (ctypes.sizeof(s), ctypes.alignment(s)) for name, s in _library.STRUCTS.items()}
@@ -89,17 +110,26 @@ class Layout(unittest.TestCase):
         return names
 
 
-class Functions(unittest.TestCase):
-    @unittest.skipUnless(os.path.exists(HEADER), "no include/osi.h")
-    def test_all_of_the_header_are_declared(self):
-        with open(HEADER, encoding="utf-8") as file:
-            text = re.sub(r"/\*.*?\*/", "", file.read(), flags=re.DOTALL)
-        names = set(re.findall(r"^(?:uint32_t|uint8_t|size_t|void) (osi_\w+)\(", text, re.MULTILINE))
-        self.assertEqual(names, set(_library.FUNCTIONS))
+@unittest.skipUnless(os.path.exists(HEADER), "no include/osi.h")
+class Names(unittest.TestCase):
+    """That nothing of the header is left out."""
 
-    def test_all_are_in_the_library(self):
+    def words(self, *path):
+        with open(os.path.join(TOP, *path), encoding="utf-8") as file:
+            return set(re.findall(r"\w+", file.read()))
+
+    def test_here(self):
+        self.assertEqual(functions(), set(_library.FUNCTIONS))
+
+    def test_in_the_library(self):
         for name in _library.FUNCTIONS:
             self.assertTrue(hasattr(_library.library(), name), name)
+
+    def test_in_osi_hpp(self):
+        self.assertEqual((functions() | numbers()) - self.words("include", "osi.hpp"), set())
+
+    def test_in_the_crate(self):
+        self.assertEqual((functions() | set(structs())) - self.words("bindings", "rust", "src", "ffi.rs"), set())
 
 
 if __name__ == "__main__":

@@ -64,7 +64,7 @@
 //! only look, since that is what the library for C says of them. Copy what is to be kept, or call
 //! [`Indication::into_owned`].
 //!
-//! ```compile_fail
+//! ```compile_fail,E0499
 //! # use osi_session::{End, Terms};
 //! let mut end = End::caller(Terms::default()).unwrap();
 //! let lent = end.outgoing();
@@ -88,3 +88,38 @@ pub use codes::{Ending, Error, Fault, Spelling};
 pub use end::{End, Fed};
 pub use indications::Indication;
 pub use terms::{Classes, Opening, Phase, Reference, Side, Sides, Terms, Tokens, Units};
+
+/// What does not compile. An end is not used by two threads at a time:
+///
+/// ```compile_fail,E0277
+/// fn is_sync<T: Sync>() {}
+/// is_sync::<osi_session::End>();
+/// ```
+///
+/// It is not copied:
+///
+/// ```compile_fail,E0599
+/// # use osi_session::{End, Terms};
+/// let end = End::called(Terms::default()).unwrap();
+/// let other = end.clone();
+/// ```
+///
+/// User data that is lent does not outlive the next call, nor the end:
+///
+/// ```compile_fail,E0499
+/// # use osi_session::{End, Terms};
+/// let mut end = End::called(Terms::default()).unwrap();
+/// let shown = end.next_indication();
+/// end.broken();
+/// drop(shown);
+/// ```
+///
+/// ```compile_fail,E0505
+/// # use osi_session::{End, Terms};
+/// let mut end = End::called(Terms::default()).unwrap();
+/// let shown = end.next_indication();
+/// drop(end);
+/// drop(shown);
+/// ```
+#[cfg(doctest)]
+pub struct DoesNotCompile;
