@@ -2,6 +2,8 @@
 import copy
 import gc
 import pickle
+import subprocess
+import sys
 import threading
 import unittest
 import weakref
@@ -82,6 +84,33 @@ class Pair:
         pair.called.accept(of, asked.requirements, asked.serial, user_data=b"a gateway")
         pair.carry()
         return pair
+
+
+WITHOUT_MEMORY = """
+import resource
+from osi_session import End, Opening, SessionError, Units
+caller, called = End.caller(), End.called()
+def carry(source, to):
+    octets = source.outgoing()
+    source.taken(len(octets))
+    return list(to.feed_all(octets))
+of = caller.connect(Opening())
+carry(caller, called), carry(called, caller), carry(caller, called)
+called.accept(of, Units.HALF_DUPLEX)
+carry(called, caller)
+data, before = bytes(1000000), 0
+pages = int(open("/proc/self/statm").read().split()[0])
+most = pages * resource.getpagesize() + (64 << 20)
+resource.setrlimit(resource.RLIMIT_AS, (most, most))
+for _ in range(1000):
+    try:
+        before = caller.outgoing_length()
+        caller.data(of, data)
+    except SessionError as error:
+        held = caller.outgoing_length() == before
+        print(error.code.name + (", and nothing has changed" if held else ""))
+        break
+"""
 
 
 def packet(tsdu):
@@ -362,6 +391,12 @@ class Codes(Case):
         last = Pair.opened(asked=Opening(ALL_UNITS, 999999))
         last.caller.minor(1)
         self.refused(Code.SERIALS_USED_UP, last.caller.minor, 1)
+
+    @unittest.skipUnless(sys.platform == "linux", "the limit of a process's memory is that of Linux")
+    def test_no_memory(self):
+        """In a process of its own, which may have 64 MiB more than it has."""
+        done = subprocess.run([sys.executable, "-c", WITHOUT_MEMORY], capture_output=True, text=True, timeout=60)
+        self.assertEqual((done.stdout, done.returncode), ("NO_MEMORY, and nothing has changed\n", 0), done.stderr)
 
     def test_errors_have_texts(self):
         texts = {str(SessionError(code)) for code in Code if code != Code.OK}
