@@ -132,6 +132,36 @@ class Lines(unittest.IsolatedAsyncioTestCase):
             await asyncio.wait_for(line.wait_closed(), 5)
         self.assertEqual([type(one) for one in shown], [Connected, Release])
 
+    async def test_a_block_that_raises_waits_for_nobody(self):
+        """The peer reads nothing, and much is to be written."""
+        silent = asyncio.Event()
+
+        async def read_nothing(reader, writer):
+            await silent.wait()
+            writer.close()
+
+        listener = await asyncio.start_server(read_nothing, "127.0.0.1", 0, limit=1)
+        port = listener.sockets[0].getsockname()[1]
+        with self.assertRaises(KeyError):
+            async with aio.dial("127.0.0.1", port) as line:
+                line.end.connect(Opening(UNITS))
+                line._transport.write(bytes(50_000_000))
+                raise KeyError
+        self.assertTrue(line.end.closed)
+        silent.set()
+        listener.close()
+
+    async def test_a_handler_that_raises_closes(self):
+        async def fails(line):
+            await line.expect(Released)
+
+        listener = await aio.serve(fails, "127.0.0.1", 0)
+        asyncio.get_running_loop().set_exception_handler(lambda loop, context: None)
+        async with aio.dial("127.0.0.1", listener.sockets[0].getsockname()[1]) as line:
+            of = line.end.connect(Opening(UNITS))
+            self.assertEqual([shown async for shown in line], [Lost(of)])
+        listener.close()
+
     async def test_nobody_listens(self):
         self.listener.close()
         made = []

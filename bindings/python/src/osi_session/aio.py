@@ -106,6 +106,11 @@ class EndProtocol(asyncio.Protocol):
         if self._transport is not None:
             self._transport.close()
 
+    def abort(self) -> None:
+        """Closes the byte connection at once: what is not written yet is lost."""
+        if self._transport is not None:
+            self._transport.abort()
+
     # ---- what a subclass may override
 
     def indication_received(self, indication: Indication) -> None:
@@ -174,18 +179,23 @@ class EndProtocol(asyncio.Protocol):
 async def dial(
     host: str, port: int, terms: Terms = Terms(), protocol: Callable[[End], EndProtocol] = EndProtocol, **options: Any
 ) -> AsyncIterator[EndProtocol]:
-    """A line with a calling end to a TCP port. Behind the block the byte connection is closed, and the
-    end freed. Options are those of ``loop.create_connection``."""
+    """A line with a calling end to a TCP port. Behind the block the byte connection is closed once all
+    is written, or at once where the block raises, and the end is freed. Options are those of
+    ``loop.create_connection``."""
     loop = asyncio.get_running_loop()
     line = protocol(End.caller(terms))
     try:
         await loop.create_connection(lambda: line, host, port, **options)
         yield line
+        await _closed(line)
     finally:
-        line.close()
-        if line._transport is not None:
-            await line.wait_closed()
+        line.abort()
         line.end.close()
+
+
+async def _closed(line: EndProtocol) -> None:
+    line.close()
+    await line.wait_closed()
 
 
 async def serve(
@@ -196,17 +206,17 @@ async def serve(
     **options: Any,
 ) -> asyncio.AbstractServer:
     """Listens on a TCP port. For each byte connection the handler is called with a line with a called
-    end; behind it the byte connection is closed, and the end freed. Options are those of
-    ``loop.create_server``."""
+    end; behind it the byte connection is closed once all is written, or at once where it raises, and the
+    end is freed. Options are those of ``loop.create_server``."""
     loop = asyncio.get_running_loop()
     tasks: Set[asyncio.Task[None]] = set()
 
     async def handle(line: EndProtocol) -> None:
         try:
             await handler(line)
+            await _closed(line)
         finally:
-            line.close()
-            await line.wait_closed()
+            line.abort()
             line.end.close()
 
     class Accepted(EndProtocol):
