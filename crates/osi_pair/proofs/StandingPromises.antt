@@ -1,28 +1,30 @@
 -- Two ends that stand at a list of steps promise what the machine promises.
-use Rattle.std.proofs.Common.{◌≡◌, refl, sym, ◌∙◌, ap, subst, ℕ, zero, suc, ◌+◌, ◌<◌, ◌≤◌, Bool, true, false, ◌&&◌, List, [], ◌∷◌, ◌++◌, length, map, Option, Some, None, option_map, is_some, IsSome, inl, inr, ◌⊎◌, if◌then◌else◌, arith}
-use Rattle.std.proofs.lemmas.Bool.{cases_lt}
+use Rattle.std.proofs.Common.{◌≡◌, refl, sym, ◌∙◌, ap, subst, ℕ, zero, suc, ◌<◌, ◌≤◌, Bool, true, false, ◌&&◌, List, [], ◌∷◌, map, Option, Some, None, option_map, is_some, IsSome, inl, inr, ◌⊎◌, if◌then◌else◌, arith}
+use Rattle.std.proofs.lemmas.Bool.{cases_lt, or_parts}
 use Rattle.std.specs.List.{list_any}
 use Rattle.osi_carrier.proofs.Apart.{absent, beyond}
 use Rattle.osi_carrier.specs.Rows.{Rows, value_at}
 use Rattle.osi_carrier.specs.State.{Connection}
 use Rattle.osi_carrier.specs.Terms.{terms_of}
 use Rattle.osi_carrier.specs.declared.ends.EndReason.{EndReason}
-use Rattle.osi_machine.specs.AsTables.{IsTableRun, OfEachLine, HoldNoneTwice, AreNoFaults, AreAgreed, IsSeenInBoth, LosesAsItEnds, AreOffered, offers_in}
+use Rattle.osi_carrier.specs.declared.ends.EndReason.TheVariants as why
+use Rattle.osi_machine.specs.AsTables.{IsTableRun, OfEachLine, HoldNoneTwice, AreAgreed, IsSeenInBoth, TellsNoFault, LosesAsItEnds, AreOffered, offers_in}
 use Rattle.osi_machine.specs.AsTables as tables
-use Rattle.osi_machine.specs.Core.{Offer}
 use Rattle.osi_machine.specs.Floor.{State, Token, data_token, minor, major, release, has, no_token}
 use Rattle.osi_machine.specs.Machine.{Ending, IsLegal, Step, connection_at}
 use Rattle.osi_machine.specs.Machine as entries
 use Rattle.osi_machine.specs.Runs.{is_loss, loses}
-use Rattle.osi_machine.specs.Tables.{Line, Tables, end_of, run, start}
+use Rattle.osi_machine.specs.Runs as runs
+use Rattle.osi_machine.specs.Tables.{Tables, run, start}
 use Rattle.osi_machine.specs.Views.{Told, told_of}
 use Rattle.osi_session.specs.Moves.{Standing}
+use Rattle.osi_session.specs.Shown.{Shown, PeerAbort, BadUnit}
 use Rattle.osi_stack.specs.Calls.{held_by, numbers_of}
 use Rattle.osi_stack.specs.State.{Holding, session_at, session_in}
 use Rattle.osi_pair.specs.Ends.{TwoEnds, end_at}
-use Rattle.osi_pair.specs.Entries.{Entry}
-use Rattle.osi_pair.specs.Promises.{with_word, journal_in, IsLegalJournal, WasAskedFor, AllWereAskedFor, told_at, OfEachConnection, HaveOneHolder, AgreeUnlessDuplex, IsShownAsAsked, IsSeenThere, confirmed_at, ConfirmedIsSeen, ShowNoFault, EndsForFewReasons, ending_of, LoseAsTheyEnd}
-use Rattle.osi_pair.specs.Standing.{side_in, entry_in, ending_in, terms_in, HasLine, IsInOrder, Stands, StandsAt}
+use Rattle.osi_pair.specs.Entries.{Entry, asks, calls, shows, ends}
+use Rattle.osi_pair.specs.Promises.{with_word, journal_in, IsLegalJournal, AllWereAskedFor, OfEachConnection, HaveOneHolder, AgreeUnlessDuplex, IsShownAsAsked, IsSeenThere, confirmed_at, ConfirmedIsSeen, is_fault, HasNoFault, EndsForFewReasons, ending_of, LoseAsTheyEnd}
+use Rattle.osi_pair.specs.Standing.{side_in, entry_in, ending_in, terms_in, HasLine, IsInOrder, StandsAt}
 use Rattle.osi_pair.specs.declared.sides.Side.{Side}
 use Rattle.osi_pair.specs.declared.sides.Side.TheVariants.{Left, Right}
 
@@ -107,8 +109,36 @@ agreement all p steps h = of_each AreAgreed AgreeUnlessDuplex p steps h (λ r li
 pub duplex : ((t : Tables) → IsTableRun t → OfEachLine tables.IsShownAsAsked t) → (p : TwoEnds) (steps : List Step) → StandsAt p steps → OfEachConnection IsShownAsAsked p
 duplex all p steps h = of_each tables.IsShownAsAsked IsShownAsAsked p steps h (λ r line left right said. said) (all (tables_at p steps) (is_run p steps h))
 
-pub no_fault : ((t : Tables) → IsTableRun t → OfEachLine AreNoFaults t) → (p : TwoEnds) (steps : List Step) → StandsAt p steps → OfEachConnection ShowNoFault p
-no_fault all p steps h = of_each AreNoFaults ShowNoFault p steps h (λ r line left right said. said) (all (tables_at p steps) (is_run p steps h))
+-- ---- faults
+
+shown_fine : (side : Side) (r : ℕ) (i : Shown) → runs.is_fault (entries.shown_at (side_in side) r i) ≡ false → is_fault (shows side r i) ≡ false
+shown_fine side r (PeerAbort bits) h = h
+shown_fine side r (BadUnit fault) h = h
+shown_fine side r _ h = refl
+
+-- an entry of which the tables have a word that is no fault; they have none for an end with a fault
+entry_fine : (word : entries.Entry) (x : Entry) → Some word ≡ entry_in x → runs.is_fault word ≡ false → is_fault x ≡ false
+entry_fine word (shows side r i) e h =
+    shown_fine side r i (ap (λ (w : entries.Entry). runs.is_fault w) (sym (some_same word (entries.shown_at (side_in side) r i) e)) ∙ h)
+entry_fine word (ends side (why.Fault fault)) e h = absurd (cc)
+entry_fine word (ends side why.Broken) e h = refl
+entry_fine word (ends side why.NoMemory) e h = refl
+entry_fine word (ends side why.Closed) e h = refl
+entry_fine word (ends side (why.PeerClosed r)) e h = refl
+entry_fine word (asks wanted answer) e h = refl
+entry_fine word (calls side r call error) e h = refl
+
+journal_fine : (words : List entries.Entry) (journal : List Entry) → map Some words ≡ map entry_in journal → list_any runs.is_fault words ≡ false → list_any is_fault journal ≡ false
+journal_fine words [] e h = refl
+journal_fine [] (x ∷ journal) e h = absurd (cc)
+journal_fine (word ∷ words) (x ∷ journal) e h =
+    let parts = or_parts (runs.is_fault word) (list_any runs.is_fault words) h in
+    let first = entry_fine word x (first_same (Some word) (entry_in x) (map Some words) (map entry_in journal) e) parts.0 in
+    let rest = journal_fine words journal (rest_same (Some word) (entry_in x) (map Some words) (map entry_in journal) e) parts.1 in
+    rw (first, rest) refl
+
+pub no_fault : ((t : Tables) → IsTableRun t → TellsNoFault t) → (p : TwoEnds) (steps : List Step) → StandsAt p steps → HasNoFault p
+no_fault all p steps h = journal_fine (tables_at p steps).journal p.journal h.stands.journal (all (tables_at p steps) (is_run p steps h))
 
 -- ---- what an end says of a connection
 

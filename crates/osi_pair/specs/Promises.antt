@@ -1,12 +1,13 @@
 -- What the users of two ends may rely on, read from what they can see: the journal, and what each end
 -- says of its connections.
-use Rattle.std.specs.Prelude.{◌≡◌, ℕ, ◌+◌, ◌<◌, ◌≤◌, true, false, ◌&&◌, List, [], ◌∷◌, ◌++◌, length, map, Option, Some, None, is_some}
+use Rattle.std.specs.Prelude.{◌≡◌, ℕ, ◌+◌, ◌<◌, ◌≤◌, Bool, true, false, ◌&&◌, ◌||◌, List, [], ◌∷◌, ◌++◌, length, map, Option, Some, None, is_some}
 use Rattle.std.specs.List.{list_any}
 use Rattle.osi_carrier.specs.Calls.{begun_by, kept_in}
 use Rattle.osi_carrier.specs.Rows.{value_at}
 use Rattle.osi_carrier.specs.State.{Connection, linked}
 use Rattle.osi_carrier.specs.Terms.{terms_of}
 use Rattle.osi_carrier.specs.declared.ends.EndReason.{EndReason}
+use Rattle.osi_carrier.specs.declared.ends.EndReason.TheVariants as why
 use Rattle.osi_class.specs.Link.{Standing}
 use Rattle.osi_machine.specs.AsTables.{offers_in}
 use Rattle.osi_machine.specs.Core.{Offer}
@@ -18,10 +19,12 @@ use Rattle.osi_machine.specs.Runs.{is_loss, loses}
 use Rattle.osi_machine.specs.Sayings.{said_in, heard_in}
 use Rattle.osi_machine.specs.Tables.{Tables, start}
 use Rattle.osi_machine.specs.Views.{Told, told_of}
+use Rattle.osi_session.specs.Shown.{PeerAbort, BadUnit}
 use Rattle.osi_stack.specs.Calls.{held_by, numbers_of}
 use Rattle.osi_stack.specs.State.{End, session_at}
 use Rattle.osi_pair.specs.Ends.{TwoEnds, end_at}
 use Rattle.osi_pair.specs.Entries.{Entry}
+use Rattle.osi_pair.specs.Entries as noted
 use Rattle.osi_pair.specs.Standing.{side_in, entry_in, ending_in, terms_in, StandsAt}
 use Rattle.osi_pair.specs.declared.sides.Side.{Side}
 use Rattle.osi_pair.specs.declared.sides.Side.TheVariants.{Left, Right}
@@ -71,10 +74,10 @@ HaveOneHolder p = (r : ℕ) (t : Token) → (has (held_by (session_at r p.left.e
 abbrev pub AgreeUnlessDuplex : ℕ → Told → Told → Type 0
 AgreeUnlessDuplex r left right = left.duplex ≡ false → right.duplex ≡ false → Agree left.view right.view
 
--- with duplex, the data that a side is shown is how the data that the other asked to send begins
+-- where either side tells that duplex is selected, the data that each is shown is how the data that the other
+-- asked to send begins
 abbrev pub IsShownAsAsked : ℕ → Told → Told → Type 0
-IsShownAsAsked r left right =
-    (left.duplex ≡ true → Begins left.indicated right.requested) × (right.duplex ≡ true → Begins right.indicated left.requested)
+IsShownAsAsked r left right = (left.duplex || right.duplex) ≡ true → Begins left.indicated right.requested × Begins right.indicated left.requested
 
 -- each point in the view of a side with a number below this is in the view of the other, behind the same
 -- items; unless the other has asked for a restart and has seen no answer
@@ -90,9 +93,16 @@ confirmed_at side r p = (numbers_of (session_at r (end_at side p).end)).confirme
 abbrev pub ConfirmedIsSeen : TwoEnds → ℕ → Told → Told → Type 0
 ConfirmedIsSeen p r left right = IsSeenThere (confirmed_at Left r p) left right × IsSeenThere (confirmed_at Right r p) right left
 
--- neither user is shown a fault, of this side or of the other
-abbrev pub ShowNoFault : ℕ → Told → Told → Type 0
-ShowNoFault r left right = (left.faulted ≡ false) × (right.faulted ≡ false)
+-- a user is shown a fault, of the other side or of his own; an end ends with one
+abbrev pub is_fault : Entry → Bool
+is_fault (noted.shows side r (PeerAbort bits)) = true
+is_fault (noted.shows side r (BadUnit fault)) = true
+is_fault (noted.ends side (why.Fault fault)) = true
+is_fault entry = false
+
+-- no entry of the journal is one, whatever its reference
+abbrev pub HasNoFault : TwoEnds → Type 0
+HasNoFault p = list_any is_fault p.journal ≡ false
 
 -- an end that has ended was told of the break, had no memory, or has closed
 abbrev pub EndsForFewReasons : TwoEnds → Type 0
@@ -168,7 +178,7 @@ pub record IsSafe (p : TwoEnds) : Type 0 where
   pub agreement : OfEachConnection AgreeUnlessDuplex p
   pub duplex : OfEachConnection IsShownAsAsked p
   pub confirmed_is_seen : OfEachConnection (ConfirmedIsSeen p) p
-  pub no_fault : OfEachConnection ShowNoFault p
+  pub no_fault : HasNoFault p
   pub ends : EndsForFewReasons p
   pub losses : LoseAsTheyEnd p
   pub taken : TakeWhatWasSent p

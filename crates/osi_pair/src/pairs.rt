@@ -38,7 +38,7 @@ impl Pair {
     ghost use Rattle.osi_pair.specs.Ends.{fresh_ends, end_at};
     ghost use Rattle.osi_pair.specs.Entries.{entry_by};
     ghost use Rattle.osi_pair.specs.Events.{misfit, error_by_rule, Does, CarriesAsMuch, Adds};
-    ghost use Rattle.osi_pair.specs.Promises.{AgreeUnlessDuplex, AllWereAskedFor, ConfirmedIsSeen, EndsForFewReasons, HaveOneHolder, IsLegalJournal, IsSafe, IsShownAsAsked, LoseAsTheyEnd, OfEachConnection, ShowNoFault, TakeWhatWasSent};
+    ghost use Rattle.osi_pair.specs.Promises.{AgreeUnlessDuplex, AllWereAskedFor, ConfirmedIsSeen, EndsForFewReasons, HasNoFault, HaveOneHolder, IsLegalJournal, IsSafe, IsShownAsAsked, LoseAsTheyEnd, OfEachConnection, TakeWhatWasSent};
     ghost use Rattle.osi_pair.specs.Reached.{IsReached};
     ghost use Rattle.osi_pair.specs.Running.{RunsThrough, StopsAt};
     ghost use Rattle.osi_pair.specs.Standing.{StandsAt};
@@ -134,7 +134,7 @@ impl Pair {
         ensures asked { AllWereAskedFor self.now }
         ensures agreement { OfEachConnection AgreeUnlessDuplex self.now }
         ensures duplex { OfEachConnection IsShownAsAsked self.now }
-        ensures no_fault { OfEachConnection ShowNoFault self.now }
+        ensures no_fault { HasNoFault self.now }
         ensures losses { LoseAsTheyEnd self.now }
     {
         self.is_safe();

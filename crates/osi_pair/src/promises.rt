@@ -3,7 +3,7 @@
 ghost use Rattle.std.specs.Prelude.{◌≡◌, ℕ, List};
 ghost use Rattle.osi_machine.specs.Machine.{Step};
 ghost use Rattle.osi_pair.specs.Ends.{TwoEnds};
-ghost use Rattle.osi_pair.specs.Promises.{AgreeUnlessDuplex, AllWereAskedFor, AreAtRest, AreTakenInOrder, ConfirmedIsSeen, EndsForFewReasons, HaveOneHolder, IsAllTaken, IsLegalJournal, IsOpenAt, IsSafe, IsShownAsAsked, LoseAsTheyEnd, OfEachConnection, ShowNoFault, kept_at};
+ghost use Rattle.osi_pair.specs.Promises.{AgreeUnlessDuplex, AllWereAskedFor, AreAtRest, AreTakenInOrder, ConfirmedIsSeen, EndsForFewReasons, HasNoFault, HaveOneHolder, IsAllTaken, IsLegalJournal, IsOpenAt, IsSafe, IsShownAsAsked, LoseAsTheyEnd, OfEachConnection, kept_at};
 ghost use Rattle.osi_pair.specs.Reached.{HoldLess, IsReached};
 ghost use Rattle.osi_pair.specs.Standing.{StandsAt};
 ghost use Rattle.osi_pair.specs.declared.sides.Side.{Side};
@@ -15,13 +15,14 @@ use osi_machine::laws::{the_tables_are_the_machine, what_is_heard_was_said, what
 /// each end says of its connections. The journal is one of what two users may do and see by the machine. Of
 /// each connection no token is held by both ends. Unless duplex is selected, one of the two views that the
 /// journal tells begins with the other, so that each synchronization point that both users have seen has the
-/// same number, kind and octets, and the same items before it; with duplex, the data that a user is shown is
-/// how the data that the other asked to send begins. Each point in the view of a side with a number below
-/// its V(A) is in the view of the other, unless the other has asked for a restart and has seen no answer.
-/// Neither user is shown a fault, of this side or of the other; an end ends only by a break, want of memory,
-/// or its own close; and a user is shown a loss only where his end was told of a break or had no memory. All of
-/// this, and that units are taken as they were sent ([`what_is_taken_was_sent`]), is true of two ends that
-/// stand at some list of steps, as those of every pair do.
+/// same number, kind and octets, and the same items before it; with duplex, as soon as one of the two sides
+/// has sent or seen the answer that selects it, the data that a user is shown is how the data that the other
+/// asked to send begins. Each point in the view of a side with a number below its V(A) is in the view of the
+/// other, unless the other has asked for a restart and has seen no answer. No entry of the journal, whatever
+/// its reference, shows a user a fault, of his side or of the other, or ends an end with one; an end ends only
+/// by a break, want of memory, or its own close; and a user is shown a loss only where his end was told of a
+/// break or had no memory. All of this, and that units are taken as they were sent
+/// ([`what_is_taken_was_sent`]), is true of two ends that stand at some list of steps, as those of every pair do.
 pub fn what_two_ends_tell()
     ensures legal_journal { (p : TwoEnds) (steps : List Step) → StandsAt p steps → IsLegalJournal p }
     ensures asked { (p : TwoEnds) (steps : List Step) → StandsAt p steps → AllWereAskedFor p }
@@ -29,7 +30,7 @@ pub fn what_two_ends_tell()
     ensures agreement { (p : TwoEnds) (steps : List Step) → StandsAt p steps → OfEachConnection AgreeUnlessDuplex p }
     ensures duplex { (p : TwoEnds) (steps : List Step) → StandsAt p steps → OfEachConnection IsShownAsAsked p }
     ensures confirmed_is_seen { (p : TwoEnds) (steps : List Step) → StandsAt p steps → OfEachConnection (ConfirmedIsSeen p) p }
-    ensures no_fault { (p : TwoEnds) (steps : List Step) → StandsAt p steps → OfEachConnection ShowNoFault p }
+    ensures no_fault { (p : TwoEnds) (steps : List Step) → StandsAt p steps → HasNoFault p }
     ensures ends { (p : TwoEnds) (steps : List Step) → StandsAt p steps → EndsForFewReasons p }
     ensures lost { (p : TwoEnds) (steps : List Step) → StandsAt p steps → LoseAsTheyEnd p }
     ensures all { (p : TwoEnds) → IsReached p → IsSafe p }

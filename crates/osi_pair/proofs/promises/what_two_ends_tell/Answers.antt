@@ -20,7 +20,7 @@ pub returns-clause-confirmed_is_seen : goal.returns-clause-confirmed_is_seen
 returns-clause-confirmed_is_seen c = promises.confirmed_is_seen c.what_two_tables_tell.ensures.confirmed
 
 pub returns-clause-no_fault : goal.returns-clause-no_fault
-returns-clause-no_fault c = promises.no_fault c.what_two_tables_tell.ensures.fault
+returns-clause-no_fault c = promises.no_fault c.what_two_tables_tell.ensures.faultless
 
 pub returns-clause-ends : goal.returns-clause-ends
 returns-clause-ends c = promises.few_reasons
@@ -36,7 +36,7 @@ returns-clause-all c p at = record {
   agreement = promises.agreement c.what_two_tables_tell.ensures.agreement p at.steps at.stands;
   duplex = promises.duplex c.what_two_tables_tell.ensures.duplex p at.steps at.stands;
   confirmed_is_seen = promises.confirmed_is_seen c.what_two_tables_tell.ensures.confirmed p at.steps at.stands;
-  no_fault = promises.no_fault c.what_two_tables_tell.ensures.fault p at.steps at.stands;
+  no_fault = promises.no_fault c.what_two_tables_tell.ensures.faultless p at.steps at.stands;
   ends = promises.few_reasons p at.steps at.stands;
   losses = promises.losses c.what_two_tables_tell.ensures.lost p at.steps at.stands;
   taken = record {
