@@ -1,11 +1,12 @@
 -- The units of what can be sent have a written form.
-use Rattle.std.proofs.Common.{◌≡◌, ◌∙◌, refl, sym, ap, subst, ℕ, ◌+◌, ◌<◌, ◌≤◌, ◌==◌, Bool, true, false, cond, List, [], ◌∷◌, length, Option, Some, None, option_map, if◌then◌else◌, arith}
+use Rattle.std.proofs.Common.{◌≡◌, ◌∙◌, refl, sym, ap, subst, ℕ, ◌+◌, ◌<◌, ◌≤◌, ◌==◌, Bool, true, false, cond, ◌&&◌, List, [], ◌∷◌, length, Option, Some, None, option_map, if◌then◌else◌, arith}
 use Rattle.std.proofs.lemmas.Bool.{le-leb, lt-ltb}
 use Rattle.osi_spdu.specs.declared.codes.Code.{Code}
 use Rattle.osi_spdu.specs.declared.codes.Code.TheVariants.{ConnectAcceptItem, SyncType, TokenItem, TransportDisconnect, ProtocolOptions, UserRequirements, Version, InitialNumber, Number, Reason, CallingSelector, CalledSelector, UserData, ExtendedUserData}
 use Rattle.osi_spdu.specs.declared.codes.Code.TheVariants as code
 use Rattle.osi_spdu.specs.declared.fields.ResyncType.{ResyncType}
 use Rattle.osi_spdu.specs.declared.fields.ResyncType.TheVariants.{Restart, Abandon, Set}
+use Rattle.osi_spdu.specs.declared.fields.TsduMaximumSize.{TsduMaximumSize}
 use Rattle.osi_spdu.specs.declared.kinds.Kind.{Kind}
 use Rattle.osi_spdu.specs.declared.kinds.Kind.TheVariants.{GiveTokens, Connect, DataTransfer, MinorSyncPoint}
 use Rattle.osi_spdu.specs.declared.kinds.Category.{Category}
@@ -16,7 +17,8 @@ use Rattle.osi_spdu.specs.declared.settings.Wish.TheVariants.{Asker, Answerer, C
 use Rattle.osi_spdu.specs.Codes.{number_of, is_same}
 use Rattle.osi_spdu.specs.Kinds.{category_of, codes_of, members_of, required_of, may_stand}
 use Rattle.osi_spdu.specs.Values.{digits_of, canonical}
-use Rattle.osi_spdu.specs.Fields.{wish_number, two_octets, setting_octets, resync_octet}
+use Rattle.osi_spdu.specs.Fields.{wish_number, two_octets, size_octets, setting_octets, resync_octet}
+use Rattle.osi_spdu.specs.Sizes.{written_sizes}
 use Rattle.osi_spdu.specs.Known.{Known, Contents, nothing, put, some_octets}
 use Rattle.osi_spdu.specs.Spelling.{HasInformation, EndsTsdu, MayFollow, StandTogether}
 use Rattle.osi_spdu.specs.Writing.{IsCanonical, IsFormedUnit, IsFormedTsdu, UnitFits, TsduFits, value_len, free_len, is_formed}
@@ -114,6 +116,14 @@ setting_good s =
     let d = ap (λ (n : ℕ). n == 3) e.3 ∙ not_three s.release in
     rw (a, b, c, d) refl
 
+sizes_good : (sizes : TsduMaximumSize) → IsGood code.TsduMaximumSize (option_map size_octets (written_sizes sizes))
+unfolding canonical
+sizes_good sizes = by ((sizes.from_asker == 0) && (sizes.from_answerer == 0))
+  where
+    by : (b : Bool) → IsGood code.TsduMaximumSize (option_map size_octets (if b then None else Some sizes))
+    by true v e = absurd cc
+    by false v e = one_good code.TsduMaximumSize (size_octets sizes) refl v e
+
 resync_good : (kind : ResyncType) → canonical code.ResyncType (resync_octet kind ∷ []) ≡ Some (resync_octet kind ∷ [])
 unfolding canonical
 resync_good Restart = refl
@@ -152,24 +162,25 @@ sync_good : (confirm : Bool) (known : Known) → IsCanonical known → IsCanonic
 sync_good true known is = is
 sync_good false known is = open_good known is
 
-terms_good : HaveDigits → (serial : Option ℕ) (setting : TokenSetting) (requirements : ℕ) → IsSmall serial → IsCanonical (terms serial setting requirements)
+terms_good : HaveDigits → (serial : Option ℕ) (setting : TokenSetting) (requirements : ℕ) (sizes : TsduMaximumSize) → IsSmall serial → IsCanonical (terms serial setting requirements sizes)
 unfolding canonical number_of
-terms_good digits serial setting requirements small =
+terms_good digits serial setting requirements sizes small =
     with_one ConnectAcceptItem [] _ refl refl refl
     (with_one ProtocolOptions (1 ∷ []) _ refl refl refl
+    (with_some code.TsduMaximumSize (option_map size_octets (written_sizes sizes)) _ (sizes_good sizes) refl refl
     (with_one Version (2 ∷ []) _ refl refl refl
     (with_some InitialNumber (option_map digits_of serial) _ (serial_good digits serial small) refl refl
     (with_one code.TokenSetting (setting_octets setting) _ (setting_good setting) refl refl
-    (with_one UserRequirements (two_octets requirements) _ refl refl refl no_value)))))
+    (with_one UserRequirements (two_octets requirements) _ refl refl refl no_value))))))
 
-connect_good : HaveDigits → (requirements : ℕ) (serial : Option ℕ) (wishes : TokenSetting) (calling called : Option (List ℕ)) (octets : List ℕ)
-    → IsSmall serial → IsAddress calling → IsAddress called → IsCanonical (connect_unit requirements serial wishes calling called octets).known
+connect_good : HaveDigits → (requirements : ℕ) (serial : Option ℕ) (wishes : TokenSetting) (calling called : Option (List ℕ)) (sizes : TsduMaximumSize) (octets : List ℕ)
+    → IsSmall serial → IsAddress calling → IsAddress called → IsCanonical (connect_unit requirements serial wishes calling called sizes octets).known
 unfolding number_of
-connect_good digits requirements serial wishes calling called octets small from to =
+connect_good digits requirements serial wishes calling called sizes octets small from to =
     with_user_data octets _
     (with_some CallingSelector calling _ (calling_good calling from) refl refl
     (with_some CalledSelector called _ (called_good called to) refl refl
-    (terms_good digits serial wishes requirements small)))
+    (terms_good digits serial wishes requirements sizes small)))
 
 tokens_good : (tokens : Tokens) → IsCanonical (put TokenItem (token_octet tokens ∷ []) nothing)
 unfolding number_of
@@ -194,8 +205,8 @@ kind_good kind known is = with_one code.ResyncType (resync_octet kind ∷ []) kn
 
 unit_good : HaveDigits → (m : Meaning) → IsNumbered m → IsAddressed m → IsCanonical (unit_of m).known
 unfolding unit_of
-unit_good digits (CN version_2 requirements serial wishes calling called octets) small to = connect_good digits requirements serial wishes calling called octets small to.0 to.1
-unit_good digits (AC version_2 requirements serial sides octets) small to = with_user_data octets _ (terms_good digits serial sides requirements small)
+unit_good digits (CN version_2 requirements serial wishes calling called sizes octets) small to = connect_good digits requirements serial wishes calling called sizes octets small to.0 to.1
+unit_good digits (AC version_2 requirements serial sides sizes octets) small to = with_user_data octets _ (terms_good digits serial sides requirements sizes small)
 unit_good digits (RF reason octets) small to = refuse_good reason octets
 unit_good digits (DT octets) small to = no_value
 unit_good digits (GT tokens) small to = tokens_good tokens
@@ -219,15 +230,15 @@ unfolding is_formed codes_of members_of required_of number_of
 minor_formed true n octets = refl
 minor_formed false n octets = refl
 
-connect_formed : (requirements : ℕ) (serial : Option ℕ) (wishes : TokenSetting) (calling called : Option (List ℕ)) (octets : List ℕ)
-    → is_formed Connect (connect_unit requirements serial wishes calling called octets).known ≡ true
+connect_formed : (requirements : ℕ) (serial : Option ℕ) (wishes : TokenSetting) (calling called : Option (List ℕ)) (sizes : TsduMaximumSize) (octets : List ℕ)
+    → is_formed Connect (connect_unit requirements serial wishes calling called sizes octets).known ≡ true
 unfolding is_formed codes_of members_of required_of number_of
-connect_formed requirements serial wishes calling called octets = refl
+connect_formed requirements serial wishes calling called sizes octets = refl
 
 unit_formed : (m : Meaning) → is_formed (unit_of m).kind (unit_of m).known ≡ true
 unfolding unit_of is_formed codes_of members_of required_of number_of
-unit_formed (CN version_2 requirements serial wishes calling called octets) = refl
-unit_formed (AC version_2 requirements serial sides octets) = refl
+unit_formed (CN version_2 requirements serial wishes calling called sizes octets) = refl
+unit_formed (AC version_2 requirements serial sides sizes octets) = refl
 unit_formed (RF reason octets) = refl
 unit_formed (DT octets) = refl
 unit_formed (GT tokens) = refl
@@ -267,15 +278,15 @@ unfolding free_len number_of
 minor_len true n octets = let d = data_len octets in omega arith
 minor_len false n octets = let d = data_len octets in omega arith
 
-connect_len : (requirements : ℕ) (serial : Option ℕ) (wishes : TokenSetting) (calling called : Option (List ℕ)) (octets : List ℕ)
-    → free_len (connect_unit requirements serial wishes calling called octets).known ≤ length octets
+connect_len : (requirements : ℕ) (serial : Option ℕ) (wishes : TokenSetting) (calling called : Option (List ℕ)) (sizes : TsduMaximumSize) (octets : List ℕ)
+    → free_len (connect_unit requirements serial wishes calling called sizes octets).known ≤ length octets
 unfolding free_len number_of
-connect_len requirements serial wishes calling called octets = let d = data_len octets in omega arith
+connect_len requirements serial wishes calling called sizes octets = let d = data_len octets in omega arith
 
 unit_len : (m : Meaning) → free_len (unit_of m).known ≤ 1 + length (user_data_of m)
 unfolding unit_of user_data_of free_len number_of
-unit_len (CN version_2 requirements serial wishes calling called octets) = let d = data_len octets in omega arith
-unit_len (AC version_2 requirements serial sides octets) = let d = data_len octets in omega arith
+unit_len (CN version_2 requirements serial wishes calling called sizes octets) = let d = data_len octets in omega arith
+unit_len (AC version_2 requirements serial sides sizes octets) = let d = data_len octets in omega arith
 unit_len (RF reason octets) = omega arith
 unit_len (DT octets) = omega arith
 unit_len (GT tokens) = omega arith

@@ -1,5 +1,5 @@
 -- What is sent is octets.
-use Rattle.std.proofs.Common.{◌≡◌, refl, subst, ℕ, suc, ◌+◌, ◌/◌, ◌%◌, ◌<◌, ◌≤◌, ◌==◌, Bool, true, false, cond, List, [], ◌∷◌, ◌++◌, length, length-append, nat_lt, Option, Some, None, option_map, if◌then◌else◌, arith}
+use Rattle.std.proofs.Common.{◌≡◌, refl, subst, ℕ, suc, ◌+◌, ◌/◌, ◌%◌, ◌<◌, ◌≤◌, ◌==◌, Bool, true, false, cond, ◌&&◌, List, [], ◌∷◌, ◌++◌, length, length-append, nat_lt, Option, Some, None, option_map, if◌then◌else◌, arith}
 use Rattle.std.proofs.lemmas.Bool.Decides.{nat_tests}
 use Rattle.std.proofs.lemmas.Nat.{and_le_r}
 use Rattle.std.specs.List.{AllByRecursion, flat_map}
@@ -11,6 +11,7 @@ use Rattle.osi_spdu.specs.declared.codes.Code.TheVariants.{ConnectionIdentifier,
 use Rattle.osi_spdu.specs.declared.codes.Code.TheVariants as code
 use Rattle.osi_spdu.specs.declared.fields.ResyncType.{ResyncType}
 use Rattle.osi_spdu.specs.declared.fields.ResyncType.TheVariants.{Restart, Abandon, Set}
+use Rattle.osi_spdu.specs.declared.fields.TsduMaximumSize.{TsduMaximumSize}
 use Rattle.osi_spdu.specs.declared.kinds.Kind.{Kind}
 use Rattle.osi_spdu.specs.declared.kinds.Kind.TheVariants.{GiveTokens}
 use Rattle.osi_spdu.specs.declared.settings.TokenSetting.{TokenSetting}
@@ -19,7 +20,8 @@ use Rattle.osi_spdu.specs.declared.settings.Wish.TheVariants.{Asker, Answerer, C
 use Rattle.osi_spdu.specs.Codes.{number_of, is_same, is_group}
 use Rattle.osi_spdu.specs.Kinds.{si_of, codes_of, members_of}
 use Rattle.osi_spdu.specs.Values.{significant, six_digits, digits_of}
-use Rattle.osi_spdu.specs.Fields.{wish_number, two_octets, setting_octets, resync_octet}
+use Rattle.osi_spdu.specs.Fields.{wish_number, two_octets, size_octets, setting_octets, resync_octet}
+use Rattle.osi_spdu.specs.Sizes.{written_sizes}
 use Rattle.osi_spdu.specs.Known.{Known, Contents, Units, nothing, put, some_octets}
 use Rattle.osi_spdu.specs.Spelling.{length_octets}
 use Rattle.osi_spdu.specs.Writing.{written_item, written_code, member_octets, members_octets, group_octets, value_octets, parameter_octets, body_octets, unit_octets, tsdu_octets, UnitFits, TsduFits}
@@ -184,6 +186,15 @@ serial_is : (serial : Option ℕ) → IfSome (option_map digits_of serial) IsOct
 serial_is None = tt
 serial_is (Some n) = digits_are n
 
+sizes_are : (sizes : TsduMaximumSize) → sizes.from_asker < 65536 → sizes.from_answerer < 65536 → IfSome (option_map size_octets (written_sizes sizes)) IsOctets
+sizes_are sizes asker answerer = by ((sizes.from_asker == 0) && (sizes.from_answerer == 0))
+  where
+    by : (b : Bool) → IfSome (option_map size_octets (if b then None else Some sizes)) IsOctets
+    by true = tt
+    by false =
+        octets_cons (sizes.from_asker / 256) (sizes.from_asker % 256 ∷ two_octets sizes.from_answerer) (omega arith)
+        (octets_cons (sizes.from_asker % 256) (two_octets sizes.from_answerer) (omega arith) (two_are sizes.from_answerer answerer))
+
 wish_small : (w : Wish) → wish_number w ≤ 2
 wish_small Asker = omega arith
 wish_small Answerer = omega arith
@@ -212,14 +223,16 @@ sync_known : (confirm : Bool) (known : Known) → AreKnown known → AreKnown (s
 sync_known true known is = is
 sync_known false known is = type_known known is
 
-terms_known : (serial : Option ℕ) (setting : TokenSetting) (requirements : ℕ) → requirements < 65536 → AreKnown (terms serial setting requirements)
-terms_known serial setting requirements small =
+terms_known : (serial : Option ℕ) (setting : TokenSetting) (requirements : ℕ) (sizes : TsduMaximumSize) → requirements < 65536 → sizes.from_asker < 65536
+    → sizes.from_answerer < 65536 → AreKnown (terms serial setting requirements sizes)
+terms_known serial setting requirements sizes small asker answerer =
     one_known ConnectAcceptItem [] _ octets_nil
     (one_known ProtocolOptions (1 ∷ []) _ (octet_is 1 (omega arith))
+    (some_known code.TsduMaximumSize (option_map size_octets (written_sizes sizes)) _ (sizes_are sizes asker answerer)
     (one_known Version (2 ∷ []) _ (octet_is 2 (omega arith))
     (some_known InitialNumber (option_map digits_of serial) _ (serial_is serial)
     (one_known code.TokenSetting (setting_octets setting) _ (setting_is setting)
-    (one_known UserRequirements (two_octets requirements) nothing (two_are requirements small) none_known)))))
+    (one_known UserRequirements (two_octets requirements) nothing (two_are requirements small) none_known))))))
 
 set_known : (setting : TokenSetting) (known : Known) → AreKnown known → AreKnown (put code.TokenSetting (setting_octets setting) known)
 set_known setting known is = one_known code.TokenSetting (setting_octets setting) known (setting_is setting) is
@@ -237,9 +250,9 @@ tokens_known tokens = one_known TokenItem (token_octet tokens ∷ []) nothing (t
 
 unit_known : (m : Meaning) → IsInOctets m → AreKnown (unit_of m).known
 unfolding unit_of
-unit_known (CN version_2 requirements serial wishes calling called octets) h =
-    data_known octets _ h.3 (some_known CallingSelector calling _ h.1 (some_known CalledSelector called _ h.2 (terms_known serial wishes requirements h.0)))
-unit_known (AC version_2 requirements serial sides octets) h = data_known octets _ h.1 (terms_known serial sides requirements h.0)
+unit_known (CN version_2 requirements serial wishes calling called sizes octets) h =
+    data_known octets _ h.5 (some_known CallingSelector calling _ h.1 (some_known CalledSelector called _ h.2 (terms_known serial wishes requirements sizes h.0 h.3 h.4)))
+unit_known (AC version_2 requirements serial sides sizes octets) h = data_known octets _ h.3 (terms_known serial sides requirements sizes h.0 h.1 h.2)
 unit_known (RF reason octets) h =
     one_known TransportDisconnect (1 ∷ []) _ (octet_is 1 (omega arith)) (one_known Reason (reason ∷ octets) nothing (octets_cons reason octets h.0 h.1) none_known)
 unit_known (DT octets) h = none_known

@@ -266,9 +266,9 @@ point_parts si tsdu head rest digits h r e d =
 
 plain_sendable : (p : PlainUnit) → IsSendable (plain_meaning p)
 unfolding user_data_of
-plain_sendable (plain.Data octets) = record { version = refl; numbered = tt; addressed = tt; short = omega arith }
-plain_sendable (plain.MinorPoint number) = record { version = refl; numbered = number.small; addressed = tt; short = omega arith }
-plain_sendable (plain.MinorAck number) = record { version = refl; numbered = number.small; addressed = tt; short = omega arith }
+plain_sendable (plain.Data octets) = record { version = refl; numbered = tt; sized = refl; addressed = tt; short = omega arith }
+plain_sendable (plain.MinorPoint number) = record { version = refl; numbered = number.small; sized = refl; addressed = tt; short = omega arith }
+plain_sendable (plain.MinorAck number) = record { version = refl; numbered = number.small; sized = refl; addressed = tt; short = omega arith }
 
 -- octets that are the written form of one of these say it
 pub said_plain : ((m : Meaning) → IsSendable m → tsdu_at (written m) ≡ Ok (spelled m)) → ((m : Meaning) → IsSendable m → said_by_units (spelled m) ≡ said_of m)

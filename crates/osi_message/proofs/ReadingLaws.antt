@@ -1,13 +1,16 @@
 -- What is written of a field is read as it.
-use Rattle.std.proofs.Common.{◌≡◌, ◌∙◌, ℕ, ◌+◌, ◌*◌, ◌/◌, ◌%◌, ◌≤◌, refl, ap, eqb, arith}
+use Rattle.std.proofs.Common.{◌≡◌, ◌∙◌, ℕ, ◌+◌, ◌*◌, ◌/◌, ◌%◌, ◌≤◌, ◌==◌, ◌&&◌, Bool, true, false, Some, None, option_map, if◌then◌else◌, refl, sym, ap, eqb, arith}
 use Rattle.std.specs.Int.RustNames.{bit_and}
+use Rattle.std.proofs.lemmas.Bool.{and_parts, eqb-true}
 use Rattle.std.proofs.lemmas.Nat.{and_assoc}
+use Rattle.osi_spdu.specs.declared.fields.TsduMaximumSize.{TsduMaximumSize}
 use Rattle.osi_spdu.specs.declared.settings.Wish.{Wish}
 use Rattle.osi_spdu.specs.declared.settings.Wish.TheVariants.{Asker, Answerer, Choice}
 use Rattle.osi_spdu.specs.declared.settings.TokenSetting.{TokenSetting}
-use Rattle.osi_spdu.specs.Fields.{wish_number, setting_octets}
+use Rattle.osi_spdu.specs.Fields.{wish_number, size_octets, setting_octets}
+use Rattle.osi_spdu.specs.Sizes.{written_sizes}
 use Rattle.osi_message.specs.Tokens.{named}
-use Rattle.osi_message.specs.Reading.{wish_named, setting_named, first_in}
+use Rattle.osi_message.specs.Reading.{wish_named, sizes_in, setting_named, first_in}
 
 same_bit : (t b : ℕ) → bit_and 85 b ≡ b → eqb (bit_and (bit_and t 85) b) b ≡ eqb (bit_and t b) b
 same_bit t b e = ap (λ (x : ℕ). eqb x b) (and_assoc b t 85 ∙ ap (bit_and t) e)
@@ -46,3 +49,22 @@ setting_again s =
     let c = ap wish_named e.2 ∙ wish_again s.major in
     let d = ap wish_named e.3 ∙ wish_again s.release in
     λ i. record { data_token = a i; minor = b i; major = c i; release = d i }
+
+-- two numbers of two octets are read as the sizes that they stand for
+pub sizes_again : (s : TsduMaximumSize) → sizes_in (Some (size_octets s)) ≡ s
+sizes_again s =
+    let a : 256 * (s.from_asker / 256) + s.from_asker % 256 ≡ s.from_asker = omega arith in
+    let b : 256 * (s.from_answerer / 256) + s.from_answerer % 256 ≡ s.from_answerer = omega arith in
+    λ i. record { from_asker = a i; from_answerer = b i }
+
+-- where nothing is written, both are 0
+pub written_again : (s : TsduMaximumSize) → sizes_in (option_map size_octets (written_sizes s)) ≡ s
+written_again s = by ((s.from_asker == 0) && (s.from_answerer == 0)) refl
+  where
+    by : (b : Bool) → ((s.from_asker == 0) && (s.from_answerer == 0)) ≡ b → sizes_in (option_map size_octets (if b then None else Some s)) ≡ s
+    by true e =
+        let p = and_parts (s.from_asker == 0) (s.from_answerer == 0) e in
+        let a = sym (eqb-true s.from_asker 0 p.0) in
+        let b = sym (eqb-true s.from_answerer 0 p.1) in
+        λ i. record { from_asker = a i; from_answerer = b i }
+    by false e = sizes_again s

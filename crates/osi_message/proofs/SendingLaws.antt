@@ -2,6 +2,7 @@
 use Rattle.std.proofs.Common.{◌≡◌, ◌∙◌, refl, sym, ap, ℕ, ◌≤◌, Bool, true, false, List, [], ◌∷◌, Option, Some, None, option_map, unwrap_or, if◌then◌else◌, arith}
 use Rattle.osi_spdu.specs.declared.fields.ResyncType.{ResyncType}
 use Rattle.osi_spdu.specs.declared.fields.ResyncType.TheVariants.{Restart, Abandon, Set}
+use Rattle.osi_spdu.specs.declared.fields.TsduMaximumSize.{TsduMaximumSize}
 use Rattle.osi_spdu.specs.declared.settings.TokenSetting.{TokenSetting}
 use Rattle.osi_spdu.specs.Codes.{number_of}
 use Rattle.osi_spdu.specs.Values.{digits_of, numeral}
@@ -13,7 +14,7 @@ use Rattle.osi_message.specs.Numbered.{IsSmall, IsNumbered}
 use Rattle.osi_message.specs.Reading.{octets_in, two_in, serial_in, number_in, resync_named, meaning, said_by_units, alone, behind}
 use Rattle.osi_message.specs.Written.{connect_unit, unit_of, is_second, alone_units, behind_tokens, spelled}
 use Rattle.osi_message.specs.Sendable.{said_of, is_of_version_2}
-use Rattle.osi_message.proofs.ReadingLaws.{setting_again}
+use Rattle.osi_message.proofs.ReadingLaws.{setting_again, written_again}
 use Rattle.osi_message.proofs.TokenLaws.{named_octet}
 
 -- numbers are read from the digits that they are written in
@@ -40,13 +41,13 @@ resync_again Abandon = refl
 resync_again Set = refl
 
 -- a CN with its selectors
-connect_again : HaveDigits → (requirements : ℕ) (serial : Option ℕ) (wishes : TokenSetting) (calling called : Option (List ℕ)) (octets : List ℕ)
-    → IsSmall serial → meaning (connect_unit requirements serial wishes calling called octets) ≡ CN true requirements serial wishes calling called octets
+connect_again : HaveDigits → (requirements : ℕ) (serial : Option ℕ) (wishes : TokenSetting) (calling called : Option (List ℕ)) (sizes : TsduMaximumSize) (octets : List ℕ)
+    → IsSmall serial → meaning (connect_unit requirements serial wishes calling called sizes octets) ≡ CN true requirements serial wishes calling called sizes octets
 unfolding meaning number_of
-connect_again digits requirements serial wishes calling called octets small =
+connect_again digits requirements serial wishes calling called sizes octets small =
     let r = two_again requirements in let n = serial_again digits serial small in
-    let w = setting_again wishes in let d = data_again octets in
-    λ i. CN true (r i) (n i) (w i) calling called (d i)
+    let w = setting_again wishes in let z = written_again sizes in let d = data_again octets in
+    λ i. CN true (r i) (n i) (w i) calling called (z i) (d i)
 
 minor_again : HaveDigits → (confirm : Bool) (n : ℕ) (octets : List ℕ) → n ≤ 999999 → meaning (unit_of (MIP confirm n octets)) ≡ MIP confirm n octets
 unfolding meaning unit_of number_of
@@ -55,13 +56,13 @@ minor_again digits false n octets small = let m = number_again digits n small in
 
 pub meaning_again : HaveDigits → (m : Meaning) → is_of_version_2 m ≡ true → IsNumbered m → meaning (unit_of m) ≡ m
 unfolding meaning unit_of number_of
-meaning_again digits (CN version_2 requirements serial wishes calling called octets) v small =
-    connect_again digits requirements serial wishes calling called octets small
-    ∙ ap (λ (b : Bool). CN b requirements serial wishes calling called octets) (sym v)
-meaning_again digits (AC version_2 requirements serial sides octets) v small =
+meaning_again digits (CN version_2 requirements serial wishes calling called sizes octets) v small =
+    connect_again digits requirements serial wishes calling called sizes octets small
+    ∙ ap (λ (b : Bool). CN b requirements serial wishes calling called sizes octets) (sym v)
+meaning_again digits (AC version_2 requirements serial sides sizes octets) v small =
     let r = two_again requirements in let n = serial_again digits serial small in
-    let w = setting_again sides in let d = data_again octets in let t = sym v in
-    λ i. AC (t i) (r i) (n i) (w i) (d i)
+    let w = setting_again sides in let z = written_again sizes in let d = data_again octets in let t = sym v in
+    λ i. AC (t i) (r i) (n i) (w i) (z i) (d i)
 meaning_again digits (RF reason octets) v small = refl
 meaning_again digits (DT octets) v small = refl
 meaning_again digits (GT tokens) v small = ap GT (named_octet tokens)

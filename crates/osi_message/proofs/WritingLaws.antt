@@ -13,9 +13,11 @@ use Rattle.osi_spdu.specs.declared.settings.TokenSetting.{TokenSetting}
 use Rattle.osi_spdu.specs.declared.fields.Reason.{Reason}
 use Rattle.osi_spdu.specs.declared.fields.ResyncType.{ResyncType}
 use Rattle.osi_spdu.specs.declared.fields.SyncType.TheVariants.{Open}
+use Rattle.osi_spdu.specs.declared.fields.TsduMaximumSize.{TsduMaximumSize}
 use Rattle.osi_spdu.specs.Codes.{number_of}
 use Rattle.osi_spdu.specs.Values.{digits_of}
 use Rattle.osi_spdu.specs.Fields.{setting_octets, resync_octet, bits_of, unit_bits}
+use Rattle.osi_spdu.specs.Sizes.{written_sizes}
 use Rattle.osi_spdu.specs.Known.{nothing, put}
 use Rattle.osi_spdu.specs.Params.{place_of, cells_of, slots_of, known_of, no_params}
 use Rattle.osi_message.specs.declared.tokens.Tokens.{Tokens}
@@ -32,21 +34,21 @@ serial_number serial = option_map (λ s. s.number) serial
 abbrev selector_octets : Option Selector → Option (List ℕ)
 selector_octets selector = option_map (λ s. s.octets.now) selector
 
-pub connect_known : (serial : Option Serial) (setting : TokenSetting) (requirements : Requirements) (calling called : Option Selector) (octets : Bor (List ℕ)) →
-    known_of (record no_params { connect_accept_item = true; protocol_options = Some 1; version = Some 2; initial_number = serial; token_setting = Some setting; user_requirements = Some requirements; calling_selector = calling; called_selector = called; user_data = Some octets }) ≡ with_data octets.now (put_some CallingSelector (selector_octets calling) (put_some CalledSelector (selector_octets called) (terms (serial_number serial) setting (unit_bits requirements))))
+pub connect_known : (serial : Option Serial) (setting : TokenSetting) (requirements : Requirements) (calling called : Option Selector) (sizes : TsduMaximumSize) (octets : Bor (List ℕ)) →
+    known_of (record no_params { connect_accept_item = true; protocol_options = Some 1; version = Some 2; initial_number = serial; token_setting = Some setting; user_requirements = Some requirements; tsdu_maximum_size = written_sizes sizes; calling_selector = calling; called_selector = called; user_data = Some octets }) ≡ with_data octets.now (put_some CallingSelector (selector_octets calling) (put_some CalledSelector (selector_octets called) (terms (serial_number serial) setting (unit_bits requirements) sizes)))
 unfolding known_of slots_of cells_of place_of number_of
-connect_known serial setting requirements calling called octets = λ i c. same c i
+connect_known serial setting requirements calling called sizes octets = λ i c. same c i
   where
-    same : (c : Code) → known_of (record no_params { connect_accept_item = true; protocol_options = Some 1; version = Some 2; initial_number = serial; token_setting = Some setting; user_requirements = Some requirements; calling_selector = calling; called_selector = called; user_data = Some octets }) c ≡ (with_data octets.now (put_some CallingSelector (selector_octets calling) (put_some CalledSelector (selector_octets called) (terms (serial_number serial) setting (unit_bits requirements))))) c
+    same : (c : Code) → known_of (record no_params { connect_accept_item = true; protocol_options = Some 1; version = Some 2; initial_number = serial; token_setting = Some setting; user_requirements = Some requirements; tsdu_maximum_size = written_sizes sizes; calling_selector = calling; called_selector = called; user_data = Some octets }) c ≡ (with_data octets.now (put_some CallingSelector (selector_octets calling) (put_some CalledSelector (selector_octets called) (terms (serial_number serial) setting (unit_bits requirements) sizes)))) c
     same InitialNumber = same_serial serial
     same _ = refl
 
-pub accept_known : (serial : Option Serial) (setting : TokenSetting) (requirements : Requirements) (octets : Bor (List ℕ)) →
-    known_of (record no_params { connect_accept_item = true; protocol_options = Some 1; version = Some 2; initial_number = serial; token_setting = Some setting; user_requirements = Some requirements; user_data = Some octets }) ≡ with_data octets.now (terms (serial_number serial) setting (unit_bits requirements))
+pub accept_known : (serial : Option Serial) (setting : TokenSetting) (requirements : Requirements) (sizes : TsduMaximumSize) (octets : Bor (List ℕ)) →
+    known_of (record no_params { connect_accept_item = true; protocol_options = Some 1; version = Some 2; initial_number = serial; token_setting = Some setting; user_requirements = Some requirements; tsdu_maximum_size = written_sizes sizes; user_data = Some octets }) ≡ with_data octets.now (terms (serial_number serial) setting (unit_bits requirements) sizes)
 unfolding known_of slots_of cells_of place_of number_of
-accept_known serial setting requirements octets = λ i c. same c i
+accept_known serial setting requirements sizes octets = λ i c. same c i
   where
-    same : (c : Code) → known_of (record no_params { connect_accept_item = true; protocol_options = Some 1; version = Some 2; initial_number = serial; token_setting = Some setting; user_requirements = Some requirements; user_data = Some octets }) c ≡ (with_data octets.now (terms (serial_number serial) setting (unit_bits requirements))) c
+    same : (c : Code) → known_of (record no_params { connect_accept_item = true; protocol_options = Some 1; version = Some 2; initial_number = serial; token_setting = Some setting; user_requirements = Some requirements; tsdu_maximum_size = written_sizes sizes; user_data = Some octets }) c ≡ (with_data octets.now (terms (serial_number serial) setting (unit_bits requirements) sizes)) c
     same InitialNumber = same_serial serial
     same _ = refl
 

@@ -3,6 +3,7 @@ use Rattle.osi_spdu.specs.Fields.{unit_bits}
 use Rattle.std.specs.Prelude.{ℕ, Bool, List, Option, option_map}
 use Rattle.osi_spdu.specs.declared.settings.TokenSetting.{TokenSetting}
 use Rattle.osi_spdu.specs.declared.fields.ResyncType.{ResyncType}
+use Rattle.osi_spdu.specs.declared.fields.TsduMaximumSize.{TsduMaximumSize}
 use Rattle.osi_spdu.specs.declared.selectors.Selector.{Selector}
 use Rattle.osi_message.specs.declared.tokens.Tokens.{Tokens}
 use Rattle.osi_message.specs.declared.messages.Message.{Message}
@@ -10,8 +11,8 @@ use Rattle.osi_message.specs.declared.messages.Message.TheVariants as message
 
 -- a unit with the fields that have a meaning here
 pub data Meaning : Type 0 where
-  CN : (version_2 : Bool) (requirements : ℕ) (serial : Option ℕ) (wishes : TokenSetting) (calling called : Option (List ℕ)) (octets : List ℕ) → Meaning
-  AC : (version_2 : Bool) (requirements : ℕ) (serial : Option ℕ) (sides : TokenSetting) (octets : List ℕ) → Meaning
+  CN : (version_2 : Bool) (requirements : ℕ) (serial : Option ℕ) (wishes : TokenSetting) (calling called : Option (List ℕ)) (sizes : TsduMaximumSize) (octets : List ℕ) → Meaning
+  AC : (version_2 : Bool) (requirements : ℕ) (serial : Option ℕ) (sides : TokenSetting) (sizes : TsduMaximumSize) (octets : List ℕ) → Meaning
   RF : (reason : ℕ) (octets : List ℕ) → Meaning
   DT : (octets : List ℕ) → Meaning
   GT : (tokens : Tokens) → Meaning
@@ -34,10 +35,10 @@ selector_octets selector = option_map (λ s. s.octets.now) selector
 
 -- what a unit in memory means
 abbrev pub meant_by : Message → Meaning
-meant_by (message.Connect version_2 requirements serial wishes calling called data_octets) =
-    CN version_2 (unit_bits requirements) (option_map (λ s. s.number) serial) wishes (selector_octets calling) (selector_octets called) data_octets.now
-meant_by (message.Accept version_2 requirements serial sides data_octets) =
-    AC version_2 (unit_bits requirements) (option_map (λ s. s.number) serial) sides data_octets.now
+meant_by (message.Connect version_2 requirements serial wishes calling called sizes data_octets) =
+    CN version_2 (unit_bits requirements) (option_map (λ s. s.number) serial) wishes (selector_octets calling) (selector_octets called) sizes data_octets.now
+meant_by (message.Accept version_2 requirements serial sides sizes data_octets) =
+    AC version_2 (unit_bits requirements) (option_map (λ s. s.number) serial) sides sizes data_octets.now
 meant_by (message.Refuse reason data_octets) = RF reason data_octets.now
 meant_by (message.Data data_octets) = DT data_octets.now
 meant_by (message.Give tokens) = GT tokens

@@ -9,8 +9,8 @@ IsSmall None = Unit {0}
 IsSmall (Some n) = n ≤ 999999
 
 abbrev pub IsNumbered : Meaning → Type 0
-IsNumbered (CN version_2 requirements serial wishes calling called octets) = IsSmall serial
-IsNumbered (AC version_2 requirements serial sides octets) = IsSmall serial
+IsNumbered (CN version_2 requirements serial wishes calling called sizes octets) = IsSmall serial
+IsNumbered (AC version_2 requirements serial sides sizes octets) = IsSmall serial
 IsNumbered (MIP confirm n octets) = n ≤ 999999
 IsNumbered (MIA n octets) = n ≤ 999999
 IsNumbered (MAP n octets) = n ≤ 999999

@@ -9,8 +9,10 @@ use Rattle.osi_spdu.specs.declared.settings.Wish.TheVariants.{Asker, Answerer, C
 use Rattle.osi_spdu.specs.declared.settings.TokenSetting.{TokenSetting}
 use Rattle.osi_spdu.specs.declared.fields.ResyncType.{ResyncType}
 use Rattle.osi_spdu.specs.declared.fields.ResyncType.TheVariants.{Restart, Abandon, Set}
+use Rattle.osi_spdu.specs.declared.fields.TsduMaximumSize.{TsduMaximumSize}
 use Rattle.osi_spdu.specs.declared.faults.SpduFault.{SpduFault}
 use Rattle.osi_spdu.specs.Values.{numeral}
+use Rattle.osi_spdu.specs.Sizes.{no_sizes}
 use Rattle.osi_spdu.specs.Known.{Known, Contents, Units}
 use Rattle.osi_spdu.specs.Reading.{tsdu_at}
 use Rattle.osi_message.specs.declared.tokens.Tokens.{Tokens}
@@ -45,6 +47,11 @@ requirements_in (Some value) = two_in value
 
 abbrev pub wish_named : ℕ → Wish
 wish_named pair = if pair == 0 then Asker else if pair == 1 then Answerer else Choice
+
+-- absent sizes are 0, no limit
+abbrev pub sizes_in : Option (List ℕ) → TsduMaximumSize
+sizes_in None = no_sizes
+sizes_in (Some value) = record { from_asker = two_in value; from_answerer = two_in (drop 2 value) }
 
 -- an absent setting is 00
 abbrev pub setting_named : ℕ → TokenSetting
@@ -85,9 +92,10 @@ data_in known = octets_in (known UserData)
 abbrev pub meaning_by : Kind → Known → List ℕ → Meaning
 meaning_by Connect known information =
     CN (has_version_2 known) (requirements_in (known UserRequirements)) (serial_in (known InitialNumber)) (setting_in known)
-    (known CallingSelector) (known CalledSelector) (data_in known)
+    (known CallingSelector) (known CalledSelector) (sizes_in (known code.TsduMaximumSize)) (data_in known)
 meaning_by Accept known information =
-    AC (has_version_2 known) (requirements_in (known UserRequirements)) (serial_in (known InitialNumber)) (setting_in known) (data_in known)
+    AC (has_version_2 known) (requirements_in (known UserRequirements)) (serial_in (known InitialNumber)) (setting_in known)
+    (sizes_in (known code.TsduMaximumSize)) (data_in known)
 meaning_by Refuse known information = RF (octet_in (known Reason)) (drop 1 (octets_in (known Reason)))
 meaning_by DataTransfer known information = DT information
 meaning_by GiveTokens known information = GT (tokens_in known)

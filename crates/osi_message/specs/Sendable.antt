@@ -1,5 +1,6 @@
 -- What can be sent, and what is said by it.
 use Rattle.std.specs.Prelude.{◌≡◌, ◌<◌, ◌≤◌, ℕ, Bool, true, List, length, Option, None, Some, if◌then◌else◌}
+use Rattle.osi_spdu.specs.Sizes.{are_sizes}
 use Rattle.osi_message.specs.Tokens.{no_token}
 use Rattle.osi_message.specs.Meanings.{Meaning, CN, AC, GT}
 use Rattle.osi_message.specs.Numbered.{IsNumbered}
@@ -12,9 +13,15 @@ said_of m = if is_second m then behind (GT no_token) m else alone m
 
 -- a CN and an AC are of version 2
 abbrev pub is_of_version_2 : Meaning → Bool
-is_of_version_2 (CN version_2 requirements serial wishes calling called octets) = version_2
-is_of_version_2 (AC version_2 requirements serial sides octets) = version_2
+is_of_version_2 (CN version_2 requirements serial wishes calling called sizes octets) = version_2
+is_of_version_2 (AC version_2 requirements serial sides sizes octets) = version_2
 is_of_version_2 _ = true
+
+-- each size that a CN or an AC names is 0, or at least 64 octets
+abbrev pub is_sized : Meaning → Bool
+is_sized (CN version_2 requirements serial wishes calling called sizes octets) = are_sizes sizes
+is_sized (AC version_2 requirements serial sides sizes octets) = are_sizes sizes
+is_sized _ = true
 
 -- a selector has at most 16 octets
 abbrev pub IsAddress : Option (List ℕ) → Type 0
@@ -22,12 +29,13 @@ IsAddress None = Unit {0}
 IsAddress (Some octets) = length octets ≤ 16
 
 abbrev pub IsAddressed : Meaning → Type 0
-IsAddressed (CN version_2 requirements serial wishes calling called octets) = IsAddress calling × IsAddress called
+IsAddressed (CN version_2 requirements serial wishes calling called sizes octets) = IsAddress calling × IsAddress called
 IsAddressed _ = Unit {0}
 
--- what the parameters of a unit have room for
+-- what the parameters of a unit have room for, of version 2 and with the sizes that a user may give
 pub record IsSendable (m : Meaning) : Type 0 where
   pub version : is_of_version_2 m ≡ true
   pub numbered : IsNumbered m
+  pub sized : is_sized m ≡ true
   pub addressed : IsAddressed m
   pub short : length (user_data_of m) < 65000

@@ -5,10 +5,12 @@ use Rattle.osi_spdu.specs.declared.kinds.Kind.TheVariants.{GiveTokens, PleaseTok
 use Rattle.osi_spdu.specs.declared.codes.Code.{Code}
 use Rattle.osi_spdu.specs.declared.codes.Code.TheVariants.{ConnectAcceptItem, SyncType, TokenItem, TransportDisconnect, ProtocolOptions, UserRequirements, Version, InitialNumber, Number, Reason, CallingSelector, CalledSelector, UserData}
 use Rattle.osi_spdu.specs.declared.codes.Code.TheVariants as code
+use Rattle.osi_spdu.specs.declared.fields.TsduMaximumSize.{TsduMaximumSize}
 use Rattle.osi_spdu.specs.declared.settings.TokenSetting.{TokenSetting}
 use Rattle.osi_spdu.specs.Codes.{is_same}
 use Rattle.osi_spdu.specs.Values.{digits_of}
-use Rattle.osi_spdu.specs.Fields.{two_octets, setting_octets, resync_octet}
+use Rattle.osi_spdu.specs.Fields.{two_octets, size_octets, setting_octets, resync_octet}
+use Rattle.osi_spdu.specs.Sizes.{written_sizes}
 use Rattle.osi_spdu.specs.Known.{Known, nothing, put, settled, Contents, Units}
 use Rattle.osi_spdu.specs.Writing.{tsdu_octets}
 use Rattle.osi_message.specs.Tokens.{token_octet}
@@ -26,20 +28,20 @@ with_data octets known = settled (put UserData octets known)
 abbrev pub unit_with : Kind → Known → Contents
 unit_with kind known = record { kind = kind; known = known; information = [] }
 
--- protocol options 00 and version 02; the number and the wishes or sides; the requirements
-abbrev pub terms : Option ℕ → TokenSetting → ℕ → Known
-terms serial setting requirements =
-    put ConnectAcceptItem [] (put ProtocolOptions (1 ∷ []) (put Version (2 ∷ [])
+-- protocol options 01 and version 02; the sizes, where one of them is not 0; the number and the wishes or sides; the requirements
+abbrev pub terms : Option ℕ → TokenSetting → ℕ → TsduMaximumSize → Known
+terms serial setting requirements sizes =
+    put ConnectAcceptItem [] (put ProtocolOptions (1 ∷ []) (put_some code.TsduMaximumSize (option_map size_octets (written_sizes sizes)) (put Version (2 ∷ [])
     (put_some InitialNumber (option_map digits_of serial) (put code.TokenSetting (setting_octets setting)
-    (put UserRequirements (two_octets requirements) nothing)))))
+    (put UserRequirements (two_octets requirements) nothing))))))
 
 abbrev pub numbered : ℕ → Known
 numbered n = put Number (digits_of n) nothing
 
 -- a CN with its selectors
-abbrev pub connect_unit : ℕ → Option ℕ → TokenSetting → Option (List ℕ) → Option (List ℕ) → List ℕ → Contents
-connect_unit requirements serial wishes calling called octets =
-    unit_with Connect (with_data octets (put_some CallingSelector calling (put_some CalledSelector called (terms serial wishes requirements))))
+abbrev pub connect_unit : ℕ → Option ℕ → TokenSetting → Option (List ℕ) → Option (List ℕ) → TsduMaximumSize → List ℕ → Contents
+connect_unit requirements serial wishes calling called sizes octets =
+    unit_with Connect (with_data octets (put_some CallingSelector calling (put_some CalledSelector called (terms serial wishes requirements sizes))))
 
 -- a sync type that is absent asks for the confirmation
 abbrev pub sync_type : Bool → Known → Known
@@ -47,8 +49,8 @@ sync_type confirm known = if confirm then known else put SyncType (1 ∷ []) kno
 
 -- the unit of a meaning
 unfoldable pub unit_of : Meaning → Contents
-unit_of (CN version_2 requirements serial wishes calling called octets) = connect_unit requirements serial wishes calling called octets
-unit_of (AC version_2 requirements serial sides octets) = unit_with Accept (with_data octets (terms serial sides requirements))
+unit_of (CN version_2 requirements serial wishes calling called sizes octets) = connect_unit requirements serial wishes calling called sizes octets
+unit_of (AC version_2 requirements serial sides sizes octets) = unit_with Accept (with_data octets (terms serial sides requirements sizes))
 unit_of (RF reason octets) = unit_with Refuse (put TransportDisconnect (1 ∷ []) (put Reason (reason ∷ octets) nothing))
 unit_of (DT octets) = record { kind = DataTransfer; known = nothing; information = octets }
 unit_of (GT tokens) = unit_with GiveTokens (put TokenItem (token_octet tokens ∷ []) nothing)
@@ -68,8 +70,8 @@ unit_of AA = unit_with AbortAccept nothing
 
 -- data, and what has to do with points, stands behind a GT
 unfoldable pub is_second : Meaning → Bool
-is_second (CN version_2 requirements serial wishes calling called octets) = false
-is_second (AC version_2 requirements serial sides octets) = false
+is_second (CN version_2 requirements serial wishes calling called sizes octets) = false
+is_second (AC version_2 requirements serial sides sizes octets) = false
 is_second (RF reason octets) = false
 is_second (DT octets) = true
 is_second (GT tokens) = false
@@ -103,8 +105,8 @@ written m = tsdu_octets (spelled m)
 
 -- what of the octets of a user stands in a parameter, whose length is bounded
 unfoldable pub user_data_of : Meaning → List ℕ
-user_data_of (CN version_2 requirements serial wishes calling called octets) = octets
-user_data_of (AC version_2 requirements serial sides octets) = octets
+user_data_of (CN version_2 requirements serial wishes calling called sizes octets) = octets
+user_data_of (AC version_2 requirements serial sides sizes octets) = octets
 user_data_of (RF reason octets) = octets
 user_data_of (DT octets) = []
 user_data_of (GT tokens) = []

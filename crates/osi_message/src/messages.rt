@@ -1,5 +1,5 @@
 use crate::tokens::Tokens;
-use osi_spdu::{Requirements, ResyncType, Selector, Serial, TokenSetting};
+use osi_spdu::{Requirements, ResyncType, Selector, Serial, TokenSetting, TsduMaximumSize};
 
 /// A session unit, with the fields that have a meaning here (X.225 section 8).
 #[derive(Clone, Copy)]
@@ -18,6 +18,8 @@ pub enum Message<'a> {
         calling: Option<Selector<'a>>,
         /// The address of the user that is asked.
         called: Option<Selector<'a>>,
+        /// The largest TSDU in each direction that it names, in octets, 0 for no limit.
+        sizes: TsduMaximumSize,
         /// User data.
         user_data: &'a [u8],
     },
@@ -31,6 +33,8 @@ pub enum Message<'a> {
         serial: Option<Serial>,
         /// The side that each token has.
         sides: TokenSetting,
+        /// The largest TSDU in each direction that it names, in octets, 0 for no limit.
+        sizes: TsduMaximumSize,
         /// User data.
         user_data: &'a [u8],
     },

@@ -7,13 +7,14 @@ ghost use Rattle.osi_spdu.specs.declared.codes.Code.TheVariants as code;
 ghost use Rattle.osi_spdu.specs.Units.{said_by};
 ghost use Rattle.osi_spdu.specs.Params.{known_of};
 ghost use Rattle.osi_message.specs.Meanings.{meant_by};
-ghost use Rattle.osi_message.specs.Reading.{meaning, meaning_by, has_version_2, requirements_in, serial_in, setting_in, data_in, tokens_in, number_in, asks, octet_in, resync_named};
+ghost use Rattle.osi_message.specs.Reading.{meaning, meaning_by, has_version_2, requirements_in, serial_in, setting_in, data_in, tokens_in, number_in, asks, octet_in, resync_named, sizes_in};
 
 use crate::messages::Message;
 use crate::tokens::Tokens;
 use bitflags::Flags;
 use osi_spdu::{
-    Kind, Params, Requirements, ResyncType, Serial, Spdu, SyncType, TokenSetting, Wish, laws,
+    Kind, Params, Requirements, ResyncType, Serial, Spdu, SyncType, TokenSetting, TsduMaximumSize,
+    Wish, laws,
 };
 
 /// The requirements of a CN or an AC that names none: half-duplex, minor synchronize, activity
@@ -75,6 +76,15 @@ fn setting(params: &Params) -> TokenSetting
     }
 }
 
+fn sizes(params: &Params) -> TsduMaximumSize
+    ensures { result ≡ sizes_in (known_of params.now code.TsduMaximumSize) }
+{
+    match params.tsdu_maximum_size() {
+        None => TsduMaximumSize::NONE,
+        Some(sizes) => sizes,
+    }
+}
+
 fn tokens(params: &Params) -> Tokens
     ensures { result ≡ tokens_in (known_of params.now) }
 {
@@ -128,6 +138,7 @@ fn connect<'a>(params: &Params<'a>) -> Message<'a>
         wishes: setting(params),
         calling: params.calling_selector(),
         called: params.called_selector(),
+        sizes: sizes(params),
         user_data: user_data(params),
     }
 }
@@ -140,6 +151,7 @@ fn accept<'a>(params: &Params<'a>) -> Message<'a>
         requirements: requirements(params),
         serial: serial(params),
         sides: setting(params),
+        sizes: sizes(params),
         user_data: user_data(params),
     }
 }

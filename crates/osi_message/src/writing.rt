@@ -8,12 +8,13 @@ ghost use Rattle.osi_spdu.specs.Groups.{units_of};
 ghost use Rattle.osi_spdu.specs.Units.{said_by};
 ghost use Rattle.osi_spdu.specs.Writing.{is_joined, UnitFits, TsduFits};
 ghost use Rattle.osi_message.specs.Meanings.{selector_octets, meant_by, AC, RF, GT, PT, MIP};
-ghost use Rattle.osi_message.specs.Written.{connect_unit, alone_units, behind_tokens, is_second, unit_of, spelled, user_data_of};
+ghost use Rattle.osi_message.specs.Written.{connect_unit, alone_units, behind_tokens, is_second, unit_of, spelled, written, user_data_of};
 
 use crate::messages::Message;
 use crate::tokens::Tokens;
 use osi_spdu::{
     Group, Reason, Requirements, Selector, Serial, Spdu, SyncType, Terms, TokenSetting,
+    TsduMaximumSize, written_len,
 };
 
 /// A unit of category 0 or 1 (X.225 section 6.3.7), alone.
@@ -40,10 +41,11 @@ fn connect<'a>(
     wishes: TokenSetting,
     calling: Option<Selector<'a>>,
     called: Option<Selector<'a>>,
+    sizes: TsduMaximumSize,
     user_data: &'a [u8],
 ) -> Spdu<'a>
     ensures units { said_by result ≡ connect_unit (unit_bits requirements) (option_map (λ s. s.number) serial)
-        wishes (selector_octets calling.entry) (selector_octets called.entry) user_data.entry.now }
+        wishes (selector_octets calling.entry) (selector_octets called.entry) sizes user_data.entry.now }
     ensures place { is_joined (said_by result).kind None ≡ true }
     ensures fits { length user_data.entry.now < 65000 → UnitFits (said_by result) }
 {
@@ -51,6 +53,7 @@ fn connect<'a>(
         initial_number: serial,
         token_setting: wishes,
         user_requirements: requirements,
+        tsdu_maximum_size: sizes,
     };
     Spdu::connect(terms, calling, called, user_data)
 }
@@ -59,9 +62,10 @@ fn accept<'a>(
     requirements: Requirements,
     serial: Option<Serial>,
     sides: TokenSetting,
+    sizes: TsduMaximumSize,
     user_data: &'a [u8],
 ) -> Spdu<'a>
-    ensures units { said_by result ≡ unit_of (AC true (unit_bits requirements) (option_map (λ s. s.number) serial) sides user_data.entry.now) }
+    ensures units { said_by result ≡ unit_of (AC true (unit_bits requirements) (option_map (λ s. s.number) serial) sides sizes user_data.entry.now) }
     ensures place { is_joined (said_by result).kind None ≡ true }
     ensures fits { length user_data.entry.now < 65000 → UnitFits (said_by result) }
 {
@@ -69,6 +73,7 @@ fn accept<'a>(
         initial_number: serial,
         token_setting: sides,
         user_requirements: requirements,
+        tsdu_maximum_size: sizes,
     };
     Spdu::accept(terms, user_data)
 }
@@ -145,16 +150,26 @@ impl<'a> Message<'a> {
                 wishes,
                 calling,
                 called,
+                sizes,
                 user_data,
                 ..
-            } => connect(requirements, serial, wishes, calling, called, user_data),
+            } => connect(
+                requirements,
+                serial,
+                wishes,
+                calling,
+                called,
+                sizes,
+                user_data,
+            ),
             Message::Accept {
                 requirements,
                 serial,
                 sides,
+                sizes,
                 user_data,
                 ..
-            } => accept(requirements, serial, sides, user_data),
+            } => accept(requirements, serial, sides, sizes, user_data),
             Message::Refuse { reason, user_data } => refuse(reason, user_data),
             Message::Give { tokens } => give(tokens),
             Message::Please { tokens, user_data } => please(tokens, user_data),
@@ -214,5 +229,14 @@ impl<'a> Message<'a> {
         } else {
             alone(self.first_unit())
         }
+    }
+
+    /// How many octets its written form is. It stands out of line, for the room of its units.
+    #[inline(never)]
+    pub fn written_len(&self) -> usize
+        requires { length (user_data_of (meant_by self.now)) < 65000 }
+        ensures { result ≡ length (written (meant_by self.now)) }
+    {
+        written_len(&self.group())
     }
 }

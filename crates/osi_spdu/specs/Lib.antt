@@ -8,6 +8,7 @@ pub mod Writing
 pub mod UnitLengths
 pub mod Octets
 pub mod Fields
+pub mod Sizes
 pub mod Params
 pub mod Counted
 pub mod Behind

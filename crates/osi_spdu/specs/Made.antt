@@ -13,6 +13,7 @@ use Rattle.osi_spdu.specs.declared.serials.Serial.{Serial}
 use Rattle.osi_spdu.specs.declared.settings.TokenSetting.{TokenSetting}
 use Rattle.osi_spdu.specs.declared.tokens.TokenSet.{TokenSet}
 use Rattle.osi_spdu.specs.Known.{Contents}
+use Rattle.osi_spdu.specs.Sizes.{written_sizes}
 use Rattle.osi_spdu.specs.Params.{no_params, known_of}
 
 -- a unit with these parameters, and no user information
@@ -28,6 +29,7 @@ connect_params terms calling_selector called_selector user_data = record no_para
   initial_number = terms.initial_number;
   token_setting = Some terms.token_setting;
   user_requirements = Some terms.user_requirements;
+  tsdu_maximum_size = written_sizes terms.tsdu_maximum_size;
   calling_selector = calling_selector;
   called_selector = called_selector;
   user_data = Some user_data;
@@ -42,6 +44,7 @@ accept_params terms user_data = record no_params {
   initial_number = terms.initial_number;
   token_setting = Some terms.token_setting;
   user_requirements = Some terms.user_requirements;
+  tsdu_maximum_size = written_sizes terms.tsdu_maximum_size;
   user_data = Some user_data;
 }
 

@@ -1,5 +1,5 @@
 -- What the value of each parameter may be, and how it is written.
-use Rattle.std.specs.Prelude.{ℕ, ◌+◌, ◌-◌, ◌*◌, ◌/◌, ◌%◌, ◌==◌, ◌&&◌, not, Bool, true, List, [], ◌∷◌, length, nat_lt, nat_le, Option, Some, None, if◌then◌else◌, option_map}
+use Rattle.std.specs.Prelude.{ℕ, ◌+◌, ◌-◌, ◌*◌, ◌/◌, ◌%◌, ◌==◌, ◌&&◌, ◌||◌, not, Bool, true, List, [], ◌∷◌, length, nat_lt, nat_le, Option, Some, None, if◌then◌else◌, option_map}
 use Rattle.std.specs.List.{list_all}
 use Rattle.std.specs.Int.RustNames.{bit_and}
 use Rattle.osi_spdu.specs.declared.codes.Code.{Code}
@@ -59,6 +59,10 @@ is_numeral digits = nat_lt 0 (length digits) && nat_le (length digits) 6 && list
 -- the number of one to six digits
 abbrev pub numeral : List ℕ → Option ℕ
 numeral digits = if is_numeral digits then Some (decimal digits) else None
+
+-- the largest TSDU that a user gives for one direction: 0 for no limit, or 64 to 65,535 octets
+abbrev pub is_size : ℕ → Bool
+is_size n = (n == 0) || (nat_le 64 n && nat_le n 65535)
 
 -- The value as it is written, or None where it is refused. A group's own value is that it is there.
 unfoldable pub canonical : Code → List ℕ → Option (List ℕ)

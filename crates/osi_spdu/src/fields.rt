@@ -34,7 +34,7 @@ pub enum Enclosure {
 }
 
 /// The largest TSDU in each direction, in octets, 0 for no limit (X.225 section 8, TSDU maximum
-/// size).
+/// size). What is read may name 1 to 63 octets too, which no user gives.
 #[derive(Clone, Copy, PartialEq, Eq, Debug)]
 pub struct TsduMaximumSize {
     /// From the side that asks for the connection.

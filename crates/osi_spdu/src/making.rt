@@ -7,7 +7,7 @@ ghost use Rattle.osi_spdu.specs.Made.{made, connect_params, accept_params, refus
 ghost use Rattle.osi_spdu.specs.Params.{known_of, no_params};
 ghost use Rattle.osi_spdu.specs.Writing.{is_joined, UnitFits};
 
-use crate::fields::{Reason, ResyncType, SyncType};
+use crate::fields::{Reason, ResyncType, SyncType, TsduMaximumSize};
 use crate::kinds::Kind;
 use crate::params::Params;
 use crate::requirements::Requirements;
@@ -27,6 +27,8 @@ pub struct Terms {
     pub token_setting: TokenSetting,
     /// The functional units.
     pub user_requirements: Requirements,
+    /// The largest TSDU in each direction, which is written where a number is not 0.
+    pub tsdu_maximum_size: TsduMaximumSize,
 }
 
 #[tactic(auto, unfolding(crate::specs::Writing::is_formed, crate::specs::Writing::is_joined, crate::specs::Params::known_of, crate::specs::Params::slots_of, crate::specs::Params::cells_of, crate::specs::Params::place_of, crate::specs::Codes::number_of, crate::specs::Kinds::codes_of, crate::specs::Kinds::members_of, crate::specs::Kinds::required_of, crate::specs::Kinds::category_of, crate::specs::Kinds::may_stand))]
@@ -52,6 +54,7 @@ impl<'a> Spdu<'a> {
             initial_number: terms.initial_number,
             token_setting: Some(terms.token_setting),
             user_requirements: Some(terms.user_requirements),
+            tsdu_maximum_size: terms.tsdu_maximum_size.written(),
             calling_selector,
             called_selector,
             user_data: Some(user_data),
@@ -73,6 +76,7 @@ impl<'a> Spdu<'a> {
             initial_number: terms.initial_number,
             token_setting: Some(terms.token_setting),
             user_requirements: Some(terms.user_requirements),
+            tsdu_maximum_size: terms.tsdu_maximum_size.written(),
             user_data: Some(user_data),
             ..Params::NONE
         };

@@ -54,8 +54,10 @@ fn sets_of_units(rt: HostRuntime) {
 }
 
 #[test]
-fn numbers_selectors_and_wishes(rt: HostRuntime) {
+fn numbers_selectors_sizes_and_wishes(rt: HostRuntime) {
     assert!(rt; Serial::new(999_999).is_some() && Serial::new(1_000_000).is_none());
     assert!(rt; Selector::new(&[0; 16]).is_some() && Selector::new(&[0; 17]).is_none());
+    assert!(rt; TsduSize::new(0).is_some() && TsduSize::new(63).is_none());
+    assert!(rt; TsduSize::new(64).is_some() && TsduSize::new(65_535).is_some());
     assert!(rt; Wish::from(Side::Answerer) == Wish::Answerer);
 }

@@ -86,10 +86,10 @@ units_numbered (unit ∷ units) = (meaning_numbered unit, units_numbered units)
 
 -- the numbers in a unit in memory are those that a point may have
 pub meant_numbered : (m : Message) → IsNumbered (meant_by m)
-meant_numbered (message.Connect version_2 requirements None wishes calling called octets) = tt
-meant_numbered (message.Connect version_2 requirements (Some serial) wishes calling called octets) = serial.small
-meant_numbered (message.Accept version_2 requirements None sides octets) = tt
-meant_numbered (message.Accept version_2 requirements (Some serial) sides octets) = serial.small
+meant_numbered (message.Connect version_2 requirements None wishes calling called sizes octets) = tt
+meant_numbered (message.Connect version_2 requirements (Some serial) wishes calling called sizes octets) = serial.small
+meant_numbered (message.Accept version_2 requirements None sides sizes octets) = tt
+meant_numbered (message.Accept version_2 requirements (Some serial) sides sizes octets) = serial.small
 meant_numbered (message.MinorPoint confirm number octets) = number.small
 meant_numbered (message.MinorAck number octets) = number.small
 meant_numbered (message.MajorPoint number octets) = number.small

@@ -16,8 +16,8 @@ unreachable-requires c = by c.args.self refl
     not_so m e = subst (λ (x : Message). is_second (meant_by x) ≡ false) e c.requires
 
     by : (m : Message) → c.args.self ≡ m → ⊥
-    by (message.Connect v r s w a b o) e = c.in_default.not-Connect v r s w a b o e
-    by (message.Accept v r s w o) e = c.in_default.not-Accept v r s w o e
+    by (message.Connect v r s w a b z o) e = c.in_default.not-Connect v r s w a b z o e
+    by (message.Accept v r s w z o) e = c.in_default.not-Accept v r s w z o e
     by (message.Refuse r o) e = c.in_default.not-Refuse r o e
     by (message.Give t) e = c.in_default.not-Give t e
     by (message.Please t o) e = c.in_default.not-Please t o e

@@ -1,0 +1,13 @@
+use Rattle.std.proofs.Common.{◌≡◌, ◌∙◌, Some, ap, option_map, sym}
+use Rattle.osi_spdu.specs.declared.codes.Code.TheVariants as code
+use Rattle.osi_spdu.specs.Fields.{size_octets}
+use Rattle.osi_spdu.specs.Params.{known_of}
+use Rattle.osi_message.specs.Reading.{sizes_in}
+use Rattle.osi_message.proofs.ReadingLaws.{sizes_again}
+use Rattle.osi_message.proofs.reading.sizes.Goals as goal
+
+pub returns-in-Some : goal.returns-in-Some
+returns-in-Some c =
+    let there : known_of c.args.params.now code.TsduMaximumSize ≡ Some (size_octets c.in-Some.sizes) =
+    sym c.tsdu_maximum_size.ensures ∙ ap (option_map size_octets) c.in-Some.is in
+    sym (ap sizes_in there ∙ sizes_again c.in-Some.sizes)
