@@ -4,6 +4,8 @@ use Rattle.std.proofs.Common.{◌⊎◌, inl, inr, ◌≡◌, refl, sym, ◌∙�
 use Rattle.std.specs.List.{list_any}
 use Rattle.osi_spdu.specs.declared.faults.SpduFault.{SpduFault}
 use Rattle.osi_spdu.specs.declared.settings.TokenSetting.{TokenSetting}
+use Rattle.osi_spdu.specs.declared.fields.TsduMaximumSize.{TsduMaximumSize}
+use Rattle.osi_spdu.specs.Sizes.{are_sizes}
 use Rattle.osi_message.specs.Meanings.{Meaning, CN, RF, DN, AB, AA}
 use Rattle.osi_message.specs.Reading.{Said, said_at}
 use Rattle.osi_session.specs.declared.faults.UnitFault.{UnitFault}
@@ -69,14 +71,14 @@ refused_over true false x y m h e = let w : RF 134 [] ≡ m = cc in (subst (λ (
 refused_over false transfers x y m h e = let w : RF 132 [] ≡ m = cc in (subst (λ (u : Meaning). is_answer u ≡ true) w refl, h)
 
 -- the state after a CN that is accepted
-abbrev becomes_answering : State → ℕ → Option ℕ → TokenSetting → State
-becomes_answering s requirements serial wishes =
-    record s { phase = Answering; units = functional_units requirements; wishes = wishes; proposed = unwrap_or serial 0 }
+abbrev becomes_answering : State → ℕ → Option ℕ → TokenSetting → TsduMaximumSize → State
+becomes_answering s requirements serial wishes sizes =
+    record s { phase = Answering; units = functional_units requirements; wishes = wishes; proposed = unwrap_or serial 0; sizes = sizes }
 
 good_answers : (s : State) (u : Meaning) → Answers (good s u)
-good_answers s (CN version_2 requirements serial wishes from to octets) = record {
-  last = λ m e. refused_over version_2 (has_data (functional_units requirements))
-      (becomes_answering s requirements serial wishes) (without_tokens Ended s) m refl e;
+good_answers s (CN version_2 requirements serial wishes from to sizes octets) = record {
+  last = λ m e. refused_over version_2 (has_data (functional_units requirements) && are_sizes sizes)
+      (becomes_answering s requirements serial wishes sizes) (without_tokens Ended s) m refl e;
 }
 good_answers s (AB bits octets) = sends_one _ AA refl refl refl
 good_answers s _ = silent _ refl
@@ -301,7 +303,7 @@ octets_awaited s octets = read_awaited s (said_at octets) (octets_alone octets)
 -- ---- in which phases a call is accepted
 
 callable : (c : Call) (p : Phase) → may_call p c ≡ true → may_abort p ≡ true
-callable (Accept requirements serial sides octets) p h = implied is_answering may_abort refl p h
+callable (Accept requirements serial sides sizes octets) p h = implied is_answering may_abort refl p h
 callable (Refuse octets) p h = implied is_answering may_abort refl p h
 callable (Data octets) p h = implied is_ready may_abort refl p h
 callable (Give tokens) p h = implied may_give may_abort refl p h

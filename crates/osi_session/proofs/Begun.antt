@@ -14,8 +14,8 @@ chosen true s x y h k = h
 chosen false s x y h k = k
 
 becomes_begun : (s : State) (u : Meaning) → Begins s (becomes s u)
-becomes_begun s (CN version_2 requirements serial wishes from to octets) = chosen (is_acceptable version_2 requirements) s _ _ (λ k. absurd (cc)) (λ k. absurd (cc))
-becomes_begun s (AC version_2 requirements serial sides octets) = λ k. absurd (cc)
+becomes_begun s (CN version_2 requirements serial wishes from to sizes octets) = chosen (is_acceptable version_2 requirements sizes) s _ _ (λ k. absurd (cc)) (λ k. absurd (cc))
+becomes_begun s (AC version_2 requirements serial sides sizes octets) = λ k. absurd (cc)
 becomes_begun s (RF reason octets) = λ k. absurd (cc)
 becomes_begun s (DT octets) = λ k. k
 becomes_begun s (GT tokens) = λ k. k

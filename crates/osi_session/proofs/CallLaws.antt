@@ -1,17 +1,19 @@
 -- The table of calls never answers that memory is wanted, and sends no more user data than fits.
-use Rattle.std.proofs.Common.{◌≡◌, refl, sym, subst, ◌<◌, Bool, true, false, not, nat_le, List, [], ◌∷◌, length, Ok, Err, arith, if◌then◌else◌}
+use Rattle.std.proofs.Common.{◌≡◌, refl, sym, ap, subst, ◌<◌, Bool, true, false, not, ◌&&◌, nat_le, List, [], ◌∷◌, length, Ok, Err, arith, if◌then◌else◌}
 use Rattle.std.proofs.lemmas.Bool.{leb-true}
 use Rattle.osi_session.specs.declared.faults.CallError.{CallError}
 use Rattle.osi_session.specs.declared.faults.CallError.TheVariants as error
 use Rattle.osi_session.specs.declared.state.State.{State}
 use Rattle.osi_session.specs.Phases.{is_over}
 use Rattle.osi_session.specs.Calls.{Call, Accept, Refuse, Data, Give, Please, Minor, MinorConfirm, Major, MajorConfirm, Restart, RestartConfirm, Release, ReleaseAccept, ReleaseRefuse, Abort}
-use Rattle.osi_session.specs.Allowed.{Test, Step, Answer, first_error, needs, may_call, octets_of, most_of, sends, met, sized, allowed}
+use Rattle.osi_session.specs.Allowed.{Test, Step, Answer, first_error, needs, may_call, octets_of, most_of, after, sends, met, sized, allowed}
+use Rattle.osi_session.specs.Sizes.{fits_limit}
 use Rattle.osi_session.specs.Sessions.{is_memory, Refused, RefusedBy}
+use Rattle.osi_message.specs.Meanings.{Meaning}
 use Rattle.osi_message.specs.Written.{user_data_of}
 use Rattle.osi_session.specs.Moves.{called, Standing, react}
 use Rattle.osi_session.proofs.MoveLaws.{call_errs, call_passes}
-use Rattle.osi_session.proofs.Passed.{passed}
+use Rattle.osi_session.proofs.Passed.{first_error_ok, passed}
 
 abbrev AllNamed : List Test → Type 0
 AllNamed [] = Unit {0}
@@ -33,7 +35,7 @@ tests_named [] a e n k h = k h
 tests_named (t ∷ ts) a e n k h = if_named t.0 (first_error ts a) t.1 e n.0 (tests_named ts a e n.1 k) h
 
 needs_named : (s : State) (c : Call) → AllNamed (needs s c)
-needs_named s (Accept requirements serial sides octets) = (refl, tt)
+needs_named s (Accept requirements serial sides sizes octets) = (refl, tt)
 needs_named s (Refuse octets) = tt
 needs_named s (Data octets) = (refl, (refl, tt))
 needs_named s (Give tokens) = (refl, (refl, (refl, tt)))
@@ -62,7 +64,7 @@ unfolding allowed
 allowed_named s c e h =
     else_named (is_over s.phase) _ error.Ended e refl
     (else_named (not (may_call s.phase c)) _ error.BadState e refl
-    (sized_named (nat_le (length (octets_of c)) (most_of c)) (met s c) e (met_named s c e))) h
+    (sized_named (nat_le (length (octets_of c)) (most_of c) && fits_limit s c (sends s c)) (met s c) e (met_named s c e))) h
 
 -- an error of the table is answered as it is
 pub refused : (s : Standing) (c : Call) (e : CallError) → allowed s.state c ≡ Err e → Refused e (react s (called c)).error
@@ -74,7 +76,7 @@ wanting s c x h = call_passes s c x h
 
 sends_short : (s : State) (c : Call) → nat_le (length (octets_of c)) (most_of c) ≡ true → length (user_data_of (sends s c)) < 65000
 unfolding user_data_of
-sends_short s (Accept requirements serial sides octets) h = let k = leb-true (length octets) 10240 h in omega arith
+sends_short s (Accept requirements serial sides sizes octets) h = let k = leb-true (length octets) 10240 h in omega arith
 sends_short s (Refuse octets) h = let k = leb-true (length octets) 10240 h in omega arith
 sends_short s (Data octets) h = omega arith
 sends_short s (Give tokens) h = omega arith
@@ -89,6 +91,34 @@ sends_short s (Release octets) h = let k = leb-true (length octets) 10240 h in o
 sends_short s (ReleaseAccept octets) h = let k = leb-true (length octets) 10240 h in omega arith
 sends_short s (ReleaseRefuse octets) h = let k = leb-true (length octets) 10240 h in omega arith
 sends_short s (Abort octets) h = let k = leb-true (length octets) 10240 h in omega arith
+
+abbrev met_step : State → Call → Step
+met_step s c = record { next = after s c; sent = sends s c }
+
+-- what a call gives whose tests hold
+met_is : (s : State) (c : Call) (x : Step) → met s c ≡ Ok x → x ≡ met_step s c
+unfolding met
+met_is s c x h = let w : _ ≡ _ = (first_error_ok (needs s c) _ x h).1 in cc
+
+met_sends : (s : State) (c : Call) (x : Step) → met s c ≡ Ok x → x.sent ≡ sends s c
+met_sends s c x h = ap (λ (y : Step). y.sent) (met_is s c x h)
+
+pub met_short : (s : State) (c : Call) (x : Step) → met s c ≡ Ok x → nat_le (length (octets_of c)) (most_of c) ≡ true → length (user_data_of x.sent) < 65000
+met_short s c x h k = subst (λ (m : Meaning). length (user_data_of m) < 65000) (sym (met_sends s c x h)) (sends_short s c k)
+
+fits_sent : (s : State) (c : Call) (x : Step) (b : Bool) → met s c ≡ Ok x → fits_limit s c x.sent ≡ b → fits_limit s c (sends s c) ≡ b
+fits_sent s c x b h k = subst (λ (m : Meaning). fits_limit s c m ≡ b) (met_sends s c x h) k
+
+-- a call whose tests hold is refused or accepted by the length of what it sends
+pub limit_refused : (s : State) (c : Call) (x : Step) → is_over s.phase ≡ false → may_call s.phase c ≡ true → met s c ≡ Ok x
+    → nat_le (length (octets_of c)) (most_of c) ≡ true → fits_limit s c x.sent ≡ false → allowed s c ≡ Err error.TooLong
+unfolding allowed
+limit_refused s c x o p h n k = let f = fits_sent s c x false h k in rw (o, p, n, f, h) refl
+
+pub limit_passed : (s : State) (c : Call) (x : Step) → is_over s.phase ≡ false → may_call s.phase c ≡ true → met s c ≡ Ok x
+    → nat_le (length (octets_of c)) (most_of c) ≡ true → fits_limit s c x.sent ≡ true → allowed s c ≡ Ok x
+unfolding allowed
+limit_passed s c x o p h n k = let f = fits_sent s c x true h k in rw (o, p, n, f, h) refl
 
 pub sent_short : (s : State) (c : Call) (x : Step) → allowed s c ≡ Ok x → length (user_data_of x.sent) < 65000
 sent_short s c x h =

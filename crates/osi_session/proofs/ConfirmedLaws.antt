@@ -99,7 +99,7 @@ unfolding major_confirmed
 major_rises base v h = h.confirmed_to
 
 after_rises : (s : State) (c : Call) → call_renews c ≡ false → AllHold (needs s c) → IsSound s → Rises s.numbers (after s c).numbers
-after_rises s (Accept requirements serial sides octets) r t h = absurd (cc)
+after_rises s (Accept requirements serial sides sizes octets) r t h = absurd (cc)
 after_rises s (Refuse octets) r t h = same s.numbers
 after_rises s (Data octets) r t h = same s.numbers
 after_rises s (Give tokens) r t h = same s.numbers
@@ -125,8 +125,8 @@ acknowledged : (s : State) (n : ℕ) (b : Bool) → (not s.numbers.answers && (n
 acknowledged s n b h = leb-true s.numbers.confirmed n (and_parts (nat_le s.numbers.confirmed n) b (and_parts (not s.numbers.answers) (nat_le s.numbers.confirmed n && b) h).1).0
 
 becomes_rises : (s : State) (u : Meaning) → unit_renews u ≡ false → AllMet (conditions s u) → IsSound s → Rises s.numbers (becomes s u).numbers
-becomes_rises s (CN version_2 requirements serial wishes from to octets) r t h = chosen s.numbers (is_acceptable version_2 requirements) _ _ (same s.numbers) (same s.numbers)
-becomes_rises s (AC version_2 requirements serial sides octets) r t h = absurd (cc)
+becomes_rises s (CN version_2 requirements serial wishes from to sizes octets) r t h = chosen s.numbers (is_acceptable version_2 requirements sizes) _ _ (same s.numbers) (same s.numbers)
+becomes_rises s (AC version_2 requirements serial sides sizes octets) r t h = absurd (cc)
 becomes_rises s (RF reason octets) r t h = same s.numbers
 becomes_rises s (DT octets) r t h = same s.numbers
 becomes_rises s (GT tokens) r t h = same s.numbers

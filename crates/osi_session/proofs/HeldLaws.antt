@@ -103,7 +103,7 @@ to_other : (s : State) (units : FunctionalUnits) (sides : Sides) (t : Token) →
 to_other s units sides t h = or_right (has s.held t) (to_answerer units sides t) (sym (answerer_has units sides t) ∙ h)
 
 after_held : (s : State) (c : Call) (t : Token) → HeldBy (call_gives s c t) s t (after s c).held
-after_held s (Accept requirements serial sides octets) t = to_other s (functional_units requirements) (settle (functional_units requirements) s.wishes sides) t
+after_held s (Accept requirements serial sides sizes octets) t = to_other s (functional_units requirements) (settle (functional_units requirements) s.wishes sides) t
 after_held s (Refuse octets) t = none s t
 after_held s (Data octets) t = kept s t
 after_held s (Give tokens) t = less s tokens t
@@ -132,9 +132,9 @@ restart_held true s x t e = subst (HeldBy false s t) (sym e) (none s t)
 restart_held false s x t e = kept s t
 
 becomes_held : (s : State) (u : Meaning) (t : Token) → HeldBy (unit_gives s u t) s t (becomes s u).held
-becomes_held s (CN version_2 requirements serial wishes from to octets) t = opened_held (is_acceptable version_2 requirements) s
-    (record s { phase = Answering; units = functional_units requirements; wishes = wishes; proposed = unwrap_or serial 0 }) (without_tokens Ended s) t refl refl
-becomes_held s (AC version_2 requirements serial sides octets) t =
+becomes_held s (CN version_2 requirements serial wishes from to sizes octets) t = opened_held (is_acceptable version_2 requirements sizes) s
+    (record s { phase = Answering; units = functional_units requirements; wishes = wishes; proposed = unwrap_or serial 0; sizes = sizes }) (without_tokens Ended s) t refl refl
+becomes_held s (AC version_2 requirements serial sides sizes octets) t =
     let units = both_units s.units (functional_units requirements) in
     to_one s units (stated units sides) t
 becomes_held s (RF reason octets) t = none s t
@@ -172,7 +172,7 @@ unit_held s u t = unit_cases (λ next. HeldBy (unit_gives s u t) s t next.held) 
 
 -- after an accepted call
 after_holds : (s : State) (c : Call) (t : Token) → has (after s c).held t ≡ call_holds s c t
-after_holds s (Accept requirements serial sides octets) t = answerer_has (functional_units requirements) (settle (functional_units requirements) s.wishes sides) t
+after_holds s (Accept requirements serial sides sizes octets) t = answerer_has (functional_units requirements) (settle (functional_units requirements) s.wishes sides) t
 after_holds s (Refuse octets) t = no_token_has t
 after_holds s (Data octets) t = refl
 after_holds s (Give tokens) t = without_has s.held tokens t
@@ -198,9 +198,9 @@ either_holds false x y t p q h k = k
 
 -- after a good unit
 pub unit_holds_it : (s : State) (u : Meaning) (t : Token) → has (becomes s u).held t ≡ unit_holds s u t
-unit_holds_it s (CN version_2 requirements serial wishes from to octets) t = either_holds (is_acceptable version_2 requirements)
-    (record s { phase = Answering; units = functional_units requirements; wishes = wishes; proposed = unwrap_or serial 0 }) (without_tokens Ended s) t _ _ refl (no_token_has t)
-unit_holds_it s (AC version_2 requirements serial sides octets) t =
+unit_holds_it s (CN version_2 requirements serial wishes from to sizes octets) t = either_holds (is_acceptable version_2 requirements sizes)
+    (record s { phase = Answering; units = functional_units requirements; wishes = wishes; proposed = unwrap_or serial 0; sizes = sizes }) (without_tokens Ended s) t _ _ refl (no_token_has t)
+unit_holds_it s (AC version_2 requirements serial sides sizes octets) t =
     let units = both_units s.units (functional_units requirements) in asker_has units (stated units sides) t
 unit_holds_it s (RF reason octets) t = no_token_has t
 unit_holds_it s (DT octets) t = refl

@@ -16,6 +16,7 @@ pub mod RunLaws
 pub mod SendableLaws
 pub mod SessionLaws
 pub mod ShownLaws
+pub mod SizeLaws
 pub mod SoundCalls
 pub mod SoundNumbers
 pub mod SoundUnits

@@ -32,7 +32,7 @@ chosen cause true p x y h k = h
 chosen cause false p x y h k = k
 
 after_opens : (s : State) (c : Call) → may_call s.phase c ≡ true → OpenedBy (call_opens c) s.phase (after s c).phase
-after_opens s (Accept requirements serial sides octets) p = λ h k. refl
+after_opens s (Accept requirements serial sides sizes octets) p = λ h k. refl
 after_opens s (Refuse octets) p = λ h k. absurd (cc)
 after_opens s (Data octets) p = same _ s.phase
 after_opens s (Give tokens) p = same _ s.phase
@@ -53,8 +53,8 @@ call_opened s c = call_cases (λ next. OpenedBy (call_opens c) s.state.phase nex
     (λ x e. let q = passed s.state c x e in subst (λ (y : Step). OpenedBy (call_opens c) s.state.phase y.next.phase) (sym q.gives) (after_opens s.state c q.phase))
 
 becomes_opens : (s : State) (u : Meaning) → is_expected s.phase u ≡ true → OpenedBy (unit_opens u) s.phase (becomes s u).phase
-becomes_opens s (CN version_2 requirements serial wishes from to octets) p = chosen _ (is_acceptable version_2 requirements) s.phase _ _ (λ h k. absurd (cc)) (λ h k. absurd (cc))
-becomes_opens s (AC version_2 requirements serial sides octets) p = λ h k. refl
+becomes_opens s (CN version_2 requirements serial wishes from to sizes octets) p = chosen _ (is_acceptable version_2 requirements sizes) s.phase _ _ (λ h k. absurd (cc)) (λ h k. absurd (cc))
+becomes_opens s (AC version_2 requirements serial sides sizes octets) p = λ h k. refl
 becomes_opens s (RF reason octets) p = λ h k. absurd (cc)
 becomes_opens s (DT octets) p = same _ s.phase
 becomes_opens s (GT tokens) p = same _ s.phase

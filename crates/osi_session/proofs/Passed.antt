@@ -1,11 +1,13 @@
 -- What an accepted call has passed.
-use Rattle.std.proofs.Common.{◌≡◌, refl, sym, ap, Bool, true, false, not, List, [], ◌∷◌, length, nat_le, Ok, Err, if◌then◌else◌}
+use Rattle.std.proofs.Common.{◌≡◌, refl, sym, ap, Bool, true, false, not, ◌&&◌, List, [], ◌∷◌, length, nat_le, Ok, Err, if◌then◌else◌}
+use Rattle.std.proofs.lemmas.Bool.{and_parts}
 use Rattle.osi_session.specs.declared.faults.CallError.{CallError}
 use Rattle.osi_session.specs.declared.faults.CallError.TheVariants as error
 use Rattle.osi_session.specs.declared.state.State.{State}
 use Rattle.osi_session.specs.declared.phases.Phase.{Phase}
 use Rattle.osi_session.specs.Phases.{is_over, is_ready, is_answering, is_major_due, is_restart_due, is_release_due, may_give, may_ask, may_confirm_minor, may_restart, may_abort}
 use Rattle.osi_session.specs.Calls.{Call, Accept, Refuse, Data, Give, Please, Minor, MinorConfirm, Major, MajorConfirm, Restart, RestartConfirm, Release, ReleaseAccept, ReleaseRefuse, Abort}
+use Rattle.osi_session.specs.Sizes.{fits_limit}
 use Rattle.osi_session.proofs.PhaseLaws.{excluded}
 use Rattle.osi_session.specs.Allowed.{Test, Step, Answer, first_error, needs, may_call, octets_of, most_of, after, sends, met, sized, allowed, AllHold, Passed}
 
@@ -17,7 +19,7 @@ if_err : (b : Bool) (a : Answer) (e : CallError) (x : Step) → (if b then Err e
 if_err false a e x h = (refl, h)
 if_err true a e x h = absurd (cc)
 
-first_error_ok : (ts : List Test) (a : Answer) (x : Step) → first_error ts a ≡ Ok x → AllHold ts × (a ≡ Ok x)
+pub first_error_ok : (ts : List Test) (a : Answer) (x : Step) → first_error ts a ≡ Ok x → AllHold ts × (a ≡ Ok x)
 first_error_ok [] a x h = (tt, h)
 first_error_ok (t ∷ ts) a x h =
     let one = if_ok t.0 (first_error ts a) t.1 x h in
@@ -38,16 +40,17 @@ unfolding allowed met
 passed s c x h =
     let a = if_err (is_over s.phase) _ error.Ended x h in
     let b = phase_ok (may_call s.phase c) _ x a.1 in
-    let d = sized_ok (nat_le (length (octets_of c)) (most_of c)) _ x b.1 in
+    let d = sized_ok (nat_le (length (octets_of c)) (most_of c) && fits_limit s c (sends s c)) _ x b.1 in
+    let f = and_parts (nat_le (length (octets_of c)) (most_of c)) (fits_limit s c (sends s c)) d.0 in
     let e = first_error_ok (needs s c) _ x d.1 in
-    record { phase = b.0; needed = e.0; size = d.0; gives = (let w : _ ≡ _ = e.1 in cc) }
+    record { phase = b.0; needed = e.0; size = f.0; limit = f.1; gives = (let w : _ ≡ _ = e.1 in cc) }
 
 all_pass : (ts : List Test) (a : Answer) → AllHold ts → first_error ts a ≡ a
 all_pass [] a h = refl
 all_pass (t ∷ ts) a h = rw h.0 (all_pass ts a h.1)
 
 over_calls : (c : Call) (p : Phase) → may_call p c ≡ true → is_over p ≡ false
-over_calls (Accept requirements serial sides octets) p h = excluded is_answering is_over refl p h
+over_calls (Accept requirements serial sides sizes octets) p h = excluded is_answering is_over refl p h
 over_calls (Refuse octets) p h = excluded is_answering is_over refl p h
 over_calls (Data octets) p h = excluded is_ready is_over refl p h
 over_calls (Give tokens) p h = excluded may_give is_over refl p h
@@ -69,4 +72,4 @@ unfolding allowed met
 accepted s c x h =
     let o = over_calls c s.phase h.phase in
     let t = all_pass (needs s c) (Ok (record { next = after s c; sent = sends s c })) h.needed in
-    rw (o, h.phase, h.size, t) (ap Ok (sym h.gives))
+    rw (o, h.phase, h.size, h.limit, t) (ap Ok (sym h.gives))

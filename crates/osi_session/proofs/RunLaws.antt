@@ -25,6 +25,7 @@ use Rattle.osi_session.proofs.TsduLaws.{respond_sound, respond_begun}
 use Rattle.osi_session.proofs.PhaseLaws.{implied, excluded}
 use Rattle.osi_session.proofs.RunCases.{call_cases, unit_cases, said_kept, taken_cases, fault_cases, opened_cases, refused_cases, broken_cases}
 use Rattle.osi_session.proofs.SoundCalls.{bare, call_sound, call_begun}
+use Rattle.osi_session.proofs.SizeLaws.{user_sizes}
 use Rattle.osi_session.proofs.SoundNumbers.{from_ordered}
 
 -- ---- what is true at all times
@@ -42,7 +43,7 @@ inputs_sound s [] has h = h
 inputs_sound s (input ∷ inputs) has h = inputs_sound (after_input s input) inputs has.1 (input_sound s input has.0 h)
 
 pub awaiting_fresh : IsFresh awaiting
-awaiting_fresh = record { phase = refl; held = refl; base = refl; numbers = refl; first = omega arith }
+awaiting_fresh = record { phase = refl; held = refl; base = refl; numbers = refl; first = omega arith; sizes = refl }
 
 pub asking_fresh : (o : Opening) → IsFresh (asking o)
 asking_fresh o = record {
@@ -51,6 +52,7 @@ asking_fresh o = record {
   base = refl;
   numbers = refl;
   first = first_small (has_points (functional_units (unit_bits o.requirements))) o.serial.number o.serial.small;
+  sizes = user_sizes o.sizes;
 }
 
 pub fresh_sound : (s : State) → IsFresh s → IsSound s
@@ -64,6 +66,7 @@ fresh_sound s h =
       major = λ k. absurd (cc);
       restart = λ k. absurd (cc);
       tokens = λ k. h.held;
+      sizes = h.sizes;
     }
 
 -- ---- what is over stays over

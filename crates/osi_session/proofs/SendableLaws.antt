@@ -1,5 +1,6 @@
 -- What an accepted call sends, and what a TSDU is answered by, can be sent.
 use Rattle.osi_spdu.specs.Fields.{unit_bits}
+use Rattle.osi_spdu.specs.Sizes.{are_sizes}
 use Rattle.std.proofs.Common.{◌≡◌, refl, sym, subst, ℕ, ◌<◌, Bool, true, false, not, ◌&&◌, nat_le, nat_lt, List, [], ◌∷◌, length, Option, Some, None, Ok, if◌then◌else◌, arith}
 use Rattle.std.proofs.lemmas.Bool.{leb-true, ltb-true, and_parts}
 use Rattle.osi_session.specs.declared.faults.UnitFault.{UnitFault}
@@ -17,15 +18,16 @@ use Rattle.osi_session.specs.Sound.{IsSound}
 use Rattle.osi_session.specs.Allowed.{Step, last_number, needs, may_call, sends, allowed, AllHold}
 use Rattle.osi_session.specs.Respond.{Outcome, si, conditions, first_fault, is_expected, drops, reply_for, first_reply, judged, take_expected, in_aborting, in_ended, respond_unit, is_faulty, verdict, respond_all, acting, respond}
 use Rattle.osi_message.specs.Written.{user_data_of}
-use Rattle.osi_message.specs.Sendable.{IsAddress, IsAddressed, IsSendable, is_of_version_2}
+use Rattle.osi_message.specs.Sendable.{IsAddress, IsAddressed, IsSendable, is_of_version_2, is_sized}
 use Rattle.osi_session.specs.Moves.{called, Standing, react}
 use Rattle.osi_session.specs.Sessions.{CanBeSent}
 use Rattle.osi_session.proofs.MoveLaws.{call_reply}
 use Rattle.osi_session.proofs.CallLaws.{sent_short}
 use Rattle.osi_session.proofs.Passed.{passed}
+use Rattle.osi_session.proofs.SizeLaws.{answered_are, user_sizes}
 
 sends_version : (s : State) (c : Call) → is_of_version_2 (sends s c) ≡ true
-sends_version s (Accept requirements serial sides octets) = refl
+sends_version s (Accept requirements serial sides sizes octets) = refl
 sends_version s (Refuse octets) = refl
 sends_version s (Data octets) = refl
 sends_version s (Give tokens) = refl
@@ -42,7 +44,7 @@ sends_version s (ReleaseRefuse octets) = refl
 sends_version s (Abort octets) = refl
 
 sends_addressed : (s : State) (c : Call) → IsAddressed (sends s c)
-sends_addressed s (Accept requirements serial sides octets) = tt
+sends_addressed s (Accept requirements serial sides sizes octets) = tt
 sends_addressed s (Refuse octets) = tt
 sends_addressed s (Data octets) = tt
 sends_addressed s (Give tokens) = tt
@@ -63,7 +65,7 @@ serial_small true serial h = omega arith
 serial_small false serial h = tt
 
 sends_numbered : (s : State) (c : Call) → HasSerial c → may_call s.phase c ≡ true → AllHold (needs s c) → IsSound s → IsNumbered (sends s c)
-sends_numbered s (Accept requirements serial sides octets) small p t h = serial_small (has_points (functional_units requirements)) serial small
+sends_numbered s (Accept requirements serial sides sizes octets) small p t h = serial_small (has_points (functional_units requirements)) serial small.0
 sends_numbered s (Refuse octets) small p t h = tt
 sends_numbered s (Data octets) small p t h = tt
 sends_numbered s (Give tokens) small p t h = tt
@@ -82,6 +84,23 @@ sends_numbered s (ReleaseAccept octets) small p t h = tt
 sends_numbered s (ReleaseRefuse octets) small p t h = tt
 sends_numbered s (Abort octets) small p t h = tt
 
+sends_sized : (s : State) (c : Call) → HasSerial c → IsSound s → is_sized (sends s c) ≡ true
+sends_sized s (Accept requirements serial sides sizes octets) small h = answered_are s.sizes sizes h.sizes small.1
+sends_sized s (Refuse octets) small h = refl
+sends_sized s (Data octets) small h = refl
+sends_sized s (Give tokens) small h = refl
+sends_sized s (Please tokens octets) small h = refl
+sends_sized s (Minor confirm octets) small h = refl
+sends_sized s (MinorConfirm n octets) small h = refl
+sends_sized s (Major octets) small h = refl
+sends_sized s (MajorConfirm octets) small h = refl
+sends_sized s (Restart n wishes octets) small h = refl
+sends_sized s (RestartConfirm sides octets) small h = refl
+sends_sized s (Release octets) small h = refl
+sends_sized s (ReleaseAccept octets) small h = refl
+sends_sized s (ReleaseRefuse octets) small h = refl
+sends_sized s (Abort octets) small h = refl
+
 -- what an accepted call sends can be sent
 pub sent_sendable : (s : State) (c : Call) (x : Step) → IsSound s → HasSerial c → allowed s c ≡ Ok x → IsSendable x.sent
 sent_sendable s c x sound small h =
@@ -89,6 +108,7 @@ sent_sendable s c x sound small h =
     record {
       version = subst (λ (y : Step). is_of_version_2 y.sent ≡ true) (sym q.gives) (sends_version s c);
       numbered = subst (λ (y : Step). IsNumbered y.sent) (sym q.gives) (sends_numbered s c small q.phase q.needed sound);
+      sized = subst (λ (y : Step). is_sized y.sent ≡ true) (sym q.gives) (sends_sized s c small sound);
       addressed = subst (λ (y : Step). IsAddressed y.sent) (sym q.gives) (sends_addressed s c);
       short = sent_short s c x h;
     }
@@ -107,6 +127,7 @@ unfolding user_data_of
 asked_sendable o few = record {
   version = refl;
   numbered = serial_small (has_points (functional_units (unit_bits o.requirements))) o.serial.number (let s = o.serial.small in omega arith);
+  sized = user_sizes o.sizes;
   addressed = (address o.calling_selector, address o.called_selector);
   short = few;
 }
@@ -115,23 +136,24 @@ asked_sendable o few = record {
 
 refuse_sendable : (reason : ℕ) → IsSendable (RF reason [])
 unfolding user_data_of
-refuse_sendable reason = record { version = refl; numbered = tt; addressed = tt; short = omega arith }
+refuse_sendable reason = record { version = refl; numbered = tt; sized = refl; addressed = tt; short = omega arith }
 
 abort_sendable : (bits : ℕ) → IsSendable (AB bits [])
 unfolding user_data_of
-abort_sendable bits = record { version = refl; numbered = tt; addressed = tt; short = omega arith }
+abort_sendable bits = record { version = refl; numbered = tt; sized = refl; addressed = tt; short = omega arith }
 
 accept_sendable : IsSendable AA
 unfolding user_data_of
-accept_sendable = record { version = refl; numbered = tt; addressed = tt; short = omega arith }
+accept_sendable = record { version = refl; numbered = tt; sized = refl; addressed = tt; short = omega arith }
 
 either : (b : Bool) (x y : Option Meaning) → CanBeSent x → CanBeSent y → CanBeSent (if b then x else y)
 either true x y h k = h
 either false x y h k = k
 
 reply_sendable : (u : Meaning) → CanBeSent (reply_for u)
-reply_sendable (CN version_2 requirements serial wishes from to octets) =
-    either (not version_2) _ _ (refuse_sendable 132) (either (not (has_data (functional_units requirements))) _ _ (refuse_sendable 134) tt)
+reply_sendable (CN version_2 requirements serial wishes from to sizes octets) =
+    either (not version_2) _ _ (refuse_sendable 132)
+    (either (not (has_data (functional_units requirements) && are_sizes sizes)) _ _ (refuse_sendable 134) tt)
 reply_sendable (AB bits octets) = accept_sendable
 reply_sendable _ = tt
 

@@ -1,5 +1,6 @@
 -- What is true of a session in memory.
 use Rattle.osi_spdu.specs.Fields.{unit_bits}
+use Rattle.osi_spdu.specs.Sizes.{are_sizes}
 use Rattle.std.proofs.Common.{◌≡◌, ◌∙◌, refl, sym, ap, subst, ℕ, if◌then◌else◌, ◌<◌, ◌≤◌, Bool, true, false, Some, Ok, arith}
 use Rattle.osi_session.specs.declared.requests.Request.{Request}
 use Rattle.osi_session.specs.declared.requests.Request.TheVariants as request
@@ -25,12 +26,13 @@ use Rattle.osi_message.specs.Written.{is_second, spelled, written}
 use Rattle.osi_session.specs.Openings.{asked_for}
 use Rattle.osi_session.specs.Sessions.{awaiting, asking, lone, lone_of, unit_in}
 use Rattle.osi_session.proofs.SoundCalls.{call_sound, call_begun}
+use Rattle.osi_session.proofs.SizeLaws.{user_sizes}
 use Rattle.osi_session.proofs.SoundNumbers.{from_ordered}
 use Rattle.osi_session.proofs.TsduLaws.{respond_sound, respond_begun}
 
--- the number of an Accept in memory is one that a point may have
+-- the number of an Accept in memory is one that a point may have, and its sizes are such
 pub request_small : (r : Request) → HasSerial (called_by r)
-request_small (request.Accept requirements serial sides octets) = let s = serial.small in omega arith
+request_small (request.Accept requirements serial sides sizes octets) = (let s = serial.small in omega arith, user_sizes sizes)
 request_small _ = tt
 
 pub request_sound : (s : State) (r : Request) (x : Step) → allowed s (called_by r) ≡ Ok x → IsSound s → IsSound x.next
@@ -48,24 +50,25 @@ group_begun s said o e = subst (λ (x : Outcome). is_wait_transport x.next.phase
 
 -- before any point
 pub at_first : (s : State) → s.base ≡ 0 → s.numbers ≡ from_base 0 → s.proposed < 1000000 → in_major s.phase ≡ false → is_restart_due s.phase ≡ false
-    → s.held ≡ no_token → IsSound s
-at_first s b n p m r t = record {
+    → s.held ≡ no_token → are_sizes s.sizes ≡ true → IsSound s
+at_first s b n p m r t z = record {
   ordered = subst (λ (v : Numbers). AreOrdered s.base v) (sym n) (subst (λ (x : ℕ). AreOrdered x (from_base 0)) (sym b) (from_ordered 0 (omega arith)));
   first = p;
   major = λ k. absurd (cc);
   restart = λ k. absurd (cc);
   tokens = λ k. t;
+  sizes = z;
 }
 
 pub awaiting_sound : IsSound awaiting
-awaiting_sound = at_first awaiting refl refl (omega arith) refl refl refl
+awaiting_sound = at_first awaiting refl refl (omega arith) refl refl refl refl
 
 pub first_small : (b : Bool) (n : ℕ) → n ≤ 999999 → (if b then n else 0) < 1000000
 first_small true n h = omega arith
 first_small false n h = omega arith
 
 pub asking_sound : (o : Opening) → IsSound (asking o)
-asking_sound o = at_first (asking o) refl refl (first_small (has_points (functional_units (unit_bits o.requirements))) o.serial.number o.serial.small) refl refl refl
+asking_sound o = at_first (asking o) refl refl (first_small (has_points (functional_units (unit_bits o.requirements))) o.serial.number o.serial.small) refl refl refl (user_sizes o.sizes)
 
 -- a unit that is sent alone is read as it
 pub read_again : (m : Meaning) → is_second m ≡ false → tsdu_at (written m) ≡ Ok (spelled m) → said_by_units (spelled m) ≡ said_of m → unit_in (written m) ≡ Some m

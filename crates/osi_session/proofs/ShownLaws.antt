@@ -22,8 +22,8 @@ either_shows true n x y h k = h
 either_shows false n x y h k = k
 
 good_shows : (s : State) (u : Meaning) → AtMost 1 (shown_for s u)
-good_shows s (CN version_2 requirements serial wishes from to octets) = either (is_acceptable version_2 requirements) 1 _ _ (omega arith) (omega arith)
-good_shows s (AC version_2 requirements serial sides octets) = omega arith
+good_shows s (CN version_2 requirements serial wishes from to sizes octets) = either (is_acceptable version_2 requirements sizes) 1 _ _ (omega arith) (omega arith)
+good_shows s (AC version_2 requirements serial sides sizes octets) = omega arith
 good_shows s (RF reason octets) = omega arith
 good_shows s (DT octets) = omega arith
 good_shows s (GT tokens) = omega arith

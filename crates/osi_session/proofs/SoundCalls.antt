@@ -2,6 +2,8 @@
 use Rattle.std.proofs.Common.{◌≡◌, refl, sym, subst, ℕ, ◌≤◌, ◌<◌, Bool, true, false, Ok, arith, if◌then◌else◌}
 use Rattle.std.proofs.lemmas.Bool.{leb-true, ltb-true, and_parts}
 use Rattle.osi_spdu.specs.declared.settings.TokenSetting.{TokenSetting}
+use Rattle.osi_spdu.specs.declared.fields.TsduMaximumSize.{TsduMaximumSize}
+use Rattle.osi_spdu.specs.Sizes.{are_sizes}
 use Rattle.osi_session.specs.declared.phases.Phase.{Phase}
 use Rattle.osi_session.specs.declared.phases.Phase.TheVariants.{Ready, MajorAsked, Releasing, Restarting, Aborting, Ended}
 use Rattle.osi_session.specs.declared.state.State.{State}
@@ -17,6 +19,7 @@ use Rattle.osi_session.specs.Calls.{Call, Accept, Refuse, Data, Give, Please, Mi
 use Rattle.osi_session.specs.Allowed.{Step, opened_with, is_confirmable, is_restartable, last_number, needs, may_call, after, allowed, AllHold}
 use Rattle.osi_session.proofs.Passed.{passed}
 use Rattle.osi_session.proofs.PhaseLaws.{implied, excluded}
+use Rattle.osi_session.proofs.SizeLaws.{answered_are}
 use Rattle.osi_session.proofs.SoundNumbers.{from_ordered, sent_ordered, minor_ordered, major_ordered, restart_ordered}
 
 -- a phase in which no token is held, no point is outstanding and no restart is due
@@ -27,6 +30,7 @@ bare p s m r h = record {
   major = λ k. absurd (cc);
   restart = λ k. absurd (cc);
   tokens = λ k. refl;
+  sizes = h.sizes;
 }
 
 -- a phase in which tokens may be held
@@ -38,6 +42,7 @@ holding_phase p s m r t h = record {
   major = λ k. absurd (cc);
   restart = λ k. absurd (cc);
   tokens = λ k. absurd (cc);
+  sizes = h.sizes;
 }
 
 -- the numbers move in a phase in which no restart is due
@@ -49,16 +54,19 @@ moved v s o m r h = record {
   major = m;
   restart = λ k. absurd (cc);
   tokens = h.tokens;
+  sizes = h.sizes;
 }
 
 -- a connection that is opened
-pub opened : (units : FunctionalUnits) (held : Tokens) (base : ℕ) (s : State) → base ≤ 1000000 → IsSound s → IsSound (opened_with units held base s)
-opened units held base s small h = record {
+pub opened : (units : FunctionalUnits) (held : Tokens) (base : ℕ) (sizes : TsduMaximumSize) (s : State) → base ≤ 1000000 → are_sizes sizes ≡ true
+    → IsSound s → IsSound (opened_with units held base sizes s)
+opened units held base sizes s small z h = record {
   ordered = from_ordered base small;
   first = h.first;
   major = λ k. absurd (cc);
   restart = λ k. absurd (cc);
   tokens = λ k. absurd (cc);
+  sizes = z;
 }
 
 base_small : (b : Bool) (serial : ℕ) → serial < 1000000 → (if b then serial else 0) ≤ 1000000
@@ -88,6 +96,7 @@ restart_moved s n w r h =
       major = λ k. absurd (cc);
       restart = λ k. absurd (cc);
       tokens = λ k. refl;
+      sizes = h.sizes;
     }
 
 pub major_moved : (s : State) → s.numbers.next < 1000000 → IsSound s
@@ -101,6 +110,7 @@ major_moved s left h =
       major = λ k. omega arith;
       restart = λ k. absurd (cc);
       tokens = λ k. absurd (cc);
+      sizes = h.sizes;
     }
 
 major_same : (s : State) → IsSound s → in_major s.phase ≡ true → s.base < (major_confirmed s.numbers).next
@@ -108,8 +118,8 @@ unfolding major_confirmed
 major_same s h k = h.major k
 
 pub after_sound : (s : State) (c : Call) → HasSerial c → may_call s.phase c ≡ true → AllHold (needs s c) → IsSound s → IsSound (after s c)
-after_sound s (Accept requirements serial sides octets) small p t h =
-    opened _ _ _ s (base_small (has_points (functional_units requirements)) serial small) h
+after_sound s (Accept requirements serial sides sizes octets) small p t h =
+    opened _ _ _ _ s (base_small (has_points (functional_units requirements)) serial small.0) (answered_are s.sizes sizes h.sizes small.1) h
 after_sound s (Refuse octets) small p t h = bare Ended s refl refl h
 after_sound s (Data octets) small p t h = h
 after_sound s (Give tokens) small p t h =
@@ -119,6 +129,7 @@ after_sound s (Give tokens) small p t h =
       major = h.major;
       restart = h.restart;
       tokens = λ k. absurd (let m = implied may_give may_hold refl s.phase p in cc);
+      sizes = h.sizes;
     }
 after_sound s (Please tokens octets) small p t h = h
 after_sound s (Minor confirm octets) small p t h =
@@ -136,7 +147,7 @@ after_sound s (MajorConfirm octets) small p t h = holding_phase Ready (record s 
     (excluded is_major_due is_restart_due refl s.phase p) h)
 after_sound s (Restart n wishes octets) small p t h = restart_moved s n _ t.1.0 h
 after_sound s (RestartConfirm sides octets) small p t h =
-    record { ordered = h.ordered; first = h.first; major = λ k. absurd (cc); restart = λ k. absurd (cc); tokens = λ k. absurd (cc) }
+    record { ordered = h.ordered; first = h.first; major = λ k. absurd (cc); restart = λ k. absurd (cc); tokens = λ k. absurd (cc); sizes = h.sizes }
 after_sound s (Release octets) small p t h = holding_phase Releasing s refl refl refl h
 after_sound s (ReleaseAccept octets) small p t h = bare Ended s refl refl h
 after_sound s (ReleaseRefuse octets) small p t h = holding_phase Ready s refl refl refl h
@@ -144,7 +155,7 @@ after_sound s (Abort octets) small p t h = bare Aborting s refl refl h
 
 -- no call is allowed while the transport connection is awaited, and none goes back to that
 pub after_begun : (s : State) (c : Call) → may_call s.phase c ≡ true → is_wait_transport (after s c).phase ≡ false
-after_begun s (Accept requirements serial sides octets) p = refl
+after_begun s (Accept requirements serial sides sizes octets) p = refl
 after_begun s (Refuse octets) p = refl
 after_begun s (Data octets) p = excluded is_ready is_wait_transport refl s.phase p
 after_begun s (Give tokens) p = excluded may_give is_wait_transport refl s.phase p

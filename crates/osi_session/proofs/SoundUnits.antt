@@ -1,11 +1,12 @@
 -- What is true of a session at all times is true after each unit.
-use Rattle.std.proofs.Common.{◌≡◌, refl, ℕ, ◌+◌, ◌≤◌, ◌<◌, Bool, true, false, not, ◌==◌, nat_lt, List, [], ◌∷◌, Option, Some, None, unwrap_or, arith, if◌then◌else◌}
+use Rattle.std.proofs.Common.{◌≡◌, refl, ℕ, ◌+◌, ◌≤◌, ◌<◌, Bool, true, false, not, ◌&&◌, ◌==◌, nat_lt, List, [], ◌∷◌, Option, Some, None, unwrap_or, arith, if◌then◌else◌}
 use Rattle.std.proofs.lemmas.Bool.{leb-true, ltb-true, and_parts}
 use Rattle.osi_spdu.specs.declared.settings.TokenSetting.{TokenSetting}
 use Rattle.osi_session.specs.declared.phases.Phase.TheVariants.{Ready, MajorDue, ReleaseDue, RestartDue, Aborting, Ended}
 use Rattle.osi_session.specs.declared.faults.UnitFault.{UnitFault}
 use Rattle.osi_session.specs.declared.state.State.{State}
-use Rattle.osi_session.specs.Units.{functional_units, both_units, has_points}
+use Rattle.osi_spdu.specs.Sizes.{are_sizes}
+use Rattle.osi_session.specs.Units.{functional_units, both_units, has_points, has_data}
 use Rattle.osi_session.specs.Numbers.{point_taken, minor_confirmed, major_confirmed, restarted_at}
 use Rattle.osi_session.specs.Phases.{in_major, is_restart_due, may_hold, may_ask, is_ready, is_wait_cn, is_major_asked, is_aborting, is_ended, takes_minor_ack}
 use Rattle.osi_session.specs.State.{without_tokens}
@@ -14,6 +15,7 @@ use Rattle.osi_message.specs.Meanings.{Meaning, CN, AC, RF, DT, GT, PT, MIP, MIA
 use Rattle.osi_message.specs.Numbered.{IsSmall, IsNumbered}
 use Rattle.osi_session.specs.Respond.{Outcome, Condition, si, conditions, first_fault, is_expected, is_acceptable, is_acknowledgeable, stands, becomes, judged, take_expected, in_aborting, in_ended, drops, respond_unit, AllMet}
 use Rattle.osi_session.proofs.PhaseLaws.{implied, excluded}
+use Rattle.osi_session.proofs.SizeLaws.{smaller_are}
 use Rattle.osi_session.proofs.SoundNumbers.{taken_ordered, minor_ordered, major_ordered, restart_ordered}
 use Rattle.osi_session.proofs.SoundCalls.{bare, holding_phase, moved, opened}
 
@@ -28,6 +30,13 @@ all_met n (c ∷ cs) h = let one = none_if c.0 (first_fault n cs) (c.1 n) h in (
 chosen : (b : Bool) (x y : State) → IsSound x → IsSound y → IsSound (if b then x else y)
 chosen true x y h k = h
 chosen false x y h k = k
+
+chosen_if : (b : Bool) (x y : State) → (b ≡ true → IsSound x) → IsSound y → IsSound (if b then x else y)
+chosen_if true x y h k = h refl
+chosen_if false x y h k = k
+
+third : (a b c : Bool) → (a && (b && c)) ≡ true → c ≡ true
+third a b c h = (and_parts b c (and_parts a (b && c) h).1).1
 
 base_small : (b : Bool) (serial : Option ℕ) (proposed : ℕ) → IsSmall serial → proposed < 1000000 → (if b then unwrap_or serial proposed else 0) ≤ 1000000
 base_small true None proposed h k = omega arith
@@ -61,6 +70,7 @@ restart_moved s n w from small h = record {
   major = λ k. absurd (cc);
   restart = λ k. omega arith;
   tokens = λ k. refl;
+  sizes = h.sizes;
 }
 
 major_moved : (s : State) → s.numbers.next < 1000000 → IsSound s
@@ -74,6 +84,7 @@ major_moved s left h =
       major = λ k. omega arith;
       restart = λ k. absurd (cc);
       tokens = λ k. absurd (cc);
+      sizes = h.sizes;
     }
 
 major_same : (s : State) → IsSound s → in_major s.phase ≡ true → s.base < (major_confirmed s.numbers).next
@@ -85,18 +96,21 @@ same_small n next e h = grind arith
 
 -- the state after a good unit
 pub becomes_sound : (s : State) (u : Meaning) → IsNumbered u → is_expected s.phase u ≡ true → AllMet (conditions s u) → IsSound s → IsSound (becomes s u)
-becomes_sound s (CN version_2 requirements serial wishes from to octets) small p t h =
-    chosen (is_acceptable version_2 requirements) _ _
-    (record {
+becomes_sound s (CN version_2 requirements serial wishes from to sizes octets) small p t h =
+    chosen_if (is_acceptable version_2 requirements sizes) _ _
+    (λ e. record {
       ordered = h.ordered;
       first = first_small serial small;
       major = λ k. absurd (cc);
       restart = λ k. absurd (cc);
       tokens = λ k. h.tokens (excluded is_wait_cn may_hold refl s.phase p);
+      sizes = third version_2 (has_data (functional_units requirements)) (are_sizes sizes) e;
     })
     (bare Ended s refl refl h)
-becomes_sound s (AC version_2 requirements serial sides octets) small p t h =
-    opened _ _ _ s (base_small (has_points (both_units s.units (functional_units requirements))) serial s.proposed small h.first) h
+becomes_sound s (AC version_2 requirements serial sides sizes octets) small p t h =
+    let units = both_units s.units (functional_units requirements) in
+    opened _ _ _ _ s (base_small (has_points units) serial s.proposed small h.first)
+    (smaller_are s.sizes sizes h.sizes (third version_2 (has_data units) (are_sizes sizes) t.0)) h
 becomes_sound s (RF reason octets) small p t h = bare Ended s refl refl h
 becomes_sound s (DT octets) small p t h = h
 becomes_sound s (GT tokens) small p t h =
@@ -106,6 +120,7 @@ becomes_sound s (GT tokens) small p t h =
       major = h.major;
       restart = h.restart;
       tokens = λ k. absurd (let m = implied may_ask may_hold refl s.phase p in cc);
+      sizes = h.sizes;
     }
 becomes_sound s (PT tokens octets) small p t h = h
 becomes_sound s (MIP confirm n octets) small p t h =
@@ -120,7 +135,7 @@ becomes_sound s (MAA n octets) small p t h = holding_phase Ready (record s { num
 becomes_sound s (RS kind n wishes octets) small p t h =
     chosen (stands s n) _ _ (restart_moved s n wishes (leb-true s.base n (and_parts _ _ t.1.0).0) small h) h
 becomes_sound s (RA n sides octets) small p t h =
-    record { ordered = h.ordered; first = h.first; major = λ k. absurd (cc); restart = λ k. absurd (cc); tokens = λ k. absurd (cc) }
+    record { ordered = h.ordered; first = h.first; major = λ k. absurd (cc); restart = λ k. absurd (cc); tokens = λ k. absurd (cc); sizes = h.sizes }
 becomes_sound s (FN octets) small p t h = holding_phase ReleaseDue s refl refl refl h
 becomes_sound s (DN octets) small p t h = bare Ended s refl refl h
 becomes_sound s (NF octets) small p t h = holding_phase Ready s refl refl refl h

@@ -4,13 +4,14 @@ use Rattle.std.proofs.lemmas.Bool.{and_parts, and_from, eqb-true, eq-eqb}
 use Rattle.osi_spdu.specs.declared.settings.Wish.{Wish}
 use Rattle.osi_spdu.specs.declared.settings.Wish.TheVariants.{Asker, Answerer, Choice}
 use Rattle.osi_spdu.specs.declared.settings.TokenSetting.{TokenSetting}
+use Rattle.osi_spdu.specs.declared.fields.TsduMaximumSize.{TsduMaximumSize}
 use Rattle.osi_message.specs.declared.tokens.Tokens.{Tokens}
 use Rattle.osi_session.specs.declared.phases.Phase.{Phase}
 use Rattle.osi_session.specs.declared.phases.Phase.TheVariants.{WaitTransport, WaitCn, Connecting, Answering, Ready, MajorAsked, MajorDue, Releasing, ReleaseDue, Restarting, RestartDue, Aborting, Ended}
 use Rattle.osi_session.specs.declared.numbers.Numbers.{Numbers}
 use Rattle.osi_session.specs.declared.selected.FunctionalUnits.{FunctionalUnits}
 use Rattle.osi_session.specs.declared.state.State.{State}
-use Rattle.osi_session.specs.Same.{same_bit, same_wish, place_of, same_setting, same_tokens, same_units, same_numbers, same_state}
+use Rattle.osi_session.specs.Same.{same_bit, same_wish, place_of, same_setting, same_tokens, same_units, same_numbers, same_sizes, same_state}
 
 bit_is : (a b : Bool) → same_bit a b ≡ true → a ≡ b
 bit_is true true e = refl
@@ -114,22 +115,34 @@ unfolding same_numbers
 same_numbers_refl a =
     and_from ((a.next == a.next)) ((a.confirmed == a.confirmed) && ((a.lowest == a.lowest) && same_bit a.answers a.answers)) (eq-eqb a.next a.next refl) (and_from ((a.confirmed == a.confirmed)) ((a.lowest == a.lowest) && same_bit a.answers a.answers) (eq-eqb a.confirmed a.confirmed refl) (and_from ((a.lowest == a.lowest)) (same_bit a.answers a.answers) (eq-eqb a.lowest a.lowest refl) (bit_refl a.answers)))
 
+same_sizes_is : (a b : TsduMaximumSize) → same_sizes a b ≡ true → a ≡ b
+unfolding same_sizes
+same_sizes_is a b e =
+    let p = and_parts (a.from_asker == b.from_asker) (a.from_answerer == b.from_answerer) e in
+    λ i. record { from_asker = (eqb-true a.from_asker b.from_asker p.0) i; from_answerer = (eqb-true a.from_answerer b.from_answerer p.1) i }
+
+same_sizes_refl : (a : TsduMaximumSize) → same_sizes a a ≡ true
+unfolding same_sizes
+same_sizes_refl a =
+    and_from (a.from_asker == a.from_asker) (a.from_answerer == a.from_answerer) (eq-eqb a.from_asker a.from_asker refl) (eq-eqb a.from_answerer a.from_answerer refl)
+
 same_state_is : (a b : State) → same_state a b ≡ true → a ≡ b
 unfolding same_state
 same_state_is a b e =
-    let p0 = and_parts ((place_of a.phase == place_of b.phase)) (same_bit a.is_caller b.is_caller && (same_units a.units b.units && (same_setting a.wishes b.wishes && (same_tokens a.held b.held && ((a.proposed == b.proposed) && ((a.base == b.base) && same_numbers a.numbers b.numbers)))))) e in
-    let p1 = and_parts (same_bit a.is_caller b.is_caller) (same_units a.units b.units && (same_setting a.wishes b.wishes && (same_tokens a.held b.held && ((a.proposed == b.proposed) && ((a.base == b.base) && same_numbers a.numbers b.numbers))))) p0.1 in
-    let p2 = and_parts (same_units a.units b.units) (same_setting a.wishes b.wishes && (same_tokens a.held b.held && ((a.proposed == b.proposed) && ((a.base == b.base) && same_numbers a.numbers b.numbers)))) p1.1 in
-    let p3 = and_parts (same_setting a.wishes b.wishes) (same_tokens a.held b.held && ((a.proposed == b.proposed) && ((a.base == b.base) && same_numbers a.numbers b.numbers))) p2.1 in
-    let p4 = and_parts (same_tokens a.held b.held) ((a.proposed == b.proposed) && ((a.base == b.base) && same_numbers a.numbers b.numbers)) p3.1 in
-    let p5 = and_parts ((a.proposed == b.proposed)) ((a.base == b.base) && same_numbers a.numbers b.numbers) p4.1 in
-    let p6 = and_parts ((a.base == b.base)) (same_numbers a.numbers b.numbers) p5.1 in
-    λ i. record { phase = (phase_is a.phase b.phase p0.0) i; is_caller = (bit_is a.is_caller b.is_caller p1.0) i; units = (same_units_is a.units b.units p2.0) i; wishes = (same_setting_is a.wishes b.wishes p3.0) i; held = (same_tokens_is a.held b.held p4.0) i; proposed = (eqb-true a.proposed b.proposed p5.0) i; base = (eqb-true a.base b.base p6.0) i; numbers = (same_numbers_is a.numbers b.numbers p6.1) i }
+    let p0 = and_parts ((place_of a.phase == place_of b.phase)) (same_bit a.is_caller b.is_caller && (same_units a.units b.units && (same_setting a.wishes b.wishes && (same_tokens a.held b.held && ((a.proposed == b.proposed) && ((a.base == b.base) && (same_numbers a.numbers b.numbers && same_sizes a.sizes b.sizes))))))) e in
+    let p1 = and_parts (same_bit a.is_caller b.is_caller) (same_units a.units b.units && (same_setting a.wishes b.wishes && (same_tokens a.held b.held && ((a.proposed == b.proposed) && ((a.base == b.base) && (same_numbers a.numbers b.numbers && same_sizes a.sizes b.sizes)))))) p0.1 in
+    let p2 = and_parts (same_units a.units b.units) (same_setting a.wishes b.wishes && (same_tokens a.held b.held && ((a.proposed == b.proposed) && ((a.base == b.base) && (same_numbers a.numbers b.numbers && same_sizes a.sizes b.sizes))))) p1.1 in
+    let p3 = and_parts (same_setting a.wishes b.wishes) (same_tokens a.held b.held && ((a.proposed == b.proposed) && ((a.base == b.base) && (same_numbers a.numbers b.numbers && same_sizes a.sizes b.sizes)))) p2.1 in
+    let p4 = and_parts (same_tokens a.held b.held) ((a.proposed == b.proposed) && ((a.base == b.base) && (same_numbers a.numbers b.numbers && same_sizes a.sizes b.sizes))) p3.1 in
+    let p5 = and_parts ((a.proposed == b.proposed)) ((a.base == b.base) && (same_numbers a.numbers b.numbers && same_sizes a.sizes b.sizes)) p4.1 in
+    let p6 = and_parts ((a.base == b.base)) ((same_numbers a.numbers b.numbers && same_sizes a.sizes b.sizes)) p5.1 in
+    let p7 = and_parts (same_numbers a.numbers b.numbers) (same_sizes a.sizes b.sizes) p6.1 in
+    λ i. record { phase = (phase_is a.phase b.phase p0.0) i; is_caller = (bit_is a.is_caller b.is_caller p1.0) i; units = (same_units_is a.units b.units p2.0) i; wishes = (same_setting_is a.wishes b.wishes p3.0) i; held = (same_tokens_is a.held b.held p4.0) i; proposed = (eqb-true a.proposed b.proposed p5.0) i; base = (eqb-true a.base b.base p6.0) i; numbers = (same_numbers_is a.numbers b.numbers p7.0) i; sizes = (same_sizes_is a.sizes b.sizes p7.1) i }
 
 same_state_refl : (a : State) → same_state a a ≡ true
 unfolding same_state
 same_state_refl a =
-    and_from ((place_of a.phase == place_of a.phase)) (same_bit a.is_caller a.is_caller && (same_units a.units a.units && (same_setting a.wishes a.wishes && (same_tokens a.held a.held && ((a.proposed == a.proposed) && ((a.base == a.base) && same_numbers a.numbers a.numbers)))))) (eq-eqb (place_of a.phase) (place_of a.phase) refl) (and_from (same_bit a.is_caller a.is_caller) (same_units a.units a.units && (same_setting a.wishes a.wishes && (same_tokens a.held a.held && ((a.proposed == a.proposed) && ((a.base == a.base) && same_numbers a.numbers a.numbers))))) (bit_refl a.is_caller) (and_from (same_units a.units a.units) (same_setting a.wishes a.wishes && (same_tokens a.held a.held && ((a.proposed == a.proposed) && ((a.base == a.base) && same_numbers a.numbers a.numbers)))) (same_units_refl a.units) (and_from (same_setting a.wishes a.wishes) (same_tokens a.held a.held && ((a.proposed == a.proposed) && ((a.base == a.base) && same_numbers a.numbers a.numbers))) (same_setting_refl a.wishes) (and_from (same_tokens a.held a.held) ((a.proposed == a.proposed) && ((a.base == a.base) && same_numbers a.numbers a.numbers)) (same_tokens_refl a.held) (and_from ((a.proposed == a.proposed)) ((a.base == a.base) && same_numbers a.numbers a.numbers) (eq-eqb a.proposed a.proposed refl) (and_from ((a.base == a.base)) (same_numbers a.numbers a.numbers) (eq-eqb a.base a.base refl) (same_numbers_refl a.numbers)))))))
+    and_from ((place_of a.phase == place_of a.phase)) (same_bit a.is_caller a.is_caller && (same_units a.units a.units && (same_setting a.wishes a.wishes && (same_tokens a.held a.held && ((a.proposed == a.proposed) && ((a.base == a.base) && (same_numbers a.numbers a.numbers && same_sizes a.sizes a.sizes))))))) (eq-eqb (place_of a.phase) (place_of a.phase) refl) (and_from (same_bit a.is_caller a.is_caller) (same_units a.units a.units && (same_setting a.wishes a.wishes && (same_tokens a.held a.held && ((a.proposed == a.proposed) && ((a.base == a.base) && (same_numbers a.numbers a.numbers && same_sizes a.sizes a.sizes)))))) (bit_refl a.is_caller) (and_from (same_units a.units a.units) (same_setting a.wishes a.wishes && (same_tokens a.held a.held && ((a.proposed == a.proposed) && ((a.base == a.base) && (same_numbers a.numbers a.numbers && same_sizes a.sizes a.sizes))))) (same_units_refl a.units) (and_from (same_setting a.wishes a.wishes) (same_tokens a.held a.held && ((a.proposed == a.proposed) && ((a.base == a.base) && (same_numbers a.numbers a.numbers && same_sizes a.sizes a.sizes)))) (same_setting_refl a.wishes) (and_from (same_tokens a.held a.held) ((a.proposed == a.proposed) && ((a.base == a.base) && (same_numbers a.numbers a.numbers && same_sizes a.sizes a.sizes))) (same_tokens_refl a.held) (and_from ((a.proposed == a.proposed)) ((a.base == a.base) && (same_numbers a.numbers a.numbers && same_sizes a.sizes a.sizes)) (eq-eqb a.proposed a.proposed refl) (and_from ((a.base == a.base)) (same_numbers a.numbers a.numbers && same_sizes a.sizes a.sizes) (eq-eqb a.base a.base refl) (and_from (same_numbers a.numbers a.numbers) (same_sizes a.sizes a.sizes) (same_numbers_refl a.numbers) (same_sizes_refl a.sizes))))))))
 
 -- the test tells
 pub told : (a b : State) → MatchBool (same_state a b) (a ≡ b) (a ≢ b)

@@ -1,5 +1,5 @@
 -- What becomes of a unit, and of a token item that names no token.
-use Rattle.std.proofs.Common.{inl, inr, ◌≡◌, refl, sym, ◌∙◌, ap, subst, Bool, true, false, not, ◌||◌, List, [], ◌∷◌, ◌++◌, Option, Some, None, if◌then◌else◌}
+use Rattle.std.proofs.Common.{inl, inr, ◌≡◌, refl, sym, ◌∙◌, ap, subst, Bool, true, false, not, ◌&&◌, ◌||◌, List, [], ◌∷◌, ◌++◌, Option, Some, None, if◌then◌else◌}
 use Rattle.std.proofs.lemmas.Bool.{cases_Bool}
 use Rattle.std.proofs.lemmas.List.{append-nil}
 use Rattle.osi_session.specs.declared.phases.Phase.TheVariants.{Aborting}
@@ -13,6 +13,7 @@ use Rattle.osi_message.specs.Meanings.{Meaning, CN, GT, PT, AB, AA}
 use Rattle.std.specs.List.{list_any}
 use Rattle.osi_message.specs.Reading.{alone, behind}
 use Rattle.osi_session.specs.Units.{functional_units, has_data}
+use Rattle.osi_spdu.specs.Sizes.{are_sizes}
 use Rattle.osi_message.specs.Written.{is_second}
 use Rattle.osi_message.specs.Sendable.{said_of}
 use Rattle.osi_session.specs.Respond.{Outcome, Condition, si, conditions, first_fault, is_expected, drops, nothing, bad, judged, take_expected, in_aborting, in_ended, has_no_effect, is_token_item, is_resynchronize, reply_for, first_reply, replies_abort, respond_unit, and_then, Verdict, over, dropped, faulty, fine, by_fault, verdict, enacted, is_faulty, AllMet, IsGood, respond_all, acting, respond}
@@ -180,8 +181,8 @@ no_abort_if true x y h k = h
 no_abort_if false x y h k = k
 
 good_reply : (u : Meaning) → replies_abort (reply_for u) ≡ false
-good_reply (CN version_2 requirements serial wishes from to octets) =
-    no_abort_if (not version_2) _ _ refl (no_abort_if (not (has_data (functional_units requirements))) _ _ refl refl)
+good_reply (CN version_2 requirements serial wishes from to sizes octets) =
+    no_abort_if (not version_2) _ _ refl (no_abort_if (not (has_data (functional_units requirements) && are_sizes sizes)) _ _ refl refl)
 good_reply (AB bits octets) = refl
 good_reply _ = refl
 

@@ -1,6 +1,7 @@
 -- The table of calls: the first error that applies, or the new state and the unit that is sent.
 use Rattle.std.specs.Prelude.{◌≡◌, ℕ, ◌-◌, Bool, true, not, ◌&&◌, ◌||◌, if◌then◌else◌, nat_le, nat_lt, List, [], ◌∷◌, length, Option, Some, None, Result, Ok, Err}
 use Rattle.osi_spdu.specs.declared.fields.ResyncType.TheVariants as resync
+use Rattle.osi_spdu.specs.declared.fields.TsduMaximumSize.{TsduMaximumSize}
 use Rattle.osi_session.specs.declared.phases.Phase.{Phase}
 use Rattle.osi_session.specs.declared.phases.Phase.TheVariants.{Ready, MajorAsked, Releasing, Restarting, Aborting, Ended}
 use Rattle.osi_session.specs.declared.faults.CallError.{CallError}
@@ -16,6 +17,7 @@ use Rattle.osi_session.specs.Sides.{settle, of_answerer, offered, setting_of}
 use Rattle.osi_session.specs.Numbers.{from_base, point_sent, minor_confirmed, major_confirmed, restarted_at}
 use Rattle.osi_session.specs.Phases.{is_over, is_ready, is_answering, is_major_due, is_restart_due, is_release_due, in_major, may_give, may_ask, may_confirm_minor, may_restart, may_abort}
 use Rattle.osi_session.specs.State.{without_tokens}
+use Rattle.osi_session.specs.Sizes.{answered_sizes, fits_limit}
 use Rattle.osi_message.specs.Meanings.{Meaning, AC, RF, DT, GT, PT, MIP, MIA, MAP, MAA, RS, RA, FN, DN, NF, AB}
 use Rattle.osi_session.specs.Calls.{Call, Accept, Refuse, Data, Give, Please, Minor, MinorConfirm, Major, MajorConfirm, Restart, RestartConfirm, Release, ReleaseAccept, ReleaseRefuse, Abort}
 
@@ -76,7 +78,7 @@ point_needs s unit rights = selected unit ∷ holding rights ∷ numbers_left s 
 
 -- the phases in which a call is allowed
 abbrev pub may_call : Phase → Call → Bool
-may_call p (Accept requirements serial sides octets) = is_answering p
+may_call p (Accept requirements serial sides sizes octets) = is_answering p
 may_call p (Refuse octets) = is_answering p
 may_call p (Data octets) = is_ready p
 may_call p (Give tokens) = may_give p
@@ -94,7 +96,7 @@ may_call p (Abort octets) = may_abort p
 
 -- what a call needs, in the order of its errors
 abbrev pub needs : State → Call → List Test
-needs s (Accept requirements serial sides octets) =
+needs s (Accept requirements serial sides sizes octets) =
     selected (units_within (functional_units requirements) s.units && is_profile requirements) ∷ []
 needs s (Data octets) = holding (has_right s token.data_token) ∷ (nat_lt 0 (length octets), error.Empty) ∷ []
 needs s (Give tokens) =
@@ -115,7 +117,7 @@ needs s _ = []
 
 -- the user data of a call, and how much of it there may be
 abbrev pub octets_of : Call → List ℕ
-octets_of (Accept requirements serial sides octets) = octets
+octets_of (Accept requirements serial sides sizes octets) = octets
 octets_of (Refuse octets) = octets
 octets_of (Data octets) = octets
 octets_of (Give tokens) = []
@@ -139,15 +141,16 @@ most_of _ = most_user_data
 abbrev pub base_for : FunctionalUnits → ℕ → ℕ
 base_for units serial = if has_points units then serial else 0
 
-abbrev pub opened_with : FunctionalUnits → Tokens → ℕ → State → State
-opened_with units held base s = record s { phase = Ready; units = units; held = held; base = base; numbers = from_base base }
+abbrev pub opened_with : FunctionalUnits → Tokens → ℕ → TsduMaximumSize → State → State
+opened_with units held base sizes s =
+    record s { phase = Ready; units = units; held = held; base = base; numbers = from_base base; sizes = sizes }
 
 -- the state after an accepted call
 abbrev pub after : State → Call → State
-after s (Accept requirements serial sides octets) =
+after s (Accept requirements serial sides sizes octets) =
     opened_with (functional_units requirements)
     (of_answerer (functional_units requirements) (settle (functional_units requirements) s.wishes sides))
-    (base_for (functional_units requirements) serial) s
+    (base_for (functional_units requirements) serial) (answered_sizes s.sizes sizes) s
 after s (Refuse octets) = without_tokens Ended s
 after s (Data octets) = s
 after s (Give tokens) = record s { held = without s.held tokens }
@@ -175,9 +178,9 @@ refusal_reason (b ∷ octets) = 2
 
 -- the unit that an accepted call sends
 abbrev pub sends : State → Call → Meaning
-sends s (Accept requirements serial sides octets) =
+sends s (Accept requirements serial sides sizes octets) =
     AC true requirements (serial_for (functional_units requirements) serial)
-    (setting_of (settle (functional_units requirements) s.wishes sides)) octets
+    (setting_of (settle (functional_units requirements) s.wishes sides)) (answered_sizes s.sizes sizes) octets
 sends s (Refuse octets) = RF (refusal_reason octets) octets
 sends s (Data octets) = DT octets
 sends s (Give tokens) = GT tokens
@@ -198,7 +201,7 @@ sends s (Abort octets) = AB 3 octets
 unfoldable pub met : State → Call → Answer
 met s c = first_error (needs s c) (Ok (record { next = after s c; sent = sends s c }))
 
--- the length is looked at last
+-- the lengths of the user data and of the TSDU are looked at last
 abbrev pub sized : Bool → Answer → Answer
 sized fits (Ok step) = if fits then Ok step else Err error.TooLong
 sized fits (Err e) = Err e
@@ -208,7 +211,7 @@ unfoldable pub allowed : State → Call → Answer
 allowed s c =
     if is_over s.phase then Err error.Ended
     else if not (may_call s.phase c) then Err error.BadState
-    else sized (nat_le (length (octets_of c)) (most_of c)) (met s c)
+    else sized (nat_le (length (octets_of c)) (most_of c) && fits_limit s c (sends s c)) (met s c)
 
 abbrev pub AllHold : List Test → Type 0
 AllHold [] = Unit {0}
@@ -219,4 +222,5 @@ pub record Passed (s : State) (c : Call) (x : Step) : Type 0 where
   pub phase : may_call s.phase c ≡ true
   pub needed : AllHold (needs s c)
   pub size : nat_le (length (octets_of c)) (most_of c) ≡ true
+  pub limit : fits_limit s c (sends s c) ≡ true
   pub gives : x ≡ record { next = after s c; sent = sends s c }

@@ -1,6 +1,8 @@
 -- The calls of a user.
 use Rattle.osi_spdu.specs.Fields.{bits_of, unit_bits}
-use Rattle.std.specs.Prelude.{ℕ, ◌<◌, Bool, List}
+use Rattle.osi_spdu.specs.Sizes.{named_by, are_sizes}
+use Rattle.std.specs.Prelude.{◌≡◌, ℕ, ◌<◌, Bool, true, List}
+use Rattle.osi_spdu.specs.declared.fields.TsduMaximumSize.{TsduMaximumSize}
 use Rattle.osi_spdu.specs.declared.settings.TokenSetting.{TokenSetting}
 use Rattle.osi_session.specs.declared.sides.Sides.{Sides}
 use Rattle.osi_message.specs.declared.tokens.Tokens.{Tokens}
@@ -9,7 +11,7 @@ use Rattle.osi_session.specs.declared.requests.Request.TheVariants as request
 use Rattle.osi_message.specs.Tokens.{named}
 
 pub data Call : Type 0 where
-  Accept : (requirements serial : ℕ) (sides : Sides) (octets : List ℕ) → Call
+  Accept : (requirements serial : ℕ) (sides : Sides) (sizes : TsduMaximumSize) (octets : List ℕ) → Call
   Refuse : (octets : List ℕ) → Call
   Data : (octets : List ℕ) → Call
   Give : (tokens : Tokens) → Call
@@ -27,7 +29,7 @@ pub data Call : Type 0 where
 
 -- a call in memory
 abbrev pub called_by : Request → Call
-called_by (request.Accept requirements serial sides data_octets) = Accept (unit_bits requirements) serial.number sides data_octets.now
+called_by (request.Accept requirements serial sides sizes data_octets) = Accept (unit_bits requirements) serial.number sides (named_by sizes) data_octets.now
 called_by (request.Refuse data_octets) = Refuse data_octets.now
 called_by (request.Data data_octets) = Data data_octets.now
 called_by (request.Give tokens) = Give (named (bits_of tokens))
@@ -43,7 +45,7 @@ called_by (request.ReleaseAccept data_octets) = ReleaseAccept data_octets.now
 called_by (request.ReleaseRefuse data_octets) = ReleaseRefuse data_octets.now
 called_by (request.Abort data_octets) = Abort data_octets.now
 
--- the number of an Accept is one that a point may have
+-- the number of an Accept is one that a point may have, and its sizes are such
 abbrev pub HasSerial : Call → Type 0
-HasSerial (Accept requirements serial sides octets) = serial < 1000000
+HasSerial (Accept requirements serial sides sizes octets) = (serial < 1000000) × (are_sizes sizes ≡ true)
 HasSerial _ = Unit {0}

@@ -20,12 +20,12 @@ some_unit p said = list_any p (acting said)
 -- ---- a connection is opened, and after a restart opened again
 
 abbrev pub call_opens : Call → Bool
-call_opens (Accept requirements serial sides octets) = true
+call_opens (Accept requirements serial sides sizes octets) = true
 call_opens (RestartConfirm sides octets) = true
 call_opens _ = false
 
 abbrev pub unit_opens : Meaning → Bool
-unit_opens (AC version_2 requirements serial sides octets) = true
+unit_opens (AC version_2 requirements serial sides sizes octets) = true
 unit_opens (RA n sides octets) = true
 unit_opens _ = false
 
@@ -44,13 +44,13 @@ abbrev pub to_answerer : FunctionalUnits → Sides → Token → Bool
 to_answerer units sides t = has (available units) t && not (is_asker (side_for sides t))
 
 abbrev pub call_gives : State → Call → Token → Bool
-call_gives s (Accept requirements serial sides octets) t =
+call_gives s (Accept requirements serial sides sizes octets) t =
     to_answerer (functional_units requirements) (settle (functional_units requirements) s.wishes sides) t
 call_gives s (RestartConfirm sides octets) t = to_answerer s.units (settle s.units s.wishes sides) t
 call_gives s _ t = false
 
 abbrev pub unit_gives : State → Meaning → Token → Bool
-unit_gives s (AC version_2 requirements serial sides octets) t =
+unit_gives s (AC version_2 requirements serial sides sizes octets) t =
     to_asker (both_units s.units (functional_units requirements)) (stated (both_units s.units (functional_units requirements)) sides) t
 unit_gives s (RA n sides octets) t = to_asker s.units (stated s.units sides) t
 unit_gives s (GT tokens) t = has tokens t
@@ -60,7 +60,7 @@ unit_gives s _ t = false
 
 -- whether it is after an accepted call
 abbrev pub call_holds : State → Call → Token → Bool
-call_holds s (Accept requirements serial sides octets) t =
+call_holds s (Accept requirements serial sides sizes octets) t =
     to_answerer (functional_units requirements) (settle (functional_units requirements) s.wishes sides) t
 call_holds s (RestartConfirm sides octets) t = to_answerer s.units (settle s.units s.wishes sides) t
 call_holds s (Give tokens) t = has s.held t && not (has tokens t)
@@ -72,9 +72,9 @@ call_holds s _ t = has s.held t
 
 -- whether it is after a good unit
 abbrev pub unit_holds : State → Meaning → Token → Bool
-unit_holds s (CN version_2 requirements serial wishes from to octets) t =
-    if is_acceptable version_2 requirements then has s.held t else false
-unit_holds s (AC version_2 requirements serial sides octets) t =
+unit_holds s (CN version_2 requirements serial wishes from to sizes octets) t =
+    if is_acceptable version_2 requirements sizes then has s.held t else false
+unit_holds s (AC version_2 requirements serial sides sizes octets) t =
     to_asker (both_units s.units (functional_units requirements)) (stated (both_units s.units (functional_units requirements)) sides) t
 unit_holds s (RA n sides octets) t = to_asker s.units (stated s.units sides) t
 unit_holds s (GT tokens) t = has s.held t || has tokens t
@@ -87,12 +87,12 @@ unit_holds s _ t = has s.held t
 -- ---- the numbers begin anew, or at the number of a restart
 
 abbrev pub call_renews : Call → Bool
-call_renews (Accept requirements serial sides octets) = true
+call_renews (Accept requirements serial sides sizes octets) = true
 call_renews (Restart n wishes octets) = true
 call_renews _ = false
 
 abbrev pub unit_renews : Meaning → Bool
-unit_renews (AC version_2 requirements serial sides octets) = true
+unit_renews (AC version_2 requirements serial sides sizes octets) = true
 unit_renews (RS kind n wishes octets) = true
 unit_renews _ = false
 

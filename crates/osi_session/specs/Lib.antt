@@ -12,6 +12,7 @@ pub mod Runs
 pub mod Sessions
 pub mod Shown
 pub mod Sides
+pub mod Sizes
 pub mod Sound
 pub mod State
 pub mod Steps

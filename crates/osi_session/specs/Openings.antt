@@ -1,5 +1,6 @@
 -- The CN of a caller.
 use Rattle.osi_spdu.specs.Fields.{unit_bits}
+use Rattle.osi_spdu.specs.Sizes.{named_by}
 use Rattle.std.specs.Prelude.{ℕ, true, Option}
 use Rattle.osi_spdu.specs.declared.settings.TokenSetting.{TokenSetting}
 use Rattle.osi_message.specs.Meanings.{Meaning, CN, selector_octets}
@@ -18,4 +19,4 @@ offered_wishes o = offered (functional_units (unit_bits o.requirements)) o.wishe
 -- what the CN of a caller says
 abbrev pub asked_for : Opening → Meaning
 asked_for o = CN true (unit_bits o.requirements) (offered_serial o) (offered_wishes o)
-    (selector_octets o.calling_selector) (selector_octets o.called_selector) o.user_data.now
+    (selector_octets o.calling_selector) (selector_octets o.called_selector) (named_by o.sizes) o.user_data.now

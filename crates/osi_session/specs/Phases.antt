@@ -61,6 +61,14 @@ is_over Aborting = true
 is_over Ended = true
 is_over _ = false
 
+-- the CN is answered
+abbrev pub is_settled : Phase → Bool
+is_settled WaitTransport = false
+is_settled WaitCn = false
+is_settled Connecting = false
+is_settled Answering = false
+is_settled _ = true
+
 -- a major point is outstanding
 abbrev pub in_major : Phase → Bool
 in_major MajorAsked = true

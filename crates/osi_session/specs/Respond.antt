@@ -5,8 +5,10 @@ use Rattle.std.specs.List.{list_any}
 use Rattle.osi_spdu.specs.declared.kinds.Kind.{Kind}
 use Rattle.osi_spdu.specs.declared.kinds.Kind.TheVariants as kind
 use Rattle.osi_spdu.specs.Kinds.{si_of}
+use Rattle.osi_spdu.specs.Sizes.{are_sizes}
 use Rattle.osi_spdu.specs.declared.fields.ResyncType.{ResyncType}
 use Rattle.osi_spdu.specs.declared.fields.ResyncType.TheVariants as resync
+use Rattle.osi_spdu.specs.declared.fields.TsduMaximumSize.{TsduMaximumSize}
 use Rattle.osi_spdu.specs.declared.faults.SpduFault.{SpduFault}
 use Rattle.osi_session.specs.declared.phases.Phase.{Phase}
 use Rattle.osi_session.specs.declared.phases.Phase.TheVariants.{Answering, Ready, MajorDue, ReleaseDue, RestartDue, Aborting, Ended}
@@ -21,6 +23,7 @@ use Rattle.osi_session.specs.Sides.{stated, of_asker, answers_wishes}
 use Rattle.osi_session.specs.Numbers.{point_taken, minor_confirmed, major_confirmed, restarted_at}
 use Rattle.osi_session.specs.Phases.{is_wait_cn, is_connecting, is_ready, is_major_asked, is_releasing, is_restarting, is_aborting, is_ended, is_over, shows_loss, takes_give, takes_data, takes_please, takes_minor_ack, takes_restart}
 use Rattle.osi_session.specs.State.{without_tokens}
+use Rattle.osi_session.specs.Sizes.{smaller_sizes}
 use Rattle.osi_session.specs.Allowed.{base_for, opened_with}
 use Rattle.osi_message.specs.Meanings.{Meaning, CN, AC, RF, DT, GT, PT, MIP, MIA, MAP, MAA, RS, RA, FN, DN, NF, AB, AA}
 use Rattle.osi_message.specs.Reading.{Said, names}
@@ -44,8 +47,8 @@ shows s i = record (nothing s) { shown = i ∷ [] }
 
 -- which unit it is
 abbrev pub kind_of : Meaning → Kind
-kind_of (CN v u n w from to o) = kind.Connect
-kind_of (AC v u n w o) = kind.Accept
+kind_of (CN v u n w from to z o) = kind.Connect
+kind_of (AC v u n w z o) = kind.Accept
 kind_of (RF r o) = kind.Refuse
 kind_of (DT o) = kind.DataTransfer
 kind_of (GT t) = kind.GiveTokens
@@ -74,8 +77,8 @@ has_no_effect _ = false
 
 -- the phases in which a unit is expected
 abbrev pub is_expected : Phase → Meaning → Bool
-is_expected p (CN v u n w from to o) = is_wait_cn p
-is_expected p (AC v u n w o) = is_connecting p
+is_expected p (CN v u n w from to z o) = is_wait_cn p
+is_expected p (AC v u n w z o) = is_connecting p
 is_expected p (RF r o) = is_connecting p
 is_expected p (DT o) = takes_data p
 is_expected p (GT t) = takes_give p
@@ -115,8 +118,8 @@ point_conditions s unit lacking n = (unit, NotSelected) ∷ (lacking, TokenHeld)
 
 -- what a unit has to meet, in the order of its faults
 abbrev pub conditions : State → Meaning → List Condition
-conditions s (AC version_2 requirements serial sides octets) =
-    (version_2 && has_data (both_units s.units (functional_units requirements)), NotSelected)
+conditions s (AC version_2 requirements serial sides sizes octets) =
+    (version_2 && (has_data (both_units s.units (functional_units requirements)) && are_sizes sizes), NotSelected)
     ∷ (answers_wishes (both_units s.units (functional_units requirements)) s.wishes sides, BadTokens) ∷ []
 conditions s (DT octets) = (lacks s token.data_token, TokenHeld) ∷ []
 conditions s (GT tokens) = (is_within tokens (available s.units) && is_disjoint tokens s.held, BadTokens) ∷ []
@@ -144,9 +147,9 @@ unfoldable pub stands : State → ℕ → Bool
 stands s n = not (is_restarting s.phase)
     || (nat_lt n s.numbers.next || ((n == s.numbers.next) && not s.is_caller))
 
--- version 2, and half-duplex or duplex
-abbrev pub is_acceptable : Bool → ℕ → Bool
-is_acceptable version_2 requirements = version_2 && has_data (functional_units requirements)
+-- version 2, half-duplex or duplex, and sizes that a user may give
+abbrev pub is_acceptable : Bool → ℕ → TsduMaximumSize → Bool
+is_acceptable version_2 requirements sizes = version_2 && (has_data (functional_units requirements) && are_sizes sizes)
 
 -- the first number: the AC's, or the CN's where the AC names none
 abbrev pub agreed_base : FunctionalUnits → Option ℕ → ℕ → ℕ
@@ -154,14 +157,14 @@ agreed_base units serial proposed = base_for units (unwrap_or serial proposed)
 
 -- the state after a good unit
 abbrev pub becomes : State → Meaning → State
-becomes s (CN version_2 requirements serial wishes from to octets) =
-    if is_acceptable version_2 requirements
-    then record s { phase = Answering; units = functional_units requirements; wishes = wishes; proposed = unwrap_or serial 0 }
+becomes s (CN version_2 requirements serial wishes from to sizes octets) =
+    if is_acceptable version_2 requirements sizes
+    then record s { phase = Answering; units = functional_units requirements; wishes = wishes; proposed = unwrap_or serial 0; sizes = sizes }
     else without_tokens Ended s
-becomes s (AC version_2 requirements serial sides octets) =
+becomes s (AC version_2 requirements serial sides sizes octets) =
     opened_with (both_units s.units (functional_units requirements))
     (of_asker (both_units s.units (functional_units requirements)) (stated (both_units s.units (functional_units requirements)) sides))
-    (agreed_base (both_units s.units (functional_units requirements)) serial s.proposed) s
+    (agreed_base (both_units s.units (functional_units requirements)) serial s.proposed) (smaller_sizes s.sizes sizes) s
 becomes s (RF reason octets) = without_tokens Ended s
 becomes s (DT octets) = s
 becomes s (GT tokens) = record s { held = united s.held tokens }
@@ -181,10 +184,10 @@ becomes s AA = s
 
 -- what a good unit shows; before a CN was taken there is no user to be shown anything
 abbrev pub shown_for : State → Meaning → List Shown
-shown_for s (CN version_2 requirements serial wishes from to octets) =
-    if is_acceptable version_2 requirements then Connect requirements serial wishes octets ∷ [] else []
-shown_for s (AC version_2 requirements serial sides octets) =
-    Connected requirements serial (stated (both_units s.units (functional_units requirements)) sides) octets ∷ []
+shown_for s (CN version_2 requirements serial wishes from to sizes octets) =
+    if is_acceptable version_2 requirements sizes then Connect requirements serial wishes sizes octets ∷ [] else []
+shown_for s (AC version_2 requirements serial sides sizes octets) =
+    Connected requirements serial (stated (both_units s.units (functional_units requirements)) sides) sizes octets ∷ []
 shown_for s (RF reason octets) = RefusedBySession reason octets ∷ []
 shown_for s (DT octets) = Data octets ∷ []
 shown_for s (GT tokens) = Given (token_octet tokens) ∷ []
@@ -204,8 +207,9 @@ shown_for s AA = []
 
 -- what a good unit is answered by: a CN that cannot be accepted by RF, AB by AA
 abbrev pub reply_for : Meaning → Option Meaning
-reply_for (CN version_2 requirements serial wishes from to octets) =
-    if not version_2 then Some (RF 132 []) else (if not (has_data (functional_units requirements)) then Some (RF 134 []) else None)
+reply_for (CN version_2 requirements serial wishes from to sizes octets) =
+    if not version_2 then Some (RF 132 [])
+    else (if not (has_data (functional_units requirements) && are_sizes sizes) then Some (RF 134 []) else None)
 reply_for (AB bits octets) = Some AA
 reply_for _ = None
 
@@ -268,8 +272,8 @@ respond_unit s u =
 
 -- a unit that names functional units
 abbrev pub has_terms : Meaning → Bool
-has_terms (CN v u n w from to o) = true
-has_terms (AC v u n w o) = true
+has_terms (CN v u n w from to z o) = true
+has_terms (AC v u n w z o) = true
 has_terms _ = false
 
 abbrev pub is_resynchronize : Meaning → Bool

@@ -1,5 +1,6 @@
 -- What a run of a session begins with, and the numbers in what happens to it.
 use Rattle.std.specs.Prelude.{◌≡◌, ◌<◌, true, ◌||◌}
+use Rattle.osi_spdu.specs.Sizes.{are_sizes}
 use Rattle.osi_session.specs.declared.state.State.{State}
 use Rattle.osi_message.specs.Tokens.{no_token}
 use Rattle.osi_session.specs.Numbers.{from_base}
@@ -21,3 +22,4 @@ pub record IsFresh (s : State) : Type 0 where
   pub base : s.base ≡ 0
   pub numbers : s.numbers ≡ from_base 0
   pub first : s.proposed < 1000000
+  pub sizes : are_sizes s.sizes ≡ true

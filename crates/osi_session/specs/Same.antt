@@ -3,6 +3,7 @@ use Rattle.std.specs.Prelude.{ℕ, ◌==◌, Bool, true, false, not, ◌&&◌}
 use Rattle.osi_spdu.specs.declared.settings.Wish.{Wish}
 use Rattle.osi_spdu.specs.declared.settings.Wish.TheVariants.{Asker, Answerer, Choice}
 use Rattle.osi_spdu.specs.declared.settings.TokenSetting.{TokenSetting}
+use Rattle.osi_spdu.specs.declared.fields.TsduMaximumSize.{TsduMaximumSize}
 use Rattle.osi_message.specs.declared.tokens.Tokens.{Tokens}
 use Rattle.osi_session.specs.declared.phases.Phase.{Phase}
 use Rattle.osi_session.specs.declared.phases.Phase.TheVariants.{WaitTransport, WaitCn, Connecting, Answering, Ready, MajorAsked, MajorDue, Releasing, ReleaseDue, Restarting, RestartDue, Aborting, Ended}
@@ -48,5 +49,8 @@ same_units a b = same_bit a.half_duplex b.half_duplex && (same_bit a.duplex b.du
 unfoldable pub same_numbers : Numbers → Numbers → Bool
 same_numbers a b = (a.next == b.next) && ((a.confirmed == b.confirmed) && ((a.lowest == b.lowest) && same_bit a.answers b.answers))
 
+unfoldable pub same_sizes : TsduMaximumSize → TsduMaximumSize → Bool
+same_sizes a b = (a.from_asker == b.from_asker) && (a.from_answerer == b.from_answerer)
+
 unfoldable pub same_state : State → State → Bool
-same_state a b = (place_of a.phase == place_of b.phase) && (same_bit a.is_caller b.is_caller && (same_units a.units b.units && (same_setting a.wishes b.wishes && (same_tokens a.held b.held && ((a.proposed == b.proposed) && ((a.base == b.base) && same_numbers a.numbers b.numbers))))))
+same_state a b = (place_of a.phase == place_of b.phase) && (same_bit a.is_caller b.is_caller && (same_units a.units b.units && (same_setting a.wishes b.wishes && (same_tokens a.held b.held && ((a.proposed == b.proposed) && ((a.base == b.base) && (same_numbers a.numbers b.numbers && same_sizes a.sizes b.sizes)))))))

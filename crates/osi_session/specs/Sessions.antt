@@ -1,5 +1,6 @@
 -- What a session begins with, and what its calls answer.
 use Rattle.osi_spdu.specs.Fields.{unit_bits}
+use Rattle.osi_spdu.specs.Sizes.{named_by, no_sizes}
 use Rattle.std.specs.Prelude.{◌≡◌, ℕ, Bool, true, false, not, List, [], ◌∷◌, ◌++◌, length, map, Option, Some, None, option_map, Result, Ok, Err, IfOk, OnOk, OnErr, if◌then◌else◌, nat_le, is_none, ◌&&◌}
 use Rattle.osi_spdu.specs.declared.settings.Wish.TheVariants.{Asker}
 use Rattle.osi_spdu.specs.declared.faults.SpduFault.{SpduFault}
@@ -71,6 +72,7 @@ asking o = record {
   proposed = base_for (functional_units (unit_bits o.requirements)) o.serial.number;
   base = 0;
   numbers = from_base 0;
+  sizes = named_by o.sizes;
 }
 
 -- the error of an opening: functional units that cannot be selected together, or long user data
@@ -95,6 +97,7 @@ awaiting = record {
   proposed = 0;
   base = 0;
   numbers = from_base 0;
+  sizes = no_sizes;
 }
 
 abbrev pub awaits : Standing

@@ -2,6 +2,7 @@
 use Rattle.osi_spdu.specs.Fields.{bits_of, unit_bits}
 use Rattle.std.specs.Prelude.{ℕ, Bool, List, Option}
 use Rattle.osi_spdu.specs.declared.settings.TokenSetting.{TokenSetting}
+use Rattle.osi_spdu.specs.declared.fields.TsduMaximumSize.{TsduMaximumSize}
 use Rattle.osi_session.specs.declared.sides.Sides.{Sides}
 use Rattle.osi_session.specs.declared.faults.UnitFault.{UnitFault}
 use Rattle.osi_session.specs.declared.indications.Indication.{Indication}
@@ -10,8 +11,8 @@ use Rattle.osi_session.specs.declared.indications.AbortCause.{AbortCause}
 use Rattle.osi_session.specs.declared.indications.AbortCause.TheVariants as cause
 
 pub data Shown : Type 0 where
-  Connect : (requirements : ℕ) (serial : Option ℕ) (wishes : TokenSetting) (octets : List ℕ) → Shown
-  Connected : (requirements : ℕ) (serial : Option ℕ) (sides : Sides) (octets : List ℕ) → Shown
+  Connect : (requirements : ℕ) (serial : Option ℕ) (wishes : TokenSetting) (sizes : TsduMaximumSize) (octets : List ℕ) → Shown
+  Connected : (requirements : ℕ) (serial : Option ℕ) (sides : Sides) (sizes : TsduMaximumSize) (octets : List ℕ) → Shown
   RefusedByTransport : (reason : ℕ) → Shown
   RefusedBySession : (reason : ℕ) (octets : List ℕ) → Shown
   Data : (octets : List ℕ) → Shown
@@ -38,8 +39,8 @@ abort_shown (cause.Unit fault) = BadUnit fault
 
 -- an indication in memory
 abbrev pub shown_by : Indication → Shown
-shown_by (indication.Connect requirements serial wishes octets) = Connect (unit_bits requirements) serial wishes octets
-shown_by (indication.Connected requirements serial sides octets) = Connected (unit_bits requirements) serial sides octets
+shown_by (indication.Connect requirements serial wishes sizes octets) = Connect (unit_bits requirements) serial wishes sizes octets
+shown_by (indication.Connected requirements serial sides sizes octets) = Connected (unit_bits requirements) serial sides sizes octets
 shown_by (indication.RefusedByTransport reason) = RefusedByTransport reason
 shown_by (indication.RefusedBySession reason octets) = RefusedBySession reason octets
 shown_by (indication.Data octets) = Data octets

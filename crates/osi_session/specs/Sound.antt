@@ -1,5 +1,6 @@
 -- What is true of a session at all times.
 use Rattle.std.specs.Prelude.{◌≡◌, ◌≤◌, ◌<◌, ℕ, true, false}
+use Rattle.osi_spdu.specs.Sizes.{are_sizes}
 use Rattle.osi_session.specs.declared.state.State.{State}
 use Rattle.osi_session.specs.declared.numbers.Numbers.{Numbers}
 use Rattle.osi_session.specs.Phases.{in_major, is_restart_due, may_hold}
@@ -22,3 +23,5 @@ pub record IsSound (s : State) : Type 0 where
   pub restart : is_restart_due s.phase ≡ true → s.numbers.next < 1000000
   -- tokens are held in few phases
   pub tokens : may_hold s.phase ≡ false → s.held ≡ no_token
+  -- each size is one that a user may give
+  pub sizes : are_sizes s.sizes ≡ true

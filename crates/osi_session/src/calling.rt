@@ -1,6 +1,7 @@
 //! The table of calls.
 
 ghost use Rattle.osi_spdu.specs.Fields.{bits_of, unit_bits};
+ghost use Rattle.osi_spdu.specs.Sizes.{named_by};
 ghost use Rattle.std.specs.Prelude.{◌≡◌, ◌<◌, ◌≤◌, ◌&&◌, true, length, nat_le, Ok, Err, IfOk, OnOk, IfErr};
 ghost use Rattle.osi_session.specs.Allowed.{allowed, met, needs, may_call, octets_of, most_of, has_right, point_needs, is_restartable};
 ghost use Rattle.osi_session.specs.Calls.{called_by, Accept, Refuse, Data, Give, Please, Minor, MinorConfirm, Major, MajorConfirm, Restart, RestartConfirm, Release, ReleaseAccept, ReleaseRefuse, Abort};
@@ -18,9 +19,10 @@ use crate::phases::Phase;
 use crate::requests::Request;
 use crate::selected::{FunctionalUnits, is_profile};
 use crate::sides::{Sides, offered};
+use crate::sizes::{answered_sizes, fits_limit};
 use crate::state::State;
 use osi_message::{Message, Tokens};
-use osi_spdu::{Requirements, ResyncType, Serial, TokenSet, TokenSetting};
+use osi_spdu::{Requirements, ResyncType, Serial, TokenSet, TokenSetting, TsduSizes};
 
 /// The most octets of user data of a call other than data.
 pub(crate) const MOST_USER_DATA: usize = 10_240;
@@ -133,9 +135,10 @@ fn accept<'a>(
     requirements: Requirements,
     serial: Serial,
     sides: Sides,
+    sizes: TsduSizes,
     user_data: &'a [u8],
 ) -> Result<Step<'a>, CallError>
-    ensures { Answers result (met state.now (Accept (unit_bits requirements) serial.number sides user_data.entry.now)) }
+    ensures { Answers result (met state.now (Accept (unit_bits requirements) serial.number sides (named_by sizes) user_data.entry.now)) }
 {
     let units = FunctionalUnits::of(requirements);
     if !(units.is_within(state.units) && is_profile(requirements)) {
@@ -143,6 +146,7 @@ fn accept<'a>(
     }
     let settled = sides.settle(units, state.wishes);
     let base = units.base(serial.number);
+    let sizes = answered_sizes(state.sizes, sizes.named());
     Ok(Step {
         next: State {
             phase: Phase::Ready,
@@ -150,6 +154,7 @@ fn accept<'a>(
             held: settled.of_answerer(units),
             base,
             numbers: Numbers::from_base(base),
+            sizes,
             ..*state
         },
         sent: Message::Accept {
@@ -157,6 +162,7 @@ fn accept<'a>(
             requirements,
             serial: units.initial_number(serial),
             sides: settled.setting(),
+            sizes,
             user_data,
         },
     })
@@ -480,8 +486,9 @@ fn decide_row<'a>(state: &State, request: &Request<'a>) -> Result<Step<'a>, Call
             requirements,
             serial,
             sides,
+            sizes,
             user_data,
-        } => accept(state, requirements, serial, sides, user_data),
+        } => accept(state, requirements, serial, sides, sizes, user_data),
         Request::Refuse { user_data } => Ok(refuse(state, user_data)),
         Request::Data { user_data } => data(state, user_data),
         Request::Give { tokens } => give(state, tokens),
@@ -519,6 +526,9 @@ pub(crate) fn decide<'a>(state: &State, request: &Request<'a>) -> Result<Step<'a
     }
     let step = decide_row(state, request)?;
     if !fits(request) {
+        return Err(CallError::TooLong);
+    }
+    if !fits_limit(state, request, &step.sent) {
         return Err(CallError::TooLong);
     }
     Ok(step)

@@ -32,7 +32,8 @@ pub enum CallError {
     /// There is no octet of data, or no token.
     #[error("nothing to send")]
     Empty,
-    /// There are more than 10,240 octets of user data, or 1,048,572 octets of data.
+    /// There are more than 10,240 octets of user data, or 1,048,572 octets of data, or the TSDU is
+    /// above the size that is agreed for its direction.
     #[error("too long")]
     TooLong,
     /// No memory for what is to be sent.
@@ -50,7 +51,7 @@ pub enum UnitFault {
     /// The phase does not expect this unit.
     #[error("unexpected unit {0}")]
     Unexpected(u8),
-    /// The version, a functional unit or the type of resynchronization is not selected.
+    /// The version, a functional unit, a size or the type of resynchronization is not selected.
     #[error("unit {0} is not selected")]
     NotSelected(u8),
     /// The unit needs a token that this end holds.

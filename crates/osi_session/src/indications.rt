@@ -1,7 +1,7 @@
 use crate::faults::UnitFault;
 use crate::sides::Sides;
 use osi_message::Octets;
-use osi_spdu::{Requirements, TokenSet, TokenSetting};
+use osi_spdu::{Requirements, TokenSet, TokenSetting, TsduMaximumSize};
 
 /// What the user of a session is shown (X.215 section 10, indications and confirms). User data may
 /// be empty.
@@ -15,6 +15,9 @@ pub enum Indication {
         serial: Option<u32>,
         /// The side that it wishes for each token.
         wishes: TokenSetting,
+        /// The largest TSDU in each direction that it names, in octets, 0 for no limit, else 64 to
+        /// 65,535.
+        sizes: TsduMaximumSize,
         /// User data.
         user_data: Octets,
     },
@@ -26,6 +29,9 @@ pub enum Indication {
         serial: Option<u32>,
         /// The side that holds each token; a token that is not available is the asker's.
         sides: Sides,
+        /// The largest TSDU in each direction that it names, in octets, 0 for no limit, else 64 to
+        /// 65,535. The smaller of the CN's and this that is not 0 bounds what is sent.
+        sizes: TsduMaximumSize,
         /// User data.
         user_data: Octets,
     },

@@ -140,14 +140,16 @@ pub fn what_a_tsdu_shows()
     ensures { (s : State) (said : Said) → length (respond s said).shown ≤ length said }
 {}
 
-/// An accepted call passed each test of its row, in its phase, with user data that is short enough,
-/// and gives what the row says; and a call that passes each test is accepted.
+/// An accepted call passed each test of its row, in its phase, with user data that is short enough and
+/// a TSDU within the size of its direction, and gives what the row says; and a call that passes each
+/// test is accepted.
 pub fn what_an_accepted_call_passed()
     ensures passed { (s : State) (c : Call) (x : Step) → allowed s c ≡ Ok x → Passed s c x }
     ensures accepted { (s : State) (c : Call) (x : Step) → Passed s c x → allowed s c ≡ Ok x }
 {}
 
-/// The numbers in a call, and in the units of a TSDU, are those that a point may have.
+/// The numbers in a call, and in the units of a TSDU, are those that a point may have, and the sizes
+/// of a call those that a user may give.
 pub fn what_happens_has_numbers()
     ensures request { (request : Request) → HasNumbers (called (called_by request)) }
     ensures units { (units : Units) → HasNumbers (taken (said_by_units units)) }
@@ -156,7 +158,8 @@ pub fn what_happens_has_numbers()
 /// Over every list of calls, TSDUs and what befalls the transport connection, from the state of a
 /// called or of a calling side: V(A) and V(R) are between the base and V(M), which is at most
 /// 1,000,000; a major point that is outstanding has a number, and so has a restart that is to be
-/// answered; and tokens are held only in Ready, MajorAsked, MajorDue, Releasing and ReleaseDue.
+/// answered; tokens are held only in Ready, MajorAsked, MajorDue, Releasing and ReleaseDue; and each
+/// size is 0, or 64 to 65,535.
 pub fn numbers_stay_in_order()
     ensures called { IsFresh awaiting }
     ensures caller { (o : Opening) → IsFresh (asking o) }

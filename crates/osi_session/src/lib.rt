@@ -17,6 +17,7 @@ mod same;
 mod selected;
 mod sessions;
 mod sides;
+mod sizes;
 mod state;
 mod taken;
 mod taking;

@@ -6,7 +6,7 @@ ghost use Rattle.osi_session.specs.Openings.{asked_for};
 use crate::selected::FunctionalUnits;
 use crate::sides::offered;
 use osi_message::Message;
-use osi_spdu::{Requirements, Selector, Serial, TokenSetting};
+use osi_spdu::{Requirements, Selector, Serial, TokenSetting, TsduSizes};
 
 /// What a CN asks for (X.225 section 8, connect).
 #[derive(Clone, Copy, Debug)]
@@ -23,6 +23,8 @@ pub struct Opening<'a> {
     pub calling_selector: Option<Selector<'a>>,
     /// The address of the user that is asked, 0 to 16 octets.
     pub called_selector: Option<Selector<'a>>,
+    /// The largest TSDU in each direction (X.225 section 8, TSDU maximum size).
+    pub sizes: TsduSizes,
     /// User data, at most 10,240 octets.
     pub user_data: &'a [u8],
 }
@@ -42,6 +44,7 @@ impl<'a> Opening<'a> {
             wishes: offered(units, self.wishes),
             calling: self.calling_selector,
             called: self.called_selector,
+            sizes: self.sizes.named(),
             user_data: self.user_data,
         }
     }

@@ -1,5 +1,5 @@
 ghost use Rattle.std.specs.Prelude.{◌≡◌};
-ghost use Rattle.osi_session.specs.Phases.{is_over, is_wait_transport, is_wait_cn, is_connecting, is_answering, is_ready, is_major_asked, is_major_due, is_releasing, is_release_due, is_restarting, is_restart_due, is_aborting, is_ended, in_major, may_give, may_ask, may_confirm_minor, may_restart, takes_data, takes_give, takes_please, takes_minor_ack, takes_restart, may_abort, shows_loss};
+ghost use Rattle.osi_session.specs.Phases.{is_over, is_wait_transport, is_wait_cn, is_connecting, is_answering, is_ready, is_major_asked, is_major_due, is_releasing, is_release_due, is_restarting, is_restart_due, is_aborting, is_ended, is_settled, in_major, may_give, may_ask, may_confirm_minor, may_restart, takes_data, takes_give, takes_please, takes_minor_ack, takes_restart, may_abort, shows_loss};
 
 /// Where a session connection stands (X.225 annex A, states).
 #[derive(Clone, Copy, PartialEq, Eq, Debug)]
@@ -39,6 +39,16 @@ impl Phase {
         ensures { result ≡ is_over self }
     {
         matches!(self, Phase::Aborting | Phase::Ended)
+    }
+
+    /// The CN is answered.
+    pub(crate) fn is_settled(self) -> bool
+        ensures { result ≡ is_settled self }
+    {
+        !matches!(
+            self,
+            Phase::WaitTransport | Phase::WaitCn | Phase::Connecting | Phase::Answering
+        )
     }
 
     /// The transport connection is awaited.

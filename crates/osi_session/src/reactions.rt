@@ -30,7 +30,8 @@ const PROTOCOL_ERROR: u8 = 0x05;
 pub(crate) enum Reply {
     /// RF with reason 132: the peer has not version 2.
     VersionNotSupported,
-    /// RF with reason 134: there is neither half-duplex nor duplex.
+    /// RF with reason 134: there is neither half-duplex nor duplex, or a size is one that no user
+    /// gives.
     ImplementationRestriction,
     /// AB for a protocol error, which releases the transport connection too.
     ProtocolError,

@@ -1,5 +1,5 @@
 use crate::sides::Sides;
-use osi_spdu::{Requirements, Serial, TokenSet, TokenSetting};
+use osi_spdu::{Requirements, Serial, TokenSet, TokenSetting, TsduSizes};
 
 /// A call of the user of a session (X.215 section 10, requests and responses). User data is at most
 /// 10,240 octets, and may be empty.
@@ -14,6 +14,9 @@ pub enum Request<'a> {
         serial: Serial,
         /// The side that holds each token whose wish was a choice.
         sides: Sides,
+        /// The largest TSDU in each direction. The AC names 0 where the CN does, else the smaller of
+        /// the CN's and this where it is not 0.
+        sizes: TsduSizes,
         /// User data.
         user_data: &'a [u8],
     },

@@ -1,14 +1,14 @@
 //! Whether two states are one.
 
 ghost use Rattle.std.specs.Prelude.{◌≡◌, ◌≢◌, MatchBool};
-ghost use Rattle.osi_session.specs.Same.{same_bit, same_wish, place_of, same_setting, same_tokens, same_units, same_numbers, same_state};
+ghost use Rattle.osi_session.specs.Same.{same_bit, same_wish, place_of, same_setting, same_tokens, same_units, same_numbers, same_sizes, same_state};
 
 use crate::numbers::Numbers;
 use crate::phases::Phase;
 use crate::selected::FunctionalUnits;
 use crate::state::State;
 use osi_message::Tokens;
-use osi_spdu::{TokenSetting, Wish};
+use osi_spdu::{TokenSetting, TsduMaximumSize, Wish};
 
 fn same_bit(one: bool, other: bool) -> bool
     ensures { result ≡ same_bit one other }
@@ -89,6 +89,13 @@ fn same_numbers(one: Numbers, other: Numbers) -> bool
         && same_bit(one.answers, other.answers)
 }
 
+#[tactic(auto, unfolding(crate::specs::Same::same_sizes))]
+fn same_sizes(one: TsduMaximumSize, other: TsduMaximumSize) -> bool
+    ensures { result ≡ same_sizes one other }
+{
+    one.from_asker == other.from_asker && one.from_answerer == other.from_answerer
+}
+
 #[tactic(auto, unfolding(crate::specs::Same::same_state))]
 fn same_state(one: &State, other: &State) -> bool
     ensures { result ≡ same_state one.now other.now }
@@ -101,6 +108,7 @@ fn same_state(one: &State, other: &State) -> bool
         && one.proposed == other.proposed
         && one.base == other.base
         && same_numbers(one.numbers, other.numbers)
+        && same_sizes(one.sizes, other.sizes)
 }
 
 impl State {

@@ -7,7 +7,7 @@ use crate::phases::Phase;
 use crate::selected::FunctionalUnits;
 use crate::sides::offered;
 use osi_message::Tokens;
-use osi_spdu::{TokenSetting, Wish};
+use osi_spdu::{TokenSetting, TsduMaximumSize, Wish};
 
 /// What a session knows, apart from octets.
 #[derive(Clone, Copy)]
@@ -26,6 +26,8 @@ pub(crate) struct State {
     /// The first number of the connection; 0 until the CN is answered.
     pub(crate) base: u32,
     pub(crate) numbers: Numbers,
+    /// The sizes that the CN names until it is answered, then the agreed ones.
+    pub(crate) sizes: TsduMaximumSize,
 }
 
 impl State {
@@ -49,6 +51,7 @@ impl State {
             lowest: 0,
             answers: false,
         },
+        sizes: TsduMaximumSize::NONE,
     };
 
     /// The calling side, before the transport connection is there.
@@ -62,6 +65,7 @@ impl State {
             units,
             wishes: offered(units, opening.wishes),
             proposed: units.base(opening.serial.number),
+            sizes: opening.sizes.named(),
             ..State::AWAITING
         }
     }

@@ -61,6 +61,7 @@ fn take_live(alloc: Global, state: &State, message: Message<'_>) -> Result<React
             requirements,
             serial,
             wishes,
+            sizes,
             user_data,
             ..
         } => connect(
@@ -70,6 +71,7 @@ fn take_live(alloc: Global, state: &State, message: Message<'_>) -> Result<React
             requirements,
             serial,
             wishes,
+            sizes,
             user_data,
         ),
         Message::Accept {
@@ -77,6 +79,7 @@ fn take_live(alloc: Global, state: &State, message: Message<'_>) -> Result<React
             requirements,
             serial,
             sides,
+            sizes,
             user_data,
         } => accept(
             alloc,
@@ -85,6 +88,7 @@ fn take_live(alloc: Global, state: &State, message: Message<'_>) -> Result<React
             requirements,
             serial,
             sides,
+            sizes,
             user_data,
         ),
         _ => take_within(alloc, state, message),

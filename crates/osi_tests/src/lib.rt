@@ -10,7 +10,7 @@
 //! - `transport_units`, `session_units`: how units are written, sets, bounds, units that are made;
 //! - `links`, `whole_links`: credit, numbers that go round, the longest TSDU;
 //! - `carriers`: an end of neither class, all references, what is sent where nothing is open;
-//! - `sessions`: plans, the greatest length of data;
+//! - `sessions`: plans, the greatest length of data, sizes;
 //! - `stacks`: a selector that is too long, a called end that asks for a connection;
 //! - `listings`: TSDUs of 1,048,576 octets and more;
 //!

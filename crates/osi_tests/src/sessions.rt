@@ -1,8 +1,10 @@
-//! Sessions: the greatest length of data, plans, and that calls succeed where memory is ample.
+//! Sessions: the greatest length of data, sizes, plans, and that calls succeed where memory is ample.
 
 use bitflags::Flags;
 use osi_session::*;
-use osi_spdu::{Requirements, Serial, Side, TokenSet, TokenSetting, Wish, read_tsdu};
+use osi_spdu::{
+    Requirements, Serial, Side, TokenSet, TokenSetting, TsduSize, TsduSizes, Wish, read_tsdu,
+};
 use std::test::Fail;
 
 pub(crate) const ASKER_WISHES: TokenSetting = TokenSetting {
@@ -59,37 +61,62 @@ fn holds(session: &Session, tokens: u8) -> Result<(), Fail> {
     Ok(())
 }
 
-/// A caller that has sent its CN, and got the AC.
-fn connected(rt: &HostRuntime) -> Result<Session, Fail> {
+/// A caller that has sent its CN, and gets this AC.
+fn answered(
+    rt: &HostRuntime,
+    sizes: TsduSizes,
+    connect: &[u8],
+    accept: &[u8],
+) -> Result<(Session, Taken), Fail> {
     let opening = Opening {
         requirements: Requirements::from_bits_retain(ALL_UNITS),
         serial: Serial::new(1).ok_or("a serial number")?,
         wishes: ASKER_WISHES,
         calling_selector: None,
         called_selector: None,
+        sizes,
         user_data: &[],
     };
     let mut left = Session::caller(rt.alloc(), &opening)?;
     match left.opened() {
-        Some(sent) => same(sent.as_slice(), &CONNECT)?,
+        Some(sent) => same(sent.as_slice(), connect)?,
         None => return Err(Fail::from("no CN")),
     }
-    left.take_tsdu(&ACCEPT)?;
+    let taken = left.take_tsdu(accept)?;
+    Ok((left, taken))
+}
+
+/// A caller that has sent its CN, and got the AC.
+fn connected(rt: &HostRuntime) -> Result<Session, Fail> {
+    let (left, _) = answered(rt, TsduSizes::NONE, &CONNECT, &ACCEPT)?;
     holds(&left, 0x55)?;
     Ok(left)
 }
 
-#[test]
-fn a_called_session_accepts(rt: HostRuntime) -> Result<(), Fail> {
+/// A called session takes the CN, and its user accepts with these sizes.
+fn accepts(
+    rt: &HostRuntime,
+    connect: &[u8],
+    sizes: TsduSizes,
+    accept: &[u8],
+) -> Result<Session, Fail> {
     let mut right = Session::called(rt.alloc());
-    right.take(&read_tsdu(&CONNECT)?)?;
+    right.take(&read_tsdu(connect)?)?;
     let sent = right.call(Request::Accept {
         requirements: Requirements::from_bits_retain(ALL_UNITS),
         serial: Serial::new(1).ok_or("a serial number")?,
         sides: ASKER_SIDES,
+        sizes,
         user_data: &[],
     })?;
-    same(sent.as_slice(), &ACCEPT)
+    same(sent.as_slice(), accept)?;
+    Ok(right)
+}
+
+#[test]
+fn a_called_session_accepts(rt: HostRuntime) -> Result<(), Fail> {
+    accepts(&rt, &CONNECT, TsduSizes::NONE, &ACCEPT)?;
+    Ok(())
 }
 
 #[test]
@@ -163,4 +190,131 @@ fn data_changes_nothing(rt: HostRuntime) -> Result<(), Fail> {
 #[test]
 fn a_plan_changes_nothing(rt: HostRuntime) -> Result<(), Fail> {
     plan_goes_on(&mut connected(&rt)?)
+}
+
+/// A CN or an AC (by its first octet) with these sizes and this version: as `CONNECT` and `ACCEPT`.
+fn sized(si: u8, from_asker: u8, from_answerer: u8, version: u8) -> [u8; 26] {
+    [
+        si,
+        0x18,
+        0x05,
+        0x12,
+        0x13,
+        0x01,
+        0x01,
+        0x15,
+        0x04,
+        0x00,
+        from_asker,
+        0x00,
+        from_answerer,
+        0x16,
+        0x01,
+        version,
+        0x17,
+        0x01,
+        0x31,
+        0x1A,
+        0x01,
+        0x00,
+        0x14,
+        0x02,
+        0x00,
+        0xB9,
+    ]
+}
+
+fn sizes(from_asker: u16, from_answerer: u16) -> Result<TsduSizes, Fail> {
+    Ok(TsduSizes {
+        from_asker: TsduSize::new(from_asker).ok_or("a size")?,
+        from_answerer: TsduSize::new(from_answerer).ok_or("a size")?,
+    })
+}
+
+#[test]
+fn an_answer_names_the_smaller_sizes(rt: HostRuntime) -> Result<(), Fail> {
+    let connect = sized(0x0D, 64, 0, 2);
+    accepts(&rt, &connect, sizes(0, 100)?, &sized(0x0E, 64, 0, 2))?;
+    let connect = sized(0x0D, 200, 200, 2);
+    accepts(&rt, &connect, sizes(100, 0)?, &sized(0x0E, 100, 200, 2))?;
+    Ok(())
+}
+
+/// A CN is answered by RF with this reason, and nothing is shown.
+fn is_refused(rt: &HostRuntime, connect: &[u8], reason: u8) -> Result<(), Fail> {
+    let mut right = Session::called(rt.alloc());
+    let taken = right.take_tsdu(connect)?;
+    if taken.first.is_some() {
+        return Err(Fail::from("an indication"));
+    }
+    match &taken.reply {
+        Some(sent) => same(
+            sent.as_slice(),
+            &[0x0C, 0x06, 0x11, 0x01, 0x01, 0x32, 0x01, reason],
+        )?,
+        None => return Err(Fail::from("no answer")),
+    }
+    is_in(&right, Phase::Ended)
+}
+
+#[test]
+fn a_size_of_63_is_refused(rt: HostRuntime) -> Result<(), Fail> {
+    is_refused(&rt, &sized(0x0D, 63, 0, 2), 134)?;
+    is_refused(&rt, &sized(0x0D, 63, 0, 1), 132)
+}
+
+#[test]
+fn a_size_of_1_is_not_selected(rt: HostRuntime) -> Result<(), Fail> {
+    let (left, taken) = answered(&rt, TsduSizes::NONE, &CONNECT, &sized(0x0E, 0, 1, 2))?;
+    match taken.first {
+        Some(
+            Indication::ProviderAbort {
+                cause: AbortCause::Unit(UnitFault::NotSelected(14)),
+            },
+        ) => is_in(&left, Phase::Aborting),
+        _ => Err(Fail::from("another indication")),
+    }
+}
+
+fn has_length(left: &mut Session, request: Request, want: usize) -> Result<(), Fail> {
+    let sent = left.call(request)?;
+    if sent.as_slice().len() != want {
+        return Err(Fail::from("another length"));
+    }
+    Ok(())
+}
+
+/// At 64 octets, with 300 octets of user data.
+fn sizes_go_on(left: &mut Session, octets: &[u8]) -> Result<(), Fail> {
+    let confirm = true;
+    let minor = Request::Minor {
+        confirm,
+        user_data: octets,
+    };
+    refuses(left, minor, CallError::TooLong)?;
+    let Some((user_data, _)) = octets.split_at_checked(60) else {
+        return Err(Fail::from("too few octets"));
+    };
+    refuses(left, Request::Abort { user_data }, CallError::TooLong)?;
+    is_in(left, Phase::Ready)?;
+    let Some((user_data, _)) = octets.split_at_checked(55) else {
+        return Err(Fail::from("too few octets"));
+    };
+    has_length(left, Request::Minor { confirm, user_data }, 64)?;
+    has_length(left, Request::Data { user_data: octets }, 304)?;
+    let Some((user_data, _)) = octets.split_at_checked(57) else {
+        return Err(Fail::from("too few octets"));
+    };
+    has_length(left, Request::Abort { user_data }, 64)
+}
+
+#[test]
+fn a_call_is_within_the_agreed_size(rt: HostRuntime) -> Result<(), Fail> {
+    let octets = vec![in rt.alloc(); 0u8; 300]?;
+    let connect = sized(0x0D, 64, 0, 2);
+    let (mut left, _) = answered(&rt, sizes(64, 0)?, &connect, &sized(0x0E, 64, 0, 2))?;
+    sizes_go_on(&mut left, octets.as_slice())?;
+    let mut right = accepts(&rt, &connect, TsduSizes::NONE, &sized(0x0E, 64, 0, 2))?;
+    let user_data = octets.as_slice();
+    has_length(&mut right, Request::Abort { user_data }, 311)
 }

@@ -6,6 +6,7 @@ ghost use Rattle.osi_message.specs.Meanings.{CN, AC, RF};
 ghost use Rattle.osi_session.specs.Allowed.{opened_with};
 ghost use Rattle.osi_session.specs.Respond.{in_phase, agreed_base};
 ghost use Rattle.osi_session.specs.Sides.{of_asker};
+ghost use Rattle.osi_session.specs.Sizes.{smaller_sizes};
 ghost use Rattle.osi_session.specs.Steps.{Reacts};
 
 use crate::faults::UnitFault;
@@ -15,13 +16,14 @@ use crate::phases::Phase;
 use crate::reactions::{Reaction, Reply};
 use crate::selected::FunctionalUnits;
 use crate::sides::{Sides, answers_wishes};
+use crate::sizes::{are_sizes, smaller_sizes};
 use crate::state::State;
 use osi_message::Octets;
-use osi_spdu::{Kind, Requirements, Serial, TokenSetting};
+use osi_spdu::{Kind, Requirements, Serial, TokenSetting, TsduMaximumSize};
 use std::alloc::{AllocError, Global};
 
-/// CN: one that has not version 2, or neither half-duplex nor duplex, is refused, and the user is
-/// shown nothing.
+/// CN: one that has not version 2, or neither half-duplex nor duplex, or a size that no user gives, is
+/// refused, and the user is shown nothing.
 #[tactic(auto, unfolding(crate::specs::Respond::take_expected))]
 pub(super) fn connect(
     alloc: Global,
@@ -30,10 +32,11 @@ pub(super) fn connect(
     requirements: Requirements,
     serial: Option<Serial>,
     wishes: TokenSetting,
+    sizes: TsduMaximumSize,
     user_data: &[u8],
 ) -> Result<Reaction, AllocError>
     ensures { Reacts result (in_phase state.now
-        (CN version_2 (unit_bits requirements) (option_map (λ s. s.number) serial) wishes None None user_data.now)) }
+        (CN version_2 (unit_bits requirements) (option_map (λ s. s.number) serial) wishes None None sizes user_data.now)) }
 {
     if !state.phase.is_wait_cn() {
         return Ok(Reaction::unexpected(state, Kind::Connect));
@@ -42,7 +45,7 @@ pub(super) fn connect(
     if !version_2 {
         return Ok(Reaction::refusing(state, Reply::VersionNotSupported));
     }
-    if !units.has_data() {
+    if !(units.has_data() && are_sizes(sizes)) {
         return Ok(Reaction::refusing(state, Reply::ImplementationRestriction));
     }
     let serial = number_of(serial);
@@ -51,6 +54,7 @@ pub(super) fn connect(
         units,
         wishes,
         proposed: serial.unwrap_or(0),
+        sizes,
         ..*state
     };
     let user_data = Octets::copy(alloc, user_data)?;
@@ -58,6 +62,7 @@ pub(super) fn connect(
         requirements,
         serial,
         wishes,
+        sizes,
         user_data,
     };
     Ok(Reaction::showing(next, shown))
@@ -69,8 +74,8 @@ fn number_of(serial: Option<Serial>) -> Option<u32>
     Some(serial?.number)
 }
 
-/// AC: version 2, half-duplex or duplex among the units that both name, and sides as they were
-/// wished.
+/// AC: version 2, half-duplex or duplex among the units that both name, sizes that a user may give,
+/// and sides as they were wished.
 #[tactic(auto, unfolding(crate::specs::Respond::take_expected))]
 pub(super) fn accept(
     alloc: Global,
@@ -79,16 +84,17 @@ pub(super) fn accept(
     requirements: Requirements,
     serial: Option<Serial>,
     answer: TokenSetting,
+    sizes: TsduMaximumSize,
     user_data: &[u8],
 ) -> Result<Reaction, AllocError>
     ensures { Reacts result (in_phase state.now
-        (AC version_2 (unit_bits requirements) (option_map (λ s. s.number) serial) answer user_data.now)) }
+        (AC version_2 (unit_bits requirements) (option_map (λ s. s.number) serial) answer sizes user_data.now)) }
 {
     if !state.phase.is_connecting() {
         return Ok(Reaction::unexpected(state, Kind::Accept));
     }
     let units = state.units.both(FunctionalUnits::of(requirements));
-    if !(version_2 && units.has_data()) {
+    if !(version_2 && units.has_data() && are_sizes(sizes)) {
         return Ok(Reaction::bad(state, UnitFault::NotSelected(Kind::Accept.si())));
     }
     if !answers_wishes(units, state.wishes, answer) {
@@ -101,14 +107,23 @@ pub(super) fn accept(
         requirements,
         serial,
         sides,
+        sizes,
         user_data,
     };
-    Ok(Reaction::showing(opened(state, units, sides, serial), shown))
+    let next = opened(state, units, sides, serial, sizes);
+    Ok(Reaction::showing(next, shown))
 }
 
 /// The state of the caller once its CN is accepted.
-fn opened(state: &State, units: FunctionalUnits, sides: Sides, serial: Option<u32>) -> State
-    ensures { result ≡ opened_with units (of_asker units sides) (agreed_base units serial state.now.proposed) state.now }
+fn opened(
+    state: &State,
+    units: FunctionalUnits,
+    sides: Sides,
+    serial: Option<u32>,
+    sizes: TsduMaximumSize,
+) -> State
+    ensures { result ≡ opened_with units (of_asker units sides) (agreed_base units serial state.now.proposed)
+        (smaller_sizes state.now.sizes sizes) state.now }
 {
     let base = units.base(serial.unwrap_or(state.proposed));
     State {
@@ -117,6 +132,7 @@ fn opened(state: &State, units: FunctionalUnits, sides: Sides, serial: Option<u3
         held: sides.of_asker(units),
         base,
         numbers: Numbers::from_base(base),
+        sizes: smaller_sizes(state.sizes, sizes),
         ..*state
     }
 }

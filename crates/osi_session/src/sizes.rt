@@ -1,0 +1,104 @@
+//! The largest TSDU in each direction: what a CN and an AC agree on, and what it bounds.
+
+ghost use Rattle.std.specs.Prelude.{◌≡◌, ◌<◌, length};
+ghost use Rattle.osi_spdu.specs.Sizes.{are_sizes};
+ghost use Rattle.osi_spdu.specs.Values.{is_size};
+ghost use Rattle.osi_message.specs.Meanings.{meant_by};
+ghost use Rattle.osi_message.specs.Written.{user_data_of};
+ghost use Rattle.osi_session.specs.Calls.{called_by};
+ghost use Rattle.osi_session.specs.Sizes.{smaller, answered, smaller_sizes, answered_sizes, limit_of, fits_limit};
+
+use crate::requests::Request;
+use crate::state::State;
+use osi_message::Message;
+use osi_spdu::TsduMaximumSize;
+
+/// A user may give this size: no limit, or 64 octets and more.
+fn is_size(octets: u16) -> bool
+    ensures { result ≡ is_size octets }
+{
+    octets == 0 || octets >= 64
+}
+
+/// A user may give these sizes.
+pub(crate) fn are_sizes(sizes: TsduMaximumSize) -> bool
+    ensures { result ≡ are_sizes sizes }
+{
+    is_size(sizes.from_asker) && is_size(sizes.from_answerer)
+}
+
+/// The smaller of two sizes, where 0 is no limit.
+fn smaller(one: u16, other: u16) -> u16
+    ensures { result ≡ smaller one other }
+{
+    if one == 0 {
+        return other;
+    }
+    if other == 0 || one < other {
+        return one;
+    }
+    other
+}
+
+/// What an AC names: 0 where the CN has 0, else the smaller of the CN's and the answerer's.
+fn answered(asked: u16, given: u16) -> u16
+    ensures { result ≡ answered asked given }
+{
+    if asked == 0 {
+        return 0;
+    }
+    smaller(asked, given)
+}
+
+/// The smaller sizes, in either direction.
+#[tactic(auto, unfolding(crate::specs::Sizes::smaller_sizes))]
+pub(crate) fn smaller_sizes(one: TsduMaximumSize, other: TsduMaximumSize) -> TsduMaximumSize
+    ensures { result ≡ smaller_sizes one other }
+{
+    TsduMaximumSize {
+        from_asker: smaller(one.from_asker, other.from_asker),
+        from_answerer: smaller(one.from_answerer, other.from_answerer),
+    }
+}
+
+/// The sizes that an AC names, in either direction.
+#[tactic(auto, unfolding(crate::specs::Sizes::answered_sizes))]
+pub(crate) fn answered_sizes(asked: TsduMaximumSize, given: TsduMaximumSize) -> TsduMaximumSize
+    ensures { result ≡ answered_sizes asked given }
+{
+    TsduMaximumSize {
+        from_asker: answered(asked.from_asker, given.from_asker),
+        from_answerer: answered(asked.from_answerer, given.from_answerer),
+    }
+}
+
+/// The most octets that a TSDU of this end has, 0 for no limit: once the CN is answered, the size of
+/// its direction.
+fn limit_of(state: &State) -> u16
+    ensures { result ≡ limit_of state.now }
+{
+    if !state.phase.is_settled() {
+        return 0;
+    }
+    if state.is_caller {
+        state.sizes.from_asker
+    } else {
+        state.sizes.from_answerer
+    }
+}
+
+/// Whether the TSDU in which a call is sent is within the limit. Data may be longer, and so may an
+/// answer to the CN.
+pub(crate) fn fits_limit(state: &State, request: &Request, sent: &Message) -> bool
+    requires { length (user_data_of (meant_by sent.now)) < 65000 }
+    ensures { result ≡ fits_limit state.now (called_by request.now) (meant_by sent.now) }
+{
+    let limit = limit_of(state);
+    if limit == 0 {
+        return true;
+    }
+    match request {
+        Request::Accept { .. } | Request::Refuse { .. } | Request::Data { .. } => true,
+        _ => sent.written_len() <= limit as usize,
+    }
+}
