@@ -24,6 +24,7 @@ pub mod LinesRun
 pub mod LossRun
 pub mod LossShown
 pub mod MachineLaws
+pub mod NextLaws
 pub mod NumberLaws
 pub mod OffersTold
 pub mod Opening

@@ -3,13 +3,13 @@ use Rattle.std.proofs.Common.{◌≡◌, refl, sym, ◌∙◌, ap, subst, ℕ, z
 use Rattle.std.specs.List.{AllByRecursion, list_any, slice_get}
 use Rattle.osi_machine.specs.Floor.{State}
 use Rattle.osi_machine.specs.Core.{Offer, Side, Left, Right}
-use Rattle.osi_machine.specs.Worlds.{World, Terms, turned, session_of}
+use Rattle.osi_machine.specs.Worlds.{Message, World, Terms, turned, session_of}
 use Rattle.osi_machine.specs.Machine.{IsLegal, Step, Entry, Machine, start, connection_at, end_of, run, HasNumber}
 use Rattle.osi_machine.specs.Tables.{Line, Tables}
 use Rattle.osi_machine.specs.Tables as tables
 use Rattle.osi_machine.specs.Views.{Told, told_of}
 use Rattle.osi_machine.specs.Runs.{IsRun, is_fault, loses, LosesByItsEnd}
-use Rattle.osi_machine.specs.AsTables.{IsLine, AreLines, IsAsTables, offers_in, IsTableRun, AreOffered, OfEachLine, HoldNoneTwice, AreNoFaults, AreAgreed, IsShownAsAsked, IsSeenInBoth, TellsNoFault, LosesAsItEnds}
+use Rattle.osi_machine.specs.AsTables.{IsLine, AreLines, AtEachSide, IsAsTables, offers_in, IsTableRun, AreOffered, OfEachLine, HoldNoneTwice, AreNoFaults, AreAgreed, IsShownAsAsked, IsSeenInBoth, TellsNoFault, LosesAsItEnds}
 use Rattle.osi_machine.proofs.CoreLaws.{SessionLaws}
 use Rattle.osi_machine.proofs.FaultShown.{no_fault_shown}
 use Rattle.osi_machine.proofs.OffersTold.{offer_of, Offered, run_offered}
@@ -137,6 +137,31 @@ table_duplex laws says = of_runs laws says IsShownAsAsked (duplex_agreements law
 
 pub table_confirmations : SessionLaws → SaysItsUnit → (t : Tables) → IsTableRun t → OfEachLine IsSeenInBoth t
 table_confirmations laws says = of_runs laws says IsSeenInBoth (confirmations laws)
+
+-- ---- what is true of each side of each connection of the machine is true of each side of each line
+
+at_side : (P : State → List Message → Type 0) (side : Side) (l : Line) (w : World) → l.own.session.state ≡ session_of w → l.peer.session.state ≡ session_of (turned w)
+    → l.own.channel ≡ w.own.channel → l.peer.channel ≡ w.peer.channel → P (session_of w) w.peer.channel × P (session_of (turned w)) w.own.channel
+    → P (tables.seen_from side l).own.session.state (tables.seen_from side l).peer.channel
+at_side P Left l w own peer sends gets h = subst (P l.own.session.state) (sym gets) (subst (λ (s : State). P s w.peer.channel) (sym own) h.0)
+at_side P Right l w own peer sends gets h = subst (P l.peer.session.state) (sym sends) (subst (λ (s : State). P s w.own.channel) (sym peer) h.1)
+
+sides_lifted : (P : State → List Message → Type 0) (t : Tables) (m : Machine) → Follows t m
+    → ((r : ℕ) (w : World) → connection_at r m.worlds ≡ Some w → P (session_of w) w.peer.channel × P (session_of (turned w)) w.own.channel)
+    → AtEachSide P t
+sides_lifted P t m h all side r l e =
+    let there = line_found m r l (connection_at r h.lines) (connection_at r m.worlds) (line_there h.lines m.worlds r h.all) (ap (λ (x : Tables). connection_at r x.lines) (sym h.same) ∙ e) refl in
+    let same = there.tabled.same in
+    at_side P side l there.world (ap (λ (x : Line). x.own.session.state) same) (ap (λ (x : Line). x.peer.session.state) same)
+    (ap (λ (x : Line). x.own.channel) same) (ap (λ (x : Line). x.peer.channel) same) (all r there.world there.found)
+
+pub sides_of_runs : SessionLaws → SaysItsUnit → (P : State → List Message → Type 0)
+    → ((m : Machine) → IsRun m → (r : ℕ) (w : World) → connection_at r m.worlds ≡ Some w → P (session_of w) w.peer.channel × P (session_of (turned w)) w.own.channel)
+    → (t : Tables) → IsTableRun t → AtEachSide P t
+sides_of_runs laws says P all t h =
+    sides_lifted P t (run (start h.agreed) h.steps)
+    (subst (λ (x : Tables). Follows x (run (start h.agreed) h.steps)) h.reached (all_follow laws says h.agreed h.steps h.numbered))
+    (all (run (start h.agreed) h.steps) (record { agreed = h.agreed; steps = h.steps; numbered = h.numbered; reached = refl }))
 
 -- ---- what the whole journal says
 

@@ -1,13 +1,14 @@
 -- The machine beside its tables, and what two users may rely on, read from the tables and the journal alone.
-use Rattle.std.specs.Prelude.{◌≡◌, ℕ, ◌<◌, true, false, ◌&&◌, ◌||◌, List, [], ◌∷◌, ◌++◌, take, Some, None}
+use Rattle.std.specs.Prelude.{◌≡◌, ℕ, ◌<◌, Bool, true, false, ◌&&◌, ◌||◌, List, [], ◌∷◌, ◌++◌, take, Some, None}
 use Rattle.std.specs.List.{AllByRecursion, list_any}
+use Rattle.osi_session.specs.Respond.{verdict, is_faulty}
 use Rattle.osi_session.specs.Sessions.{CanBeSent}
-use Rattle.osi_machine.specs.Floor.{State, Token, has, IsSound, IsSendable}
+use Rattle.osi_machine.specs.Floor.{State, Token, has, Meaning, DT, is_over, IsSound, IsSendable}
 use Rattle.osi_machine.specs.Histories.{Item, Point, PointKind, Begins, Agree}
 use Rattle.osi_machine.specs.Core.{Offer, Side, Left, Right}
-use Rattle.osi_machine.specs.Worlds.{Message, unit, World, Terms, turned, session_of}
+use Rattle.osi_machine.specs.Worlds.{Message, unit, bye, over, World, Terms, turned, session_of}
 use Rattle.osi_machine.specs.Machine.{Step, Entry, connect_answered, Machine, HasNumber, connection_at}
-use Rattle.osi_machine.specs.Tables.{Seat, Line, Tables, start, run, end_of}
+use Rattle.osi_machine.specs.Tables.{Seat, Line, Tables, start, run, seen_from, end_of}
 use Rattle.osi_machine.specs.Runs.{is_fault, is_loss, loses}
 use Rattle.osi_machine.specs.Views.{Told, told_of}
 
@@ -64,6 +65,24 @@ pub record IsSoundLine (l : Line) : Type 0 where
 
 abbrev pub AreSoundLines : Tables → Type 0
 AreSoundLines t = (r : ℕ) (l : Line) → connection_at r t.lines ≡ Some l → IsSoundLine l
+
+-- said of the session of each side of each connection, and of what is under way to it
+abbrev pub AtEachSide : (State → List Message → Type 0) → Tables → Type 0
+AtEachSide P t = (side : Side) (r : ℕ) (l : Line) → connection_at r t.lines ≡ Some l → P (seen_from side l).own.session.state (seen_from side l).peer.channel
+
+-- data that is first under way to a side is no fault there
+abbrev pub IsNoFaultNext : State → List Message → Type 0
+IsNoFaultNext s messages = (octets : List ℕ) (ms : List Message) → messages ≡ unit (DT octets) ∷ ms → is_faulty (verdict s (DT octets)) ≡ false
+
+-- the transport connection is closed, or a close is answered
+abbrev pub is_leaving : Message → Bool
+is_leaving (bye reason) = true
+is_leaving over = true
+is_leaving m = false
+
+-- a side to which such a message is under way is over
+abbrev pub IsOverWhenLeft : State → List Message → Type 0
+IsOverWhenLeft s messages = list_any is_leaving messages ≡ true → is_over s.phase ≡ true
 
 -- ---- what is read from the journal
 

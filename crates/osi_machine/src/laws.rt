@@ -2,7 +2,7 @@
 
 ghost use Rattle.std.specs.Prelude.{◌≡◌, ◌<◌, ◌≤◌, ℕ, suc, List, [], ◌∷◌, ◌++◌, length, Some, None, is_some, true, false};
 ghost use Rattle.std.specs.List.{AllByRecursion};
-ghost use Rattle.osi_machine.specs.AsTables.{cut_line, AreSoundLines, IsAsTables, IsTableRun, AreOffered, OfEachLine, HoldNoneTwice, AreNoFaults, AreAgreed, IsShownAsAsked, IsSeenInBoth, TellsNoFault, LosesAsItEnds};
+ghost use Rattle.osi_machine.specs.AsTables.{cut_line, AreSoundLines, AtEachSide, IsNoFaultNext, IsOverWhenLeft, IsAsTables, IsTableRun, AreOffered, OfEachLine, HoldNoneTwice, AreNoFaults, AreAgreed, IsShownAsAsked, IsSeenInBoth, TellsNoFault, LosesAsItEnds};
 ghost use Rattle.osi_machine.specs.Core.{Core, CoreStep, Offer, Side, Left, Right, core_run, core_start};
 ghost use Rattle.osi_machine.specs.Examples.{all_tokens, lost_give_seen, after_lost_give, crossing_seen, after_crossing, two_points_seen, restart_below_seen, after_restart_below, last_point, last_point_seen, lost_release_seen, after_lost_release, both_send, both_send_seen, to_right, held_in, stands_at, next_at, lowest_at, history_of, up_to_first_point};
 ghost use Rattle.osi_machine.specs.Floor.{no_token, is_profile};
@@ -182,6 +182,30 @@ pub fn what_is_under_way_can_be_sent()
 {
     session::numbers_stay_in_order();
     session::what_is_sent_can_be_sent();
+}
+
+/// Over every list of steps, whatever is lost: data that is first under way to a side is no fault there, in
+/// whatever phase its session is; where that is over, data is discarded.
+pub fn the_next_is_no_fault()
+    ensures { (t : Tables) → IsTableRun t → AtEachSide IsNoFaultNext t }
+{
+    session::numbers_stay_in_order();
+    session::what_is_sent_can_be_sent();
+    session::what_two_units_do();
+    session::what_an_accepted_call_passed();
+    session::an_empty_token_item_changes_nothing();
+}
+
+/// Over every list of steps, whatever is lost: where the close of a transport connection, or the answer to
+/// one, is under way to a side, the session of that side is over.
+pub fn who_is_left_is_over()
+    ensures { (t : Tables) → IsTableRun t → AtEachSide IsOverWhenLeft t }
+{
+    session::numbers_stay_in_order();
+    session::what_is_sent_can_be_sent();
+    session::what_two_units_do();
+    session::what_an_accepted_call_passed();
+    session::an_empty_token_item_changes_nothing();
 }
 
 /// What two records tell, read from the tables and the journal alone: of each connection no token is held

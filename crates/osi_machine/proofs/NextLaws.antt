@@ -1,0 +1,99 @@
+-- Data that is first under way to a side is no fault there; and a side that is left is over.
+use Rattle.std.proofs.Common.{◌≡◌, refl, sym, ◌∙◌, ap, subst, ℕ, Bool, true, false, List, [], ◌∷◌, ◌++◌, map, Some, inl, inr}
+use Rattle.std.proofs.lemmas.Bool.{cases_Bool}
+use Rattle.std.specs.List.{list_any}
+use Rattle.osi_session.specs.Respond.{verdict, is_faulty}
+use Rattle.osi_session.proofs.VerdictLaws.{good_is_fine}
+use Rattle.osi_machine.specs.Floor.{State, Meaning, DT, is_over, drops}
+use Rattle.osi_machine.specs.Channels.{Fits, AllFit}
+use Rattle.osi_machine.specs.Worlds.{Message, unit, World, turned, session_of}
+use Rattle.osi_machine.specs.Machine.{Machine, connection_at}
+use Rattle.osi_machine.specs.Views.{Told}
+use Rattle.osi_machine.specs.Runs.{IsRun}
+use Rattle.osi_machine.specs.Tables.{Tables}
+use Rattle.osi_machine.specs.AsTables.{IsTableRun, AtEachSide, IsNoFaultNext, is_leaving, IsOverWhenLeft}
+use Rattle.osi_machine.proofs.CoreLaws.{SessionLaws}
+use Rattle.osi_machine.proofs.Projects.{stopped, Carried, session_is}
+use Rattle.osi_machine.proofs.ProjectTake.{First, Last, split_first}
+use Rattle.osi_machine.proofs.ProjectStart.{Way, nothing_sent, asked, agreed, denied, asks, replies}
+use Rattle.osi_machine.proofs.ProjectWorld.{Repeats}
+use Rattle.osi_machine.proofs.Whole.{Stage, turned_stage}
+use Rattle.osi_machine.proofs.MachineLaws.{stage_at}
+use Rattle.osi_machine.proofs.TableLines.{SaysItsUnit}
+use Rattle.osi_machine.proofs.TableRuns.{no_unit_back, no_unit_out}
+use Rattle.osi_machine.proofs.TablePromises.{sides_of_runs}
+
+-- ---- data that comes next
+
+unit_that_fits : (s : State) (u : Meaning) → Fits s u → is_over s.phase ≡ false → is_faulty (verdict s u) ≡ false
+unit_that_fits s u f o = elim (cases_Bool (drops s u)) [
+  | inl d ↦ rw (o, d) refl
+  | inr d ↦ ap is_faulty (good_is_fine s u o d (f.good d))
+]
+
+unit_when_over : (s : State) (u : Meaning) → is_over s.phase ≡ true → is_faulty (verdict s u) ≡ false
+unit_when_over s u o = rw o refl
+
+data_fits : (b : Bool) (w : World) (t u : Told) (octets : List ℕ) (ms : List Message) (h : Repeats b w t u) → w.peer.channel ≡ unit (DT octets) ∷ ms → stopped w.own ≡ false
+    → Fits h.core.own.session (DT octets)
+data_fits b w t u octets ms h e l =
+    let way = subst (λ (ch : List Message). Carried b (stopped w.peer) ch h.core.peer.sent h.core.peer.session) e (h.projects.own.carried l) in
+    elim (split_first b (stopped w.peer) (DT octets) ms h.core.peer.sent h.core.peer.session way) [
+      | inl f ↦ (subst (AllFit h.core.own.session) f.sent_is h.stands.own.fits).0
+      | inr z ↦ absurd z.last
+    ]
+
+no_fault_next : (b : Bool) (w : World) (t u : Told) → Stage b w t u → IsNoFaultNext (session_of w) w.peer.channel
+no_fault_next b w t u (inl h) octets ms e = absurd (no_unit_back h.way (DT octets) ms (sym e ∙ h.peer_channel))
+no_fault_next b w t u (inr (inl h)) octets ms e = absurd (no_unit_out h.way (DT octets) ms (sym e ∙ h.own_channel))
+no_fault_next b w t u (inr (inr h)) octets ms e = elim (cases_Bool (is_over (session_of w).phase)) [
+  | inl o ↦ unit_when_over (session_of w) (DT octets) o
+  | inr o ↦ let same = session_is w h.core h.stands h.projects.history h.projects.own.counted (h.projects.own.alike o) in
+      subst (λ (s : State). is_faulty (verdict s (DT octets)) ≡ false) (sym same)
+      (unit_that_fits h.core.own.session (DT octets) (data_fits b w t u octets ms h e o) (subst (λ (s : State). is_over s.phase ≡ false) same o))
+]
+
+no_faults_next : SessionLaws → (m : Machine) → IsRun m → (r : ℕ) (w : World) → connection_at r m.worlds ≡ Some w
+    → IsNoFaultNext (session_of w) w.peer.channel × IsNoFaultNext (session_of (turned w)) w.own.channel
+no_faults_next laws m h r w e =
+    let s = stage_at laws m h r w e in (no_fault_next m.broken w _ _ s, no_fault_next m.broken (turned w) _ _ (turned_stage m.broken w _ _ s))
+
+pub next_is_no_fault : SessionLaws → SaysItsUnit → (t : Tables) → IsTableRun t → AtEachSide IsNoFaultNext t
+next_is_no_fault laws says = sides_of_runs laws says IsNoFaultNext (no_faults_next laws)
+
+-- ---- who is left
+
+no_unit_leaves : (us : List Meaning) → list_any is_leaving (map unit us) ≡ false
+no_unit_leaves [] = refl
+no_unit_leaves (u ∷ us) = no_unit_leaves us
+
+no_reply_leaves : (way : Way) → list_any is_leaving (replies way) ≡ false
+no_reply_leaves nothing_sent = refl
+no_reply_leaves asked = refl
+no_reply_leaves agreed = refl
+no_reply_leaves (denied r) = refl
+
+no_ask_leaves : (way : Way) → list_any is_leaving (asks way) ≡ false
+no_ask_leaves nothing_sent = refl
+no_ask_leaves asked = refl
+no_ask_leaves agreed = refl
+no_ask_leaves (denied r) = refl
+
+never_both : {A : Type 0} (b : Bool) → b ≡ true → b ≡ false → A
+never_both b p q = absurd (cc)
+
+over_when_left : (b : Bool) (w : World) (t u : Told) → Stage b w t u → IsOverWhenLeft (session_of w) w.peer.channel
+over_when_left b w t u (inl h) e = never_both _ e (ap (list_any is_leaving) h.peer_channel ∙ no_reply_leaves h.way)
+over_when_left b w t u (inr (inl h)) e = never_both _ e (ap (list_any is_leaving) h.own_channel ∙ no_ask_leaves h.way)
+over_when_left b w t u (inr (inr h)) e = elim (cases_Bool (is_over (session_of w).phase)) [
+  | inl o ↦ o
+  | inr o ↦ let c = h.projects.own.carried o in never_both _ e (ap (list_any is_leaving) c.carries ∙ no_unit_leaves (c.there ++ c.tail))
+]
+
+over_when_both_left : SessionLaws → (m : Machine) → IsRun m → (r : ℕ) (w : World) → connection_at r m.worlds ≡ Some w
+    → IsOverWhenLeft (session_of w) w.peer.channel × IsOverWhenLeft (session_of (turned w)) w.own.channel
+over_when_both_left laws m h r w e =
+    let s = stage_at laws m h r w e in (over_when_left m.broken w _ _ s, over_when_left m.broken (turned w) _ _ (turned_stage m.broken w _ _ s))
+
+pub left_is_over : SessionLaws → SaysItsUnit → (t : Tables) → IsTableRun t → AtEachSide IsOverWhenLeft t
+left_is_over laws says = sides_of_runs laws says IsOverWhenLeft (over_when_both_left laws)
