@@ -2,8 +2,9 @@
 use Rattle.std.proofs.Common.{◌≡◌, refl, sym, ◌∙◌, ap, subst, ℕ, Bool, true, false, not, ◌&&◌, if◌then◌else◌, List, [], ◌∷◌, ◌++◌, Ok, arith}
 use Rattle.std.proofs.lemmas.Bool.{and_parts}
 use Rattle.std.specs.List.{list_any}
+use Rattle.osi_message.specs.Sendable.{is_sized}
 use Rattle.osi_session.specs.Respond.{agreed_base}
-use Rattle.osi_machine.specs.Floor.{TokenSetting, State, FunctionalUnits, Sides, Meaning, AC, Tokens, Token, data_token, has, available, functional_units, both_units, units_within, has_data, is_profile, settle, setting_of, of_asker, of_answerer, stated, answers_wishes, base_for, serial_for, opened_with, is_answering, is_connecting, is_restarting, is_restart_due, may_hold, Accept, HasSerial, Granted, allowed, becomes, drops, next}
+use Rattle.osi_machine.specs.Floor.{TokenSetting, TsduMaximumSize, State, FunctionalUnits, Sides, Meaning, AC, Tokens, Token, data_token, has, available, functional_units, both_units, units_within, has_data, is_profile, settle, setting_of, of_asker, of_answerer, stated, answers_wishes, base_for, serial_for, opened_with, is_answering, is_connecting, is_restarting, is_restart_due, may_hold, Accept, HasSerial, Granted, are_sizes, answered_sizes, allowed, becomes, drops, next}
 use Rattle.osi_machine.specs.Histories.{Item, AreNumberedFrom}
 use Rattle.osi_machine.specs.Owners.{turned_owners, settled_by}
 use Rattle.osi_machine.specs.Channels.{Fits, flush, heard, hears, heard_view, data_of, needs_token}
@@ -32,24 +33,24 @@ record Accepts (w : Core) (u : ℕ) : Type 0 where
 abbrev held_by : State → ℕ → Sides → Tokens
 held_by s u a = of_answerer (functional_units u) (settle (functional_units u) s.wishes a)
 
-abbrev accepting : State → ℕ → ℕ → Sides → State
-accepting s u n a = opened_with (functional_units u) (held_by s u a) (base_for (functional_units u) n) s
+abbrev accepting : State → ℕ → ℕ → Sides → TsduMaximumSize → State
+accepting s u n a z = opened_with (functional_units u) (held_by s u a) (base_for (functional_units u) n) (answered_sizes s.sizes z) s
 
-abbrev acceptance : State → ℕ → ℕ → Sides → List ℕ → Meaning
-acceptance s u n a o = AC true u (serial_for (functional_units u) n) (setting_of (settle (functional_units u) s.wishes a)) o
+abbrev acceptance : State → ℕ → ℕ → Sides → TsduMaximumSize → List ℕ → Meaning
+acceptance s u n a z o = AC true u (serial_for (functional_units u) n) (setting_of (settle (functional_units u) s.wishes a)) (answered_sizes s.sizes z) o
 
-abbrev accepter : Party → ℕ → ℕ → Sides → List ℕ → Party
-accepter x u n a o = record {
-  session = accepting x.session u n a;
+abbrev accepter : Party → ℕ → ℕ → Sides → TsduMaximumSize → List ℕ → Party
+accepter x u n a z o = record {
+  session = accepting x.session u n a z;
   view = x.view ++ [];
   said = x.said ++ [];
   got = x.got;
-  sent = x.sent ++ acceptance x.session u n a o ∷ [];
+  sent = x.sent ++ acceptance x.session u n a z o ∷ [];
 }
 
 -- the caller, when it has taken the AC
-abbrev connected : Core → ℕ → ℕ → Sides → List ℕ → State
-connected w u n a o = becomes (flushed w.peer w.own) (acceptance w.own.session u n a o)
+abbrev connected : Core → ℕ → ℕ → Sides → TsduMaximumSize → List ℕ → State
+connected w u n a z o = becomes (flushed w.peer w.own) (acceptance w.own.session u n a z o)
 
 -- ---- nothing is under way
 
@@ -105,13 +106,15 @@ agreed_first w u n q =
     ap (λ (v : FunctionalUnits). agreed_base v (serial_for (functional_units u) n) (flushed w.peer w.own).proposed) (agreed_units w u q)
     ∙ same_first (functional_units u) n (flushed w.peer w.own).proposed
 
-accept_fits : (w : Core) (u n : ℕ) (a : Sides) (o : List ℕ) → Accepts w u → Fits (flushed w.peer w.own) (acceptance w.own.session u n a o)
-accept_fits w u n a o q = record {
+accept_fits : (w : Core) (u n : ℕ) (a : Sides) (z : TsduMaximumSize) (o : List ℕ) → Accepts w u → are_sizes (answered_sizes w.own.session.sizes z) ≡ true
+    → Fits (flushed w.peer w.own) (acceptance w.own.session u n a z o)
+accept_fits w u n a z o q k = record {
   plain = refl;
   good = λ d. record {
     expected = other_waits w u q;
     met = (
-      ap has_data (agreed_units w u q) ∙ profile_data (functional_units u) q.profile,
+      both (has_data (both_units (flushed w.peer w.own).units (functional_units u))) (are_sizes (answered_sizes w.own.session.sizes z))
+          (ap has_data (agreed_units w u q) ∙ profile_data (functional_units u) q.profile) k,
       (
         ap (λ (v : FunctionalUnits). answers_wishes v (flushed w.peer w.own).wishes (setting_of (settle (functional_units u) w.own.session.wishes a))) (agreed_units w u q)
             ∙ ap (λ (t : TokenSetting). answers_wishes (functional_units u) t (setting_of (settle (functional_units u) w.own.session.wishes a))) (other_wishes w u q)
@@ -125,39 +128,39 @@ accept_fits w u n a o q = record {
 accept_kept : (w : Core) (u : ℕ) → Accepts w u → (is_restarting (flushed w.peer w.own).phase && true) ≡ false
 accept_kept w u q = ap (λ (b : Bool). b && true) (excluded is_connecting is_restarting refl (flushed w.peer w.own).phase (other_waits w u q))
 
-accept_next : (w : Core) (u n : ℕ) (a : Sides) (o : List ℕ) → Accepts w u → next (flushed w.peer w.own) (acceptance w.own.session u n a o) ≡ connected w u n a o
-accept_next w u n a o q = next_acted (flushed w.peer w.own) (acceptance w.own.session u n a o) (accept_kept w u q)
+accept_next : (w : Core) (u n : ℕ) (a : Sides) (z : TsduMaximumSize) (o : List ℕ) → Accepts w u → next (flushed w.peer w.own) (acceptance w.own.session u n a z o) ≡ connected w u n a z o
+accept_next w u n a z o q = next_acted (flushed w.peer w.own) (acceptance w.own.session u n a z o) (accept_kept w u q)
 
-end_after : (w : Core) (u n : ℕ) (a : Sides) (o : List ℕ) → Accepts w u → flush w.peer.session (w.own.sent ++ acceptance w.own.session u n a o ∷ []) ≡ connected w u n a o
-end_after w u n a o q = flush_append w.peer.session w.own.sent (acceptance w.own.session u n a o) ∙ accept_next w u n a o q
+end_after : (w : Core) (u n : ℕ) (a : Sides) (z : TsduMaximumSize) (o : List ℕ) → Accepts w u → flush w.peer.session (w.own.sent ++ acceptance w.own.session u n a z o ∷ []) ≡ connected w u n a z o
+end_after w u n a z o q = flush_append w.peer.session w.own.sent (acceptance w.own.session u n a z o) ∙ accept_next w u n a z o q
 
-heard_after : (w : Core) (u n : ℕ) (a : Sides) (o : List ℕ) → Accepts w u → heard w.peer.session (w.own.sent ++ acceptance w.own.session u n a o ∷ []) ≡ connected w u n a o
-heard_after w u n a o q =
-    heard_append w.peer.session w.own.sent (acceptance w.own.session u n a o) q.all.peer.fits (other_owes_none w u q) ∙ accept_next w u n a o q
+heard_after : (w : Core) (u n : ℕ) (a : Sides) (z : TsduMaximumSize) (o : List ℕ) → Accepts w u → heard w.peer.session (w.own.sent ++ acceptance w.own.session u n a z o ∷ []) ≡ connected w u n a z o
+heard_after w u n a z o q =
+    heard_append w.peer.session w.own.sent (acceptance w.own.session u n a z o) q.all.peer.fits (other_owes_none w u q) ∙ accept_next w u n a z o q
 
 -- ---- tokens
 
 there : (w : Core) (u : ℕ) (a : Sides) (t : Token) → has (held_by w.own.session u a) t ≡ true → has (available (functional_units u)) t ≡ true
 there w u a t h = answerer_there (functional_units u) (settle (functional_units u) w.own.session.wishes a) t h
 
-will_hold : (w : Core) (u n : ℕ) (a : Sides) (o : List ℕ) (t : Token) → Accepts w u
-    → has (connected w u n a o).held t ≡ (has (available (functional_units u)) t && not (has (held_by w.own.session u a) t))
-will_hold w u n a o t q =
+will_hold : (w : Core) (u n : ℕ) (a : Sides) (z : TsduMaximumSize) (o : List ℕ) (t : Token) → Accepts w u
+    → has (connected w u n a z o).held t ≡ (has (available (functional_units u)) t && not (has (held_by w.own.session u a) t))
+will_hold w u n a z o t q =
     ap (λ (v : FunctionalUnits). has (of_asker v (stated v (setting_of (settle (functional_units u) w.own.session.wishes a)))) t) (agreed_units w u q)
     ∙ asker_holds (functional_units u) w.own.session.wishes a t
 
 -- ---- the two halves
 
-own_half : (w : Core) (u n : ℕ) (a : Sides) (o : List ℕ) → Accepts w u → Half (settled_by (accepting w.own.session u n a)) (accepter w.own u n a o) w.peer
-own_half w u n a o q =
-    let r = accepting w.own.session u n a in
+own_half : (w : Core) (u n : ℕ) (a : Sides) (z : TsduMaximumSize) (o : List ℕ) → Accepts w u → Half (settled_by (accepting w.own.session u n a z)) (accepter w.own u n a z o) w.peer
+own_half w u n a z o q =
+    let r = accepting w.own.session u n a z in
     let none = none_under_way w u q in
-    let owners = settled_by (accepting w.own.session u n a) in
+    let owners = settled_by (accepting w.own.session u n a z) in
     record {
       fits = empty_fits r w.peer.sent none;
-      meeting = subst (λ (e : State). Meeting owners r e (flush w.peer.session (w.own.sent ++ acceptance w.own.session u n a o ∷ [])) (heard r w.peer.sent) w.peer.session) (sym (empty_end r w.peer.sent none))
-          (subst (λ (e : State). Meeting owners r r (flush w.peer.session (w.own.sent ++ acceptance w.own.session u n a o ∷ [])) e w.peer.session) (sym (empty_heard r w.peer.sent none))
-          (subst (λ (e : State). Meeting owners r r e r w.peer.session) (sym (end_after w u n a o q)) (record {
+      meeting = subst (λ (e : State). Meeting owners r e (flush w.peer.session (w.own.sent ++ acceptance w.own.session u n a z o ∷ [])) (heard r w.peer.sent) w.peer.session) (sym (empty_end r w.peer.sent none))
+          (subst (λ (e : State). Meeting owners r r (flush w.peer.session (w.own.sent ++ acceptance w.own.session u n a z o ∷ [])) e w.peer.session) (sym (empty_heard r w.peer.sent none))
+          (subst (λ (e : State). Meeting owners r r e r w.peer.session) (sym (end_after w u n a z o q)) (record {
             meets = refl;
             units = sym (agreed_units w u q);
             base = sym (agreed_first w u n q);
@@ -165,32 +168,33 @@ own_half w u n a o q =
             connect = λ k. absurd (cc);
             holds = λ t. own_held (has (held_by w.own.session u a) t) (has (available (functional_units u)) t);
             wants = λ m t. own_wanted (has (held_by w.own.session u a) t) (has (available (functional_units u)) t);
-            absent = λ t z. own_absent (has (held_by w.own.session u a) t) (has (available (functional_units u)) t) (there w u a t) z;
+            absent = λ t k. own_absent (has (held_by w.own.session u a) t) (has (available (functional_units u)) t) (there w u a t) k;
             released = λ d. absurd (cc);
           })));
     }
 
-peer_half : (w : Core) (u n : ℕ) (a : Sides) (o : List ℕ) → Accepts w u → Half (turned_owners (settled_by (accepting w.own.session u n a))) w.peer (accepter w.own u n a o)
-peer_half w u n a o q =
-    let r = accepting w.own.session u n a in
-    let m = acceptance w.own.session u n a o in
+peer_half : (w : Core) (u n : ℕ) (a : Sides) (z : TsduMaximumSize) (o : List ℕ) → Accepts w u → are_sizes (answered_sizes w.own.session.sizes z) ≡ true
+    → Half (turned_owners (settled_by (accepting w.own.session u n a z))) w.peer (accepter w.own u n a z o)
+peer_half w u n a z o q k =
+    let r = accepting w.own.session u n a z in
+    let m = acceptance w.own.session u n a z o in
     let none = none_under_way w u q in
-    let owners = turned_owners (settled_by (accepting w.own.session u n a)) in
+    let owners = turned_owners (settled_by (accepting w.own.session u n a z)) in
     let no_tokens = q.all.consistent.peer.sound.tokens (excluded is_connecting may_hold refl w.peer.session.phase (other_connects w u q)) in
     record {
-      fits = fit_append w.peer.session w.own.sent m q.all.peer.fits (accept_fits w u n a o q);
-      meeting = subst (λ (e : State). Meeting owners w.peer.session e (flush r w.peer.sent) (heard w.peer.session (w.own.sent ++ m ∷ [])) r) (sym (end_after w u n a o q))
-          (subst (λ (e : State). Meeting owners w.peer.session (connected w u n a o) (flush r w.peer.sent) e r) (sym (heard_after w u n a o q))
-          (subst (λ (e : State). Meeting owners w.peer.session (connected w u n a o) e (connected w u n a o) r) (sym (empty_end r w.peer.sent none)) (record {
+      fits = fit_append w.peer.session w.own.sent m q.all.peer.fits (accept_fits w u n a z o q k);
+      meeting = subst (λ (e : State). Meeting owners w.peer.session e (flush r w.peer.sent) (heard w.peer.session (w.own.sent ++ m ∷ [])) r) (sym (end_after w u n a z o q))
+          (subst (λ (e : State). Meeting owners w.peer.session (connected w u n a z o) (flush r w.peer.sent) e r) (sym (heard_after w u n a z o q))
+          (subst (λ (e : State). Meeting owners w.peer.session (connected w u n a z o) e (connected w u n a z o) r) (sym (empty_end r w.peer.sent none)) (record {
             meets = refl;
             units = agreed_units w u q;
             base = agreed_first w u n q;
             restart = λ k. absurd (cc);
             connect = λ k. absurd (cc);
             holds = λ t. ap (λ (v : Tokens). has v t) no_tokens ∙ none_held t ∙ their_held (has (held_by w.own.session u a) t) (has (available (functional_units u)) t);
-            wants = λ h t. will_hold w u n a o t q ∙ their_wanted (has (held_by w.own.session u a) t) (has (available (functional_units u)) t);
-            absent = λ t z. their_absent (has (held_by w.own.session u a) t) (has (available (functional_units u)) t) (there w u a t)
-                (ap (λ (v : FunctionalUnits). has (available v) t) (sym (agreed_units w u q)) ∙ z);
+            wants = λ h t. will_hold w u n a z o t q ∙ their_wanted (has (held_by w.own.session u a) t) (has (available (functional_units u)) t);
+            absent = λ t k. their_absent (has (held_by w.own.session u a) t) (has (available (functional_units u)) t) (there w u a t)
+                (ap (λ (v : FunctionalUnits). has (available v) t) (sym (agreed_units w u q)) ∙ k);
             released = λ d. absurd (cc);
           })));
     }
@@ -202,9 +206,9 @@ own_seen w u q =
     let listens = ap (λ (r : State). hears r.phase) (own_heard w u q) ∙ ap not (excluded is_answering is_restarting refl w.own.session.phase q.answering) in
     sym (empty_view w.own.session w.peer.sent w.own.view (none_under_way w u q)) ∙ q.all.own_views.ends listens
 
-own_views : (w : Core) (u n : ℕ) (a : Sides) (o : List ℕ) → Accepts w u → Views (w.history ++ []) (accepter w.own u n a o) w.peer
-own_views w u n a o q =
-    let r = accepting w.own.session u n a in
+own_views : (w : Core) (u n : ℕ) (a : Sides) (z : TsduMaximumSize) (o : List ℕ) → Accepts w u → Views (w.history ++ []) (accepter w.own u n a z o) w.peer
+own_views w u n a z o q =
+    let r = accepting w.own.session u n a z in
     let none = none_under_way w u q in
     record {
       ends = λ l. empty_view r w.peer.sent (w.own.view ++ []) none ∙ ap (λ (v : List Item). v ++ []) (own_seen w u q);
@@ -220,29 +224,29 @@ same_either : (b : Bool) (v : List Item) → (if b then v else v) ≡ v
 same_either true v = refl
 same_either false v = refl
 
-peer_views : (w : Core) (u n : ℕ) (a : Sides) (o : List ℕ) → Accepts w u → Views (w.history ++ []) w.peer (accepter w.own u n a o)
-peer_views w u n a o q = record {
+peer_views : (w : Core) (u n : ℕ) (a : Sides) (z : TsduMaximumSize) (o : List ℕ) → Accepts w u → Views (w.history ++ []) w.peer (accepter w.own u n a z o)
+peer_views w u n a z o q = record {
   ends = λ l. view_append w.peer.session w.own.sent m w.peer.view q.all.peer.fits (other_owes_none w u q)
       ∙ same_either (drops (flushed w.peer w.own) m) (heard_view w.peer.session w.own.sent w.peer.view)
       ∙ q.all.peer_views.ends listens ∙ sym (append_nil w.history);
-  cut = λ c. absurd (let e = ap (λ (s : State). is_restarting s.phase) (sym (heard_after w u n a o q)) ∙ c in cc);
+  cut = λ c. absurd (let e = ap (λ (s : State). is_restarting s.phase) (sym (heard_after w u n a z o q)) ∙ c in cc);
   due = λ d. absurd (let e = excluded is_connecting is_restart_due refl w.peer.session.phase (other_connects w u q) in cc);
   stream = λ d. streams (q.all.peer_views.stream (duplex d));
 }
   where
     m : Meaning
-    m = acceptance w.own.session u n a o
+    m = acceptance w.own.session u n a z o
 
     listens : hears (hearing w.peer w.own).phase ≡ true
     listens = ap (λ (r : State). hears r.phase) (other_heard w u q) ∙ ap not (excluded is_connecting is_restarting refl w.peer.session.phase (other_connects w u q))
 
-    duplex : (flush w.peer.session (w.own.sent ++ acceptance w.own.session u n a o ∷ [])).units.duplex ≡ true → (flushed w.peer w.own).units.duplex ≡ true
+    duplex : (flush w.peer.session (w.own.sent ++ acceptance w.own.session u n a z o ∷ [])).units.duplex ≡ true → (flushed w.peer w.own).units.duplex ≡ true
     duplex d =
-        let now = ap (λ (v : FunctionalUnits). v.duplex) (sym (agreed_units w u q)) ∙ ap (λ (s : State). s.units.duplex) (sym (end_after w u n a o q)) ∙ d in
+        let now = ap (λ (v : FunctionalUnits). v.duplex) (sym (agreed_units w u q)) ∙ ap (λ (s : State). s.units.duplex) (sym (end_after w u n a z o q)) ∙ d in
         ap (λ (v : FunctionalUnits). v.duplex) (other_units w u q) ∙ within_duplex (functional_units u) w.own.session.units q.within now
 
     streams : (w.peer.got ++ data_of w.own.sent ≡ w.own.said) × (w.history ≡ [])
-        → (w.peer.got ++ data_of (w.own.sent ++ acceptance w.own.session u n a o ∷ []) ≡ w.own.said ++ []) × (w.history ++ [] ≡ [])
+        → (w.peer.got ++ data_of (w.own.sent ++ acceptance w.own.session u n a z o ∷ []) ≡ w.own.said ++ []) × (w.history ++ [] ≡ [])
     streams old = (
       ap (λ (d : List (List ℕ)). w.peer.got ++ d) (data_append w.own.sent (m ∷ []) ∙ append_nil (data_of w.own.sent)) ∙ old.0 ∙ sym (append_nil w.own.said),
       append_nil w.history ∙ old.1,
@@ -250,20 +254,20 @@ peer_views w u n a o q = record {
 
 -- ---- the numbers
 
-own_counts : (w : Core) (u n : ℕ) (a : Sides) (o : List ℕ) → Accepts w u → Counts (accepter w.own u n a o) w.peer
-own_counts w u n a o q =
-    let r = accepting w.own.session u n a in
-    subst (λ (e : State). Counting r e (heard w.peer.session (w.own.sent ++ acceptance w.own.session u n a o ∷ [])) w.peer.session) (sym (empty_heard r w.peer.sent (none_under_way w u q))) (record {
+own_counts : (w : Core) (u n : ℕ) (a : Sides) (z : TsduMaximumSize) (o : List ℕ) → Accepts w u → Counts (accepter w.own u n a z o) w.peer
+own_counts w u n a z o q =
+    let r = accepting w.own.session u n a z in
+    subst (λ (e : State). Counting r e (heard w.peer.session (w.own.sent ++ acceptance w.own.session u n a z o ∷ [])) w.peer.session) (sym (empty_heard r w.peer.sent (none_under_way w u q))) (record {
       flag = λ f. absurd (cc);
       below = λ l k from to. absurd (omega arith);
       reach = λ f. absurd (let fresh = (other_fresh w u q).numbers in let none : w.peer.session.numbers.answers ≡ false = rw fresh refl in cc);
     })
 
-peer_counts : (w : Core) (u n : ℕ) (a : Sides) (o : List ℕ) → Accepts w u → Counts w.peer (accepter w.own u n a o)
-peer_counts w u n a o q =
-    let r = accepting w.own.session u n a in
-    subst (λ (e : State). Counting w.peer.session e (heard r w.peer.sent) r) (sym (heard_after w u n a o q))
-    (subst (λ (e : State). Counting w.peer.session (connected w u n a o) e r) (sym (empty_heard r w.peer.sent (none_under_way w u q))) (record {
+peer_counts : (w : Core) (u n : ℕ) (a : Sides) (z : TsduMaximumSize) (o : List ℕ) → Accepts w u → Counts w.peer (accepter w.own u n a z o)
+peer_counts w u n a z o q =
+    let r = accepting w.own.session u n a z in
+    subst (λ (e : State). Counting w.peer.session e (heard r w.peer.sent) r) (sym (heard_after w u n a z o q))
+    (subst (λ (e : State). Counting w.peer.session (connected w u n a z o) e r) (sym (empty_heard r w.peer.sent (none_under_way w u q))) (record {
       flag = λ f. refl;
       below = λ l k from to. absurd (omega arith);
       reach = λ f. absurd (cc);
@@ -271,16 +275,16 @@ peer_counts w u n a o q =
 
 -- ---- both at once
 
-pair_kept : (w : Core) (u n : ℕ) (a : Sides) (o : List ℕ) → Accepts w u → Pair (w.history ++ []) (accepter w.own u n a o) w.peer
-pair_kept w u n a o q =
-    let r = accepting w.own.session u n a in
+pair_kept : (w : Core) (u n : ℕ) (a : Sides) (z : TsduMaximumSize) (o : List ℕ) → Accepts w u → Pair (w.history ++ []) (accepter w.own u n a z o) w.peer
+pair_kept w u n a z o q =
+    let r = accepting w.own.session u n a z in
     let end = empty_end r w.peer.sent (none_under_way w u q) in
     let nothing : w.history ++ [] ≡ [] = append_nil w.history ∙ sym (own_seen w u q) ∙ (own_fresh w u q).view in
     record {
       numbered = subst (AreNumberedFrom (flush r w.peer.sent).base) (sym nothing) tt;
       one_way = λ d.
           let was = within_half (functional_units u) w.own.session.units q.within (ap (λ (s : State). s.units.half_duplex) (sym end) ∙ d) in
-          ap (λ (b : Bool). b && list_any (needs_token data_token) w.peer.sent) (list_any_append (needs_token data_token) w.own.sent (acceptance w.own.session u n a o) refl)
+          ap (λ (b : Bool). b && list_any (needs_token data_token) w.peer.sent) (list_any_append (needs_token data_token) w.own.sent (acceptance w.own.session u n a z o) refl)
           ∙ q.all.pair.one_way (ap (λ (s : State). s.units.half_duplex) (own_end w u q) ∙ was);
       callers = q.all.pair.callers;
       profile = subst (λ (e : State). IsOfProfile e.units) (sym end) q.profile;
@@ -288,26 +292,27 @@ pair_kept w u n a o q =
 
 -- ---- the call
 
-all_kept : (w : Core) (u n : ℕ) (a : Sides) (o : List ℕ) → Accepts w u
-    → AreConsistent (answered w (Accept u n a o) (Ok (record { next = accepting w.own.session u n a; sent = acceptance w.own.session u n a o })))
-    → Stands (answered w (Accept u n a o) (Ok (record { next = accepting w.own.session u n a; sent = acceptance w.own.session u n a o })))
-all_kept w u n a o q c = record {
+all_kept : (w : Core) (u n : ℕ) (a : Sides) (z : TsduMaximumSize) (o : List ℕ) → Accepts w u → are_sizes (answered_sizes w.own.session.sizes z) ≡ true
+    → AreConsistent (answered w (Accept u n a z o) (Ok (record { next = accepting w.own.session u n a z; sent = acceptance w.own.session u n a z o })))
+    → Stands (answered w (Accept u n a z o) (Ok (record { next = accepting w.own.session u n a z; sent = acceptance w.own.session u n a z o })))
+all_kept w u n a z o q k c = record {
   consistent = c;
-  own = own_half w u n a o q;
-  peer = peer_half w u n a o q;
-  own_views = own_views w u n a o q;
-  peer_views = peer_views w u n a o q;
-  own_counts = own_counts w u n a o q;
-  peer_counts = peer_counts w u n a o q;
-  pair = pair_kept w u n a o q;
+  own = own_half w u n a z o q;
+  peer = peer_half w u n a z o q k;
+  own_views = own_views w u n a z o q;
+  peer_views = peer_views w u n a z o q;
+  own_counts = own_counts w u n a z o q;
+  peer_counts = peer_counts w u n a z o q;
+  pair = pair_kept w u n a z o q;
 }
 
-pub accept_stands : SessionLaws → (w : Core) (u n : ℕ) (a : Sides) (o : List ℕ) (g : Granted) → HasSerial (Accept u n a o)
-    → allowed w.own.session (Accept u n a o) ≡ Ok g → Stands w → Stands (answered w (Accept u n a o) (Ok g))
-accept_stands laws w u n a o g small e s =
-    let p = laws.passed w.own.session (Accept u n a o) g e in
-    let c = answered_kept laws w (Accept u n a o) (Ok g) small e s.consistent in
+pub accept_stands : SessionLaws → (w : Core) (u n : ℕ) (a : Sides) (z : TsduMaximumSize) (o : List ℕ) (g : Granted) → HasSerial (Accept u n a z o)
+    → allowed w.own.session (Accept u n a z o) ≡ Ok g → Stands w → Stands (answered w (Accept u n a z o) (Ok g))
+accept_stands laws w u n a z o g small e s =
+    let p = laws.passed w.own.session (Accept u n a z o) g e in
+    let c = answered_kept laws w (Accept u n a z o) (Ok g) small e s.consistent in
     let tests = and_parts (units_within (functional_units u) w.own.session.units) (is_profile u) p.needed.0 in
     let q : Accepts w u = record { answering = p.phase; within = tests.0; profile = profile_of u tests.1; all = s } in
-    subst (λ (r : Granted). Stands (answered w (Accept u n a o) (Ok r))) (sym p.gives)
-    (all_kept w u n a o q (subst (λ (r : Granted). AreConsistent (answered w (Accept u n a o) (Ok r))) p.gives c))
+    let sizes = subst (λ (r : Granted). is_sized r.sent ≡ true) p.gives (laws.sendable w.own.session (Accept u n a z o) g s.consistent.own.sound small e).sized in
+    subst (λ (r : Granted). Stands (answered w (Accept u n a z o) (Ok r))) (sym p.gives)
+    (all_kept w u n a z o q sizes (subst (λ (r : Granted). AreConsistent (answered w (Accept u n a z o) (Ok r))) p.gives c))

@@ -14,8 +14,8 @@ use Rattle.osi_machine.proofs.Records.{flushed, matched, Half}
 
 -- nothing is expected by a side that is over
 none_expected : (p : Phase) (u : Meaning) → is_over p ≡ true → is_plain u ≡ true → is_expected p u ≡ false
-none_expected p (CN v u n w from to o) h k = excluded is_over is_wait_cn refl p h
-none_expected p (AC v u n w o) h k = excluded is_over is_connecting refl p h
+none_expected p (CN v u n w from to z o) h k = excluded is_over is_wait_cn refl p h
+none_expected p (AC v u n w z o) h k = excluded is_over is_connecting refl p h
 none_expected p (RF r o) h k = absurd (cc)
 none_expected p (DT o) h k = excluded is_over takes_data refl p h
 none_expected p (GT t) h k = excluded is_over may_ask refl p h

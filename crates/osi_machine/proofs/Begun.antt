@@ -24,8 +24,8 @@ pub record Open (v : FunctionalUnits) (b : ℕ) (s : State) : Type 0 where
   pub base : s.base ≡ b
 
 pub becomes_open : (v : FunctionalUnits) (b : ℕ) (s : State) (u : Meaning) → is_plain u ≡ true → Good s u → Open v b s → Open v b (becomes s u)
-becomes_open v b s (CN w r n x from to o) p g h = absurd (let e = implied is_wait_cn is_opening refl s.phase g.expected in let f = h.phase in cc)
-becomes_open v b s (AC w r n x o) p g h = absurd (let e = implied is_connecting is_opening refl s.phase g.expected in let f = h.phase in cc)
+becomes_open v b s (CN w r n x from to z o) p g h = absurd (let e = implied is_wait_cn is_opening refl s.phase g.expected in let f = h.phase in cc)
+becomes_open v b s (AC w r n x z o) p g h = absurd (let e = implied is_connecting is_opening refl s.phase g.expected in let f = h.phase in cc)
 becomes_open v b s (RF r o) p g h = absurd (cc)
 becomes_open v b s (DT o) p g h = h
 becomes_open v b s (GT k) p g h = record { phase = h.phase; units = h.units; base = h.base }
@@ -61,8 +61,8 @@ Lively s = is_lively s.phase ≡ true
 
 -- it stays so, until a restart stands
 pub becomes_lively : (s : State) (u : Meaning) → is_plain u ≡ true → Good s u → stops s u ≡ false → Lively s → Lively (becomes s u)
-becomes_lively s (CN w r n x from to o) p g st h = absurd (let e = excluded is_wait_cn is_lively refl s.phase g.expected in cc)
-becomes_lively s (AC w r n x o) p g st h = refl
+becomes_lively s (CN w r n x from to z o) p g st h = absurd (let e = excluded is_wait_cn is_lively refl s.phase g.expected in cc)
+becomes_lively s (AC w r n x z o) p g st h = refl
 becomes_lively s (RF r o) p g st h = absurd (cc)
 becomes_lively s (DT o) p g st h = h
 becomes_lively s (GT k) p g st h = h
@@ -115,8 +115,8 @@ more_right s k held e (inl h) = inl (e data_token ∙ or_left (has s.held data_t
 more_right s k held e (inr h) = inr h
 
 becomes_talks : (s : State) (u : Meaning) → is_plain u ≡ true → Good s u → stops s u ≡ false → Talks s → Talks (becomes s u)
-becomes_talks s (CN w r n x from to o) p g st h = absurd (let e = excluded is_wait_cn is_talking refl s.phase g.expected in let f = h.phase in cc)
-becomes_talks s (AC w r n x o) p g st h = absurd (let e = excluded is_connecting is_talking refl s.phase g.expected in let f = h.phase in cc)
+becomes_talks s (CN w r n x from to z o) p g st h = absurd (let e = excluded is_wait_cn is_talking refl s.phase g.expected in let f = h.phase in cc)
+becomes_talks s (AC w r n x z o) p g st h = absurd (let e = excluded is_connecting is_talking refl s.phase g.expected in let f = h.phase in cc)
 becomes_talks s (RF r o) p g st h = absurd (cc)
 becomes_talks s (DT o) p g st h = h
 becomes_talks s (GT k) p g st h = record { phase = h.phase; right = more_right s k _ (united_has s.held k) h.right }
@@ -140,8 +140,8 @@ ends_talking = until_due Talks (λ s u f st h. fit_cases Talks s u f h (λ d g. 
 
 -- at a side that owes the answer to a restart, nothing but an empty token item fits
 empty_needs : (t : Token) (u : Meaning) → has_no_effect u ≡ true → needs_token t u ≡ false
-empty_needs t (CN w r n x from to o) h = refl
-empty_needs t (AC w r n x o) h = refl
+empty_needs t (CN w r n x from to z o) h = refl
+empty_needs t (AC w r n x z o) h = refl
 empty_needs t (RF r o) h = refl
 empty_needs t (DT o) h = absurd (cc)
 empty_needs t (GT k) h = refl

@@ -122,8 +122,8 @@ confirm_good n s (MIA m o) a p g = absurd (let b = and_parts (not s.numbers.answ
     turn : (b : Bool) → not b ≡ true → b ≡ true → ⊥
     turn true h k = cc
     turn false h k = cc
-confirm_good n s (CN v u i w from to o) a p g = record { expected = g.expected; met = g.met }
-confirm_good n s (AC v u i w o) a p g = record { expected = g.expected; met = g.met }
+confirm_good n s (CN v u i w from to z o) a p g = record { expected = g.expected; met = g.met }
+confirm_good n s (AC v u i w z o) a p g = record { expected = g.expected; met = g.met }
 confirm_good n s (RF r o) a p g = absurd (cc)
 confirm_good n s (DT o) a p g = record { expected = g.expected; met = g.met }
 confirm_good n s (GT k) a p g = record { expected = g.expected; met = g.met }
@@ -149,8 +149,8 @@ point_answers v = refl
 
 confirm_step : (n : ℕ) (s : State) (u : Meaning) → Answers s → is_plain u ≡ true → Good s u → stops s u ≡ false
     → (becomes (confirmed_at n s) u ≡ confirmed_at n (becomes s u)) × Answers (becomes s u)
-confirm_step n s (CN v u i w from to o) a p g st = absurd (let x = excluded is_confirming is_wait_cn refl s.phase a.phase in let y = g.expected in cc)
-confirm_step n s (AC v u i w o) a p g st = absurd (let x = excluded is_confirming is_connecting refl s.phase a.phase in let y = g.expected in cc)
+confirm_step n s (CN v u i w from to z o) a p g st = absurd (let x = excluded is_confirming is_wait_cn refl s.phase a.phase in let y = g.expected in cc)
+confirm_step n s (AC v u i w z o) a p g st = absurd (let x = excluded is_confirming is_connecting refl s.phase a.phase in let y = g.expected in cc)
 confirm_step n s (RF r o) a p g st = absurd (cc)
 confirm_step n s (DT o) a p g st = (refl, a)
 confirm_step n s (GT k) a p g st = (refl, record { phase = a.phase; answers = a.answers })

@@ -116,7 +116,7 @@ duplex_caller false d c h k = absurd (cc)
 pub call_lines : (s : State) (c : Call) (v : List Item) (said got : List (List ℕ)) → may_call s.phase c ≡ true → AllHold (needs s c) → IsSound s
     → Lines s v said got → Lines (after s c) (view_called s c v) (said ++ speaks s c) got
 unfolding quiet point_sent minor_confirmed major_confirmed restarted_at
-call_lines s (Accept requirements serial sides octets) v said got p t sound h =
+call_lines s (Accept requirements serial sides sizes octets) v said got p t sound h =
     let f = h.fresh (implied is_answering is_opening refl s.phase p) in
     calm _ _ _ _ refl (rw f.2 (omega arith))
 call_lines s (Refuse octets) v said got p t sound h = calm _ _ _ _ refl (nothing_said _ _ v h.count)
@@ -175,9 +175,9 @@ chosen_state P false x y h k = k
 pub unit_lines : (s : State) (u : Meaning) (v : List Item) (said got : List (List ℕ)) → Good s u → IsSound s → Lines s v said got
     → Lines (becomes s u) (seen s u v) said (got ++ got_in s u)
 unfolding quiet point_taken minor_confirmed major_confirmed restarted_at
-unit_lines s (CN version_2 requirements serial wishes from to octets) v said got g sound h =
+unit_lines s (CN version_2 requirements serial wishes from to sizes octets) v said got g sound h =
     let f = h.fresh (implied is_wait_cn is_opening refl s.phase g.expected) in
-    chosen_state (λ r. Lines r v said (got ++ [])) (is_acceptable version_2 requirements) _ _
+    chosen_state (λ r. Lines r v said (got ++ [])) (is_acceptable version_2 requirements sizes) _ _
     (record {
       count = h.count;
       major = λ k. absurd (cc);
@@ -186,7 +186,7 @@ unit_lines s (CN version_2 requirements serial wishes from to octets) v said got
       fresh = λ k. (f.0, f.1, f.2, f.3, append_nil got ∙ f.4);
     })
     (calm _ _ _ _ refl h.count)
-unit_lines s (AC version_2 requirements serial sides octets) v said got g sound h =
+unit_lines s (AC version_2 requirements serial sides sizes octets) v said got g sound h =
     let f = h.fresh (implied is_connecting is_opening refl s.phase g.expected) in
     calm _ _ _ _ refl (opened_count _ v f.2)
 unit_lines s (RF reason octets) v said got g sound h = calm _ _ _ _ refl h.count

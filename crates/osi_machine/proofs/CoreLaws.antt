@@ -3,7 +3,7 @@ use Rattle.std.proofs.Common.{◌≡◌, refl, sym, subst, ℕ, ◌<◌, Bool, t
 use Rattle.std.specs.List.{AllByRecursion}
 use Rattle.osi_session.specs.Allowed.{Passed}
 use Rattle.osi_machine.specs.Floor.{State, Granted, Answer, Call, HasSerial, Meaning, Outcome, IsNumbered, IsSmall, IsSound, AreOrdered, allowed, respond_unit, alone, respond, after, Input, call_input, taken_input, Standing, call_move, after_inputs, react, HasNumbers, IsSendable, functional_units, has_points, from_base}
-use Rattle.osi_machine.specs.Core.{Party, Core, CoreStep, call_at, take_at, Side, Left, Right, Offer, turned, stays_in_core, party_called, answered, called, party_taking, taking, takes, at_side, core_step, core_run, offer_sent, core_start}
+use Rattle.osi_machine.specs.Core.{Party, Core, CoreStep, call_at, take_at, Side, Left, Right, Offer, CanBeOffered, turned, stays_in_core, party_called, answered, called, party_taking, taking, takes, at_side, core_step, core_run, offer_sent, core_start}
 use Rattle.osi_machine.specs.Parties.{IsConsistent, AreConsistent, IsNumberedStep}
 use Rattle.osi_machine.proofs.Consistent.{Lines, lines_of, consistent, call_lines, taken_lines}
 
@@ -105,22 +105,23 @@ small_base : (b : Bool) (serial : ℕ) → serial < 1000000 → (if b then seria
 small_base true serial h = h
 small_base false serial h = omega arith
 
-small_serial : (o : Offer) → o.serial < 1000000 → IsNumbered (offer_sent o)
-small_serial o h = by (has_points (functional_units o.requirements))
+small_serial : (o : Offer) → CanBeOffered o → IsNumbered (offer_sent o)
+small_serial o h = by (has_points (functional_units o.requirements)) h.0
   where
-    by : (b : Bool) → IsSmall (if b then Some o.serial else None)
-    by true = omega arith
-    by false = tt
+    by : (b : Bool) → o.serial < 1000000 → IsSmall (if b then Some o.serial else None)
+    by true k = omega arith
+    by false k = tt
 
-pub starts : (o : Offer) → o.serial < 1000000 → AreConsistent (core_start o)
+pub starts : (o : Offer) → CanBeOffered o → AreConsistent (core_start o)
 starts o h = record {
   own = record {
     sound = record {
       ordered = from_zero;
-      first = small_base (has_points (functional_units o.requirements)) o.serial h;
+      first = small_base (has_points (functional_units o.requirements)) o.serial h.0;
       major = λ k. absurd (cc);
       restart = λ k. absurd (cc);
       tokens = λ k. refl;
+      sizes = h.1;
     };
     count = omega arith;
     major = λ k. absurd (cc);
@@ -129,7 +130,7 @@ starts o h = record {
     fresh = λ k. record { base = refl; numbers = refl; view = refl; said = refl; got = refl };
   };
   peer = record {
-    sound = record { ordered = from_zero; first = omega arith; major = λ k. absurd (cc); restart = λ k. absurd (cc); tokens = λ k. refl };
+    sound = record { ordered = from_zero; first = omega arith; major = λ k. absurd (cc); restart = λ k. absurd (cc); tokens = λ k. refl; sizes = refl };
     count = omega arith;
     major = λ k. absurd (cc);
     asked = λ k. absurd (cc);

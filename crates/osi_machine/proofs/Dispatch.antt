@@ -31,7 +31,7 @@ use Rattle.osi_machine.proofs.TakeAnswers.{restarted_taken, accept_taken, connec
 
 call_stands : SessionLaws → (w : Core) (c : Call) (g : Granted) → HasSerial c → stays_in_core c ≡ true → allowed w.own.session c ≡ Ok g → Stands w
     → Stands (answered w c (Ok g))
-call_stands laws w (Accept requirements serial sides octets) g small k e s = accept_stands laws w requirements serial sides octets g small e s
+call_stands laws w (Accept requirements serial sides sizes octets) g small k e s = accept_stands laws w requirements serial sides sizes octets g small e s
 call_stands laws w (Refuse octets) g small k e s = absurd (cc)
 call_stands laws w (Data octets) g small k e s = data_stands laws w octets g e s
 call_stands laws w (Give tokens) g small k e s = give_stands laws w tokens g e s
@@ -64,8 +64,8 @@ not_plain : (w : Core) (u : Meaning) (us : List Meaning) → w.peer.sent ≡ u �
 not_plain w u us e s = let f : AllFit w.own.session (u ∷ us) = (stands_at w (u ∷ us) e s).own.fits in f.0.plain
 
 unit_stands : SessionLaws → (w : Core) (u : Meaning) (us : List Meaning) → w.peer.sent ≡ u ∷ us → drops w.own.session u ≡ false → Stands w → Stands (taking w (u ∷ us))
-unit_stands laws w (CN v u n x from to o) us e d s = connect_taken laws w v u n x from to o us e d s
-unit_stands laws w (AC v u n sides o) us e d s = accept_taken laws w v u n sides o us e d s
+unit_stands laws w (CN v u n x from to z o) us e d s = connect_taken laws w v u n x from to z o us e d s
+unit_stands laws w (AC v u n sides z o) us e d s = accept_taken laws w v u n sides z o us e d s
 unit_stands laws w (RF r o) us e d s = absurd (let p = not_plain w (RF r o) us e s in cc)
 unit_stands laws w (DT o) us e d s = data_taken laws w o us e d s
 unit_stands laws w (GT k) us e d s = give_taken laws w k us e d s

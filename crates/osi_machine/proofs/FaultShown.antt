@@ -3,7 +3,7 @@ use Rattle.std.proofs.Common.{◌≡◌, refl, sym, ◌∙◌, ap, ℕ, zero, su
 use Rattle.std.proofs.Math.Bool.{or_assoc, or-false, or-true}
 use Rattle.std.specs.List.{list_any, slice_get}
 use Rattle.osi_session.specs.Shown.{Shown, PeerAbort, BadUnit}
-use Rattle.osi_machine.specs.Floor.{Call, Accept, Data, Minor, Major, Restart}
+use Rattle.osi_machine.specs.Floor.{Call, Accept, Data, Minor, Major, Restart, no_sizes}
 use Rattle.osi_machine.specs.Core.{Offer, Side, Left, Right}
 use Rattle.osi_machine.specs.Worlds.{World}
 use Rattle.osi_machine.specs.Machine.{Machine, Entry, connect_answered, call_answered, shown_at, ended, connection_at}
@@ -20,7 +20,7 @@ use Rattle.osi_machine.proofs.Whole.{Whole}
 -- ---- a record tells whether one of its entries is a fault
 
 call_faulted : (t : Told) (c : Call) → (told_call t c).faulted ≡ t.faulted
-call_faulted t (Accept requirements serial sides octets) = refl
+call_faulted t (Accept requirements serial sides sizes octets) = refl
 call_faulted t (Data octets) = refl
 call_faulted t (Minor confirm octets) = refl
 call_faulted t (Major octets) = refl
@@ -71,7 +71,7 @@ fine_journal (e ∷ es) h =
 -- ---- the record of each reference, also of one that was not given
 
 an_offer : Offer
-an_offer = record { requirements = 0; serial = 0; wishes = for_asker; calling_selector = None; called_selector = None; octets = [] }
+an_offer = record { requirements = 0; serial = 0; wishes = for_asker; calling_selector = None; called_selector = None; sizes = no_sizes; octets = [] }
 
 untold_fine : (d : Side) (o : Offer) → (untold d o).faulted ≡ false
 untold_fine Left o = refl

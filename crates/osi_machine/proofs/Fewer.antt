@@ -76,8 +76,8 @@ both a b p q = rw (p, q) refl
 
 -- a good unit stays good
 fewer_good : (k : Tokens) (s : State) (u : Meaning) → Good s u → Good (less k s) u
-fewer_good k s (CN v u n w from to o) g = record { expected = g.expected; met = g.met }
-fewer_good k s (AC v u n w o) g = record { expected = g.expected; met = g.met }
+fewer_good k s (CN v u n w from to z o) g = record { expected = g.expected; met = g.met }
+fewer_good k s (AC v u n w z o) g = record { expected = g.expected; met = g.met }
 fewer_good k s (RF r o) g = record { expected = g.expected; met = g.met }
 fewer_good k s (DT o) g = record { expected = g.expected; met = (still_lacks k s data_token g.met.0, tt) }
 fewer_good k s (GT j) g =
@@ -149,8 +149,8 @@ given_and_got k j s h d = tokens_same _ _ (λ t.
 -- what such a unit leaves
 fewer_becomes : (k : Tokens) (s : State) (u : Meaning) → Fits s u → Good s u → stops s u ≡ false → Gives k s → (becomes (less k s) u ≡ less k (becomes s u)) × Gives k (becomes s u)
 unfolding stands
-fewer_becomes k s (CN v u n w from to o) f g st h = absurd (let e = excluded is_wait_cn may_ask refl s.phase g.expected in let p = h.phase in cc)
-fewer_becomes k s (AC v u n w o) f g st h = absurd (let e = excluded is_connecting may_ask refl s.phase g.expected in let p = h.phase in cc)
+fewer_becomes k s (CN v u n w from to z o) f g st h = absurd (let e = excluded is_wait_cn may_ask refl s.phase g.expected in let p = h.phase in cc)
+fewer_becomes k s (AC v u n w z o) f g st h = absurd (let e = excluded is_connecting may_ask refl s.phase g.expected in let p = h.phase in cc)
 fewer_becomes k s (RF r o) f g st h = absurd (let p = f.plain in cc)
 fewer_becomes k s (DT o) f g st h = (refl, h)
 fewer_becomes k s (GT j) f g st h =

@@ -77,8 +77,8 @@ taken_to c n false k = omega arith
 
 becomes_grown : (a : ℕ) (s : State) (u : Meaning) → is_plain u ≡ true → Good s u → stops s u ≡ false → Grown a s → Grown a (becomes s u)
 unfolding point_taken minor_confirmed major_confirmed
-becomes_grown a s (CN w r n x from to o) p g st h = absurd (let e = implied is_wait_cn is_opening refl s.phase g.expected in let f = h.phase in cc)
-becomes_grown a s (AC w r n x o) p g st h = absurd (let e = implied is_connecting is_opening refl s.phase g.expected in let f = h.phase in cc)
+becomes_grown a s (CN w r n x from to z o) p g st h = absurd (let e = implied is_wait_cn is_opening refl s.phase g.expected in let f = h.phase in cc)
+becomes_grown a s (AC w r n x z o) p g st h = absurd (let e = implied is_connecting is_opening refl s.phase g.expected in let f = h.phase in cc)
 becomes_grown a s (RF r o) p g st h = absurd (cc)
 becomes_grown a s (DT o) p g st h = h
 becomes_grown a s (GT k) p g st h = record { phase = h.phase; from = h.from; to = h.to }

@@ -4,7 +4,7 @@ use Rattle.std.proofs.lemmas.Bool.{ne_eqb, eq-eqb}
 use Rattle.std.specs.List.{slice_get}
 use Rattle.osi_session.specs.Shown.{Shown}
 use Rattle.osi_machine.specs.Floor.{CallError, Call, HasSerial, allowed, is_profile}
-use Rattle.osi_machine.specs.Core.{Offer, Side, Left, Right}
+use Rattle.osi_machine.specs.Core.{Offer, CanBeOffered, Side, Left, Right}
 use Rattle.osi_machine.specs.Worlds.{Message, World, turned, session_of, asked_with, after_answer, Taking, Terms, message_taken, closed, ended_at, shown_at_end}
 use Rattle.osi_machine.specs.Machine.{Entry, call_answered, shown_at, replaced, is_given, error_of, without_first}
 use Rattle.osi_machine.specs.Views.{Told, told_call, told_shown, told_by, is_side, record_of, untold, told_of}
@@ -29,8 +29,8 @@ cut_to left right w = record w {
 -- What is said of a connection with its offer and of what the records of both sides tell, and kept by each
 -- of its moves.
 pub record IsKept (terms : Terms) (P : Bool → World → Offer → Told → Told → Type 0) : Type 0 where
-  pub starts : (o : Offer) → o.serial < 1000000 → is_profile o.requirements ≡ true → P false (asked_with o) o (untold Left o) (untold Right o)
-  pub lost : (o : Offer) → o.serial < 1000000 → is_profile o.requirements ≡ true
+  pub starts : (o : Offer) → CanBeOffered o → is_profile o.requirements ≡ true → P false (asked_with o) o (untold Left o) (untold Right o)
+  pub lost : (o : Offer) → CanBeOffered o → is_profile o.requirements ≡ true
       → P true (record (asked_with o) { own = record (asked_with o).own { channel = [] } }) o (untold Left o) (untold Right o)
   pub turns : (b : Bool) (w : World) (o : Offer) (s t : Told) → P b w o s t → P b (turned w) o t s
   pub calls : (b : Bool) (w : World) (o : Offer) (s t : Told) (c : Call) → HasSerial c → is_given w.own.transport ≡ true → P b w o s t

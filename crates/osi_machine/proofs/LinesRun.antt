@@ -4,7 +4,7 @@ use Rattle.std.specs.List.{AllByRecursion, list_any, slice_get}
 use Rattle.osi_session.specs.declared.faults.CallError.TheVariants as error
 use Rattle.osi_session.specs.Shown.{Shown}
 use Rattle.osi_machine.specs.Floor.{CallError, Call, HasSerial, allowed, is_profile}
-use Rattle.osi_machine.specs.Core.{Offer, Side, Left, Right}
+use Rattle.osi_machine.specs.Core.{Offer, CanBeOffered, Side, Left, Right}
 use Rattle.osi_machine.specs.Worlds.{Class, class_0, class_2, Message, Transport, World, session_of, asked_with, after_answer, Terms, closed, ended_at, shown_at_end}
 use Rattle.osi_machine.specs.Machine.{Ending, closed_here, Refusal, Step, connects, calls, delivers, breaks, ends, Entry, connect_answered, call_answered, shown_at, ended, Machine, start, connection_at, replaced, seen_from, end_of, stays, noted, is_given, is_waiting, is_known, is_class_0, live_count, refusal_by, transport_of, refusal, asked_in, error_of, call_in, side_of, ends_there, ended_worlds, shown_in_order, marked_ended, after_end, closes_by, after_taking, learns, taken_in, delivered_to, cut_channels, is_told, step, run, HasNumber}
 use Rattle.osi_machine.specs.Views.{Told, told_by, is_side, record_of, untold, told_of}
@@ -133,7 +133,7 @@ asked_profile ended_now known asked o h =
     let e = if_none (nat_le 65535 (length asked)) _ _ d.1 in
     not_false (is_profile o.requirements) (if_none (not (is_profile o.requirements)) _ _ e.1).0
 
-asked_good : (terms : Terms) (P : Bool → World → Offer → Told → Told → Type 0) → IsKept terms P → (m : Machine) (o : Offer) → o.serial < 1000000 → IsGood terms P m
+asked_good : (terms : Terms) (P : Bool → World → Offer → Told → Told → Type 0) → IsKept terms P → (m : Machine) (o : Offer) → CanBeOffered o → IsGood terms P m
     → (a : Option Refusal) → refusal m o ≡ a → IsGood terms P (asked_in m o a)
 asked_good terms P k m o small g (Some e) h = g
 asked_good terms P k m o small g None h = record {

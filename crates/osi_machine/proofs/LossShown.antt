@@ -24,9 +24,9 @@ is_lost i = false
 -- ---- a unit
 
 good_keeps : (s : State) (u : Meaning) → list_any is_lost (shown_for s u) ≡ false
-good_keeps s (CN v r n w from to o) = by (is_acceptable v r)
+good_keeps s (CN v r n w from to z o) = by (is_acceptable v r z)
   where
-    by : (b : Bool) → list_any is_lost (if b then Connect r n w o ∷ [] else []) ≡ false
+    by : (b : Bool) → list_any is_lost (if b then Connect r n w z o ∷ [] else []) ≡ false
     by true = refl
     by false = refl
 good_keeps s (RS k n w o) = by (stands s n)

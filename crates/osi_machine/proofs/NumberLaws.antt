@@ -60,8 +60,8 @@ chosen P false x y h k = k
 
 becomes_turned : (s : State) (u : Meaning) → is_plain u ≡ true → Good s u → Turned s → Turned (becomes s u)
 unfolding point_taken minor_confirmed major_confirmed restarted_at
-becomes_turned s (CN v u n w from to o) p g h = absurd (let e = implied is_wait_cn is_opening refl s.phase g.expected in let f = h.phase in cc)
-becomes_turned s (AC v u n w o) p g h = absurd (let e = implied is_connecting is_opening refl s.phase g.expected in let f = h.phase in cc)
+becomes_turned s (CN v u n w from to z o) p g h = absurd (let e = implied is_wait_cn is_opening refl s.phase g.expected in let f = h.phase in cc)
+becomes_turned s (AC v u n w z o) p g h = absurd (let e = implied is_connecting is_opening refl s.phase g.expected in let f = h.phase in cc)
 becomes_turned s (RF r o) p g h = absurd (cc)
 becomes_turned s (DT o) p g h = h
 becomes_turned s (GT k) p g h = record { phase = h.phase; answers = h.answers }
@@ -88,8 +88,8 @@ Sends s = s.numbers.answers ≡ false
 -- none but a point turns it
 becomes_sends : (s : State) (u : Meaning) → needs_token data_token u ≡ false → Sends s → Sends (becomes s u)
 unfolding point_taken minor_confirmed major_confirmed restarted_at
-becomes_sends s (CN v u n w from to o) p h = chosen Sends (is_acceptable v u) _ _ h h
-becomes_sends s (AC v u n w o) p h = refl
+becomes_sends s (CN v u n w from to z o) p h = chosen Sends (is_acceptable v u z) _ _ h h
+becomes_sends s (AC v u n w z o) p h = refl
 becomes_sends s (RF r o) p h = h
 becomes_sends s (DT o) p h = h
 becomes_sends s (GT k) p h = h

@@ -8,8 +8,8 @@ use Rattle.osi_machine.proofs.Deaf.{AllEmpty, dropped_empty}
 
 -- a side that owes the answer to a CN expects nothing
 pub none_answering : (p : Phase) (u : Meaning) → is_answering p ≡ true → is_plain u ≡ true → is_expected p u ≡ false
-none_answering p (CN v u n w from to o) h k = excluded is_answering is_wait_cn refl p h
-none_answering p (AC v u n w o) h k = excluded is_answering is_connecting refl p h
+none_answering p (CN v u n w from to z o) h k = excluded is_answering is_wait_cn refl p h
+none_answering p (AC v u n w z o) h k = excluded is_answering is_connecting refl p h
 none_answering p (RF r o) h k = absurd (cc)
 none_answering p (DT o) h k = excluded is_answering takes_data refl p h
 none_answering p (GT t) h k = excluded is_answering may_ask refl p h
@@ -36,8 +36,8 @@ chosen P true x y h k = h
 chosen P false x y h k = k
 
 becomes_later : (s : State) (u : Meaning) → is_plain u ≡ true → Good s u → Later (becomes s u)
-becomes_later s (CN v u n w from to o) p g = chosen Later (is_acceptable v u) _ _ refl refl
-becomes_later s (AC v u n w o) p g = refl
+becomes_later s (CN v u n w from to z o) p g = chosen Later (is_acceptable v u z) _ _ refl refl
+becomes_later s (AC v u n w z o) p g = refl
 becomes_later s (RF r o) p g = absurd (cc)
 becomes_later s (DT o) p g = excluded takes_data is_connecting refl s.phase g.expected
 becomes_later s (GT t) p g = excluded may_ask is_connecting refl s.phase g.expected

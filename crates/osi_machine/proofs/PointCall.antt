@@ -72,8 +72,8 @@ below_in p b n next e h = ap (λ (r : Bool). nat_le b n && (r || nat_le n (next 
 point_good : (p : Phase) → IsOpenPhase p → (s : State) (u : Meaning) → has s.held data_token ≡ true → is_plain u ≡ true → has_no_effect u ≡ false
     → Good (in_phase Ready s) u → Good (sent_in p s) u
 unfolding point_sent
-point_good p k s (CN w r n x from to o) d pl e g = absurd (let a = g.expected in cc)
-point_good p k s (AC w r n x o) d pl e g = absurd (let a = g.expected in cc)
+point_good p k s (CN w r n x from to z o) d pl e g = absurd (let a = g.expected in cc)
+point_good p k s (AC w r n x z o) d pl e g = absurd (let a = g.expected in cc)
 point_good p k s (RF r o) d pl e g = absurd (cc)
 point_good p k s (DT o) d pl e g = absurd (not_lacking (has s.held data_token) g.met.0 d)
 point_good p k s (GT j) d pl e g = record { expected = k.asks; met = g.met }
@@ -105,8 +105,8 @@ same_numbers v n e = ap (λ (b : Bool). record { next = v.next + 1; confirmed = 
 
 point_step : (p : Phase) (s : State) (u : Meaning) → Speaks s → is_plain u ≡ true → Good (in_phase Ready s) u → stops s u ≡ false
     → (becomes (sent_in p s) u ≡ sent_in p (becomes s u)) × Speaks (becomes s u)
-point_step p s (CN w r n x from to o) i pl g st = absurd (let a = g.expected in cc)
-point_step p s (AC w r n x o) i pl g st = absurd (let a = g.expected in cc)
+point_step p s (CN w r n x from to z o) i pl g st = absurd (let a = g.expected in cc)
+point_step p s (AC w r n x z o) i pl g st = absurd (let a = g.expected in cc)
 point_step p s (RF r o) i pl g st = absurd (cc)
 point_step p s (DT o) i pl g st = (refl, i)
 point_step p s (GT j) i pl g st = (refl, record { phase = i.phase; held = united_has s.held j data_token ∙ or_left (has s.held data_token) (has j data_token) i.held })

@@ -113,7 +113,7 @@ owns_called s (Give k) o p t e = by (has k t)
     by : (b : Bool) → is_own (if b then ToThem else o t) ≡ is_own (if b then ToThem else p t)
     by true = refl
     by false = e
-owns_called s (Accept u n a x) o p t e = refl
+owns_called s (Accept u n a z x) o p t e = refl
 owns_called s (RestartConfirm a x) o p t e = refl
 owns_called s (Restart n x y) o p t e = own_gone (o t) ∙ sym (own_gone (p t))
 owns_called s _ o p t e = e
@@ -125,7 +125,7 @@ theirs_called s (Give k) o p t e = by (has k t)
     by : (b : Bool) → is_own (turned_owner (if b then ToThem else o t)) ≡ is_own (turned_owner (if b then ToThem else p t))
     by true = refl
     by false = e
-theirs_called s (Accept u n a x) o p t e = refl
+theirs_called s (Accept u n a z x) o p t e = refl
 theirs_called s (RestartConfirm a x) o p t e = refl
 theirs_called s (Restart n x y) o p t e = sym (given_theirs (o t)) ∙ e ∙ given_theirs (p t)
 theirs_called s _ o p t e = e
@@ -133,7 +133,7 @@ theirs_called s _ o p t e = e
 -- ---- a call that the core makes too
 
 call_lives : (s : State) (c : Call) → stays_in_core c ≡ true → is_over s.phase ≡ false → is_over (after s c).phase ≡ false
-call_lives s (Accept u n a o) k l = refl
+call_lives s (Accept u n a z o) k l = refl
 call_lives s (Refuse o) k l = absurd (cc)
 call_lives s (Major o) k l = refl
 call_lives s (MajorConfirm o) k l = refl
@@ -222,7 +222,7 @@ pub call_projects : SessionLaws → (broken : Bool) (w : World) (c : Core) (x : 
     → allowed c.own.session x ≡ Ok g → Projects broken (after_call broken c.own.session x g w) (answered c x (Ok g))
 call_projects laws broken w c x g k lives p s e =
     let q = laws.passed c.own.session x g e in
-    let same : Passed c.own.session x (granted c.own.session x) = record { phase = q.phase; needed = q.needed; size = q.size; gives = refl } in
+    let same : Passed c.own.session x (granted c.own.session x) = record { phase = q.phase; needed = q.needed; size = q.size; limit = q.limit; gives = refl } in
     subst (λ (r : Granted). Projects broken (after_call broken c.own.session x r w) (answered c x (Ok r))) (sym q.gives) (record {
       history = ap (λ (h : List Item). h ++ says c.own.session x) p.history;
       own = called_own broken w c x k lives p s same;

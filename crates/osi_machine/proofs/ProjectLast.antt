@@ -26,8 +26,8 @@ use Rattle.osi_machine.proofs.ProjectTake.{Last, took, put_nothing}
 -- a side that owes the answer to a release owes it until a restart stands
 none_acts : (s : State) (u : Meaning) → is_release_due s.phase ≡ true → is_plain u ≡ true → stops s u ≡ false → is_expected s.phase u ≡ false
 unfolding stands
-none_acts s (CN v u n w from to o) h k st = excluded is_release_due is_wait_cn refl s.phase h
-none_acts s (AC v u n w o) h k st = excluded is_release_due is_connecting refl s.phase h
+none_acts s (CN v u n w from to z o) h k st = excluded is_release_due is_wait_cn refl s.phase h
+none_acts s (AC v u n w z o) h k st = excluded is_release_due is_connecting refl s.phase h
 none_acts s (RF r o) h k st = absurd (cc)
 none_acts s (DT o) h k st = excluded is_release_due takes_data refl s.phase h
 none_acts s (GT t) h k st = excluded is_release_due may_ask refl s.phase h

@@ -5,7 +5,7 @@ use Rattle.osi_session.specs.declared.faults.CallError.TheVariants as error
 use Rattle.osi_session.specs.Phases.{may_abort}
 use Rattle.osi_machine.specs.Floor.{State, Phase, Token, Call, Accept, Refuse, Data, Give, Please, Minor, MinorConfirm, Major, MajorConfirm, Restart, RestartConfirm, Release, ReleaseAccept, ReleaseRefuse, Abort, Answer, CallError, allowed, may_call, is_over, is_wait_transport, is_wait_cn, is_answering, is_ready, is_major_due, is_release_due, is_restart_due, may_give, may_ask, may_confirm_minor, may_restart, is_profile, awaiting, lost}
 use Rattle.osi_machine.specs.Owners.{Owner, Own, Theirs, ToOwn, ToThem, Pool, Absent, Owners, own_to_pool, given_up, turned_owner, left_by}
-use Rattle.osi_machine.specs.Core.{Offer, Left, Right}
+use Rattle.osi_machine.specs.Core.{Offer, CanBeOffered, Left, Right}
 use Rattle.osi_machine.specs.Worlds.{Message, ask, agree, deny, Transport, not_yet, waiting, linked, gone, Kept, kept_of, End, World, session_of, shortened, asked_with, ended_at, shown_at_end, turned as turned_world}
 use Rattle.osi_machine.specs.Views.{Told, untold}
 use Rattle.osi_machine.proofs.PhaseLaws.{excluded}
@@ -78,7 +78,7 @@ suits _ tr = true
 
 -- seen from the caller; t and u are what the records of both sides tell
 pub record Opens (w : World) (t u : Told) : Type 0 where
-  pub small : w.offer.serial < 1000000
+  pub small : CanBeOffered w.offer
   pub profile : is_profile w.offer.requirements ≡ true
   pub history : w.history ≡ []
   pub owner : (k : Token) → w.owner k ≡ Absent
@@ -91,7 +91,7 @@ pub record Opens (w : World) (t u : Told) : Type 0 where
   pub own_told : t ≡ untold Left w.offer
   pub peer_told : u ≡ untold Right w.offer
 
-pub asked_opens : (o : Offer) → o.serial < 1000000 → is_profile o.requirements ≡ true → Opens (asked_with o) (untold Left o) (untold Right o)
+pub asked_opens : (o : Offer) → CanBeOffered o → is_profile o.requirements ≡ true → Opens (asked_with o) (untold Left o) (untold Right o)
 asked_opens o small profile = record {
   small = small;
   profile = profile;
@@ -113,7 +113,7 @@ abbrev pub is_early : Phase → Bool
 is_early p = is_wait_transport p || is_wait_cn p
 
 no_call : (p : Phase) (x : Call) → is_early p ≡ true → may_call p x ≡ false
-no_call p (Accept u n a o) h = excluded is_early is_answering refl p h
+no_call p (Accept u n a z o) h = excluded is_early is_answering refl p h
 no_call p (Refuse o) h = excluded is_early is_answering refl p h
 no_call p (Data o) h = excluded is_early is_ready refl p h
 no_call p (Give k) h = excluded is_early may_give refl p h

@@ -2,7 +2,7 @@
 use Rattle.std.proofs.Common.{◌≡◌, refl, sym, ◌∙◌, ap, subst, ℕ, ◌+◌, Bool, true, false, not, ◌&&◌, ◌||◌, if◌then◌else◌, List, [], ◌∷◌, ◌++◌, map, length, Option, Some, None, ◌⊎◌, inl, inr}
 use Rattle.std.proofs.lemmas.List.{length-append}
 use Rattle.std.specs.List.{list_any}
-use Rattle.osi_machine.specs.Floor.{TokenSetting, State, Meaning, CN, AC, RF, DT, GT, MIP, MAP, RS, RA, AB, Token, has, Outcome, nothing, good, is_over, is_acceptable, has_data, functional_units, respond_unit, becomes, stands, drops}
+use Rattle.osi_machine.specs.Floor.{TokenSetting, TsduMaximumSize, State, Meaning, CN, AC, RF, DT, GT, MIP, MAP, RS, RA, AB, Token, has, Outcome, nothing, good, is_over, is_acceptable, are_sizes, has_data, functional_units, respond_unit, becomes, stands, drops}
 use Rattle.osi_session.specs.Respond.{reply_for}
 use Rattle.osi_machine.specs.Histories.{Item, Octets, Point, minor_kind, major_point, cutat}
 use Rattle.osi_machine.specs.Owners.{Owner, Own, Theirs, ToOwn, ToThem, Pool, Absent, Owners, all_to_pool, is_own, turned_owner, pooled, left_by}
@@ -69,7 +69,7 @@ owns_after s (GT k) o p t e = passed (has k t)
     passed : (b : Bool) → is_own (if b then Own else o t) ≡ is_own (if b then Own else p t)
     passed true = refl
     passed false = e
-owns_after s (AC v r n x y) o p t e = passed (has (becomes s (AC v r n x y)).held t)
+owns_after s (AC v r n x z y) o p t e = passed (has (becomes s (AC v r n x z y)).held t)
   where
     passed : (b : Bool) → is_own (if b then Own else o t) ≡ is_own (if b then Own else p t)
     passed true = refl
@@ -93,7 +93,7 @@ theirs_after s (GT k) o p t e = passed (has k t)
     passed : (b : Bool) → is_own (turned_owner (if b then Own else o t)) ≡ is_own (turned_owner (if b then Own else p t))
     passed true = refl
     passed false = e
-theirs_after s (AC v r n x y) o p t e = passed (has (becomes s (AC v r n x y)).held t)
+theirs_after s (AC v r n x z y) o p t e = passed (has (becomes s (AC v r n x z y)).held t)
   where
     passed : (b : Bool) → is_own (turned_owner (if b then Own else o t)) ≡ is_own (turned_owner (if b then Own else p t))
     passed true = refl
@@ -112,9 +112,9 @@ theirs_after s _ o p t e = e
 
 -- ---- a unit of the core is answered by none
 
-plain_reply : (s : State) (u : Meaning) → is_plain u ≡ true → ((v : Bool) (r : ℕ) (n : Option ℕ) (x : TokenSetting) (from to : Option (List ℕ)) (o : List ℕ)
-    → u ≡ CN v r n x from to o → is_acceptable v r ≡ true) → reply_for u ≡ None
-plain_reply s (CN v r n x from to o) p k = by v (has_data (functional_units r)) (k v r n x from to o refl)
+plain_reply : (s : State) (u : Meaning) → is_plain u ≡ true → ((v : Bool) (r : ℕ) (n : Option ℕ) (x : TokenSetting) (from to : Option (List ℕ)) (z : TsduMaximumSize) (o : List ℕ)
+    → u ≡ CN v r n x from to z o → is_acceptable v r z ≡ true) → reply_for u ≡ None
+plain_reply s (CN v r n x from to z o) p k = by v (has_data (functional_units r) && are_sizes z) (k v r n x from to z o refl)
   where
     by : (a b : Bool) → (a && b) ≡ true → (if not a then Some (RF 132 []) else (if not b then Some (RF 134 []) else None)) ≡ None
     by true true e = refl
@@ -159,11 +159,11 @@ no_reply broken w c u us ms k =
     let f = fits_first broken w c u us ms k in
     ap (λ (o : Outcome). o.reply) (no_fault c.own.session u (lives_in_core broken w c u us ms k) f) ∙ by (drops c.own.session u) refl f.plain
   where
-    accepts : (m : Meaning) → m ≡ u → drops c.own.session u ≡ false → (v : Bool) (r : ℕ) (n : Option ℕ) (x : TokenSetting) (from to : Option (List ℕ)) (o : List ℕ)
-        → m ≡ CN v r n x from to o → is_acceptable v r ≡ true
-    accepts m e d v r n x from to o same =
+    accepts : (m : Meaning) → m ≡ u → drops c.own.session u ≡ false → (v : Bool) (r : ℕ) (n : Option ℕ) (x : TokenSetting) (from to : Option (List ℕ)) (z : TsduMaximumSize) (o : List ℕ)
+        → m ≡ CN v r n x from to z o → is_acceptable v r z ≡ true
+    accepts m e d v r n x from to z o same =
         let path = sym e ∙ same in
-        acceptable c v r n x from to o us (subst (λ (z : Meaning). drops c.own.session z ≡ false) path d) (subst (λ (z : Meaning). Stands (at c (z ∷ us))) path k.all)
+        acceptable c v r n x from to z o us (subst (λ (y : Meaning). drops c.own.session y ≡ false) path d) (subst (λ (y : Meaning). Stands (at c (y ∷ us))) path k.all)
 
     by : (b : Bool) → drops c.own.session u ≡ b → is_plain u ≡ true → (if b then nothing c.own.session else good c.own.session u).reply ≡ None
     by true d p = refl

@@ -137,4 +137,5 @@ session_is w c s h n a =
       proposed = (a.kept i).proposed;
       base = (a.kept i).base;
       numbers = record { next = next i; confirmed = (a.kept i).confirmed; lowest = (a.kept i).lowest; answers = (a.kept i).answers };
+      sizes = (a.kept i).sizes;
     }

@@ -5,7 +5,7 @@ use Rattle.osi_machine.specs.Histories.{Item, Octets, Point, PointKind, points, 
 use Rattle.osi_machine.specs.Owners.{Owner, Own, Theirs, ToOwn, ToThem, Pool, Absent, turned_owner, is_own}
 use Rattle.osi_machine.specs.Taking.{is_acted_on, seen, cut_by}
 use Rattle.osi_machine.specs.Channels.{data_of}
-use Rattle.osi_machine.specs.Core.{Offer, Party, Core, taking, core_start}
+use Rattle.osi_machine.specs.Core.{Offer, CanBeOffered, Party, Core, taking, core_start}
 use Rattle.osi_machine.specs.Parties.{is_opening}
 use Rattle.osi_machine.specs.Promises.{IsReached, OneHolder, HoldsItsOwn, TakesNoFault, SeesTheHistory, ViewsAgree, GotWhatWasSaid, TakesTheNextItem, ConfirmedIsSeen}
 use Rattle.osi_machine.proofs.Records.{hearing, Views, Stands}
@@ -22,13 +22,13 @@ use Rattle.osi_machine.proofs.Dispatch.{taking_stands, run_stands}
 
 -- ---- it is true of each connection that came about
 
-pub offer_stands : (o : Offer) → o.serial < 1000000 → is_profile o.requirements ≡ true → Stands (core_start o)
+pub offer_stands : (o : Offer) → CanBeOffered o → is_profile o.requirements ≡ true → Stands (core_start o)
 offer_stands o serial profile =
     let p = profile_of o.requirements profile in
     starts_stand o serial p (profile_data (functional_units o.requirements) p)
 
 pub reached_stands : SessionLaws → (w : Core) → IsReached w → Stands w
-reached_stands laws w r = subst Stands r.reached (run_stands laws (core_start r.offer) r.steps r.numbered (offer_stands r.offer r.serial r.profile))
+reached_stands laws w r = subst Stands r.reached (run_stands laws (core_start r.offer) r.steps r.numbered (offer_stands r.offer r.offered r.profile))
 
 -- ---- tokens
 

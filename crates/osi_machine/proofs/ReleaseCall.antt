@@ -76,8 +76,8 @@ none_to_come s k right within apart = is_empty_of k (λ t. by t (has k t) refl)
 release_good : (s : State) (u : Meaning) → ((t : Token) → HasRight s t) → is_finish u ≡ false → is_plain u ≡ true → has_no_effect u ≡ false
     → Good (in_phase Ready s) u → Good (in_phase Releasing s) u
 unfolding available
-release_good s (CN w r n x from to o) right f p e g = absurd (let a = g.expected in cc)
-release_good s (AC w r n x o) right f p e g = absurd (let a = g.expected in cc)
+release_good s (CN w r n x from to z o) right f p e g = absurd (let a = g.expected in cc)
+release_good s (AC w r n x z o) right f p e g = absurd (let a = g.expected in cc)
 release_good s (RF r o) right f p e g = absurd (cc)
 release_good s (DT o) right f p e g = record { expected = refl; met = g.met }
 release_good s (GT k) right f p e g = absurd (
@@ -105,8 +105,8 @@ release_good s AA right f p e g = absurd (cc)
 release_step : (s : State) (u : Meaning) → Releases s → is_finish u ≡ false → is_plain u ≡ true → has_no_effect u ≡ false → Good (in_phase Ready s) u → stops s u ≡ false
     → (becomes (in_phase Releasing s) u ≡ in_phase Releasing (becomes s u)) × Releases (becomes s u)
 unfolding available
-release_step s (CN w r n x from to o) i f p e g st = absurd (let a = g.expected in cc)
-release_step s (AC w r n x o) i f p e g st = absurd (let a = g.expected in cc)
+release_step s (CN w r n x from to z o) i f p e g st = absurd (let a = g.expected in cc)
+release_step s (AC w r n x z o) i f p e g st = absurd (let a = g.expected in cc)
 release_step s (RF r o) i f p e g st = absurd (cc)
 release_step s (DT o) i f p e g st = (refl, i)
 release_step s (GT k) i f p e g st = absurd (
@@ -150,8 +150,8 @@ record ReleaseOwed (s : State) : Type 0 where
   none : s.units.resynchronize ≡ false
 
 owed_becomes : (s : State) (u : Meaning) → is_plain u ≡ true → Good s u → ReleaseOwed s → ReleaseOwed (becomes s u)
-owed_becomes s (CN w r n x from to o) p g h = absurd (let a = excluded is_release_due is_wait_cn refl s.phase h.phase in let b = g.expected in cc)
-owed_becomes s (AC w r n x o) p g h = absurd (let a = excluded is_release_due is_connecting refl s.phase h.phase in let b = g.expected in cc)
+owed_becomes s (CN w r n x from to z o) p g h = absurd (let a = excluded is_release_due is_wait_cn refl s.phase h.phase in let b = g.expected in cc)
+owed_becomes s (AC w r n x z o) p g h = absurd (let a = excluded is_release_due is_connecting refl s.phase h.phase in let b = g.expected in cc)
 owed_becomes s (RF r o) p g h = absurd (cc)
 owed_becomes s (DT o) p g h = h
 owed_becomes s (GT k) p g h = record { phase = h.phase; none = h.none }
@@ -201,8 +201,8 @@ abbrev Unreleased : State → Type 0
 Unreleased s = is_releasing s.phase ≡ false
 
 becomes_unreleased : (s : State) (u : Meaning) → is_releasing s.phase ≡ false → is_releasing (becomes s u).phase ≡ false
-becomes_unreleased s (CN w r n x from to o) h = chosen Unreleased (is_acceptable w r) _ _ refl refl
-becomes_unreleased s (AC w r n x o) h = refl
+becomes_unreleased s (CN w r n x from to z o) h = chosen Unreleased (is_acceptable w r z) _ _ refl refl
+becomes_unreleased s (AC w r n x z o) h = refl
 becomes_unreleased s (RF r o) h = refl
 becomes_unreleased s (DT o) h = h
 becomes_unreleased s (GT k) h = h

@@ -1,9 +1,9 @@
 -- What is true of both sides is true where the CN of a caller is under way.
-use Rattle.std.proofs.Common.{◌≡◌, refl, sym, ap, subst, ◌<◌, Bool, true, false, if◌then◌else◌, Some, None, unwrap_or, arith}
-use Rattle.osi_machine.specs.Floor.{State, Answering, Ended, has_data, has_points, functional_units, base_for, serial_for, offered, is_restarting, without_tokens, awaiting, next}
+use Rattle.std.proofs.Common.{◌≡◌, refl, sym, ap, subst, Bool, true, false, ◌&&◌, if◌then◌else◌, Some, None, unwrap_or, arith}
+use Rattle.osi_machine.specs.Floor.{State, Answering, Ended, are_sizes, has_data, has_points, functional_units, base_for, serial_for, offered, is_restarting, without_tokens, awaiting, next}
 use Rattle.osi_machine.specs.Owners.{no_owner, turned_owners}
 use Rattle.osi_machine.specs.Channels.{Fits}
-use Rattle.osi_machine.specs.Core.{Offer, offering, offer_sent, core_start}
+use Rattle.osi_machine.specs.Core.{Offer, CanBeOffered, offering, offer_sent, core_start}
 use Rattle.osi_machine.proofs.Tokens.{has_set}
 use Rattle.osi_machine.proofs.CoreLaws.{starts}
 use Rattle.osi_machine.proofs.Records.{Meeting, Counting, IsOfProfile, Stands}
@@ -15,11 +15,16 @@ answering o = record awaiting {
   units = functional_units o.requirements;
   wishes = offered (functional_units o.requirements) o.wishes;
   proposed = unwrap_or (serial_for (functional_units o.requirements) o.serial) 0;
+  sizes = o.sizes;
 }
 
-is_answered : (o : Offer) → has_data (functional_units o.requirements) ≡ true → answering o ≡ next awaiting (offer_sent o)
+both : (a b : Bool) → a ≡ true → b ≡ true → (a && b) ≡ true
+both a b p q = rw (p, q) refl
+
+is_answered : (o : Offer) → are_sizes o.sizes ≡ true → has_data (functional_units o.requirements) ≡ true → answering o ≡ next awaiting (offer_sent o)
 unfolding answering
-is_answered o h = sym (ap (λ (b : Bool). if b then answering o else without_tokens Ended awaiting) h)
+is_answered o z h =
+    sym (ap (λ (b : Bool). if b then answering o else without_tokens Ended awaiting) (both (has_data (functional_units o.requirements)) (are_sizes o.sizes) h z))
 
 same_number : (o : Offer) → base_for (functional_units o.requirements) o.serial ≡ unwrap_or (serial_for (functional_units o.requirements) o.serial) 0
 same_number o = by (has_points (functional_units o.requirements))
@@ -68,10 +73,10 @@ not_asked : (o : Offer) → is_restarting (answering o).phase ≡ true → ⊥
 unfolding answering
 not_asked o r = cc
 
-pub starts_stand : (o : Offer) → o.serial < 1000000 → IsOfProfile (functional_units o.requirements) → has_data (functional_units o.requirements) ≡ true
+pub starts_stand : (o : Offer) → CanBeOffered o → IsOfProfile (functional_units o.requirements) → has_data (functional_units o.requirements) ≡ true
     → Stands (core_start o)
 starts_stand o small p h =
-    let e = is_answered o h in
+    let e = is_answered o small.1 h in
     let fits : Fits awaiting (offer_sent o) = record { plain = refl; good = λ d. record { expected = refl; met = tt } } in
     record {
       consistent = starts o small;

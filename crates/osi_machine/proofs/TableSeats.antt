@@ -35,6 +35,7 @@ state_from k held next = record {
   proposed = k.proposed;
   base = k.base;
   numbers = record { next = next; confirmed = k.confirmed; lowest = k.lowest; answers = k.answers };
+  sizes = k.sizes;
 }
 
 -- a side that is over owns nothing
@@ -92,7 +93,7 @@ none_called s (Give k) o t e = by (has k t)
     by : (b : Bool) → is_own (turned_owner (if b then ToThem else o t)) ≡ false
     by true = refl
     by false = e
-none_called s (Accept u n a x) o t e = not_theirs (has s.held t) (has (available s.units) t)
+none_called s (Accept u n a z x) o t e = not_theirs (has s.held t) (has (available s.units) t)
 none_called s (RestartConfirm a x) o t e = not_theirs (has s.held t) (has (available s.units) t)
 none_called s (Restart n x y) o t e = sym (given_theirs (o t)) ∙ e
 none_called s _ o t e = e
@@ -103,7 +104,7 @@ none_after s (GT k) o t e = by (has k t)
     by : (b : Bool) → is_own (turned_owner (if b then Own else o t)) ≡ false
     by true = refl
     by false = e
-none_after s (AC v r n x y) o t e = by (has (becomes s (AC v r n x y)).held t)
+none_after s (AC v r n x z y) o t e = by (has (becomes s (AC v r n x z y)).held t)
   where
     by : (b : Bool) → is_own (turned_owner (if b then Own else o t)) ≡ false
     by true = refl

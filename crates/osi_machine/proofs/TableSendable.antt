@@ -10,7 +10,7 @@ use Rattle.osi_message.specs.Reading.{Said, alone, behind}
 use Rattle.osi_message.specs.Sendable.{said_of, IsAddress}
 use Rattle.osi_message.specs.Written.{is_second, user_data_of}
 use Rattle.osi_machine.specs.Floor.{State, Meaning, GT, WaitTransport, Call, HasSerial, Granted, Answer, CallError, IsNumbered, IsSmall, IsSound, IsSendable, FunctionalUnits, no_token, allowed, respond, without_tokens, awaiting, functional_units, has_points, base_for, serial_for, is_wait_transport, is_profile, lost}
-use Rattle.osi_machine.specs.Core.{Offer, Side, Left, Right, offering, offer_sent}
+use Rattle.osi_machine.specs.Core.{Offer, CanBeOffered, Side, Left, Right, offering, offer_sent}
 use Rattle.osi_machine.specs.Worlds.{Class, class_0, class_2, Message, unit, ask, agree, deny, bye, over, Transport, not_yet, waiting, linked, closing, gone, put, replied, Terms, accepts, denies}
 use Rattle.osi_machine.specs.Machine.{Ending, closed_here, Refusal, Step, connects, calls, delivers, breaks, ends, Entry, call_answered, shown_at, connect_answered, ended, connection_at, replaced, with_connection, is_given, is_known, is_class_0, is_waiting, live_count, is_long_selector, is_long, refusal_by, learns, is_told, HasNumber}
 use Rattle.osi_machine.specs.Tables.{Seat, Line, Turn, Tables, turned, calling, asked_with, in_transport, puts, shortened, made, unseen, hears, after_call, asked_at, message_taken, closed, ended_at, start, seen_from, side_of, end_of, stays, noted, transport_of, refusal, asked_in, call_in, ends_there, ended_lines, shown_in_order, marked_ended, after_end, closes_by, after_turn, without_first, taken_in, delivered_to, cut_channels, step, run}
@@ -199,7 +199,7 @@ short_selector : (s : Option (List ℕ)) → is_long_selector s ≡ false → Is
 short_selector None h = tt
 short_selector (Some octets) h = ltb-false 16 (length octets) h
 
-offer_sendable : (o : Offer) → o.serial < 1000000 → is_long o ≡ false → IsSendable (offer_sent o)
+offer_sendable : (o : Offer) → CanBeOffered o → is_long o ≡ false → IsSendable (offer_sent o)
 unfolding user_data_of
 offer_sendable o small h =
     let a = or_parts (is_long_selector o.calling_selector) _ h in
@@ -207,26 +207,28 @@ offer_sendable o small h =
     let c = leb-true (length o.octets) 10240 (not_false _ b.1) in
     record {
       version = refl;
-      numbered = numbered (has_points (functional_units o.requirements));
+      numbered = numbered (has_points (functional_units o.requirements)) small.0;
+      sized = small.1;
       addressed = (short_selector o.calling_selector a.0, short_selector o.called_selector b.0);
       short = omega arith;
     }
   where
-    numbered : (b : Bool) → IsSmall (if b then Some o.serial else None)
-    numbered true = omega arith
-    numbered false = tt
+    numbered : (b : Bool) → o.serial < 1000000 → IsSmall (if b then Some o.serial else None)
+    numbered true k = omega arith
+    numbered false k = tt
 
-calling_sound : (o : Offer) → o.serial < 1000000 → IsSound (without_tokens WaitTransport (offering o))
+calling_sound : (o : Offer) → CanBeOffered o → IsSound (without_tokens WaitTransport (offering o))
 calling_sound o small = record {
   ordered = record { confirmed_from = omega arith; confirmed_to = omega arith; lowest_from = omega arith; lowest_to = omega arith; last = omega arith };
   first = first (has_points (functional_units o.requirements));
   major = λ e. absurd (cc);
   restart = λ e. absurd (cc);
   tokens = λ e. refl;
+  sizes = small.1;
 }
   where
     first : (b : Bool) → (if b then o.serial else 0) < 1000000
-    first true = small
+    first true = small.0
     first false = omega arith
 
 awaiting_sound : IsSound awaiting
@@ -236,9 +238,10 @@ awaiting_sound = record {
   major = λ e. absurd (cc);
   restart = λ e. absurd (cc);
   tokens = λ e. refl;
+  sizes = refl;
 }
 
-asked_line : (b : Bool) (o : Offer) → o.serial < 1000000 → is_long o ≡ false → IsSoundLine (asked_with b o)
+asked_line : (b : Bool) (o : Offer) → CanBeOffered o → is_long o ≡ false → IsSoundLine (asked_with b o)
 asked_line b o small h = record {
   own = record { sound = calling_sound o small; waits = offer_sendable o small h; under_way = put_sendable b (ask ∷ []) [] tt tt };
   peer = record { sound = awaiting_sound; waits = tt; under_way = tt };
@@ -293,7 +296,7 @@ if_sound : (b : Bool) (t u : Tables) → Sound t → Sound u → Sound (if b the
 if_sound true t u h k = h
 if_sound false t u h k = k
 
-asked_sound : (t : Tables) (o : Offer) → o.serial < 1000000 → Sound t → (a : Option Refusal) → refusal t o ≡ a → Sound (asked_in t o a)
+asked_sound : (t : Tables) (o : Offer) → CanBeOffered o → Sound t → (a : Option Refusal) → refusal t o ≡ a → Sound (asked_in t o a)
 asked_sound t o small h (Some e) q = h
 asked_sound t o small h None q = more_lines t.lines (asked_with t.broken o) (asked_line t.broken o small (asked_short (is_some t.left_end) t.known (map transport_of t.lines) o q)) h
 

@@ -1,6 +1,6 @@
 -- The answer to a restart, a CN and an AC are taken. Each keeps what is true of both sides.
 use Rattle.std.proofs.Common.{◌≡◌, refl, sym, ◌∙◌, ap, ℕ, Bool, true, false, not, if◌then◌else◌, List, ◌∷◌, Option, unwrap_or, arith}
-use Rattle.osi_machine.specs.Floor.{TokenSetting, State, FunctionalUnits, Answering, Ended, Meaning, CN, AC, RA, Tokens, Token, no_token, has, both_units, functional_units, stated, of_asker, is_wait_cn, is_connecting, is_restarting, is_releasing, is_over, is_acceptable, may_hold, without_tokens, becomes, drops, next}
+use Rattle.osi_machine.specs.Floor.{TokenSetting, TsduMaximumSize, State, FunctionalUnits, Answering, Ended, Meaning, CN, AC, RA, Tokens, Token, no_token, has, both_units, functional_units, stated, of_asker, is_wait_cn, is_connecting, is_restarting, is_releasing, is_over, is_acceptable, may_hold, without_tokens, becomes, drops, next}
 use Rattle.osi_machine.specs.Channels.{AllFit, flush}
 use Rattle.osi_machine.specs.Core.{Core, taking}
 use Rattle.osi_machine.specs.Parties.{is_opening}
@@ -57,17 +57,17 @@ restarted_taken laws w n sides o us e d s =
 abbrev agreed : State → ℕ → FunctionalUnits
 agreed s requirements = both_units s.units (functional_units requirements)
 
-accept_gains : (w : Core) (v : Bool) (u : ℕ) (n : Option ℕ) (sides : TokenSetting) (o : List ℕ) (us : List Meaning) → drops w.own.session (AC v u n sides o) ≡ false
-    → Stands (at w (AC v u n sides o ∷ us))
-    → Gains w (AC v u n sides o) us (becomes w.own.session (AC v u n sides o)) (of_asker (agreed w.own.session u) (stated (agreed w.own.session u) sides))
-accept_gains w v u n sides o us d h =
+accept_gains : (w : Core) (v : Bool) (u : ℕ) (n : Option ℕ) (sides : TokenSetting) (z : TsduMaximumSize) (o : List ℕ) (us : List Meaning) → drops w.own.session (AC v u n sides z o) ≡ false
+    → Stands (at w (AC v u n sides z o ∷ us))
+    → Gains w (AC v u n sides z o) us (becomes w.own.session (AC v u n sides z o)) (of_asker (agreed w.own.session u) (stated (agreed w.own.session u) sides))
+accept_gains w v u n sides z o us d h =
     let g = h.own.fits.0.good d in
     let bare = h.consistent.own.sound.tokens (excluded is_connecting may_hold refl w.own.session.phase g.expected) in
     let fresh = h.consistent.own.fresh (implied is_connecting is_opening refl w.own.session.phase g.expected) in
     record {
       acts = d;
       stays = refl;
-      next = next_acted w.own.session (AC v u n sides o) d;
+      next = next_acted w.own.session (AC v u n sides z o) d;
       view = refl;
       silent = refl;
       empty = refl;
@@ -85,24 +85,24 @@ accept_gains w v u n sides o us d h =
       caller = refl;
     }
 
-pub accept_taken : SessionLaws → (w : Core) (v : Bool) (u : ℕ) (n : Option ℕ) (sides : TokenSetting) (o : List ℕ) (us : List Meaning) → w.peer.sent ≡ AC v u n sides o ∷ us
-    → drops w.own.session (AC v u n sides o) ≡ false → Stands w → Stands (taking w (AC v u n sides o ∷ us))
-accept_taken laws w v u n sides o us e d s =
-    gains_stand laws w (AC v u n sides o) us (becomes w.own.session (AC v u n sides o)) (of_asker (agreed w.own.session u) (stated (agreed w.own.session u) sides)) e s
-    (accept_gains w v u n sides o us d)
+pub accept_taken : SessionLaws → (w : Core) (v : Bool) (u : ℕ) (n : Option ℕ) (sides : TokenSetting) (z : TsduMaximumSize) (o : List ℕ) (us : List Meaning) → w.peer.sent ≡ AC v u n sides z o ∷ us
+    → drops w.own.session (AC v u n sides z o) ≡ false → Stands w → Stands (taking w (AC v u n sides z o ∷ us))
+accept_taken laws w v u n sides z o us e d s =
+    gains_stand laws w (AC v u n sides z o) us (becomes w.own.session (AC v u n sides z o)) (of_asker (agreed w.own.session u) (stated (agreed w.own.session u) sides)) e s
+    (accept_gains w v u n sides z o us d)
 
 -- ---- CN
 
-abbrev called : State → ℕ → Option ℕ → TokenSetting → State
-called s u n x = record s { phase = Answering; units = functional_units u; wishes = x; proposed = unwrap_or n 0 }
+abbrev called : State → ℕ → Option ℕ → TokenSetting → TsduMaximumSize → State
+called s u n x z = record s { phase = Answering; units = functional_units u; wishes = x; proposed = unwrap_or n 0; sizes = z }
 
 -- one that cannot be accepted would end the called side, and no two sides meet so
-pub acceptable : (w : Core) (v : Bool) (u : ℕ) (n : Option ℕ) (x : TokenSetting) (from to : Option (List ℕ)) (o : List ℕ) (us : List Meaning)
-    → drops w.own.session (CN v u n x from to o) ≡ false → Stands (at w (CN v u n x from to o ∷ us)) → is_acceptable v u ≡ true
-acceptable w v u n x from to o us d h = by (is_acceptable v u) refl
+pub acceptable : (w : Core) (v : Bool) (u : ℕ) (n : Option ℕ) (x : TokenSetting) (from to : Option (List ℕ)) (z : TsduMaximumSize) (o : List ℕ) (us : List Meaning)
+    → drops w.own.session (CN v u n x from to z o) ≡ false → Stands (at w (CN v u n x from to z o ∷ us)) → is_acceptable v u z ≡ true
+acceptable w v u n x from to z o us d h = by (is_acceptable v u z) refl
   where
     m : Meaning
-    m = CN v u n x from to o
+    m = CN v u n x from to z o
 
     f : AllFit w.own.session (m ∷ us)
     f = h.own.fits
@@ -111,25 +111,25 @@ acceptable w v u n x from to o us d h = by (is_acceptable v u) refl
     turn true p q = cc
     turn false p q = cc
 
-    ended : is_acceptable v u ≡ false → is_over (next w.own.session m).phase ≡ true
+    ended : is_acceptable v u z ≡ false → is_over (next w.own.session m).phase ≡ true
     ended e = ap (λ (r : State). is_over r.phase)
-        (next_acted w.own.session m d ∙ ap (λ (b : Bool). if b then called w.own.session u n x else without_tokens Ended w.own.session) e)
+        (next_acted w.own.session m d ∙ ap (λ (b : Bool). if b then called w.own.session u n x z else without_tokens Ended w.own.session) e)
 
-    by : (b : Bool) → is_acceptable v u ≡ b → b ≡ true
+    by : (b : Bool) → is_acceptable v u z ≡ b → b ≡ true
     by true e = refl
     by false e = absurd (turn _
         (implied_two matched (λ p q. not (is_over p)) refl (flush w.own.session (m ∷ us)).phase (flush w.peer.session w.own.sent).phase h.own.meeting.meets)
         (over_kept (next w.own.session m) us (ended e) f.1))
 
-connect_calm : (w : Core) (v : Bool) (u : ℕ) (n : Option ℕ) (x : TokenSetting) (from to : Option (List ℕ)) (o : List ℕ) (us : List Meaning)
-    → drops w.own.session (CN v u n x from to o) ≡ false → Stands (at w (CN v u n x from to o ∷ us)) → Calm w (CN v u n x from to o) us (called w.own.session u n x)
-connect_calm w v u n x from to o us d h =
+connect_calm : (w : Core) (v : Bool) (u : ℕ) (n : Option ℕ) (x : TokenSetting) (from to : Option (List ℕ)) (z : TsduMaximumSize) (o : List ℕ) (us : List Meaning)
+    → drops w.own.session (CN v u n x from to z o) ≡ false → Stands (at w (CN v u n x from to z o ∷ us)) → Calm w (CN v u n x from to z o) us (called w.own.session u n x z)
+connect_calm w v u n x from to z o us d h =
     let g = h.own.fits.0.good d in
     record {
       acts = d;
       stays = refl;
-      next = next_acted w.own.session (CN v u n x from to o) d
-          ∙ ap (λ (b : Bool). if b then called w.own.session u n x else without_tokens Ended w.own.session) (acceptable w v u n x from to o us d h);
+      next = next_acted w.own.session (CN v u n x from to z o) d
+          ∙ ap (λ (b : Bool). if b then called w.own.session u n x z else without_tokens Ended w.own.session) (acceptable w v u n x from to z o us d h);
       silent = refl;
       empty = refl;
       history = refl;
@@ -145,7 +145,7 @@ connect_calm w v u n x from to o us d h =
       caller = refl;
     }
 
-pub connect_taken : SessionLaws → (w : Core) (v : Bool) (u : ℕ) (n : Option ℕ) (x : TokenSetting) (from to : Option (List ℕ)) (o : List ℕ) (us : List Meaning)
-    → w.peer.sent ≡ CN v u n x from to o ∷ us → drops w.own.session (CN v u n x from to o) ≡ false → Stands w → Stands (taking w (CN v u n x from to o ∷ us))
-connect_taken laws w v u n x from to o us e d s =
-    calm_stands laws w (CN v u n x from to o) us (called w.own.session u n x) e s (connect_calm w v u n x from to o us d)
+pub connect_taken : SessionLaws → (w : Core) (v : Bool) (u : ℕ) (n : Option ℕ) (x : TokenSetting) (from to : Option (List ℕ)) (z : TsduMaximumSize) (o : List ℕ) (us : List Meaning)
+    → w.peer.sent ≡ CN v u n x from to z o ∷ us → drops w.own.session (CN v u n x from to z o) ≡ false → Stands w → Stands (taking w (CN v u n x from to z o ∷ us))
+connect_taken laws w v u n x from to z o us e d s =
+    calm_stands laws w (CN v u n x from to z o) us (called w.own.session u n x z) e s (connect_calm w v u n x from to z o us d)

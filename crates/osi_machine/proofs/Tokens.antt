@@ -96,8 +96,8 @@ is_no_release_is s release h l m j = refl
 
 -- a good unit does not need a token that its taker holds
 pub held_needs : (s : State) (t : Token) (u : Meaning) → has s.held t ≡ true → Good s u → needs_token t u ≡ false
-held_needs s t (CN v u n w from to o) h g = refl
-held_needs s t (AC v u n w o) h g = refl
+held_needs s t (CN v u n w from to z o) h g = refl
+held_needs s t (AC v u n w z o) h g = refl
 held_needs s t (RF r o) h g = refl
 held_needs s t (DT o) h g = is_data_is s t h g.met.0
 held_needs s t (GT k) h g = refl
@@ -129,8 +129,8 @@ chosen P false x y h k = k refl
 
 -- it goes on holding it, until a restart stands
 pub becomes_holds : (t : Token) (s : State) (u : Meaning) → is_plain u ≡ true → Good s u → stops s u ≡ false → Holds t s → Holds t (becomes s u)
-becomes_holds t s (CN v u n w from to o) p g st h = absurd (let e = excluded is_wait_cn may_hold refl s.phase g.expected in let m = h.phase in cc)
-becomes_holds t s (AC v u n w o) p g st h = absurd (let e = excluded is_connecting may_hold refl s.phase g.expected in let m = h.phase in cc)
+becomes_holds t s (CN v u n w from to z o) p g st h = absurd (let e = excluded is_wait_cn may_hold refl s.phase g.expected in let m = h.phase in cc)
+becomes_holds t s (AC v u n w z o) p g st h = absurd (let e = excluded is_connecting may_hold refl s.phase g.expected in let m = h.phase in cc)
 becomes_holds t s (RF r o) p g st h = absurd (cc)
 becomes_holds t s (DT o) p g st h = h
 becomes_holds t s (GT k) p g st h = record { held = united_has s.held k t ∙ or_left (has s.held t) (has k t) h.held; phase = h.phase }
@@ -152,8 +152,8 @@ next_holds t s u f st h = fit_cases (Holds t) s u f h (λ d g. becomes_holds t s
 
 -- what is acted on there shows nothing, where the data token is held
 seen_nothing : (s : State) (u : Meaning) (v : List Item) → needs_token data_token u ≡ false → stops s u ≡ false → seen s u v ≡ v
-seen_nothing s (CN w u n x from to o) v h st = refl
-seen_nothing s (AC w u n x o) v h st = refl
+seen_nothing s (CN w u n x from to z o) v h st = refl
+seen_nothing s (AC w u n x z o) v h st = refl
 seen_nothing s (RF r o) v h st = refl
 seen_nothing s (DT o) v h st = absurd (cc)
 seen_nothing s (GT k) v h st = refl

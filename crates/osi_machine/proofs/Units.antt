@@ -32,8 +32,8 @@ and_false false = refl
 
 -- a restart is never discarded unread
 pub restart_acted : (s : State) (u : Meaning) → stops s u ≡ true → drops s u ≡ false
-restart_acted s (CN v u n w from to o) h = absurd (cc)
-restart_acted s (AC v u n w o) h = absurd (cc)
+restart_acted s (CN v u n w from to z o) h = absurd (cc)
+restart_acted s (AC v u n w z o) h = absurd (cc)
 restart_acted s (RF r o) h = absurd (cc)
 restart_acted s (DT o) h = absurd (cc)
 restart_acted s (GT t) h = absurd (cc)
@@ -55,8 +55,8 @@ pub restart_due : (s : State) (u : Meaning) → stops s u ≡ true → is_restar
 restart_due s u h = subst (λ (r : State). is_restart_due r.phase ≡ true) (sym (next_acted s u (restart_acted s u h))) (by u h)
   where
     by : (u : Meaning) → stops s u ≡ true → is_restart_due (becomes s u).phase ≡ true
-    by (CN v u n w from to o) h = absurd (cc)
-    by (AC v u n w o) h = absurd (cc)
+    by (CN v u n w from to z o) h = absurd (cc)
+    by (AC v u n w z o) h = absurd (cc)
     by (RF r o) h = absurd (cc)
     by (DT o) h = absurd (cc)
     by (GT t) h = absurd (cc)
@@ -76,8 +76,8 @@ restart_due s u h = subst (λ (r : State). is_restart_due r.phase ≡ true) (sym
 -- ---- nothing acts at a side that owes the answer to a restart
 
 pub none_due : (p : Phase) (u : Meaning) → is_restart_due p ≡ true → is_plain u ≡ true → is_expected p u ≡ false
-none_due p (CN v u n w from to o) h k = excluded is_restart_due is_wait_cn refl p h
-none_due p (AC v u n w o) h k = excluded is_restart_due is_connecting refl p h
+none_due p (CN v u n w from to z o) h k = excluded is_restart_due is_wait_cn refl p h
+none_due p (AC v u n w z o) h k = excluded is_restart_due is_connecting refl p h
 none_due p (RF r o) h k = absurd (cc)
 none_due p (DT o) h k = excluded is_restart_due takes_data refl p h
 none_due p (GT t) h k = excluded is_restart_due may_ask refl p h
@@ -124,8 +124,8 @@ abbrev Hears : State → Type 0
 Hears s = hears s.phase ≡ true
 
 pub becomes_hears : (s : State) (u : Meaning) → hears s.phase ≡ true → hears (becomes s u).phase ≡ true
-becomes_hears s (CN v u n w from to o) h = chosen Hears (is_acceptable v u) _ _ refl refl
-becomes_hears s (AC v u n w o) h = refl
+becomes_hears s (CN v u n w from to z o) h = chosen Hears (is_acceptable v u z) _ _ refl refl
+becomes_hears s (AC v u n w z o) h = refl
 becomes_hears s (RF r o) h = refl
 becomes_hears s (DT o) h = h
 becomes_hears s (GT t) h = h

@@ -125,7 +125,7 @@ pub call_tells : (t : Told) (s : State) (c : Call) (v : List Item) (said got : L
     → (is_opening s.phase ≡ true → (v ≡ []) × (said ≡ []) × (got ≡ [])) → Tells t s v said got
     → Tells (told_call t c) (after s c) (view_called s c v) (said ++ speaks s c) got
 unfolding calm
-call_tells t s (Accept requirements serial sides octets) v said got k p n f h =
+call_tells t s (Accept requirements serial sides sizes octets) v said got k p n f h =
     let o = implied is_answering is_opening refl s.phase p in
     calm_tells _ _ _ _ _ refl refl (λ d. h.fresh o ∙ sym (append_nil v ∙ (f o).0)) (not_asking t s v said got h (excluded is_answering is_restarting refl s.phase p)) (λ o. refl) h.fine (λ d. (h.silent o).0 ∙ sym (append_nil said ∙ (f o).1)) (λ d. (h.silent o).1 ∙ sym (f o).2) (same_points t s v said got h)
 call_tells t s (Refuse octets) v said got k p n f h = absurd (cc)
@@ -191,10 +191,10 @@ either_state P false a c x y h k = k
 pub unit_tells : (t : Told) (s : State) (u : Meaning) (v : List Item) (said got : List (List ℕ)) → is_plain u ≡ true → Good s u → (is_opening s.phase ≡ true → (v ≡ []) × (said ≡ []) × (got ≡ [])) → Tells t s v said got
     → Tells (told_all t (shown_for s u)) (becomes s u) (seen s u v) said (got ++ got_in s u)
 unfolding calm
-unit_tells t s (CN w r n x from to o) v said got p g f h =
+unit_tells t s (CN w r n x from to z o) v said got p g f h =
     let open_now = implied is_wait_cn is_opening refl s.phase g.expected in
     let fresh = h.fresh open_now in
-    either_state (λ a q. Tells (told_all t a) q v said (got ++ [])) (is_acceptable w r) _ _ _ _
+    either_state (λ a q. Tells (told_all t a) q v said (got ++ [])) (is_acceptable w r z) _ _ _ _
     (record {
       asked = λ c. absurd (cc);
       fresh = λ c. fresh;
@@ -210,7 +210,7 @@ unit_tells t s (CN w r n x from to o) v said got p g f h =
       pointed = h.pointed;
     })
     (calm_tells _ _ _ _ _ refl h.base (λ d. fresh ∙ sym (f open_now).0) (not_asking t s v said got h (excluded is_wait_cn is_restarting refl s.phase g.expected)) (λ o. absurd (cc)) h.fine (λ d. (h.silent open_now).0 ∙ sym (f open_now).1) (λ d. (h.silent open_now).1 ∙ sym (append_nil got ∙ (f open_now).2)) h.pointed)
-unit_tells t s (AC w r n x o) v said got p g f h =
+unit_tells t s (AC w r n x z o) v said got p g f h =
     let open_now = implied is_connecting is_opening refl s.phase g.expected in
     let k = h.asked g.expected in
     calm_tells _ _ _ _ _ refl (ap (λ (a : FunctionalUnits). agreed_base (both_units a (functional_units r)) n t.proposed) k.0 ∙ ap (agreed_base (both_units s.units (functional_units r)) n) k.1)

@@ -53,10 +53,10 @@ chosen P false x y h k = k
 
 becomes_counted : (s : State) (u : Meaning) (v : List Item) → is_plain u ≡ true → Good s u → stops s u ≡ false → Counted s v → Counted (becomes s u) (seen s u v)
 unfolding point_taken minor_confirmed major_confirmed
-becomes_counted s (CN w r n x from to o) v p g st h =
+becomes_counted s (CN w r n x from to z o) v p g st h =
     let e = h.fresh (implied is_wait_cn is_opening refl s.phase g.expected) in
-    chosen (λ q. Counted q v) (is_acceptable w r) _ _ (record { count = h.count; fresh = λ k. e }) (record { count = h.count; fresh = λ k. e })
-becomes_counted s (AC w r n x o) v p g st h =
+    chosen (λ q. Counted q v) (is_acceptable w r z) _ _ (record { count = h.count; fresh = λ k. e }) (record { count = h.count; fresh = λ k. e })
+becomes_counted s (AC w r n x z o) v p g st h =
     record { count = none_counted _ v (h.fresh (implied is_connecting is_opening refl s.phase g.expected)); fresh = λ k. absurd (cc) }
 becomes_counted s (RF r o) v p g st h = absurd (cc)
 becomes_counted s (DT o) v p g st h = record { count = one_octets _ _ s.units.duplex o v h.count; fresh = λ k. absurd (let e = excluded takes_data is_opening refl s.phase g.expected in cc) }
@@ -102,9 +102,9 @@ abbrev DueAbove : ℕ → State → List Item → Type 0
 DueAbove k s v = (k ≤ points v) × (is_major_due s.phase ≡ true → k + 1 ≤ points v)
 
 becomes_above : (k : ℕ) (s : State) (u : Meaning) (v : List Item) → is_plain u ≡ true → Good s u → stops s u ≡ false → DueAbove k s v → DueAbove k (becomes s u) (seen s u v)
-becomes_above k s (CN w r n x from to o) v p g st h =
-    chosen (λ q. DueAbove k q v) (is_acceptable w r) _ _ (h.0, λ e. absurd (cc)) (h.0, λ e. absurd (cc))
-becomes_above k s (AC w r n x o) v p g st h = (h.0, λ e. absurd (cc))
+becomes_above k s (CN w r n x from to z o) v p g st h =
+    chosen (λ q. DueAbove k q v) (is_acceptable w r z) _ _ (h.0, λ e. absurd (cc)) (h.0, λ e. absurd (cc))
+becomes_above k s (AC w r n x z o) v p g st h = (h.0, λ e. absurd (cc))
 becomes_above k s (RF r o) v p g st h = absurd (cc)
 becomes_above k s (DT o) v p g st h = (more_or_same s.units.duplex v (Octets o ∷ []) k h.0, λ e. more_or_same s.units.duplex v (Octets o ∷ []) (k + 1) (h.1 e))
 becomes_above k s (GT j) v p g st h = h

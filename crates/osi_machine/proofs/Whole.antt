@@ -2,7 +2,7 @@
 -- is lost repeats it; and what the records of both sides tell.
 use Rattle.std.proofs.Common.{◌≡◌, refl, sym, ◌∙◌, subst, ℕ, ◌<◌, Bool, true, false, List, [], ◌∷◌, ◌⊎◌, inl, inr, Ok, Err}
 use Rattle.osi_machine.specs.Floor.{Call, HasSerial, Answer, allowed, is_profile}
-use Rattle.osi_machine.specs.Core.{Offer, Left, Right}
+use Rattle.osi_machine.specs.Core.{Offer, CanBeOffered, Left, Right}
 use Rattle.osi_machine.specs.Worlds.{Message, unit, ask, agree, deny, bye, over, Transport, not_yet, waiting, linked, closing, gone, World, session_of, asked_with, after_answer, Terms, accepts, denies, message_taken, closed, ended_at, shown_at_end, turned}
 use Rattle.osi_machine.specs.Machine.{error_of, without_first}
 use Rattle.osi_machine.specs.Views.{Told, untold}
@@ -127,7 +127,7 @@ broken_stage w s t k j (inr (inr h)) = inr (inr (break_repeats k j false w s t h
 
 -- ---- how it begins
 
-lost_opens : (o : Offer) → o.serial < 1000000 → is_profile o.requirements ≡ true
+lost_opens : (o : Offer) → CanBeOffered o → is_profile o.requirements ≡ true
     → Opens (record (asked_with o) { own = record (asked_with o).own { channel = [] } }) (untold Left o) (untold Right o)
 lost_opens o small profile =
     let h = asked_opens o small profile in

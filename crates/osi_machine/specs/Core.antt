@@ -1,7 +1,7 @@
 -- One connection of which nothing is lost, and which neither side refuses, releases or aborts: each
 -- side with the state of its session and with what it has seen.
-use Rattle.std.specs.Prelude.{ℕ, Bool, true, false, if◌then◌else◌, List, [], ◌∷◌, ◌++◌, Option, Ok, Err}
-use Rattle.osi_machine.specs.Floor.{TokenSetting, State, Connecting, Granted, Answer, Call, Accept, Refuse, Data, Give, Minor, Major, Restart, RestartConfirm, ReleaseAccept, Abort, Meaning, CN, allowed, respond_unit, functional_units, offered, no_token, base_for, serial_for, from_base, awaiting}
+use Rattle.std.specs.Prelude.{◌≡◌, ℕ, ◌<◌, Bool, true, false, if◌then◌else◌, List, [], ◌∷◌, ◌++◌, Option, Ok, Err}
+use Rattle.osi_machine.specs.Floor.{TokenSetting, TsduMaximumSize, State, Connecting, Granted, Answer, Call, Accept, Refuse, Data, Give, Minor, Major, Restart, RestartConfirm, ReleaseAccept, Abort, Meaning, CN, allowed, respond_unit, functional_units, offered, no_token, base_for, serial_for, from_base, awaiting, are_sizes}
 use Rattle.osi_machine.specs.Histories.{Item, Octets, Point, minor_kind, major_point, cutat}
 use Rattle.osi_machine.specs.Owners.{Owners, ToThem, turned_owners, no_owner, passed_to, settled_by, given_up}
 use Rattle.osi_machine.specs.Taking.{is_acted_on, seen, got_in, cut_by, owners_after}
@@ -52,7 +52,7 @@ view_called s c v = v ++ says s c
 -- the owners after a call that leaves this state
 abbrev pub owners_called : State → Call → Owners → Owners
 owners_called after (Give tokens) owner = passed_to ToThem tokens owner
-owners_called after (Accept requirements serial sides octets) owner = settled_by after
+owners_called after (Accept requirements serial sides sizes octets) owner = settled_by after
 owners_called after (RestartConfirm sides octets) owner = settled_by after
 owners_called after (Restart n wishes octets) owner = given_up owner
 owners_called after c owner = owner
@@ -135,7 +135,12 @@ pub record Offer : Type 0 where
   pub wishes : TokenSetting
   pub calling_selector : Option (List ℕ)
   pub called_selector : Option (List ℕ)
+  pub sizes : TsduMaximumSize
   pub octets : List ℕ
+
+-- the number is one that a point may have, and each size is one that a user may give
+abbrev pub CanBeOffered : Offer → Type 0
+CanBeOffered o = (o.serial < 1000000) × (are_sizes o.sizes ≡ true)
 
 abbrev pub offering : Offer → State
 offering o = record {
@@ -147,11 +152,12 @@ offering o = record {
   proposed = base_for (functional_units o.requirements) o.serial;
   base = 0;
   numbers = from_base 0;
+  sizes = o.sizes;
 }
 
 abbrev pub offer_sent : Offer → Meaning
 offer_sent o = CN true o.requirements (serial_for (functional_units o.requirements) o.serial)
-    (offered (functional_units o.requirements) o.wishes) o.calling_selector o.called_selector o.octets
+    (offered (functional_units o.requirements) o.wishes) o.calling_selector o.called_selector o.sizes o.octets
 
 abbrev pub party_of : State → List Meaning → Party
 party_of s sent = record { session = s; view = []; said = []; got = []; sent = sent }

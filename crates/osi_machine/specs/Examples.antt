@@ -3,7 +3,7 @@ use Rattle.std.specs.Prelude.{ℕ, true, false, List, [], ◌∷◌, ◌++◌, O
 use Rattle.osi_spdu.specs.declared.settings.Side.TheVariants as token_side
 use Rattle.osi_session.specs.declared.faults.CallError.TheVariants as error
 use Rattle.osi_session.specs.Shown.{Connect, Connected, Data, Minor, Major, Restart, Restarted, Release, ReleaseRefused, Lost}
-use Rattle.osi_machine.specs.Floor.{TokenSetting, Asker, Sides, Tokens, State, Numbers, Accept, Data, Give, Minor, Major, MajorConfirm, Restart, RestartConfirm, Release, ReleaseAccept, ReleaseRefuse, no_token, set_of, from_base}
+use Rattle.osi_machine.specs.Floor.{TokenSetting, Asker, Sides, Tokens, State, Numbers, Accept, Data, Give, Minor, Major, MajorConfirm, Restart, RestartConfirm, Release, ReleaseAccept, ReleaseRefuse, no_token, set_of, from_base, no_sizes}
 use Rattle.osi_machine.specs.Histories.{Item, Octets, Point, minor_alone}
 use Rattle.osi_machine.specs.Core.{Offer, Side, Left, Right}
 use Rattle.osi_machine.specs.Worlds.{World, session_of, accepts, class_0, class_2}
@@ -64,17 +64,17 @@ lowest_at side m = (numbers_in (stands_at side m)).lowest
 -- ---- a connection is opened: all four tokens for the side that asks
 
 abbrev pub offer_from : ℕ → ℕ → Offer
-offer_from requirements serial = record { requirements = requirements; serial = serial; wishes = for_asker; calling_selector = None; called_selector = None; octets = [] }
+offer_from requirements serial = record { requirements = requirements; serial = serial; wishes = for_asker; calling_selector = None; called_selector = None; sizes = no_sizes; octets = [] }
 
 abbrev pub opening : ℕ → ℕ → List Step
 opening requirements serial = connects (offer_from requirements serial) ∷ to_right ∷ to_left ∷ to_right
-    ∷ calls Right 1 (Accept requirements serial asker_sides []) ∷ to_left ∷ []
+    ∷ calls Right 1 (Accept requirements serial asker_sides no_sizes []) ∷ to_left ∷ []
 
 abbrev pub opening_seen : ℕ → ℕ → Option ℕ → List Entry
 opening_seen requirements serial named = connect_answered (offer_from requirements serial) None
-    ∷ shown_at Right 1 (Connect requirements named for_asker [])
-    ∷ call_answered Right 1 (Accept requirements serial asker_sides []) None
-    ∷ shown_at Left 1 (Connected requirements named asker_sides []) ∷ []
+    ∷ shown_at Right 1 (Connect requirements named for_asker no_sizes [])
+    ∷ call_answered Right 1 (Accept requirements serial asker_sides no_sizes []) None
+    ∷ shown_at Left 1 (Connected requirements named asker_sides no_sizes []) ∷ []
 
 -- ---- a token that is given while the other side asks for a restart is lost with the restart: Left
 -- gives the data token, Right asks for a restart at 1 before that comes, and takes all four by the answer

@@ -3,6 +3,8 @@ pub use Rattle.osi_spdu.specs.declared.settings.TokenSetting.{TokenSetting}
 pub use Rattle.osi_spdu.specs.declared.settings.Wish.{Wish}
 pub use Rattle.osi_spdu.specs.declared.settings.Wish.TheVariants.{Asker, Answerer, Choice}
 pub use Rattle.osi_spdu.specs.declared.fields.ResyncType.{ResyncType}
+pub use Rattle.osi_spdu.specs.declared.fields.TsduMaximumSize.{TsduMaximumSize}
+pub use Rattle.osi_spdu.specs.Sizes.{are_sizes, no_sizes}
 pub use Rattle.osi_session.specs.declared.phases.Phase.{Phase}
 pub use Rattle.osi_session.specs.declared.phases.Phase.TheVariants.{WaitTransport, WaitCn, Connecting, Answering, Ready, MajorAsked, MajorDue, Releasing, ReleaseDue, Restarting, RestartDue, Aborting, Ended}
 pub use Rattle.osi_session.specs.declared.faults.CallError.{CallError}
@@ -18,6 +20,7 @@ unfoldable pub use Rattle.osi_message.specs.Tokens.{is_empty, is_within, is_disj
 pub use Rattle.osi_session.specs.Units.{functional_units, no_units}
 unfoldable pub use Rattle.osi_session.specs.Units.{both_units, units_within, has_data, has_points, is_profile, available}
 pub use Rattle.osi_session.specs.Sides.{setting_of, side_for, is_asker}
+unfoldable pub use Rattle.osi_session.specs.Sizes.{answered_sizes, smaller_sizes}
 unfoldable pub use Rattle.osi_session.specs.Sides.{settle, stated, of_asker, of_answerer, answers_wishes, offered}
 pub use Rattle.osi_session.specs.Numbers.{from_base, lower}
 unfoldable pub use Rattle.osi_session.specs.Numbers.{point_sent, point_taken, minor_confirmed, major_confirmed, restarted_at}

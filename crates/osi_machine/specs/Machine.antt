@@ -5,7 +5,7 @@ use Rattle.std.specs.List.{AllByRecursion, list_any, slice_get}
 use Rattle.osi_session.specs.declared.faults.CallError.TheVariants as error
 use Rattle.osi_session.specs.Shown.{Shown}
 use Rattle.osi_machine.specs.Floor.{CallError, Answer, Call, HasSerial, allowed, is_profile}
-use Rattle.osi_machine.specs.Core.{Offer, Side, Left, Right}
+use Rattle.osi_machine.specs.Core.{Offer, CanBeOffered, Side, Left, Right}
 use Rattle.osi_machine.specs.Worlds.{Class, class_0, class_2, Message, agree, Transport, not_yet, waiting, gone, World, turned, session_of, asked_with, after_answer, Taking, Terms, accepts, message_taken, closed, ended_at, shown_at_end}
 
 -- why a side ends: it is told of a break, it has closed a connection of class 0, or it finds no memory
@@ -240,9 +240,9 @@ abbrev pub run : Machine → List Step → Machine
 run m [] = m
 run m (s ∷ steps) = run (step m s) steps
 
--- the number in an offer or a call is one that a point may have
+-- the number in an offer or a call is one that a point may have, and each size is one that a user may give
 abbrev pub HasNumber : Step → Type 0
-HasNumber (connects o) = o.serial < 1000000
+HasNumber (connects o) = CanBeOffered o
 HasNumber (calls side r c) = HasSerial c
 HasNumber step = Unit {0}
 

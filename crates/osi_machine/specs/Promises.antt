@@ -5,14 +5,14 @@ use Rattle.osi_machine.specs.Floor.{State, Token, has, Meaning, DT, MIP, MAP, is
 use Rattle.osi_machine.specs.Histories.{Item, Octets, Point, PointKind, minor_kind, major_point, Begins, Agree}
 use Rattle.osi_machine.specs.Owners.{is_own}
 use Rattle.osi_machine.specs.Taking.{is_acted_on}
-use Rattle.osi_machine.specs.Core.{Core, CoreStep, Offer, turned, core_run, core_start}
+use Rattle.osi_machine.specs.Core.{Core, CoreStep, Offer, CanBeOffered, turned, core_run, core_start}
 use Rattle.osi_machine.specs.Parties.{IsNumberedStep}
 
 -- a connection that came about from a CN by calls and units taken, in any order
 pub record IsReached (w : Core) : Type 0 where
   pub offer : Offer
   pub steps : List CoreStep
-  pub serial : offer.serial < 1000000
+  pub offered : CanBeOffered offer
   pub profile : is_profile offer.requirements ≡ true
   pub numbered : AllByRecursion IsNumberedStep steps
   pub reached : core_run (core_start offer) steps ≡ w

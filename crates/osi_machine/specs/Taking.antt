@@ -31,8 +31,8 @@ cut_by s u h = h
 -- the owners after it
 abbrev pub owners_after : State → Meaning → Owners → Owners
 owners_after s (GT tokens) owner = passed_to Own tokens owner
-owners_after s (AC version_2 requirements serial sides octets) owner =
-    passed_to Own (becomes s (AC version_2 requirements serial sides octets)).held owner
+owners_after s (AC version_2 requirements serial sides sizes octets) owner =
+    passed_to Own (becomes s (AC version_2 requirements serial sides sizes octets)).held owner
 owners_after s (RA n sides octets) owner = passed_to Own (becomes s (RA n sides octets)).held owner
 owners_after s (RS kind n wishes octets) owner = if stands s n then pooled owner else owner
 owners_after s u owner = owner

@@ -30,7 +30,7 @@ with_point t n kind octets = record t { view = t.view ++ Point n kind octets ∷
 
 -- an accepted call: a point that is asked for has the base and the number of points before it
 abbrev pub told_call : Told → Call → Told
-told_call t (Accept requirements serial sides octets) =
+told_call t (Accept requirements serial sides sizes octets) =
     record t { duplex = (functional_units requirements).duplex; base = base_for (functional_units requirements) serial }
 told_call t (Data octets) = record (with_data t octets) { requested = t.requested ++ octets ∷ [] }
 told_call t (Minor confirm octets) = with_point t (t.base + points t.view) (minor_kind confirm) octets
@@ -40,7 +40,7 @@ told_call t c = t
 
 -- what is shown: a point has the number that is shown
 abbrev pub told_shown : Told → Shown → Told
-told_shown t (Connected requirements serial sides octets) = record t {
+told_shown t (Connected requirements serial sides sizes octets) = record t {
   duplex = (both_units t.asked_for (functional_units requirements)).duplex;
   base = agreed_base (both_units t.asked_for (functional_units requirements)) serial t.proposed;
 }

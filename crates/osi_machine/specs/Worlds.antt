@@ -2,7 +2,7 @@
 -- channels carry whole messages.
 use Rattle.std.specs.Prelude.{ℕ, ◌+◌, Bool, true, false, if◌then◌else◌, List, [], ◌∷◌, ◌++◌, take, length, Option, Some, None, Ok, Err}
 use Rattle.osi_session.specs.Shown.{Shown, RefusedByTransport}
-use Rattle.osi_machine.specs.Floor.{Phase, WaitTransport, Ended, FunctionalUnits, TokenSetting, State, Granted, Answer, Call, Restart, Meaning, DT, MIP, MAP, RS, respond_unit, stands, lost, awaiting, without_tokens}
+use Rattle.osi_machine.specs.Floor.{Phase, WaitTransport, Ended, FunctionalUnits, TokenSetting, TsduMaximumSize, State, Granted, Answer, Call, Restart, Meaning, DT, MIP, MAP, RS, respond_unit, stands, lost, awaiting, without_tokens}
 use Rattle.osi_machine.specs.Histories.{Item, points, cutat}
 use Rattle.osi_machine.specs.Owners.{Owners, owned, turned_owners, no_owner, left_by}
 use Rattle.osi_machine.specs.Taking.{is_acted_on, got_in, cut_by, owners_after}
@@ -41,6 +41,7 @@ pub record Kept : Type 0 where
   pub confirmed : ℕ
   pub lowest : ℕ
   pub answers : Bool
+  pub sizes : TsduMaximumSize
 
 abbrev pub kept_of : State → Kept
 kept_of s = record {
@@ -53,6 +54,7 @@ kept_of s = record {
   confirmed = s.numbers.confirmed;
   lowest = s.numbers.lowest;
   answers = s.numbers.answers;
+  sizes = s.sizes;
 }
 
 -- one side of a connection: how many items of the history it has seen; what it has sent and the other
@@ -93,6 +95,7 @@ session_of w = record {
     lowest = w.own.kept.lowest;
     answers = w.own.kept.answers;
   };
+  sizes = w.own.kept.sizes;
 }
 
 -- a caller asks for a transport connection

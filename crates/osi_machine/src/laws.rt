@@ -3,7 +3,7 @@
 ghost use Rattle.std.specs.Prelude.{◌≡◌, ◌<◌, ◌≤◌, ℕ, suc, List, [], ◌∷◌, ◌++◌, length, Some, None, is_some, true, false};
 ghost use Rattle.std.specs.List.{AllByRecursion};
 ghost use Rattle.osi_machine.specs.AsTables.{cut_line, AreSoundLines, AtEachSide, IsNoFaultNext, IsOverWhenLeft, IsAsTables, IsTableRun, AreOffered, OfEachLine, HoldNoneTwice, AreNoFaults, AreAgreed, IsShownAsAsked, IsSeenInBoth, TellsNoFault, LosesAsItEnds};
-ghost use Rattle.osi_machine.specs.Core.{Core, CoreStep, Offer, Side, Left, Right, core_run, core_start};
+ghost use Rattle.osi_machine.specs.Core.{Core, CoreStep, Offer, CanBeOffered, Side, Left, Right, core_run, core_start};
 ghost use Rattle.osi_machine.specs.Examples.{all_tokens, lost_give_seen, after_lost_give, crossing_seen, after_crossing, two_points_seen, restart_below_seen, after_restart_below, last_point, last_point_seen, lost_release_seen, after_lost_release, both_send, both_send_seen, to_right, held_in, stands_at, next_at, lowest_at, history_of, up_to_first_point};
 ghost use Rattle.osi_machine.specs.Floor.{no_token, is_profile};
 ghost use Rattle.osi_machine.specs.Histories.{Agree};
@@ -24,7 +24,7 @@ use osi_session::laws as session;
 /// counts the points that this side has seen; points that are to be confirmed were taken last; a
 /// restart is asked for only where it is selected, and with duplex a release by the caller alone.
 pub fn what_is_true_of_each_side()
-    ensures begins { (o : Offer) → o.serial < 1000000 → AreConsistent (core_start o) }
+    ensures begins { (o : Offer) → CanBeOffered o → AreConsistent (core_start o) }
     ensures kept { (w : Core) (steps : List CoreStep) → AllByRecursion IsNumberedStep steps → AreConsistent w →
         AreConsistent (core_run w steps) }
 {
@@ -97,9 +97,9 @@ pub fn confirmed_is_seen()
 /// points are added, and restarts cut them. So with half-duplex the views of both records agree. It tells
 /// too whether its side has asked for a restart of which it has seen no answer.
 pub fn what_a_record_tells()
-    ensures told { (o : Offer) (steps : List CoreStep) → o.serial < 1000000 → is_profile o.requirements ≡ true →
+    ensures told { (o : Offer) (steps : List CoreStep) → CanBeOffered o → is_profile o.requirements ≡ true →
         AllByRecursion IsNumberedStep steps → AreTold o steps }
-    ensures agreed { (o : Offer) (steps : List CoreStep) → o.serial < 1000000 → is_profile o.requirements ≡ true →
+    ensures agreed { (o : Offer) (steps : List CoreStep) → CanBeOffered o → is_profile o.requirements ≡ true →
         AllByRecursion IsNumberedStep steps → (core_run (core_start o) steps).own.session.units.duplex ≡ false →
         (core_run (core_start o) steps).peer.session.units.duplex ≡ false → Agree (left_told o steps).view (right_told o steps).view }
 {
