@@ -1,11 +1,10 @@
 -- A step of one connection changes no other.
-use Rattle.std.proofs.Common.{◌≡◌, refl, sym, ◌∙◌, ap, ℕ, zero, suc, Bool, true, false, if◌then◌else◌, List, [], ◌∷◌, ◌++◌, map, Option, Some, None, is_some}
-use Rattle.std.specs.List.{slice_get}
+use Rattle.std.proofs.Common.{◌≡◌, refl, sym, ◌∙◌, ap, ℕ, zero, suc, Bool, true, false, if◌then◌else◌, List, [], ◌∷◌, map, Option, Some, None, is_some}
 use Rattle.osi_session.specs.declared.faults.CallError.TheVariants as error
 use Rattle.osi_machine.specs.Floor.{Call, allowed}
 use Rattle.osi_machine.specs.Core.{Offer, Side, Left, Right}
 use Rattle.osi_machine.specs.Worlds.{Class, class_0, class_2, Message, World, session_of, after_answer, Taking, message_taken, closed}
-use Rattle.osi_machine.specs.Machine.{Ending, closed_here, Refusal, Step, connects, calls, delivers, Machine, connection_at, replaced, with_connection, seen_from, end_of, stays, noted, is_given, error_of, call_answered, shown_at, refusal, asked_in, call_in, side_of, marked_ended, after_end, closes_by, after_taking, without_first, learns, taken_in, delivered_to, step}
+use Rattle.osi_machine.specs.Machine.{Ending, closed_here, Refusal, delivers, Machine, connection_at, seen_from, end_of, stays, noted, is_given, error_of, call_answered, shown_at, refusal, asked_in, call_in, side_of, marked_ended, closes_by, after_taking, without_first, learns, taken_in, delivered_to, step}
 use Rattle.osi_machine.specs.Runs.{AreApart}
 use Rattle.osi_machine.proofs.Places.{with_other, there_still}
 

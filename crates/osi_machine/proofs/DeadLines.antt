@@ -1,17 +1,16 @@
 -- A connection that its caller has left before it was agreed to: nothing comes of it any more.
-use Rattle.std.proofs.Common.{◌≡◌, refl, sym, ◌∙◌, ap, subst, ℕ, zero, suc, Bool, true, false, not, ◌||◌, if◌then◌else◌, List, [], ◌∷◌, ◌++◌, take, inl, inr, ◌⊎◌}
+use Rattle.std.proofs.Common.{◌≡◌, refl, sym, ◌∙◌, ap, subst, ℕ, zero, suc, Bool, true, false, not, ◌||◌, if◌then◌else◌, List, [], ◌∷◌, take, inl, inr, ◌⊎◌}
 use Rattle.std.specs.List.{list_any}
 use Rattle.osi_session.specs.declared.faults.CallError.TheVariants as error
-use Rattle.osi_session.specs.Shown.{Shown, Lost}
-use Rattle.osi_machine.specs.Floor.{State, Phase, Meaning, Call, Answer, allowed, is_over, is_wait_transport, is_wait_cn, shows_loss, lost, awaiting}
-use Rattle.osi_machine.specs.Worlds.{Message, unit, ask, agree, deny, bye, over, Transport, not_yet, waiting, linked, closing, gone, Kept, World, turned, session_of, put, after_answer, Taking, Terms, accepts, denies, message_taken, ended_at, shown_at_end}
+use Rattle.osi_session.specs.Shown.{Lost}
+use Rattle.osi_machine.specs.Floor.{State, Phase, Call, Answer, allowed, is_over, shows_loss}
+use Rattle.osi_machine.specs.Worlds.{Message, unit, ask, agree, deny, bye, over, Transport, not_yet, waiting, linked, closing, gone, Kept, World, turned, session_of, put, after_answer, Terms, accepts, denies, message_taken, ended_at, shown_at_end}
 use Rattle.osi_machine.specs.Machine.{is_waiting, without_first}
 use Rattle.osi_machine.specs.Views.{Told}
-use Rattle.osi_machine.proofs.PhaseLaws.{every, implied}
-use Rattle.osi_machine.proofs.Projects.{stopped}
+use Rattle.osi_machine.proofs.PhaseLaws.{implied}
 use Rattle.osi_machine.proofs.ProjectEnd.{is_unit}
 use Rattle.osi_machine.proofs.ProjectWorld.{refused}
-use Rattle.osi_machine.proofs.ProjectStart.{Waits, Idle, Left_it, Way, nothing_sent, asked, agreed, denied, asks, Opens, Refuses, is_early, refused_early}
+use Rattle.osi_machine.proofs.ProjectStart.{Left_it, Way, nothing_sent, asked, agreed, denied, asks, Opens, Refuses, is_early, refused_early}
 use Rattle.osi_machine.proofs.Lines.{cut_to}
 
 pub record IsDead (w : World) : Type 0 where

@@ -1,10 +1,9 @@
 -- While no class is known each connection waits for its caller's first message, or is dead; and where a called
 -- end denies, no agreement is under way.
-use Rattle.std.proofs.Common.{◌≡◌, refl, sym, ◌∙◌, ap, subst, ℕ, Bool, true, false, not, ◌||◌, if◌then◌else◌, List, [], ◌∷◌, ◌++◌, take, Option, Some, None, Ok, Err, inl, inr, ◌⊎◌}
+use Rattle.std.proofs.Common.{◌≡◌, refl, sym, ◌∙◌, ap, subst, ℕ, Bool, true, false, List, [], ◌∷◌, take, Option, Some, None, Ok, Err, inl, inr}
 use Rattle.std.specs.List.{list_any}
-use Rattle.osi_machine.specs.Floor.{State, Meaning, Call, Answer, Granted, allowed, respond_unit}
-use Rattle.osi_machine.specs.Core.{Offer}
-use Rattle.osi_machine.specs.Worlds.{Message, unit, ask, agree, deny, bye, over, Transport, not_yet, waiting, linked, closing, gone, World, turned, session_of, asked_with, put, replied, after_call, after_answer, Taking, Terms, accepts, denies, message_taken, closed, ended_at}
+use Rattle.osi_machine.specs.Floor.{Meaning, Call, Answer, allowed, respond_unit}
+use Rattle.osi_machine.specs.Worlds.{Message, unit, ask, agree, deny, bye, over, Transport, not_yet, waiting, linked, closing, gone, World, turned, session_of, put, replied, after_answer, Terms, denies, message_taken, closed, ended_at}
 use Rattle.osi_machine.specs.Machine.{without_first}
 use Rattle.osi_machine.specs.Views.{Told}
 use Rattle.osi_machine.proofs.Idle.{append_nil}
@@ -14,7 +13,7 @@ use Rattle.osi_machine.proofs.ProjectEnd.{is_unit}
 use Rattle.osi_machine.proofs.ProjectStart.{Opens, Refuses, caller_refuses, called_refuses, caller_ends, called_ends}
 use Rattle.osi_machine.proofs.ProjectOpen.{called_takes}
 use Rattle.osi_machine.proofs.Whole.{Stage, turned_back}
-use Rattle.osi_machine.proofs.DeadLines.{IsDead, IsEarly, opens_early, opens_quiet, dead_call, dead_called, dead_takes, dead_taken, dead_ends, dead_ended, dead_cut, or_parts, put_none, take_none}
+use Rattle.osi_machine.proofs.DeadLines.{IsEarly, opens_early, opens_quiet, dead_call, dead_called, dead_takes, dead_taken, dead_ends, dead_ended, dead_cut, or_parts, put_none, take_none}
 
 -- ---- a connection whose caller waits
 

@@ -1,18 +1,17 @@
 -- Data or a point that is taken is the item of the history at the mark of the side that takes it.
-use Rattle.std.proofs.Common.{◌≡◌, refl, sym, ◌∙◌, ap, subst, ℕ, Bool, true, false, not, ◌&&◌, if◌then◌else◌, List, [], ◌∷◌, ◌++◌, take, length, Some, inl, inr}
+use Rattle.std.proofs.Common.{◌≡◌, refl, sym, ◌∙◌, ap, subst, ℕ, Bool, true, false, not, ◌&&◌, List, [], ◌∷◌, ◌++◌, take, length, inl, inr}
 use Rattle.osi_machine.specs.Floor.{State, Meaning, RF, DN, AB, is_over}
 use Rattle.osi_machine.specs.Histories.{Item, Begins}
 use Rattle.osi_machine.specs.Taking.{is_acted_on}
-use Rattle.osi_machine.specs.Core.{Core, Left, Right}
 use Rattle.osi_machine.specs.Worlds.{Message, unit, World, turned, session_of}
-use Rattle.osi_machine.specs.Machine.{Machine, connection_at}
-use Rattle.osi_machine.specs.Views.{Told, told_of}
+use Rattle.osi_machine.specs.Machine.{Machine}
+use Rattle.osi_machine.specs.Views.{Told}
 use Rattle.osi_machine.specs.Promises.{brings}
 use Rattle.osi_machine.specs.Runs.{IsRun, OfEach, TakesItsItem, TakeTheirItems}
 use Rattle.osi_machine.proofs.CoreLaws.{SessionLaws}
 use Rattle.osi_machine.proofs.Promises.{none_brought, sees_the_history, takes_the_next_item}
 use Rattle.osi_machine.proofs.Projects.{stopped, IsLast, Carried, taken_view, session_is}
-use Rattle.osi_machine.proofs.ProjectTake.{First, Last, split_first}
+use Rattle.osi_machine.proofs.ProjectTake.{split_first}
 use Rattle.osi_machine.proofs.ProjectWorld.{Repeats}
 use Rattle.osi_machine.proofs.Whole.{Stage, turned_stage}
 use Rattle.osi_machine.proofs.MachineLaws.{stage_at}

@@ -14,7 +14,7 @@ use Rattle.osi_machine.specs.Tables.{Tables}
 use Rattle.osi_machine.specs.AsTables.{IsTableRun, AtEachSide, IsNoFaultNext, is_leaving, IsOverWhenLeft}
 use Rattle.osi_machine.proofs.CoreLaws.{SessionLaws}
 use Rattle.osi_machine.proofs.Projects.{stopped, Carried, session_is}
-use Rattle.osi_machine.proofs.ProjectTake.{First, Last, split_first}
+use Rattle.osi_machine.proofs.ProjectTake.{split_first}
 use Rattle.osi_machine.proofs.ProjectStart.{Way, nothing_sent, asked, agreed, denied, asks, replies}
 use Rattle.osi_machine.proofs.ProjectWorld.{Repeats}
 use Rattle.osi_machine.proofs.Whole.{Stage, turned_stage}

@@ -1,5 +1,5 @@
 -- What stands at a reference, after one connection is another, after one more, an end and a break.
-use Rattle.std.proofs.Common.{◌≡◌, refl, sym, ◌∙◌, ap, subst, ℕ, zero, suc, ◌+◌, ◌<◌, ◌≤◌, Bool, true, List, [], ◌∷◌, ◌++◌, length, take, Option, Some, None, is_some, arith}
+use Rattle.std.proofs.Common.{◌≡◌, refl, ◌∙◌, ap, ℕ, zero, suc, ◌+◌, ◌<◌, ◌≤◌, true, List, [], ◌∷◌, ◌++◌, length, Option, Some, None, is_some, arith}
 use Rattle.std.specs.List.{slice_get}
 use Rattle.osi_machine.specs.Core.{Side}
 use Rattle.osi_machine.specs.Machine.{connection_at, replaced, with_connection}

@@ -1,5 +1,5 @@
 -- A whole connection that was asked for and not yet agreed to: nobody owns, sees or sends anything.
-use Rattle.std.proofs.Common.{◌≡◌, refl, sym, ◌∙◌, ap, ℕ, ◌<◌, zero, suc, Bool, true, false, not, ◌||◌, if◌then◌else◌, List, [], ◌∷◌, take, ◌⊎◌, inl, inr, Err}
+use Rattle.std.proofs.Common.{◌≡◌, refl, sym, ◌∙◌, ap, ℕ, zero, suc, Bool, true, false, not, ◌||◌, if◌then◌else◌, List, [], ◌∷◌, take, ◌⊎◌, inl, inr, Err}
 use Rattle.std.proofs.Math.Seq.{take-nil}
 use Rattle.osi_session.specs.declared.faults.CallError.TheVariants as error
 use Rattle.osi_session.specs.Phases.{may_abort}

@@ -8,7 +8,7 @@ use Rattle.osi_machine.specs.Histories.{Item, points, Begins}
 use Rattle.osi_machine.specs.Owners.{is_own, owned}
 use Rattle.osi_machine.specs.Channels.{is_plain}
 use Rattle.osi_machine.specs.Core.{Party, Core, turned}
-use Rattle.osi_machine.specs.Worlds.{Message, unit, bye, over, Transport, not_yet, waiting, linked, Kept, kept_of, End, World, session_of, turned as turned_world}
+use Rattle.osi_machine.specs.Worlds.{Message, unit, bye, over, Transport, not_yet, waiting, linked, kept_of, End, World, session_of, turned as turned_world}
 use Rattle.osi_machine.proofs.Records.{Stands}
 use Rattle.osi_machine.proofs.Tokens.{has_set}
 use Rattle.osi_machine.proofs.Fewer.{tokens_same}

@@ -1,20 +1,19 @@
 -- A connection of the machine as its two sides keep it, and that every move of it is the same in tables.
-use Rattle.std.proofs.Common.{◌≡◌, refl, sym, ◌∙◌, ap, subst, ℕ, ◌+◌, ◌<◌, Bool, true, false, not, if◌then◌else◌, List, [], ◌∷◌, take, Option, Some, None, inl, inr, Ok, Err}
-use Rattle.osi_session.specs.Moves.{called, taken, opened, refused, broken as broken_off, Standing, Move, react, answered as answered_move, begun, denied, rests}
-use Rattle.osi_session.specs.Shown.{Shown, RefusedByTransport}
+use Rattle.std.proofs.Common.{◌≡◌, refl, sym, ◌∙◌, ap, subst, ◌+◌, Bool, true, false, List, [], ◌∷◌, take, Option, Some, Ok, Err}
+use Rattle.osi_session.specs.Moves.{called, taken, react, answered as answered_move}
 use Rattle.osi_message.specs.Sendable.{said_of}
-use Rattle.osi_machine.specs.Floor.{State, Phase, WaitTransport, Connecting, Ended, Meaning, Token, Call, HasSerial, Answer, Granted, CallError, Outcome, no_token, is_over, is_wait_transport, without_tokens, allowed, respond, respond_unit, awaiting, lost}
+use Rattle.osi_machine.specs.Floor.{State, WaitTransport, Ended, Meaning, Token, Call, HasSerial, Answer, Granted, CallError, no_token, without_tokens, allowed, respond, respond_unit, awaiting}
 use Rattle.osi_machine.specs.Histories.{points}
-use Rattle.osi_machine.specs.Owners.{Owner, Owners, is_own, turned_owner, owned, given_up, left_by}
-use Rattle.osi_machine.specs.Core.{Offer, offering, offer_sent}
-use Rattle.osi_machine.specs.Worlds.{Message, unit, ask, agree, deny, bye, over, Transport, not_yet, waiting, linked, closing, gone, Kept, kept_of, World, turned, session_of, asked_with, put, replied, after_call, after_answer, Taking, unit_taken, Terms, accepts, denies, message_taken, moved, shortened, closed, ended_at, shown_at_end}
+use Rattle.osi_machine.specs.Owners.{Owners, is_own, turned_owner, owned, given_up, left_by}
+use Rattle.osi_machine.specs.Core.{offering, offer_sent}
+use Rattle.osi_machine.specs.Worlds.{Message, unit, Transport, not_yet, waiting, linked, kept_of, World, turned, session_of, put, replied, after_call, after_answer, Taking, unit_taken}
 use Rattle.osi_machine.specs.Machine.{error_of, without_first}
 use Rattle.osi_machine.specs.Tables.{Seat, Line, Turn}
 use Rattle.osi_machine.specs.Tables as tables
 use Rattle.osi_machine.specs.Views.{Told}
 use Rattle.osi_machine.proofs.CoreLaws.{SessionLaws}
 use Rattle.osi_machine.proofs.RestartCall.{given_theirs}
-use Rattle.osi_machine.proofs.Projects.{stopped, is_begun}
+use Rattle.osi_machine.proofs.Projects.{is_begun}
 use Rattle.osi_machine.proofs.ProjectCall.{own_gone, left_theirs}
 use Rattle.osi_machine.proofs.ProjectTake.{put_nothing}
 use Rattle.osi_machine.proofs.ProjectWorld.{Repeats}

@@ -1,12 +1,12 @@
 -- Every message but a session unit does the same in tables; so do a close, an end, a break and a new connection.
-use Rattle.std.proofs.Common.{◌≡◌, refl, sym, ◌∙◌, ap, subst, ℕ, ◌+◌, Bool, true, false, if◌then◌else◌, List, [], ◌∷◌, take, Option, Some, None}
-use Rattle.osi_session.specs.Moves.{opened, refused, broken as broken_off, Standing, Move, react, begun, denied, rests}
-use Rattle.osi_session.specs.Shown.{Shown, RefusedByTransport}
-use Rattle.osi_machine.specs.Floor.{State, Phase, WaitTransport, Connecting, Ended, Meaning, Token, Tokens, no_token, is_over, is_wait_transport, without_tokens, awaiting, lost}
+use Rattle.std.proofs.Common.{◌≡◌, refl, sym, ◌∙◌, ap, ℕ, ◌+◌, Bool, true, false, if◌then◌else◌, List, [], ◌∷◌, take, Option, Some, None}
+use Rattle.osi_session.specs.Moves.{opened, refused, broken as broken_off, Move, react, begun, denied, rests}
+use Rattle.osi_session.specs.Shown.{RefusedByTransport}
+use Rattle.osi_machine.specs.Floor.{WaitTransport, Connecting, Ended, Meaning, Token, Tokens, no_token, is_wait_transport, without_tokens, awaiting, lost}
 use Rattle.osi_machine.specs.Histories.{points}
-use Rattle.osi_machine.specs.Owners.{Owner, Owners, is_own, turned_owner, owned, given_up, left_by}
+use Rattle.osi_machine.specs.Owners.{is_own, owned, given_up, left_by}
 use Rattle.osi_machine.specs.Core.{Offer, offering, offer_sent}
-use Rattle.osi_machine.specs.Worlds.{Message, unit, ask, agree, deny, bye, over, Transport, not_yet, waiting, linked, closing, gone, Kept, kept_of, World, turned, session_of, asked_with, put, replied, Taking, unchanged, moves, moved, Terms, accepts, denies, asked_at, message_taken, shortened, closed, ended_at, shown_at_end}
+use Rattle.osi_machine.specs.Worlds.{Message, unit, ask, agree, deny, bye, over, Transport, not_yet, waiting, linked, closing, gone, Kept, kept_of, World, turned, session_of, asked_with, put, replied, unchanged, moves, moved, Terms, accepts, denies, asked_at, message_taken, shortened, closed, ended_at, shown_at_end}
 use Rattle.osi_machine.specs.Tables.{Seat, Line, Turn}
 use Rattle.osi_machine.specs.Tables as tables
 use Rattle.osi_machine.proofs.Projects.{stopped, is_begun}
@@ -14,7 +14,7 @@ use Rattle.osi_machine.proofs.ProjectCall.{own_gone, left_theirs}
 use Rattle.osi_machine.proofs.ProjectTake.{put_nothing}
 use Rattle.osi_machine.proofs.Lines.{cut_to}
 use Rattle.osi_machine.proofs.TableSeats.{state_from, Disowned, owned_none, owned_as}
-use Rattle.osi_machine.proofs.TableLines.{seat_of, line_of, IsSeated, AreSeated, Tabled, turn_of, TurnTabled, begun_seated, gone_seated, gone_state, theirs_stay}
+use Rattle.osi_machine.proofs.TableLines.{seat_of, line_of, AreSeated, Tabled, TurnTabled, begun_seated, gone_seated, gone_state, theirs_stay}
 
 -- ---- what changes nothing but the transport and what is under way
 

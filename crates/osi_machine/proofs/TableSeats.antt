@@ -1,9 +1,8 @@
 -- The session of each side after a call and after a unit that is taken: it is the one that the tables leave,
 -- and that of the other side stays.
-use Rattle.std.proofs.Common.{◌≡◌, refl, sym, ◌∙◌, ap, subst, ℕ, Bool, true, false, if◌then◌else◌, List, [], ◌∷◌, inl, inr, Ok, Err}
-use Rattle.osi_machine.specs.Floor.{State, Ended, Meaning, AC, RF, DN, AB, GT, RS, RA, Token, Tokens, has, no_token, set_of, available, without_tokens, Call, Accept, Refuse, Give, Restart, RestartConfirm, ReleaseAccept, Abort, Granted, Answer, HasSerial, Outcome, good, allowed, after, sends, is_over, respond_unit, becomes, stands}
-use Rattle.osi_machine.specs.Histories.{Item, points}
-use Rattle.osi_machine.specs.Owners.{Owner, Own, ToThem, Absent, Owners, is_own, turned_owner, owned, given_up, left_by, pooled}
+use Rattle.std.proofs.Common.{◌≡◌, refl, sym, ◌∙◌, ap, subst, ℕ, Bool, true, false, if◌then◌else◌, List, ◌∷◌, inl, inr, Ok}
+use Rattle.osi_machine.specs.Floor.{State, Ended, Meaning, AC, RF, DN, AB, GT, RS, RA, Token, Tokens, has, no_token, available, without_tokens, Call, Accept, Refuse, Give, Restart, RestartConfirm, ReleaseAccept, Abort, Granted, Answer, HasSerial, Outcome, allowed, after, is_over, respond_unit, becomes, stands}
+use Rattle.osi_machine.specs.Owners.{Own, ToThem, Absent, Owners, is_own, turned_owner, owned, given_up, left_by, pooled}
 use Rattle.osi_machine.specs.Taking.{is_acted_on, owners_after}
 use Rattle.osi_machine.specs.Core.{Core, turned, stays_in_core, owners_called, answered, taking}
 use Rattle.osi_machine.specs.Worlds.{Message, unit, Kept, kept_of, World, session_of, after_call, after_unit, turned as turned_world}
@@ -20,7 +19,7 @@ use Rattle.osi_machine.proofs.RestartCall.{given_theirs}
 use Rattle.osi_machine.proofs.Projects.{stopped, IsLast, Carried, OneSide, next_is, owned_is, session_is}
 use Rattle.osi_machine.proofs.ProjectCall.{own_gone, left_theirs, call_projects, stop_projects}
 use Rattle.osi_machine.proofs.ProjectTake.{First, Last, pool_theirs, split_first, take_projects}
-use Rattle.osi_machine.proofs.ProjectLast.{last_good, last_projects, over_as, over_next, over_projects}
+use Rattle.osi_machine.proofs.ProjectLast.{last_good, last_projects, over_as, over_projects}
 use Rattle.osi_machine.proofs.ProjectWorld.{Repeats, refused}
 
 -- ---- a side, by what it keeps, holds and counts

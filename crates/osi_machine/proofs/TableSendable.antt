@@ -1,20 +1,20 @@
 -- Every unit that is under way can be sent, and the numbers of each session are in order.
-use Rattle.std.proofs.Common.{◌≡◌, refl, sym, ◌∙◌, ap, subst, ℕ, zero, suc, ◌+◌, ◌≤◌, ◌<◌, Bool, true, false, not, ◌&&◌, ◌||◌, nat_le, nat_lt, if◌then◌else◌, List, [], ◌∷◌, ◌++◌, map, length, take, Option, Some, None, is_some, Ok, Err, arith}
+use Rattle.std.proofs.Common.{◌≡◌, refl, sym, ap, subst, ℕ, zero, suc, ◌+◌, ◌<◌, Bool, true, false, not, ◌&&◌, ◌||◌, nat_le, if◌then◌else◌, List, [], ◌∷◌, ◌++◌, map, length, take, Option, Some, None, is_some, Ok, Err, arith}
 use Rattle.std.proofs.lemmas.Bool.{leb-true, ltb-false}
 use Rattle.std.specs.List.{AllByRecursion, list_any, slice_get}
 use Rattle.osi_session.specs.declared.faults.CallError.TheVariants as error
 use Rattle.osi_session.specs.Moves.{Input, called, taken, opened, refused, broken as broken_off, Standing, Move, react, answered as answered_move, begun, denied, rests, after_inputs}
 use Rattle.osi_session.specs.Runs.{HasNumbers}
-use Rattle.osi_session.specs.Sessions.{CanBeSent, awaits}
+use Rattle.osi_session.specs.Sessions.{CanBeSent}
 use Rattle.osi_message.specs.Reading.{Said, alone, behind}
 use Rattle.osi_message.specs.Sendable.{said_of, IsAddress}
 use Rattle.osi_message.specs.Written.{is_second, user_data_of}
-use Rattle.osi_machine.specs.Floor.{State, Meaning, GT, WaitTransport, Call, HasSerial, Granted, Answer, CallError, IsNumbered, IsSmall, IsSound, IsSendable, FunctionalUnits, no_token, allowed, respond, without_tokens, awaiting, functional_units, has_points, base_for, serial_for, is_wait_transport, is_profile, lost}
+use Rattle.osi_machine.specs.Floor.{State, Meaning, GT, WaitTransport, Call, HasSerial, Granted, Answer, IsNumbered, IsSmall, IsSound, IsSendable, no_token, allowed, respond, without_tokens, awaiting, functional_units, has_points, is_wait_transport, is_profile}
 use Rattle.osi_machine.specs.Core.{Offer, CanBeOffered, Side, Left, Right, offering, offer_sent}
 use Rattle.osi_machine.specs.Worlds.{Class, class_0, class_2, Message, unit, ask, agree, deny, bye, over, Transport, not_yet, waiting, linked, closing, gone, put, replied, Terms, accepts, denies}
-use Rattle.osi_machine.specs.Machine.{Ending, closed_here, Refusal, Step, connects, calls, delivers, breaks, ends, Entry, call_answered, shown_at, connect_answered, ended, connection_at, replaced, with_connection, is_given, is_known, is_class_0, is_waiting, live_count, is_long_selector, is_long, refusal_by, learns, is_told, HasNumber}
-use Rattle.osi_machine.specs.Tables.{Seat, Line, Turn, Tables, turned, calling, asked_with, in_transport, puts, shortened, made, unseen, hears, after_call, asked_at, message_taken, closed, ended_at, start, seen_from, side_of, end_of, stays, noted, transport_of, refusal, asked_in, call_in, ends_there, ended_lines, shown_in_order, marked_ended, after_end, closes_by, after_turn, without_first, taken_in, delivered_to, cut_channels, step, run}
-use Rattle.osi_machine.specs.AsTables.{AreSendable, IsSoundSeat, IsSoundLine, AreSoundLines, IsTableRun}
+use Rattle.osi_machine.specs.Machine.{Ending, closed_here, Refusal, Step, connects, calls, delivers, breaks, ends, call_answered, shown_at, ended, connection_at, replaced, with_connection, is_given, is_known, is_class_0, is_waiting, live_count, is_long_selector, is_long, refusal_by, learns, is_told, HasNumber}
+use Rattle.osi_machine.specs.Tables.{Line, Turn, Tables, turned, asked_with, in_transport, puts, shortened, made, after_call, message_taken, closed, ended_at, start, seen_from, side_of, end_of, stays, noted, transport_of, refusal, asked_in, call_in, ends_there, ended_lines, shown_in_order, marked_ended, after_end, closes_by, after_turn, without_first, taken_in, delivered_to, cut_channels, step, run}
+use Rattle.osi_machine.specs.AsTables.{AreSendable, IsSoundLine, AreSoundLines, IsTableRun}
 use Rattle.osi_machine.proofs.LinesRun.{if_none}
 
 -- what is proved of one session

@@ -1,6 +1,6 @@
 -- A connection of the machine, at every step: it was asked for and not yet agreed to, or one of which nothing
 -- is lost repeats it; and what the records of both sides tell.
-use Rattle.std.proofs.Common.{◌≡◌, refl, sym, ◌∙◌, subst, ℕ, ◌<◌, Bool, true, false, List, [], ◌∷◌, ◌⊎◌, inl, inr, Ok, Err}
+use Rattle.std.proofs.Common.{◌≡◌, refl, sym, ◌∙◌, subst, ℕ, Bool, true, false, List, [], ◌∷◌, ◌⊎◌, inl, inr, Ok, Err}
 use Rattle.osi_machine.specs.Floor.{Call, HasSerial, Answer, allowed, is_profile}
 use Rattle.osi_machine.specs.Core.{Offer, CanBeOffered, Left, Right}
 use Rattle.osi_machine.specs.Worlds.{Message, unit, ask, agree, deny, bye, over, Transport, not_yet, waiting, linked, closing, gone, World, session_of, asked_with, after_answer, Terms, accepts, denies, message_taken, closed, ended_at, shown_at_end, turned}

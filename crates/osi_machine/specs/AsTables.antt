@@ -3,7 +3,7 @@ use Rattle.std.specs.Prelude.{◌≡◌, ℕ, ◌<◌, Bool, true, false, ◌&&�
 use Rattle.std.specs.List.{AllByRecursion, list_any}
 use Rattle.osi_session.specs.Respond.{verdict, is_faulty}
 use Rattle.osi_session.specs.Sessions.{CanBeSent}
-use Rattle.osi_machine.specs.Floor.{State, Token, has, Meaning, DT, is_over, IsSound, IsSendable}
+use Rattle.osi_machine.specs.Floor.{State, Token, has, DT, is_over, IsSound, IsSendable}
 use Rattle.osi_machine.specs.Histories.{Item, Point, PointKind, Begins, Agree}
 use Rattle.osi_machine.specs.Core.{Offer, Side, Left, Right}
 use Rattle.osi_machine.specs.Worlds.{Message, unit, bye, over, World, Terms, turned, session_of}

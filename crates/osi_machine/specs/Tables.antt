@@ -9,7 +9,7 @@ use Rattle.osi_session.specs.Shown.{Shown}
 use Rattle.osi_message.specs.Sendable.{said_of}
 use Rattle.osi_machine.specs.Floor.{WaitTransport, Call, without_tokens}
 use Rattle.osi_machine.specs.Core.{Offer, Side, Left, Right, offering, offer_sent}
-use Rattle.osi_machine.specs.Worlds.{Class, class_0, class_2, Message, unit, ask, agree, deny, bye, over, Transport, not_yet, waiting, linked, closing, gone, put, replied, Terms, accepts, denies}
+use Rattle.osi_machine.specs.Worlds.{Class, class_2, Message, unit, ask, agree, deny, bye, over, Transport, not_yet, waiting, linked, closing, gone, put, replied, Terms, accepts, denies}
 use Rattle.osi_machine.specs.Machine.{Ending, closed_here, Refusal, Step, connects, calls, delivers, breaks, ends, Entry, connect_answered, call_answered, shown_at, ended, connection_at, with_connection, is_given, refusal_by, learns, is_told}
 
 -- one side: its transport connection, its session, and what it has sent and the other has not taken
