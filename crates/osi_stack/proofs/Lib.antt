@@ -3,6 +3,7 @@ pub mod Found
 pub mod Losing
 pub mod FirstShown
 pub mod Calling
+pub mod NewConnection
 pub mod Keeping
 pub mod Events
 pub mod Lifting

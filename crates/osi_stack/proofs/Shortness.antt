@@ -88,7 +88,7 @@ data_short octets h =
 call_by : SpduLaws → (s : State) (c : Call) → nat_le (length (octets_of c)) (most_of c) ≡ true → IsSendable (sends s c) → length (written (sends s c)) ≤ 1048576
 unfolding unit_of
 call_by law s (Data octets) size h = data_short octets size
-call_by law s (Accept requirements serial sides octets) size h = sent_short law _ h refl
+call_by law s (Accept requirements serial sides sizes octets) size h = sent_short law _ h refl
 call_by law s (Refuse octets) size h = sent_short law _ h refl
 call_by law s (Give tokens) size h = sent_short law _ h refl
 call_by law s (Please tokens octets) size h = sent_short law _ h refl

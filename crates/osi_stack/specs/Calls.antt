@@ -14,6 +14,7 @@ use Rattle.osi_message.specs.Tokens.{no_token}
 use Rattle.osi_message.specs.Written.{written}
 use Rattle.osi_message.specs.declared.tokens.Tokens.{Tokens}
 use Rattle.osi_spdu.specs.Fields.{unit_bits}
+use Rattle.osi_spdu.specs.Sizes.{named_by}
 use Rattle.osi_session.specs.Allowed.{serial_for, most_user_data}
 use Rattle.osi_session.specs.Calls.{Call}
 use Rattle.osi_session.specs.Moves.{Standing, Move, called, react}
@@ -76,13 +77,14 @@ opening_of c = record {
   wishes = c.wishes;
   calling_selector = None;
   called_selector = None;
+  sizes = c.sizes;
   user_data = c.user_data;
 }
 
 -- the CN
 abbrev pub asked_for : Connect → Meaning
 asked_for c = CN true (unit_bits c.requirements) (serial_for (functional_units (unit_bits c.requirements)) c.serial.number)
-    (offered (functional_units (unit_bits c.requirements)) c.wishes) (calling_octets c) (called_octets c) c.user_data.now
+    (offered (functional_units (unit_bits c.requirements)) c.wishes) (calling_octets c) (called_octets c) (named_by c.sizes) c.user_data.now
 
 -- the session of a caller, whose CN waits for the transport connection
 abbrev pub calls_with : Connect → Standing

@@ -1,5 +1,5 @@
 use osi_carrier::OpenError;
-use osi_spdu::{Requirements, Serial, TokenSetting};
+use osi_spdu::{Requirements, Serial, TokenSetting, TsduSizes};
 use osi_tpdu::Tsap;
 use thiserror::Error;
 
@@ -23,6 +23,9 @@ pub struct Connect<'a> {
     pub calling_selector: Option<&'a [u8]>,
     /// The session address of the user that is asked, at most 16 octets.
     pub called_selector: Option<&'a [u8]>,
+    /// How many octets a TSDU may have, of those that each side sends: the CN names the sizes (X.225
+    /// section 8, TSDU maximum size), and the answer may name smaller ones.
+    pub sizes: TsduSizes,
     /// User data, at most 10,240 octets.
     pub user_data: &'a [u8],
 }

@@ -44,6 +44,7 @@ fn session_for(alloc: Global, connect: &Connect) -> Result<Session, ConnectError
         wishes: connect.wishes,
         calling_selector,
         called_selector,
+        sizes: connect.sizes,
         user_data: connect.user_data,
     };
     match Session::caller(alloc, &opening) {

@@ -1,0 +1,32 @@
+-- What an end is once a connection was asked for, from what each step of asking did.
+use Rattle.std.proofs.Common.{◌≡◌, ◌∙◌, ℕ, ◌+◌, [], ◌∷◌, ◌++◌, Some, option_map, ap}
+use Rattle.osi_tpdu.specs.Limits.{tsap_octets}
+use Rattle.osi_tpkt.specs.Held.{Held}
+use Rattle.osi_carrier.specs.Calls.{asks}
+use Rattle.osi_carrier.specs.Rows.{Rows}
+use Rattle.osi_carrier.specs.State.{State as Carrier}
+use Rattle.osi_session.specs.Moves.{Standing}
+use Rattle.osi_stack.specs.Calls.{connects, calls_with}
+use Rattle.osi_stack.specs.State.{Line, Holding, used_lines}
+use Rattle.osi_stack.specs.declared.connecting.Connect.{Connect}
+
+abbrev begins_with : ℕ → Standing → ℕ × Line
+begins_with r session = (r, record { session = Some session; waiting = [] })
+
+abbrev asked_by : Connect → Carrier → Carrier
+asked_by c old = asks (option_map tsap_octets c.calling_tsap) (option_map tsap_octets c.called_tsap) old
+
+abbrev pub holds : Carrier → Rows Line → Held → Holding
+holds carrier lines held = record { end = record { carrier = carrier; lines = lines }; held = held }
+
+pub end_connects : (c : Connect) (old new : Carrier) (held kept : Held) (lines pushed swept : Rows Line) (r : ℕ) (row : ℕ × Line) (session : Standing) →
+    r ≡ old.given → session ≡ calls_with c → row ≡ begins_with (r + 1) session → pushed ≡ lines ++ row ∷ [] → new ≡ asked_by c old → kept ≡ held →
+    swept ≡ used_lines new.live pushed → holds new swept kept ≡ record { end = connects c (record { carrier = old; lines = lines }); held = held }
+end_connects c old new held kept lines pushed swept r row session given is row_is pushed_is new_is kept_is swept_is =
+    let first : row ≡ begins_with (old.given + 1) (calls_with c) =
+    row_is ∙ ap (λ (n : ℕ). begins_with (n + 1) session) given ∙ ap (begins_with (old.given + 1)) is in
+    let rest : swept ≡ used_lines new.live (lines ++ begins_with (old.given + 1) (calls_with c) ∷ []) =
+    swept_is ∙ ap (used_lines new.live) (pushed_is ∙ ap (λ (x : ℕ × Line). lines ++ x ∷ []) first) in
+    ap (λ (l : Rows Line). holds new l kept) rest
+    ∙ ap (λ (n : Carrier). holds n (used_lines n.live (lines ++ begins_with (old.given + 1) (calls_with c) ∷ [])) kept) new_is
+    ∙ ap (λ (h : Held). record { end = connects c (record { carrier = old; lines = lines }); held = h }) kept_is
