@@ -10,10 +10,11 @@ use Rattle.osi_carrier.specs.declared.ends.EndReason.{EndReason}
 use Rattle.osi_machine.specs.Machine.{connection_at, is_given}
 use Rattle.osi_machine.specs.Tables.{Seat, Line, Tables, seen_from, side_of}
 use Rattle.osi_machine.specs.Worlds.{gone, not_yet}
-use Rattle.osi_session.specs.Allowed.{Answer, may_call, octets_of, most_of, met, sized, allowed}
+use Rattle.osi_session.specs.Allowed.{Answer, may_call, octets_of, most_of, sends, met, sized, allowed}
 use Rattle.osi_session.specs.Calls.{Call, HasSerial}
 use Rattle.osi_session.specs.Moves.{Standing, called, answered, react}
 use Rattle.osi_session.specs.Phases.{is_ended, is_over}
+use Rattle.osi_session.specs.Sizes.{fits_limit}
 use Rattle.osi_session.specs.declared.faults.CallError.{CallError}
 use Rattle.osi_session.specs.declared.faults.CallError.TheVariants as error
 use Rattle.osi_session.specs.declared.phases.Phase.{Phase}
@@ -45,7 +46,7 @@ ended_over _ e = absurd cc
 pub ended_refuses : (s : Standing) (call : Call) → is_ended s.state.phase ≡ true → (react s (called call)).error ≡ Some error.Ended
 unfolding react allowed
 ended_refuses s call e =
-    let rest : Answer = if◌then◌else◌ {A = Answer} (not (may_call s.state.phase call)) (Err error.BadState) (sized (nat_le (length (octets_of call)) (most_of call)) (met s.state call)) in
+    let rest : Answer = if◌then◌else◌ {A = Answer} (not (may_call s.state.phase call)) (Err error.BadState) (sized (nat_le (length (octets_of call)) (most_of call) && fits_limit s.state call (sends s.state call)) (met s.state call)) in
     ap (λ (b : Bool). (answered s (if◌then◌else◌ {A = Answer} b (Err error.Ended) rest)).error) (ended_over s.state.phase e)
 
 -- ---- a reference

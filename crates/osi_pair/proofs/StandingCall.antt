@@ -67,7 +67,7 @@ pub record CallLaws : Type 0 where
   pub came : (r : ℕ) (call : Call) (e : End) → HasSerial call → AllCameAbout e.lines → AllCameAbout (to_session r (called call) e).lines
   pub octets : (m : Meaning) → IsSendable m → IsInOctets m → IsOctets (written m)
   pub sendable : (s : State) (c : Call) (x : Step) → IsSoundState s → HasSerial c → allowed s c ≡ Ok x → IsSendable x.sent
-  pub says_octets : (s : State) (c : Call) (x : Step) → allowed s c ≡ Ok x → IsOctets (octets_of c) → IsInOctets x.sent
+  pub says_octets : (s : State) (c : Call) (x : Step) → allowed s c ≡ Ok x → IsSendable x.sent → IsOctets (octets_of c) → IsInOctets x.sent
   pub sound_lines : (t : Tables) → IsTableRun t → AreSoundLines t
   pub same : (r : ℕ) (lines : List Line) (old new : Line) → connection_at r lines ≡ Some old → connection_at r (with_connection r new lines) ≡ Some new
   pub apart : (q r : ℕ) (lines : List Line) (new : Line) → (q ≡ r → ⊥) → connection_at q (with_connection r new lines) ≡ connection_at q lines

@@ -12,6 +12,7 @@ use Rattle.osi_machine.specs.Machine.{connection_at, with_connection, call_answe
 use Rattle.osi_machine.specs.Machine as entries
 use Rattle.osi_machine.specs.Tables.{Seat, Line, Tables, seen_from, side_of, after_call, call_in, step, run}
 use Rattle.osi_machine.specs.Tables as tables
+use Rattle.osi_message.specs.Sendable.{IsSendable}
 use Rattle.osi_message.specs.Written.{written}
 use Rattle.osi_session.specs.Allowed.{octets_of}
 use Rattle.osi_session.specs.Calls.{Call, HasSerial}
@@ -136,7 +137,8 @@ sent_octets laws side r call p b t l c tabled serial octets at th =
     let x : Line = seen_from (side_in side) l in
     let same : x.own.session ≡ c.session = seat_session r call (end_at side p) x.own c (seen side r p b l th.is).own in
     let sound : IsSoundState c.session.state = subst (λ (y : Standing). IsSoundState y.state) same (sound_seat side l (laws.sound_lines t tabled r l at)).sound in
-    laws.octets c.granted.sent (laws.sendable c.session.state call c.granted sound serial c.accepted) (laws.says_octets c.session.state call c.granted c.accepted octets)
+    let sendable : IsSendable c.granted.sent = laws.sendable c.session.state call c.granted sound serial c.accepted in
+    laws.octets c.granted.sent sendable (laws.says_octets c.session.state call c.granted c.accepted sendable octets)
 
 -- ---- a reference that was given
 

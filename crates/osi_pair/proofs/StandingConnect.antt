@@ -1,14 +1,13 @@
 -- Who asks for a connection asks the machine.
-use Rattle.std.proofs.Common.{◌≡◌, ◌≢◌, refl, sym, ◌∙◌, ap, subst, ℕ, zero, suc, ◌+◌, ◌<◌, ◌≤◌, ◌==◌, ◌&&◌, ◌||◌, Bool, true, false, not, nat_le, nat_lt, if◌then◌else◌, List, [], ◌∷◌, ◌++◌, length, length-append, map, Option, Some, None, option_map, is_some, IsSome, IfSome, Result, Ok, Err, arith}
+use Rattle.std.proofs.Common.{◌≡◌, ◌≢◌, refl, sym, ◌∙◌, ap, subst, ℕ, suc, ◌+◌, ◌<◌, ◌≤◌, ◌==◌, Bool, true, false, not, if◌then◌else◌, List, [], ◌∷◌, ◌++◌, length, length-append, map, Option, Some, None, option_map, is_some, IsSome, Ok, Err, arith}
 use Rattle.std.proofs.lemmas.Bool.{eqb-true, eq-eqb}
 use Rattle.std.proofs.lemmas.Bool.Decides.{nat_tests}
-use Rattle.osi_tpkt.specs.Octets.{IsOctets}
 use Rattle.osi_tpdu.specs.Limits.{tsap_octets}
-use Rattle.osi_carrier.specs.Between.{Both, Between, AreBetween, Acted, becomes, under_way, last_of}
+use Rattle.osi_carrier.specs.Between.{Both, Between, AreBetween, Acted, becomes, under_way}
 use Rattle.osi_carrier.specs.Calls.{may_connect, asks}
-use Rattle.osi_carrier.specs.Course.{Place, never, was_given, place_at, progress_of, IsTsap}
+use Rattle.osi_carrier.specs.Course.{was_given, place_at, progress_of, IsTsap}
 use Rattle.osi_carrier.specs.Messages as carrier
-use Rattle.osi_carrier.specs.Orderly.{RiseFrom, AreUpTo}
+use Rattle.osi_carrier.specs.Orderly.{RiseFrom}
 use Rattle.osi_carrier.specs.Progress.{Progress, not_yet, awaiting, leaves_use}
 use Rattle.osi_carrier.specs.Rows.{Rows, value_at}
 use Rattle.osi_carrier.specs.State.{Connection, asked, State as Carrier}
@@ -22,14 +21,13 @@ use Rattle.osi_machine.specs.Core.{Offer}
 use Rattle.osi_machine.specs.Machine.{Step, connects as connecting, connection_at, connect_answered, Refusal}
 use Rattle.osi_machine.specs.Tables.{Line, Tables, asked_with, refusal, asked_in, calling, step, run}
 use Rattle.osi_machine.specs.Tables as tables
-use Rattle.osi_machine.specs.Worlds.{Message, ask}
-use Rattle.osi_machine.specs.Worlds as worlds
-use Rattle.osi_message.specs.InOctets.{IsInOctets}
+use Rattle.osi_machine.specs.Worlds.{ask}
 use Rattle.osi_session.specs.Moves.{Standing}
 use Rattle.osi_session.specs.Shown.{Shown}
 use Rattle.osi_session.specs.Units.{is_profile}
 use Rattle.osi_spdu.specs.Fields.{unit_bits}
-use Rattle.osi_stack.specs.Calls.{calling_octets, called_octets, is_long, terms_error, after_open, connect_error, calls_with, connects}
+use Rattle.osi_spdu.specs.Sizes.{named_by}
+use Rattle.osi_stack.specs.Calls.{is_long, terms_error, after_open, connect_error, calls_with, connects}
 use Rattle.osi_stack.specs.Folds.{AllCameAbout}
 use Rattle.osi_stack.specs.Links.{Soundness, IsSound}
 use Rattle.osi_stack.specs.Messages.{kept_at}
@@ -37,19 +35,19 @@ use Rattle.osi_stack.specs.State.{End, Holding, session_in, is_used, used_lines,
 use Rattle.osi_stack.specs.State as stack
 use Rattle.osi_stack.specs.declared.connecting.Connect.{Connect}
 use Rattle.osi_stack.specs.declared.connecting.ConnectError.{ConnectError}
-use Rattle.osi_stack.specs.declared.connecting.ConnectError.TheVariants.{Open, NotSelected, TooLong}
+use Rattle.osi_stack.specs.declared.connecting.ConnectError.TheVariants.{NotSelected, TooLong}
 use Rattle.osi_stack.proofs.Linking.{used_by}
 use Rattle.osi_stack.proofs.Moves.{used_live}
 use Rattle.osi_stack.proofs.Rising.{rise_push}
 use Rattle.osi_pair.specs.Asked.{asked_of, CanBeAsked}
 use Rattle.osi_pair.specs.Ends.{TwoEnds, noted, connected_by, answer_with, after_connect}
 use Rattle.osi_pair.specs.Entries.{asks as asked_entry}
-use Rattle.osi_pair.specs.Standing.{carriers_of, transport_in, is_parting, message_in, offer_in, answer_in, refusal_in, AreAlike, IsSeated, IsUnderWay, IsLine, HasLine, IsInOrder, Stands, StandsAt}
+use Rattle.osi_pair.specs.Standing.{carriers_of, transport_in, offer_in, answer_in, refusal_in, IsSeated, IsLine, HasLine, IsInOrder, Stands, StandsAt}
 use Rattle.osi_pair.specs.Telling.{waiting_in}
-use Rattle.osi_pair.specs.declared.sides.Side.TheVariants.{Left, Right}
+use Rattle.osi_pair.specs.declared.sides.Side.TheVariants.{Left}
 use Rattle.osi_pair.proofs.StandingActs.{out_way, place_given, place_ahead, more_said, StandsOn, begun_with, one_step}
 use Rattle.osi_pair.proofs.StandingCall.{session_now_is}
-use Rattle.osi_pair.proofs.StandingOctets.{profile_small}
+use Rattle.osi_pair.proofs.StandingOctets.{profile_small, asker_small, answerer_small}
 use Rattle.osi_pair.proofs.StandingRefusal.{Awaits, refusal_same}
 use Rattle.osi_pair.proofs.StandingSides.{seen, as_line, alike_trans, alike_same, like_alike, IsLeft, other_line}
 
@@ -181,7 +179,7 @@ own_new broken c h o may can = record {
   kept = λ s e. let is : Some s ≡ Some (calls_with c) = sym e ∙ ap session_in (line_new c h o) in cc;
   over_now = λ e. cc;
   awaiting = λ e. cc;
-  octets = (profile_small (unit_bits c.requirements) may.profile, can.calling_selector, can.called_selector, can.octets);
+  octets = (profile_small (unit_bits c.requirements) may.profile, can.calling_selector, can.called_selector, asker_small (named_by c.sizes) can.sizes, answerer_small (named_by c.sizes) can.sizes, can.octets);
 }
 
 -- ---- the end that is asked
@@ -349,5 +347,5 @@ local_by c p (Some e) = refl
 
 pub connect_at : ConnectLaws → (p : TwoEnds) (steps : List Step) (c : Connect) → CanBeAsked c → StandsAt p steps → StandsAt (after_connect c p) (steps ++ connecting (offer_in (asked_of c)) ∷ [])
 connect_at laws p steps c can s =
-    one_step p (after_connect c p) steps (connecting (offer_in (asked_of c))) can.serial (local_by c p (connect_error c p.left.end)) s.numbered
+    one_step p (after_connect c p) steps (connecting (offer_in (asked_of c))) (can.serial, can.sizes) (local_by c p (connect_error c p.left.end)) s.numbered
     (connect_by laws c p s.now (run (begun_with p) steps) (connect_error c p.left.end) refl can s.stands)

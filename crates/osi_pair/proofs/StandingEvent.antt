@@ -1,5 +1,7 @@
 -- What an event is to two ends that stand.
-use Rattle.std.proofs.Common.{◌≡◌, refl, sym, ◌∙◌, ap, subst, ℕ, zero, suc, ◌<◌, ◌≤◌, Bool, true, false, List, [], ◌∷◌, ◌++◌, length, take, Option, Some, None, is_some, arith}
+use Rattle.std.proofs.Common.{◌≡◌, refl, sym, subst, ℕ, zero, suc, ◌<◌, ◌≤◌, ◌&&◌, Bool, true, false, List, [], ◌∷◌, ◌++◌, length, take, Option, Some, None, is_some, arith}
+use Rattle.osi_spdu.specs.Sizes.{named_by, are_sizes}
+use Rattle.osi_spdu.specs.declared.sizes.TsduSizes.{TsduSizes}
 use Rattle.osi_tpkt.specs.Octets.{IsOctets}
 use Rattle.osi_tpdu.specs.Limits.{tsap_octets}
 use Rattle.osi_tpdu.specs.declared.tsaps.Tsap.{Tsap}
@@ -20,18 +22,25 @@ use Rattle.osi_pair.specs.Sides.{other}
 use Rattle.osi_pair.specs.Standing.{side_in, offer_in, StandsAt, StandsAtArrivals, StandsAtBreak, StandsAtTold}
 use Rattle.osi_pair.specs.declared.events.Event.{Event}
 use Rattle.osi_pair.specs.declared.events.Event.TheVariants.{Connect, Call, Carry, Break, Told}
-use Rattle.osi_pair.specs.declared.faults.PairError.{PairError}
 use Rattle.osi_pair.specs.declared.reach.Reach.{Reach}
 use Rattle.osi_pair.specs.declared.sides.Side.{Side}
 
 -- ---- what is asked for
 
+both_true : (a b : Bool) → a ≡ true → b ≡ true → (a && b) ≡ true
+both_true true b h k = k
+both_true false b h k = absurd cc
+
+-- a user gives no other sizes
+pub named_sizes : (s : TsduSizes) → are_sizes (named_by s) ≡ true
+named_sizes s = both_true _ _ s.from_asker.is_size s.from_answerer.is_size
+
 pub serial_small : (r : Request) → HasSerial (called_by r)
-serial_small (request.Accept requirements serial sides user) = let few = serial.small in omega arith
+serial_small (request.Accept requirements serial sides sizes user) = (let few = serial.small in omega arith, named_sizes sizes)
 serial_small _ = tt
 
 pub same_octets : (c : Asked) → here.octets_of c ≡ octets_of c
-same_octets (call.Accept requirements serial sides octets) = refl
+same_octets (call.Accept requirements serial sides sizes octets) = refl
 same_octets _ = refl
 
 few_taken : (n : ℕ) (xs : List ℕ) → length (take n xs) ≤ n

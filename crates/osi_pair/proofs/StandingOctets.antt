@@ -1,13 +1,19 @@
 -- What a call and an offer send goes into octets.
 use Rattle.std.proofs.Common.{◌≡◌, refl, sym, ◌∙◌, subst, ℕ, ◌<◌, ◌==◌, ◌&&◌, ◌||◌, Bool, true, false, List, [], ◌∷◌, arith}
-use Rattle.std.proofs.lemmas.Bool.{eqb-true}
+use Rattle.std.proofs.lemmas.Bool.{eqb-true, leb-true}
+use Rattle.std.specs.Prelude.{nat_le}
 use Rattle.std.proofs.lemmas.Nat.{and_le_r}
 use Rattle.std.specs.Int.RustNames.{bit_and}
+use Rattle.osi_spdu.specs.Sizes.{are_sizes}
+use Rattle.osi_spdu.specs.Values.{is_size}
+use Rattle.osi_spdu.specs.declared.fields.TsduMaximumSize.{TsduMaximumSize}
 use Rattle.osi_tpkt.specs.Octets.{IsOctets}
 use Rattle.osi_message.specs.InOctets.{IsInOctets}
+use Rattle.osi_message.specs.Sendable.{IsSendable}
 use Rattle.osi_message.specs.Reading.{names}
 use Rattle.osi_session.specs.Allowed.{Step, AllHold, needs, sends, refusal_reason, octets_of, Passed}
 use Rattle.osi_session.specs.Calls.{Call, Accept, Refuse, Data, Give, Please, Minor, MinorConfirm, Major, MajorConfirm, Restart, RestartConfirm, Release, ReleaseAccept, ReleaseRefuse, Abort}
+use Rattle.osi_session.specs.Sizes.{answered_sizes}
 use Rattle.osi_session.specs.Units.{is_profile}
 use Rattle.osi_session.specs.declared.state.State.{State}
 
@@ -31,27 +37,43 @@ pub profile_small : (n : ℕ) → is_profile n ≡ true → n < 65536
 unfolding is_profile
 profile_small n h = small_by n (n == 2) (bit_and n 185 == n) (names n 1) refl refl h
 
+-- sizes that a user may give go into two octets each
+size_by : (n : ℕ) (none within : Bool) → (n == 0) ≡ none → (nat_le 64 n && nat_le n 65535) ≡ within → (none || within) ≡ true → n < 65536
+size_by n true within a b h = let e = eqb-true n 0 a in omega arith
+size_by n false within a b h = let e = leb-true n 65535 (both_right (nat_le 64 n) (nat_le n 65535) (b ∙ h)) in omega arith
+
+size_small : (n : ℕ) → is_size n ≡ true → n < 65536
+size_small n h = size_by n (n == 0) (nat_le 64 n && nat_le n 65535) refl refl h
+
+pub asker_small : (s : TsduMaximumSize) → are_sizes s ≡ true → s.from_asker < 65536
+asker_small s h = size_small s.from_asker (both_left (is_size s.from_asker) (is_size s.from_answerer) h)
+
+pub answerer_small : (s : TsduMaximumSize) → are_sizes s ≡ true → s.from_answerer < 65536
+answerer_small s h = size_small s.from_answerer (both_right (is_size s.from_asker) (is_size s.from_answerer) h)
+
 reason_small : (octets : List ℕ) → refusal_reason octets < 256
 reason_small [] = omega arith
 reason_small (x ∷ octets) = omega arith
 
-says_in : (s : State) (c : Call) → AllHold (needs s c) → IsOctets (octets_of c) → IsInOctets (sends s c)
-says_in s (Accept requirements serial sides octets) needed h = (profile_small requirements (both_right _ (is_profile requirements) needed.0), h)
-says_in s (Refuse octets) needed h = (reason_small octets, h)
-says_in s (Data octets) needed h = h
-says_in s (Give tokens) needed h = tt
-says_in s (Please tokens octets) needed h = h
-says_in s (Minor confirm octets) needed h = h
-says_in s (MinorConfirm n octets) needed h = h
-says_in s (Major octets) needed h = h
-says_in s (MajorConfirm octets) needed h = h
-says_in s (Restart n wishes octets) needed h = h
-says_in s (RestartConfirm sides octets) needed h = h
-says_in s (Release octets) needed h = h
-says_in s (ReleaseAccept octets) needed h = h
-says_in s (ReleaseRefuse octets) needed h = h
-says_in s (Abort octets) needed h = (omega arith, h)
+says_in : (s : State) (c : Call) → AllHold (needs s c) → IsSendable (sends s c) → IsOctets (octets_of c) → IsInOctets (sends s c)
+says_in s (Accept requirements serial sides sizes octets) needed sendable h =
+    (profile_small requirements (both_right _ (is_profile requirements) needed.0), asker_small (answered_sizes s.sizes sizes) sendable.sized, answerer_small (answered_sizes s.sizes sizes) sendable.sized, h)
+says_in s (Refuse octets) needed sendable h = (reason_small octets, h)
+says_in s (Data octets) needed sendable h = h
+says_in s (Give tokens) needed sendable h = tt
+says_in s (Please tokens octets) needed sendable h = h
+says_in s (Minor confirm octets) needed sendable h = h
+says_in s (MinorConfirm n octets) needed sendable h = h
+says_in s (Major octets) needed sendable h = h
+says_in s (MajorConfirm octets) needed sendable h = h
+says_in s (Restart n wishes octets) needed sendable h = h
+says_in s (RestartConfirm sides octets) needed sendable h = h
+says_in s (Release octets) needed sendable h = h
+says_in s (ReleaseAccept octets) needed sendable h = h
+says_in s (ReleaseRefuse octets) needed sendable h = h
+says_in s (Abort octets) needed sendable h = (omega arith, h)
 
 -- what an accepted call sends
-pub call_in_octets : (s : State) (c : Call) (x : Step) → Passed s c x → IsOctets (octets_of c) → IsInOctets x.sent
-call_in_octets s c x passed h = subst (λ (y : Step). IsInOctets y.sent) (sym passed.gives) (says_in s c passed.needed h)
+pub call_in_octets : (s : State) (c : Call) (x : Step) → Passed s c x → IsSendable x.sent → IsOctets (octets_of c) → IsInOctets x.sent
+call_in_octets s c x passed sendable h =
+    subst (λ (y : Step). IsInOctets y.sent) (sym passed.gives) (says_in s c passed.needed (subst (λ (y : Step). IsSendable y.sent) passed.gives sendable) h)

@@ -1,5 +1,5 @@
 -- What a session answers, as octets of a TSDU.
-use Rattle.std.proofs.Common.{◌≡◌, ◌<◌, ◌≤◌, ℕ, Bool, true, false, not, if◌then◌else◌, [], length, Some, None, IfSome, refl, sym, ap, subst, ◌∙◌, arith}
+use Rattle.std.proofs.Common.{◌≡◌, ◌<◌, ◌≤◌, ℕ, ◌&&◌, Bool, true, false, not, if◌then◌else◌, [], length, Some, None, IfSome, refl, sym, ap, subst, ◌∙◌, arith}
 use Rattle.osi_tpkt.specs.Octets.{IsOctets}
 use Rattle.osi_machine.specs.Core.{Offer, offer_sent}
 use Rattle.osi_message.specs.InOctets.{IsInOctets}
@@ -11,6 +11,7 @@ use Rattle.osi_session.specs.Moves.{Input, opened, refused, broken, taken, Stand
 use Rattle.osi_session.specs.Phases.{is_wait_transport, is_aborting, is_ended}
 use Rattle.osi_session.specs.Respond.{Outcome, in_aborting, in_ended, reply_for, respond, respond_unit, Verdict, over, dropped, faulty, fine, verdict, enacted}
 use Rattle.osi_session.specs.Units.{functional_units, has_data}
+use Rattle.osi_spdu.specs.Sizes.{are_sizes}
 use Rattle.osi_session.specs.declared.state.State.{State}
 use Rattle.osi_stack.proofs.Shortness.{SpduLaws, sent_short}
 
@@ -72,7 +73,7 @@ connect_answer true false m e = same_answer (RF 134 []) m (refuse_answer 134 (om
 connect_answer true true m e = absurd cc
 
 good_answer : (u m : Meaning) → reply_for u ≡ Some m → IsAnswer m
-good_answer (CN version requirements serial wishes from to octets) m e = connect_answer version (has_data (functional_units requirements)) m e
+good_answer (CN version requirements serial wishes from to sizes octets) m e = connect_answer version (has_data (functional_units requirements) && are_sizes sizes) m e
 good_answer (AB bits octets) m e = same_answer AA m accept_answer e
 good_answer u m e = absurd cc
 

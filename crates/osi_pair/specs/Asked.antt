@@ -1,9 +1,11 @@
 -- What users ask for, and copies of it in memory.
-use Rattle.std.specs.Prelude.{◌<◌, ℕ, List, [], Option, option_map, IfSome}
+use Rattle.std.specs.Prelude.{◌≡◌, ◌<◌, ℕ, true, List, [], Option, option_map, IfSome}
 use Rattle.osi_tpkt.specs.Octets.{IsOctets}
 use Rattle.osi_carrier.specs.Course.{IsTsap}
 use Rattle.osi_message.specs.Tokens.{named}
 use Rattle.osi_spdu.specs.Fields.{bits_of, unit_bits}
+use Rattle.osi_spdu.specs.Sizes.{named_by, are_sizes}
+use Rattle.osi_spdu.specs.declared.fields.TsduMaximumSize.{TsduMaximumSize}
 use Rattle.osi_spdu.specs.declared.settings.TokenSetting.{TokenSetting}
 use Rattle.osi_tpdu.specs.Limits.{tsap_octets}
 use Rattle.osi_session.specs.Calls.{Call}
@@ -23,6 +25,7 @@ pub record Asked : Type 0 where
   pub called_tsap : Option (List ℕ)
   pub calling_selector : Option (List ℕ)
   pub called_selector : Option (List ℕ)
+  pub sizes : TsduMaximumSize
   pub octets : List ℕ
 
 abbrev pub asked_of : Connect → Asked
@@ -34,16 +37,18 @@ asked_of c = record {
   called_tsap = option_map tsap_octets c.called_tsap;
   calling_selector = calling_octets c;
   called_selector = called_octets c;
+  sizes = named_by c.sizes;
   octets = c.user_data.now;
 }
 
--- what each that is asked for in memory has: a number that a point may have, and octets
+-- what each that is asked for in memory has: a number that a point may have, sizes that a user may give, and octets
 pub record CanBeAsked (c : Connect) : Type 0 where
   pub serial : c.serial.number < 1000000
   pub calling : IsTsap (option_map tsap_octets c.calling_tsap)
   pub called : IsTsap (option_map tsap_octets c.called_tsap)
   pub calling_selector : IfSome (calling_octets c) IsOctets
   pub called_selector : IfSome (called_octets c) IsOctets
+  pub sizes : are_sizes (named_by c.sizes) ≡ true
   pub octets : IsOctets c.user_data.now
 
 -- a copy in memory
@@ -56,12 +61,13 @@ asked_by c = record {
   called_tsap = option_map tsap_octets c.called_tsap;
   calling_selector = c.calling_selector;
   called_selector = c.called_selector;
+  sizes = named_by c.sizes;
   octets = c.user_data;
 }
 
 -- the user data of a call
 abbrev pub octets_of : Call → List ℕ
-octets_of (call.Accept requirements serial sides octets) = octets
+octets_of (call.Accept requirements serial sides sizes octets) = octets
 octets_of (call.Refuse octets) = octets
 octets_of (call.Data octets) = octets
 octets_of (call.Give tokens) = []
@@ -79,7 +85,7 @@ octets_of (call.Abort octets) = octets
 
 -- a copy of a call in memory
 abbrev pub owned_call : OwnedRequest → Call
-owned_call (owned.Accept requirements serial sides octets) = call.Accept (unit_bits requirements) serial.number sides octets
+owned_call (owned.Accept requirements serial sides sizes octets) = call.Accept (unit_bits requirements) serial.number sides (named_by sizes) octets
 owned_call (owned.Refuse octets) = call.Refuse octets
 owned_call (owned.Data octets) = call.Data octets
 owned_call (owned.Give tokens) = call.Give (named (bits_of tokens))

@@ -71,6 +71,7 @@ offer_in a = record {
   wishes = a.wishes;
   calling_selector = a.calling_selector;
   called_selector = a.called_selector;
+  sizes = a.sizes;
   octets = a.octets;
 }
 

@@ -6,7 +6,7 @@ ghost use Rattle.osi_pair.specs.Asked.{asked_of, asked_by, octets_of, owned_call
 
 use osi_message::Octets;
 use osi_session::{Request, Sides};
-use osi_spdu::{Requirements, Serial, TokenSet, TokenSetting};
+use osi_spdu::{Requirements, Serial, TokenSet, TokenSetting, TsduSizes};
 use osi_stack::Connect;
 use osi_tpdu::Tsap;
 use std::alloc::{AllocError, Global};
@@ -28,6 +28,8 @@ pub struct OwnedConnect {
     pub calling_selector: Option<Octets>,
     /// The session address of the user that is asked.
     pub called_selector: Option<Octets>,
+    /// How many octets a TSDU may have, of those that each side sends.
+    pub sizes: TsduSizes,
     /// User data.
     pub user_data: Octets,
 }
@@ -43,6 +45,8 @@ pub enum OwnedRequest {
         serial: Serial,
         /// The side that holds each token.
         sides: Sides,
+        /// How many octets a TSDU may have, of those that each side sends.
+        sizes: TsduSizes,
         /// User data.
         user_data: Octets,
     },
@@ -102,6 +106,7 @@ impl OwnedConnect {
             called_tsap: connect.called_tsap,
             calling_selector,
             called_selector,
+            sizes: connect.sizes,
             user_data,
         })
     }
@@ -150,11 +155,13 @@ fn owned(request: Request, octets: Octets) -> OwnedRequest
             requirements,
             serial,
             sides,
+            sizes,
             ..
         } => OwnedRequest::Accept {
             requirements,
             serial,
             sides,
+            sizes,
             user_data: octets,
         },
         Request::Refuse { .. } => OwnedRequest::Refuse(octets),

@@ -1,4 +1,4 @@
-use Rattle.osi_pair.proofs.StandingEvent.{wanted_small}
+use Rattle.osi_pair.proofs.StandingEvent.{wanted_small, named_sizes}
 use Rattle.osi_pair.proofs.octets.can_be_asked.Goals as goal
 
 pub returns : goal.returns
@@ -8,5 +8,6 @@ returns c = record {
   called = c.is_address-2.ensures;
   calling_selector = c.some_are_octets.ensures;
   called_selector = c.some_are_octets-2.ensures;
+  sizes = named_sizes c.args.connect.now.sizes;
   octets = c.are_octets.ensures;
 }
