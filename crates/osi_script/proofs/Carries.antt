@@ -1,12 +1,12 @@
 -- What user data a line has: a line that carries octets has none.
-use Rattle.std.proofs.Common.{◌≡◌, ◌∙◌, ◌-◌, ◌≤◌, ℕ, List, [], ◌∷◌, length, get_or, drop, refl, sym, ap, subst, arith, true, false}
-use Rattle.std.specs.Prelude.{Option, Some, codes}
+use Rattle.std.proofs.Common.{◌≡◌, ◌∙◌, ◌≤◌, ℕ, List, [], ◌∷◌, length, get_or, drop, refl, sym, ap, subst, arith, true, false}
+use Rattle.std.specs.Prelude.{Option, Some, None, codes}
 use Rattle.std.specs.Cmp.Lexicographic.{same_text}
-use Rattle.std.specs.List.{slice_get, onto_first}
+use Rattle.std.specs.List.{onto_first}
 use Rattle.std.proofs.lemmas.List.Splits.{slice_split-cons_yes, slice_split-cons_no}
 use Rattle.memchr.specs.Find.{is_byte}
 use Rattle.osi_script.specs.Words.{◌>>=◌, is, data_of, words_of}
-use Rattle.osi_script.specs.Commands.{command_in, last_data}
+use Rattle.osi_script.specs.Commands.{command_in, data_word, user_data_of}
 
 no_blank_at : (octet : ℕ) (behind : List ℕ) → is_byte 32 octet ≡ false → words_of (octet ∷ behind) ≡ onto_first octet (words_of behind)
 no_blank_at octet behind h = slice_split-cons_no (is_byte 32) octet behind h
@@ -48,6 +48,11 @@ pub carries_alone : (all : List (List ℕ)) (first : List ℕ) (words : List (Li
 carries_alone all first words a b parts h =
     subst (λ (l : List (List ℕ)). command_in l a ≡ command_in l b) (sym parts) (carries first words a b h)
 
-pub last_spells : (all : List (List ℕ)) (word : List ℕ) (user : Option (List ℕ)) → slice_get all (length all - 1) ≡ Some word →
-    user ≡ data_of word → command_in all user ≡ command_in all (last_data all)
-last_spells all word user last is = ap (command_in all) (is ∙ sym (ap (λ (o : Option (List ℕ)). o >>= data_of) last))
+-- a word stands in the place of user data
+pub word_spells : (all : List (List ℕ)) (word : List ℕ) (user : Option (List ℕ)) → Some word ≡ data_word all →
+    user ≡ data_of word → command_in all user ≡ command_in all (user_data_of all)
+word_spells all word user there is = ap (command_in all) (is ∙ ap (λ (o : Option (List ℕ)). o >>= data_of) there)
+
+-- none stands there
+pub no_word_spells : (all : List (List ℕ)) → None ≡ data_word all → command_in all None ≡ command_in all (user_data_of all)
+no_word_spells all there = ap (command_in all) (ap (λ (o : Option (List ℕ)). o >>= data_of) there)

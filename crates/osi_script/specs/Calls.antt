@@ -1,20 +1,22 @@
--- The calls of a user in a script: the words behind the verb, of which the last is user data in most.
+-- The calls of a user in a script: the words behind the verb, of which one is user data in most.
 use Rattle.std.specs.Prelude.{ℕ, List, [], ◌∷◌, Option, Some, None, option_map}
 use Rattle.osi_session.specs.Calls.{Call}
 use Rattle.osi_session.specs.Calls as call
 use Rattle.osi_message.specs.Tokens.{named}
 use Rattle.osi_script.specs.declared.verbs.Verb.{Verb}
 use Rattle.osi_script.specs.declared.verbs.Verb.TheVariants as verb
-use Rattle.osi_script.specs.Words.{◌>>=◌, number_to, units_of, serial_of, tokens_of, wishes_of, sides_of, answer_of}
+use Rattle.osi_script.specs.Words.{◌>>=◌, number_to, units_of, serial_of, tokens_of, wishes_of, sides_of, answer_of, sizes_of}
 
--- In each of these, the second argument is what the last word spells as user data.
+-- In each of these, the second argument is what the word in the place of user data spells: the last, but in an accept,
+-- behind whose user data sizes may stand.
 unfoldable pub accept_of : List (List ℕ) → Option (List ℕ) → Option Call
-accept_of (units ∷ serial ∷ sides ∷ last ∷ []) user = do
+accept_of (units ∷ serial ∷ sides ∷ word ∷ sizes) user = do
   u ← units_of units
   s ← serial_of serial
   t ← sides_of sides
+  z ← sizes_of sizes
   octets ← user
-  Some (call.Accept u s t octets)
+  Some (call.Accept u s t z octets)
 accept_of other user = None
 
 -- user data alone

@@ -1,8 +1,10 @@
 -- What a line of a script asks for, and the lines that spell it.
 use Rattle.std.specs.Prelude.{◌≡◌, ℕ, ◌-◌, Bool, true, false, List, [], ◌∷◌, codes, length, Option, Some, None, if◌then◌else◌}
 use Rattle.std.specs.List.{slice_get}
+use Rattle.osi_spdu.specs.declared.fields.TsduMaximumSize.{TsduMaximumSize}
 use Rattle.osi_spdu.specs.declared.settings.TokenSetting.{TokenSetting}
 use Rattle.osi_spdu.specs.Fields.{unit_bits}
+use Rattle.osi_spdu.specs.Sizes.{named_by}
 use Rattle.osi_session.specs.Calls.{Call, called_by}
 use Rattle.osi_tpdu.specs.Limits.{size_code, window_units}
 use Rattle.osi_script.specs.declared.commands.Classes.{Classes}
@@ -10,7 +12,7 @@ use Rattle.osi_script.specs.declared.commands.Classes.TheVariants.{Zero, Two, Bo
 use Rattle.osi_script.specs.declared.commands.Command.{Command as InMemory}
 use Rattle.osi_script.specs.declared.commands.Command.TheVariants as memory
 use Rattle.osi_script.specs.declared.sides.Side.{Side}
-use Rattle.osi_script.specs.Words.{◌>>=◌, words_of, is, number_to, units_of, serial_of, size_of, window_of, classes_of, side_of, verb_of, wishes_of, data_of}
+use Rattle.osi_script.specs.Words.{◌>>=◌, words_of, is, number_to, units_of, serial_of, size_of, window_of, classes_of, side_of, verb_of, wishes_of, sizes_of, data_of}
 use Rattle.osi_script.specs.Calls.{call_of}
 
 abbrev pub has_class_0 : Classes → Bool
@@ -25,7 +27,7 @@ has_class_2 Both = true
 
 pub data Command : Type 0 where
   Ends : (caller called : Classes) (size window : ℕ) → Command
-  Connect : (requirements serial : ℕ) (wishes : TokenSetting) (octets : List ℕ) → Command
+  Connect : (requirements serial : ℕ) (wishes : TokenSetting) (sizes : TsduMaximumSize) (octets : List ℕ) → Command
   OfUser : (side : Side) (reference : ℕ) (call : Call) → Command
   Carry : (side : Side) (octets : ℕ) → Command
   Break : (left right : ℕ) → Command
@@ -34,13 +36,14 @@ pub data Command : Type 0 where
 -- a command in memory
 abbrev pub command_by : InMemory → Command
 command_by (memory.Ends caller called size window) = Ends caller called (size_code size) (window_units window)
-command_by (memory.Connect requirements serial wishes octets) = Connect (unit_bits requirements) serial.number wishes octets.now
+command_by (memory.Connect requirements serial wishes sizes octets) =
+    Connect (unit_bits requirements) serial.number wishes (named_by sizes) octets.now
 command_by (memory.Call side reference request) = OfUser side reference (called_by request)
 command_by (memory.Carry side octets) = Carry side octets
 command_by (memory.Break left right) = Break left right
 command_by (memory.Told side) = Told side
 
--- ---- the words behind the first; user is what the last word spells as user data
+-- ---- the words behind the first; user is what the word in the place of user data spells
 
 unfoldable pub ends_of : List (List ℕ) → Option Command
 ends_of (caller ∷ called ∷ size ∷ window ∷ []) = do
@@ -52,12 +55,13 @@ ends_of (caller ∷ called ∷ size ∷ window ∷ []) = do
 ends_of other = None
 
 unfoldable pub connect_of : List (List ℕ) → Option (List ℕ) → Option Command
-connect_of (units ∷ serial ∷ wishes ∷ last ∷ []) user = do
+connect_of (units ∷ serial ∷ wishes ∷ word ∷ sizes) user = do
   u ← units_of units
   s ← serial_of serial
   w ← wishes_of wishes
+  z ← sizes_of sizes
   octets ← user
-  Some (Connect u s w octets)
+  Some (Connect u s w z octets)
 connect_of other user = None
 
 unfoldable pub carry_of : List (List ℕ) → Option Command
@@ -90,7 +94,7 @@ user_call side (reference ∷ verb ∷ words) user = do
   Some (OfUser s r c)
 user_call side other user = None
 
--- the line with these words, of which the last spells this user data
+-- the line with these words, of which the one in the place of user data spells this
 unfoldable pub command_in : List (List ℕ) → Option (List ℕ) → Option Command
 command_in [] user = None
 command_in (first ∷ words) user =
@@ -101,15 +105,40 @@ command_in (first ∷ words) user =
     else if is first (codes "told") then told_of words
     else user_call first words user
 
--- what the last word spells as user data
-abbrev pub last_data : List (List ℕ) → Option (List ℕ)
-last_data words = do
-  word ← slice_get words (length words - 1)
+-- ---- user data
+
+-- what a connect and an accept say in front of their user data is functional units, a number and sides
+abbrev pub fourth : List (List ℕ) → Option (List ℕ)
+fourth (units ∷ serial ∷ sides ∷ word ∷ words) = Some word
+fourth other = None
+
+abbrev pub last_of : List (List ℕ) → Option (List ℕ)
+last_of words = slice_get words (length words - 1)
+
+-- the words behind an accept, of a line of which these stand behind the first word
+abbrev pub behind_accept : List (List ℕ) → Option (List (List ℕ))
+behind_accept (reference ∷ verb ∷ words) = if is verb (codes "accept") then Some words else None
+behind_accept other = None
+
+abbrev pub fourth_or : Option (List ℕ) → Option (List (List ℕ)) → Option (List ℕ)
+fourth_or other None = other
+fourth_or other (Some words) = fourth words
+
+-- the word in the place of user data: the last, but in a connect and an accept, behind whose user data sizes may stand
+unfoldable pub data_word : List (List ℕ) → Option (List ℕ)
+data_word [] = None
+data_word (first ∷ words) =
+    if is first (codes "connect") then fourth words else fourth_or (last_of (first ∷ words)) (behind_accept words)
+
+-- what it spells
+abbrev pub user_data_of : List (List ℕ) → Option (List ℕ)
+user_data_of words = do
+  word ← data_word words
   data_of word
 
 -- what a line asks for
 unfoldable pub command_of : List ℕ → Option Command
-command_of line = command_in (words_of line) (last_data (words_of line))
+command_of line = command_in (words_of line) (user_data_of (words_of line))
 
 -- these octets spell a command
 abbrev pub Spells : List ℕ → Command → Type 0

@@ -2,6 +2,8 @@
 use Rattle.std.specs.Prelude.{ℕ, Bool, true, false, List, [], ◌∷◌, ◌++◌, codes, Option, Some, None}
 use Rattle.std.specs.Fmt.{decimal}
 use Rattle.hex.specs.Hex.{encode_lower}
+use Rattle.osi_spdu.specs.Sizes.{written_sizes}
+use Rattle.osi_spdu.specs.declared.fields.TsduMaximumSize.{TsduMaximumSize}
 use Rattle.osi_tpdu.specs.Spelling.{two}
 use Rattle.osi_session.specs.Shown.{Shown, Connect, Connected, RefusedByTransport, RefusedBySession, Data, Given, Asked, Minor, MinorConfirmed, Major, MajorConfirmed, Restart, Restarted, Release, Released, ReleaseRefused, Aborted, Lost, PeerAbort, BadUnit}
 use Rattle.osi_script.specs.declared.sides.Side.{Side}
@@ -9,8 +11,8 @@ use Rattle.osi_script.specs.Names.{side_name, unit_fault_name}
 use Rattle.osi_script.specs.Texts.{data_text, wishes_text, sides_text}
 
 unfoldable pub shown_name : Shown → List ℕ
-shown_name (Connect units serial wishes octets) = codes "Connect"
-shown_name (Connected units serial sides octets) = codes "Connected"
+shown_name (Connect units serial wishes sizes octets) = codes "Connect"
+shown_name (Connected units serial sides sizes octets) = codes "Connected"
 shown_name (RefusedByTransport reason) = codes "Refused transport"
 shown_name (RefusedBySession reason octets) = codes "Refused session"
 shown_name (Data octets) = codes "Data"
@@ -62,13 +64,13 @@ opening_fields units serial letters = units_field units ++ serial_field serial +
 
 -- the fields of a connection that is asked for or accepted
 unfoldable pub opened_fields : Shown → List ℕ
-opened_fields (Connect units serial wishes octets) = opening_fields units serial (wishes_text wishes)
-opened_fields (Connected units serial sides octets) = opening_fields units serial (sides_text sides)
+opened_fields (Connect units serial wishes sizes octets) = opening_fields units serial (wishes_text wishes)
+opened_fields (Connected units serial sides sizes octets) = opening_fields units serial (sides_text sides)
 opened_fields other = []
 
 unfoldable pub shown_fields : Shown → List ℕ
-shown_fields (Connect units serial wishes octets) = opening_fields units serial (wishes_text wishes)
-shown_fields (Connected units serial sides octets) = opening_fields units serial (sides_text sides)
+shown_fields (Connect units serial wishes sizes octets) = opening_fields units serial (wishes_text wishes)
+shown_fields (Connected units serial sides sizes octets) = opening_fields units serial (sides_text sides)
 shown_fields (RefusedByTransport reason) = number_field reason
 shown_fields (RefusedBySession reason octets) = number_field reason
 shown_fields (Data octets) = []
@@ -90,8 +92,8 @@ shown_fields (BadUnit fault) = codes " " ++ unit_fault_name fault
 
 -- the user data of what has some
 unfoldable pub shown_octets : Shown → Option (List ℕ)
-shown_octets (Connect units serial wishes octets) = Some octets
-shown_octets (Connected units serial sides octets) = Some octets
+shown_octets (Connect units serial wishes sizes octets) = Some octets
+shown_octets (Connected units serial sides sizes octets) = Some octets
 shown_octets (RefusedByTransport reason) = None
 shown_octets (RefusedBySession reason octets) = Some octets
 shown_octets (Data octets) = Some octets
@@ -120,8 +122,25 @@ abbrev pub data_field : List ℕ → Option (List ℕ) → List ℕ
 data_field word None = []
 data_field word (Some octets) = word ++ data_text octets
 
+-- how many octets a TSDU of the asker and one of the answerer may have, where one of them has a limit
+abbrev pub limits_field : Option TsduMaximumSize → List ℕ
+limits_field None = []
+limits_field (Some sizes) = codes " tsdu" ++ number_field sizes.from_asker ++ number_field sizes.from_answerer
+
+unfoldable pub sizes_field : TsduMaximumSize → List ℕ
+sizes_field sizes = limits_field (written_sizes sizes)
+
+unfoldable pub shown_sizes : Shown → List ℕ
+shown_sizes (Connect units serial wishes sizes octets) = sizes_field sizes
+shown_sizes (Connected units serial sides sizes octets) = sizes_field sizes
+shown_sizes other = []
+
+-- the user data, and what stands behind it
+abbrev pub shown_end : Shown → List ℕ
+shown_end shown = data_field (data_word shown) (shown_octets shown) ++ shown_sizes shown
+
 unfoldable pub shown_text : Shown → List ℕ
-shown_text shown = shown_name shown ++ shown_fields shown ++ data_field (data_word shown) (shown_octets shown)
+shown_text shown = shown_name shown ++ shown_fields shown ++ shown_end shown
 
 unfoldable pub shown_line : Side → ℕ → Shown → List ℕ
 shown_line side reference shown = side_name side ++ codes " " ++ decimal reference ++ codes " " ++ shown_text shown ++ codes "\n"

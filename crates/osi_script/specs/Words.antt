@@ -5,6 +5,9 @@ use Rattle.std.specs.List.{slice_split, list_all}
 use Rattle.std.specs.Cmp.Lexicographic.{pointwise}
 use Rattle.std.specs.Int.RustNames.{bit_and}
 use Rattle.hex.specs.Hex.{decode_of, decode_sized}
+use Rattle.osi_spdu.specs.Sizes.{no_sizes}
+use Rattle.osi_spdu.specs.Values.{is_size}
+use Rattle.osi_spdu.specs.declared.fields.TsduMaximumSize.{TsduMaximumSize}
 use Rattle.osi_spdu.specs.declared.settings.TokenSetting.{TokenSetting}
 use Rattle.osi_spdu.specs.declared.settings.Wish.{Wish}
 use Rattle.osi_spdu.specs.declared.settings.Wish.TheVariants as wish
@@ -62,6 +65,21 @@ window_of word = number_from_to 1 15 word
 
 abbrev pub serial_of : List ℕ → Option ℕ
 serial_of word = number_to 999999 word
+
+-- how many octets a TSDU may have: 0 for no limit, or 64 and more
+abbrev pub tsdu_size_of : List ℕ → Option ℕ
+tsdu_size_of word = do
+  n ← number_to 65535 word
+  if is_size n then Some n else None
+
+-- the sizes of what the asker and of what the answerer sends, where words for them are there
+unfoldable pub sizes_of : List (List ℕ) → Option TsduMaximumSize
+sizes_of [] = Some no_sizes
+sizes_of (asker ∷ answerer ∷ []) = do
+  a ← tsdu_size_of asker
+  b ← tsdu_size_of answerer
+  Some (record { from_asker = a; from_answerer = b })
+sizes_of other = None
 
 abbrev pub short_of : List ℕ → ℕ
 short_of octets = slice_index octets 0 * 256 + slice_index octets 1

@@ -6,7 +6,7 @@ ghost use Rattle.osi_script.specs.Splitting.{words_in};
 
 use crate::splitting::Words;
 use crate::verbs::Verb;
-use crate::words::{answer, number, serial, sides, tokens, units, wishes};
+use crate::words::{answer, number, serial, sides, sizes, tokens, units, wishes};
 use osi_session::Request;
 use osi_spdu::TokenSet;
 
@@ -22,17 +22,16 @@ fn accept<'a>(mut words: Words, octets: Option<&'a [u8]>) -> Option<Request<'a>>
     let first = words.next_word()?;
     let stated = words.next_word()?;
     words.next_word()?;
-    let None = words.next_word() else {
-        return None;
-    };
     let requirements = units(selected)?;
     let serial = serial(first)?;
     let sides = sides(stated)?;
+    let sizes = sizes(words)?;
     let user_data = octets?;
     Some(Request::Accept {
         requirements,
         serial,
         sides,
+        sizes,
         user_data,
     })
 }
@@ -150,7 +149,7 @@ fn restart_confirm<'a>(mut words: Words, octets: Option<&'a [u8]>) -> Option<Req
     Some(Request::RestartConfirm { sides, user_data })
 }
 
-/// What a call asks for, by its verb and the words behind it, of which the last spells this user data.
+/// What a call asks for, by its verb and the words behind it, of which the one in the place of user data spells this.
 #[inline(always)]
 #[tactic(auto, unfolding(crate::specs::Calls::call_of))]
 pub(crate) fn request<'a>(verb: Verb, words: Words, octets: Option<&'a [u8]>) -> Option<Request<'a>>

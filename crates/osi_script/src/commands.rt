@@ -4,7 +4,7 @@ ghost use Rattle.osi_script.specs.Commands.{has_class_0, has_class_2};
 use crate::sides::Side;
 use osi_class::Local;
 use osi_session::Request;
-use osi_spdu::{Requirements, Serial, TokenSetting};
+use osi_spdu::{Requirements, Serial, TokenSetting, TsduSizes};
 use osi_tpdu::{SizeCode, Window};
 
 /// The classes of the transport protocol that an end supports (X.224 section 5.4).
@@ -57,6 +57,8 @@ pub enum Command<'a> {
         serial: Serial,
         /// The side that is wished for each token.
         wishes: TokenSetting,
+        /// How many octets a TSDU may have, of those that each side sends.
+        sizes: TsduSizes,
         /// User data.
         user_data: &'a [u8],
     },

@@ -1,7 +1,8 @@
 ghost use Rattle.std.specs.Prelude.{◌≡◌, ◌∷◌, codes, true, drop, option_map, option_copied, IfOk};
 ghost use Rattle.osi_script.specs.Words.{words_of, data_of};
-ghost use Rattle.osi_script.specs.Commands.{command_by, command_in, command_of, last_data};
+ghost use Rattle.osi_script.specs.Commands.{command_by, command_in, command_of, fourth, behind_accept, data_word, user_data_of};
 ghost use Rattle.osi_script.specs.Lines.{line_command};
+ghost use Rattle.osi_script.specs.Splitting.{words_in};
 
 use crate::commands::Command;
 use crate::reading::command;
@@ -10,7 +11,7 @@ use crate::words::is;
 use hex::FromHexError;
 use std::alloc::{AllocError, Global};
 
-/// A line of a script, and the octets that its last word spells as user data.
+/// A line of a script, and the octets that the word in the place of user data spells.
 #[derive(Drop)]
 pub struct Line<'l> {
     octets: &'l [u8],
@@ -43,17 +44,59 @@ fn carries(line: &[u8]) -> bool
     matches!(line, [b'c', b'a', b'r', b'r', b'y', b' ', ..])
 }
 
-/// The octets that the last word of a line spells as user data, where the line asks for something that
-/// has user data: none where it carries octets.
-#[tactic(auto, using(crate::proofs::Carries::last_spells))]
+/// The fourth of these words.
+fn fourth<'l>(mut words: Words<'l>) -> Option<&'l [u8]>
+    ensures { option_copied result ≡ fourth (words_in words.entry) }
+{
+    words.next_word()?;
+    words.next_word()?;
+    words.next_word()?;
+    words.next_word()
+}
+
+/// The words behind an accept, of those that stand behind the first of a line.
+fn behind_accept<'l>(mut words: Words<'l>) -> Option<Words<'l>>
+    ensures { option_map words_in result ≡ behind_accept (words_in words.entry) }
+{
+    words.next_word()?;
+    let verb = words.next_word()?;
+    if is(verb, "accept") {
+        return Some(words);
+    }
+    None
+}
+
+/// The word of a line in the place of user data: the last, but in a connect and an accept, behind whose
+/// user data sizes may stand.
+#[tactic(auto, unfolding(crate::specs::Commands::data_word))]
+fn data_word(line: &[u8]) -> Option<&[u8]>
+    ensures { option_copied result ≡ data_word (words_of line.now) }
+{
+    let mut words = Words::of(line);
+    let first = words.next_word()?;
+    if is(first, "connect") {
+        return fourth(words);
+    }
+    let Some(words) = behind_accept(words) else {
+        return Some(last_word(line));
+    };
+    fourth(words)
+}
+
+/// The octets of user data of a line that asks for something that has some: none where it carries
+/// octets.
+#[tactic(auto, using(crate::proofs::Carries::word_spells, crate::proofs::Carries::no_word_spells))]
 fn wanted_user_data(alloc: Global, line: &[u8]) -> Result<Option<Vec<u8>>, AllocError>
     ensures { IfOk result (λ octets. command_in (words_of line.now) (option_map (λ o. o.items) octets)
-        ≡ command_in (words_of line.now) (last_data (words_of line.now))) }
+        ≡ command_in (words_of line.now) (user_data_of (words_of line.now))) }
 {
     if carries(line) {
         return Ok(None);
     }
-    user_data_in(alloc, last_word(line))
+    let Some(word) = data_word(line) else {
+        return Ok(None);
+    };
+    user_data_in(alloc, word)
 }
 
 /// The octets of user data, where there is some.

@@ -5,7 +5,7 @@ ghost use Rattle.osi_script.specs.Splitting.{words_in};
 use crate::calls::request;
 use crate::commands::Command;
 use crate::splitting::Words;
-use crate::words::{classes, is, number, serial, side, size, units, verb, window, wishes};
+use crate::words::{classes, is, number, serial, side, size, sizes, units, verb, window, wishes};
 
 /// The greatest count of octets.
 const MOST_OCTETS: u32 = 4_294_967_295;
@@ -42,17 +42,16 @@ fn connect<'a>(mut words: Words, octets: Option<&'a [u8]>) -> Option<Command<'a>
     let first = words.next_word()?;
     let sides = words.next_word()?;
     words.next_word()?;
-    let None = words.next_word() else {
-        return None;
-    };
     let requirements = units(offered)?;
     let serial = serial(first)?;
     let wishes = wishes(sides)?;
+    let sizes = sizes(words)?;
     let user_data = octets?;
     Some(Command::Connect {
         requirements,
         serial,
         wishes,
+        sizes,
         user_data,
     })
 }
@@ -115,7 +114,7 @@ fn call<'a>(first: &[u8], mut words: Words, octets: Option<&'a [u8]>) -> Option<
     })
 }
 
-/// What a line with these words asks for, where its last word spells this user data.
+/// What a line with these words asks for, of which the one in the place of user data spells this.
 #[tactic(auto, unfolding(crate::specs::Commands::command_in))]
 pub(crate) fn command<'a>(mut words: Words, octets: Option<&'a [u8]>) -> Option<Command<'a>>
     ensures { option_map command_by result

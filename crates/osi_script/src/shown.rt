@@ -3,7 +3,7 @@ ghost use Rattle.std.specs.Fmt.{decimal};
 ghost use Rattle.osi_spdu.specs.Fields.{unit_bits};
 ghost use Rattle.osi_session.specs.Shown.{shown_by, abort_shown};
 ghost use Rattle.osi_script.specs.Names.{side_name, unit_fault_name};
-ghost use Rattle.osi_script.specs.Shown.{shown_name, shown_fields, shown_octets, shown_line, number_field, octet_field, confirm_word, minor_fields, sides_field, restart_fields, units_field, serial_field, opening_fields, opened_fields, data_word, data_field};
+ghost use Rattle.osi_script.specs.Shown.{shown_name, shown_fields, shown_octets, shown_line, number_field, octet_field, confirm_word, minor_fields, sides_field, restart_fields, units_field, serial_field, opening_fields, opened_fields, data_word, sizes_field, shown_sizes, shown_end};
 ghost use Rattle.osi_script.specs.Texts.{data_text, digits_of};
 
 use crate::names::unit_fault;
@@ -15,7 +15,7 @@ use crate::texts::{
 use bitflags::Flags;
 use osi_message::Octets;
 use osi_session::{AbortCause, Indication, UnitFault};
-use osi_spdu::Requirements;
+use osi_spdu::{Requirements, TsduMaximumSize};
 use std::alloc::{AllocError, Global};
 
 /// The name of an indication.
@@ -59,7 +59,7 @@ fn cause_name(cause: AbortCause) -> &'static str
 }
 
 fn put_number(text: &mut Vec<u8>, number: u64)
-    requires { vec_len text.old + 64 ≤ vec_capacity text.old }
+    requires { vec_len text.old + 21 ≤ vec_capacity text.old }
     ensures items { text.new.items ≡ text.old.items ++ number_field number }
     ensures len { vec_len text.new ≤ vec_len text.old + 21 }
     ensures capacity { vec_capacity text.old ≤ vec_capacity text.new }
@@ -294,7 +294,7 @@ fn put_data_word(text: &mut Vec<u8>, indication: &Indication)
 
 /// Room for a line with this user data; none where so many octets cannot be counted.
 fn room(user_data: Option<&Octets>) -> Option<usize>
-    ensures { IfSome result (λ octets. octets ≡ digits_of (option_copied user_data.entry) + 160) }
+    ensures { IfSome result (λ octets. octets ≡ digits_of (option_copied user_data.entry) + 192) }
 {
     match user_data {
         None => Some(LINE),
@@ -302,35 +302,66 @@ fn room(user_data: Option<&Octets>) -> Option<usize>
     }
 }
 
-/// Adds octets in hexadecimal or a dash where there is none, and the end of a line, for which there is room.
+/// Adds octets in hexadecimal or a dash where there is none, for which there is room.
 #[tactic(auto, unfolding(crate::specs::Texts::data_text))]
 fn put_data(text: &mut Vec<u8>, octets: &[u8])
-    requires { vec_len text.old + 2 * length octets.now + 8 ≤ vec_capacity text.old }
-    ensures { text.new.items ≡ text.old.items ++ (data_text octets.now ++ codes "\n") }
+    requires { vec_len text.old + 2 * length octets.now + 1 ≤ vec_capacity text.old }
+    ensures items { text.new.items ≡ text.old.items ++ data_text octets.now }
+    ensures len { vec_len text.new ≤ vec_len text.old + 2 * length octets.now + 1 }
+    ensures capacity { vec_capacity text.old ≤ vec_capacity text.new }
 {
     if octets.is_empty() {
-        put(text, "-\n");
+        put(text, "-");
     } else {
         put_hex(text, octets);
-        put(text, "\n");
     }
 }
 
-/// Adds the user data of an indication, where it has some, and the end of its line, for which there is room.
-#[tactic(auto, unfolding(crate::specs::Shown::shown_octets))]
+/// Adds how many octets a TSDU of each side may have, where one of them has a limit, for which there is room.
+#[tactic(auto, unfolding(crate::specs::Shown::sizes_field))]
+fn put_sizes(text: &mut Vec<u8>, sizes: TsduMaximumSize)
+    requires { vec_len text.old + 47 ≤ vec_capacity text.old }
+    ensures items { text.new.items ≡ text.old.items ++ sizes_field sizes }
+    ensures len { vec_len text.new ≤ vec_len text.old + 47 }
+    ensures capacity { vec_capacity text.old ≤ vec_capacity text.new }
+{
+    let Some(sizes) = sizes.written() else {
+        return;
+    };
+    put(text, " tsdu");
+    put_number(text, u64::from(sizes.from_asker));
+    put_number(text, u64::from(sizes.from_answerer));
+}
+
+/// Adds what stands behind the user data of a connection that is asked for or accepted, for which there is room.
+#[tactic(auto, unfolding(crate::specs::Shown::shown_sizes))]
+fn put_shown_sizes(text: &mut Vec<u8>, indication: &Indication)
+    requires { vec_len text.old + 47 ≤ vec_capacity text.old }
+    ensures items { text.new.items ≡ text.old.items ++ shown_sizes (shown_by indication.now) }
+    ensures len { vec_len text.new ≤ vec_len text.old + 47 }
+    ensures capacity { vec_capacity text.old ≤ vec_capacity text.new }
+{
+    match indication {
+        Indication::Connect { sizes, .. } | Indication::Connected { sizes, .. } => {
+            put_sizes(text, *sizes)
+        }
+        _ => (),
+    }
+}
+
+/// Adds the user data of an indication, where it has some, what stands behind it, and the end of its line, for which
+/// there is room.
 fn put_end(text: &mut Vec<u8>, indication: &Indication, user_data: Option<&Octets>)
     requires value { option_copied user_data ≡ shown_octets (shown_by indication.now) }
-    requires room { vec_len text.old + digits_of (option_copied user_data) + 16 ≤ vec_capacity text.old }
-    ensures { text.new.items
-        ≡ text.old.items ++ (data_field (data_word (shown_by indication.now)) (shown_octets (shown_by indication.now)) ++ codes "\n") }
+    requires room { vec_len text.old + digits_of (option_copied user_data) + 64 ≤ vec_capacity text.old }
+    ensures { text.new.items ≡ text.old.items ++ (shown_end (shown_by indication.now) ++ codes "\n") }
 {
-    match user_data {
-        None => put(text, "\n"),
-        Some(octets) => {
-            put_data_word(text, indication);
-            put_data(text, octets.as_slice());
-        }
+    if let Some(octets) = user_data {
+        put_data_word(text, indication);
+        put_data(text, octets.as_slice());
     }
+    put_shown_sizes(text, indication);
+    put(text, "\n");
 }
 
 /// Adds the side, the connection and the name of an indication, for which there is room.

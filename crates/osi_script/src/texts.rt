@@ -10,7 +10,7 @@ use osi_session::Sides;
 use osi_spdu::{Side, TokenSetting, Wish};
 
 /// More octets than a line has besides its user data.
-pub(crate) const LINE: usize = 160;
+pub(crate) const LINE: usize = 192;
 
 /// Adds a piece of text, for which there is room.
 #[inline(always)]

@@ -1,14 +1,17 @@
 ghost use Rattle.std.specs.Prelude.{◌≡◌, ◌≤◌, ◌+◌, ◌*◌, ◌∷◌, ℕ, List, None, option_map, IfSome, IfNone};
 ghost use Rattle.osi_spdu.specs.Fields.{bits_of, unit_bits};
+ghost use Rattle.osi_spdu.specs.Sizes.{named_by, size_of as octets_of_size};
 ghost use Rattle.osi_tpdu.specs.Limits.{size_code, window_units};
-ghost use Rattle.osi_script.specs.Words.{is, number_behind, number_to, units_of, tokens_of, serial_of, size_of, window_of, classes_of, side_of, verb_of, wish_of_letter, side_of_letter, wishes_of, sides_of, answer_of};
+ghost use Rattle.osi_script.specs.Splitting.{words_in};
+ghost use Rattle.osi_script.specs.Words.{is, number_behind, number_to, units_of, tokens_of, serial_of, sizes_of, tsdu_size_of, size_of, window_of, classes_of, side_of, verb_of, wish_of_letter, side_of_letter, wishes_of, sides_of, answer_of};
 
 use crate::commands::Classes;
 use crate::sides::Side;
+use crate::splitting::Words;
 use crate::verbs::Verb;
 use bitflags::Flags;
 use osi_session::Sides;
-use osi_spdu::{Requirements, Serial, TokenSet, TokenSetting, Wish};
+use osi_spdu::{Requirements, Serial, TokenSet, TokenSetting, TsduSize, TsduSizes, Wish};
 use osi_tpdu::{SizeCode, Window};
 
 /// The bits of a token set that name a token.
@@ -109,6 +112,32 @@ pub(crate) fn serial(word: &[u8]) -> Option<Serial>
     ensures { option_map (λ s. s.number) result ≡ serial_of word.now }
 {
     Serial::new(number(word, 999_999)?)
+}
+
+/// How many octets a TSDU may have, 64 to 65,535; 0 for no limit.
+fn tsdu_size(word: &[u8]) -> Option<TsduSize>
+    ensures { option_map octets_of_size result ≡ tsdu_size_of word.now }
+{
+    let octets = number(word, 65_535)?;
+    TsduSize::new(octets as u16)
+}
+
+/// The sizes that the words behind user data say: two, or none where no word is there.
+#[tactic(auto, unfolding(crate::specs::Words::sizes_of))]
+pub(crate) fn sizes(mut words: Words) -> Option<TsduSizes>
+    ensures { option_map named_by result ≡ sizes_of (words_in words.entry) }
+{
+    let Some(asker) = words.next_word() else {
+        return Some(TsduSizes::NONE);
+    };
+    let answerer = words.next_word()?;
+    let None = words.next_word() else {
+        return None;
+    };
+    Some(TsduSizes {
+        from_asker: tsdu_size(asker)?,
+        from_answerer: tsdu_size(answerer)?,
+    })
 }
 
 /// The code of a TPDU size, 7 to 13.
