@@ -15,7 +15,7 @@ use Rattle.osi_transcript.specs.Steps.{DoesEvent, FailsEvent, PlaysEvent, StopsA
 by_command : (number : ℕ) (c : Command) (event : Event) (lines : Lines) (p : TwoEnds) (text : List ℕ) (status : ℕ) → IsEvent c event →
     Applies number event (Plays lines) p text status → PlaysLine number (Some c) (Plays lines) p text status
 by_command number (Ends caller called size window) event lines p text status is h = absurd is
-by_command number (Connect requirements serial wishes octets) event lines p text status is h = (event, is, h)
+by_command number (Connect requirements serial wishes sizes octets) event lines p text status is h = (event, is, h)
 by_command number (OfUser side reference call) event lines p text status is h = (event, is, h)
 by_command number (Carry side octets) event lines p text status is h = (event, is, h)
 by_command number (Break left right) event lines p text status is h = (event, is, h)
@@ -57,7 +57,7 @@ unread number line old before after read says = record {
 no_event : (number : ℕ) (c : Command) (lines : Lines) (p : TwoEnds) → IsNoEvent c →
     PlaysLine number (Some c) (Plays lines) p (answer_line (LineRefused number)) 1
 no_event number (Ends caller called size window) lines p is = record { says = refl; bad = refl }
-no_event number (Connect requirements serial wishes octets) lines p is = absurd is
+no_event number (Connect requirements serial wishes sizes octets) lines p is = absurd is
 no_event number (OfUser side reference call) lines p is = absurd is
 no_event number (Carry side octets) lines p is = absurd is
 no_event number (Break left right) lines p is = absurd is
@@ -137,7 +137,7 @@ begins : (number : ℕ) (command : Option Command) (lines : Lines) (p : TwoEnds)
     BeginsWith number command lines text status
 begins number None lines p text status starts plays = absurd starts
 begins number (Some (Ends caller called size window)) lines p text status starts plays = (p, starts, plays)
-begins number (Some (Connect requirements serial wishes octets)) lines p text status starts plays = absurd starts
+begins number (Some (Connect requirements serial wishes sizes octets)) lines p text status starts plays = absurd starts
 begins number (Some (OfUser side reference call)) lines p text status starts plays = absurd starts
 begins number (Some (Carry side octets)) lines p text status starts plays = absurd starts
 begins number (Some (Break left right)) lines p text status starts plays = absurd starts
@@ -147,7 +147,7 @@ refused : (number : ℕ) (command : Option Command) (lines : Lines) (text : List
     BeginsWith number command lines text 1
 refused number None lines text starts says = record { says = says; bad = refl }
 refused number (Some (Ends caller called size window)) lines text starts says = absurd starts
-refused number (Some (Connect requirements serial wishes octets)) lines text starts says = record { says = says; bad = refl }
+refused number (Some (Connect requirements serial wishes sizes octets)) lines text starts says = record { says = says; bad = refl }
 refused number (Some (OfUser side reference call)) lines text starts says = record { says = says; bad = refl }
 refused number (Some (Carry side octets)) lines text starts says = record { says = says; bad = refl }
 refused number (Some (Break left right)) lines text starts says = record { says = says; bad = refl }

@@ -25,7 +25,7 @@ name_of Left = named.Left
 name_of Right = named.Right
 
 abbrev pub verb_of : Call → Verb
-verb_of (call.Accept requirements serial sides octets) = verb.Accept
+verb_of (call.Accept requirements serial sides sizes octets) = verb.Accept
 verb_of (call.Refuse octets) = verb.Refuse
 verb_of (call.Data octets) = verb.Data
 verb_of (call.Give tokens) = verb.Give

@@ -40,6 +40,7 @@ pub(crate) fn event_of<'a>(command: osi_script::Command<'a>) -> Option<Event<'a>
             requirements,
             serial,
             wishes,
+            sizes,
             user_data,
         } => Some(Event::Connect(Connect {
             requirements,
@@ -49,6 +50,7 @@ pub(crate) fn event_of<'a>(command: osi_script::Command<'a>) -> Option<Event<'a>
             called_tsap: None,
             calling_selector: None,
             called_selector: None,
+            sizes,
             user_data,
         })),
         osi_script::Command::Call {
