@@ -59,6 +59,8 @@ static void opening(void)
     FIELD(osi_opening, calling_selector);
     FIELD(osi_opening, called_selector);
     FIELD(osi_opening, user_data);
+    FIELD(osi_opening, size_from_asker);
+    FIELD(osi_opening, size_from_answerer);
 }
 
 static void indication(void)
@@ -81,6 +83,8 @@ static void indication(void)
     FIELD(osi_indication, sides);
     FIELD(osi_indication, fault);
     FIELD(osi_indication, user_data);
+    FIELD(osi_indication, size_from_asker);
+    FIELD(osi_indication, size_from_answerer);
 }
 
 static void codes(void)

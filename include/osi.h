@@ -24,6 +24,10 @@
  *                 osi_data(&end, shown.reference, (const uint8_t *)"hello", 5);
  *     }                                         // until osi_ended, and then osi_free(&end)
  *
+ * A program is compiled with the header of the library that it is linked with. osi_opening and
+ * osi_indication have grown since sizes of TSDUs can be asked for, so programs that were compiled
+ * before are to be compiled anew; their text need not change.
+ *
  * What the caller owes, and nothing checks:
  *   - An osi_end begins as OSI_END. It is never copied, and nobody but these functions reads or
  *     writes what is in it. One that is not freed leaks.
@@ -154,18 +158,20 @@ typedef struct osi_opening {
     osi_octets calling_selector; /* the session address of this user, 1 to 16 octets; none: no address */
     osi_octets called_selector;  /* that of the other user */
     osi_octets user_data;        /* at most 10,240 octets */
+    uint16_t size_from_asker;    /* octets that a TSDU of this side may have: 64 to 65,535; 0: no limit */
+    uint16_t size_from_answerer; /* the same of a TSDU of the other side (X.225 section 8) */
 } osi_opening;
 
 #define OSI_OPENING \
     { OSI_HALF_DUPLEX, 0, { OSI_ASKER, OSI_ASKER, OSI_ASKER, OSI_ASKER }, \
-      OSI_NO_OCTETS, OSI_NO_OCTETS, OSI_NO_OCTETS, OSI_NO_OCTETS, OSI_NO_OCTETS }
+      OSI_NO_OCTETS, OSI_NO_OCTETS, OSI_NO_OCTETS, OSI_NO_OCTETS, OSI_NO_OCTETS, 0, 0 }
 
 /* ---- what is shown -------------------------------------------------------------------------- */
 
 /* Which indication it is (X.215 section 10), and which fields it has beside tag and reference. */
 #define OSI_NONE 0u                  /* none */
-#define OSI_CONNECT 1u               /* CN: requirements, number (if has_number), sides as wishes, user_data */
-#define OSI_CONNECTED 2u             /* AC: requirements, number (if has_number), sides, user_data */
+#define OSI_CONNECT 1u               /* CN: requirements, number (if has_number), sides as wishes, user_data, sizes */
+#define OSI_CONNECTED 2u             /* AC: requirements, number (if has_number), sides, user_data, sizes */
 #define OSI_REFUSED_BY_TRANSPORT 3u  /* DR: reason (X.224 section 13.5.3) */
 #define OSI_REFUSED_BY_SESSION 4u    /* RF: reason (0, 1 and 2 are of the called user), user_data */
 #define OSI_DATA_SHOWN 5u            /* DT: user_data, an octet at least */
@@ -209,6 +215,8 @@ typedef struct osi_indication {
     osi_sides sides;
     osi_fault fault;
     osi_octets user_data;  /* lent until the next call with this end */
+    uint16_t size_from_asker;    /* sizes, as the CN or AC names them: octets that a TSDU of the side that */
+    uint16_t size_from_answerer; /* asked, and one of the side that answers, may have; 0: no limit */
 } osi_indication;
 
 /* ---- making and freeing ---------------------------------------------------------------------- */
@@ -225,7 +233,7 @@ void osi_free(osi_end *end);
 
 /* Asks for a connection: gives its reference, 1 to 65,535 and none twice, which is as it was on a
  * refusal. The answer is an indication: OSI_CONNECTED, OSI_REFUSED_BY_*, or why it is over.
- * OSI_OK, OSI_BAD_ARGUMENT (serial, wishes, a transport address of over 32 octets), OSI_CLOSED,
+ * OSI_OK, OSI_BAD_ARGUMENT (serial, wishes, sizes, a transport address of over 32 octets), OSI_CLOSED,
  * OSI_NOT_CALLER, OSI_ENDED, OSI_NEGOTIATING, OSI_ONE_CONNECTION, OSI_TOO_MANY,
  * OSI_REFERENCES_USED_UP, OSI_NOT_SELECTED, OSI_TOO_LONG, OSI_NO_MEMORY: the first that applies. */
 uint32_t osi_connect(osi_end *end, const osi_opening *asked, uint16_t *reference);
@@ -239,9 +247,17 @@ uint32_t osi_connect(osi_end *end, const osi_opening *asked, uint16_t *reference
 
 /* Answers OSI_CONNECT. The units are some of those that the CN names, half-duplex among them, or
  * duplex alone; the number is that of the first point, 0 to 999,999; the sides hold the tokens of
- * which the choice was this side's. */
+ * which the choice was this side's. osi_accept agrees to the sizes that the CN names; osi_accept_sized
+ * has sizes of its own beside, 64 to 65,535 octets or 0 for no limit, and the smaller is agreed upon
+ * where the CN names one (where it names 0, there is no limit).
+ *
+ * A call that would send a TSDU above the size that was agreed upon for it is OSI_TOO_LONG, with two
+ * exceptions: what answers OSI_CONNECT has any length, and so has data, which goes as one TSDU still. */
 uint32_t osi_accept(osi_end *end, uint16_t reference, uint16_t requirements, uint32_t number,
                     const osi_sides *sides, const uint8_t *data, size_t length);
+uint32_t osi_accept_sized(osi_end *end, uint16_t reference, uint16_t requirements, uint32_t number,
+                          const osi_sides *sides, uint16_t size_from_asker, uint16_t size_from_answerer,
+                          const uint8_t *data, size_t length);
 uint32_t osi_refuse(osi_end *end, uint16_t reference, const uint8_t *data, size_t length);
 
 /* Sends data, 1 to 1,048,572 octets. */

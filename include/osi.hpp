@@ -290,6 +290,13 @@ struct sides {
     }
 };
 
+/* How many octets a TSDU may have, of those that each side sends: 64 to 65,535, or 0 for no limit (X.225
+ * section 8). */
+struct tsdu_sizes {
+    std::uint16_t from_asker = 0;
+    std::uint16_t from_answerer = 0;
+};
+
 /* A connection that is asked for. */
 struct opening {
     units requirements = units::half_duplex;
@@ -300,6 +307,7 @@ struct opening {
     octets calling_selector;  /* the session address of this user, 1 to 16 octets; none: no address */
     octets called_selector;   /* that of the other user */
     octets user_data;         /* at most 10,240 octets */
+    tsdu_sizes sizes;         /* the sizes that are asked for */
 };
 
 /* ---- what is shown ----------------------------------------------------------------------------------- */
@@ -307,8 +315,8 @@ struct opening {
 /* Which indication it is (X.215 section 10), and which fields it has beside its reference. */
 enum class tag : std::uint32_t {
     none = OSI_NONE,
-    connect = OSI_CONNECT,                           /* requirements, perhaps number, sides as wishes, user_data */
-    connected = OSI_CONNECTED,                       /* requirements, perhaps number, sides, user_data */
+    connect = OSI_CONNECT,                           /* requirements, perhaps number, sides as wishes, user_data, sizes */
+    connected = OSI_CONNECTED,                       /* requirements, perhaps number, sides, user_data, sizes */
     refused_by_transport = OSI_REFUSED_BY_TRANSPORT, /* reason (X.224 section 13.5.3) */
     refused_by_session = OSI_REFUSED_BY_SESSION,     /* reason (0, 1 and 2 are of the called user), user_data */
     data = OSI_DATA_SHOWN,                           /* user_data, an octet at least */
@@ -416,6 +424,7 @@ struct indication {
     osi::sides sides;
     osi::fault fault;
     octets user_data; /* lent until the next call with the end: copy what is to be kept */
+    tsdu_sizes sizes; /* as the CN or AC names them */
 };
 
 /* Why an end has ended. */
@@ -562,6 +571,7 @@ inline indication indication_of(const osi_indication &said) noexcept
     shown.sides = sides_of(said.sides);
     shown.fault = fault_of(said.fault);
     shown.user_data = said.user_data;
+    shown.sizes = {said.size_from_asker, said.size_from_answerer};
     return shown;
 }
 
@@ -601,6 +611,7 @@ public:
         const osi_opening passed = {
             detail::bits(asked.requirements), asked.serial,           asked.wishes,          asked.calling_tsap,
             asked.called_tsap,                asked.calling_selector, asked.called_selector, asked.user_data,
+            asked.sizes.from_asker,           asked.sizes.from_answerer,
         };
         result<osi::reference> made;
         made.code = call(osi_connect, &passed, &made.value);
@@ -614,6 +625,15 @@ public:
     {
         const osi_sides passed = holders;
         return call(osi_accept, of, detail::bits(selected), number, &passed, data.data(), data.size());
+    }
+
+    /* The same with sizes of this side's own: where tag::connect names one, the smaller is agreed upon. */
+    code accept_sized(osi::reference of, units selected, std::uint32_t number, sides holders, tsdu_sizes sizes,
+                      octets data = {}) noexcept
+    {
+        const osi_sides passed = holders;
+        return call(osi_accept_sized, of, detail::bits(selected), number, &passed, sizes.from_asker,
+                    sizes.from_answerer, data.data(), data.size());
     }
     code refuse(osi::reference of, octets data = {}) noexcept { return say(osi_refuse, of, data); }
 

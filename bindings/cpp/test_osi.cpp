@@ -265,6 +265,27 @@ static void wishes_are_shown()
     CHECK(both.caller.held(1) == (osi::tokens::major | osi::tokens::release) && both.caller.next_serial(1) == 7);
 }
 
+static void sizes_are_agreed()
+{
+    osi::opening wanted = opening();
+    wanted.sizes = {64, 200};
+    pair both = asked(osi::classes::class_0, wanted);
+    const osi::tsdu_sizes named = both.shown(both.by_called, tag::connect).sizes;
+    CHECK(named.from_asker == 64 && named.from_answerer == 200);
+    CHECK(both.called.accept_sized(1, all_units, 1, {}, {63, 0}) == code::bad_argument);
+    CHECK(both.called.accept_sized(1, all_units, 1, {}, {0, 100}) == code::ok);
+    both.carry();
+    const osi::tsdu_sizes agreed = both.shown(both.by_caller, tag::connected).sizes;
+    CHECK(agreed.from_asker == 64 && agreed.from_answerer == 100);
+    const std::string long_data(61, 'x');
+    CHECK(both.caller.abort(1, long_data) == code::too_long);
+    CHECK(both.caller.data(1, long_data) == code::ok);
+    both.carry();
+    CHECK(both.shown(both.by_called, tag::data).tag == tag::data && both.said.back() == long_data);
+    wanted.sizes = {0, 1};
+    CHECK(osi::end::caller()->connect(wanted).code == code::bad_argument);
+}
+
 static void refusals_are_shown()
 {
     pair by_user = asked(osi::classes::class_0);
@@ -500,6 +521,7 @@ int main()
     ends_are_freed_at_any_time();
     opening_is_shown();
     wishes_are_shown();
+    sizes_are_agreed();
     refusals_are_shown();
     a_connection_is_shown(osi::classes::class_0);
     a_connection_is_shown(osi::classes::class_2);

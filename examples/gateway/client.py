@@ -52,7 +52,7 @@ class Sides(ctypes.Structure):
 class Opening(ctypes.Structure):
     _fields_ = [("requirements", c_uint16), ("serial", c_uint32), ("wishes", Sides), ("calling_tsap", Octets),
                 ("called_tsap", Octets), ("calling_selector", Octets), ("called_selector", Octets),
-                ("user_data", Octets)]
+                ("user_data", Octets), ("size_from_asker", c_uint16), ("size_from_answerer", c_uint16)]
 
 
 class Fed(ctypes.Structure):
@@ -67,7 +67,8 @@ class Fault(ctypes.Structure):
 class Indication(ctypes.Structure):
     _fields_ = [("tag", c_uint32), ("number", c_uint32), ("reference", c_uint16), ("requirements", c_uint16),
                 ("has_number", c_uint8), ("confirm", c_uint8), ("tokens", c_uint8), ("reason", c_uint8),
-                ("sides", Sides), ("fault", Fault), ("user_data", Octets)]
+                ("sides", Sides), ("fault", Fault), ("user_data", Octets), ("size_from_asker", c_uint16),
+                ("size_from_answerer", c_uint16)]
 
 
 EMPTY = ctypes.create_string_buffer(1)

@@ -41,6 +41,7 @@ from osi_session import (
     SessionError,
     Side,
     Sides,
+    Sizes,
     Spelling,
     Terms,
     Tokens,
@@ -144,6 +145,20 @@ class Indications(Case):
         self.assertEqual(pair.called.held(1), Tokens.DATA | Tokens.MINOR)
         self.assertEqual(pair.caller.held(1), Tokens.MAJOR | Tokens.RELEASE)
         self.assertEqual(pair.caller.next_serial(1), 7)
+
+    def test_sizes(self):
+        pair, sizes = Pair(Classes.CLASS_0, Classes.CLASS_0), Sizes(64, 200)
+        pair.caller.connect(Opening(ALL_UNITS, sizes=sizes))
+        self.assertEqual([shown.sizes for shown in pair.carry()[1]], [sizes])
+        self.refused(Code.BAD_ARGUMENT, pair.called.accept, 1, ALL_UNITS, 0, Sides(), b"", Sizes(63))
+        pair.called.accept(1, ALL_UNITS, sizes=Sizes(0, 100))
+        self.assertEqual([shown.sizes for shown in pair.carry()[0]], [Sizes(64, 100)])
+        self.refused(Code.TOO_LONG, pair.caller.abort, 1, bytes(60))
+        pair.caller.data(1, bytes(61))
+        self.assertEqual(pair.carry()[1], [Data(1, bytes(61))])
+        pair.called.abort(1, bytes(60))
+        for wrong in (Sizes(1), Sizes(0, 63), Sizes(65536), Sizes(-1)):
+            self.refused(Code.BAD_ARGUMENT, End.caller().connect, Opening(sizes=wrong))
 
     def test_duplex_has_no_number(self):
         pair = Pair()

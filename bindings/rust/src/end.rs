@@ -3,7 +3,7 @@
 use crate::codes::{Ending, Error};
 use crate::ffi;
 use crate::indications::Indication;
-use crate::terms::{Opening, Phase, Reference, Sides, Terms, Tokens, Units};
+use crate::terms::{Opening, Phase, Reference, Sides, Sizes, Terms, Tokens, Units};
 use std::fmt;
 use std::mem::MaybeUninit;
 use std::slice;
@@ -94,8 +94,8 @@ impl End {
     /// [`Connected`](Indication::Connected), one of the two refusals, or why it is over.
     ///
     /// # Errors
-    /// The first that applies of [`BadArgument`](Error::BadArgument) (the serial, a transport address of
-    /// over 32 octets), [`NotCaller`](Error::NotCaller), [`Ended`](Error::Ended),
+    /// The first that applies of [`BadArgument`](Error::BadArgument) (the serial, a size of 1 to 63, a
+    /// transport address of over 32 octets), [`NotCaller`](Error::NotCaller), [`Ended`](Error::Ended),
     /// [`Negotiating`](Error::Negotiating), [`OneConnection`](Error::OneConnection),
     /// [`TooMany`](Error::TooMany), [`ReferencesUsedUp`](Error::ReferencesUsedUp),
     /// [`NotSelected`](Error::NotSelected) (units that do not go together),
@@ -110,6 +110,8 @@ impl End {
             calling_selector: ffi::lend(asked.calling_selector),
             called_selector: ffi::lend(asked.called_selector),
             user_data: ffi::lend(asked.user_data),
+            size_from_asker: asked.sizes.from_asker,
+            size_from_answerer: asked.sizes.from_answerer,
         };
         let mut reference = 0;
         answer(unsafe { ffi::osi_connect(self.at(), &passed, &mut reference) })?;
@@ -137,6 +139,28 @@ impl End {
         let (data, length) = (user_data.as_ptr(), user_data.len());
         let (units, sides) = (selected.bits(), sides.passed());
         answer(unsafe { ffi::osi_accept(self.at(), of.0, units, number, &sides, data, length) })
+    }
+
+    /// The same as [`accept`](End::accept), with sizes of this side's own: where the CN names one, the
+    /// smaller is agreed upon, and where it names 0, there is no limit.
+    ///
+    /// # Errors
+    /// Those of [`accept`](End::accept), and [`BadArgument`](Error::BadArgument) for a size of 1 to 63.
+    pub fn accept_sized(
+        &mut self,
+        of: Reference,
+        selected: Units,
+        number: u32,
+        sides: Sides,
+        sizes: Sizes,
+        user_data: &[u8],
+    ) -> Result<(), Error> {
+        let (data, length) = (user_data.as_ptr(), user_data.len());
+        let (units, sides) = (selected.bits(), sides.passed());
+        let (asker, answerer) = (sizes.from_asker, sizes.from_answerer);
+        answer(unsafe {
+            ffi::osi_accept_sized(self.at(), of.0, units, number, &sides, asker, answerer, data, length)
+        })
     }
 
     /// Refuses what [`Indication::Connect`] asks for.

@@ -51,6 +51,8 @@ pub struct osi_opening {
     pub calling_selector: osi_octets,
     pub called_selector: osi_octets,
     pub user_data: osi_octets,
+    pub size_from_asker: u16,
+    pub size_from_answerer: u16,
 }
 
 #[repr(C)]
@@ -77,6 +79,8 @@ pub struct osi_indication {
     pub sides: osi_sides,
     pub fault: osi_fault,
     pub user_data: osi_octets,
+    pub size_from_asker: u16,
+    pub size_from_answerer: u16,
 }
 
 #[repr(C)]
@@ -102,6 +106,17 @@ extern "C" {
         requirements: u16,
         number: u32,
         sides: *const osi_sides,
+        data: *const u8,
+        length: usize,
+    ) -> u32;
+    pub fn osi_accept_sized(
+        end: *mut osi_end,
+        reference: u16,
+        requirements: u16,
+        number: u32,
+        sides: *const osi_sides,
+        size_from_asker: u16,
+        size_from_answerer: u16,
         data: *const u8,
         length: usize,
     ) -> u32;

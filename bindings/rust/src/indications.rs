@@ -2,7 +2,7 @@
 
 use crate::codes::{Fault, Spelling};
 use crate::ffi;
-use crate::terms::{Sides, Tokens, Units};
+use crate::terms::{Sides, Sizes, Tokens, Units};
 
 /// What the user of a connection is shown (X.215 section 10, indications and confirms).
 ///
@@ -20,6 +20,8 @@ pub enum Indication<D> {
         number: Option<u32>,
         /// Who is to hold each token.
         wishes: Sides,
+        /// The sizes that the CN names.
+        sizes: Sizes,
         /// What the peer's user says.
         user_data: D,
     },
@@ -31,6 +33,8 @@ pub enum Indication<D> {
         number: Option<u32>,
         /// Who holds each token.
         sides: Sides,
+        /// The sizes that the AC names.
+        sizes: Sizes,
         /// What the peer's user says.
         user_data: D,
     },
@@ -188,11 +192,11 @@ impl<D> Indication<D> {
     /// The same indication with its user data as a function makes it.
     pub fn map<E>(self, made: impl FnOnce(D) -> E) -> Indication<E> {
         match self {
-            Indication::Connect { requirements, number, wishes, user_data } => {
-                Indication::Connect { requirements, number, wishes, user_data: made(user_data) }
+            Indication::Connect { requirements, number, wishes, sizes, user_data } => {
+                Indication::Connect { requirements, number, wishes, sizes, user_data: made(user_data) }
             }
-            Indication::Connected { requirements, number, sides, user_data } => {
-                Indication::Connected { requirements, number, sides, user_data: made(user_data) }
+            Indication::Connected { requirements, number, sides, sizes, user_data } => {
+                Indication::Connected { requirements, number, sides, sizes, user_data: made(user_data) }
             }
             Indication::RefusedByTransport { reason } => Indication::RefusedByTransport { reason },
             Indication::RefusedBySession { reason, user_data } => {
@@ -247,11 +251,12 @@ impl<'a> Indication<&'a [u8]> {
         let requirements = Units::from_bits(shown.requirements);
         let named = (shown.has_number != 0).then_some(shown.number);
         let sides = Sides::of(shown.sides);
+        let sizes = Sizes { from_asker: shown.size_from_asker, from_answerer: shown.size_from_answerer };
         let tokens = Tokens::from_bits(shown.tokens);
         let (number, reason, confirm) = (shown.number, shown.reason, shown.confirm != 0);
         Some(match shown.tag {
-            1 => Indication::Connect { requirements, number: named, wishes: sides, user_data },
-            2 => Indication::Connected { requirements, number: named, sides, user_data },
+            1 => Indication::Connect { requirements, number: named, wishes: sides, sizes, user_data },
+            2 => Indication::Connected { requirements, number: named, sides, sizes, user_data },
             3 => Indication::RefusedByTransport { reason },
             4 => Indication::RefusedBySession { reason, user_data },
             5 => Indication::Data { user_data },

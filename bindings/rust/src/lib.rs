@@ -13,7 +13,7 @@
 //! # Two ends
 //!
 //! ```
-//! use osi_session::{End, Error, Indication, Opening, Sides, Terms};
+//! use osi_session::{End, Error, Indication, Opening, Sides, Sizes, Terms};
 //!
 //! /// Carries what one end has to send to the other, as a socket would.
 //! fn carry(from: &mut End, to: &mut End, mut shown: impl FnMut(&Indication<&[u8]>)) -> Result<(), Error> {
@@ -87,7 +87,7 @@ mod terms;
 pub use codes::{Ending, Error, Fault, Spelling};
 pub use end::{End, Fed};
 pub use indications::Indication;
-pub use terms::{Classes, Opening, Phase, Reference, Side, Sides, Terms, Tokens, Units};
+pub use terms::{Classes, Opening, Phase, Reference, Side, Sides, Sizes, Terms, Tokens, Units};
 
 /// What does not compile. An end is not used by two threads at a time:
 ///

@@ -208,8 +208,18 @@ impl Sides {
     }
 }
 
+/// How many octets a TSDU may have, of those that each side sends: 64 to 65,535, or 0 for no limit (X.225
+/// section 8).
+#[derive(Clone, Copy, Debug, Default, PartialEq, Eq, Hash)]
+pub struct Sizes {
+    /// From the side that asks for the connection.
+    pub from_asker: u16,
+    /// From the side that answers.
+    pub from_answerer: u16,
+}
+
 /// A connection that is asked for. Begin with [`Opening::default`], which asks for half-duplex alone,
-/// and has no address and no user data.
+/// and has no address, no size and no user data.
 #[derive(Clone, Copy, Debug, PartialEq, Eq, Hash)]
 pub struct Opening<'a> {
     /// The functional units.
@@ -226,6 +236,8 @@ pub struct Opening<'a> {
     pub calling_selector: &'a [u8],
     /// That of the other user.
     pub called_selector: &'a [u8],
+    /// The sizes that are asked for.
+    pub sizes: Sizes,
     /// At most 10,240 octets.
     pub user_data: &'a [u8],
 }
@@ -240,6 +252,7 @@ impl Default for Opening<'_> {
             called_tsap: b"",
             calling_selector: b"",
             called_selector: b"",
+            sizes: Sizes::default(),
             user_data: b"",
         }
     }

@@ -1,8 +1,8 @@
 //! Two ends in memory: each kind of indication, each code that is quick to come by, and what is lent.
 
 use osi_session::{
-    Classes, End, Ending, Error, Fault, Indication, Opening, Phase, Reference, Side, Sides, Spelling, Terms,
-    Tokens, Units,
+    Classes, End, Ending, Error, Fault, Indication, Opening, Phase, Reference, Side, Sides, Sizes, Spelling,
+    Terms, Tokens, Units,
 };
 use std::thread;
 
@@ -162,8 +162,8 @@ fn an_opening_is_shown() {
     let mut pair = Pair::asked(Classes::BOTH, &Opening { wishes, ..opening() });
     assert_eq!(pair.caller.phase(pair.of), Some(Phase::WaitTransport));
     let user_data = b"who is there?".to_vec();
-    let (requirements, number) = (ALL_UNITS, Some(1));
-    assert_eq!(pair.by_called(), Indication::Connect { requirements, number, wishes, user_data });
+    let (requirements, number, sizes) = (ALL_UNITS, Some(1), Sizes::default());
+    assert_eq!(pair.by_called(), Indication::Connect { requirements, number, wishes, sizes, user_data });
     assert_eq!(pair.called.phase(pair.of), Some(Phase::Answering));
     let choice = Sides { minor: Side::Choice, ..ASKERS };
     assert_eq!(pair.called.accept(pair.of, ALL_UNITS, 7, choice, b""), Err(Error::BadArgument));
@@ -171,10 +171,30 @@ fn an_opening_is_shown() {
     pair.called.accept(pair.of, ALL_UNITS, 7, holders, b"a gateway").unwrap();
     let (number, user_data) = (Some(7), b"a gateway".to_vec());
     let sides = Sides { data: Side::Answerer, ..holders };
-    assert_eq!(pair.by_caller(), Indication::Connected { requirements, number, sides, user_data });
+    assert_eq!(pair.by_caller(), Indication::Connected { requirements, number, sides, sizes, user_data });
     assert_eq!(pair.called.held(pair.of), Tokens::DATA | Tokens::MINOR);
     assert_eq!(pair.caller.held(pair.of), Tokens::MAJOR | Tokens::RELEASE);
     assert_eq!(pair.caller.next_serial(pair.of), 7);
+}
+
+#[test]
+fn sizes_are_agreed() {
+    let sizes = Sizes { from_asker: 64, from_answerer: 200 };
+    let mut pair = Pair::asked(Classes::CLASS_0, &Opening { sizes, ..opening() });
+    assert!(matches!(pair.by_called(), Indication::Connect { sizes: named, .. } if named == sizes));
+    let few = Sizes { from_asker: 63, from_answerer: 0 };
+    let (of, units) = (pair.of, ALL_UNITS);
+    assert_eq!(pair.called.accept_sized(of, units, 1, ASKERS, few, b""), Err(Error::BadArgument));
+    let own = Sizes { from_asker: 0, from_answerer: 100 };
+    pair.called.accept_sized(of, units, 1, ASKERS, own, b"").unwrap();
+    let agreed = Sizes { from_asker: 64, from_answerer: 100 };
+    assert!(matches!(pair.by_caller(), Indication::Connected { sizes: named, .. } if named == agreed));
+    assert_eq!(pair.caller.abort(of, &[0; 60]), Err(Error::TooLong));
+    pair.caller.data(of, &[0; 61]).unwrap();
+    assert_eq!(pair.by_called(), Indication::Data { user_data: vec![0; 61] });
+    pair.called.abort(of, &[0; 60]).unwrap();
+    let asked = Opening { sizes: few, ..opening() };
+    assert_eq!(End::caller(Terms::default()).unwrap().connect(&asked), Err(Error::BadArgument));
 }
 
 #[test]

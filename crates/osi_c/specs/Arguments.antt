@@ -1,8 +1,11 @@
 -- What C passes, and what it says.
-use Rattle.std.specs.Prelude.{◌≡◌, ℕ, ◌≤◌, ◌||◌, List, length, Option, Some, None, IsSome, option_map, ◌==◌, nat_le, if◌then◌else◌}
+use Rattle.std.specs.Prelude.{◌≡◌, ℕ, ◌≤◌, ◌&&◌, ◌||◌, List, length, Option, Some, None, IsSome, option_map, ◌==◌, nat_le, if◌then◌else◌}
 use Rattle.osi_class.specs.declared.terms.Local.{Local}
 use Rattle.osi_tpdu.specs.Limits.{size_code, window_units, tsap_octets}
 use Rattle.osi_spdu.specs.Fields.{unit_bits}
+use Rattle.osi_spdu.specs.Sizes.{named_by}
+use Rattle.osi_spdu.specs.Values.{is_size}
+use Rattle.osi_spdu.specs.declared.fields.TsduMaximumSize.{TsduMaximumSize}
 use Rattle.osi_spdu.specs.declared.settings.Side.{Side}
 use Rattle.osi_spdu.specs.declared.settings.Side.TheVariants as side
 use Rattle.osi_spdu.specs.declared.settings.Wish.{Wish}
@@ -46,6 +49,10 @@ wishes_of s = do
 abbrev pub serial_of : ℕ → Option ℕ
 serial_of number = if nat_le number 999999 then Some number else None
 
+-- how many octets a TSDU of the asker and one of the answerer may have: 0 for no limit, or 64 and more
+abbrev pub sizes_of : (from_asker from_answerer : ℕ) → Option TsduMaximumSize
+sizes_of a b = if is_size a && is_size b then Some (record { from_asker = a; from_answerer = b }) else None
+
 -- an address of no octets is none
 abbrev pub given : List ℕ → Option (List ℕ)
 given octets = if length octets == 0 then None else Some octets
@@ -67,6 +74,7 @@ abbrev pub IsOpening : OsiOpening → Type 0
 IsOpening c =
     (c.serial ≤ 999999) × IsSome (wishes_of c.wishes)
     × (length c.calling_tsap.now ≤ 32) × (length c.called_tsap.now ≤ 32)
+    × IsSome (sizes_of c.size_from_asker c.size_from_answerer)
 
 abbrev pub SaysOpening : OsiOpening → Connect → Type 0
 SaysOpening c connect =
@@ -76,15 +84,21 @@ SaysOpening c connect =
     × (option_map tsap_octets connect.called_tsap ≡ given c.called_tsap.now)
     × (calling_octets connect ≡ given c.calling_selector.now)
     × (called_octets connect ≡ given c.called_selector.now)
+    × (Some (named_by connect.sizes) ≡ sizes_of c.size_from_asker c.size_from_answerer)
     × (connect.user_data.now ≡ c.user_data.now)
 
 -- ---- calls whose arguments may not be readable
 
-abbrev pub accept_of : ℕ → ℕ → OsiSides → List ℕ → Option Call
-accept_of requirements number codes octets = do
+abbrev pub accept_with : ℕ → ℕ → OsiSides → TsduMaximumSize → List ℕ → Option Call
+accept_with requirements number codes sizes octets = do
   serial ← serial_of number
   sides ← sides_of codes
-  Some (Accept requirements serial sides octets)
+  Some (Accept requirements serial sides sizes octets)
+
+abbrev pub accept_of : ℕ → ℕ → OsiSides → (from_asker from_answerer : ℕ) → List ℕ → Option Call
+accept_of requirements number codes from_asker from_answerer octets = do
+  sizes ← sizes_of from_asker from_answerer
+  accept_with requirements number codes sizes octets
 
 abbrev pub restart_of : ℕ → OsiSides → List ℕ → Option Call
 restart_of number codes octets = do

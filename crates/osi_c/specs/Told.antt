@@ -7,6 +7,7 @@ use Rattle.osi_spdu.specs.declared.settings.Side.{Side}
 use Rattle.osi_spdu.specs.declared.settings.Side.TheVariants as side
 use Rattle.osi_spdu.specs.declared.settings.Wish.{Wish}
 use Rattle.osi_spdu.specs.declared.settings.Wish.TheVariants as wish
+use Rattle.osi_spdu.specs.declared.fields.TsduMaximumSize.{TsduMaximumSize}
 use Rattle.osi_spdu.specs.declared.settings.TokenSetting.{TokenSetting}
 use Rattle.osi_session.specs.Shown.{Shown, Connect, Connected, RefusedByTransport, RefusedBySession, Data, Given, Asked, Minor, MinorConfirmed, Major, MajorConfirmed, Restart, Restarted, Release, Released, ReleaseRefused, Aborted, Lost, PeerAbort, BadUnit}
 use Rattle.osi_session.specs.declared.faults.UnitFault.{UnitFault}
@@ -90,16 +91,25 @@ plain r tag lent = record {
   sides = record { data_token = 0; minor = 0; major = 0; release = 0 };
   fault = of_unit 0 0;
   user_data = lent;
+  size_from_asker = 0;
+  size_from_answerer = 0;
 }
 
 -- what an opening says beside
-abbrev pub opened : ℕ → Option ℕ → OsiSides → OsiIndication → OsiIndication
-opened units serial sides i = record i { requirements = units; has_number = is_named serial; number = number_named serial; sides = sides }
+abbrev pub opened : ℕ → Option ℕ → OsiSides → TsduMaximumSize → OsiIndication → OsiIndication
+opened units serial sides sizes i = record i {
+  requirements = units;
+  has_number = is_named serial;
+  number = number_named serial;
+  sides = sides;
+  size_from_asker = sizes.from_asker;
+  size_from_answerer = sizes.from_answerer;
+}
 
 -- what C is told of what a user is shown, with the user data that is lent
 abbrev pub telling : ℕ → Shown → Bor (List ℕ) → OsiIndication
-telling r (Connect units serial wishes octets) lent = opened units serial (wishes_told wishes) (plain r 1 lent)
-telling r (Connected units serial sides octets) lent = opened units serial (sides_told sides) (plain r 2 lent)
+telling r (Connect units serial wishes sizes octets) lent = opened units serial (wishes_told wishes) sizes (plain r 1 lent)
+telling r (Connected units serial sides sizes octets) lent = opened units serial (sides_told sides) sizes (plain r 2 lent)
 telling r (RefusedByTransport reason) lent = record (plain r 3 lent) { reason = reason }
 telling r (RefusedBySession reason octets) lent = record (plain r 4 lent) { reason = reason }
 telling r (Data octets) lent = plain r 5 lent
@@ -121,8 +131,8 @@ telling r (BadUnit fault) lent = record (plain r 20 lent) { fault = fault_told f
 
 -- the user data; no octets where the tag has none
 abbrev pub data_shown : Shown → List ℕ
-data_shown (Connect _ _ _ octets) = octets
-data_shown (Connected _ _ _ octets) = octets
+data_shown (Connect _ _ _ _ octets) = octets
+data_shown (Connected _ _ _ _ octets) = octets
 data_shown (RefusedBySession _ octets) = octets
 data_shown (Data octets) = octets
 data_shown (Asked _ octets) = octets
@@ -151,8 +161,8 @@ Tells i (Some (r, shown)) = Says i r shown
 
 -- which indications tell of the opening of a connection
 abbrev pub is_opening : Shown → Bool
-is_opening (Connect _ _ _ _) = true
-is_opening (Connected _ _ _ _) = true
+is_opening (Connect _ _ _ _ _) = true
+is_opening (Connected _ _ _ _ _) = true
 is_opening (RefusedByTransport _) = true
 is_opening (RefusedBySession _ _) = true
 is_opening _ = false

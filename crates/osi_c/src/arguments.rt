@@ -1,13 +1,14 @@
 //! What C passes.
 
 ghost use Rattle.std.specs.Prelude.{◌≡◌, ◌≤◌, length, option_map, IfSome, IfNone};
+ghost use Rattle.osi_spdu.specs.Sizes.{named_by};
 ghost use Rattle.osi_tpdu.specs.Limits.{tsap_octets};
-ghost use Rattle.osi_c.specs.Arguments.{side_of, wish_of, sides_of, wishes_of, serial_of, given, IsTerms, SaysTerms, IsOpening, SaysOpening};
+ghost use Rattle.osi_c.specs.Arguments.{side_of, wish_of, sides_of, wishes_of, serial_of, sizes_of, given, IsTerms, SaysTerms, IsOpening, SaysOpening};
 
 use bitflags::Flags;
 use osi_class::Local;
 use osi_session::Sides;
-use osi_spdu::{Requirements, Serial, Side, TokenSetting, Wish};
+use osi_spdu::{Requirements, Serial, Side, TokenSetting, TsduSize, TsduSizes, Wish};
 use osi_stack::Connect;
 use osi_tpdu::{SizeCode, Tsap, Window};
 
@@ -34,7 +35,7 @@ pub struct OsiSides {
     pub release: u8,
 }
 
-/// A connection that is asked for. An address of no octets is none.
+/// A connection that is asked for. An address of no octets is none, and a size of 0 no limit.
 #[repr(C)]
 #[derive(Clone, Copy)]
 pub struct OsiOpening<'a> {
@@ -46,6 +47,8 @@ pub struct OsiOpening<'a> {
     pub calling_selector: &'a [u8],
     pub called_selector: &'a [u8],
     pub user_data: &'a [u8],
+    pub size_from_asker: u16,
+    pub size_from_answerer: u16,
 }
 
 fn side(code: u8) -> Option<Side>
@@ -100,6 +103,16 @@ pub(crate) fn serial(number: u32) -> Option<Serial>
     Serial::new(number)
 }
 
+/// How many octets a TSDU may have, of those that each side sends: 64 and more, or 0 for no limit.
+pub(crate) fn sizes(from_asker: u16, from_answerer: u16) -> Option<TsduSizes>
+    ensures { option_map named_by result ≡ sizes_of from_asker from_answerer }
+{
+    Some(TsduSizes {
+        from_asker: TsduSize::new(from_asker)?,
+        from_answerer: TsduSize::new(from_answerer)?,
+    })
+}
+
 /// The transport protocol of an end, where its numbers are within their ranges.
 pub(crate) fn terms(terms: &OsiTerms) -> Option<Local>
     ensures some { IfSome result (λ local. SaysTerms terms.now local) }
@@ -152,6 +165,7 @@ pub(crate) fn opening<'a>(opening: &OsiOpening<'a>) -> Option<Connect<'a>>
         called_tsap,
         calling_selector: address(opening.calling_selector),
         called_selector: address(opening.called_selector),
+        sizes: sizes(opening.size_from_asker, opening.size_from_answerer)?,
         user_data: opening.user_data,
     })
 }

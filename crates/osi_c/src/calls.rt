@@ -3,17 +3,18 @@
 ghost use Rattle.std.specs.Prelude.{◌≡◌, ◌==◌, not, option_map, Some, None};
 ghost use Rattle.osi_message.specs.Tokens.{named};
 ghost use Rattle.osi_session.specs.Calls.{called_by, Accept, Refuse, Data, Give, Please, Minor, MinorConfirm, Major, MajorConfirm, Restart, RestartConfirm, Release, ReleaseAccept, ReleaseRefuse, Abort};
-ghost use Rattle.osi_c.specs.Arguments.{accept_of, restart_of, restart_confirm_of};
+ghost use Rattle.osi_spdu.specs.Sizes.{named_by, no_sizes};
+ghost use Rattle.osi_c.specs.Arguments.{accept_of, accept_with, restart_of, restart_confirm_of};
 ghost use Rattle.osi_c.specs.Codes.{answer_of};
 ghost use Rattle.osi_c.specs.Ends.{Calls, CallsIf};
 
-use crate::arguments::{OsiSides, serial, sides, wishes};
+use crate::arguments::{OsiSides, serial, sides, sizes, wishes};
 use crate::codes::{BAD_ARGUMENT, CLOSED, OK, refusal};
 use crate::slots::OsiEnd;
 use bitflags::Flags;
 use osi_carrier::Ref;
 use osi_session::Request;
-use osi_spdu::{Requirements, TokenSet};
+use osi_spdu::{Requirements, TokenSet, TsduSizes};
 
 fn call(end: &mut OsiEnd, reference: u16, request: Request<'_>) -> u32
     ensures { Calls reference (called_by request.entry) (answer_of result) end.old.inner.value end.new.inner.value }
@@ -27,17 +28,16 @@ fn call(end: &mut OsiEnd, reference: u16, request: Request<'_>) -> u32
     }
 }
 
-/// Accepts the connection (AC).
-#[unsafe(no_mangle)]
-pub extern "C" fn osi_accept(
+fn accept(
     end: &mut OsiEnd,
     reference: u16,
     requirements: u16,
     number: u32,
     settled: &OsiSides,
+    sizes: TsduSizes,
     user_data: &[u8],
 ) -> u32
-    ensures { CallsIf reference (accept_of requirements number settled.now user_data.now) (answer_of result) end.old.inner.value end.new.inner.value }
+    ensures { CallsIf reference (accept_with requirements number settled.now (named_by sizes) user_data.now) (answer_of result) end.old.inner.value end.new.inner.value }
 {
     let Some(serial) = serial(number) else {
         return BAD_ARGUMENT;
@@ -50,9 +50,62 @@ pub extern "C" fn osi_accept(
         requirements,
         serial,
         sides,
+        sizes,
         user_data,
     };
     call(end, reference, request)
+}
+
+/// Accepts the connection (AC). This user has no limit of its own to how many octets a TSDU may have.
+#[unsafe(no_mangle)]
+pub extern "C" fn osi_accept(
+    end: &mut OsiEnd,
+    reference: u16,
+    requirements: u16,
+    number: u32,
+    settled: &OsiSides,
+    user_data: &[u8],
+) -> u32
+    ensures { CallsIf reference (accept_with requirements number settled.now no_sizes user_data.now) (answer_of result) end.old.inner.value end.new.inner.value }
+{
+    accept(
+        end,
+        reference,
+        requirements,
+        number,
+        settled,
+        TsduSizes::NONE,
+        user_data,
+    )
+}
+
+/// Accepts the connection (AC), with how many octets a TSDU may have, of those that each side sends: 64
+/// and more, or 0 where this user has no limit.
+#[unsafe(no_mangle)]
+pub extern "C" fn osi_accept_sized(
+    end: &mut OsiEnd,
+    reference: u16,
+    requirements: u16,
+    number: u32,
+    settled: &OsiSides,
+    from_asker: u16,
+    from_answerer: u16,
+    user_data: &[u8],
+) -> u32
+    ensures { CallsIf reference (accept_of requirements number settled.now from_asker from_answerer user_data.now) (answer_of result) end.old.inner.value end.new.inner.value }
+{
+    let Some(sizes) = sizes(from_asker, from_answerer) else {
+        return BAD_ARGUMENT;
+    };
+    accept(
+        end,
+        reference,
+        requirements,
+        number,
+        settled,
+        sizes,
+        user_data,
+    )
 }
 
 /// Refuses the connection (RF).

@@ -10,7 +10,7 @@ use crate::arguments::OsiSides;
 use bitflags::Flags;
 use osi_message::Octets;
 use osi_session::{AbortCause, Indication, Sides, UnitFault};
-use osi_spdu::{Requirements, Side, SpduFault, TokenSet, TokenSetting, Wish};
+use osi_spdu::{Requirements, Side, SpduFault, TokenSet, TokenSetting, TsduMaximumSize, Wish};
 
 /// Why a unit that came is bad: which fault, the SI of the unit; and where the octets are no session
 /// units the fault of their spelling, with the code of the parameter and the place of the octet.
@@ -40,6 +40,8 @@ pub struct OsiIndication<'a> {
     pub sides: OsiSides,
     pub fault: OsiFault,
     pub user_data: &'a [u8],
+    pub size_from_asker: u16,
+    pub size_from_answerer: u16,
 }
 
 fn side_code(side: Side) -> u8
@@ -155,6 +157,8 @@ fn plain(reference: u16, tag: u32, user_data: &[u8]) -> OsiIndication<'_>
         },
         fault: of_unit(0, 0),
         user_data,
+        size_from_asker: 0,
+        size_from_answerer: 0,
     }
 }
 
@@ -169,9 +173,10 @@ fn opening<'a>(
     requirements: Requirements,
     serial: Option<u32>,
     sides: OsiSides,
+    sizes: TsduMaximumSize,
     plain: OsiIndication<'a>,
 ) -> OsiIndication<'a>
-    ensures { result ≡ told.opened (unit_bits requirements) serial sides plain.entry }
+    ensures { result ≡ told.opened (unit_bits requirements) serial sides sizes plain.entry }
 {
     let (has_number, number) = match serial {
         None => (0, 0),
@@ -182,6 +187,8 @@ fn opening<'a>(
         has_number,
         number,
         sides,
+        size_from_asker: sizes.from_asker,
+        size_from_answerer: sizes.from_answerer,
         ..plain
     }
 }
@@ -211,19 +218,21 @@ fn tell_opening(reference: u16, indication: &Indication) -> OsiIndication<'_>
             requirements,
             serial,
             wishes,
+            sizes,
             user_data,
         } => {
             let plain = plain(reference, 1, user_data.as_slice());
-            opening(*requirements, *serial, wish_codes(*wishes), plain)
+            opening(*requirements, *serial, wish_codes(*wishes), *sizes, plain)
         }
         Indication::Connected {
             requirements,
             serial,
             sides,
+            sizes,
             user_data,
         } => {
             let plain = plain(reference, 2, user_data.as_slice());
-            opening(*requirements, *serial, side_codes(*sides), plain)
+            opening(*requirements, *serial, side_codes(*sides), *sizes, plain)
         }
         Indication::RefusedByTransport { reason } => OsiIndication {
             reason: *reason,

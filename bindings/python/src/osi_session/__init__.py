@@ -54,6 +54,7 @@ from ._values import (
     Restarted,
     Shown,
     Sides,
+    Sizes,
     Terms,
 )
 
@@ -96,6 +97,7 @@ __all__ = [
     "Shown",
     "Side",
     "Sides",
+    "Sizes",
     "Spelling",
     "Terms",
     "Tokens",

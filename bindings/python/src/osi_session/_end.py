@@ -5,11 +5,11 @@ import ctypes
 import threading
 import weakref
 from ctypes import byref, c_uint16, c_uint64
-from typing import Any, Callable, Iterator, NoReturn, Optional, Type, TypeVar
+from typing import Any, Callable, Iterator, NoReturn, Optional, Tuple, Type, TypeVar
 
 from ._codes import Code, Phase, Reason, SessionError, Tokens, Units
 from ._library import FedOfC, IndicationOfC, Octets, OpeningOfC, SidesOfC, Slot, TermsOfC, library
-from ._values import KINDS, Ending, Fed, Indication, Opening, Sides, Terms
+from ._values import KINDS, Ending, Fed, Indication, Opening, Sides, Sizes, Terms
 
 T = TypeVar("T", bound="End")
 
@@ -40,6 +40,10 @@ def _within(name: str, value: int, bits: int) -> int:
 
 def _sides(sides: Sides) -> SidesOfC:
     return SidesOfC(*(_within("side", s, 8) for s in (sides.data, sides.minor, sides.major, sides.release)))
+
+
+def _sizes(sizes: Sizes) -> Tuple[int, int]:
+    return _within("size", sizes.from_asker, 16), _within("size", sizes.from_answerer, 16)
 
 
 class End:
@@ -127,8 +131,8 @@ class End:
         """Asks for a connection, and gives its reference. The answer is an indication: ``Connected``, one
         of the two refusals, or why it is over.
 
-        BAD_ARGUMENT (the serial, a transport address of over 32 octets), CLOSED, NOT_CALLER, ENDED,
-        NEGOTIATING, ONE_CONNECTION, TOO_MANY, REFERENCES_USED_UP, NOT_SELECTED, TOO_LONG, NO_MEMORY."""
+        BAD_ARGUMENT (the serial, a size of 1 to 63, a transport address of over 32 octets), CLOSED,
+        NOT_CALLER, ENDED, NEGOTIATING, ONE_CONNECTION, TOO_MANY, REFERENCES_USED_UP, NOT_SELECTED, TOO_LONG, NO_MEMORY."""
         kept = [
             _octets(octets)
             for octets in (
@@ -144,6 +148,7 @@ class End:
             _within("serial", asked.serial, 32),
             _sides(asked.wishes),
             *map(_lent, kept),
+            *_sizes(asked.sizes),
         )
         made = c_uint16()
         with self._lock:
@@ -154,16 +159,24 @@ class End:
         return made.value
 
     def accept(
-        self, reference: int, requirements: Units, number: int = 0, sides: Sides = Sides(), user_data: bytes = b""
+        self,
+        reference: int,
+        requirements: Units,
+        number: int = 0,
+        sides: Sides = Sides(),
+        user_data: bytes = b"",
+        sizes: Sizes = Sizes(),
     ) -> None:
         """Answers ``Connect``. The units are some of those that were offered, half-duplex among them, or
         duplex alone; the number is that of the first point, 0 to 999,999; the sides hold the tokens whose
-        holder was this side's choice. BAD_ARGUMENT, BAD_STATE, NOT_SELECTED, TOO_LONG, and those of every
-        call: CLOSED, NO_SUCH_CONNECTION, ENDED, NO_MEMORY."""
+        holder was this side's choice; the sizes are this side's own: where the CN names one, the smaller is
+        agreed upon, and where it names 0, there is no limit. BAD_ARGUMENT, BAD_STATE, NOT_SELECTED,
+        TOO_LONG, and those of every call: CLOSED, NO_SUCH_CONNECTION, ENDED, NO_MEMORY."""
         data, passed = _octets(user_data), _sides(sides)
         units = _within("requirements", requirements, 16)
         first = _within("number", number, 32)
-        self._call(self._osi.osi_accept, reference, units, first, byref(passed), data, len(data))
+        both = _sizes(sizes)
+        self._call(self._osi.osi_accept_sized, reference, units, first, byref(passed), *both, data, len(data))
 
     def refuse(self, reference: int, user_data: bytes = b"") -> None:
         """Refuses what ``Connect`` asks for. BAD_STATE, TOO_LONG, and those of every call."""

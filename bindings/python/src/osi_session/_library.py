@@ -41,6 +41,8 @@ class OpeningOfC(ctypes.Structure):
         ("calling_selector", Octets),
         ("called_selector", Octets),
         ("user_data", Octets),
+        ("size_from_asker", c_uint16),
+        ("size_from_answerer", c_uint16),
     ]
 
 
@@ -67,6 +69,8 @@ class IndicationOfC(ctypes.Structure):
         ("sides", SidesOfC),
         ("fault", FaultOfC),
         ("user_data", Octets),
+        ("size_from_asker", c_uint16),
+        ("size_from_answerer", c_uint16),
     ]
 
 
@@ -93,6 +97,10 @@ FUNCTIONS = {
     "osi_free": ([], None),
     "osi_connect": ([POINTER(OpeningOfC), POINTER(c_uint16)], c_uint32),
     "osi_accept": ([c_uint16, c_uint16, c_uint32, POINTER(SidesOfC), *_DATA], c_uint32),
+    "osi_accept_sized": (
+        [c_uint16, c_uint16, c_uint32, POINTER(SidesOfC), c_uint16, c_uint16, *_DATA],
+        c_uint32,
+    ),
     "osi_refuse": ([c_uint16, *_DATA], c_uint32),
     "osi_data": ([c_uint16, *_DATA], c_uint32),
     "osi_give": ([c_uint16, c_uint8], c_uint32),

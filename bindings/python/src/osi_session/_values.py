@@ -30,6 +30,15 @@ class Sides:
 
 
 @dataclass(frozen=True)
+class Sizes:
+    """How many octets a TSDU may have, of those that each side sends: 64 to 65,535, or 0 for no limit
+    (X.225 section 8)."""
+
+    from_asker: int = 0
+    from_answerer: int = 0
+
+
+@dataclass(frozen=True)
 class Opening:
     """A connection that is asked for."""
 
@@ -46,6 +55,8 @@ class Opening:
     called_selector: bytes = b""
     user_data: bytes = b""
     """At most 10,240 octets."""
+    sizes: Sizes = Sizes()
+    """The sizes that are asked for."""
 
 
 @dataclass(frozen=True)
@@ -100,6 +111,8 @@ class Connect(Shown):
     """The number of the first point, 0 to 999,999, where the CN names one."""
     wishes: Sides
     user_data: bytes
+    sizes: Sizes = Sizes()
+    """As the CN names them."""
 
 
 @dataclass(frozen=True)
@@ -111,6 +124,8 @@ class Connected(Shown):
     """The number of the first point, 0 to 999,999, where the AC names one."""
     sides: Sides
     user_data: bytes
+    sizes: Sizes = Sizes()
+    """As the AC names them."""
 
 
 @dataclass(frozen=True)
@@ -289,6 +304,10 @@ def _sides(sides: SidesOfC) -> Sides:
     return Sides(Side(sides.data), Side(sides.minor), Side(sides.major), Side(sides.release))
 
 
+def _sizes(said: IndicationOfC) -> Sizes:
+    return Sizes(said.size_from_asker, said.size_from_answerer)
+
+
 def _number(said: IndicationOfC) -> Optional[int]:
     return said.number if said.has_number else None
 
@@ -300,8 +319,8 @@ def _fault(said: IndicationOfC) -> Fault:
 
 # By its tag, what an indication is made of: osi.h says which fields each has.
 KINDS: Dict[int, Callable[[IndicationOfC, bytes], Indication]] = {
-    1: lambda i, data: Connect(i.reference, Units(i.requirements), _number(i), _sides(i.sides), data),
-    2: lambda i, data: Connected(i.reference, Units(i.requirements), _number(i), _sides(i.sides), data),
+    1: lambda i, data: Connect(i.reference, Units(i.requirements), _number(i), _sides(i.sides), data, _sizes(i)),
+    2: lambda i, data: Connected(i.reference, Units(i.requirements), _number(i), _sides(i.sides), data, _sizes(i)),
     3: lambda i, data: RefusedByTransport(i.reference, i.reason),
     4: lambda i, data: RefusedBySession(i.reference, i.reason, data),
     5: lambda i, data: Data(i.reference, data),

@@ -69,10 +69,10 @@ fn structs_are_laid_out_as_in_c() {
         osi_terms: classes size window;
         osi_sides: data minor major release;
         osi_opening: requirements serial wishes calling_tsap called_tsap calling_selector called_selector
-            user_data;
+            user_data size_from_asker size_from_answerer;
         osi_fault: fault si spelling parameter offset;
         osi_indication: tag number reference requirements has_number confirm tokens reason sides fault
-            user_data;
+            user_data size_from_asker size_from_answerer;
         osi_fed: used waits;
     };
     assert_eq!(here, of_c);
@@ -159,6 +159,8 @@ fn shown(tag: u32) -> osi_indication {
         sides: none,
         fault: osi_fault { fault: 2, si: 0, spelling: 0, parameter: 0, offset: 0 },
         user_data: lend(&[]),
+        size_from_asker: 0,
+        size_from_answerer: 0,
     }
 }
 
