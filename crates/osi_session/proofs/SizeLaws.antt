@@ -1,11 +1,17 @@
--- What a CN and an AC agree on are sizes, and so are those that a user gives.
-use Rattle.std.proofs.Common.{◌≡◌, refl, ℕ, ◌==◌, Bool, true, false, nat_lt, if◌then◌else◌}
+-- What a CN and an AC agree on, and what it bounds.
+use Rattle.std.proofs.Common.{◌≡◌, refl, sym, subst, ℕ, ◌==◌, ◌<◌, ◌≤◌, Bool, true, false, ◌||◌, nat_lt, nat_le, length, Ok, arith, if◌then◌else◌}
 use Rattle.std.proofs.lemmas.Bool.{and_parts, and_from}
 use Rattle.osi_spdu.specs.declared.fields.TsduMaximumSize.{TsduMaximumSize}
 use Rattle.osi_spdu.specs.declared.sizes.TsduSizes.{TsduSizes}
 use Rattle.osi_spdu.specs.Sizes.{named_by, are_sizes}
 use Rattle.osi_spdu.specs.Values.{is_size}
-use Rattle.osi_session.specs.Sizes.{smaller, answered, smaller_sizes, answered_sizes}
+use Rattle.osi_message.specs.Meanings.{Meaning}
+use Rattle.osi_message.specs.Written.{written}
+use Rattle.osi_session.specs.declared.state.State.{State}
+use Rattle.osi_session.specs.Allowed.{Step, sends, allowed}
+use Rattle.osi_session.specs.Calls.{Call, Accept, Refuse, Data}
+use Rattle.osi_session.specs.Sizes.{smaller, answered, smaller_sizes, answered_sizes, limit_of, is_bounded, fits_limit}
+use Rattle.osi_session.proofs.Passed.{passed}
 
 either : (b : Bool) (m n : ℕ) → is_size m ≡ true → is_size n ≡ true → is_size (if b then m else n) ≡ true
 either true m n h k = h
@@ -36,3 +42,41 @@ answered_are a b h k =
 -- those that a user gives are sizes
 pub user_sizes : (s : TsduSizes) → are_sizes (named_by s) ≡ true
 user_sizes s = and_from _ _ s.from_asker.is_size s.from_answerer.is_size
+
+-- ---- what is agreed
+
+-- an AC names a size where the CN does
+pub answered_named : (a b : ℕ) → 0 < a → 0 < answered a b
+answered_named a b h = grind arith
+
+-- at most what the CN names
+pub answered_asked : (a b : ℕ) → answered a b ≤ a
+answered_asked a b = grind arith
+
+-- and at most what the answerer gives
+pub answered_given : (a b : ℕ) → 0 < b → answered a b ≤ b
+answered_given a b h = grind arith
+
+agreed : (a b : ℕ) → smaller a (answered a b) ≡ answered a b
+agreed a b = grind arith
+
+-- who takes the AC comes to what it names
+pub sizes_agreed : (a b : TsduMaximumSize) → smaller_sizes a (answered_sizes a b) ≡ answered_sizes a b
+unfolding smaller_sizes answered_sizes
+sizes_agreed a b = λ i. record { from_asker = agreed a.from_asker b.from_asker i; from_answerer = agreed a.from_answerer b.from_answerer i }
+
+-- ---- what it bounds
+
+under : (limit len : ℕ) → 0 < limit → ((limit == 0) || nat_le len limit) ≡ true → len ≤ limit
+under limit len h k = grind arith
+
+fits_under : (s : State) (c : Call) (m : Meaning) → is_bounded c ≡ true → fits_limit s c m ≡ true → 0 < limit_of s → length (written m) ≤ limit_of s
+fits_under s (Accept requirements serial sides sizes octets) m b f h = absurd (cc)
+fits_under s (Refuse octets) m b f h = absurd (cc)
+fits_under s (Data octets) m b f h = absurd (cc)
+fits_under s _ m b f h = under (limit_of s) (length (written m)) h f
+
+pub sent_under : (s : State) (c : Call) (x : Step) → allowed s c ≡ Ok x → is_bounded c ≡ true → 0 < limit_of s → length (written x.sent) ≤ limit_of s
+sent_under s c x e b h =
+    let q = passed s c x e in
+    subst (λ (y : Step). length (written y.sent) ≤ limit_of s) (sym q.gives) (fits_under s c (sends s c) b q.limit h)

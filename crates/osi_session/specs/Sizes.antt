@@ -1,5 +1,5 @@
 -- TSDU maximum sizes, in octets, 0 for no limit: what a CN and an AC agree on, and what it bounds.
-use Rattle.std.specs.Prelude.{ℕ, Bool, true, ◌||◌, if◌then◌else◌, ◌==◌, nat_le, length}
+use Rattle.std.specs.Prelude.{ℕ, Bool, true, false, ◌||◌, if◌then◌else◌, ◌==◌, nat_le, length}
 use Rattle.osi_spdu.specs.declared.fields.TsduMaximumSize.{TsduMaximumSize}
 use Rattle.osi_message.specs.Meanings.{Meaning}
 use Rattle.osi_message.specs.Written.{written}
@@ -28,6 +28,13 @@ abbrev pub limit_of : State → ℕ
 limit_of s = if is_settled s.phase then (if s.is_caller then s.sizes.from_asker else s.sizes.from_answerer) else 0
 
 -- data may be longer, and so may an answer to the CN
+abbrev pub is_bounded : Call → Bool
+is_bounded (Accept requirements serial sides sizes octets) = false
+is_bounded (Refuse octets) = false
+is_bounded (Data octets) = false
+is_bounded _ = true
+
+-- whether the TSDU of a call is within the limit
 abbrev pub fits_limit : State → Call → Meaning → Bool
 fits_limit s (Accept requirements serial sides sizes octets) m = true
 fits_limit s (Refuse octets) m = true

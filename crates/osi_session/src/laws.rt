@@ -7,6 +7,7 @@ ghost use Rattle.std.specs.Int.RustNames.{bit_and};
 ghost use Rattle.osi_session.specs.declared.faults.UnitFault.{UnitFault};
 ghost use Rattle.osi_spdu.specs.declared.faults.SpduFault.{SpduFault};
 ghost use Rattle.osi_spdu.specs.declared.fields.ResyncType.{ResyncType};
+ghost use Rattle.osi_spdu.specs.declared.fields.TsduMaximumSize.{TsduMaximumSize};
 ghost use Rattle.osi_spdu.specs.declared.settings.TokenSetting.{TokenSetting};
 ghost use Rattle.osi_spdu.specs.Known.{Units};
 ghost use Rattle.osi_session.specs.declared.opening.Opening.{Opening};
@@ -22,13 +23,14 @@ ghost use Rattle.osi_session.specs.Closing.{closes_alone, is_answer, awaits_clos
 ghost use Rattle.osi_session.specs.declared.phases.Phase.{Phase};
 ghost use Rattle.osi_session.specs.Phases.{is_wait_transport, is_wait_cn, is_aborting, is_over, is_ended, is_restarting, is_restart_due, may_abort, may_hold};
 ghost use Rattle.osi_message.specs.Reading.{Said, alone, behind, said_by_units, said_at};
-ghost use Rattle.osi_session.specs.Moves.{Input, is_opened, called, taken, unread, opened, refused, broken, came, rests, answered, moved, begun, denied, Standing, in_state, react, after_input, after_inputs};
+ghost use Rattle.osi_session.specs.Moves.{Input, is_opened, called, taken, unread, opened, refused, broken, came, rests, answered as call_move, moved, begun, denied, Standing, in_state, react, after_input, after_inputs};
 ghost use Rattle.osi_message.specs.Written.{written};
 ghost use Rattle.osi_session.specs.Respond.{nothing, bad, becomes, respond_unit, respond_all, respond, respond_fault, lost, stands, drops, verdict, enacted, fine, IsGood, has_no_effect, is_token_item, is_resynchronize, and_then};
 ghost use Rattle.osi_session.specs.Restarts.{HasAsked, AreCrossed, after_restart};
 ghost use Rattle.osi_session.specs.Runs.{HasNumbers, IsFresh};
 ghost use Rattle.osi_session.specs.Sessions.{awaiting, asking, Planned, IsPlanOf};
 ghost use Rattle.osi_session.specs.Shown.{MinorConfirmed};
+ghost use Rattle.osi_session.specs.Sizes.{answered, smaller_sizes, answered_sizes, limit_of, is_bounded};
 ghost use Rattle.osi_session.specs.Sound.{IsSound};
 ghost use Rattle.osi_message.specs.Tokens.{Token, has, is_disjoint, token_octet};
 ghost use Rattle.osi_session.specs.Openings.{asked_for};
@@ -47,7 +49,7 @@ pub fn what_is_sent_can_be_sent()
 /// none; the transport connection is there, or there is none, while it is awaited, and no other time;
 /// and it is lost.
 pub fn what_each_input_does()
-    ensures called { (s : Standing) (c : Call) → react s (called c) ≡ answered s (allowed s.state c) }
+    ensures called { (s : Standing) (c : Call) → react s (called c) ≡ call_move s (allowed s.state c) }
     ensures taken { (s : Standing) (said : Said) → react s (taken said) ≡ moved s (respond s.state said) }
     ensures unread { (s : Standing) (fault : SpduFault) → react s (unread fault) ≡ moved s (respond_fault s.state fault) }
     ensures opened { (s : Standing) → is_wait_transport s.state.phase ≡ true → react s opened ≡ begun s }
@@ -146,6 +148,19 @@ pub fn what_a_tsdu_shows()
 pub fn what_an_accepted_call_passed()
     ensures passed { (s : State) (c : Call) (x : Step) → allowed s c ≡ Ok x → Passed s c x }
     ensures accepted { (s : State) (c : Call) (x : Step) → Passed s c x → allowed s c ≡ Ok x }
+{}
+
+/// What a CN and an AC agree on, in one direction: an AC that is sent names a size where the CN does
+/// and 0 where it has 0, at most the CN's, and at most what the answerer gives where that is not 0. Who
+/// takes it comes to what it names, so that both sides go on with the same sizes. An accepted call but
+/// data, Accept and Refuse sends a TSDU within the size of its direction, if there is one.
+pub fn what_sizes_are_agreed()
+    ensures named { (a b : ℕ) → 0 < a → 0 < answered a b }
+    ensures asked { (a b : ℕ) → answered a b ≤ a }
+    ensures given { (a b : ℕ) → 0 < b → answered a b ≤ b }
+    ensures same { (asked given : TsduMaximumSize) → smaller_sizes asked (answered_sizes asked given) ≡ answered_sizes asked given }
+    ensures within { (s : State) (c : Call) (x : Step) → allowed s c ≡ Ok x → is_bounded c ≡ true → 0 < limit_of s →
+        length (written x.sent) ≤ limit_of s }
 {}
 
 /// The numbers in a call, and in the units of a TSDU, are those that a point may have, and the sizes
