@@ -4,6 +4,7 @@ pub mod Ending
 pub mod FitLaws
 pub mod Flows
 pub mod Giving
+pub mod MostLaws
 pub mod Moves
 pub mod Nothing
 pub mod Numbers
@@ -16,4 +17,5 @@ pub mod SendLaws
 pub mod Short
 pub mod SoundLaws
 pub mod TakeLaws
+pub mod Together
 pub mod Ways

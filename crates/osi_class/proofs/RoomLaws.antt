@@ -18,12 +18,12 @@ abbrev Counts : List Given → ℕ → ℕ → Type 0
 Counts units count octets = (length units ≡ count) × (octets_in units ≡ octets)
 
 -- a TSDU that is longer than a unit has one part more than what is left of it
-parts_cut : (limit octets : ℕ) → 0 < limit → limit < octets → parts_needed limit octets ≡ parts_needed limit (octets - limit) + 1
+pub parts_cut : (limit octets : ℕ) → 0 < limit → limit < octets → parts_needed limit octets ≡ parts_needed limit (octets - limit) + 1
 parts_cut limit octets room longer =
     let before : octets - 1 ≡ (octets - limit - 1) + limit = omega arith in
     ap (λ (n : ℕ). n / limit + 1) before ∙ ap (λ (n : ℕ). n + 1) (add-div_right (octets - limit - 1) room)
 
-one_part : (limit octets : ℕ) → 0 < limit → octets ≤ limit → parts_needed limit octets ≡ 1
+pub one_part : (limit octets : ℕ) → 0 < limit → octets ≤ limit → parts_needed limit octets ≡ 1
 one_part limit octets room short =
     let none : (octets - 1) / limit ≡ 0 = div-eq_of_lt (omega arith) in omega (arith, none)
 
@@ -69,7 +69,7 @@ two_flow a u c w x = record { sender = record { next = a; unacknowledged = u; cr
 abbrev two_with : ℕ → Joining → List ℕ → Flow → Standing
 two_with limit j t f = two_standing (record { limit = limit; unsent = t ∷ []; joining = j }) f
 
-more_credit : (c limit : ℕ) → 0 < c → c * limit ≡ limit + (c - 1) * limit
+pub more_credit : (c limit : ℕ) → 0 < c → c * limit ≡ limit + (c - 1) * limit
 more_credit zero limit some = absurd (omega arith)
 more_credit (suc c) limit some =
     let same : suc c - 1 ≡ c = omega arith in

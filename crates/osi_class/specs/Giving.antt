@@ -1,5 +1,7 @@
 -- All that a link gives, one unit after the other, until it gives none.
-use Rattle.std.specs.Prelude.{◌≡◌, ℕ, zero, suc, ◌+◌, ◌-◌, ◌/◌, ◌<◌, min, List, [], ◌∷◌, length, drop, Option, Some, None}
+use Rattle.std.specs.Prelude.{◌≡◌, ℕ, zero, suc, ◌+◌, ◌-◌, ◌*◌, ◌/◌, ◌<◌, min, List, [], ◌∷◌, ◌++◌, length, drop, Option, Some, None}
+use Rattle.std.specs.List.{sum_by}
+use Rattle.osi_class.specs.Ends.{Ends}
 use Rattle.osi_class.specs.Flow.{Flow}
 use Rattle.osi_class.specs.Link.{Standing, Given, part0, part2, ack, next, with_tsdu}
 
@@ -56,6 +58,31 @@ octets_in (unit ∷ units) = octets_of unit + octets_in units
 -- in how many parts a TSDU of so many octets is cut: an empty one is one part too
 abbrev pub parts_needed : ℕ → ℕ → ℕ
 parts_needed limit octets = (octets - 1) / limit + 1
+
+-- what TSDUs take in parts, with so many octets of headers for each part
+abbrev pub octets_in_parts : ℕ → ℕ → List (List ℕ) → ℕ
+octets_in_parts headers limit tsdus = sum_by (λ tsdu. length tsdu + parts_needed limit (length tsdu) * headers) tsdus
+
+-- the most that the units take which a link gives, with so many octets of headers for each: in class 2 no
+-- more than the Acks that wait and the parts for which there is credit
+abbrev pub most_by : ℕ → Ends → Option Flow → ℕ
+most_by headers e None = octets_in_parts headers e.limit e.unsent
+most_by headers e (Some f) =
+    f.receiver.waiting * headers + min (octets_in_parts headers e.limit e.unsent) (f.sender.credit * (e.limit + headers))
+
+abbrev pub most_given : ℕ → Standing → ℕ
+most_given headers s = most_by headers s.ends s.flow
+
+-- what is given for TSDUs that are put behind what is to be sent one after the other, each behind all that is
+-- given for the one before
+abbrev pub given_one_by_one : Standing → List (List ℕ) → List Given
+given_one_by_one s [] = []
+given_one_by_one s (tsdu ∷ tsdus) = all_given (with_tsdu s tsdu) ++ given_one_by_one (drained (with_tsdu s tsdu)).link tsdus
+
+-- and the link after that
+abbrev pub one_by_one : Standing → List (List ℕ) → Standing
+one_by_one s [] = s
+one_by_one s (tsdu ∷ tsdus) = one_by_one (drained (with_tsdu s tsdu)).link tsdus
 
 -- In class 0 data may go at any time; in class 2 where no Ack waits and there is credit.
 abbrev pub MayGo : Option Flow → Type 0

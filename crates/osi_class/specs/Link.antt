@@ -36,6 +36,10 @@ fresh_two unit_size window credit = record {
 abbrev pub with_tsdu : Standing → List ℕ → Standing
 with_tsdu s tsdu = record s { ends = record s.ends { unsent = s.ends.unsent ++ tsdu ∷ [] } }
 
+-- TSDUs are put there together, the first of them first
+abbrev pub with_tsdus : Standing → List (List ℕ) → Standing
+with_tsdus s tsdus = record s { ends = record s.ends { unsent = s.ends.unsent ++ tsdus } }
+
 -- a DT of class 0: EOT, octets; a DT of class 2: number, EOT, octets; an AK: number, credit
 pub data Given : Type 0 where
   part0 : Bool → List ℕ → Given

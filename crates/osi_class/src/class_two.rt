@@ -4,7 +4,7 @@ use crate::joining::Incoming;
 use crate::limits::Credit;
 use crate::links::Link;
 use crate::sending::Outgoing;
-use crate::sizes::{first_part, most_octets, room_within};
+use crate::sizes::{first_part, most_octets, room_for_parts, room_within};
 use crate::units::{Out, Room};
 use osi_tpdu::{SizeCode, Tpdu, Window};
 use std::alloc::{AllocError, Global};
@@ -69,6 +69,10 @@ impl Link for Class2 {
 
     fn send_tsdu(&mut self, tsdu: &[u8]) -> Result<(), AllocError> {
         self.outgoing.add(tsdu)
+    }
+
+    fn send_tsdus(&mut self, tsdus: &[Vec<u8>]) -> Result<(), AllocError> {
+        self.outgoing.add_all(tsdus)
     }
 
     fn send_owned(&mut self, tsdu: Vec<u8>) -> Result<(), AllocError> {
@@ -147,5 +151,13 @@ impl Link for Class2 {
 
     fn room_for(&self, tsdu: &[u8]) -> Room {
         room_within(self.limit, self.sending.credit(), tsdu.len())
+    }
+
+    fn room_for_all(&self, tsdus: &[Vec<u8>], headers: u8) -> Option<usize> {
+        let open = usize::from(self.sending.credit()) * (self.limit + usize::from(headers));
+        match room_for_parts(self.limit, headers, tsdus) {
+            None => Some(open),
+            Some(room) => Some(room.min(open)),
+        }
     }
 }

@@ -2,7 +2,7 @@ use crate::faults::LinkFault;
 use crate::joining::Incoming;
 use crate::links::Link;
 use crate::sending::Outgoing;
-use crate::sizes::{count_parts, first_part, most_octets};
+use crate::sizes::{count_parts, first_part, most_octets, room_for_parts};
 use crate::units::{Out, Room};
 use osi_tpdu::{SizeCode, Tpdu};
 use std::alloc::{AllocError, Global};
@@ -57,6 +57,10 @@ impl Link for Class0 {
         self.outgoing.add(tsdu)
     }
 
+    fn send_tsdus(&mut self, tsdus: &[Vec<u8>]) -> Result<(), AllocError> {
+        self.outgoing.add_all(tsdus)
+    }
+
     fn send_owned(&mut self, tsdu: Vec<u8>) -> Result<(), AllocError> {
         self.outgoing.add_owned(tsdu)
     }
@@ -107,5 +111,9 @@ impl Link for Class0 {
             units: count_parts(self.limit, octets),
             octets,
         }
+    }
+
+    fn room_for_all(&self, tsdus: &[Vec<u8>], headers: u8) -> Option<usize> {
+        room_for_parts(self.limit, headers, tsdus)
     }
 }

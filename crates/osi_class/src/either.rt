@@ -27,6 +27,13 @@ impl Link for AnyLink {
         }
     }
 
+    fn send_tsdus(&mut self, tsdus: &[Vec<u8>]) -> Result<(), AllocError> {
+        match self {
+            AnyLink::Zero(link) => link.send_tsdus(tsdus),
+            AnyLink::Two(link) => link.send_tsdus(tsdus),
+        }
+    }
+
     fn send_owned(&mut self, tsdu: Vec<u8>) -> Result<(), AllocError> {
         match self {
             AnyLink::Zero(link) => link.send_owned(tsdu),
@@ -85,6 +92,13 @@ impl Link for AnyLink {
         match self {
             AnyLink::Zero(link) => link.room_for(tsdu),
             AnyLink::Two(link) => link.room_for(tsdu),
+        }
+    }
+
+    fn room_for_all(&self, tsdus: &[Vec<u8>], headers: u8) -> Option<usize> {
+        match self {
+            AnyLink::Zero(link) => link.room_for_all(tsdus, headers),
+            AnyLink::Two(link) => link.room_for_all(tsdus, headers),
         }
     }
 }

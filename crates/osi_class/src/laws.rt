@@ -1,7 +1,7 @@
 //! Laws of the definitions that the contracts cite. Each function does nothing: its clauses are the
 //! laws.
 
-ghost use Rattle.std.specs.Prelude.{Bool, ◌≡◌, ◌+◌, ◌-◌, ◌%◌, ◌<◌, ◌≤◌, ◌++◌, ◌∷◌, ℕ, ◌↔◌, ◌⊎◌, List, [], map, Some, None, Ok, Option, is_some, length, true};
+ghost use Rattle.std.specs.Prelude.{Bool, ◌≡◌, ◌+◌, ◌-◌, ◌*◌, ◌%◌, ◌<◌, ◌≤◌, ◌++◌, ◌∷◌, ℕ, ◌↔◌, ◌⊎◌, List, [], map, Some, None, Ok, Option, is_some, length, true};
 ghost use Rattle.std.specs.List.{flat_map, AllByRecursion};
 ghost use Rattle.osi_class.specs.Between.{LinkPair, Turn, at_right, Turns, TurnsAlong, swapped, opposite, opened_pair, awaiting_pair, IsFresh, OnlySends, IsQuiet, TakesOldest, given_by, left_in, right_out, parts_under_way, IsShortTsdu, under_way, under_way_before, HasWholeTsdus};
 ghost use Rattle.osi_class.specs.Owed.{Direction, InStep, CreditStep, CreditSteps, StepsAlong, known_after, opened, owed, restored};
@@ -12,9 +12,9 @@ ghost use Rattle.osi_tpdu.specs.declared.limits.SizeCode.{SizeCode};
 ghost use Rattle.osi_class.specs.Ends.{Ends, unit_size, fresh_ends};
 ghost use Rattle.osi_class.specs.Flow.{Flow, fresh_sender, fresh_receiver, acknowledged, is_awaited, steps_before};
 ghost use Rattle.osi_class.specs.Joining.{joined, with_part};
-ghost use Rattle.osi_class.specs.Link.{Standing, Given, next, is_of_two, unit_of, given_in, zero_standing, two_standing, fresh_two};
-ghost use Rattle.osi_class.specs.Giving.{left_to_give, drained, octets_of, header_octets};
-ghost use Rattle.osi_class.specs.Runs.{Move, Moves, MovesAlong, give_out, tsdus_in, parts_out, parts_in, tsdus_out};
+ghost use Rattle.osi_class.specs.Link.{Standing, Given, next, is_of_two, unit_of, given_in, with_tsdus, zero_standing, two_standing, fresh_two};
+ghost use Rattle.osi_class.specs.Giving.{left_to_give, drained, all_given, octets_of, octets_in, header_octets, most_given, given_one_by_one, one_by_one};
+ghost use Rattle.osi_class.specs.Runs.{Move, Moves, MovesAlong, hand_in, give_out, tsdus_in, parts_out, parts_in, tsdus_out};
 ghost use Rattle.osi_class.specs.Sound.{IsSound, HasGivenInRange, TakesInRange};
 ghost use Rattle.osi_class.specs.Tsdus.{Part, MakeTheSame, tsdus, tsdus_after, uncut};
 
@@ -127,6 +127,22 @@ pub fn all_is_given()
     ensures limit { (s : Standing) → (drained s).link.ends.limit ≡ s.ends.limit }
     ensures joining { (s : Standing) → (drained s).link.ends.joining ≡ s.ends.joining }
     ensures class { (s : Standing) → is_some (drained s).link.flow ≡ is_some s.flow }
+{}
+
+/// TSDUs that are handed in together are put behind what is to be sent one after the other. A link that
+/// gave nothing before then gives what it gives for each of them by itself, where the next is handed in behind
+/// all that is given for the one before; and it is the same link after that.
+pub fn many_go_as_one_by_one()
+    ensures moves { (s : Standing) (tsdus : List (List ℕ)) → MovesAlong s (map hand_in tsdus) (with_tsdus s tsdus) }
+    ensures given { (s : Standing) (tsdus : List (List ℕ)) → 0 < s.ends.limit → next s ≡ None →
+        drained (with_tsdus s tsdus) ≡ record { units = given_one_by_one s tsdus; link = one_by_one s tsdus } }
+{}
+
+/// What a link gives until it gives none takes no more octets than `most_given`, with so many octets of
+/// headers for each unit: in class 2 only what there is credit for.
+pub fn what_units_take()
+    ensures { (headers : ℕ) (s : Standing) → 0 < s.ends.limit →
+        octets_in (all_given s) + length (all_given s) * headers ≤ most_given headers s }
 {}
 
 /// A link begins with the bounds of `IsSound` and keeps them in every call, for units whose numbers are

@@ -10,13 +10,13 @@ use std::alloc::AllocError;
 /// their order. What a link holds and each call does is stated on its `standing`, which both
 /// classes have; the laws over lists of calls are in [`crate::laws`].
 pub trait Link {
-    ghost use Rattle.std.specs.Prelude.{◌≡◌, ◌≤◌, ◌+◌, ◌*◌, [], None, length, IfSome, IfNone, IsOk, IsSome, OnOk, OnErr, option_map};
+    ghost use Rattle.std.specs.Prelude.{◌≡◌, ◌≤◌, ◌+◌, ◌*◌, ◌^◌, [], None, length, map, IfSome, IfNone, IsOk, IsSome, OnOk, OnErr, option_map};
     ghost use Rattle.std.specs.Borrow.{sem};
     ghost use Rattle.std.specs.Io.BufRead.{Rests};
     ghost use Rattle.osi_tpdu.specs.View.{value};
-    ghost use Rattle.osi_class.specs.Giving.{all_given, octets_in, GoesAtOnce, GivesPart};
+    ghost use Rattle.osi_class.specs.Giving.{all_given, octets_in, most_given, GoesAtOnce, GivesPart};
     ghost use Rattle.osi_class.specs.Limits.{longest_tsdu};
-    ghost use Rattle.osi_class.specs.Link.{Standing, with_tsdu, given, taken, needs_memory, next, Gives, Hands, FitsAUnit};
+    ghost use Rattle.osi_class.specs.Link.{Standing, with_tsdu, with_tsdus, given, taken, needs_memory, next, Gives, Hands, FitsAUnit};
     ghost use Rattle.osi_class.specs.Sound.{IsSound};
     ghost use Rattle.osi_class.specs.Taking.{TakesUnit};
 
@@ -26,6 +26,13 @@ pub trait Link {
     /// Where no memory is found, nothing has changed.
     fn send_tsdu(&mut self, tsdu: &[u8]) -> Result<(), AllocError>
         ensures ok { OnOk result (standing self.new ≡ with_tsdu (standing self.old) tsdu.now) }
+        ensures err { OnErr result (self.new ≡ self.old) }
+        ensures limit { (standing self.new).ends.limit ≡ (standing self.old).ends.limit };
+
+    /// Hands in TSDUs together, the first of them first, as [`Link::send_tsdu`] does with each: all of
+    /// them or none. Where no memory is found, nothing has changed.
+    fn send_tsdus(&mut self, tsdus: &[Vec<u8>]) -> Result<(), AllocError>
+        ensures ok { OnOk result (standing self.new ≡ with_tsdus (standing self.old) (map (λ v. v.items) tsdus.now)) }
         ensures err { OnErr result (self.new ≡ self.old) }
         ensures limit { (standing self.new).ends.limit ≡ (standing self.old).ends.limit };
 
@@ -94,4 +101,12 @@ pub trait Link {
         ensures octets { next (standing self.now) ≡ None → result.octets ≡ octets_in (all_given (with_tsdu (standing self.now) tsdu.now)) }
         ensures few_units { 123 * result.units ≤ length tsdu.now + 123 }
         ensures few_octets { result.octets ≤ length tsdu.now };
+
+    /// How many octets the units take at most that [`Link::next_out`] gives, up to none, once these TSDUs
+    /// are handed in together at a link that gives none now, with so many octets of headers for each unit
+    /// ([`crate::laws::what_units_take`]). `None` only where they are more than a `usize` counts.
+    fn room_for_all(&self, tsdus: &[Vec<u8>], headers: u8) -> Option<usize>
+        ensures value { IfSome result (λ room. next (standing self.now) ≡ None → room ≡ most_given headers (with_tsdus (standing self.now) (map (λ v. v.items) tsdus.now))) }
+        ensures none { IfNone result (next (standing self.now) ≡ None → 2 ^ 64 ≤ most_given headers (with_tsdus (standing self.now) (map (λ v. v.items) tsdus.now))) }
+        ensures at_least { 123 ≤ (standing self.now).ends.limit };
 }

@@ -1,4 +1,4 @@
-ghost use Rattle.std.specs.Prelude.{◌≡◌, ◌≢◌, ◌≤◌, ◌++◌, [], ◌∷◌, true, false, IfNone, IsOk, OnOk, OnErr, option_map};
+ghost use Rattle.std.specs.Prelude.{◌≡◌, ◌≢◌, ◌≤◌, ◌++◌, [], ◌∷◌, true, false, map, IfNone, IfOk, IsOk, OnOk, OnErr, option_map};
 ghost use Rattle.osi_class.specs.Tsdus.{give};
 
 use std::alloc::{AllocError, Global};
@@ -37,6 +37,18 @@ impl Model for Outgoing {
     ghost invariant = { λ o. (o.from ≤ o.to) × (o.to ≤ length o.current.items) };
 }
 
+/// Copies of TSDUs, in their order.
+fn copy_all(alloc: Global, tsdus: &[Vec<u8>]) -> Result<VecDeque<Vec<u8>>, AllocError>
+    ensures { IfOk result (λ copies. map (λ v. v.items) copies.items ≡ map (λ v. v.items) tsdus.now) }
+{
+    let mut copies = VecDeque::with_capacity(alloc, tsdus.len())?;
+    'tsdus: for tsdu in tsdus {
+        let octets = Vec::from_slice(alloc, tsdu)?;
+        copies.push_back(octets)?;
+    }
+    Ok(copies)
+}
+
 impl Outgoing {
     /// Nothing to be sent.
     pub fn new(alloc: Global) -> Self
@@ -73,6 +85,15 @@ impl Outgoing {
         let octets = Vec::from_slice(self.alloc, tsdu)?;
         self.queue.push_back(octets)?;
         Ok(())
+    }
+
+    /// Puts copies of TSDUs behind those that are to be sent: of all or of none.
+    pub fn add_all(&mut self, tsdus: &[Vec<u8>]) -> Result<(), AllocError>
+        ensures ok { OnOk result (self.new.unsent ≡ self.old.unsent ++ map (λ v. v.items) tsdus.now) }
+        ensures err { OnErr result (self.new ≡ self.old) }
+    {
+        let mut copies = copy_all(self.alloc, tsdus)?;
+        self.queue.append(&mut copies)
     }
 
     /// Puts a TSDU itself behind those that are to be sent: its octets stay where they are. Where there

@@ -1,7 +1,7 @@
-ghost use Rattle.std.specs.Prelude.{◌≡◌, ◌<◌, ◌≤◌, ◌+◌, ◌*◌, min, length, take, true, false};
+ghost use Rattle.std.specs.Prelude.{◌≡◌, ◌<◌, ◌≤◌, ◌+◌, ◌*◌, ◌^◌, min, length, take, map, true, false, IfSome, IfNone, SomeIff};
 ghost use Rattle.osi_tpdu.specs.Limits.{size_code};
 ghost use Rattle.osi_class.specs.Ends.{unit_size};
-ghost use Rattle.osi_class.specs.Giving.{parts_needed};
+ghost use Rattle.osi_class.specs.Giving.{parts_needed, octets_in_parts};
 
 use crate::units::Room;
 use osi_tpdu::SizeCode;
@@ -62,4 +62,30 @@ pub fn room_within(limit: usize, credit: u8, octets: usize) -> Room
         units: count_parts(limit, octets).min(credit),
         octets: octets.min(credit * limit),
     }
+}
+
+/// How many octets a TSDU of so many takes in parts of `limit` octets or fewer, with so many octets of
+/// headers for each part. `None` only where they are more than a `usize` counts.
+fn room_in_parts(limit: usize, headers: u8, octets: usize) -> Option<usize>
+    requires { 123 ≤ limit }
+    ensures { SomeIff result (octets + parts_needed limit octets * headers < 2 ^ 64) (octets + parts_needed limit octets * headers) }
+{
+    let parts = count_parts(limit, octets);
+    let behind = parts.checked_mul(usize::from(headers))?;
+    octets.checked_add(behind)
+}
+
+/// How many octets these TSDUs take together in such parts. `None` only where they are more than a `usize`
+/// counts.
+pub fn room_for_parts(limit: usize, headers: u8, tsdus: &[Vec<u8>]) -> Option<usize>
+    requires { 123 ≤ limit }
+    ensures value { IfSome result (λ room. room ≡ octets_in_parts headers limit (map (λ v. v.items) tsdus.now)) }
+    ensures none { IfNone result (2 ^ 64 ≤ octets_in_parts headers limit (map (λ v. v.items) tsdus.now)) }
+{
+    let mut room: usize = 0;
+    'tsdus: for tsdu in tsdus {
+        let more = room_in_parts(limit, headers, tsdu.len())?;
+        room = room.checked_add(more)?;
+    }
+    Some(room)
 }
