@@ -21,6 +21,7 @@ pub mod Meetings
 pub mod Coming
 pub mod InFront
 pub mod Parts
+pub mod SentAll
 pub mod Pieces
 pub mod ToldOpen
 pub mod Sendables
@@ -40,6 +41,7 @@ pub mod Linked
 pub mod PlainUnits
 pub mod Providing
 pub mod Betweens
+pub mod HandedIn
 pub mod Proposals
 pub mod Zeros
 pub mod ZeroLaws

@@ -1,13 +1,15 @@
 -- What the calls of a carrier's user answer and do.
 use Rattle.std.specs.Prelude.{◌≡◌, ℕ, ◌+◌, Bool, List, [], ◌∷◌, length, nat_le, nat_lt, Option, Some, None, is_some, not, if◌then◌else◌}
-use Rattle.std.specs.List.{sum_by}
+use Rattle.std.specs.List.{list_any, sum_by}
 use Rattle.osi_tpdu.specs.Value.{request, disconnect}
+use Rattle.osi_class.specs.Giving.{one_by_one}
 use Rattle.osi_class.specs.Link.{Standing, next, with_tsdu}
 use Rattle.osi_class.specs.declared.terms.Class.{Class}
 use Rattle.osi_class.specs.declared.terms.Class.TheVariants.{Zero, Two}
 use Rattle.osi_class.specs.declared.terms.Local.{Local}
 use Rattle.osi_carrier.specs.Happenings.{Happening}
 use Rattle.osi_carrier.specs.Negotiation.{proposal}
+use Rattle.osi_carrier.specs.Pump.{written_for}
 use Rattle.osi_carrier.specs.React.{pumps}
 use Rattle.osi_carrier.specs.Rows.{Rows, value_at}
 use Rattle.osi_carrier.specs.State.{Connection, asked, linked, closing, State, writes, joins, moves, ends}
@@ -82,6 +84,14 @@ abbrev pub send_error : List ℕ → Option (ℕ × Standing) → Option SendErr
 send_error tsdu None = Some NotOpen
 send_error tsdu (Some link) = length_error tsdu
 
+-- why TSDUs are not sent together
+abbrev pub lengths_error : List (List ℕ) → Option SendError
+lengths_error tsdus = if list_any (λ tsdu. nat_lt 1048576 (length tsdu)) tsdus then Some TooLong else None
+
+abbrev pub send_all_error : List (List ℕ) → Option (ℕ × Standing) → Option SendError
+send_all_error tsdus None = Some NotOpen
+send_all_error tsdus (Some link) = lengths_error tsdus
+
 -- why a connection is not closed
 abbrev pub close_error : Option (ℕ × Standing) → Option SendError
 close_error None = Some NotOpen
@@ -100,6 +110,15 @@ sent_on r tsdu (Some (peer, link)) s = pumps r peer (with_tsdu link tsdu) s
 
 abbrev pub sent : ℕ → List ℕ → State → State
 sent r tsdu s = sent_on r tsdu (open_link r s) s
+
+-- TSDUs that are sent together are as if each was sent by itself, one after the other
+abbrev pub sent_all : ℕ → List (List ℕ) → State → State
+sent_all r [] s = s
+sent_all r (tsdu ∷ tsdus) s = sent_all r tsdus (sent r tsdu s)
+
+-- what that does at an open connection
+abbrev pub pumps_all : ℕ → ℕ → Standing → List (List ℕ) → State → State
+pumps_all r peer link tsdus s = moves r (linked peer (one_by_one link tsdus)) (writes (written_for peer link tsdus) s)
 
 -- A TSDU that is handed in now waits at its link, and nothing else does: none of it may go now.
 pub record WaitsAlone (link : Standing) (tsdu : List ℕ) : Type 0 where

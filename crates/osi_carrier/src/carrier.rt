@@ -33,10 +33,10 @@ impl Model for Carrier {
 }
 
 impl Carrier {
-    ghost use Rattle.std.specs.Prelude.{◌≡◌, ◌≢◌, ◌+◌, ◌*◌, ◌≤◌, true, false, None, Err, [], length, drop, IfOk, IfErr, OnOk, OnErr, MatchResult, option_map, is_some};
+    ghost use Rattle.std.specs.Prelude.{◌≡◌, ◌≢◌, ◌+◌, ◌*◌, ◌≤◌, true, false, None, Err, [], length, map, drop, IfOk, IfErr, OnOk, OnErr, MatchResult, option_map, is_some};
     ghost use Rattle.osi_tpkt.specs.Held.{fresh};
     ghost use Rattle.osi_tpdu.specs.Limits.{tsap_octets};
-    ghost use Rattle.osi_carrier.specs.Calls.{fresh_state, may_connect, open_error, asks, open_link, close_error, send_error, call_error, closed_with, sent, ended_by, kept_in, Tells, WaitsOn};
+    ghost use Rattle.osi_carrier.specs.Calls.{fresh_state, may_connect, open_error, asks, open_link, close_error, send_error, send_all_error, call_error, closed_with, sent, sent_all, ended_by, kept_in, Tells, WaitsOn};
     ghost use Rattle.osi_carrier.specs.Rows.{value_at};
     ghost use Rattle.osi_carrier.specs.Happenings.{happening};
     ghost use Rattle.osi_carrier.specs.Packets.{Feeds};
@@ -107,6 +107,20 @@ impl Carrier {
         ensures kept { WaitsOn (open_link reference.0 self.old.state) tsdu.items → result ≢ Err SendError.OutOfMemory }
     {
         self.switch.send(reference.0, CowSlice::Owned(tsdu))
+    }
+
+    /// Sends TSDUs of at most 1,048,576 octets each together on an open connection, all or none: as
+    /// [`Carrier::send`] does with each, the first of them first. The errors are those of that, where one
+    /// TSDU that is too long counts for all; each changes nothing. An empty list sends none, and takes no
+    /// memory.
+    pub fn send_all(&mut self, reference: Ref, tsdus: &[Vec<u8>]) -> Result<(), SendError>
+        ensures ok { OnOk result (self.new ≡ record self.old { state = sent_all reference.0 (map (λ v. v.items) tsdus.now) self.old.state }) }
+        ensures allowed { OnOk result (send_all_error (map (λ v. v.items) tsdus.now) (open_link reference.0 self.old.state) ≡ None) }
+        ensures refused { IfErr result (λ e. call_error e ≡ send_all_error (map (λ v. v.items) tsdus.now) (open_link reference.0 self.old.state)) }
+        ensures err { OnErr result (self.new ≡ self.old) }
+        ensures nothing { tsdus.now ≡ [] → result ≢ Err SendError.OutOfMemory }
+    {
+        self.switch.send_all(reference.0, tsdus)
     }
 
     /// Closes an open connection, with this reason: in class 2 a DR is written, and the connection is

@@ -1,20 +1,20 @@
 //! The links of open connections: units that come for them, and units that they give.
 
-ghost use Rattle.std.specs.Prelude.{◌≡◌, ◌<◌, ◌≤◌, ◌++◌, [], None, true, false, nat_lt, take, length, IsOk, IfOk, OnOk, OnErr};
+ghost use Rattle.std.specs.Prelude.{◌≡◌, ◌<◌, ◌≤◌, ◌++◌, [], None, true, false, nat_lt, take, length, map, IsOk, IfOk, OnOk, OnErr};
 ghost use Rattle.std.specs.Cow.{cow_slice_items, IsOwnedSlice};
 ghost use Rattle.osi_tpdu.specs.View.{value};
 ghost use Rattle.osi_class.specs.AnyLink.{any_standing};
-ghost use Rattle.osi_class.specs.Giving.{all_given, octets_in};
+ghost use Rattle.osi_class.specs.Giving.{all_given, octets_in, one_by_one};
 ghost use Rattle.osi_class.specs.Link.{taken, next, with_tsdu};
 ghost use Rattle.osi_carrier.specs.Calls.{WaitsAlone};
-ghost use Rattle.osi_carrier.specs.Pump.{pumped, written_by};
+ghost use Rattle.osi_carrier.specs.Pump.{pumped, written_by, written_for};
 ghost use Rattle.osi_carrier.specs.React.{handed_out};
 ghost use Rattle.osi_carrier.specs.State.{packets};
 ghost use Rattle.osi_carrier.specs.Steps.{StepsTo, link_after, units_after, link_grows};
 
 use crate::writing::put_given;
 use bytes::BytesMut;
-use osi_class::laws::{all_is_given, giving_ends};
+use osi_class::laws::{all_is_given, giving_ends, many_go_as_one_by_one, what_units_take};
 use osi_class::{AnyLink, Link, LinkFault};
 use osi_tpdu::Tpdu;
 use std::alloc::{AllocError, Global};
@@ -185,6 +185,33 @@ fn send_parts(
         return Ok(());
     }
     keep(link, tsdu)?;
+    let Ok(()) = write_all(link, peer, out) else {
+        unreachable!()
+    };
+    Ok(())
+}
+
+/// Hands in TSDUs together at a link that gives nothing now, and writes all units that it gives then. Want of
+/// memory changes nothing: the room for the units is made first.
+pub fn send_all_on(
+    link: &mut AnyLink,
+    peer: u16,
+    tsdus: &[Vec<u8>],
+    out: &mut BytesMut,
+) -> Result<(), AllocError>
+    requires { next (any_standing link.old) ≡ None }
+    ensures link { OnOk result (any_standing link.new ≡ one_by_one (any_standing link.old) (map (λ v. v.items) tsdus.now)) }
+    ensures ok { OnOk result (out.new.items ≡ out.old.items ++ packets (written_for peer (any_standing link.old) (map (λ v. v.items) tsdus.now))) }
+    ensures pumped { OnOk result (next (any_standing link.new) ≡ None) }
+    ensures err { OnErr result ((any_standing link.new ≡ any_standing link.old) × (out.new.items ≡ out.old.items)) }
+{
+    many_go_as_one_by_one();
+    what_units_take();
+    let Some(room) = link.room_for_all(tsdus, MOST_HEADERS as u8) else {
+        return Err(AllocError);
+    };
+    out.reserve(room)?;
+    link.send_tsdus(tsdus)?;
     let Ok(()) = write_all(link, peer, out) else {
         unreachable!()
     };

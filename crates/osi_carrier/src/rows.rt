@@ -1,18 +1,19 @@
-ghost use Rattle.std.specs.Prelude.{◌≡◌, ◌*◌, ◌<◌, ◌≤◌, ◌∷◌, ◌++◌, ◌==◌, [], Some, true, length, is_some, IsOk, IfOk, IfSome, OnOk, OnErr};
+ghost use Rattle.std.specs.Prelude.{◌≡◌, ◌*◌, ◌<◌, ◌≤◌, ◌∷◌, ◌++◌, ◌==◌, [], Some, true, length, map, is_some, IsOk, IfOk, IfSome, OnOk, OnErr};
 ghost use Rattle.std.specs.Cow.{cow_slice_items, IsOwnedSlice};
 ghost use Rattle.osi_carrier.specs.Calls.{begun_by, kept_in, WaitsAlone};
 ghost use Rattle.osi_carrier.specs.Live.{connection, IsPumped};
 ghost use Rattle.osi_carrier.specs.Orderly.{RiseFrom};
-ghost use Rattle.osi_carrier.specs.Pump.{pumped, written_by};
+ghost use Rattle.osi_carrier.specs.Pump.{pumped, written_by, written_for};
 ghost use Rattle.osi_carrier.specs.React.{has_peer, is_of_peer};
 ghost use Rattle.osi_carrier.specs.Rows.{value_at, first_of, place_of, put, without};
 ghost use Rattle.osi_carrier.specs.Stages.{stage_of, link_in};
 ghost use Rattle.osi_carrier.specs.State.{Connection, linked, packets};
 ghost use Rattle.osi_carrier.specs.Steps.{StepsTo, link_after, units_after, link_grows};
+ghost use Rattle.osi_class.specs.Giving.{one_by_one};
 ghost use Rattle.osi_class.specs.Link.{taken, with_tsdu};
 ghost use Rattle.osi_tpdu.specs.View.{value};
 
-use crate::links::{Step, send_on, take_unit};
+use crate::links::{Step, send_all_on, send_on, take_unit};
 use crate::stages::Stage;
 use bytes::BytesMut;
 use osi_class::{AnyLink, Link};
@@ -142,6 +143,26 @@ impl Row {
         match &mut self.phase {
             Phase::Asked | Phase::Closing(_) => unreachable!(),
             Phase::Linked(_, link) => send_on(link, peer, tsdu, out),
+        }
+    }
+
+    /// Hands in TSDUs together at the link of the connection, which is open with this reference of the
+    /// peer, and writes what the link gives then. Want of memory changes nothing.
+    fn send_all(
+        &mut self,
+        peer: u16,
+        tsdus: &[Vec<u8>],
+        out: &mut BytesMut,
+    ) -> Result<(), AllocError>
+        requires { stage_of (Some self.old.1) ≡ Stage.Open peer }
+        ensures reference { self.new.0 ≡ self.old.0 }
+        ensures row { OnOk result (self.new ≡ (self.old.0, linked peer (one_by_one (link_in (Some self.old.1)) (map (λ v. v.items) tsdus.now)))) }
+        ensures ok { OnOk result (out.new.items ≡ out.old.items ++ packets (written_for peer (link_in (Some self.old.1)) (map (λ v. v.items) tsdus.now))) }
+        ensures err { OnErr result ((self.new ≡ self.old) × (out.new.items ≡ out.old.items)) }
+    {
+        match &mut self.phase {
+            Phase::Asked | Phase::Closing(_) => unreachable!(),
+            Phase::Linked(_, link) => send_all_on(link, peer, tsdus, out),
         }
     }
 
@@ -368,6 +389,25 @@ impl Connections {
         ensures kept { IsOwnedSlice tsdu.entry → WaitsAlone (link_in (value_at reference self.old)) (cow_slice_items tsdu.entry) → IsOk result }
     {
         self.rows[place].send(peer, tsdu, out)
+    }
+
+    /// Hands in TSDUs together at the link of the connection at this place, which is open with this
+    /// reference of the peer. Want of memory changes nothing.
+    pub fn send_all(
+        &mut self,
+        place: usize,
+        reference: u16,
+        peer: u16,
+        tsdus: &[Vec<u8>],
+        out: &mut BytesMut,
+    ) -> Result<(), AllocError>
+        requires place { place_of reference self.old ≡ Some place }
+        requires open { stage_of (value_at reference self.old) ≡ Stage.Open peer }
+        ensures rows { OnOk result (self.new ≡ put reference (linked peer (one_by_one (link_in (value_at reference self.old)) (map (λ v. v.items) tsdus.now))) self.old) }
+        ensures ok { OnOk result (out.new.items ≡ out.old.items ++ packets (written_for peer (link_in (value_at reference self.old)) (map (λ v. v.items) tsdus.now))) }
+        ensures err { OnErr result ((self.new ≡ self.old) × (out.new.items ≡ out.old.items)) }
+    {
+        self.rows[place].send_all(peer, tsdus, out)
     }
 
     /// Brings the connection at this place into another phase.

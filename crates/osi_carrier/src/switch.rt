@@ -13,6 +13,7 @@ mod linked;
 mod opening;
 mod packets;
 mod reacting;
+mod together;
 
 /// All of a carrier but the packet under way: what each unit and each call does.
 #[derive(Drop)]

@@ -1,7 +1,7 @@
 //! Laws of two carriers and the units between them. Each function does nothing: its clauses are the
 //! laws.
 
-ghost use Rattle.std.specs.Prelude.{◌≡◌, ◌<◌, ◌≤◌, ◌++◌, ◌+◌, ◌⊎◌, ℕ, Bool, true, false, not, List, [], ◌∷◌, Option, Some, None, length, take};
+ghost use Rattle.std.specs.Prelude.{◌≡◌, ◌<◌, ◌≤◌, ◌++◌, ◌+◌, ◌⊎◌, ℕ, Bool, true, false, not, List, [], ◌∷◌, Option, Some, None, length, map, take};
 ghost use Rattle.std.specs.List.{AllByRecursion};
 ghost use Rattle.osi_tpkt.specs.declared.cutting.Fed.{Fed};
 ghost use Rattle.osi_tpkt.specs.Octets.{IsOctets};
@@ -17,10 +17,10 @@ ghost use Rattle.osi_carrier.specs.declared.ends.EndReason.{EndReason};
 ghost use Rattle.osi_carrier.specs.declared.ends.EndReason.TheVariants.{Closed, NoMemory};
 ghost use Rattle.osi_tpkt.specs.Packet.{IsPacket, IsFaultOf, packet_of};
 ghost use Rattle.osi_tpkt.specs.declared.faults.TpktFault.{TpktFault};
-ghost use Rattle.osi_carrier.specs.Calls.{fresh_state, may_connect, asks, sent, closed_with};
+ghost use Rattle.osi_carrier.specs.Calls.{fresh_state, may_connect, asks, sent, sent_all, closed_with};
 ghost use Rattle.osi_carrier.specs.Carried.{tsdus_in, all_told, all_handed_in, AreFirstOf};
 ghost use Rattle.osi_carrier.specs.Coming.{IsSendable, AreComing, TakesSome};
-ghost use Rattle.osi_carrier.specs.Course.{place_at, answers_at, IsTsap};
+ghost use Rattle.osi_carrier.specs.Course.{place_at, progress_of, answers_at, IsTsap};
 ghost use Rattle.osi_carrier.specs.Joined.{AreJoined, CallerDid, CalledDid, IsEmpty, under_way_for};
 ghost use Rattle.osi_carrier.specs.Happenings.{Happening};
 ghost use Rattle.osi_carrier.specs.Journey.{Move, MayAll, StayBetween};
@@ -28,6 +28,7 @@ ghost use Rattle.osi_carrier.specs.Linked.{AreLinked, CalledFed, CallerFed, with
 ghost use Rattle.osi_carrier.specs.Meeting.{Meeting, mirror, here, there, out, back, Stands, IsAt, answers_of, Moves};
 ghost use Rattle.osi_carrier.specs.Messages.{Message, ask, message, bye};
 ghost use Rattle.osi_carrier.specs.Packets.{Carrying, Feeds, after_packet, Acts, Starves};
+ghost use Rattle.osi_carrier.specs.Progress.{in_use};
 ghost use Rattle.osi_carrier.specs.React.{react};
 ghost use Rattle.osi_carrier.specs.Rows.{value_at};
 ghost use Rattle.osi_carrier.specs.State.{Connection, asked, State, linked, packets, ends};
@@ -148,6 +149,10 @@ pub fn whatever_becomes_of_two_carriers()
         AreBetween terms both b → (side end both).state.ended ≡ None → value_at n (side end both).state.live ≡ Some (linked peer link) →
         IsShortTsdu tsdu → IsOctets tsdu →
         Acted terms end n both (becomes end (sent n tsdu (side end both).state) (side end both).held both) b [] (message tsdu ∷ []) }
+    ensures handed_in_all { (terms : Terms) (end : Bool) (both : Both) (b : Between) (n : ℕ) (tsdus : List (List ℕ)) → AreBetween terms both b →
+        (side end both).state.ended ≡ None → progress_of (place_at n (last_of end b)) ≡ in_use →
+        AllByRecursion IsShortTsdu tsdus → AllByRecursion IsOctets tsdus →
+        Acted terms end n both (becomes end (sent_all n tsdus (side end both).state) (side end both).held both) b [] (map message tsdus) }
     ensures closed { (end : Bool) (both : Both) (b : Between) (n peer : ℕ) (link : Standing) (reason : ℕ) → AreBetween by_two both b →
         (side end both).state.ended ≡ None → value_at n (side end both).state.live ≡ Some (linked peer link) → reason < 256 →
         Acted by_two end n both (becomes end (closed_with n reason (side end both).state) (side end both).held both) b [] (bye reason ∷ []) }

@@ -1,5 +1,6 @@
 use Rattle.osi_carrier.proofs.Betweens.{took, took_unit, sends, connects, closes, closes_ends, hands_over, tells, ends_at, breaks}
 use Rattle.osi_carrier.proofs.Emptied.{emptied}
+use Rattle.osi_carrier.proofs.HandedIn.{all_handed_in}
 use Rattle.osi_carrier.proofs.Terms.{begins, provides}
 use Rattle.osi_carrier.proofs.two_carriers.whatever_becomes_of_two_carriers.Goals as goal
 
@@ -14,6 +15,9 @@ returns-clause-asked c = λ terms. connects terms (provides terms)
 
 pub returns-clause-handed_in : goal.returns-clause-handed_in
 returns-clause-handed_in c = λ terms. sends terms (provides terms)
+
+pub returns-clause-handed_in_all : goal.returns-clause-handed_in_all
+returns-clause-handed_in_all c = λ terms. all_handed_in terms (sends terms (provides terms))
 
 pub returns-clause-closed : goal.returns-clause-closed
 returns-clause-closed c = closes

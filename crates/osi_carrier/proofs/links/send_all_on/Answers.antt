@@ -1,0 +1,22 @@
+use Rattle.std.proofs.Common.{◌<◌, ◌≤◌, length, map, sym, subst, arith}
+use Rattle.osi_class.specs.AnyLink.{any_standing}
+use Rattle.osi_class.specs.Giving.{all_given}
+use Rattle.osi_class.specs.Link.{Standing, with_tsdus}
+use Rattle.osi_carrier.specs.Pump.{written_by}
+use Rattle.osi_carrier.specs.State.{packets}
+use Rattle.osi_carrier.proofs.Pumping.{packets_most}
+use Rattle.osi_carrier.proofs.links.send_all_on.Goals as goal
+
+pub unreachable-requires : goal.unreachable-requires
+unreachable-requires c =
+    let then = with_tsdus (any_standing c.args.link.now) (map (λ v. v.items) c.args.tsdus.now) in
+    let least = c.room_for_all.ensures.at_least in
+    let limit : 0 < then.ends.limit = omega arith in
+    let most = c.what_units_take.ensures 9 then limit in
+    let room = c.in-Some.ensures.value c.requires in
+    let spare = c.in_ok-reserve.ensures.spare.1 in
+    let units = packets_most c.args.peer (all_given then) in
+    let fits : length (packets (written_by c.args.peer then)) ≤ c.reserve.new.self.spare = omega arith in
+    let never = c.in_default-write_all.ensures.enough
+    (subst (λ (s : Standing). length (packets (written_by c.args.peer s)) ≤ c.reserve.new.self.spare) (sym c.in_ok-send_tsdus.ensures.ok) fits) in
+    cc

@@ -1,0 +1,7 @@
+use Rattle.std.proofs.Common.{subst}
+use Rattle.osi_carrier.specs.Live.{connection, IsPumped}
+use Rattle.osi_carrier.specs.declared.rows.Phase.{Phase}
+use Rattle.osi_carrier.proofs.rows.Row.send_all.Goals as goal
+
+pub send_all_on-requires : goal.send_all_on-requires
+send_all_on-requires c = subst (λ (p : Phase). IsPumped (connection p)) c.in-Linked.is c.self.invariant
