@@ -2,7 +2,7 @@
 
 use bitflags::Flags;
 use osi_session::{Opening, Request, Session, Sides};
-use osi_spdu::{Requirements, Serial, Side, TokenSetting, Wish};
+use osi_spdu::{Requirements, Serial, Side, TokenSetting, TsduSizes, Wish};
 use std::alloc::Global;
 
 /// Half-duplex and minor synchronize.
@@ -65,6 +65,7 @@ fn open(caller: &mut Session, called: &mut Session, serial: Serial) -> Option<us
         requirements: Requirements::from_bits_retain(UNITS),
         serial,
         sides: SIDES,
+        sizes: TsduSizes::NONE,
         user_data: &[],
     };
     tell(called, accept, caller)
@@ -79,6 +80,7 @@ fn connected(alloc: Global) -> Option<Ends> {
         wishes: WISHES,
         calling_selector: None,
         called_selector: None,
+        sizes: TsduSizes::NONE,
         user_data: &[],
     };
     let mut caller = Session::caller(alloc, &opening).ok()?;

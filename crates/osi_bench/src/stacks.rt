@@ -6,7 +6,7 @@ use bitflags::Flags;
 use osi_carrier::Ref;
 use osi_class::Local;
 use osi_session::{Indication, Request, Sides};
-use osi_spdu::{Requirements, Serial, Side, TokenSetting, Wish};
+use osi_spdu::{Requirements, Serial, Side, TokenSetting, TsduSizes, Wish};
 use osi_stack::{Connect, Stack};
 use osi_tpdu::{SizeCode, Window};
 use std::alloc::Global;
@@ -121,6 +121,7 @@ fn asked<'a>(serial: Serial) -> Connect<'a> {
         called_tsap: None,
         calling_selector: None,
         called_selector: None,
+        sizes: TsduSizes::NONE,
         user_data: &[],
     }
 }
@@ -131,6 +132,7 @@ fn accepted<'a>(serial: Serial) -> Request<'a> {
         requirements: Requirements::from_bits_retain(UNITS),
         serial,
         sides: SIDES,
+        sizes: TsduSizes::NONE,
         user_data: &[],
     }
 }

@@ -6,7 +6,7 @@ use bitflags::Flags;
 use osi_carrier::Ref;
 use osi_class::Local;
 use osi_session::{Indication, Request, Sides};
-use osi_spdu::{Requirements, Serial, Side, TokenSetting, Wish};
+use osi_spdu::{Requirements, Serial, Side, TokenSetting, TsduSizes, Wish};
 use osi_stack::{Connect, Stack};
 use osi_tpdu::{SizeCode, Window};
 use std::io;
@@ -51,6 +51,7 @@ fn asked<'a>(serial: Serial) -> Connect<'a> {
         called_tsap: None,
         calling_selector: None,
         called_selector: None,
+        sizes: TsduSizes::NONE,
         user_data: b"who is there?",
     }
 }
@@ -66,6 +67,7 @@ fn accepted<'a>(serial: Serial) -> Request<'a> {
             major: Side::Asker,
             release: Side::Asker,
         },
+        sizes: TsduSizes::NONE,
         user_data: b"a gateway",
     }
 }
