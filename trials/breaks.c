@@ -1,4 +1,4 @@
-/* A break at each octet: six scripts, whose carries become single octets. Before each of these, and
+/* A break at each octet: seven scripts, the first also with sizes of TSDUs, whose carries become single octets. Before each of these, and
  * behind the last, the connection breaks with four pairs of octets that can still be carried; then
  * both sides are carried all that there is and told, in both orders, and told again. After each event
  * the promises on two ends are computed from the journal. In half of the runs the users go on: what
@@ -54,11 +54,14 @@ static void write_line(FILE *file, const struct event *e)
                      letters[e->sides.release], 0};
     static const char *const classes[] = {"-", "0", "2", "20"};
     const char *side = side_names[e->side];
+    char sizes[16] = "";
+    if (e->sizes[0] != 0 || e->sizes[1] != 0)
+        snprintf(sizes, sizeof sizes, " %u %u", e->sizes[0], e->sizes[1]);
     if (e->kind == ENDS)
         fprintf(file, "ends %s %s %u %u\n", classes[e->terms[0].classes], classes[e->terms[1].classes],
                 e->terms[0].size, e->terms[0].window);
     else if (e->kind == CONNECT)
-        fprintf(file, "connect %04x %u %s %s\n", e->units, e->number, sides, text.at);
+        fprintf(file, "connect %04x %u %s %s%s\n", e->units, e->number, sides, text.at, sizes);
     else if (e->kind == CARRY)
         fprintf(file, "carry %s %u\n", side, e->number);
     else if (e->kind == BREAK)
@@ -77,7 +80,7 @@ static void write_line(FILE *file, const struct event *e)
             fprintf(file, " %02x", e->tokens);
         if (e->verb == MINOR)
             fprintf(file, " %s", e->confirm ? "yes" : "no");
-        fprintf(file, e->verb == GIVE ? "\n" : " %s\n", text.at);
+        fprintf(file, e->verb == GIVE ? "\n" : " %s%s\n", text.at, sizes);
     }
 }
 
@@ -156,6 +159,19 @@ static void break_everywhere(const struct script *script)
     }
 }
 
+/* A script in this class, with this size in both directions. */
+static void break_in_class(const char *name, uint8_t class, uint16_t size)
+{
+    uint64_t before = runs;
+    struct script script = script_read(name);
+    script_terms(&script, class, 10, 4);
+    script_sizes(&script, size, size);
+    struct script octets = single(&script);
+    break_everywhere(&octets);
+    printf("breaks: %s in class %c, size %u: %llu runs\n", name, class == OSI_CLASS_0 ? '0' : '2', size,
+           (unsigned long long)(runs - before));
+}
+
 int main(int count, char **words)
 {
     static const char *const names[] = {
@@ -164,15 +180,10 @@ int main(int count, char **words)
         folder = words[2];
         each = strtoull(words[3], NULL, 10);
     }
-    for (size_t i = 0; i < 10; i++) {
-        uint64_t before = runs;
-        struct script script = script_read(names[i / 2]);
-        script_terms(&script, i % 2 == 0 ? OSI_CLASS_0 : OSI_CLASS_2, 10, 4);
-        struct script octets = single(&script);
-        break_everywhere(&octets);
-        printf("breaks: %s in class %c: %llu runs\n", names[i / 2], i % 2 == 0 ? '0' : '2',
-               (unsigned long long)(runs - before));
-    }
+    for (size_t i = 0; i < 10; i++)
+        break_in_class(names[i / 2], i % 2 == 0 ? OSI_CLASS_0 : OSI_CLASS_2, 0);
+    break_in_class(names[0], OSI_CLASS_0, 64);
+    break_in_class(names[0], OSI_CLASS_2, 64);
     static const char *const more[] = {"alternately", "duplex"};
     for (size_t i = 0; i < 2; i++) {
         uint64_t before = runs;

@@ -280,4 +280,6 @@ void text_shown(struct text *text, const osi_indication *i)
         text_data(text, "", i->user_data);
     else if (i->tag != OSI_REFUSED_BY_TRANSPORT && i->tag != OSI_GIVEN && i->tag < OSI_LOST)
         text_data(text, " data", i->user_data);
+    if (i->size_from_asker != 0 || i->size_from_answerer != 0)
+        text_put(text, " tsdu %u %u", i->size_from_asker, i->size_from_answerer);
 }

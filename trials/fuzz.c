@@ -228,7 +228,10 @@ static void connect_from(osi_end *end, osi_end *twin)
     asked.requirements = any(3) == 0 ? OSI_DUPLEX : (uint16_t)(1u | (0x00b8 & any(256)));
     asked.serial = any(3) == 0 ? 999998 : any(4);
     asked.wishes = (osi_sides){(uint8_t)any(3), (uint8_t)any(3), (uint8_t)any(3), (uint8_t)any(3)};
-    text_put(&history, "connect %04x %u\n", asked.requirements, asked.serial);
+    asked.size_from_asker = any(3) == 0 ? (uint16_t)(64 + any(64)) : 0;
+    asked.size_from_answerer = any(3) == 0 ? (uint16_t)(64 + any(64)) : 0;
+    text_put(&history, "connect %04x %u, sizes %u %u\n", asked.requirements, asked.serial, asked.size_from_asker,
+             asked.size_from_answerer);
     uint32_t code = osi_connect(end, &asked, &reference);
     if (twin != NULL)
         holds(code == osi_connect(twin, &asked, &reference), "the same connect answers otherwise");

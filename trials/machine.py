@@ -34,11 +34,25 @@ def settled(wishes, answer, units):
                    for w, a, token in zip(wishes, answer, (DATA, MINOR, MAJOR, RELEASE)))
 
 
+def smaller(a, b):
+    """The smaller of two sizes, of which 0 is no limit."""
+    return min(a, b) if a and b else a or b
+
+
+def sizes_behind(words):
+    """The sizes behind user data: from the asker, and from the answerer."""
+    return (int(words[0]), int(words[1])) if words else (0, 0)
+
+
+def sizes_text(sizes):
+    return " tsdu %d %d" % sizes if sizes != (0, 0) else ""
+
+
 class Side:
     """One side of one connection."""
 
-    def __init__(self, phase, caller):
-        self.phase, self.caller = phase, caller
+    def __init__(self, phase, caller, sizes=(0, 0)):
+        self.phase, self.caller, self.sizes = phase, caller, sizes
         self.units = self.owned = self.base = self.next = self.below = self.lowest = 0
         self.flag = False
         self.offer = self.asked = None
@@ -47,6 +61,11 @@ class Side:
     @property
     def held(self):
         return self.owned if self.phase in HOLDING else 0
+
+    @property
+    def limit(self):
+        """How many octets its TSDUs may have, once the CN is answered; 0 for no limit."""
+        return 0 if self.phase in ("Connecting", "WaitCn", "Answering") else self.sizes[0 if self.caller else 1]
 
     def begin(self, units, serial, sides, letter):
         self.units, self.phase = units, "Ready"
@@ -136,7 +155,30 @@ REFUSES = {
     "release": lambda s, w: releases(s),
     "releaseaccept": lambda s, w: in_phase(s, "ReleaseDue"),
     "releaserefuse": lambda s, w: in_phase(s, "ReleaseDue") or (None if s.units & RELEASE_UNIT else "NotSelected"),
+    "abort": lambda s, w: None,
 }
+
+
+def item(octets):
+    """A code, its length and so many octets; nothing where user data is empty."""
+    return octets + (4 if octets > 254 else 2)
+
+
+def written(side, verb, words):
+    """How many octets the TSDU of a call has."""
+    data = 0 if words[-1] == "-" or verb == "give" else len(words[-1]) // 2
+    number = {"minorconfirm": words[0], "restart": words[0], "majorconfirm": side.next - 1, "minor": side.next,
+              "major": side.next, "restartconfirm": side.next}.get(verb)
+    fixed = {"please": 3, "abort": 3, "major": 3, "restart": 6, "restartconfirm": 3}.get(verb, 0)
+    fixed += 3 if verb == "minor" and words[0] == "no" else 0
+    fixed += item(len(str(int(number)))) if number is not None else 0
+    alone = 5 if verb == "give" else item(fixed + (item(data) if data else 0))
+    return alone + (2 if number is not None else 0)
+
+
+def too_long(side, verb, words):
+    """Whether the TSDU of a call is above its size; what answers a CN, and data, may be."""
+    return verb not in ("accept", "refuse", "data") and 0 < side.limit < written(side, verb, words)
 
 
 def call(side, verb, words):
@@ -144,9 +186,10 @@ def call(side, verb, words):
     data = words[-1]
     if verb == "accept":
         units, wishes = bits(words[0]) & side.offer[0], side.offer[2]
-        sides = settled(wishes, words[2], units)
+        sides, own = settled(wishes, words[2], units), sizes_behind(words[4:])
         side.begin(units, int(words[1]), sides, "r")
-        return ("Connected", units, int(words[1]), sides, data)
+        side.sizes = tuple(smaller(a, b) if a else 0 for a, b in zip(side.offer[3], own))
+        return ("Connected", units, int(words[1]), sides, side.sizes, words[3])
     if verb == "give":
         side.owned &= ~bits(words[0])
         return ("Given", bits(words[0]))
@@ -172,9 +215,10 @@ def call(side, verb, words):
         sides = settled(wishes, words[0], side.units)
         side.owned, side.phase = tokens_of(sides, "r", side.units), "Ready"
         return ("Restarted", number, sides, data)
-    side.phase = {"release": "Releasing", "releaseaccept": "Ended", "releaserefuse": "Ready"}.get(verb, side.phase)
+    phases = {"release": "Releasing", "releaseaccept": "Ended", "releaserefuse": "Ready", "abort": "Aborting"}
+    side.phase = phases.get(verb, side.phase)
     names = {"data": "Data", "please": "Asked", "release": "Release", "releaseaccept": "Released",
-             "releaserefuse": "ReleaseRefused"}
+             "releaserefuse": "ReleaseRefused", "abort": "Aborted"}
     return (names[verb], bits(words[0]), data) if verb == "please" else (names[verb], data)
 
 
@@ -189,14 +233,16 @@ def taken(side, message):
     name, data = message[0], message[-1]
     if side.phase in OVER:
         return None
-    if side.phase == "Restarting" and name not in ("Restart", "Restarted"):
+    if side.phase == "Restarting" and name not in ("Restart", "Restarted", "Aborted"):
         return None
-    if name == "Connect":
-        side.phase, side.offer, side.known = "Answering", message[1:4], True
-        return f"Connect units {message[1]:04x} serial {serial_of(message)} sides {message[3]} data {data}"
-    if name == "Connected":
-        side.begin(message[1], message[2], message[3], "a")
-        return f"Connected units {message[1]:04x} serial {serial_of(message)} sides {message[3]} data {data}"
+    if name in ("Connect", "Connected"):
+        if name == "Connect":
+            side.phase, side.offer, side.known = "Answering", message[1:5], True
+        else:
+            side.begin(message[1], message[2], message[3], "a")
+            side.sizes = tuple(smaller(a, b) for a, b in zip(side.sizes, message[4]))
+        serial = serial_of(message)
+        return f"{name} units {message[1]:04x} serial {serial} sides {message[3]} data {data}{sizes_text(message[4])}"
     if name == "Given":
         side.owned |= message[1]
         return f"Given {message[1]:02x}"
@@ -226,7 +272,8 @@ def taken(side, message):
     if name == "Restarted":
         side.owned, side.phase = tokens_of(message[2], "a", side.units), "Ready"
         return f"Restarted {message[1]} sides {message[2]} data {data}"
-    side.phase = {"Release": "ReleaseDue", "Released": "Ended", "ReleaseRefused": "Ready"}.get(name, side.phase)
+    phases = {"Release": "ReleaseDue", "Released": "Ended", "ReleaseRefused": "Ready", "Aborted": "Ended"}
+    side.phase = phases.get(name, side.phase)
     return f"Data {data}" if name == "Data" else f"{name} data {data}"
 
 
@@ -245,8 +292,9 @@ class Machine:
             wrong_units = units != DUPLEX and (units & ~0xB9 or not units & HALF)
             return None if line.split()[-1] in (("NotSelected",) if wrong_units else refused) else f"{line}: may connect"
         reference = line.split()[-1]
-        self.sides[reference] = {"left": Side("Connecting", True), "right": Side("WaitCn", False)}
-        self.under_way[reference, "left"] = [("Connect", bits(words[1]), int(words[2]), words[3], words[4])]
+        sizes = sizes_behind(words[5:])
+        self.sides[reference] = {"left": Side("Connecting", True, sizes), "right": Side("WaitCn", False)}
+        self.under_way[reference, "left"] = [("Connect", bits(words[1]), int(words[2]), words[3], sizes, words[4])]
         self.under_way[reference, "right"] = []
         return None
 
@@ -257,6 +305,7 @@ class Machine:
             unknown = ("NoSuchConnection", "BadState", "Ended")
             return None if line.split()[-1] in unknown else f"{line}: the side knows no connection"
         wanted = "Ended" if side.phase in OVER or name in self.told else REFUSES[verb](side, words[3:])
+        wanted = wanted or ("TooLong" if too_long(side, verb, words[3:]) else None)
         text = f"{name} {reference} {verb} " + ("ok" if wanted is None else f"refused {wanted}")
         if line != text:
             return f"{line}: {text}"

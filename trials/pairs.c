@@ -88,7 +88,8 @@ uint32_t end_call(osi_end *end, const struct event *e)
     uint16_t r = e->reference;
     switch (e->verb) {
     case ACCEPT:
-        return osi_accept(end, r, e->units, e->number, &e->sides, e->data, e->length);
+        return osi_accept_sized(end, r, e->units, e->number, &e->sides, e->sizes[0], e->sizes[1], e->data,
+                                e->length);
     case REFUSE:
         return osi_refuse(end, r, e->data, e->length);
     case DATA:
@@ -171,6 +172,8 @@ static enum outcome apply_connect(struct pair *pair, const struct event *e)
     asked.user_data = (osi_octets){e->data, e->length};
     asked.calling_tsap = (osi_octets){e->addresses[0], e->address_lengths[0]};
     asked.called_tsap = (osi_octets){e->addresses[1], e->address_lengths[1]};
+    asked.size_from_asker = e->sizes[0];
+    asked.size_from_answerer = e->sizes[1];
     memory_in();
     uint32_t code = osi_connect(&pair->ends[LEFT], &asked, &reference);
     uint64_t growths = memory_out();

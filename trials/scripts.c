@@ -70,7 +70,15 @@ static uint32_t number_of(const char *word)
     return (uint32_t)strtoul(word, NULL, 10);
 }
 
-/* The words of a call behind its verb; the last of them is the user data, but of a give. */
+/* The sizes behind user data, where they are there. */
+static void sizes_of(struct event *event, char **words)
+{
+    for (size_t i = 0; i < 2; i++)
+        event->sizes[i] = (uint16_t)number_of(words[i]);
+}
+
+/* The words of a call behind its verb; the last of them is the user data, but of a give, and of an
+ * accept with sizes behind it. */
 static struct event call_of(const char *name, char **words, size_t count)
 {
     struct event event = event_of(CALL, side_of(words[0]), 0, 0);
@@ -81,6 +89,8 @@ static struct event call_of(const char *name, char **words, size_t count)
     if (verb > ABORT || count < 4)
         bad(name, words[2]);
     event.verb = (enum verb)verb;
+    if (event.verb == ACCEPT && count == 9)
+        sizes_of(&event, words + (count -= 2));
     if (event.verb == ACCEPT)
         event.units = (uint16_t)strtoul(words[3], NULL, 16);
     if (event.verb == ACCEPT || event.verb == RESTART || event.verb == MINOR_CONFIRM)
@@ -101,8 +111,10 @@ static struct event connect_of(char **words, size_t count)
     event.units = (uint16_t)strtoul(words[1], NULL, 16);
     event.sides = sides_of(words[3]);
     event.data = octets_of(words[4], &event.length);
+    if (count >= 7)
+        sizes_of(&event, words + 5);
     for (size_t i = 0; i < 2; i++)
-        event.addresses[i] = octets_of(count == 7 ? words[5 + i] : "-", &event.address_lengths[i]);
+        event.addresses[i] = octets_of(count == 9 ? words[7 + i] : "-", &event.address_lengths[i]);
     return event;
 }
 
@@ -207,4 +219,15 @@ void script_terms(struct script *script, uint8_t classes, uint8_t size, uint8_t 
 {
     for (size_t side = 0; side < 2; side++)
         script->events[0].terms[side] = (osi_terms){classes, size, window};
+}
+
+void script_sizes(struct script *script, uint16_t from_asker, uint16_t from_answerer)
+{
+    for (size_t i = 0; i < script->count; i++) {
+        struct event *event = &script->events[i];
+        if (event->kind == CONNECT || (event->kind == CALL && event->verb == ACCEPT)) {
+            event->sizes[0] = from_asker;
+            event->sizes[1] = from_answerer;
+        }
+    }
 }

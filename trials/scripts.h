@@ -5,7 +5,7 @@
  *   shows LINE        the last line of the transcript
  *   holds SIDE REF TT the tokens that this side holds
  * `ends` also takes `-` for an end with no class and a sixth word, the window of the right end, and
- * `connect` two more, the transport addresses of the caller and of the called side. */
+ * `connect` two more behind the sizes, the transport addresses of the caller and of the called side. */
 #ifndef TRIALS_SCRIPTS_H
 #define TRIALS_SCRIPTS_H
 
@@ -30,6 +30,7 @@ struct event {
     uint32_t number;    /* serial number, or the octets to carry, or those that the left side keeps */
     uint32_t other;     /* those that the right side keeps */
     osi_sides sides;
+    uint16_t sizes[2]; /* octets of a TSDU of the asker and of the answerer; 0: no limit */
     uint8_t tokens;
     uint8_t confirm;
     osi_terms terms[2];
@@ -53,6 +54,9 @@ extern const char *const side_names[];
 struct script script_read(const char *name);
 /* The same with other ends: classes (OSI_CLASS_0, OSI_CLASS_2) of both sides, size and window. */
 void script_terms(struct script *script, uint8_t classes, uint8_t size, uint8_t window);
+/* The same with these sizes of TSDUs in each connect and accept: octets of the asker's and of the
+ * answerer's. */
+void script_sizes(struct script *script, uint16_t from_asker, uint16_t from_answerer);
 /* Adds an event, whose octets stay those of the script that it comes from. */
 void script_add(struct script *script, struct event event);
 /* An event without octets. */
