@@ -4,6 +4,7 @@ PACKET, DATA_UNIT, ACKNOWLEDGED = 4, {"0": 3, "2": 5}, 9
 CLOSING, CLOSED, CONFIRMED = 11, 10, {"0": 14, "2": 17}
 POINTS = 0x08 | 0x10 | 0x20
 SMALLEST_LIMIT = 123
+SIZES = ("asker", "answerer")
 
 
 def coded(octets):
@@ -21,11 +22,16 @@ def serial_length(number):
     return coded(len(str(int(number))))
 
 
+def sizes_length(fields):
+    """The parameter with the sizes of TSDUs, which is not written where both are 0."""
+    return coded(4) if any(int(fields.get(size) or 0) for size in SIZES) else 0
+
+
 def opening(fields, data):
     """CN or AC."""
     serial = fields.get("serial")
     has_serial = serial != "-" and bool(int(fields["units"], 16) & POINTS)
-    group = 3 + 3 + (serial_length(serial) if has_serial else 0) + 3
+    group = 3 + sizes_length(fields) + 3 + (serial_length(serial) if has_serial else 0) + 3
     return coded(coded(group) + 4 + optional(data))
 
 

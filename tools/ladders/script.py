@@ -3,6 +3,7 @@ import os
 import re
 import subprocess
 
+from .lengths import SIZES
 from .transcript import BadInput, CALLS
 
 TOP = os.path.dirname(os.path.dirname(os.path.dirname(os.path.abspath(__file__))))
@@ -16,7 +17,8 @@ ENDS = re.compile(r"ends (0|2|20) (0|2|20) 0*([7-9]|1[0-3]) 0*([1-9]|1[0-5])")
 FIELDS = {"units": re.compile(r"[0-9a-fA-F]{4}"), "serial": re.compile(r"[0-9]{1,40}"),
           "sides": re.compile(r"[arc]{4}"), "data": re.compile(r"-|([0-9a-fA-F]{2})+"),
           "tokens": re.compile(r"[0-9a-fA-F]{2}"), "confirm": re.compile(r"yes|no"),
-          "number": re.compile(r"[0-9]{1,40}")}
+          "number": re.compile(r"[0-9]{1,40}"), "asker": re.compile(r"[0-9]{1,40}"),
+          "answerer": re.compile(r"[0-9]{1,40}")}
 
 
 class Script:
@@ -54,6 +56,8 @@ def event_of(words):
     if name != "connect" and name not in CALLS:
         return name, {}
     keys = WORDS_OF.get(name, ("data",))
+    if name in ("connect", "accept") and len(rest) == len(keys) + len(SIZES):
+        keys += SIZES
     fits = len(keys) == len(rest) and all(FIELDS[key].fullmatch(word) for key, word in zip(keys, rest))
     return name, {key: word.lower() for key, word in zip(keys, rest)} if fits else {}
 

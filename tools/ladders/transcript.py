@@ -14,7 +14,7 @@ DATA = r"(?P<data>-|(?:[0-9a-f]{2})+)"
 NUMBER = r"(?P<number>\d+)"
 SHOWN = [re.compile(text) for text in (
     r"(?P<name>Connect|Connected) units (?P<units>[0-9a-f]{4}) serial (?P<serial>-|\d+) "
-    r"sides (?P<sides>[arc]{4}) data " + DATA,
+    r"sides (?P<sides>[arc]{4}) data " + DATA + r"(?: tsdu (?P<asker>\d+) (?P<answerer>\d+))?",
     r"(?P<name>Refused) transport (?P<reason>\d+)",
     r"(?P<name>Refused) session (?P<cause>\d+) data " + DATA,
     r"(?P<name>Data) " + DATA,

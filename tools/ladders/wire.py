@@ -123,6 +123,9 @@ class Wire:
         fields = dict(self.asked.get(line.index, {}))
         if line.name == "accept":
             fields.update(self.opening.get(("Connected", line.connection), {}))
+            # An AC names a size where the CN does, and no other.
+            asked = self.opening.get(("Connect", line.connection), {})
+            fields.update({size: asked.get(size) for size in lengths.SIZES})
         self.number(line.name, key, fields)
         self.messages[line.index] = self.send(line.side, line.connection, line.name, line.index, fields)
         if line.name == "restart":
