@@ -33,7 +33,7 @@ impl Model for Carrier {
 }
 
 impl Carrier {
-    ghost use Rattle.std.specs.Prelude.{◌≡◌, ◌≢◌, ◌+◌, ◌*◌, ◌≤◌, true, false, None, Err, [], length, map, drop, IfOk, IfErr, OnOk, OnErr, MatchResult, option_map, is_some};
+    ghost use Rattle.std.specs.Prelude.{◌≡◌, ◌≢◌, ◌+◌, ◌*◌, ◌≤◌, true, false, None, Some, Err, [], length, map, drop, IfOk, IfErr, OnOk, OnErr, MatchResult, option_map, is_some};
     ghost use Rattle.osi_tpkt.specs.Held.{fresh};
     ghost use Rattle.osi_tpdu.specs.Limits.{tsap_octets};
     ghost use Rattle.osi_carrier.specs.Calls.{fresh_state, may_connect, open_error, asks, open_link, close_error, send_error, send_all_error, call_error, closed_with, sent, sent_all, ended_by, kept_in, Tells, WaitsOn};
@@ -41,6 +41,7 @@ impl Carrier {
     ghost use Rattle.osi_carrier.specs.Happenings.{happening};
     ghost use Rattle.osi_carrier.specs.Packets.{Feeds};
     ghost use Rattle.osi_carrier.specs.declared.ends.EndReason.TheVariants.{Broken, NoMemory};
+    ghost use Rattle.osi_class.specs.declared.terms.Class.TheVariants.{Zero};
 
     /// The calling end of a byte connection. Nothing is written yet.
     pub fn caller(alloc: Global, local: Local) -> Self
@@ -124,13 +125,14 @@ impl Carrier {
     }
 
     /// Closes an open connection, with this reason: in class 2 a DR is written, and the connection is
-    /// closing until the peer answers; in class 0 the carrier ends with [`EndReason::Closed`], and
-    /// what is still to be carried stays.
+    /// closing until the peer answers; in class 0 the carrier ends with [`EndReason::Closed`], for which
+    /// no memory is needed, and what is still to be carried stays.
     pub fn close(&mut self, reference: Ref, reason: u8) -> Result<(), SendError>
         ensures ok { OnOk result (self.new ≡ record self.old { state = closed_with reference.0 reason self.old.state }) }
         ensures allowed { OnOk result (close_error (open_link reference.0 self.old.state) ≡ None) }
         ensures refused { IfErr result (λ e. call_error e ≡ close_error (open_link reference.0 self.old.state)) }
         ensures err { OnErr result (self.new ≡ self.old) }
+        ensures zero { self.old.state.class ≡ Some Zero → result ≢ Err SendError.OutOfMemory }
     {
         self.switch.close(reference.0, reason)
     }

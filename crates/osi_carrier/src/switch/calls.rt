@@ -1,6 +1,6 @@
 //! Closing connections, the end, and what waits to be taken.
 
-ghost use Rattle.std.specs.Prelude.{◌≡◌, ◌≢◌, ◌≤◌, ◌*◌, drop, length, Err, IfErr, None, Some, OnOk, OnErr, option_map, is_some};
+ghost use Rattle.std.specs.Prelude.{◌≡◌, ◌≢◌, ◌≤◌, ◌*◌, drop, length, Err, IfErr, None, Some, IsOk, OnOk, OnErr, option_map, is_some};
 ghost use Rattle.std.specs.Cow.{cow_slice_items, IsOwnedSlice};
 ghost use Rattle.osi_carrier.specs.Calls.{open_link, close_error, send_error, length_error, call_error, closed_with, closes, sent, ended_by, kept_in, Tells, WaitsAlone, WaitsOn};
 ghost use Rattle.osi_carrier.specs.Happenings.{happening};
@@ -130,6 +130,7 @@ impl Switch {
         ensures allowed { OnOk result (close_error (open_link reference self.old) ≡ None) }
         ensures refused { IfErr result (λ e. call_error e ≡ close_error (open_link reference self.old)) }
         ensures err { OnErr result (self.new ≡ self.old) }
+        ensures zero { self.old.class ≡ Some Class.Zero → result ≢ Err SendError.OutOfMemory }
     {
         if self.ended.is_some() {
             return Err(SendError::NotOpen);
@@ -154,6 +155,7 @@ impl Switch {
         ensures ok { OnOk result (self.new ≡ closes reference peer reason self.old.class self.old) }
         ensures refused { IfErr result (λ e. call_error e ≡ None) }
         ensures err { OnErr result (self.new ≡ self.old) }
+        ensures zero { self.old.class ≡ Some Class.Zero → IsOk result }
     {
         match self.class {
             Some(Class::Zero) => self.end(EndReason::Closed),
