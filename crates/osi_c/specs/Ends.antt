@@ -41,8 +41,8 @@ local_of c = c.stack.end.carrier.local
 abbrev pub Makes : Bool → OsiTerms → Option Made → Option Contents → Option Contents → Type 0
 Makes is_caller terms (Some Begun) None (Some new) = SaysTerms terms (local_of new) × (new ≡ begun is_caller (local_of new))
 Makes is_caller terms (Some Unreadable) old new = (IsTerms terms → ⊥) × (new ≡ old)
-Makes is_caller terms (Some NoMemory) None new = new ≡ None
-Makes is_caller terms (Some InUse) (Some old) new = new ≡ Some old
+Makes is_caller terms (Some NoMemory) None new = IsTerms terms × (new ≡ None)
+Makes is_caller terms (Some InUse) (Some old) new = IsTerms terms × (new ≡ Some old)
 Makes is_caller terms answer old new = ⊥
 
 -- ---- asking for a connection

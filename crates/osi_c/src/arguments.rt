@@ -1,6 +1,6 @@
 //! What C passes.
 
-ghost use Rattle.std.specs.Prelude.{◌≡◌, ◌≤◌, length, option_map, IfSome, IfNone};
+ghost use Rattle.std.specs.Prelude.{◌≡◌, ◌≤◌, length, option_map, IfSome, OnSome, IfNone};
 ghost use Rattle.osi_spdu.specs.Sizes.{named_by};
 ghost use Rattle.osi_tpdu.specs.Limits.{tsap_octets};
 ghost use Rattle.osi_c.specs.Arguments.{side_of, wish_of, sides_of, wishes_of, serial_of, sizes_of, given, IsTerms, SaysTerms, IsOpening, SaysOpening};
@@ -116,6 +116,7 @@ pub(crate) fn sizes(from_asker: u16, from_answerer: u16) -> Option<TsduSizes>
 /// The transport protocol of an end, where its numbers are within their ranges.
 pub(crate) fn terms(terms: &OsiTerms) -> Option<Local>
     ensures some { IfSome result (λ local. SaysTerms terms.now local) }
+    ensures readable { OnSome result (IsTerms terms.now) }
     ensures none { IfNone result (IsTerms terms.now → ⊥) }
 {
     if terms.classes > 3 {
