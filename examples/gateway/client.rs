@@ -51,6 +51,8 @@ mod osi {
         pub calling_selector: Octets,
         pub called_selector: Octets,
         pub user_data: Octets,
+        pub size_from_asker: u16,
+        pub size_from_answerer: u16,
     }
 
     #[repr(C)]
@@ -81,6 +83,8 @@ mod osi {
         pub sides: Sides,
         pub fault: Fault,
         pub user_data: Octets,
+        pub size_from_asker: u16,
+        pub size_from_answerer: u16,
     }
 
     pub const OK: u32 = 0;
@@ -133,6 +137,8 @@ impl Caller {
             calling_selector: none,
             called_selector: none,
             user_data: octets(user_data),
+            size_from_asker: 0,
+            size_from_answerer: 0,
         };
         let mut reference = 0;
         match unsafe { osi::osi_connect(&mut *self.end, &asked, &mut reference) } {
