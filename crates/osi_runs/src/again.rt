@@ -128,6 +128,7 @@ pub(crate) fn event_of(command: Command<'_>) -> Option<Event<'_>> {
             requirements,
             serial,
             wishes,
+            sizes,
             user_data,
         } => Some(Event::Connect(Connect {
             requirements,
@@ -137,6 +138,7 @@ pub(crate) fn event_of(command: Command<'_>) -> Option<Event<'_>> {
             called_tsap: None,
             calling_selector: None,
             called_selector: None,
+            sizes,
             user_data,
         })),
         Command::Call {

@@ -10,7 +10,7 @@ use osi_carrier::{EndReason, Ref};
 use osi_class::Local;
 use osi_listing::list;
 use osi_session::Phase;
-use osi_spdu::{Requirements, Serial, TokenSetting, Wish};
+use osi_spdu::{Requirements, Serial, TokenSetting, TsduSizes, Wish};
 use osi_stack::{Connect, Stack};
 use osi_tpdu::{SizeCode, Window};
 use std::alloc::{AllocError, Global};
@@ -252,6 +252,7 @@ fn ask(stack: &mut Stack) -> Option<()> {
         called_tsap: None,
         calling_selector: None,
         called_selector: None,
+        sizes: TsduSizes::NONE,
         user_data: &[],
     };
     stack.connect(&connect).ok()?;

@@ -123,6 +123,7 @@ fn ask(
                 requirements,
                 serial,
                 wishes,
+                sizes,
                 user_data,
             },
         ) => {
@@ -134,6 +135,7 @@ fn ask(
                 called_tsap: None,
                 calling_selector: None,
                 called_selector: None,
+                sizes,
                 user_data,
             };
             connect_at(alloc, out, &mut ends.left, &connect)

@@ -4,7 +4,7 @@ use crate::sessions::{ALL_UNITS, ASKER_WISHES, DATA};
 use bitflags::Flags;
 use osi_carrier::{EndReason, OpenError, Ref};
 use osi_class::Local;
-use osi_spdu::{Requirements, Serial};
+use osi_spdu::{Requirements, Serial, TsduSizes};
 use osi_stack::{Connect, ConnectError, Stack};
 use osi_tpdu::{SizeCode, Window};
 use std::test::Fail;
@@ -28,6 +28,7 @@ fn asking<'a>() -> Result<Connect<'a>, Fail> {
         called_tsap: None,
         calling_selector: None,
         called_selector: None,
+        sizes: TsduSizes::NONE,
         user_data: &[],
     })
 }
