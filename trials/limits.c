@@ -1,6 +1,6 @@
 /* Data without an end: what is kept of a TSDU reaches its limit, in both classes, and 64 connections
  * reach theirs at once. The octet that passes the limit ends the end in class 0, and the one
- * connection in class 2. */
+ * connection in class 2. And each call at its greatest length, which is done. */
 #include "memory.h"
 #include "pairs.h"
 
@@ -152,10 +152,100 @@ static void sixty_four(void)
     pair_free(&pair);
 }
 
+/* ---- each call at its greatest length */
+
+#define ALL_UNITS 0x00b9
+#define MOST_USER_DATA 10240u
+#define MOST_DATA 1048572u
+
+static uint8_t longest[MOST_DATA];
+
+/* An event with as much user data as may be, which does what it asks for. */
+static void is_done(struct event event, size_t length)
+{
+    event.data = longest;
+    event.length = length;
+    text_clear(&pair.out);
+    pair_run(&pair, &event, 1);
+    holds(strstr(pair.out.at, " refused ") == NULL, "refused: %s", pair.out.at);
+}
+
+static void carries(int side)
+{
+    struct event carry = event_of(CARRY, side, UINT32_MAX, 0);
+    pair_run(&pair, &carry, 1);
+}
+
+static void connects(void)
+{
+    static uint8_t tsap[32];
+    struct event connect = event_of(CONNECT, LEFT, 1, 0);
+    connect.units = ALL_UNITS;
+    connect.addresses[0] = connect.addresses[1] = tsap;
+    connect.address_lengths[0] = connect.address_lengths[1] = sizeof tsap;
+    is_done(connect, MOST_USER_DATA);
+    for (int i = 0; i < 3; i++) {
+        carries(LEFT);
+        carries(RIGHT);
+    }
+}
+
+/* A call of a user, which is carried. */
+static void calls(int side, uint16_t reference, enum verb verb, uint32_t number)
+{
+    struct event call = event_of(CALL, side, number, 0);
+    call.verb = verb;
+    call.reference = reference;
+    call.units = ALL_UNITS;
+    call.tokens = OSI_TOKEN_DATA | OSI_TOKEN_MINOR | OSI_TOKEN_MAJOR | OSI_TOKEN_RELEASE;
+    call.confirm = true;
+    is_done(call, verb == DATA ? MOST_DATA : MOST_USER_DATA);
+    if (verb != DATA)
+        carries(side);
+}
+
+static void greatest_lengths(void)
+{
+    struct event ends = event_of(ENDS, LEFT, 0, 0);
+    ends.terms[LEFT] = ends.terms[RIGHT] = (osi_terms){OSI_CLASS_2, 13, 15};
+    text_clear(&place);
+    text_put(&place, "each call at its greatest length");
+    memset(longest, 0x41, sizeof longest);
+    pair_begin(&pair);
+    holds(pair_apply(&pair, &ends) == DONE, "no ends");
+    connects();
+    calls(RIGHT, 1, ACCEPT, 1);
+    calls(LEFT, 1, DATA, 0);
+    calls(LEFT, 1, DATA, 0); /* waits until the one before has gone */
+    for (int i = 0; i < 40; i++) {
+        carries(LEFT);
+        carries(RIGHT);
+    }
+    calls(LEFT, 1, MINOR, 0);
+    calls(RIGHT, 1, MINOR_CONFIRM, 1);
+    calls(RIGHT, 1, PLEASE, 0);
+    calls(LEFT, 1, MAJOR, 0);
+    calls(RIGHT, 1, MAJOR_CONFIRM, 0);
+    calls(LEFT, 1, RESTART, 3);
+    calls(RIGHT, 1, RESTART_CONFIRM, 0);
+    calls(LEFT, 1, RELEASE, 0);
+    calls(RIGHT, 1, RELEASE_REFUSE, 0);
+    calls(LEFT, 1, RELEASE, 0);
+    calls(RIGHT, 1, RELEASE_ACCEPT, 0);
+    connects();
+    calls(RIGHT, 2, REFUSE, 0);
+    connects();
+    calls(LEFT, 3, ABORT, 0);
+    runs += 1;
+    printf("limits: each call at its greatest length\n");
+    pair_free(&pair);
+}
+
 int main(void)
 {
     class_0();
     class_2();
     sixty_four();
+    greatest_lengths();
     return counts("limits");
 }
