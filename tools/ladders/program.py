@@ -101,8 +101,12 @@ def picture_of_run(options, progress):
     followed = wire.Wire(lines, asked, written.ends if written else None).run()
     story = history.History(lines, followed, asked).run()
     named = os.path.basename(options.file) if options.file not in (None, "-") else "a run of two ends"
-    title = options.title or said or named
-    return picture.of_run(lines, followed, story, title, options.connection)
+    return picture.of_run(lines, followed, story, readable(options.title or said or named), options.connection)
+
+
+def readable(title):
+    """A title without what an XML file can't have and a terminal is not to be sent."""
+    return "".join(letter if letter.isprintable() else "\ufffd" for letter in title)
 
 
 def script_text(name):
@@ -120,7 +124,7 @@ def picture_of_captures(options, progress):
         text = read_text(name)
         listings[side] = text if captures.is_listing(text) else script.run(
             options.osi, "show", text, progress.running("osi show"))
-    return captures.picture_of(listings, options.title or "two captures")
+    return captures.picture_of(listings, readable(options.title or "two captures"))
 
 
 def write(name, text):
@@ -134,7 +138,10 @@ def write(name, text):
         with open(name, "wb") as file:
             file.write(text.encode("utf-8"))
         return
-    handle, beside = tempfile.mkstemp(dir=os.path.dirname(name), prefix=".ladder")
+    try:
+        handle, beside = tempfile.mkstemp(dir=os.path.dirname(name), prefix=".ladder")
+    except OSError as error:
+        raise BadInput(f"{name}: {error.strerror}") from None
     try:
         with os.fdopen(handle, "wb") as file:
             file.write(text.encode("utf-8"))

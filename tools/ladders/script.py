@@ -85,7 +85,7 @@ def run(program, word, text, tick=lambda seconds: None):
     command = [program or os.path.join(TOP, "osi"), word]
     try:
         started = subprocess.Popen(command, stdin=subprocess.PIPE, stdout=subprocess.PIPE, stderr=subprocess.PIPE,
-                                   text=True)
+                                   encoding="utf-8", errors="replace")
     except OSError as error:
         raise BadInput(f"{command[0]} can't be run: {error.strerror}") from None
     out, messages = wait(started, text, tick)

@@ -252,7 +252,24 @@ class Program(unittest.TestCase):
         self.refused("--left", good, "--right", good, good)
         self.refused(good, "--script", os.path.join(DATA, "points.script"))
         self.refused(os.path.join(DATA, "two.script"), "--osi", "/no/such/program")
-        self.assertEqual(call(good, "--output", "/no/such/folder/picture.svg")[0], 2)
+        status, out, err = call(good, "--output", "/no/such/folder/picture.svg")
+        self.assertEqual((status, out, err.count("\n"), "/no/such/folder/picture.svg" in err), (2, "", 1, True), err)
+
+    def test_what_no_file_of_xml_can_have_is_not_in_a_title(self):
+        good = os.path.join(DATA, "two.transcript")
+        for title in ("a\x01b", "a\x1bb", "a\udcffb", "a\nb"):
+            for words in ([], ["--text"]):
+                status, out, _ = call(good, "--title", title, *words)
+                self.assertEqual((status, "a\ufffdb" in out, title in out), (0, True, False))
+        tree.fromstring(call(good, "--title", "<a & b>\x01")[1])
+
+    def test_a_program_that_prints_no_text_is_refused(self):
+        with tempfile.TemporaryDirectory() as folder:
+            fake = os.path.join(folder, "osi")
+            with open(fake, "w", encoding="ascii") as file:
+                file.write("#!/bin/sh\ncat > /dev/null\nprintf '\\377\\n'\n")
+            os.chmod(fake, 0o755)
+            self.refused(os.path.join(DATA, "two.script"), "--osi", fake)
 
     def test_a_file_is_replaced_and_a_link_stays(self):
         good = os.path.join(DATA, "two.transcript")
