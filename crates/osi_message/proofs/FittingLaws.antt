@@ -39,7 +39,7 @@ HaveRoom = (unit : Contents) → IsCanonical unit.known → free_len unit.known 
 
 -- ---- each value is in its written form
 
-no_value : IsCanonical nothing
+pub no_value : IsCanonical nothing
 no_value = record { values = λ c v e. absurd cc; slots = refl; data_there = λ e. cc }
 
 -- a value that may be there, in its written form
@@ -62,7 +62,7 @@ with_some slot value known good x u is = record {
   data_there = λ e. is.data_there (sym (ap (λ (b : Bool). cond b value (known UserData)) u) ∙ e);
 }
 
-with_one : (slot : Code) (value : List ℕ) (known : Known) → canonical slot value ≡ Some value → is_same ExtendedUserData slot ≡ false → is_same UserData slot ≡ false
+pub with_one : (slot : Code) (value : List ℕ) (known : Known) → canonical slot value ≡ Some value → is_same ExtendedUserData slot ≡ false → is_same UserData slot ≡ false
     → IsCanonical known → IsCanonical (put slot value known)
 with_one slot value known good x u is = with_some slot (Some value) known (one_good slot value good) x u is
 
@@ -306,7 +306,7 @@ unit_len AA = omega arith
 fits : HaveRoom → HaveDigits → (m : Meaning) → IsNumbered m → IsAddressed m → length (user_data_of m) < 65000 → UnitFits (unit_of m)
 fits room digits m small to few = room (unit_of m) (unit_good digits m small to) (let l = unit_len m in omega arith)
 
-no_tokens_fit : HaveRoom → UnitFits (unit_with GiveTokens nothing)
+pub no_tokens_fit : HaveRoom → UnitFits (unit_with GiveTokens nothing)
 unfolding free_len
 no_tokens_fit room = room (unit_with GiveTokens nothing) no_value (omega arith)
 
@@ -344,7 +344,7 @@ follows_none Zero e = omega arith
 follows_none One e = refl
 follows_none Two e = absurd cc
 
-behind_formed : (unit : Contents) → category_of unit.kind ≡ Two → IsFormedUnit unit → IsFormedTsdu (behind_tokens unit)
+pub behind_formed : (unit : Contents) → category_of unit.kind ≡ Two → IsFormedUnit unit → IsFormedTsdu (behind_tokens unit)
 unfolding StandTogether category_of
 behind_formed unit two is = record { together = (omega arith, (two, ends_none unit.kind, tt)); formed = (no_tokens_formed, (is, tt)) }
 

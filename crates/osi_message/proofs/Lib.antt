@@ -1,5 +1,6 @@
 pub mod FittingLaws
 pub mod OctetLaws
+pub mod PartLaws
 pub mod PlainLaws
 pub mod ReadingLaws
 pub mod SendingLaws

@@ -15,10 +15,13 @@ use Rattle.osi_spdu.specs.Reading.{tsdu_at}
 use Rattle.osi_spdu.specs.declared.faults.SpduFault.{SpduFault}
 use Rattle.osi_message.specs.declared.plain.PlainUnit.{PlainUnit}
 use Rattle.osi_message.specs.declared.plain.PlainUnit.TheVariants as plain
-use Rattle.osi_message.specs.Meanings.{Meaning, DT, MIP, MIA}
-use Rattle.osi_message.specs.Plain.{plain_meaning, data_octets, point_octets, has_zero_in_front}
-use Rattle.osi_message.specs.Reading.{Said, said_by_units, said_if_read, said_at}
-use Rattle.osi_message.specs.Sendable.{IsSendable, said_of}
+use Rattle.osi_message.specs.Meanings.{Meaning, DT, GT, MIP, MIA}
+use Rattle.osi_message.specs.declared.places.Place.{Place}
+use Rattle.osi_message.specs.Tokens.{no_token}
+use Rattle.osi_message.specs.Words.{says, part, Words, part_head, part_octets}
+use Rattle.osi_message.specs.Plain.{plain_meaning, plain_octets, plain_said, data_octets, point_octets, has_zero_in_front}
+use Rattle.osi_message.specs.Reading.{said_by_units, said_if_read, said_at}
+use Rattle.osi_message.specs.Sendable.{IsSendable, words_of}
 use Rattle.osi_message.specs.Written.{with_data, unit_with, unit_of, is_second, behind_tokens, spelled, written, user_data_of}
 
 -- ---- the digits of a number
@@ -255,6 +258,10 @@ pub data_parts : (tsdu head rest : List ℕ) → head ≡ take 4 tsdu → rest �
 data_parts tsdu head rest h r e =
     sym (take-append-drop 4 tsdu) ∙ (λ i. sym h i ++ sym r i) ∙ ap (λ (x : List ℕ). x ++ rest) e
 
+pub part_parts : (tsdu head rest : List ℕ) (place : Place) → head ≡ take 7 tsdu → rest ≡ drop 7 tsdu → head ≡ part_head place → tsdu ≡ part_octets place rest
+part_parts tsdu head rest place h r e =
+    sym (take-append-drop 7 tsdu) ∙ (λ i. sym h i ++ sym r i) ∙ ap (λ (x : List ℕ). x ++ rest) e
+
 pub point_parts : (si : ℕ) (tsdu head rest digits : List ℕ) → head ≡ take 6 tsdu → rest ≡ drop 6 tsdu
     → head ≡ 1 ∷ 0 ∷ si ∷ (length rest + 2) ∷ 42 ∷ length rest ∷ [] → digits ≡ rest → tsdu ≡ point_octets si digits
 point_parts si tsdu head rest digits h r e d =
@@ -266,14 +273,22 @@ point_parts si tsdu head rest digits h r e d =
 
 plain_sendable : (p : PlainUnit) → IsSendable (plain_meaning p)
 unfolding user_data_of
+plain_sendable (plain.Part place octets) = record { version = refl; numbered = tt; sized = refl; addressed = tt; short = omega arith }
 plain_sendable (plain.Data octets) = record { version = refl; numbered = tt; sized = refl; addressed = tt; short = omega arith }
 plain_sendable (plain.MinorPoint number) = record { version = refl; numbered = number.small; sized = refl; addressed = tt; short = omega arith }
 plain_sendable (plain.MinorAck number) = record { version = refl; numbered = number.small; sized = refl; addressed = tt; short = omega arith }
 
 -- octets that are the written form of one of these say it
-pub said_plain : ((m : Meaning) → IsSendable m → tsdu_at (written m) ≡ Ok (spelled m)) → ((m : Meaning) → IsSendable m → said_by_units (spelled m) ≡ said_of m)
-    → (p : PlainUnit) (tsdu : List ℕ) → tsdu ≡ written (plain_meaning p) → said_at tsdu ≡ Ok (said_of (plain_meaning p))
+said_whole : ((m : Meaning) → IsSendable m → tsdu_at (written m) ≡ Ok (spelled m)) → ((m : Meaning) → IsSendable m → said_by_units (spelled m) ≡ words_of m)
+    → (m : Meaning) → IsSendable m → said_at (written m) ≡ Ok (words_of m)
 unfolding said_at
-said_plain read said p tsdu e =
-    let m = plain_meaning p in
-    ap said_at e ∙ ap said_if_read (read m (plain_sendable p)) ∙ ap {B = Result Said SpduFault} Ok (said m (plain_sendable p))
+said_whole read said m h = ap said_if_read (read m h) ∙ ap {B = Result Words SpduFault} Ok (said m h)
+
+pub said_plain : ((m : Meaning) → IsSendable m → tsdu_at (written m) ≡ Ok (spelled m)) → ((m : Meaning) → IsSendable m → said_by_units (spelled m) ≡ words_of m)
+    → ((place : Place) (octets : List ℕ) → said_at (part_octets place octets) ≡ Ok (says (GT no_token) ∷ part place octets ∷ []))
+    → (p : PlainUnit) (tsdu : List ℕ) → tsdu ≡ plain_octets p → said_at tsdu ≡ Ok (plain_said p)
+unfolding is_second
+said_plain read said parts (plain.Part place octets) tsdu e = ap said_at e ∙ parts place octets.now
+said_plain read said parts (plain.Data octets) tsdu e = ap said_at e ∙ said_whole read said (DT octets.now) (plain_sendable (plain.Data octets))
+said_plain read said parts (plain.MinorPoint number) tsdu e = ap said_at e ∙ said_whole read said (MIP true number.number []) (plain_sendable (plain.MinorPoint number))
+said_plain read said parts (plain.MinorAck number) tsdu e = ap said_at e ∙ said_whole read said (MIA number.number []) (plain_sendable (plain.MinorAck number))

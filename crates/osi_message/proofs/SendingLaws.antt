@@ -1,5 +1,5 @@
 -- What is written of a meaning means it.
-use Rattle.std.proofs.Common.{◌≡◌, ◌∙◌, refl, sym, ap, ℕ, ◌≤◌, Bool, true, false, List, [], ◌∷◌, Option, Some, None, option_map, unwrap_or, if◌then◌else◌, arith}
+use Rattle.std.proofs.Common.{◌≡◌, ◌∙◌, refl, sym, ap, ℕ, ◌≤◌, Bool, true, false, List, [], ◌∷◌, map, Option, Some, None, option_map, unwrap_or, if◌then◌else◌, arith}
 use Rattle.osi_spdu.specs.declared.fields.ResyncType.{ResyncType}
 use Rattle.osi_spdu.specs.declared.fields.ResyncType.TheVariants.{Restart, Abandon, Set}
 use Rattle.osi_spdu.specs.declared.fields.TsduMaximumSize.{TsduMaximumSize}
@@ -11,9 +11,10 @@ use Rattle.osi_spdu.specs.Known.{some_octets}
 use Rattle.osi_message.specs.Tokens.{no_token}
 use Rattle.osi_message.specs.Meanings.{Meaning, CN, AC, RF, DT, GT, PT, MIP, MIA, MAP, MAA, RS, RA, FN, DN, NF, AB, AA}
 use Rattle.osi_message.specs.Numbered.{IsSmall, IsNumbered}
-use Rattle.osi_message.specs.Reading.{octets_in, two_in, serial_in, number_in, resync_named, meaning, said_by_units, alone, behind}
+use Rattle.osi_message.specs.Reading.{octets_in, two_in, serial_in, number_in, resync_named, meaning, word, said_by_units, alone, behind}
 use Rattle.osi_message.specs.Written.{connect_unit, unit_of, is_second, alone_units, behind_tokens, spelled}
-use Rattle.osi_message.specs.Sendable.{said_of, is_of_version_2}
+use Rattle.osi_message.specs.Sendable.{words_of, is_of_version_2}
+use Rattle.osi_message.specs.Words.{Word, says}
 use Rattle.osi_message.proofs.ReadingLaws.{setting_again, written_again}
 use Rattle.osi_message.proofs.TokenLaws.{named_octet}
 
@@ -84,12 +85,34 @@ meaning_again digits (AB bits octets) v small = ap (AB bits) (data_again octets)
 meaning_again digits AA v small = refl
 
 said_with_place : (b : Bool) (m : Meaning) → meaning (unit_of m) ≡ m
-    → said_by_units (if b then behind_tokens (unit_of m) else alone_units (unit_of m)) ≡ (if b then behind (GT no_token) m else alone m)
-unfolding meaning number_of
-said_with_place true m e = ap (λ (u : Meaning). behind (GT no_token) u) e
-said_with_place false m e = ap (λ (u : Meaning). alone u) e
+    → word (unit_of m) ≡ says (meaning (unit_of m))
+    → said_by_units (if b then behind_tokens (unit_of m) else alone_units (unit_of m)) ≡ map says (if b then behind (GT no_token) m else alone m)
+unfolding word meaning number_of
+said_with_place true m e w = ap (λ (u : Word). says (GT no_token) ∷ u ∷ []) (w ∙ ap says e)
+said_with_place false m e w = ap (λ (u : Word). u ∷ []) (w ∙ ap says e)
+
+-- the unit of a meaning is no part
+says_it : (m : Meaning) → word (unit_of m) ≡ says (meaning (unit_of m))
+unfolding word unit_of
+says_it (CN version_2 requirements serial wishes calling called sizes octets) = refl
+says_it (AC version_2 requirements serial sides sizes octets) = refl
+says_it (RF reason octets) = refl
+says_it (DT octets) = refl
+says_it (GT tokens) = refl
+says_it (PT tokens octets) = refl
+says_it (MIP confirm n octets) = refl
+says_it (MIA n octets) = refl
+says_it (MAP n octets) = refl
+says_it (MAA n octets) = refl
+says_it (RS kind n wishes octets) = refl
+says_it (RA n sides octets) = refl
+says_it (FN octets) = refl
+says_it (DN octets) = refl
+says_it (NF octets) = refl
+says_it (AB bits octets) = refl
+says_it AA = refl
 
 -- what is said by the units of a meaning
-pub said_again : HaveDigits → (m : Meaning) → is_of_version_2 m ≡ true → IsNumbered m → said_by_units (spelled m) ≡ said_of m
+pub said_again : HaveDigits → (m : Meaning) → is_of_version_2 m ≡ true → IsNumbered m → said_by_units (spelled m) ≡ words_of m
 unfolding spelled
-said_again digits m v small = said_with_place (is_second m) m (meaning_again digits m v small)
+said_again digits m v small = said_with_place (is_second m) m (meaning_again digits m v small) (says_it m)

@@ -6,4 +6,5 @@ pub mod Reading
 pub mod Sendable
 pub mod Tokens
 pub mod Written
+pub mod Words
 pub mod Laws

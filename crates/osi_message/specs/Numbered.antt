@@ -3,6 +3,7 @@ use Rattle.std.specs.Prelude.{ℕ, ◌≤◌, Option, Some, None}
 use Rattle.std.specs.List.{AllByRecursion}
 use Rattle.osi_message.specs.Meanings.{Meaning, CN, AC, MIP, MIA, MAP, MAA, RS, RA}
 use Rattle.osi_message.specs.Reading.{Said}
+use Rattle.osi_message.specs.Words.{Word, says, part, Words}
 
 abbrev pub IsSmall : Option ℕ → Type 0
 IsSmall None = Unit {0}
@@ -21,3 +22,11 @@ IsNumbered _ = Unit {0}
 
 abbrev pub AreNumbered : Said → Type 0
 AreNumbered said = AllByRecursion IsNumbered said
+
+-- those in a word
+abbrev pub IsNumberedWord : Word → Type 0
+IsNumberedWord (says m) = IsNumbered m
+IsNumberedWord (part place octets) = Unit {0}
+
+abbrev pub AreNumberedWords : Words → Type 0
+AreNumberedWords words = AllByRecursion IsNumberedWord words

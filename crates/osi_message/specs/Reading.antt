@@ -15,10 +15,13 @@ use Rattle.osi_spdu.specs.Values.{numeral}
 use Rattle.osi_spdu.specs.Sizes.{no_sizes}
 use Rattle.osi_spdu.specs.Known.{Known, Contents, Units}
 use Rattle.osi_spdu.specs.Reading.{tsdu_at}
+use Rattle.osi_message.specs.declared.places.Place.{Place}
+use Rattle.osi_message.specs.declared.places.Place.TheVariants.{First, Middle, Last}
 use Rattle.osi_message.specs.declared.tokens.Tokens.{Tokens}
 use Rattle.osi_message.specs.Tokens.{named}
 use Rattle.std.specs.Int.RustNames.{bit_and}
 use Rattle.osi_message.specs.Meanings.{Meaning, CN, AC, RF, DT, GT, PT, MIP, MIA, MAP, MAA, RS, RA, FN, DN, NF, AB, AA}
+use Rattle.osi_message.specs.Words.{Word, says, part, Words}
 
 -- a bit is set
 abbrev pub names : ℕ → ℕ → Bool
@@ -116,7 +119,7 @@ meaning_by AbortAccept known information = AA
 unfoldable pub meaning : Contents → Meaning
 meaning unit = meaning_by unit.kind unit.known unit.information
 
--- what the units of a TSDU say, in their order
+-- what is said, in order
 abbrev pub Said : Type 0
 Said = List Meaning
 
@@ -127,13 +130,38 @@ alone u = u ∷ []
 abbrev pub behind : Meaning → Meaning → Said
 behind item u = item ∷ u ∷ []
 
-abbrev pub said_by_units : Units → Said
-said_by_units units = map meaning units
+-- ---- a part of one Data
 
-abbrev pub said_if_read : Result Units SpduFault → Result Said SpduFault
+abbrev pub place_named : ℕ → Option Place
+place_named octet = if octet == 0 then Some Middle else if octet == 1 then Some First else if octet == 2 then Some Last else None
+
+-- an absent enclosure is whole
+abbrev pub place_in : Option (List ℕ) → Option Place
+place_in None = None
+place_in (Some value) = place_named (first_in value)
+
+-- which part of one Data a unit has: a DT alone has one
+abbrev pub place_by : Kind → Known → Option Place
+place_by DataTransfer known = place_in (known code.Enclosure)
+place_by _ known = None
+
+abbrev pub place_of : Contents → Option Place
+place_of unit = place_by unit.kind unit.known
+
+abbrev pub word_at : Option Place → Contents → Word
+word_at None unit = says (meaning unit)
+word_at (Some place) unit = part place unit.information
+
+unfoldable pub word : Contents → Word
+word unit = word_at (place_of unit) unit
+
+abbrev pub said_by_units : Units → Words
+said_by_units units = map word units
+
+abbrev pub said_if_read : Result Units SpduFault → Result Words SpduFault
 said_if_read (Ok units) = Ok (said_by_units units)
 said_if_read (Err fault) = Err fault
 
 -- what the octets of a TSDU say, or their first fault
-unfoldable pub said_at : List ℕ → Result Said SpduFault
+unfoldable pub said_at : List ℕ → Result Words SpduFault
 said_at octets = said_if_read (tsdu_at octets)

@@ -1,15 +1,19 @@
 -- What can be sent, and what is said by it.
-use Rattle.std.specs.Prelude.{◌≡◌, ◌<◌, ◌≤◌, ℕ, Bool, true, List, length, Option, None, Some, if◌then◌else◌}
+use Rattle.std.specs.Prelude.{◌≡◌, ◌<◌, ◌≤◌, ℕ, Bool, true, List, length, map, Option, None, Some, if◌then◌else◌}
 use Rattle.osi_spdu.specs.Sizes.{are_sizes}
 use Rattle.osi_message.specs.Tokens.{no_token}
 use Rattle.osi_message.specs.Meanings.{Meaning, CN, AC, GT}
 use Rattle.osi_message.specs.Numbered.{IsNumbered}
 use Rattle.osi_message.specs.Reading.{Said, alone, behind}
+use Rattle.osi_message.specs.Words.{says, Words}
 use Rattle.osi_message.specs.Written.{is_second, user_data_of}
 
 -- data, and what has to do with points, is said behind a GT with no token
 abbrev pub said_of : Meaning → Said
 said_of m = if is_second m then behind (GT no_token) m else alone m
+
+abbrev pub words_of : Meaning → Words
+words_of m = map says (said_of m)
 
 -- a CN and an AC are of version 2
 abbrev pub is_of_version_2 : Meaning → Bool

@@ -5,6 +5,7 @@
 pub mod laws;
 mod messages;
 mod octets;
+mod places;
 mod plain;
 mod reading;
 mod sent;
@@ -13,6 +14,7 @@ mod writing;
 
 pub use messages::Message;
 pub use octets::Octets;
+pub use places::Place;
 pub use plain::PlainUnit;
 pub use sent::Sent;
 pub use tokens::Tokens;

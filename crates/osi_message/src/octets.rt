@@ -1,4 +1,4 @@
-ghost use Rattle.std.specs.Prelude.{◌≡◌, IfOk};
+ghost use Rattle.std.specs.Prelude.{◌≡◌, ◌<◌, ◌++◌, [], length, IfOk, OnOk, OnErr};
 
 use std::alloc::{AllocError, Global};
 use std::marker::Model;
@@ -18,12 +18,33 @@ impl Model for Octets {
 }
 
 impl Octets {
+    /// No octet.
+    pub fn new(alloc: Global) -> Octets
+        ensures { result ≡ [] }
+    {
+        Octets {
+            items: Vec::new(alloc),
+        }
+    }
+
     /// A copy of these octets.
     pub fn copy(alloc: Global, octets: &[u8]) -> Result<Octets, AllocError>
         ensures { IfOk result (λ o. o ≡ octets.now) }
     {
         let items = Vec::from_slice(alloc, octets)?;
         Ok(Octets { items })
+    }
+
+    /// Puts more octets behind them. `Err` changes nothing, and comes only where there are some.
+    pub fn extend(&mut self, more: &[u8]) -> Result<(), AllocError>
+        ensures ok { OnOk result (self.new ≡ self.old ++ more.now) }
+        ensures err { OnErr result (self.new ≡ self.old) }
+        ensures memory { OnErr result (0 < length more.now) }
+    {
+        if more.is_empty() {
+            return Ok(());
+        }
+        self.items.extend_from_slice(more)
     }
 
     /// The octets.

@@ -1,16 +1,18 @@
-//! The TSDUs that come most often, written and read straight: data, and a minor synchronization
-//! point or its confirmation with no parameter but its number, behind a GT that names no token.
+//! The TSDUs that come most often, written and read straight: data, a part of it, and a minor
+//! synchronization point or its confirmation with no parameter but its number, behind a GT that names
+//! no token.
 
 ghost use Rattle.std.specs.Prelude.{◌≡◌, ◌+◌, ◌%◌, ◌≤◌, true, [], Ok, IfOk, IfSome};
 ghost use Rattle.osi_spdu.specs.Values.{digits_of};
 ghost use Rattle.osi_message.specs.Meanings.{DT, MIP, MIA, meant_by};
-ghost use Rattle.osi_message.specs.Plain.{plain_meaning, data_octets, point_octets, has_zero_in_front};
+ghost use Rattle.osi_message.specs.Plain.{plain_meaning, plain_octets, plain_said, data_octets, point_octets, has_zero_in_front};
 ghost use Rattle.osi_message.specs.Reading.{said_at};
-ghost use Rattle.osi_message.specs.Sendable.{said_of};
+ghost use Rattle.osi_message.specs.Words.{part_head};
 ghost use Rattle.osi_message.specs.Written.{written};
 
 use crate::laws;
 use crate::messages::Message;
+use crate::places::Place;
 use osi_spdu::Serial;
 use std::alloc::{AllocError, Global};
 
@@ -23,11 +25,21 @@ const MINOR_ACK: u8 = 0x32;
 /// The code of a serial number.
 const NUMBER: u8 = 0x2A;
 
-/// The most frequent messages.
+/// The code of an enclosure.
+const ENCLOSURE: u8 = 0x19;
+
+/// The most frequent units.
 #[derive(Clone, Copy)]
 pub enum PlainUnit<'a> {
     /// Data transfer (DT).
     Data {
+        /// User data.
+        user_data: &'a [u8],
+    },
+    /// A part of one Data (DT).
+    Part {
+        /// Which part it is.
+        place: Place,
         /// User data.
         user_data: &'a [u8],
     },
@@ -196,17 +208,46 @@ fn data_of(tsdu: &[u8]) -> Option<&[u8]>
     Some(user_data)
 }
 
-/// The message whose written form the octets are.
+/// Which part these octets stand in front of.
+fn place_in_front(head: &[u8]) -> Option<Place>
+    ensures { IfSome result (λ p. head.now ≡ part_head p) }
+{
+    match head {
+        [1, 0, 1, 3, ENCLOSURE, 1, 0] => Some(Place::Middle),
+        [1, 0, 1, 3, ENCLOSURE, 1, 1] => Some(Place::First),
+        [1, 0, 1, 3, ENCLOSURE, 1, 2] => Some(Place::Last),
+        _ => None,
+    }
+}
+
+/// A part of one Data, behind a GT that names no token. It stands out of line: whole data comes more
+/// often.
+#[inline(never)]
+#[tactic(auto, using(crate::proofs::PlainLaws::part_parts))]
+fn part_of(tsdu: &[u8]) -> Option<PlainUnit<'_>>
+    ensures { IfSome result (λ p. tsdu.now ≡ plain_octets p) }
+{
+    if tsdu.len() < 7 {
+        return None;
+    }
+    let (head, user_data) = tsdu.split_at(7);
+    let place = place_in_front(head)?;
+    Some(PlainUnit::Part { place, user_data })
+}
+
+/// The unit whose written form the octets are.
 #[tactic(auto, using(crate::proofs::PlainLaws::data_written, crate::proofs::PlainLaws::point_written, crate::proofs::PlainLaws::ack_written))]
 fn plain_unit(tsdu: &[u8]) -> Option<PlainUnit<'_>>
-    ensures { IfSome result (λ p. tsdu.now ≡ written (plain_meaning p)) }
+    ensures { IfSome result (λ p. tsdu.now ≡ plain_octets p) }
 {
     if tsdu.len() < 4 {
         return None;
     }
     match tsdu[2] {
         1 => {
-            let user_data = data_of(tsdu)?;
+            let Some(user_data) = data_of(tsdu) else {
+                return part_of(tsdu);
+            };
             Some(PlainUnit::Data { user_data })
         }
         MINOR_POINT => {
@@ -222,23 +263,25 @@ fn plain_unit(tsdu: &[u8]) -> Option<PlainUnit<'_>>
 }
 
 impl<'a> PlainUnit<'a> {
-    /// The message that the octets of a TSDU say, where they are the written form of one of these;
-    /// whatever else they are, `read_tsdu` reads them.
+    /// What the octets of a TSDU say, where they are the written form of one of these; whatever else
+    /// they are, `read_tsdu` reads them.
     pub fn read(tsdu: &'a [u8]) -> Option<PlainUnit<'a>>
-        ensures written { IfSome result (λ p. tsdu.now ≡ written (plain_meaning p)) }
-        ensures said { IfSome result (λ p. said_at tsdu.now ≡ Ok (said_of (plain_meaning p))) }
+        ensures written { IfSome result (λ p. tsdu.now ≡ plain_octets p) }
+        ensures said { IfSome result (λ p. said_at tsdu.now ≡ Ok (plain_said p)) }
     {
         laws::what_is_sent_is_read();
+        laws::what_a_part_says();
         let unit = plain_unit(tsdu)?;
         Some(unit)
     }
 
-    /// The message.
+    /// The message as which it is judged: a part as data.
     pub fn message(self) -> Message<'a>
         ensures { meant_by result ≡ plain_meaning self.entry }
     {
         match self {
             PlainUnit::Data { user_data } => Message::Data { user_data },
+            PlainUnit::Part { user_data, .. } => Message::Data { user_data },
             PlainUnit::MinorPoint { number } => Message::MinorPoint {
                 confirm: true,
                 number,

@@ -17,12 +17,14 @@ use Rattle.osi_spdu.specs.declared.settings.Wish.{Wish}
 use Rattle.osi_spdu.specs.declared.settings.Wish.TheVariants as wishes
 use Rattle.osi_spdu.specs.declared.fields.SyncType as syncs
 use Rattle.osi_spdu.specs.declared.fields.SyncType.TheVariants.{Asked, Open}
+use Rattle.osi_spdu.specs.declared.fields.Enclosure as enclosures
+use Rattle.osi_spdu.specs.declared.fields.Enclosure.TheVariants.{First, Middle, Last, Whole}
 use Rattle.osi_spdu.specs.declared.fields.ResyncType as resyncs
 use Rattle.osi_spdu.specs.declared.fields.ResyncType.TheVariants.{Restart, Abandon, Set}
 use Rattle.osi_spdu.specs.Codes.{number_of, is_same}
 use Rattle.osi_spdu.specs.Kinds.{category_of, may_stand}
 use Rattle.osi_spdu.specs.Values.{canonical, digits_of, is_setting}
-use Rattle.osi_spdu.specs.Fields.{sync_octet, token_octets, wish_number, setting_octets, resync_octet}
+use Rattle.osi_spdu.specs.Fields.{sync_octet, enclosure_octet, token_octets, wish_number, setting_octets, resync_octet}
 use Rattle.osi_spdu.specs.Known.{some_octets, Units}
 use Rattle.osi_spdu.specs.Reading.{takes_rest, behind_at, tsdu_at}
 use Rattle.osi_spdu.specs.Spelling.{HasInformation, EndsTsdu, AreBehind, MayFollow, StandTogether, SpellsTsdu}
@@ -74,6 +76,13 @@ resync_again Restart = refl
 resync_again Abandon = refl
 resync_again Set = refl
 
+enclosure_again : (e : enclosures.Enclosure) → canonical Enclosure (enclosure_octet e ∷ []) ≡ Some (enclosure_octet e ∷ [])
+unfolding canonical
+enclosure_again First = refl
+enclosure_again Middle = refl
+enclosure_again Last = refl
+enclosure_again Whole = refl
+
 slot_canonical : (p : Params) (c : Code) (v : List ℕ) → slots_of p c ≡ Some v → canonical c v ≡ Some v
 unfolding slots_of cells_of place_of canonical
 slot_canonical p ConnectionIdentifier v e = presence p.connection_identifier v ConnectionIdentifier refl e
@@ -90,7 +99,7 @@ slot_canonical p UserRequirements v e = made (λ r. r.0 / 256 ∷ r.0 % 256 ∷ 
 slot_canonical p TsduMaximumSize v e = made (λ s. s.from_asker / 256 ∷ s.from_asker % 256 ∷ s.from_answerer / 256 ∷ s.from_answerer % 256 ∷ []) p.tsdu_maximum_size v TsduMaximumSize (λ s. refl) e
 slot_canonical p Version v e = made (λ b. b ∷ []) p.version v Version (λ b. refl) e
 slot_canonical p InitialNumber v e = made (λ s. digits_of s.number) p.initial_number v InitialNumber (λ s. ap (option_map digits_of) (numeral_digits s.number s.small)) e
-slot_canonical p Enclosure v e = made (λ x. 3 ∷ []) p.enclosure v Enclosure (λ x. refl) e
+slot_canonical p Enclosure v e = made (λ x. enclosure_octet x ∷ []) p.enclosure v Enclosure enclosure_again e
 slot_canonical p TokenSetting v e = made setting_octets p.token_setting v TokenSetting
     (λ s. ap (λ (b : Bool). cond b (Some (setting_octets s)) None)
     (setting_good (wish_number s.data_token) (wish_number s.minor) (wish_number s.major) (wish_number s.release) (wish_small s.data_token) (wish_small s.minor) (wish_small s.major) (wish_small s.release))) e

@@ -1,26 +1,25 @@
 -- The first fault of parameters, units and TSDUs is the one that reading answers.
 use Rattle.std.proofs.Common.{◌⊎◌, inl, inr, ◌≡◌, ℕ, zero, suc, ◌+◌, ◌*◌, ◌/◌, ◌%◌, ◌<◌, ◌≤◌, Bool, true, false, cond, ltb, eqb, List, [], ◌∷◌, ◌++◌, length, map, take, drop, Option, Some, None, Result, Ok, Err, refl, sym, ap, subst, ◌∙◌, append_assoc, add-zero, arith}
-use Rattle.std.specs.Prelude.{is_some, IsSome}
+use Rattle.std.specs.Prelude.{is_some}
 use Rattle.std.specs.List.{flat_map, AllByRecursion}
 use Rattle.std.proofs.lemmas.List.{length-append, drop_at}
-use Rattle.std.proofs.lemmas.Bool.{cases_Bool}
 use Rattle.osi_tpkt.specs.Octets.{IsOctets}
 use Rattle.osi_spdu.specs.declared.faults.SpduFault.{SpduFault}
 use Rattle.osi_spdu.specs.declared.faults.SpduFault.TheVariants.{LengthPastEnd, DuplicateParameter, BadValue, MissingParameter}
 use Rattle.osi_spdu.specs.declared.codes.Code.{Code}
 use Rattle.osi_spdu.specs.declared.kinds.Kind.{Kind}
 use Rattle.osi_spdu.specs.Codes.{number_of, is_group, slot_of}
-use Rattle.osi_spdu.specs.Kinds.{codes_of, members_of, required_of}
-use Rattle.osi_spdu.specs.Values.{canonical}
+use Rattle.osi_spdu.specs.Kinds.{codes_of, members_of}
+use Rattle.osi_spdu.specs.Values.{canonical_in}
 use Rattle.osi_spdu.specs.Known.{Known, nothing, put}
 use Rattle.osi_spdu.specs.Reading.{◌>>=◌, Measured, counted_at, long_at, measured_at, Taking, params_at, params_of, code_among, judged, stored, member_taken, in_group, parameter_taken, in_unit, all_there}
-use Rattle.osi_spdu.specs.Spelling.{length_octets, HasLength, Part, part_octets, Sole, IsPart, MeansInGroup, MeansInUnit}
-use Rattle.osi_spdu.specs.Faults.{indicator_len, HasValue, HasNoValue, Fills, IsValueFault, Failing, IsItemFault, IsLevelFault, FailsInGroup, FailsInUnit, IsFirstMissing}
+use Rattle.osi_spdu.specs.Spelling.{length_octets, Part, part_octets, Sole, IsPart, MeansInGroup, MeansInUnit}
+use Rattle.osi_spdu.specs.Faults.{indicator_len, HasNoValue, IsValueFault, Failing, IsItemFault, IsLevelFault, FailsInGroup, FailsInUnit, IsFirstMissing}
 use Rattle.osi_spdu.specs.Laws.Options.{merged, sole_one, sole_same, sole_back, sole_step, sole_joins}
 use Rattle.osi_spdu.specs.Laws.Steps.{bind_of, ok_is, guard_ok, is_none_of, none_is}
 use Rattle.osi_spdu.specs.Laws.Lengths.{IsMeasured, octets-tail, octets-drop, measured_ok, measured_again, chosen}
 use Rattle.osi_spdu.specs.Laws.Lengths as lengths
-use Rattle.osi_spdu.specs.Laws.Levels.{JoinsAll, Follows, group_follows, unit_follows, stored_ok, group_form}
+use Rattle.osi_spdu.specs.Laws.Levels.{JoinsAll, Follows, group_follows, unit_follows, group_form}
 
 -- ---- failures
 
@@ -92,17 +91,17 @@ judged_bad : (at : ℕ) (c : Code) (known : Known) (o : Option (List ℕ)) (f : 
 judged_bad at c known None f e = (refl, sym (fault_is Known (BadValue (number_of c) at) f e))
 judged_bad at c known (Some form) f e = absurd (never Known (put (slot_of c) form known) f e)
 
-stored_bad : (at : ℕ) (c : Code) (value : List ℕ) (known : Known) (f : SpduFault) → stored at c value known ≡ Err f → IsValueFault at c value known f
+stored_bad : (kind : Kind) (at : ℕ) (c : Code) (value : List ℕ) (known : Known) (f : SpduFault) → stored kind at c value known ≡ Err f → IsValueFault kind at c value known f
 unfolding stored
-stored_bad at c value known f e =
-    elim (chosen (is_some (known (slot_of c))) (Err (DuplicateParameter (number_of c) at)) (judged at c known (canonical c value)) (Err f) e) [
+stored_bad kind at c value known f e =
+    elim (chosen (is_some (known (slot_of c))) (Err (DuplicateParameter (number_of c) at)) (judged at c known (canonical_in kind c value)) (Err f) e) [
       | inl q ↦ inl (q.0, sym (fault_is Known (DuplicateParameter (number_of c) at) f q.1))
-      | inr q ↦ (let j = judged_bad at c known (canonical c value) f q.1 in inr (is_none_of (known (slot_of c)) q.0, j.0, j.1))
+      | inr q ↦ (let j = judged_bad at c known (canonical_in kind c value) f q.1 in inr (is_none_of (known (slot_of c)) q.0, j.0, j.1))
     ]
 
-stored_fails : (at : ℕ) (c : Code) (value : List ℕ) (known : Known) (f : SpduFault) → IsValueFault at c value known f → stored at c value known ≡ Err f
+stored_fails : (kind : Kind) (at : ℕ) (c : Code) (value : List ℕ) (known : Known) (f : SpduFault) → IsValueFault kind at c value known f → stored kind at c value known ≡ Err f
 unfolding stored
-stored_fails at c value known f h =
+stored_fails kind at c value known f h =
     elim h [
       | inl q ↦ rw q.0 (ap (λ (g : SpduFault). failed {A = Known} g) (sym q.1))
       | inr q ↦ rw (none_is (known (slot_of c)) q.0, q.1) (ap (λ (g : SpduFault). failed {A = Known} g) (sym q.2))
@@ -264,64 +263,64 @@ level_only taking means failing follows fails at before octets f fits level =
 
 -- ---- within a group
 
-member_bad : (at : ℕ) (value : List ℕ) (known : Known) (o : Option Code) (f : SpduFault) → member_taken at value known o ≡ Err f → (c : Code) × (o ≡ Some c) × IsValueFault at c value known f
-member_bad at value known None f e = absurd (never Known known f e)
-member_bad at value known (Some c) f e = (c, refl, stored_bad at c value known f e)
+member_bad : (kind : Kind) (at : ℕ) (value : List ℕ) (known : Known) (o : Option Code) (f : SpduFault) → member_taken kind at value known o ≡ Err f → (c : Code) × (o ≡ Some c) × IsValueFault kind at c value known f
+member_bad kind at value known None f e = absurd (never Known known f e)
+member_bad kind at value known (Some c) f e = (c, refl, stored_bad kind at c value known f e)
 
-group_fails : (members : List Code) → Fails (in_group members) (FailsInGroup members)
+group_fails : (kind : Kind) (members : List Code) → Fails (in_group kind members) (FailsInGroup kind members)
 unfolding in_group FailsInGroup
-group_fails members = record {
-  fails = λ at body code value known f fits e. member_bad at value known (code_among members code) f e;
-  back = λ at body code value known f fits h. ap (member_taken at value known) h.1 ∙ stored_fails at h.0 value known f h.2;
+group_fails kind members = record {
+  fails = λ at body code value known f fits e. member_bad kind at value known (code_among members code) f e;
+  back = λ at body code value known f fits h. ap (member_taken kind at value known) h.1 ∙ stored_fails kind at h.0 value known f h.2;
 }
 
 -- ---- within a unit
 
-stored_group : (at : ℕ) (c : Code) (value : List ℕ) (known : Known) → is_group c ≡ true → known (slot_of c) ≡ None → stored at c value known ≡ Ok (put (slot_of c) [] known)
+stored_group : (kind : Kind) (at : ℕ) (c : Code) (value : List ℕ) (known : Known) → is_group c ≡ true → known (slot_of c) ≡ None → stored kind at c value known ≡ Ok (put (slot_of c) [] known)
 unfolding stored
-stored_group at c value known group free = rw (none_is (known (slot_of c)) free, group_form c value group) refl
+stored_group kind at c value known group free = rw (none_is (known (slot_of c)) free, group_form kind c value group) refl
 
-stored_free : (at : ℕ) (c : Code) (value : List ℕ) (known more : Known) → stored at c value known ≡ Ok more → known (slot_of c) ≡ None
+stored_free : (kind : Kind) (at : ℕ) (c : Code) (value : List ℕ) (known more : Known) → stored kind at c value known ≡ Ok more → known (slot_of c) ≡ None
 unfolding stored
-stored_free at c value known more e =
-    is_none_of (known (slot_of c)) (guard_ok (is_some (known (slot_of c))) (DuplicateParameter (number_of c) at) more (judged at c known (canonical c value)) e).0
+stored_free kind at c value known more e =
+    is_none_of (known (slot_of c)) (guard_ok (is_some (known (slot_of c))) (DuplicateParameter (number_of c) at) more (judged at c known (canonical_in kind c value)) e).0
 
 abbrev InUnit : Kind → ℕ → ℕ → Code → List ℕ → Known → SpduFault → Type 0
 InUnit kind at body c value known f =
-    IsValueFault at c value known f
-    ⊎ ((is_group c ≡ true) × (known (slot_of c) ≡ None) × IsLevelFault (MeansInGroup (members_of kind c)) (FailsInGroup (members_of kind c)) body (put (slot_of c) [] known) value f)
+    IsValueFault kind at c value known f
+    ⊎ ((is_group c ≡ true) × (known (slot_of c) ≡ None) × IsLevelFault (MeansInGroup kind (members_of kind c)) (FailsInGroup kind (members_of kind c)) body (put (slot_of c) [] known) value f)
 
-opened_bad : (kind : Kind) (at body : ℕ) (c : Code) (value : List ℕ) (known : Known) (f : SpduFault) → IsOctets value → (r : Result Known SpduFault) → stored at c value known ≡ r
-    → (r >>= λ mid. cond (is_group c) (params_of (in_group (members_of kind c)) body mid value) (Ok mid)) ≡ Err f → InUnit kind at body c value known f
-opened_bad kind at body c value known f fits (Err g) s e = inl (stored_bad at c value known f (s ∙ e))
+opened_bad : (kind : Kind) (at body : ℕ) (c : Code) (value : List ℕ) (known : Known) (f : SpduFault) → IsOctets value → (r : Result Known SpduFault) → stored kind at c value known ≡ r
+    → (r >>= λ mid. cond (is_group c) (params_of (in_group kind (members_of kind c)) body mid value) (Ok mid)) ≡ Err f → InUnit kind at body c value known f
+opened_bad kind at body c value known f fits (Err g) s e = inl (stored_bad kind at c value known f (s ∙ e))
 opened_bad kind at body c value known f fits (Ok mid) s e =
     let members = members_of kind c in
-    elim (chosen (is_group c) (params_of (in_group members) body mid value) (Ok mid) (Err f) e) [
+    elim (chosen (is_group c) (params_of (in_group kind members) body mid value) (Ok mid) (Err f) e) [
       | inl q ↦
-          let free = stored_free at c value known mid s in
-          let same : mid ≡ put (slot_of c) [] known = ok_is mid (put (slot_of c) [] known) (sym s ∙ stored_group at c value known q.0 free) in
-          let level = level_found (in_group members) (MeansInGroup members) (FailsInGroup members) (group_follows members) (group_fails members) (length value) body mid value f (omega arith) fits q.1 in
-          inr (q.0, free, subst (λ (k : Known). IsLevelFault (MeansInGroup members) (FailsInGroup members) body k value f) same level)
+          let free = stored_free kind at c value known mid s in
+          let same : mid ≡ put (slot_of c) [] known = ok_is mid (put (slot_of c) [] known) (sym s ∙ stored_group kind at c value known q.0 free) in
+          let level = level_found (in_group kind members) (MeansInGroup kind members) (FailsInGroup kind members) (group_follows kind members) (group_fails kind members) (length value) body mid value f (omega arith) fits q.1 in
+          inr (q.0, free, subst (λ (k : Known). IsLevelFault (MeansInGroup kind members) (FailsInGroup kind members) body k value f) same level)
       | inr q ↦ absurd (never Known mid f q.1)
     ]
 
 opened_fails : (kind : Kind) (at body : ℕ) (c : Code) (value : List ℕ) (known : Known) (f : SpduFault) → IsOctets value → InUnit kind at body c value known f
-    → (stored at c value known >>= λ mid. cond (is_group c) (params_of (in_group (members_of kind c)) body mid value) (Ok mid)) ≡ Err f
+    → (stored kind at c value known >>= λ mid. cond (is_group c) (params_of (in_group kind (members_of kind c)) body mid value) (Ok mid)) ≡ Err f
 opened_fails kind at body c value known f fits h =
     let members = members_of kind c in
-    let next = λ (mid : Known). cond (is_group c) (params_of (in_group members) body mid value) (Ok mid) in
+    let next = λ (mid : Known). cond (is_group c) (params_of (in_group kind members) body mid value) (Ok mid) in
     elim h [
-      | inl q ↦ bind_bad (stored at c value known) next f (stored_fails at c value known f q)
+      | inl q ↦ bind_bad (stored kind at c value known) next f (stored_fails kind at c value known f q)
       | inr q ↦
-          let read = level_only (in_group members) (MeansInGroup members) (FailsInGroup members) (group_follows members) (group_fails members) body (put (slot_of c) [] known) value f fits q.2 in
-          bind_of (stored at c value known) next (put (slot_of c) [] known) (Err f) (stored_group at c value known q.0 q.1)
-          (ap (λ (b : Bool). cond b (params_of (in_group members) body (put (slot_of c) [] known) value) (Ok (put (slot_of c) [] known))) q.0 ∙ read)
+          let read = level_only (in_group kind members) (MeansInGroup kind members) (FailsInGroup kind members) (group_follows kind members) (group_fails kind members) body (put (slot_of c) [] known) value f fits q.2 in
+          bind_of (stored kind at c value known) next (put (slot_of c) [] known) (Err f) (stored_group kind at c value known q.0 q.1)
+          (ap (λ (b : Bool). cond b (params_of (in_group kind members) body (put (slot_of c) [] known) value) (Ok (put (slot_of c) [] known))) q.0 ∙ read)
     ]
 
 parameter_bad : (kind : Kind) (at body : ℕ) (value : List ℕ) (known : Known) (o : Option Code) (f : SpduFault) → IsOctets value → parameter_taken kind at body value known o ≡ Err f
     → (c : Code) × (o ≡ Some c) × InUnit kind at body c value known f
 parameter_bad kind at body value known None f fits e = absurd (never Known known f e)
-parameter_bad kind at body value known (Some c) f fits e = (c, refl, opened_bad kind at body c value known f fits (stored at c value known) refl e)
+parameter_bad kind at body value known (Some c) f fits e = (c, refl, opened_bad kind at body c value known f fits (stored kind at c value known) refl e)
 
 unit_fails : (kind : Kind) → Fails (in_unit kind) (FailsInUnit kind)
 unfolding in_unit FailsInUnit

@@ -19,7 +19,7 @@ use Rattle.osi_spdu.specs.Laws.Levels.{JoinsAll}
 use Rattle.osi_spdu.specs.Laws.Owners.{owns, once, code_once, member_once, every_passes, group_apart, among_named}
 use Rattle.osi_spdu.specs.Laws.Written.{tail_once, once_tail}
 use Rattle.osi_spdu.proofs.FormedLaws.{IsOwned, owned, any_at, inner_source, option_cases, only_slot}
-use Rattle.osi_spdu.proofs.Shorter.{canonical_shorter}
+use Rattle.osi_spdu.proofs.Shorter.{canonical_shorter, canonical_from}
 
 -- ---- sums over codes
 
@@ -162,7 +162,7 @@ only_cost f s form codes none single =
     let at : f (only s form s) ≡ f (Some form) = ap (λ (b : Bool). f (cond b (Some form) None)) (same_refl s) in
     omega arith
 
-member_part : (kind : Kind) (g : Code) (p : Part) (o : Option Code) → HasLength p.long (length p.value) → MemberOf p.value p.gives o
+member_part : (kind : Kind) (g : Code) (p : Part) (o : Option Code) → HasLength p.long (length p.value) → MemberOf kind p.value p.gives o
     → total (λ c. member_cost (p.gives c)) (members_of kind g) ≤ length (part_octets p)
 member_part kind g p None h m =
     let z = total_zero (λ c. member_cost (p.gives c)) (members_of kind g) (λ c a. ap (λ (k : Known). member_cost (k c)) m) in
@@ -170,11 +170,11 @@ member_part kind g p None h m =
 member_part kind g p (Some c) h m =
     let same : total (λ d. member_cost (p.gives d)) (members_of kind g) ≡ total (λ d. member_cost (only (slot_of c) m.0 d)) (members_of kind g) = ap (λ (k : Known). total (λ d. member_cost (k d)) (members_of kind g)) m.2 in
     let one = only_cost member_cost (slot_of c) m.0 (members_of kind g) refl (member_once kind g (slot_of c)) in
-    let less = cost_less (length m.0) (length p.value) (canonical_shorter c p.value m.0 m.1) in
+    let less = cost_less (length m.0) (length p.value) (canonical_shorter c p.value m.0 (canonical_from kind c p.value m.0 m.1)) in
     let s = spelled_cost p.code p.long p.value h in
     omega arith
 
-group_cost : (kind : Kind) (g : Code) → IsCost (MeansInGroup (members_of kind g)) (λ k c. member_cost (k c)) (members_of kind g) (λ k. Unit {0})
+group_cost : (kind : Kind) (g : Code) → IsCost (MeansInGroup kind (members_of kind g)) (λ k c. member_cost (k c)) (members_of kind g) (λ k. Unit {0})
 unfolding MeansInGroup
 group_cost kind g = record {
   none = λ c. refl;
@@ -187,9 +187,9 @@ pub group_len : (kind : Kind) (known : Known) (g : Code) → length (group_octet
 unfolding group_octets
 group_len kind known g = total_flat (λ c. member_octets c (known c)) (members_of kind g) ∙ total_same (λ c. length (member_octets c (known c))) (λ c. member_cost (known c)) (members_of kind g) (λ c a. member_len c (known c))
 
-group_fits : (kind : Kind) (known : Known) (g : Code) (value : List ℕ) → Spells (MeansInGroup (members_of kind g)) known value → length (group_octets kind known g) ≤ length value
+group_fits : (kind : Kind) (known : Known) (g : Code) (value : List ℕ) → Spells (MeansInGroup kind (members_of kind g)) known value → length (group_octets kind known g) ≤ length value
 group_fits kind known g value s =
-    let p = parts_cost (MeansInGroup (members_of kind g)) (λ k c. member_cost (k c)) (members_of kind g) (λ k. Unit {0}) (group_cost kind g) s.parts known s.each s.once in
+    let p = parts_cost (MeansInGroup kind (members_of kind g)) (λ k c. member_cost (k c)) (members_of kind g) (λ k. Unit {0}) (group_cost kind g) s.parts known s.each s.once in
     let l = group_len kind known g in
     let w = ap length s.whole in
     omega arith
@@ -321,7 +321,7 @@ part_cost kind known c = unit_cost kind known c (known c)
 absent_cost : (kind : Kind) (known : Known) (c : Code) → known c ≡ None → part_cost kind known c ≡ 0
 absent_cost kind known c e = ap (unit_cost kind known c) e
 
-leaf_part : (kind : Kind) (p : Part) (c : Code) → is_group c ≡ false → HasLength p.long (length p.value) → MemberOf p.value p.gives (Some c) → total (part_cost kind p.gives) (codes_of kind) ≤ length (part_octets p)
+leaf_part : (kind : Kind) (p : Part) (c : Code) → is_group c ≡ false → HasLength p.long (length p.value) → MemberOf kind p.value p.gives (Some c) → total (part_cost kind p.gives) (codes_of kind) ≤ length (part_octets p)
 leaf_part kind p c leaf h m =
     let s = slot_of c in
     let form = m.0 in
@@ -331,7 +331,7 @@ leaf_part kind p c leaf h m =
       | inr e ↦ e
     ])) in
     let at : part_cost kind p.gives s ≡ cost (length form) = ap (unit_cost kind p.gives s) there ∙ ap (λ (b : Bool). cost (length (cond b (group_octets kind p.gives s) form))) (slot_leaf c leaf) in
-    let less = cost_less (length form) (length p.value) (canonical_shorter c p.value form m.1) in
+    let less = cost_less (length form) (length p.value) (canonical_shorter c p.value form (canonical_from kind c p.value form m.1)) in
     let spelled = spelled_cost p.code p.long p.value h in
     omega arith
 

@@ -1,19 +1,20 @@
 -- What is read has a written form: it holds nothing that its unit does not know, and all that it must have.
-use Rattle.std.proofs.Common.{◌⊎◌, inl, inr, ◌≡◌, ℕ, Bool, true, false, cond, not, ◌&&◌, ◌||◌, List, [], ◌∷◌, map, Option, Some, None, Ok, refl, sym, ap, subst, ◌∙◌}
+use Rattle.std.proofs.Common.{◌⊎◌, inl, inr, ◌≡◌, ℕ, Bool, true, false, cond, not, ◌&&◌, ◌||◌, List, [], ◌∷◌, map, Option, Some, None, Ok, refl, sym, ap, subst, ◌∙◌, ltb, arith}
 use Rattle.std.specs.Prelude.{is_some, is_none, IsSome}
 use Rattle.std.specs.List.{list_any, list_all, AllByRecursion}
 use Rattle.std.proofs.lemmas.Bool.{cases_Bool, and_parts, and_from, or_left, or_right, not-true}
 use Rattle.osi_tpkt.specs.Octets.{IsOctets}
 use Rattle.osi_spdu.specs.declared.codes.Code.{Code}
-use Rattle.osi_spdu.specs.declared.codes.Code.TheVariants.{ConnectionIdentifier, ConnectAcceptItem, UserData, ExtendedUserData}
+use Rattle.osi_spdu.specs.declared.codes.Code.TheVariants.{ConnectionIdentifier, ConnectAcceptItem, Enclosure, UserData, ExtendedUserData}
 use Rattle.osi_spdu.specs.declared.kinds.Kind.{Kind}
 use Rattle.osi_spdu.specs.declared.kinds.Kind.TheVariants.{Connect, Resynchronize, ResynchronizeAck, MajorSyncPoint, MajorSyncAck, MinorSyncPoint, MinorSyncAck}
 use Rattle.osi_spdu.specs.Codes.{number_of, is_same, is_group, slot_of, every_code}
 use Rattle.osi_spdu.specs.Kinds.{codes_of, members_of, references_of, required_of}
+use Rattle.osi_spdu.specs.Values.{octet_if, as_it_is, canonical, may_have_parts, is_three, may_enclose, canonical_in}
 use Rattle.osi_spdu.specs.Known.{Known, settled, Contents}
 use Rattle.osi_spdu.specs.Reading.{code_among, Placed, contents_of, unit_at}
 use Rattle.osi_spdu.specs.Spelling.{Part, Sole, IsPart, Spells, only, MemberOf, MeansInGroup, GroupOf, ParameterOf, KnownOf, MeansInUnit, SpellsUnit}
-use Rattle.osi_spdu.specs.Writing.{among, may_be_there, is_formed}
+use Rattle.osi_spdu.specs.Writing.{among, may_be_there, is_enclosed, is_formed}
 use Rattle.osi_spdu.specs.Laws.Options.{Joins, first, sole_same, sole_split}
 use Rattle.osi_spdu.specs.Laws.Steps.{same_true, same_refl}
 use Rattle.osi_spdu.specs.Laws.Owners.{among_named, any_weaker}
@@ -110,7 +111,7 @@ member_slot kind g ExtendedUserData e = absurd (let h : true ≡ false = sym e �
 member_slot kind g _ e = refl
 
 -- a value that a group's parameter gives is one of its members
-member_source : (kind : Kind) (g : Code) (value v : List ℕ) (gives : Known) (d : Code) (o : Option Code) (n : ℕ) → code_among (members_of kind g) n ≡ o → MemberOf value gives o → gives d ≡ Some v
+member_source : (kind : Kind) (g : Code) (value v : List ℕ) (gives : Known) (d : Code) (o : Option Code) (n : ℕ) → code_among (members_of kind g) n ≡ o → MemberOf kind value gives o → gives d ≡ Some v
     → among (members_of kind g) d ≡ true
 member_source kind g value v gives d None n named m e = absurd (let h : None ≡ Some v = sym (ap (λ (k : Known). k d) m) ∙ e in cc)
 member_source kind g value v gives d (Some c) n named m e =
@@ -118,10 +119,10 @@ member_source kind g value v gives d (Some c) n named m e =
     let same : d ≡ slot_of c = only_slot d (slot_of c) m.0 v (sym (ap (λ (k : Known). k d) m.2) ∙ e) in
     subst (λ (x : Code). among (members_of kind g) x ≡ true) (sym (same ∙ member_slot kind g c there)) there
 
-pub inner_source : (kind : Kind) (g : Code) (value v : List ℕ) (inner : Known) (d : Code) → Spells (MeansInGroup (members_of kind g)) inner value → inner d ≡ Some v → among (members_of kind g) d ≡ true
+pub inner_source : (kind : Kind) (g : Code) (value v : List ℕ) (inner : Known) (d : Code) → Spells (MeansInGroup kind (members_of kind g)) inner value → inner d ≡ Some v → among (members_of kind g) d ≡ true
 unfolding MeansInGroup
 inner_source kind g value v inner d s e =
-    let from = source (MeansInGroup (members_of kind g)) s.parts inner d v s.each s.once e in
+    let from = source (MeansInGroup kind (members_of kind g)) s.parts inner d v s.each s.once e in
     member_source kind g from.part.value v from.part.gives d (code_among (members_of kind g) from.part.code) from.part.code refl from.is_part.2 from.gives_it
 
 -- where a value of a unit may come from: a code of the unit, or a group that is there
@@ -158,6 +159,84 @@ unfolding MeansInUnit
 owned kind raw body v d s e =
     let from = source (MeansInUnit kind) s.parts raw d v s.each s.once e in
     unit_source kind raw from.part.value v from.part.gives d (code_among (codes_of kind) from.part.code) from.part.code refl from.is_part.2 from.gives_it from.within
+
+-- ---- an enclosure that is there
+
+octet_same : (good : ℕ → Bool) (value v : List ℕ) → octet_if good as_it_is value ≡ Some v → value ≡ v
+octet_same good [] v e = absurd cc
+octet_same good (b ∷ []) v e = by (good b) e
+  where
+    by : (t : Bool) → cond t (Some (b ∷ [])) None ≡ Some v → b ∷ [] ≡ v
+    by true h = cc
+    by false h = absurd cc
+octet_same good (b ∷ c ∷ rest) v e = absurd cc
+
+enclosed_value : (kind : Kind) (value v : List ℕ) → canonical_in kind Enclosure value ≡ Some v → is_enclosed kind (Some v) ≡ true
+unfolding canonical_in may_enclose canonical number_of
+enclosed_value kind value v e = by (may_have_parts kind || is_three value) refl e
+  where
+    by : (b : Bool) → (may_have_parts kind || is_three value) ≡ b → cond b (octet_if (λ o. ltb o 4) as_it_is value) None ≡ Some v → is_enclosed kind (Some v) ≡ true
+    by true t h = subst (λ (x : List ℕ). is_enclosed kind (Some x) ≡ true) (octet_same (λ o. ltb o 4) value v h) t
+    by false t h = absurd cc
+
+other_number : number_of Enclosure ≡ number_of UserData → ⊥
+unfolding number_of
+other_number h = omega arith
+
+enclosure_slot : (c : Code) → Enclosure ≡ slot_of c → c ≡ Enclosure
+unfolding slot_of
+enclosure_slot ExtendedUserData e = absurd (other_number (ap number_of e))
+enclosure_slot _ e = sym e
+
+no_group : is_group Enclosure ≡ true → ⊥
+unfolding is_group
+no_group h = cc
+
+no_user_data : is_same Enclosure UserData ≡ false
+unfolding number_of
+no_user_data = refl
+
+no_enclosed_reference : (kind : Kind) → among (references_of kind) Enclosure ≡ false
+unfolding number_of
+no_enclosed_reference Connect = refl
+no_enclosed_reference _ = refl
+
+no_enclosed_member : (kind : Kind) (g : Code) → among (members_of kind g) Enclosure ≡ false
+unfolding members_of number_of
+no_enclosed_member kind ConnectionIdentifier = no_enclosed_reference kind
+no_enclosed_member kind ConnectAcceptItem = refl
+no_enclosed_member kind _ = refl
+
+-- a group gives none
+group_encloses : (kind : Kind) (g : Code) (value v : List ℕ) (gives : Known) → is_group g ≡ true → GroupOf kind g value gives → gives Enclosure ≡ Some v → ⊥
+group_encloses kind g value v gives group m e =
+    elim (option_cases (only g [] Enclosure)) [
+      | inl s ↦ (let h : is_group Enclosure ≡ true = ap is_group (only_slot Enclosure g [] s.0 s.1) ∙ group in no_group h)
+      | inr n ↦
+          let one : Sole (m.0 Enclosure ∷ []) (gives Enclosure) = subst (λ (k : Option (List ℕ)). Sole (k ∷ m.0 Enclosure ∷ []) (gives Enclosure)) n (m.2 Enclosure) in
+          let same : gives Enclosure ≡ m.0 Enclosure = sole_same (m.0 Enclosure) (gives Enclosure) one in
+          let h : true ≡ false = sym (inner_source kind g value v m.0 Enclosure m.1 (sym same ∙ e)) ∙ no_enclosed_member kind g in
+          cc
+    ]
+
+parameter_encloses : (kind : Kind) (c : Code) (value v : List ℕ) (gives : Known) (b : Bool) → is_group c ≡ b → ParameterOf kind c value gives b → gives Enclosure ≡ Some v → is_enclosed kind (Some v) ≡ true
+parameter_encloses kind c value v gives true group m e = absurd (group_encloses kind c value v gives group m e)
+parameter_encloses kind c value v gives false group m e =
+    let own : only (slot_of c) m.0 Enclosure ≡ Some v = sym (ap (λ (k : Known). k Enclosure) m.2) ∙ e in
+    let slot = only_slot Enclosure (slot_of c) m.0 v own in
+    let form : m.0 ≡ v = (let h : Some m.0 ≡ Some v = sym (ap (λ (b : Bool). cond b (Some m.0) None) (ap (λ (s : Code). is_same Enclosure s) (sym slot) ∙ same_refl Enclosure)) ∙ own in cc) in
+    enclosed_value kind value v (subst (λ (x : Code). canonical_in kind x value ≡ Some v) (enclosure_slot c slot) (m.1 ∙ ap {B = Option (List ℕ)} (λ x. Some x) form))
+
+unit_encloses : (kind : Kind) (value v : List ℕ) (gives : Known) (o : Option Code) → KnownOf kind value gives o → gives Enclosure ≡ Some v → is_enclosed kind (Some v) ≡ true
+unit_encloses kind value v gives None m e = absurd (let h : None ≡ Some v = sym (ap (λ (k : Known). k Enclosure) m) ∙ e in cc)
+unit_encloses kind value v gives (Some c) m e = parameter_encloses kind c value v gives (is_group c) refl m e
+
+enclosed : (kind : Kind) (raw : Known) (body : List ℕ) (o : Option (List ℕ)) → Spells (MeansInUnit kind) raw body → raw Enclosure ≡ o → is_enclosed kind o ≡ true
+unfolding MeansInUnit
+enclosed kind raw body None s e = refl
+enclosed kind raw body (Some v) s e =
+    let from = source (MeansInUnit kind) s.parts raw Enclosure v s.each s.once e in
+    unit_encloses kind from.part.value v from.part.gives (code_among (codes_of kind) from.part.code) from.is_part.2 from.gives_it
 
 -- ---- and so the unit is formed
 
@@ -225,8 +304,11 @@ unit_formed unit octets s =
     ] in
     let all : list_all (test (settled s.raw)) every_code ≡ true = each_test (test (settled s.raw)) every_code one in
     let required = required_stay s.raw (required_of kind) (required_plain kind) s.required in
-    subst (λ (k : Known). (list_all (test k) every_code && list_all (λ c. is_some (k c)) (required_of kind)) ≡ true) (sym s.value)
-    (and_from (list_all (test (settled s.raw)) every_code) (list_all (λ c. is_some (settled s.raw c)) (required_of kind)) all required)
+    let enclosure : is_enclosed kind (settled s.raw Enclosure) ≡ true =
+    ap (is_enclosed kind) (settled_other s.raw Enclosure no_user_data) ∙ enclosed kind s.raw s.body (s.raw Enclosure) s.params refl in
+    subst (λ (k : Known). ((list_all (test k) every_code && list_all (λ c. is_some (k c)) (required_of kind)) && is_enclosed kind (k Enclosure)) ≡ true) (sym s.value)
+    (and_from (list_all (test (settled s.raw)) every_code && list_all (λ c. is_some (settled s.raw c)) (required_of kind)) (is_enclosed kind (settled s.raw Enclosure))
+    (and_from (list_all (test (settled s.raw)) every_code) (list_all (λ c. is_some (settled s.raw c)) (required_of kind)) all required) enclosure)
 
 -- what is read as a unit is formed
 pub placed_formed : (second : Bool) (at : ℕ) (octets : List ℕ) (p : Placed) → IsOctets octets → unit_at second at octets ≡ Ok p → is_formed p.kind p.known ≡ true

@@ -1,15 +1,16 @@
 -- Reading parameters one after the other, as a loop does.
-use Rattle.std.proofs.Common.{inl, inr, ◌≡◌, ℕ, zero, suc, ◌+◌, ◌*◌, ◌<◌, ◌≤◌, true, false, ltb, eqb, List, [], ◌∷◌, length, take, drop, get_or, Option, Some, None, Result, Ok, Err, refl, sym, ap, subst, ◌∙◌, arith}
+use Rattle.std.proofs.Common.{inl, inr, ◌≡◌, ℕ, zero, suc, ◌+◌, ◌*◌, ◌<◌, ◌≤◌, true, false, ltb, eqb, List, [], ◌∷◌, length, take, drop, Option, Some, None, Result, Ok, Err, refl, sym, ap, subst, ◌∙◌, arith}
 use Rattle.std.specs.Prelude.{is_some}
-use Rattle.std.proofs.lemmas.List.{length-drop, drop_more, drop_all}
+use Rattle.std.proofs.lemmas.List.{length-drop}
 use Rattle.osi_spdu.specs.declared.faults.SpduFault.{SpduFault}
-use Rattle.osi_spdu.specs.declared.faults.SpduFault.TheVariants.{LengthPastEnd, DuplicateParameter, BadValue, MissingParameter}
+use Rattle.osi_spdu.specs.declared.faults.SpduFault.TheVariants.{LengthPastEnd, DuplicateParameter, BadValue}
 use Rattle.osi_spdu.specs.declared.codes.Code.{Code}
+use Rattle.osi_spdu.specs.declared.kinds.Kind.{Kind}
 use Rattle.osi_spdu.specs.declared.params.Params.{Params}
 use Rattle.osi_spdu.specs.Codes.{number_of, slot_of}
-use Rattle.osi_spdu.specs.Values.{canonical}
+use Rattle.osi_spdu.specs.Values.{canonical_in}
 use Rattle.osi_spdu.specs.Known.{Known}
-use Rattle.osi_spdu.specs.Reading.{◌>>=◌, Measured, counted_at, long_at, measured_at, parameter_at, Taking, params_at, params_of, judged, stored, all_there}
+use Rattle.osi_spdu.specs.Reading.{◌>>=◌, Measured, counted_at, long_at, measured_at, parameter_at, Taking, params_at, params_of, judged, stored}
 use Rattle.osi_spdu.specs.Params.{place_of, cells_of, filled, slots_of}
 use Rattle.osi_spdu.specs.Laws.Steps.{bind_ok, bind_of, ok_is, guard_ok}
 use Rattle.osi_spdu.specs.Laws.Lengths.{chosen}
@@ -17,22 +18,23 @@ use Rattle.osi_spdu.proofs.ParamsLaws.{slots_put}
 
 -- ---- a slot
 
-pub stored_twice : (at n : ℕ) (c : Code) (value : List ℕ) (known : Known) → is_some (known (slot_of c)) ≡ true → n ≡ number_of c → stored at c value known ≡ Err (DuplicateParameter n at)
+pub stored_twice : (kind : Kind) (at n : ℕ) (c : Code) (value : List ℕ) (known : Known) → is_some (known (slot_of c)) ≡ true → n ≡ number_of c → stored kind at c value known ≡ Err (DuplicateParameter n at)
 unfolding stored
-stored_twice at n c value known e same = rw (e, same) refl
+stored_twice kind at n c value known e same = rw (e, same) refl
 
-pub stored_bad : (at n : ℕ) (c : Code) (value : List ℕ) (known : Known) → is_some (known (slot_of c)) ≡ false → is_some (canonical c value) ≡ false → n ≡ number_of c → stored at c value known ≡ Err (BadValue n at)
+pub stored_bad : (kind : Kind) (at n : ℕ) (c : Code) (value : List ℕ) (known : Known) → is_some (known (slot_of c)) ≡ false → is_some (canonical_in kind c value) ≡ false → n ≡ number_of c
+    → stored kind at c value known ≡ Err (BadValue n at)
 unfolding stored
-stored_bad at n c value known e bad same = rw (e, same) (none (canonical c value) bad)
+stored_bad kind at n c value known e bad same = rw (e, same) (none (canonical_in kind c value) bad)
   where
     none : (o : Option (List ℕ)) → is_some o ≡ false → judged at c known o ≡ Err (BadValue (number_of c) at)
     none None h = refl
     none (Some v) h = absurd cc
 
-pub stored_done : (at : ℕ) (c : Code) (value : List ℕ) (p q : Params) → is_some (slots_of p (slot_of c)) ≡ false → is_some (canonical c value) ≡ true
-    → cells_of q ≡ filled (cells_of p) (place_of (slot_of c)) (canonical c value) → stored at c value (slots_of p) ≡ Ok (slots_of q)
+pub stored_done : (kind : Kind) (at : ℕ) (c : Code) (value : List ℕ) (p q : Params) → is_some (slots_of p (slot_of c)) ≡ false → is_some (canonical_in kind c value) ≡ true
+    → cells_of q ≡ filled (cells_of p) (place_of (slot_of c)) (canonical_in kind c value) → stored kind at c value (slots_of p) ≡ Ok (slots_of q)
 unfolding stored
-stored_done at c value p q e good cells = rw e (some (canonical c value) good cells)
+stored_done kind at c value p q e good cells = rw e (some (canonical_in kind c value) good cells)
   where
     some : (o : Option (List ℕ)) → is_some o ≡ true → cells_of q ≡ filled (cells_of p) (place_of (slot_of c)) o → judged at c (slots_of p) o ≡ Ok (slots_of q)
     some None h f = absurd cc

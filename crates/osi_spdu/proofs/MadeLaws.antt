@@ -89,7 +89,7 @@ small_InitialNumber v e = numeral_small (numeral v) v e
 
 small_Enclosure : (v : List ℕ) → canonical Enclosure v ≡ Some v → length v ≤ 16
 unfolding canonical
-small_Enclosure v e = one_small (λ b. eqb b 3) as_it_is v v e
+small_Enclosure v e = one_small (λ b. ltb b 4) as_it_is v v e
 
 small_TokenSetting : (v : List ℕ) → canonical TokenSetting v ≡ Some v → length v ≤ 16
 unfolding canonical

@@ -4,8 +4,9 @@ use Rattle.std.proofs.lemmas.Grind.{common_steps}
 use Rattle.std.specs.List.{list_all}
 use Rattle.std.proofs.lemmas.Bool.{cases_Bool, and_parts, ltb-true, leb-true}
 use Rattle.osi_spdu.specs.declared.codes.Code.{Code}
+use Rattle.osi_spdu.specs.declared.kinds.Kind.{Kind}
 use Rattle.osi_spdu.specs.declared.codes.Code.TheVariants.{ConnectionIdentifier, ConnectAcceptItem, CalledReference, CallingReference, CommonReference, AdditionalReference, SyncType, TokenItem, TransportDisconnect, ProtocolOptions, UserRequirements, TsduMaximumSize, Version, InitialNumber, Enclosure, TokenSetting, ResyncType, Number, Reflect, Reason, CallingSelector, CalledSelector, UserData, ExtendedUserData}
-use Rattle.osi_spdu.specs.Values.{significant, six_digits, digits_of, decimal_from, decimal, is_digit, is_numeral, numeral, octet_if, kept_if, canonical, token_bits, any_octet, as_it_is, is_setting}
+use Rattle.osi_spdu.specs.Values.{significant, six_digits, digits_of, decimal_from, decimal, is_digit, is_numeral, numeral, octet_if, kept_if, canonical, may_enclose, canonical_in, token_bits, any_octet, as_it_is, is_setting}
 
 -- ---- a value is written in no more octets than it was read in
 
@@ -116,7 +117,7 @@ canonical_shorter UserRequirements value v e = kept_shorter (eqb (length value) 
 canonical_shorter TsduMaximumSize value v e = kept_shorter (eqb (length value) 4) value v e
 canonical_shorter Version value v e = one_shorter any_octet as_it_is value v e
 canonical_shorter InitialNumber value v e = numeral_shorter value v e
-canonical_shorter Enclosure value v e = one_shorter (λ b. eqb b 3) as_it_is value v e
+canonical_shorter Enclosure value v e = one_shorter (λ b. ltb b 4) as_it_is value v e
 canonical_shorter TokenSetting value v e = one_shorter is_setting as_it_is value v e
 canonical_shorter ResyncType value v e = one_shorter (λ b. ltb b 3) as_it_is value v e
 canonical_shorter Number value v e = numeral_shorter value v e
@@ -126,3 +127,12 @@ canonical_shorter CallingSelector value v e = kept_shorter (leb (length value) 1
 canonical_shorter CalledSelector value v e = kept_shorter (leb (length value) 16) value v e
 canonical_shorter UserData value v e = some_shorter value v e
 canonical_shorter ExtendedUserData value v e = some_shorter value v e
+
+-- what a unit of some kind takes as the value of a code is one
+pub canonical_from : (kind : Kind) (c : Code) (value v : List ℕ) → canonical_in kind c value ≡ Some v → canonical c value ≡ Some v
+unfolding canonical_in
+canonical_from kind c value v e = by (may_enclose kind c value) e
+  where
+    by : (b : Bool) → cond b (canonical c value) None ≡ Some v → canonical c value ≡ Some v
+    by true h = h
+    by false h = absurd cc

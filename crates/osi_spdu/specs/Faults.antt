@@ -9,7 +9,7 @@ use Rattle.osi_spdu.specs.declared.kinds.Category.{Category}
 use Rattle.osi_spdu.specs.declared.kinds.Category.TheVariants.{Zero, One, Two}
 use Rattle.osi_spdu.specs.Codes.{number_of, is_group, slot_of}
 use Rattle.osi_spdu.specs.Kinds.{category_of, codes_of, members_of, required_of, kind_named, may_stand}
-use Rattle.osi_spdu.specs.Values.{canonical}
+use Rattle.osi_spdu.specs.Values.{canonical_in}
 use Rattle.osi_spdu.specs.Known.{Known, nothing, put, Contents, Units}
 use Rattle.osi_spdu.specs.Reading.{code_among, takes_rest, crowded}
 use Rattle.osi_spdu.specs.Spelling.{length_octets, HasLength, Part, part_octets, Sole, IsPart, Spells, MeansInGroup, MeansInUnit, SpellsUnit, AreBehind, AreUnits}
@@ -34,11 +34,11 @@ pub record Fills (means : ℕ → List ℕ → Known → Type 0) (before : Known
   pub each : AllByRecursion (IsPart means) parts
   pub once : (c : Code) → Sole (before c ∷ map (λ p. p.gives c) parts) (after c)
 
--- a known parameter stands there for the second time, or else its value is none of its code
-abbrev pub IsValueFault : ℕ → Code → List ℕ → Known → SpduFault → Type 0
-IsValueFault at c value known fault =
+-- a known parameter stands there for the second time, or else its value is none of its code in a unit of this kind
+abbrev pub IsValueFault : Kind → ℕ → Code → List ℕ → Known → SpduFault → Type 0
+IsValueFault kind at c value known fault =
     (IsSome (known (slot_of c)) × (fault ≡ DuplicateParameter (number_of c) at))
-    ⊎ ((known (slot_of c) ≡ None) × (canonical c value ≡ None) × (fault ≡ BadValue (number_of c) at))
+    ⊎ ((known (slot_of c) ≡ None) × (canonical_in kind c value ≡ None) × (fault ≡ BadValue (number_of c) at))
 
 -- what may be wrong with one parameter: the offsets of its code and of its value, its code, its value, what is known before
 abbrev pub Failing : Type 1
@@ -60,15 +60,15 @@ pub record IsLevelFault (means : ℕ → List ℕ → Known → Type 0) (failing
   pub fills : Fills means before front known
   pub bad : IsItemFault failing (at + length front) rest known fault
 
-unfoldable pub FailsInGroup : List Code → Failing
-FailsInGroup members at body code value known fault = (c : Code) × (code_among members code ≡ Some c) × IsValueFault at c value known fault
+unfoldable pub FailsInGroup : Kind → List Code → Failing
+FailsInGroup kind members at body code value known fault = (c : Code) × (code_among members code ≡ Some c) × IsValueFault kind at c value known fault
 
 -- a parameter of a unit, or a group: the group itself, or what it holds
 unfoldable pub FailsInUnit : Kind → Failing
 FailsInUnit kind at body code value known fault =
     (c : Code) × (code_among (codes_of kind) code ≡ Some c)
-    × (IsValueFault at c value known fault
-    ⊎ ((is_group c ≡ true) × (known (slot_of c) ≡ None) × IsLevelFault (MeansInGroup (members_of kind c)) (FailsInGroup (members_of kind c)) body (put (slot_of c) [] known) value fault))
+    × (IsValueFault kind at c value known fault
+    ⊎ ((is_group c ≡ true) × (known (slot_of c) ≡ None) × IsLevelFault (MeansInGroup kind (members_of kind c)) (FailsInGroup kind (members_of kind c)) body (put (slot_of c) [] known) value fault))
 
 -- the first code of these that is not there
 abbrev pub IsFirstMissing : ℕ → List Code → Known → SpduFault → Type 0

@@ -12,6 +12,7 @@ use Rattle.osi_spdu.specs.declared.fields.SyncType.TheVariants.{Asked, Open}
 use Rattle.osi_spdu.specs.declared.fields.ResyncType.{ResyncType}
 use Rattle.osi_spdu.specs.declared.fields.ResyncType.TheVariants.{Restart, Abandon, Set}
 use Rattle.osi_spdu.specs.declared.fields.Enclosure.{Enclosure}
+use Rattle.osi_spdu.specs.declared.fields.Enclosure.TheVariants.{First, Middle, Last, Whole}
 use Rattle.osi_spdu.specs.declared.fields.TsduMaximumSize.{TsduMaximumSize}
 use Rattle.osi_spdu.specs.declared.fields.Reason.{Reason}
 use Rattle.osi_spdu.specs.Values.{token_bits}
@@ -50,7 +51,10 @@ abbrev pub size_octets : TsduMaximumSize → List ℕ
 size_octets s = s.from_asker / 256 ∷ s.from_asker % 256 ∷ s.from_answerer / 256 ∷ s.from_answerer % 256 ∷ []
 
 abbrev pub enclosure_octet : Enclosure → ℕ
-enclosure_octet e = 3
+enclosure_octet Middle = 0
+enclosure_octet First = 1
+enclosure_octet Last = 2
+enclosure_octet Whole = 3
 
 abbrev pub wish_number : Wish → ℕ
 wish_number wishes.Asker = 0

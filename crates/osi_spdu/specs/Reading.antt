@@ -10,7 +10,7 @@ use Rattle.osi_spdu.specs.declared.kinds.Category.{Category}
 use Rattle.osi_spdu.specs.declared.kinds.Category.TheVariants.{Zero, One, Two}
 use Rattle.osi_spdu.specs.Codes.{number_of, is_group, slot_of}
 use Rattle.osi_spdu.specs.Kinds.{category_of, codes_of, members_of, required_of, kind_named, may_stand}
-use Rattle.osi_spdu.specs.Values.{canonical}
+use Rattle.osi_spdu.specs.Values.{canonical_in}
 use Rattle.osi_spdu.specs.Known.{Known, nothing, put, settled, Contents, Units}
 
 infixl 10 ◌>>=◌
@@ -74,25 +74,25 @@ judged at c known None = Err (BadValue (number_of c) at)
 judged at c known (Some value) = Ok (put (slot_of c) value known)
 
 -- the value goes to its slot, which must be free
-unfoldable pub stored : ℕ → Code → List ℕ → Known → Result Known SpduFault
-stored at c value known =
+unfoldable pub stored : Kind → ℕ → Code → List ℕ → Known → Result Known SpduFault
+stored kind at c value known =
     if is_some (known (slot_of c)) then Err (DuplicateParameter (number_of c) at)
-    else judged at c known (canonical c value)
+    else judged at c known (canonical_in kind c value)
 
-abbrev pub member_taken : ℕ → List ℕ → Known → Option Code → Result Known SpduFault
-member_taken at value known None = Ok known
-member_taken at value known (Some c) = stored at c value known
+abbrev pub member_taken : Kind → ℕ → List ℕ → Known → Option Code → Result Known SpduFault
+member_taken kind at value known None = Ok known
+member_taken kind at value known (Some c) = stored kind at c value known
 
 -- a parameter within a group
-unfoldable pub in_group : List Code → Taking
-in_group members at body code value known = member_taken at value known (code_among members code)
+unfoldable pub in_group : Kind → List Code → Taking
+in_group kind members at body code value known = member_taken kind at value known (code_among members code)
 
 abbrev pub opened : Kind → ℕ → Code → List ℕ → Known → Result Known SpduFault
-opened kind body c value known = if is_group c then params_of (in_group (members_of kind c)) body known value else Ok known
+opened kind body c value known = if is_group c then params_of (in_group kind (members_of kind c)) body known value else Ok known
 
 abbrev pub parameter_taken : Kind → ℕ → ℕ → List ℕ → Known → Option Code → Result Known SpduFault
 parameter_taken kind at body value known None = Ok known
-parameter_taken kind at body value known (Some c) = stored at c value known >>= opened kind body c value
+parameter_taken kind at body value known (Some c) = stored kind at c value known >>= opened kind body c value
 
 -- a parameter or a group of a unit
 unfoldable pub in_unit : Kind → Taking

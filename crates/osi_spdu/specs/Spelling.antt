@@ -9,7 +9,7 @@ use Rattle.osi_spdu.specs.declared.kinds.Category.{Category}
 use Rattle.osi_spdu.specs.declared.kinds.Category.TheVariants.{Zero, One, Two}
 use Rattle.osi_spdu.specs.Codes.{is_group, slot_of}
 use Rattle.osi_spdu.specs.Kinds.{si_of, category_of, codes_of, members_of, required_of}
-use Rattle.osi_spdu.specs.Values.{canonical}
+use Rattle.osi_spdu.specs.Values.{canonical_in}
 use Rattle.osi_spdu.specs.Known.{Known, nothing, put, settled, Contents, Units}
 use Rattle.osi_spdu.specs.Reading.{code_among}
 
@@ -57,22 +57,22 @@ abbrev pub only : Code → List ℕ → Known
 only slot value = put slot value nothing
 
 -- an unknown code gives nothing, a known one the value of its slot
-abbrev pub MemberOf : List ℕ → Known → Option Code → Type 0
-MemberOf value gives None = gives ≡ nothing
-MemberOf value gives (Some c) = (form : List ℕ) × (canonical c value ≡ Some form) × (gives ≡ only (slot_of c) form)
+abbrev pub MemberOf : Kind → List ℕ → Known → Option Code → Type 0
+MemberOf kind value gives None = gives ≡ nothing
+MemberOf kind value gives (Some c) = (form : List ℕ) × (canonical_in kind c value ≡ Some form) × (gives ≡ only (slot_of c) form)
 
-unfoldable pub MeansInGroup : List Code → ℕ → List ℕ → Known → Type 0
-MeansInGroup members code value gives = MemberOf value gives (code_among members code)
+unfoldable pub MeansInGroup : Kind → List Code → ℕ → List ℕ → Known → Type 0
+MeansInGroup kind members code value gives = MemberOf kind value gives (code_among members code)
 
 -- a group gives that it is there, and what its parameters give
 abbrev pub GroupOf : Kind → Code → List ℕ → Known → Type 0
 GroupOf kind c value gives =
-    (inner : Known) × Spells (MeansInGroup (members_of kind c)) inner value
+    (inner : Known) × Spells (MeansInGroup kind (members_of kind c)) inner value
     × ((d : Code) → Sole (only c [] d ∷ inner d ∷ []) (gives d))
 
 abbrev pub ParameterOf : Kind → Code → List ℕ → Known → Bool → Type 0
 ParameterOf kind c value gives true = GroupOf kind c value gives
-ParameterOf kind c value gives false = MemberOf value gives (Some c)
+ParameterOf kind c value gives false = MemberOf kind value gives (Some c)
 
 abbrev pub KnownOf : Kind → List ℕ → Known → Option Code → Type 0
 KnownOf kind value gives None = gives ≡ nothing

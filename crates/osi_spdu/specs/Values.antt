@@ -1,8 +1,11 @@
 -- What the value of each parameter may be, and how it is written.
-use Rattle.std.specs.Prelude.{ℕ, ◌+◌, ◌-◌, ◌*◌, ◌/◌, ◌%◌, ◌==◌, ◌&&◌, ◌||◌, not, Bool, true, List, [], ◌∷◌, length, nat_lt, nat_le, Option, Some, None, if◌then◌else◌, option_map}
+use Rattle.std.specs.Prelude.{ℕ, ◌+◌, ◌-◌, ◌*◌, ◌/◌, ◌%◌, ◌==◌, ◌&&◌, ◌||◌, not, Bool, true, false, List, [], ◌∷◌, length, nat_lt, nat_le, Option, Some, None, if◌then◌else◌, option_map}
 use Rattle.std.specs.List.{list_all}
 use Rattle.std.specs.Int.RustNames.{bit_and}
 use Rattle.osi_spdu.specs.declared.codes.Code.{Code}
+use Rattle.osi_spdu.specs.declared.kinds.Kind.{Kind}
+use Rattle.osi_spdu.specs.declared.kinds.Kind.TheVariants.{DataTransfer}
+use Rattle.osi_spdu.specs.Codes.{is_same}
 use Rattle.osi_spdu.specs.declared.codes.Code.TheVariants.{ConnectionIdentifier, ConnectAcceptItem, CalledReference, CallingReference, CommonReference, AdditionalReference, SyncType, TokenItem, TransportDisconnect, ProtocolOptions, UserRequirements, TsduMaximumSize, Version, InitialNumber, Enclosure, TokenSetting, ResyncType, Number, Reflect, Reason, CallingSelector, CalledSelector, UserData, ExtendedUserData}
 
 -- octets that pass a test, as they are
@@ -80,7 +83,7 @@ canonical UserRequirements value = kept_if (length value == 2) value
 canonical TsduMaximumSize value = kept_if (length value == 4) value
 canonical Version value = octet_if any_octet as_it_is value
 canonical InitialNumber value = option_map digits_of (numeral value)
-canonical Enclosure value = octet_if (λ b. b == 3) as_it_is value
+canonical Enclosure value = octet_if (λ b. nat_lt b 4) as_it_is value
 canonical TokenSetting value = octet_if is_setting as_it_is value
 canonical ResyncType value = octet_if (λ b. nat_lt b 3) as_it_is value
 canonical Number value = option_map digits_of (numeral value)
@@ -90,3 +93,21 @@ canonical CallingSelector value = kept_if (nat_le (length value) 16) value
 canonical CalledSelector value = kept_if (nat_le (length value) 16) value
 canonical UserData value = Some value
 canonical ExtendedUserData value = Some value
+
+-- a DT alone may have a part of user data
+abbrev pub may_have_parts : Kind → Bool
+may_have_parts DataTransfer = true
+may_have_parts _ = false
+
+-- user data begins and ends here: 03
+abbrev pub is_three : List ℕ → Bool
+is_three [] = false
+is_three (b ∷ octets) = b == 3
+
+-- the enclosure of a unit that may have no part of user data says that it has the whole
+unfoldable pub may_enclose : Kind → Code → List ℕ → Bool
+may_enclose kind c value = not (is_same c Enclosure) || (may_have_parts kind || is_three value)
+
+-- the value as it is written in a unit of this kind, or None where it is refused there
+unfoldable pub canonical_in : Kind → Code → List ℕ → Option (List ℕ)
+canonical_in kind c value = if may_enclose kind c value then canonical c value else None

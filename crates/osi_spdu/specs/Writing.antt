@@ -2,13 +2,13 @@
 use Rattle.std.specs.Prelude.{◌≡◌, ◌<◌, ℕ, ◌++◌, ◌+◌, ◌==◌, ◌&&◌, ◌||◌, Bool, true, false, List, [], ◌∷◌, length, nat_lt, Option, Some, None, is_some, is_none, if◌then◌else◌}
 use Rattle.std.specs.List.{flat_map, list_any, list_all, AllByRecursion}
 use Rattle.osi_spdu.specs.declared.codes.Code.{Code}
-use Rattle.osi_spdu.specs.declared.codes.Code.TheVariants.{CalledReference, CallingReference, CommonReference, AdditionalReference, Reflect, Reason, UserData, ExtendedUserData}
+use Rattle.osi_spdu.specs.declared.codes.Code.TheVariants.{CalledReference, CallingReference, CommonReference, AdditionalReference, Enclosure, Reflect, Reason, UserData, ExtendedUserData}
 use Rattle.osi_spdu.specs.declared.kinds.Kind.{Kind}
 use Rattle.osi_spdu.specs.declared.kinds.Category.{Category}
 use Rattle.osi_spdu.specs.declared.kinds.Category.TheVariants.{Zero, One, Two}
 use Rattle.osi_spdu.specs.Codes.{number_of, is_same, is_group, every_code}
 use Rattle.osi_spdu.specs.Kinds.{si_of, category_of, codes_of, members_of, required_of, may_stand}
-use Rattle.osi_spdu.specs.Values.{canonical}
+use Rattle.osi_spdu.specs.Values.{canonical, may_have_parts, is_three}
 use Rattle.osi_spdu.specs.Known.{Known, Contents, Units}
 use Rattle.osi_spdu.specs.Reading.{takes_rest}
 use Rattle.osi_spdu.specs.Spelling.{item_octets, HasInformation, StandTogether}
@@ -69,10 +69,16 @@ is_zero Zero = true
 is_zero One = false
 is_zero Two = false
 
--- nothing is there that the unit does not know, and what it must have is
+-- an enclosure that is there is one that the unit may have
+abbrev pub is_enclosed : Kind → Option (List ℕ) → Bool
+is_enclosed kind None = true
+is_enclosed kind (Some value) = may_have_parts kind || is_three value
+
+-- nothing is there that the unit does not know, what it must have is, and a DT alone has a part of user data
 unfoldable pub is_formed : Kind → Known → Bool
 is_formed kind known =
-    list_all (λ c. may_be_there kind known c || is_none (known c)) every_code && list_all (λ c. is_some (known c)) (required_of kind)
+    (list_all (λ c. may_be_there kind known c || is_none (known c)) every_code && list_all (λ c. is_some (known c)) (required_of kind))
+    && is_enclosed kind (known Enclosure)
 
 -- user information stands in a DT alone
 abbrev pub is_informed : Kind → List ℕ → Bool

@@ -103,6 +103,13 @@ impl Code {
         matches!(self, Code::UserData)
     }
 
+    /// Whether it is the enclosure.
+    pub(crate) fn is_enclosure(self) -> bool
+        ensures { result ≡ is_same self Code.Enclosure }
+    {
+        matches!(self, Code::Enclosure)
+    }
+
     /// The code under which the value is kept: user data has two codes.
     pub(crate) fn slot(self) -> Code
         ensures { result ≡ slot_of self }

@@ -29,6 +29,12 @@ pub enum ResyncType {
 /// Where user data begins and ends (X.225 section 8, enclosure item).
 #[derive(Clone, Copy, PartialEq, Eq, Debug)]
 pub enum Enclosure {
+    /// It begins in this unit and does not end in it (01).
+    First,
+    /// It neither begins nor ends in this unit (00).
+    Middle,
+    /// It ends in this unit and did not begin in it (02).
+    Last,
     /// It begins and ends in this unit (03).
     Whole,
 }
@@ -125,6 +131,9 @@ impl Enclosure {
         ensures { result ≡ enclosure_octet self }
     {
         match self {
+            Enclosure::Middle => 0,
+            Enclosure::First => 1,
+            Enclosure::Last => 2,
             Enclosure::Whole => 3,
         }
     }
@@ -133,6 +142,9 @@ impl Enclosure {
         ensures { canonical Code.Enclosure value.now ≡ option_map (λ e. enclosure_octet e ∷ []) result }
     {
         match value {
+            [0] => Some(Enclosure::Middle),
+            [1] => Some(Enclosure::First),
+            [2] => Some(Enclosure::Last),
             [3] => Some(Enclosure::Whole),
             _ => None,
         }

@@ -1,5 +1,6 @@
 ghost use Rattle.std.specs.Prelude.{◌≡◌};
 ghost use Rattle.osi_spdu.specs.Kinds.{si_of, category_of, codes_of, members_of, references_of, may_stand, kind_named};
+ghost use Rattle.osi_spdu.specs.Values.{may_have_parts, is_three, may_enclose};
 ghost use Rattle.osi_spdu.specs.Reading.{takes_rest, code_among};
 ghost use Rattle.osi_spdu.specs.Writing.{among};
 
@@ -168,6 +169,22 @@ impl Kind {
     /// Whether the octets behind the unit are its user information.
     pub(crate) fn takes_rest(self) -> bool
         ensures { result ≡ takes_rest self }
+    {
+        matches!(self, Kind::DataTransfer)
+    }
+
+    /// Whether a unit of this kind may have the value under this code: a DT alone may have a part
+    /// of user data, and the enclosure of the others says that it is whole.
+    #[tactic(auto, unfolding(crate::specs::Values::may_enclose))]
+    pub(crate) fn may_enclose(self, code: Code, value: &[u8]) -> bool
+        ensures { result ≡ may_enclose self code value.now }
+    {
+        !code.is_enclosure() || self.may_have_parts() || is_three(value)
+    }
+
+    /// Whether the unit may have a part of user data.
+    fn may_have_parts(self) -> bool
+        ensures { result ≡ may_have_parts self }
     {
         matches!(self, Kind::DataTransfer)
     }
@@ -351,6 +368,13 @@ impl Category {
             Category::Two => second,
         }
     }
+}
+
+/// User data begins and ends in its unit.
+fn is_three(value: &[u8]) -> bool
+    ensures { result ≡ is_three value.now }
+{
+    matches!(value, [3, ..])
 }
 
 /// The unit that an SI names in the first place of a TSDU, or behind another unit.

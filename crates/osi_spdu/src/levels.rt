@@ -1,10 +1,12 @@
 //! Parameters of one level: of a unit, and of a group in it.
 
-ghost use Rattle.std.specs.Prelude.{◌≡◌, ◌≤◌, ◌<◌, ◌+◌, ◌^◌, [], ◌∷◌, length, IfOk};
+ghost use Rattle.std.specs.Prelude.{◌≡◌, ◌≤◌, ◌<◌, ◌+◌, ◌^◌, [], ◌∷◌, length, is_some, IfOk};
 ghost use Rattle.osi_spdu.specs.Reading.{Gives, Taking, counted_at, measured_at, parameter_at, stored, in_group, in_unit, params_of, all_there};
 ghost use Rattle.osi_spdu.specs.Kinds.{members_of, required_of};
 ghost use Rattle.osi_spdu.specs.Known.{nothing};
-ghost use Rattle.osi_spdu.specs.Params.{slots_of};
+ghost use Rattle.osi_spdu.specs.Codes.{slot_of};
+ghost use Rattle.osi_spdu.specs.Values.{canonical_in};
+ghost use Rattle.osi_spdu.specs.Params.{place_of, cells_of, filled, slots_of};
 ghost use Rattle.osi_spdu.specs.Counted.{measured_of, parameter_of};
 
 use crate::codes::Code;
@@ -81,19 +83,35 @@ fn parameter_at<'a>(at: usize, octets: &'a [u8]) -> Result<Parameter<'a>, SpduFa
     })
 }
 
+/// Puts a value into its slot, or `None` where it is no value of this code in a unit of this kind: a
+/// DT alone has a part of user data.
+#[tactic(auto, unfolding(crate::specs::Values::canonical_in))]
+fn fill_in<'a>(params: &mut Params<'a>, kind: Kind, code: Code, value: &'a [u8]) -> Option<()>
+    ensures value { is_some result ≡ is_some (canonical_in kind code value.now) }
+    ensures cells { cells_of params.new
+        ≡ filled (cells_of params.old) (place_of (slot_of code)) (canonical_in kind code value.now) }
+{
+    if !kind.may_enclose(code, value) {
+        return None;
+    }
+    params.fill(code, value)
+}
+
 /// Puts a value into its slot, which must be free.
 fn store<'a>(
     params: &mut Params<'a>,
+    kind: Kind,
     at: usize,
     code: Code,
     value: &'a [u8],
 ) -> Result<(), SpduFault>
-    ensures { Gives (λ _. slots_of params.new) result (stored at code value.now (slots_of params.old)) }
+    ensures { Gives (λ _. slots_of params.new) result
+        (stored kind at code value.now (slots_of params.old)) }
 {
     if params.has(code.slot()) {
         return Err(SpduFault::DuplicateParameter(code.number(), at));
     }
-    match params.fill(code, value) {
+    match fill_in(params, kind, code, value) {
         None => Err(SpduFault::BadValue(code.number(), at)),
         Some(()) => Ok(()),
     }
@@ -132,7 +150,7 @@ struct OfUnit {
 
 #[tactic(auto, unfolding(crate::specs::Reading::in_group))]
 impl Level for OfGroup {
-    ghost taking = { λ g. in_group (members_of g.kind g.group) };
+    ghost taking = { λ g. in_group g.kind (members_of g.kind g.group) };
 
     fn take<'a>(
         &self,
@@ -144,7 +162,7 @@ impl Level for OfGroup {
     ) -> Result<(), SpduFault> {
         match self.kind.known_in(self.group, code) {
             None => Ok(()),
-            Some(code) => store(params, at, code, value),
+            Some(code) => store(params, self.kind, at, code, value),
         }
     }
 }
@@ -164,7 +182,7 @@ impl Level for OfUnit {
         let Some(code) = self.kind.known(code) else {
             return Ok(());
         };
-        store(params, at, code, value)?;
+        store(params, self.kind, at, code, value)?;
         if code.is_group() {
             let group = OfGroup {
                 kind: self.kind,

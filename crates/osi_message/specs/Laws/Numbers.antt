@@ -7,11 +7,12 @@ use Rattle.osi_spdu.specs.declared.kinds.Kind.TheVariants as kind
 use Rattle.osi_spdu.specs.declared.codes.Code.TheVariants.{InitialNumber, Number}
 use Rattle.osi_spdu.specs.Known.{Known, Contents, Units}
 use Rattle.osi_spdu.specs.Values.{is_digit, is_numeral, decimal_from, decimal, numeral}
+use Rattle.osi_message.specs.declared.places.Place.{Place}
 use Rattle.osi_message.specs.declared.messages.Message.{Message}
 use Rattle.osi_message.specs.declared.messages.Message.TheVariants as message
 use Rattle.osi_message.specs.Meanings.{meant_by}
-use Rattle.osi_message.specs.Numbered.{IsSmall, IsNumbered, AreNumbered}
-use Rattle.osi_message.specs.Reading.{serial_in, number_in, meaning_by, meaning, said_by_units}
+use Rattle.osi_message.specs.Numbered.{IsSmall, IsNumbered, IsNumberedWord, AreNumberedWords}
+use Rattle.osi_message.specs.Reading.{serial_in, number_in, meaning_by, meaning, place_of, word_at, word, said_by_units}
 
 -- ---- numbers of at most six digits
 
@@ -77,10 +78,15 @@ meaning_numbered : (unit : Contents) → IsNumbered (meaning unit)
 unfolding meaning
 meaning_numbered unit = by_numbered unit.kind unit.known unit.information
 
+word_numbered : (place : Option Place) (unit : Contents) → IsNumberedWord (word_at place unit)
+word_numbered None unit = meaning_numbered unit
+word_numbered (Some place) unit = tt
+
 -- the numbers in the units of a TSDU are those that a point may have
-pub units_numbered : (units : Units) → AreNumbered (said_by_units units)
+pub units_numbered : (units : Units) → AreNumberedWords (said_by_units units)
+unfolding word
 units_numbered [] = tt
-units_numbered (unit ∷ units) = (meaning_numbered unit, units_numbered units)
+units_numbered (unit ∷ units) = (word_numbered (place_of unit) unit, units_numbered units)
 
 -- ---- in memory
 

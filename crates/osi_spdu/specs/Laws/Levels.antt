@@ -10,7 +10,7 @@ use Rattle.osi_spdu.specs.declared.kinds.Kind.{Kind}
 use Rattle.osi_spdu.specs.declared.codes.Code.TheVariants.{ConnectionIdentifier, ConnectAcceptItem}
 use Rattle.osi_spdu.specs.Codes.{number_of, is_same, is_group, slot_of}
 use Rattle.osi_spdu.specs.Kinds.{codes_of, members_of}
-use Rattle.osi_spdu.specs.Values.{canonical}
+use Rattle.osi_spdu.specs.Values.{canonical, may_enclose, canonical_in}
 use Rattle.osi_spdu.specs.Known.{Known, nothing, put}
 use Rattle.osi_spdu.specs.Reading.{◌>>=◌, Measured, measured_at, Taking, params_at, params_of, code_among, judged, stored, member_taken, in_group, parameter_taken, in_unit}
 use Rattle.osi_spdu.specs.Spelling.{length_octets, Part, part_octets, Sole, IsPart, Spells, only, MemberOf, MeansInGroup, GroupOf, ParameterOf, KnownOf, MeansInUnit}
@@ -91,20 +91,20 @@ judged_ok at c known more None e = absurd cc
 judged_ok at c known more (Some form) e = (form, refl, sym (ok_is (put (slot_of c) form known) more e))
 
 -- a value that was stored found its slot free
-pub stored_ok : (at : ℕ) (c : Code) (value : List ℕ) (known more : Known) → stored at c value known ≡ Ok more
-    → (form : List ℕ) × (canonical c value ≡ Some form) × (more ≡ put (slot_of c) form known) × JoinsAll (only (slot_of c) form) known more
+pub stored_ok : (kind : Kind) (at : ℕ) (c : Code) (value : List ℕ) (known more : Known) → stored kind at c value known ≡ Ok more
+    → (form : List ℕ) × (canonical_in kind c value ≡ Some form) × (more ≡ put (slot_of c) form known) × JoinsAll (only (slot_of c) form) known more
 unfolding stored
-stored_ok at c value known more e =
-    let g = guard_ok (is_some (known (slot_of c))) (DuplicateParameter (number_of c) at) more (judged at c known (canonical c value)) e in
-    let j = judged_ok at c known more (canonical c value) g.1 in
+stored_ok kind at c value known more e =
+    let g = guard_ok (is_some (known (slot_of c))) (DuplicateParameter (number_of c) at) more (judged at c known (canonical_in kind c value)) e in
+    let j = judged_ok at c known more (canonical_in kind c value) g.1 in
     let free : known (slot_of c) ≡ None = is_none_of (known (slot_of c)) g.0 in
     let joins : JoinsAll (only (slot_of c) j.0) known (put (slot_of c) j.0 known) = λ d. put_joins (is_same d (slot_of c)) j.0 (known d) (λ s. ap known (same_true d (slot_of c) s) ∙ free) in
     (j.0, j.1, j.2, subst (λ (m : Known). JoinsAll (only (slot_of c) j.0) known m) (sym j.2) joins)
 
-pub stored_back : (at : ℕ) (c : Code) (value form : List ℕ) (known more : Known) → canonical c value ≡ Some form → JoinsAll (only (slot_of c) form) known more
-    → stored at c value known ≡ Ok more
+pub stored_back : (kind : Kind) (at : ℕ) (c : Code) (value form : List ℕ) (known more : Known) → canonical_in kind c value ≡ Some form → JoinsAll (only (slot_of c) form) known more
+    → stored kind at c value known ≡ Ok more
 unfolding stored
-stored_back at c value form known more e joins =
+stored_back kind at c value form known more e joins =
     let free : known (slot_of c) ≡ None = joins_free (is_same (slot_of c) (slot_of c)) form (known (slot_of c)) (more (slot_of c)) (same_refl (slot_of c)) (joins (slot_of c)) in
     let no : is_some (known (slot_of c)) ≡ false = none_is (known (slot_of c)) free in
     let is : put (slot_of c) form known ≡ more = λ i d. (sym (joins_put (is_same d (slot_of c)) form (known d) (more d) (joins d))) i in
@@ -118,25 +118,25 @@ same_of_nothing known more j = λ i c. (sym (j c)) i
 
 -- ---- within a group
 
-member_takes : (at : ℕ) (value : List ℕ) (known more : Known) (o : Option Code) → member_taken at value known o ≡ Ok more
-    → (gives : Known) × MemberOf value gives o × JoinsAll gives known more
-member_takes at value known more None e = (nothing, refl, joins_nothing known more (ok_is known more e))
-member_takes at value known more (Some c) e =
-    let s = stored_ok at c value known more e in
+member_takes : (kind : Kind) (at : ℕ) (value : List ℕ) (known more : Known) (o : Option Code) → member_taken kind at value known o ≡ Ok more
+    → (gives : Known) × MemberOf kind value gives o × JoinsAll gives known more
+member_takes kind at value known more None e = (nothing, refl, joins_nothing known more (ok_is known more e))
+member_takes kind at value known more (Some c) e =
+    let s = stored_ok kind at c value known more e in
     (only (slot_of c) s.0, (s.0, s.1, refl), s.3)
 
-member_back : (at : ℕ) (value : List ℕ) (gives known more : Known) (o : Option Code) → MemberOf value gives o → JoinsAll gives known more
-    → member_taken at value known o ≡ Ok more
-member_back at value gives known more None m j =
+member_back : (kind : Kind) (at : ℕ) (value : List ℕ) (gives known more : Known) (o : Option Code) → MemberOf kind value gives o → JoinsAll gives known more
+    → member_taken kind at value known o ≡ Ok more
+member_back kind at value gives known more None m j =
     ap (λ (k : Known). Ok k) (same_of_nothing known more (subst (λ (g : Known). JoinsAll g known more) m j))
-member_back at value gives known more (Some c) m j =
-    stored_back at c value m.0 known more m.1 (subst (λ (g : Known). JoinsAll g known more) m.2 j)
+member_back kind at value gives known more (Some c) m j =
+    stored_back kind at c value m.0 known more m.1 (subst (λ (g : Known). JoinsAll g known more) m.2 j)
 
-pub group_follows : (members : List Code) → Follows (in_group members) (MeansInGroup members)
+pub group_follows : (kind : Kind) (members : List Code) → Follows (in_group kind members) (MeansInGroup kind members)
 unfolding in_group MeansInGroup
-group_follows members = record {
-  takes = λ at body code value known more fits e. member_takes at value known more (code_among members code) e;
-  back = λ at body code value gives known more m j. member_back at value gives known more (code_among members code) m j;
+group_follows kind members = record {
+  takes = λ at body code value known more fits e. member_takes kind at value known more (code_among members code) e;
+  back = λ at body code value gives known more m j. member_back kind at value gives known more (code_among members code) m j;
 }
 
 -- ---- within a unit
@@ -147,25 +147,25 @@ group_slot ConnectionIdentifier e = refl
 group_slot ConnectAcceptItem e = refl
 group_slot _ e = absurd cc
 
-pub group_form : (c : Code) (value : List ℕ) → is_group c ≡ true → canonical c value ≡ Some []
-unfolding is_group canonical
-group_form ConnectionIdentifier value e = refl
-group_form ConnectAcceptItem value e = refl
-group_form _ value e = absurd cc
+pub group_form : (kind : Kind) (c : Code) (value : List ℕ) → is_group c ≡ true → canonical_in kind c value ≡ Some []
+unfolding is_group canonical canonical_in may_enclose number_of
+group_form kind ConnectionIdentifier value e = refl
+group_form kind ConnectAcceptItem value e = refl
+group_form kind _ value e = absurd cc
 
 group_takes : (kind : Kind) (body : ℕ) (c : Code) (value : List ℕ) (known mid more : Known) → IsOctets value → JoinsAll (only c []) known mid
-    → params_of (in_group (members_of kind c)) body mid value ≡ Ok more → (gives : Known) × GroupOf kind c value gives × JoinsAll gives known more
+    → params_of (in_group kind (members_of kind c)) body mid value ≡ Ok more → (gives : Known) × GroupOf kind c value gives × JoinsAll gives known more
 group_takes kind body c value known mid more fits joins e =
     let members = members_of kind c in
-    let r = params_found (in_group members) (MeansInGroup members) (group_follows members) (length value) body mid more value (omega arith) fits e in
+    let r = params_found (in_group kind members) (MeansInGroup kind members) (group_follows kind members) (length value) body mid more value (omega arith) fits e in
     let inner : Known = λ d. first (map (λ p. p.gives d) r.parts) in
     let split = λ (d : Code). sole_split (mid d) (map (λ p. p.gives d) r.parts) (more d) (r.once d) in
     let both = λ (d : Code). joins_both (only c [] d) (inner d) (known d) (mid d) (more d) (joins d) ((split d).1) in
-    let spelled : Spells (MeansInGroup members) inner value = record { parts = r.parts; whole = r.whole; each = r.each; once = λ d. (split d).0 } in
+    let spelled : Spells (MeansInGroup kind members) inner value = record { parts = r.parts; whole = r.whole; each = r.each; once = λ d. (split d).0 } in
     ((λ d. first (only c [] d ∷ inner d ∷ [])), (inner, spelled, λ d. (both d).0), λ d. (both d).1)
 
 group_back : (kind : Kind) (at body : ℕ) (c : Code) (value : List ℕ) (gives known more : Known) → is_group c ≡ true → GroupOf kind c value gives → JoinsAll gives known more
-    → (stored at c value known >>= λ mid. params_of (in_group (members_of kind c)) body mid value) ≡ Ok more
+    → (stored kind at c value known >>= λ mid. params_of (in_group kind (members_of kind c)) body mid value) ≡ Ok more
 group_back kind at body c value gives known more is m j =
     let members = members_of kind c in
     let mid : Known = put c [] known in
@@ -173,34 +173,34 @@ group_back kind at body c value gives known more is m j =
     let same = λ (d : Code). joins_merged (is_same d c) [] (known d) ((apart d).0) in
     let presence : JoinsAll (only c []) known mid = λ d. subst (λ (k : Option (List ℕ)). Joins (only c [] d) (known d) k) (same d) ((apart d).0) in
     let contents : JoinsAll m.0 mid more = λ d. subst (λ (k : Option (List ℕ)). Joins (m.0 d) k (more d)) (same d) ((apart d).1) in
-    let one : stored at c value known ≡ Ok mid =
-    stored_back at c value [] known mid (group_form c value is) (subst (λ (s : Code). JoinsAll (only s []) known mid) (sym (group_slot c is)) presence) in
-    let read : params_of (in_group members) body mid (flat_map part_octets m.1.parts) ≡ Ok more =
-    params_only (in_group members) (MeansInGroup members) (group_follows members) (length (flat_map part_octets m.1.parts)) body mid more m.1.parts (omega arith) m.1.each
+    let one : stored kind at c value known ≡ Ok mid =
+    stored_back kind at c value [] known mid (group_form kind c value is) (subst (λ (s : Code). JoinsAll (only s []) known mid) (sym (group_slot c is)) presence) in
+    let read : params_of (in_group kind members) body mid (flat_map part_octets m.1.parts) ≡ Ok more =
+    params_only (in_group kind members) (MeansInGroup kind members) (group_follows kind members) (length (flat_map part_octets m.1.parts)) body mid more m.1.parts (omega arith) m.1.each
     (λ d. sole_join (m.0 d) (mid d) (map (λ p. p.gives d) m.1.parts) (more d) (m.1.once d) (contents d)) in
-    bind_of (stored at c value known) (λ k. params_of (in_group members) body k value) mid (Ok more) one
-    (subst (λ (v : List ℕ). params_of (in_group members) body mid v ≡ Ok more) (sym m.1.whole) read)
+    bind_of (stored kind at c value known) (λ k. params_of (in_group kind members) body k value) mid (Ok more) one
+    (subst (λ (v : List ℕ). params_of (in_group kind members) body mid v ≡ Ok more) (sym m.1.whole) read)
 
 opened_takes : (kind : Kind) (at body : ℕ) (c : Code) (value : List ℕ) (known more : Known) (b : Bool) → is_group c ≡ b → IsOctets value
-    → (stored at c value known >>= λ mid. cond b (params_of (in_group (members_of kind c)) body mid value) (Ok mid)) ≡ Ok more
+    → (stored kind at c value known >>= λ mid. cond b (params_of (in_group kind (members_of kind c)) body mid value) (Ok mid)) ≡ Ok more
     → (gives : Known) × ParameterOf kind c value gives b × JoinsAll gives known more
 opened_takes kind at body c value known more true is fits e =
-    let a = bind_ok (stored at c value known) (λ mid. params_of (in_group (members_of kind c)) body mid value) more e in
-    let s = stored_ok at c value known a.0 a.1 in
-    let form : s.0 ≡ [] = (let h : Some s.0 ≡ Some [] = sym s.1 ∙ group_form c value is in cc) in
+    let a = bind_ok (stored kind at c value known) (λ mid. params_of (in_group kind (members_of kind c)) body mid value) more e in
+    let s = stored_ok kind at c value known a.0 a.1 in
+    let form : s.0 ≡ [] = (let h : Some s.0 ≡ Some [] = sym s.1 ∙ group_form kind c value is in cc) in
     let joins : JoinsAll (only c []) known a.0 = subst (λ (x : Code). JoinsAll (only x []) known a.0) (group_slot c is) (subst (λ (v : List ℕ). JoinsAll (only (slot_of c) v) known a.0) form s.3) in
     group_takes kind body c value known a.0 more fits joins a.2
 opened_takes kind at body c value known more false is fits e =
-    let a = bind_ok (stored at c value known) (λ mid. Ok mid) more e in
-    let s = stored_ok at c value known a.0 a.1 in
+    let a = bind_ok (stored kind at c value known) (λ mid. Ok mid) more e in
+    let s = stored_ok kind at c value known a.0 a.1 in
     (only (slot_of c) s.0, (s.0, s.1, refl), subst (λ (m : Known). JoinsAll (only (slot_of c) s.0) known m) (ok_is a.0 more a.2) s.3)
 
 opened_back : (kind : Kind) (at body : ℕ) (c : Code) (value : List ℕ) (gives known more : Known) (b : Bool) → is_group c ≡ b → ParameterOf kind c value gives b → JoinsAll gives known more
-    → (stored at c value known >>= λ mid. cond b (params_of (in_group (members_of kind c)) body mid value) (Ok mid)) ≡ Ok more
+    → (stored kind at c value known >>= λ mid. cond b (params_of (in_group kind (members_of kind c)) body mid value) (Ok mid)) ≡ Ok more
 opened_back kind at body c value gives known more true is m j = group_back kind at body c value gives known more is m j
 opened_back kind at body c value gives known more false is m j =
-    bind_of (stored at c value known) (λ mid. Ok mid) more (Ok more)
-    (stored_back at c value m.0 known more m.1 (subst (λ (g : Known). JoinsAll g known more) m.2 j)) refl
+    bind_of (stored kind at c value known) (λ mid. Ok mid) more (Ok more)
+    (stored_back kind at c value m.0 known more m.1 (subst (λ (g : Known). JoinsAll g known more) m.2 j)) refl
 
 parameter_takes : (kind : Kind) (at body : ℕ) (value : List ℕ) (known more : Known) (o : Option Code) → IsOctets value → parameter_taken kind at body value known o ≡ Ok more
     → (gives : Known) × KnownOf kind value gives o × JoinsAll gives known more

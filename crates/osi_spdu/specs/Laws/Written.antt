@@ -6,14 +6,14 @@ use Rattle.std.proofs.lemmas.Bool.{cases_Bool, and_parts, and_from, or_cases, or
 use Rattle.std.proofs.lemmas.List.{length-append}
 use Rattle.osi_tpkt.specs.Octets.{IsOctets}
 use Rattle.osi_spdu.specs.declared.codes.Code.{Code}
-use Rattle.osi_spdu.specs.declared.codes.Code.TheVariants.{UserData, ExtendedUserData}
+use Rattle.osi_spdu.specs.declared.codes.Code.TheVariants.{Enclosure, UserData, ExtendedUserData}
 use Rattle.osi_spdu.specs.declared.kinds.Kind.{Kind}
 use Rattle.osi_spdu.specs.Codes.{number_of, is_same, is_group, slot_of, every_code}
 use Rattle.osi_spdu.specs.Kinds.{codes_of, members_of, required_of}
-use Rattle.osi_spdu.specs.Values.{canonical}
+use Rattle.osi_spdu.specs.Values.{canonical, may_enclose, canonical_in}
 use Rattle.osi_spdu.specs.Known.{Known, some_octets, settled, Contents, Units}
 use Rattle.osi_spdu.specs.Spelling.{length_octets, HasLength, Part, part_octets, Sole, IsPart, Spells, only, MemberOf, MeansInGroup, GroupOf, ParameterOf, KnownOf, MeansInUnit, SpellsUnit, AreUnits, SpellsTsdu}
-use Rattle.osi_spdu.specs.Writing.{written_item, among, written_code, member_octets, group_octets, value_octets, parameter_octets, body_octets, unit_octets, tsdu_octets, may_be_there, is_formed, IsCanonical, IsFormedUnit, UnitFits, IsFormedTsdu, TsduFits}
+use Rattle.osi_spdu.specs.Writing.{written_item, among, written_code, member_octets, group_octets, value_octets, parameter_octets, body_octets, unit_octets, tsdu_octets, may_be_there, is_enclosed, is_formed, IsCanonical, IsFormedUnit, UnitFits, IsFormedTsdu, TsduFits}
 use Rattle.osi_spdu.specs.Laws.Options.{sole_one}
 use Rattle.osi_spdu.specs.Laws.Steps.{same_true, same_refl}
 use Rattle.osi_spdu.specs.Laws.Levels.{group_form}
@@ -119,12 +119,35 @@ parts_sole owner make known (c ∷ codes) d g e =
     (parts_sole owner make known codes d g (tail_once owner c codes d e))
     (λ t. parts_none owner make known codes d g (o.0 t))
 
+-- ---- the values of a unit
+
+-- each value is in its written form, and one that a unit of this kind may have; empty user data is none
+record IsCanonicalIn (kind : Kind) (known : Known) : Type 0 where
+  values : (c : Code) (value : List ℕ) → known c ≡ Some value → canonical_in kind c value ≡ Some value
+  slots : known ExtendedUserData ≡ None
+  data_there : known UserData ≡ Some [] → ⊥
+
+may_be_enclosed : (kind : Kind) (known : Known) (c : Code) (v : List ℕ) → is_enclosed kind (known Enclosure) ≡ true → known c ≡ Some v → may_enclose kind c v ≡ true
+unfolding may_enclose
+may_be_enclosed kind known c v is e = elim (cases_Bool (is_same c Enclosure)) [
+  | inl t ↦ rw t (sym (ap (is_enclosed kind) (ap known (sym (same_true c Enclosure t)) ∙ e)) ∙ is)
+  | inr f ↦ rw f refl
+]
+
+canonical_there : (kind : Kind) (known : Known) → IsCanonical known → is_enclosed kind (known Enclosure) ≡ true → IsCanonicalIn kind known
+unfolding canonical_in
+canonical_there kind known is enclosed = record {
+  values = λ c v e. rw (may_be_enclosed kind known c v enclosed e) (is.values c v e);
+  slots = is.slots;
+  data_there = is.data_there;
+}
+
 -- ---- a group
 
-own_slot : (known : Known) (c : Code) (v : List ℕ) → IsCanonical known → known c ≡ Some v → slot_of c ≡ c
+own_slot : (kind : Kind) (known : Known) (c : Code) (v : List ℕ) → IsCanonicalIn kind known → known c ≡ Some v → slot_of c ≡ c
 unfolding slot_of
-own_slot known ExtendedUserData v is e = absurd (let h : None ≡ Some v = sym is.slots ∙ e in cc)
-own_slot known _ v is e = refl
+own_slot kind known ExtendedUserData v is e = absurd (let h : None ≡ Some v = sym is.slots ∙ e in cc)
+own_slot kind known _ v is e = refl
 
 own_only : (known : Known) (c : Code) (v : List ℕ) (d : Code) → known c ≡ Some v → cond (is_same d c) (known d) None ≡ only c v d
 own_only known c v d e =
@@ -143,13 +166,13 @@ fitting code v fits = fitting_if (ltb 254 (length v)) refl
     fitting_if true e = (let l : length (written_item code v) < 65536 = fits in omega (arith, length-append (code ∷ [] ++ length_octets (ltb 254 (length v)) (length v)) v))
     fitting_if false e = (let l = ltb-false 254 (length v) e in omega arith)
 
-member_makes : (kind : Kind) (known : Known) (g : Code) → IsCanonical known → Makes (MeansInGroup (members_of kind g)) (member_part known) known (members_of kind g)
+member_makes : (kind : Kind) (known : Known) (g : Code) → IsCanonicalIn kind known → Makes (MeansInGroup kind (members_of kind g)) (member_part known) known (members_of kind g)
 unfolding MeansInGroup
 member_makes kind known g is c v there e fits =
     let found = among_found (members_of kind g) c there in
     let same : (let m : Known = λ d. cond (is_same d c) (known d) None in m) ≡ only (slot_of c) v =
-    (λ i d. (own_only known c v d e) i) ∙ ap (λ (s : Code). only s v) (sym (own_slot known c v is e)) in
-    let means : MemberOf v (λ d. cond (is_same d c) (known d) None) (Some c) = (v, is.values c v e, same) in
+    (λ i d. (own_only known c v d e) i) ∙ ap (λ (s : Code). only s v) (sym (own_slot kind known c v is e)) in
+    let means : MemberOf kind v (λ d. cond (is_same d c) (known d) None) (Some c) = (v, is.values c v e, same) in
     (number_octet c, fitting (number_of c) v fits, rw found means)
 
 cond_none : (b : Bool) → cond b (let o : Option (List ℕ) = None in o) None ≡ None
@@ -179,15 +202,15 @@ group_whole : (kind : Kind) (known : Known) (g : Code) → group_octets kind kno
 unfolding group_octets
 group_whole kind known g = ap (λ (f : Code → List ℕ). flat_map f (members_of kind g)) (λ i c. (member_same known c (known c)) i)
 
-group_spelled : (kind : Kind) (known : Known) (g : Code) → IsCanonical known → length (group_octets kind known g) < 65536
-    → Spells (MeansInGroup (members_of kind g)) (λ d. cond (among (members_of kind g) d) (known d) None) (group_octets kind known g)
+group_spelled : (kind : Kind) (known : Known) (g : Code) → IsCanonicalIn kind known → length (group_octets kind known g) < 65536
+    → Spells (MeansInGroup kind (members_of kind g)) (λ d. cond (among (members_of kind g) d) (known d) None) (group_octets kind known g)
 group_spelled kind known g is fits =
     let members = members_of kind g in
     let whole = group_whole kind known g in
     record {
       parts = parts_of (member_part known) known members;
       whole = whole ∙ parts_whole (member_part known) known members;
-      each = parts_each (MeansInGroup members) (member_part known) known members (member_makes kind known g is) (subst (λ (o : List ℕ). length o < 65536) whole fits);
+      each = parts_each (MeansInGroup kind members) (member_part known) known members (member_makes kind known g is) (subst (λ (o : List ℕ). length o < 65536) whole fits);
       once = λ d. subst (λ (x : Option (List ℕ)). Sole (given (parts_of (member_part known) known members) d) x) (shown_member known members d (known d) refl)
           (parts_sole (λ c e. is_same e c) (member_part known) known members d (λ c v e. refl) (member_once kind g d));
     }
@@ -219,10 +242,10 @@ owned_alone kind known c v leaf e = λ i d. (one d) i
     one : (d : Code) → owned kind known c d ≡ only c v d
     one d = rw (members_none kind c leaf, bare (is_same d c)) (own_only known c v d e)
 
-group_means : (kind : Kind) (known : Known) (c : Code) (v : List ℕ) → IsCanonical known → is_group c ≡ true → known c ≡ Some v → length (group_octets kind known c) < 65536
+group_means : (kind : Kind) (known : Known) (c : Code) (v : List ℕ) → IsCanonicalIn kind known → is_group c ≡ true → known c ≡ Some v → length (group_octets kind known c) < 65536
     → GroupOf kind c (group_octets kind known c) (owned kind known c)
 group_means kind known c v is group e fits =
-    let empty : v ≡ [] = (let h : Some v ≡ Some [] = sym (is.values c v e) ∙ group_form c v group in cc) in
+    let empty : v ≡ [] = (let h : Some v ≡ Some [] = sym (is.values c v e) ∙ group_form kind c v group in cc) in
     let there : known c ≡ Some [] = e ∙ ap {B = Option (List ℕ)} (λ x. Some x) empty in (
       (λ d. cond (among (members_of kind c) d) (known d) None),
       group_spelled kind known c is fits,
@@ -230,21 +253,21 @@ group_means kind known c v is group e fits =
           (λ t. ap (among (members_of kind c)) (same_true d c t) ∙ group_apart kind c),
     )
 
-parameter_means : (kind : Kind) (known : Known) (c : Code) (v : List ℕ) (b : Bool) → is_group c ≡ b → IsCanonical known → known c ≡ Some v
+parameter_means : (kind : Kind) (known : Known) (c : Code) (v : List ℕ) (b : Bool) → is_group c ≡ b → IsCanonicalIn kind known → known c ≡ Some v
     → length (cond b (group_octets kind known c) v) < 65536 → ParameterOf kind c (cond b (group_octets kind known c) v) (owned kind known c) b
 parameter_means kind known c v true group is e fits = group_means kind known c v is group e fits
 parameter_means kind known c v false group is e fits =
-    (v, is.values c v e, owned_alone kind known c v group e ∙ ap (λ (s : Code). only s v) (sym (own_slot known c v is e)))
+    (v, is.values c v e, owned_alone kind known c v group e ∙ ap (λ (s : Code). only s v) (sym (own_slot kind known c v is e)))
 
 -- user data in the code of its length
 long_data_means : (kind : Kind) (known : Known) (c : Code) (v : List ℕ) → c ≡ UserData → known c ≡ Some v
     → KnownOf kind (value_octets kind known c v) (owned kind known c) (Some ExtendedUserData)
-unfolding is_group canonical slot_of
+unfolding is_group canonical canonical_in may_enclose number_of slot_of
 long_data_means kind known c v data_code e =
     subst (λ (x : Code). known x ≡ Some v → KnownOf kind (value_octets kind known x v) (owned kind known x) (Some ExtendedUserData)) (sym data_code)
     (λ there. (v, refl, owned_alone kind known UserData v refl there)) e
 
-unit_means : (kind : Kind) (known : Known) (c : Code) (v : List ℕ) → IsCanonical known → among (codes_of kind) c ≡ true → known c ≡ Some v
+unit_means : (kind : Kind) (known : Known) (c : Code) (v : List ℕ) → IsCanonicalIn kind known → among (codes_of kind) c ≡ true → known c ≡ Some v
     → length (value_octets kind known c v) < 65536 → MeansInUnit kind (number_of (written_code kind c v)) (value_octets kind known c v) (owned kind known c)
 unfolding MeansInUnit written_code
 unit_means kind known c v is there e fits =
@@ -257,7 +280,7 @@ unit_means kind known c v is there e fits =
       | inr f ↦ rw (f, among_found (codes_of kind) c there) (parameter_means kind known c v (is_group c) refl is e fits)
     ]
 
-unit_makes : (kind : Kind) (known : Known) → IsCanonical known → Makes (MeansInUnit kind) (unit_part kind known) known (codes_of kind)
+unit_makes : (kind : Kind) (known : Known) → IsCanonicalIn kind known → Makes (MeansInUnit kind) (unit_part kind known) known (codes_of kind)
 unit_makes kind known is c v there e fits =
     let value = value_octets kind known c v in
     let code = number_of (written_code kind c v) in
@@ -290,7 +313,7 @@ body_whole : (kind : Kind) (known : Known) → body_octets kind known ≡ flat_m
 unfolding body_octets
 body_whole kind known = ap (λ (f : Code → List ℕ). flat_map f (codes_of kind)) (λ i c. (parameter_same kind known c (known c)) i)
 
-body_spelled : (kind : Kind) (known : Known) → IsCanonical known → list_all (λ c. may_be_there kind known c || is_none (known c)) every_code ≡ true → length (body_octets kind known) < 65536
+body_spelled : (kind : Kind) (known : Known) → IsCanonicalIn kind known → list_all (λ c. may_be_there kind known c || is_none (known c)) every_code ≡ true → length (body_octets kind known) < 65536
     → Spells (MeansInUnit kind) known (body_octets kind known)
 body_spelled kind known is formed fits =
     let codes = codes_of kind in
@@ -326,14 +349,17 @@ pub unit_written : (unit : Contents) → IsFormedUnit unit → UnitFits unit →
 unfolding unit_octets is_formed
 unit_written unit is fits =
     let body = body_octets unit.kind unit.known in
-    let f = and_parts (list_all (λ c. may_be_there unit.kind unit.known c || is_none (unit.known c)) every_code) (list_all (λ c. is_some (unit.known c)) (required_of unit.kind)) is.formed in
+    let there = list_all (λ c. may_be_there unit.kind unit.known c || is_none (unit.known c)) every_code in
+    let required = list_all (λ c. is_some (unit.known c)) (required_of unit.kind) in
+    let whole = and_parts (there && required) (is_enclosed unit.kind (unit.known Enclosure)) is.formed in
+    let f = and_parts there required whole.0 in
     record {
       long = ltb 254 (length body);
       body = body;
       raw = unit.known;
       whole = refl;
       counted = body_counted (ltb 254 (length body)) refl;
-      params = body_spelled unit.kind unit.known is.canonical_values f.0 fits;
+      params = body_spelled unit.kind unit.known (canonical_there unit.kind unit.known is.canonical_values whole.1) f.0 fits;
       required = all_some unit.known (required_of unit.kind) f.1;
       value = sym (settled_same unit.known is.canonical_values);
     }
