@@ -7,7 +7,8 @@ use Rattle.osi_spdu.specs.declared.settings.TokenSetting.{TokenSetting}
 use Rattle.osi_spdu.specs.declared.fields.TsduMaximumSize.{TsduMaximumSize}
 use Rattle.osi_spdu.specs.Sizes.{are_sizes}
 use Rattle.osi_message.specs.Meanings.{Meaning, CN, RF, DN, AB, AA}
-use Rattle.osi_message.specs.Reading.{Said, said_at}
+use Rattle.osi_message.specs.Reading.{said_at}
+use Rattle.osi_message.specs.Words.{Word, Words, as_message}
 use Rattle.osi_session.specs.declared.faults.UnitFault.{UnitFault}
 use Rattle.osi_session.specs.declared.faults.UnitFault.TheVariants.{Spelling, Unexpected}
 use Rattle.osi_session.specs.declared.phases.Phase.{Phase}
@@ -16,18 +17,20 @@ use Rattle.osi_session.specs.declared.state.State.{State}
 use Rattle.osi_session.specs.Phases.{is_wait_transport, is_wait_cn, is_connecting, is_answering, is_ready, is_major_due, is_releasing, is_release_due, is_restart_due, is_aborting, is_ended, is_over, may_give, may_ask, may_confirm_minor, may_restart, may_abort}
 use Rattle.osi_session.specs.Calls.{Call, Accept, Refuse, Data, Give, Please, Minor, MinorConfirm, Major, MajorConfirm, Restart, RestartConfirm, Release, ReleaseAccept, ReleaseRefuse, Abort}
 use Rattle.osi_session.specs.Allowed.{Step, may_call, allowed}
-use Rattle.osi_session.specs.Closing.{may_close, closes_alone, is_answer, awaits_close}
-use Rattle.osi_session.specs.Moves.{Input, called, taken, unread, opened, refused, broken, is_opened, came_as, came, Standing, react, after_input}
+use Rattle.osi_session.specs.Closing.{may_close, may_close_word, closes_alone, is_answer, awaits_close}
+use Rattle.osi_session.specs.Joining.{Taker, Hearing, word_verdict, respond_word, respond_words, heard_then, acting_words, respond_tsdu, respond_came}
+use Rattle.osi_session.specs.Listening.{Input, called, taken, unread, opened, refused, broken, is_opened, came_as, came, Listener, taker_of, react, after_input}
 use Rattle.osi_session.specs.State.{without_tokens}
 use Rattle.osi_session.specs.Units.{functional_units, has_data}
-use Rattle.osi_session.specs.Respond.{Outcome, si, conditions, first_fault, is_expected, drops, nothing, good, bad, becomes, judged, take_expected, in_aborting, in_ended, respond_unit, first_reply, and_then, over, verdict, enacted, is_faulty, respond_all, acting, respond, respond_fault, respond_read}
-use Rattle.osi_session.proofs.ClosingLaws.{neither, acting_none, not_true, said_open, octets_alone, fault_open}
+use Rattle.osi_session.specs.Respond.{Outcome, si, conditions, first_fault, is_expected, drops, nothing, good, bad, becomes, judged, take_expected, in_aborting, in_ended, respond_unit, first_reply, and_then, over, verdict, enacted, is_faulty, respond_fault}
+use Rattle.osi_session.proofs.ClosingLaws.{neither, acting_none, not_true, words_open, octets_alone, fault_open}
 use Rattle.osi_session.proofs.Passed.{passed}
-use Rattle.osi_session.proofs.FollowLaws.{good_then}
 use Rattle.osi_session.proofs.PhaseLaws.{implied, excluded}
-use Rattle.osi_session.proofs.RunCases.{all_kept, any_unit, not_false, call_cases, unit_cases, said_kept, taken_cases, fault_cases, refused_cases, broken_cases}
-use Rattle.osi_session.proofs.RunLaws.{unit_over}
-use Rattle.osi_session.proofs.VerdictLaws.{enacts, said_alone, not_over}
+use Rattle.osi_session.proofs.RunCases.{not_false, call_cases, unit_cases, taken_cases, fault_cases, refused_cases, broken_cases}
+use Rattle.osi_session.proofs.RunLaws.{word_over}
+use Rattle.osi_session.proofs.VerdictLaws.{enacts, not_over}
+use Rattle.osi_session.proofs.WordCases.{outcome_in, word_does, word_keeps, all_keep, any_word, any_tsdu_keeps}
+use Rattle.osi_session.proofs.WordLaws.{word_at, word_alone}
 
 -- ---- who answers a TSDU is over
 
@@ -105,14 +108,17 @@ answers s u =
 pub unit_answers : (s : State) (u m : Meaning) → (respond_unit s u).reply ≡ Some m → (is_answer m ≡ true) × (is_over (respond_unit s u).next.phase ≡ true)
 unit_answers s u = (answers s u).last
 
-stays_over : (s : State) (us : List Meaning) → is_over s.phase ≡ true → is_over (respond_all s us).next.phase ≡ true
-stays_over s us h = all_kept (λ r. is_over r.phase ≡ true) (λ u. Unit {0}) s us (λ r u q. unit_over r u) (any_unit us) h
+word_answers : (t : Taker) (w : Word) → Answers (outcome_in (respond_word t w))
+word_answers t w = word_does Answers t w (record { acts = λ u a. answers t.state u; bad = λ fault o. bad_answers t.state fault; rests = silent _ refl })
+
+stays_over : (t : Taker) (ws : Words) → is_over t.state.phase ≡ true → is_over (respond_words t ws).next.state.phase ≡ true
+stays_over t ws h = all_keep (λ r. is_over r.phase ≡ true) (λ w. Unit {0}) t ws (λ r w q. word_over r w) (any_word ws) h
 
 either_sent : (a b : Option Meaning) (m : Meaning) → first_reply a b ≡ Some m → (a ≡ Some m) ⊎ (b ≡ Some m)
 either_sent None b m h = inr h
 either_sent (Some u) b m h = inl h
 
--- the answer to a unit, and what follows
+-- the answer to a word, and what follows
 then_answers : (first second : Outcome) → Answers first → (is_over first.next.phase ≡ true → is_over second.next.phase ≡ true)
     → Answers second → Answers (and_then first second)
 then_answers first second h stays k = record {
@@ -122,26 +128,30 @@ then_answers first second h stays k = record {
   ];
 }
 
-all_answer : (s : State) (us : List Meaning) → Answers (respond_all s us)
-unfolding respond_all
-all_answer s [] = silent _ refl
-all_answer s (u ∷ us) =
-    let next = (respond_unit s u).next in
-    either (is_faulty (verdict s u)) _ _ (λ b. answers s u) (λ b.
-    then_answers (respond_unit s u) (respond_all next us) (answers s u) (stays_over next us) (all_answer next us))
+either_heard : (b : Bool) (x y : Hearing) → Answers (outcome_in x) → Answers (outcome_in y) → Answers (outcome_in (if b then x else y))
+either_heard true x y h k = h
+either_heard false x y h k = k
+
+all_answer : (t : Taker) (ws : Words) → Answers (outcome_in (respond_words t ws))
+unfolding respond_words
+all_answer t [] = silent _ refl
+all_answer t (w ∷ ws) =
+    let next = (respond_word t w).next in
+    either_heard (is_faulty (word_verdict t w)) (respond_word t w) (heard_then (respond_word t w) (respond_words next ws)) (word_answers t w)
+    (then_answers (outcome_in (respond_word t w)) (outcome_in (respond_words next ws)) (word_answers t w) (stays_over next ws) (all_answer next ws))
 
 fault_answers : (s : State) (fault : SpduFault) → Answers (respond_fault s fault)
 unfolding respond_fault
 fault_answers s fault = either (is_over s.phase) _ _ (λ o. silent _ refl) (λ o. bad_answers s (Spelling fault))
 
-pub read_answers : (s : Standing) (read : Result Said SpduFault) (m : Meaning) → (react s (came_as read)).reply ≡ Some m
+pub read_answers : (s : Listener) (read : Result Words SpduFault) (m : Meaning) → (react s (came_as read)).reply ≡ Some m
     → (is_answer m ≡ true) × (is_over (react s (came_as read)).next.state.phase ≡ true)
 unfolding react
-read_answers s (Ok said) = (all_answer s.state (acting said)).last
+read_answers s (Ok words) = (all_answer (taker_of s) (acting_words words)).last
 read_answers s (Err fault) = (fault_answers s.state fault).last
 
 -- whoever answers a TSDU is over
-pub octets_answered : (s : Standing) (octets : List ℕ) (m : Meaning) → (react s (came octets)).reply ≡ Some m
+pub octets_answered : (s : Listener) (octets : List ℕ) (m : Meaning) → (react s (came octets)).reply ≡ Some m
     → (is_answer m ≡ true) × (is_over (react s (came octets)).next.state.phase ≡ true)
 octets_answered s octets = read_answers s (said_at octets)
 
@@ -166,28 +176,40 @@ over_still s u h = by (is_aborting s.phase)
 over_verdict : (s : State) (u : Meaning) → is_over s.phase ≡ true → verdict s u ≡ over
 over_verdict s u o = rw o refl
 
-unit_still : (s : State) (u : Meaning) → is_over s.phase ≡ true → may_close u ≡ false → respond_unit s u ≡ nothing s
-unit_still s u o h = enacts s u ∙ ap (enacted s u) (over_verdict s u o) ∙ over_still s u h
+-- where a session is over, a word does what its message does
+over_word : (t : Taker) (w : Word) → is_over t.state.phase ≡ true → outcome_in (respond_word t w) ≡ respond_unit t.state (as_message w)
+over_word t w o =
+    ap outcome_in (word_at t w over (rw o refl))
+    ∙ sym (enacts t.state (as_message w) ∙ ap (enacted t.state (as_message w)) (over_verdict t.state (as_message w) o))
 
--- the units that come behind others do nothing
-all_still : (s : State) (us : List Meaning) → is_over s.phase ≡ true → list_any may_close us ≡ false → respond_all s us ≡ nothing s
-unfolding respond_all
-all_still s [] o h = refl
-all_still s (u ∷ us) o h =
-    let q = neither (may_close u) (list_any may_close us) h in
-    let v = ap is_faulty (over_verdict s u o) in
-    let e = unit_still s u o q.0 in
-    good_then s u us v ∙ ap (λ (x : Outcome). and_then x (respond_all x.next us)) e ∙ ap (and_then (nothing s)) (all_still s us o q.1)
+word_still : (t : Taker) (w : Word) → is_over t.state.phase ≡ true → may_close_word w ≡ false → outcome_in (respond_word t w) ≡ nothing t.state
+word_still t w o h = ap outcome_in (word_at t w over (rw o refl)) ∙ over_still t.state (as_message w) h
 
-said_still : (s : State) (said : Said) → is_over s.phase ≡ true → list_any may_close said ≡ false → respond s said ≡ nothing s
-said_still s said o h = all_still s (acting said) o (acting_none may_close said h)
+over_no_fault : (t : Taker) (w : Word) → is_over t.state.phase ≡ true → is_faulty (word_verdict t w) ≡ false
+over_no_fault t w o = rw o refl
 
--- what comes to a session that is over: a unit alone, or nothing
-over_said : (P : Outcome → Type 0) (s : State) (said : Said) → is_over s.phase ≡ true → closes_alone said ≡ true
-    → P (nothing s) → ((u : Meaning) → P (respond_unit s u)) → P (respond s said)
-over_said P s [] o h n k = subst P (sym (said_still s [] o refl)) n
-over_said P s (u ∷ []) o h n k = subst P (sym (said_alone s u)) (k u)
-over_said P s (u ∷ v ∷ us) o h n k = subst P (sym (said_still s (u ∷ v ∷ us) o (not_true (list_any may_close (u ∷ v ∷ us)) h))) n
+-- the words that come behind others do nothing
+all_still : (t : Taker) (ws : Words) → is_over t.state.phase ≡ true → list_any may_close_word ws ≡ false → outcome_in (respond_words t ws) ≡ nothing t.state
+unfolding respond_words
+all_still t [] o h = refl
+all_still t (w ∷ ws) o h =
+    let q = neither (may_close_word w) (list_any may_close_word ws) h in
+    let e = word_still t w o q.0 in
+    let same = ap (λ (x : Outcome). x.next) e in
+    let next = (respond_word t w).next in
+    ap (λ b. outcome_in (if b then respond_word t w else heard_then (respond_word t w) (respond_words next ws))) (over_no_fault t w o)
+    ∙ ap (and_then (outcome_in (respond_word t w))) (all_still next ws (subst (λ (x : State). is_over x.phase ≡ true) (sym same) o) q.1 ∙ ap nothing same)
+    ∙ ap (λ (x : Outcome). and_then x (nothing t.state)) e
+
+words_still : (t : Taker) (words : Words) → is_over t.state.phase ≡ true → list_any may_close_word words ≡ false → outcome_in (respond_tsdu t words) ≡ nothing t.state
+words_still t words o h = all_still t (acting_words words) o (acting_none may_close_word words h)
+
+-- what comes to a session that is over: a word alone, or nothing
+over_said : (P : Outcome → Type 0) (t : Taker) (words : Words) → is_over t.state.phase ≡ true → closes_alone words ≡ true
+    → P (nothing t.state) → ((u : Meaning) → P (respond_unit t.state u)) → P (outcome_in (respond_tsdu t words))
+over_said P t [] o h n k = subst P (sym (words_still t [] o refl)) n
+over_said P t (w ∷ []) o h n k = subst P (sym (ap outcome_in (word_alone t w) ∙ over_word t w o)) (k (as_message w))
+over_said P t (w ∷ v ∷ ws) o h n k = subst P (sym (words_still t (w ∷ v ∷ ws) o (not_true (list_any may_close_word (w ∷ v ∷ ws)) h))) n
 
 abbrev Silent : Outcome → Type 0
 Silent o = o.reply ≡ None
@@ -219,28 +241,28 @@ over_fault : (s : State) (fault : SpduFault) → is_over s.phase ≡ true → re
 unfolding respond_fault
 over_fault s fault o = rw o refl
 
-read_over : (P : Outcome → Type 0) (s : Standing) (read : Result Said SpduFault) → is_over s.state.phase ≡ true
-    → ((said : Said) → read ≡ Ok said → closes_alone said ≡ true) → P (nothing s.state) → ((u : Meaning) → P (respond_unit s.state u))
-    → P (respond_read s.state read)
-read_over P s (Ok said) o h n k = over_said P s.state said o (h said refl) n k
+read_over : (P : Outcome → Type 0) (s : Listener) (read : Result Words SpduFault) → is_over s.state.phase ≡ true
+    → ((words : Words) → read ≡ Ok words → closes_alone words ≡ true) → P (nothing s.state) → ((u : Meaning) → P (respond_unit s.state u))
+    → P (outcome_in (respond_came (taker_of s) read))
+read_over P s (Ok words) o h n k = over_said P (taker_of s) words o (h words refl) n k
 read_over P s (Err fault) o h n k = subst P (sym (over_fault s.state fault o)) n
 
-reply_read : (s : Standing) (read : Result Said SpduFault) → (react s (came_as read)).reply ≡ (respond_read s.state read).reply
+reply_read : (s : Listener) (read : Result Words SpduFault) → (react s (came_as read)).reply ≡ (outcome_in (respond_came (taker_of s) read)).reply
 unfolding react
-reply_read s (Ok said) = refl
+reply_read s (Ok words) = refl
 reply_read s (Err fault) = refl
 
 aborting_over : (p : Phase) → is_aborting p ≡ true → is_over p ≡ true
 aborting_over p h = implied is_aborting is_over refl p h
 
 -- an aborted session answers nothing
-pub aborting_silent : (s : Standing) (octets : List ℕ) → is_aborting s.state.phase ≡ true → (react s (came octets)).reply ≡ None
+pub aborting_silent : (s : Listener) (octets : List ℕ) → is_aborting s.state.phase ≡ true → (react s (came octets)).reply ≡ None
 aborting_silent s octets a =
     reply_read s (said_at octets)
     ∙ read_over Silent s (said_at octets) (aborting_over s.state.phase a) (octets_alone octets) refl (λ u. unit_unanswered s.state u a)
 
 -- an ended one answers an abort
-pub ended_accepting : (s : Standing) (octets : List ℕ) (m : Meaning) → is_ended s.state.phase ≡ true → (react s (came octets)).reply ≡ Some m → m ≡ AA
+pub ended_accepting : (s : Listener) (octets : List ℕ) (m : Meaning) → is_ended s.state.phase ≡ true → (react s (came octets)).reply ≡ Some m → m ≡ AA
 ended_accepting s octets m e h =
     read_over AcceptsAbort s (said_at octets) (implied is_ended is_over refl s.state.phase e) (octets_alone octets) (λ u k. absurd (cc)) (λ u. unit_accepts s.state u e)
     m (sym (reply_read s (said_at octets)) ∙ h)
@@ -285,19 +307,22 @@ unit_awaited s u =
     either_awaited s (drops s u) _ _ (λ d. left_open s _ refl) (λ d.
     either_awaited s (not (is_expected s.phase u)) _ _ (λ x. left_open s _ refl) (λ x. expected_awaited s u (not_false (is_expected s.phase u) x)))))
 
-said_awaited : (s : State) (said : Said) → closes_alone said ≡ true → Awaited s (respond s said)
-said_awaited s [] h = left_open s _ (said_open s [] refl)
-said_awaited s (u ∷ []) h = subst (λ (o : Outcome). Awaited s o) (sym (said_alone s u)) (unit_awaited s u)
-said_awaited s (u ∷ v ∷ us) h = left_open s _ (said_open s (u ∷ v ∷ us) (not_true (list_any may_close (u ∷ v ∷ us)) h))
+word_awaited : (t : Taker) (w : Word) → Awaited t.state (outcome_in (respond_word t w))
+word_awaited t w = word_does (Awaited t.state) t w (record { acts = λ u a. unit_awaited t.state u; bad = λ fault o. left_open t.state _ refl; rests = left_open t.state _ refl })
 
-read_awaited : (s : Standing) (read : Result Said SpduFault) → ((said : Said) → read ≡ Ok said → closes_alone said ≡ true)
+words_awaited : (t : Taker) (words : Words) → closes_alone words ≡ true → Awaited t.state (outcome_in (respond_tsdu t words))
+words_awaited t [] h = left_open t.state _ (words_open t [] refl)
+words_awaited t (w ∷ []) h = subst (λ (x : Hearing). Awaited t.state (outcome_in x)) (sym (word_alone t w)) (word_awaited t w)
+words_awaited t (w ∷ v ∷ ws) h = left_open t.state _ (words_open t (w ∷ v ∷ ws) (not_true (list_any may_close_word (w ∷ v ∷ ws)) h))
+
+read_awaited : (s : Listener) (read : Result Words SpduFault) → ((words : Words) → read ≡ Ok words → closes_alone words ≡ true)
     → (react s (came_as read)).closes ≡ true → awaits_close s.state.phase ≡ true
 unfolding react
-read_awaited s (Ok said) h = (said_awaited s.state said (h said refl)).awaits
+read_awaited s (Ok words) h = (words_awaited (taker_of s) words (h words refl)).awaits
 read_awaited s (Err fault) h = (left_open s.state (respond_fault s.state fault) (fault_open s.state fault)).awaits
 
 -- who closes it awaited a unit that does so
-pub octets_awaited : (s : Standing) (octets : List ℕ) → (react s (came octets)).closes ≡ true → awaits_close s.state.phase ≡ true
+pub octets_awaited : (s : Listener) (octets : List ℕ) → (react s (came octets)).closes ≡ true → awaits_close s.state.phase ≡ true
 octets_awaited s octets = read_awaited s (said_at octets) (octets_alone octets)
 
 -- ---- in which phases a call is accepted
@@ -352,14 +377,17 @@ unit_waits s u h = unit_cases Waits s u (record {
       good_waits s u (subst (λ (p : Phase). is_expected p u ≡ true) (waits_in s.phase w) x);
 })
 
+word_waits : (t : Taker) (w : Word) → Waits t.state → Waits (respond_word t w).next.state
+word_waits t w h = word_keeps Waits t w (λ u a. unit_waits t.state u h) (λ o. refl) h
+
 first_true : (a b : Bool) → a ≡ true → (a || b) ≡ true
 first_true a b h = rw h refl
 
 -- what comes before it is there leaves it awaited, or is the end
-pub input_waits : (s : Standing) (input : Input) → is_opened input ≡ false → is_wait_transport s.state.phase ≡ true
+pub input_waits : (s : Listener) (input : Input) → is_opened input ≡ false → is_wait_transport s.state.phase ≡ true
     → (is_wait_transport (after_input s input).state.phase || is_over (after_input s input).state.phase) ≡ true
 input_waits s (called c) n w = call_cases Waits s c (first_true _ _ w) (λ x e. absurd (let b = callable_open s.state.phase (accepted_callable s.state c x e) in let q = b.0 in cc))
-input_waits s (taken said) n w = taken_cases Waits s said (said_kept Waits s.state said unit_waits (first_true _ _ w))
+input_waits s (taken words) n w = taken_cases Waits s words (any_tsdu_keeps Waits (taker_of s) words word_waits (first_true _ _ w))
 input_waits s (unread fault) n w = fault_cases Waits s fault (first_true _ _ w) (λ o. refl)
 input_waits s opened n w = absurd (cc)
 input_waits s (refused reason) n w = refused_cases Waits s reason (λ k. refl) (first_true _ _ w)

@@ -11,7 +11,7 @@ use Rattle.osi_session.specs.Sizes.{fits_limit}
 use Rattle.osi_session.specs.Sessions.{is_memory, Refused, RefusedBy}
 use Rattle.osi_message.specs.Meanings.{Meaning}
 use Rattle.osi_message.specs.Written.{user_data_of}
-use Rattle.osi_session.specs.Moves.{called, Standing, react}
+use Rattle.osi_session.specs.Listening.{called, Listener, react}
 use Rattle.osi_session.proofs.MoveLaws.{call_errs, call_passes}
 use Rattle.osi_session.proofs.Passed.{first_error_ok, passed}
 
@@ -67,11 +67,11 @@ allowed_named s c e h =
     (sized_named (nat_le (length (octets_of c)) (most_of c) && fits_limit s c (sends s c)) (met s c) e (met_named s c e))) h
 
 -- an error of the table is answered as it is
-pub refused : (s : Standing) (c : Call) (e : CallError) → allowed s.state c ≡ Err e → Refused e (react s (called c)).error
+pub refused : (s : Listener) (c : Call) (e : CallError) → allowed s.state c ≡ Err e → Refused e (react s (called c)).error
 refused s c e h = subst (λ (b : Bool). RefusedBy b e (react s (called c)).error) (sym (allowed_named s.state c e h)) (call_errs s c e h)
 
 -- and where there is none, memory may be wanted
-pub wanting : (s : Standing) (c : Call) (x : Step) → allowed s.state c ≡ Ok x → Refused error.OutOfMemory (react s (called c)).error
+pub wanting : (s : Listener) (c : Call) (x : Step) → allowed s.state c ≡ Ok x → Refused error.OutOfMemory (react s (called c)).error
 wanting s c x h = call_passes s c x h
 
 sends_short : (s : State) (c : Call) → nat_le (length (octets_of c)) (most_of c) ≡ true → length (user_data_of (sends s c)) < 65000

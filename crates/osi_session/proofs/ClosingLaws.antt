@@ -1,5 +1,5 @@
 -- What closes the transport connection, and that nothing is sent with it.
-use Rattle.std.proofs.Common.{◌≡◌, refl, sym, ◌∙◌, ap, subst, ℕ, Bool, true, false, not, ◌||◌, List, [], ◌∷◌, ◌++◌, None, Result, Ok, Err, if◌then◌else◌}
+use Rattle.std.proofs.Common.{◌≡◌, refl, sym, ◌∙◌, ap, subst, ℕ, Bool, true, false, not, ◌||◌, List, [], ◌∷◌, ◌++◌, Option, Some, None, Result, Ok, Err, if◌then◌else◌}
 use Rattle.std.specs.List.{list_any}
 use Rattle.std.proofs.lemmas.List.Folds.{list_any-append}
 use Rattle.osi_spdu.specs.declared.faults.SpduFault.{SpduFault}
@@ -14,17 +14,23 @@ use Rattle.osi_spdu.specs.Spelling.{AreBehind}
 use Rattle.osi_spdu.specs.Laws.Steps.{bind_ok, ok_is}
 use Rattle.osi_spdu.specs.Laws.Tsdus.{behind_stands}
 use Rattle.osi_message.specs.Meanings.{Meaning, RF, DN, AB, AA}
-use Rattle.osi_message.specs.Reading.{Said, meaning_by, meaning, said_by_units, said_if_read, said_at}
+use Rattle.osi_message.specs.declared.places.Place.{Place}
+use Rattle.osi_message.specs.Reading.{meaning_by, meaning, place_of, word_at, word, said_by_units, said_if_read, said_at}
+use Rattle.osi_message.specs.Words.{Word, Words}
 use Rattle.osi_session.specs.declared.state.State.{State}
 use Rattle.osi_session.specs.Phases.{is_wait_transport, is_aborting, is_ended, is_over}
 use Rattle.osi_session.specs.Calls.{Call}
 use Rattle.osi_session.specs.Allowed.{Answer, allowed}
-use Rattle.osi_session.specs.Closing.{may_close, closes_alone}
-use Rattle.osi_session.specs.Moves.{Input, called, taken, unread, opened, refused, broken, came_as, came, Standing, Move, rests, answered, begun, denied, react}
-use Rattle.osi_session.specs.Respond.{Outcome, is_resynchronize, becomes, reply_for, closes_for, in_aborting, in_ended, respond_unit, and_then, Verdict, over, dropped, faulty, fine, verdict, enacted, is_faulty, respond_all, acting, respond, respond_fault}
-use Rattle.osi_session.proofs.RunCases.{all_kept, any_unit}
-use Rattle.osi_session.proofs.RunLaws.{unit_ended}
-use Rattle.osi_session.proofs.VerdictLaws.{enacts, said_alone}
+use Rattle.osi_session.specs.Closing.{may_close, may_close_word, closes_alone}
+use Rattle.osi_session.specs.Joining.{Taker, Hearing, word_verdict, respond_word, respond_words, heard_then, is_restart_word, acting_words, respond_tsdu}
+use Rattle.osi_session.specs.Listening.{Input, called, taken, unread, opened, refused, broken, came_as, came, Listener, Move, taker_of, rests, answered, begun, denied, react}
+use Rattle.osi_session.specs.Moves as whole
+use Rattle.osi_session.specs.Whole.{listening, in_words}
+use Rattle.osi_session.specs.Respond.{Outcome, becomes, reply_for, closes_for, in_aborting, in_ended, respond_unit, Verdict, over, dropped, faulty, fine, verdict, enacted, is_faulty, respond_fault}
+use Rattle.osi_session.proofs.RunLaws.{word_ended}
+use Rattle.osi_session.proofs.VerdictLaws.{enacts}
+use Rattle.osi_session.proofs.WordCases.{acts_alike, outcome_in, word_does, all_keep, any_word}
+use Rattle.osi_session.proofs.WordLaws.{word_alone, moves_as_whole}
 
 -- ---- one unit
 
@@ -71,10 +77,15 @@ unit_closes_last s u = subst ClosesLast (sym (enacts s u)) (enacted_last s u (ve
 pub unit_silent : (s : State) (u : Meaning) → (respond_unit s u).closes ≡ true → (respond_unit s u).reply ≡ None
 unit_silent s u = (unit_closes_last s u).silent
 
--- ---- units one after the other
+-- ---- words one after the other
 
-either_ends : (b : Bool) (x y : Outcome) → (x.closes ≡ true → is_ended x.next.phase ≡ true) → (y.closes ≡ true → is_ended y.next.phase ≡ true)
-    → (if b then x else y).closes ≡ true → is_ended (if b then x else y).next.phase ≡ true
+word_closes_last : (t : Taker) (w : Word) → ClosesLast (outcome_in (respond_word t w))
+word_closes_last t w = word_does ClosesLast t w (record { acts = λ u a. unit_closes_last t.state u; bad = λ fault o. open_still _ refl; rests = open_still _ refl })
+
+abbrev Ends : Hearing → Type 0
+Ends h = h.closes ≡ true → is_ended h.next.state.phase ≡ true
+
+either_ends : (b : Bool) (x y : Hearing) → Ends x → Ends y → Ends (if b then x else y)
 either_ends true x y h k = h
 either_ends false x y h k = k
 
@@ -83,18 +94,18 @@ or_ends : (a b : Bool) (next : State) → (a ≡ true → is_ended next.phase �
 or_ends true b next h k c = h refl
 or_ends false b next h k c = k c
 
-stays_ended : (s : State) (us : List Meaning) → is_ended s.phase ≡ true → is_ended (respond_all s us).next.phase ≡ true
-stays_ended s us h = all_kept (λ r. is_ended r.phase ≡ true) (λ u. Unit {0}) s us (λ r u q. unit_ended r u) (any_unit us) h
+stays_ended : (t : Taker) (ws : Words) → is_ended t.state.phase ≡ true → is_ended (respond_words t ws).next.state.phase ≡ true
+stays_ended t ws h = all_keep (λ r. is_ended r.phase ≡ true) (λ w. Unit {0}) t ws (λ r w q. word_ended r w) (any_word ws) h
 
-all_end : (s : State) (us : List Meaning) → (respond_all s us).closes ≡ true → is_ended (respond_all s us).next.phase ≡ true
-unfolding respond_all
-all_end s [] = λ h. absurd (cc)
-all_end s (u ∷ us) =
-    let one = unit_closes_last s u in
-    let next = (respond_unit s u).next in
-    either_ends (is_faulty (verdict s u)) (respond_unit s u) (and_then (respond_unit s u) (respond_all next us)) one.last
-    (or_ends (respond_unit s u).closes (respond_all next us).closes (respond_all next us).next
-    (λ h. stays_ended next us (one.last h)) (all_end next us))
+all_end : (t : Taker) (ws : Words) → Ends (respond_words t ws)
+unfolding respond_words
+all_end t [] = λ h. absurd (cc)
+all_end t (w ∷ ws) =
+    let one = word_closes_last t w in
+    let next = (respond_word t w).next in
+    either_ends (is_faulty (word_verdict t w)) (respond_word t w) (heard_then (respond_word t w) (respond_words next ws)) one.last
+    (or_ends (respond_word t w).closes (respond_words next ws).closes (respond_words next ws).next.state
+    (λ h. stays_ended next ws (one.last h)) (all_end next ws))
 
 -- ---- units that leave the transport connection open
 
@@ -132,43 +143,54 @@ neither false b h = (refl, h)
 none_closes : (a b : Bool) → a ≡ false → b ≡ false → (a || b) ≡ false
 none_closes a b h k = rw (h, k) refl
 
-all_open : (s : State) (us : List Meaning) → list_any may_close us ≡ false → (respond_all s us).closes ≡ false
-unfolding respond_all
-all_open s [] h = refl
-all_open s (u ∷ us) h =
-    let q = neither (may_close u) (list_any may_close us) h in
-    let one = unit_open s u q.0 in
-    either_open (is_faulty (verdict s u)) _ _ one (none_closes _ _ one (all_open (respond_unit s u).next us q.1))
+pub word_open : (t : Taker) (w : Word) → may_close_word w ≡ false → (respond_word t w).closes ≡ false
+word_open t w h = word_does (λ o. o.closes ≡ false) t w (record {
+  acts = λ u a. unit_open t.state u (acts_alike may_close (λ a b. refl) w u a ∙ h);
+  bad = λ fault o. refl;
+  rests = refl;
+})
 
-either_none : (p : Meaning → Bool) (b : Bool) (x y : List Meaning) → list_any p x ≡ false → list_any p y ≡ false → list_any p (if b then x else y) ≡ false
+either_still : (b : Bool) (x y : Hearing) → x.closes ≡ false → y.closes ≡ false → (if b then x else y).closes ≡ false
+either_still true x y h k = h
+either_still false x y h k = k
+
+all_open : (t : Taker) (ws : Words) → list_any may_close_word ws ≡ false → (respond_words t ws).closes ≡ false
+unfolding respond_words
+all_open t [] h = refl
+all_open t (w ∷ ws) h =
+    let q = neither (may_close_word w) (list_any may_close_word ws) h in
+    let one = word_open t w q.0 in
+    either_still (is_faulty (word_verdict t w)) _ _ one (none_closes _ _ one (all_open (respond_word t w).next ws q.1))
+
+either_none : (p : Word → Bool) (b : Bool) (x y : Words) → list_any p x ≡ false → list_any p y ≡ false → list_any p (if b then x else y) ≡ false
 either_none p true x y h k = h
 either_none p false x y h k = k
 
-pub acting_none : (p : Meaning → Bool) (said : Said) → list_any p said ≡ false → list_any p (acting said) ≡ false
-unfolding acting
+pub acting_none : (p : Word → Bool) (words : Words) → list_any p words ≡ false → list_any p (acting_words words) ≡ false
+unfolding acting_words
 acting_none p [] h = refl
-acting_none p (first ∷ units) h =
-    let q = neither (p first) (list_any p units) h in
-    either_none p (list_any is_resynchronize units) units (units ++ first ∷ []) q.1
-    (list_any-append p units (first ∷ []) ∙ none_closes _ _ q.1 (none_closes (p first) false q.0 refl))
+acting_none p (w ∷ ws) h =
+    let q = neither (p w) (list_any p ws) h in
+    either_none p (list_any is_restart_word ws) ws (ws ++ w ∷ []) q.1
+    (list_any-append p ws (w ∷ []) ∙ none_closes _ _ q.1 (none_closes (p w) false q.0 refl))
 
 -- ---- what is said in a TSDU
 
-pub said_open : (s : State) (said : Said) → list_any may_close said ≡ false → (respond s said).closes ≡ false
-said_open s said h = all_open s (acting said) (acting_none may_close said h)
+pub words_open : (t : Taker) (words : Words) → list_any may_close_word words ≡ false → (respond_tsdu t words).closes ≡ false
+words_open t words h = all_open t (acting_words words) (acting_none may_close_word words h)
 
 pub not_true : (b : Bool) → not b ≡ true → b ≡ false
 not_true true h = absurd (cc)
 not_true false h = refl
 
-pub said_silent : (s : State) (said : Said) → closes_alone said ≡ true → (respond s said).closes ≡ true → (respond s said).reply ≡ None
-said_silent s [] h c = let o = said_open s [] refl in absurd (cc)
-said_silent s (u ∷ []) h c = subst (λ (o : Outcome). o.closes ≡ true → o.reply ≡ None) (sym (said_alone s u)) (unit_silent s u) c
-said_silent s (u ∷ v ∷ us) h c =
-    let o = said_open s (u ∷ v ∷ us) (not_true (list_any may_close (u ∷ v ∷ us)) h) in absurd (cc)
+pub words_silent : (t : Taker) (words : Words) → closes_alone words ≡ true → (respond_tsdu t words).closes ≡ true → (respond_tsdu t words).reply ≡ None
+words_silent t [] h c = let o = words_open t [] refl in absurd (cc)
+words_silent t (w ∷ []) h c = subst (λ (x : Hearing). x.closes ≡ true → x.reply ≡ None) (sym (word_alone t w)) (word_closes_last t w).silent c
+words_silent t (w ∷ v ∷ ws) h c =
+    let o = words_open t (w ∷ v ∷ ws) (not_true (list_any may_close_word (w ∷ v ∷ ws)) h) in absurd (cc)
 
-pub said_ends : (s : State) (said : Said) → (respond s said).closes ≡ true → is_ended (respond s said).next.phase ≡ true
-said_ends s said = all_end s (acting said)
+pub words_end : (t : Taker) (words : Words) → (respond_tsdu t words).closes ≡ true → is_ended (respond_tsdu t words).next.state.phase ≡ true
+words_end t words = all_end t (acting_words words)
 
 -- ---- what is read from octets
 
@@ -189,15 +211,27 @@ item_open kind.GiveTokens known information h = refl
 item_open kind.PleaseTokens known information h = refl
 item_open _ known information h = absurd (cc)
 
-all_behind_open : (units : Units) → AreBehind units → list_any may_close (said_by_units units) ≡ false
-unfolding meaning
-all_behind_open [] h = refl
-all_behind_open (unit ∷ units) h = none_closes _ _ (behind_open unit.kind unit.known unit.information h.0) (all_behind_open units h.2)
+-- a part is data, which leaves it open
+word_opens : (place : Option Place) (unit : Contents) → may_close (meaning unit) ≡ false → may_close_word (word_at place unit) ≡ false
+word_opens None unit h = h
+word_opens (Some place) unit h = refl
 
-none_alone : (said : Said) → list_any may_close said ≡ false → closes_alone said ≡ true
+behind_word : (unit : Contents) → category_of unit.kind ≡ Two → may_close_word (word unit) ≡ false
+unfolding word meaning
+behind_word unit h = word_opens (place_of unit) unit (behind_open unit.kind unit.known unit.information h)
+
+item_word : (unit : Contents) → category_of unit.kind ≡ Zero → may_close_word (word unit) ≡ false
+unfolding word meaning
+item_word unit h = word_opens (place_of unit) unit (item_open unit.kind unit.known unit.information h)
+
+all_behind_open : (units : Units) → AreBehind units → list_any may_close_word (said_by_units units) ≡ false
+all_behind_open [] h = refl
+all_behind_open (unit ∷ units) h = none_closes _ _ (behind_word unit h.0) (all_behind_open units h.2)
+
+none_alone : (words : Words) → list_any may_close_word words ≡ false → closes_alone words ≡ true
 none_alone [] h = refl
-none_alone (u ∷ []) h = refl
-none_alone (u ∷ v ∷ us) h = ap not h
+none_alone (w ∷ []) h = refl
+none_alone (w ∷ v ∷ ws) h = ap not h
 
 abbrev IsAlone : Units → Type 0
 IsAlone units = closes_alone (said_by_units units) ≡ true
@@ -207,11 +241,10 @@ ended_alone at [] unit units e = subst IsAlone (ok_is (unit ∷ []) units e) ref
 ended_alone at (b ∷ octets) unit units e = absurd (cc)
 
 continued_alone : (p : Placed) (units : Units) (category : Category) → category_of p.kind ≡ category → continued category p ≡ Ok units → IsAlone units
-unfolding meaning
 continued_alone p units Zero same e =
     let a = bind_ok (behind_at 16 p.end p.rest) (λ behind. Ok (contents_of p [] ∷ behind)) units e in
     let r = behind_stands 16 p.end p.rest a.0 a.1 in
-    let first = item_open p.kind p.known [] same in
+    let first = item_word (contents_of p []) same in
     subst IsAlone (ok_is (contents_of p [] ∷ a.0) units a.2)
     (none_alone (said_by_units (contents_of p [] ∷ a.0)) (none_closes _ _ first (all_behind_open a.0 r.0)))
 continued_alone p units One same e = ended_alone p.end p.rest (contents_of p []) units e
@@ -223,15 +256,15 @@ units_alone octets units e =
     let a = bind_ok (unit_at false 0 octets) (λ unit. continued (category_of unit.kind) unit) units e in
     continued_alone a.0 units (category_of a.0.kind) refl a.2
 
-read_alone : (read : Result Units SpduFault) (said : Said) → ((units : Units) → read ≡ Ok units → IsAlone units)
-    → said_if_read read ≡ Ok said → closes_alone said ≡ true
-read_alone (Ok units) said h e = let same : said_by_units units ≡ said = cc in subst (λ (x : Said). closes_alone x ≡ true) same (h units refl)
-read_alone (Err fault) said h e = absurd (cc)
+read_alone : (read : Result Units SpduFault) (words : Words) → ((units : Units) → read ≡ Ok units → IsAlone units)
+    → said_if_read read ≡ Ok words → closes_alone words ≡ true
+read_alone (Ok units) words h e = let same : said_by_units units ≡ words = cc in subst (λ (x : Words). closes_alone x ≡ true) same (h units refl)
+read_alone (Err fault) words h e = absurd (cc)
 
--- in what octets say, a unit that may close stands alone
-pub octets_alone : (octets : List ℕ) (said : Said) → said_at octets ≡ Ok said → closes_alone said ≡ true
+-- in what octets say, a word that may close stands alone
+pub octets_alone : (octets : List ℕ) (words : Words) → said_at octets ≡ Ok words → closes_alone words ≡ true
 unfolding said_at
-octets_alone octets said e = read_alone (tsdu_at octets) said (units_alone octets) e
+octets_alone octets words e = read_alone (tsdu_at octets) words (units_alone octets) e
 
 -- ---- moves
 
@@ -239,12 +272,12 @@ either_quiet : (b : Bool) (x y : Move) → x.closes ≡ false → y.closes ≡ f
 either_quiet true x y h k = h
 either_quiet false x y h k = k
 
-answered_open : (s : Standing) (a : Answer) → (answered s a).closes ≡ false
+answered_open : (s : Listener) (a : Answer) → (answered s a).closes ≡ false
 answered_open s (Ok step) = refl
 answered_open s (Err e) = refl
 
 -- a call leaves the transport connection open, and so does what befalls it
-pub call_open : (s : Standing) (c : Call) → (react s (called c)).closes ≡ false
+pub call_open : (s : Listener) (c : Call) → (react s (called c)).closes ≡ false
 unfolding react
 call_open s c = answered_open s (allowed s.state c)
 
@@ -253,20 +286,26 @@ unfolding respond_fault
 fault_open s fault = either_open (is_over s.phase) _ _ refl refl
 
 -- a TSDU that closes it is the last
-pub input_ends : (s : Standing) (input : Input) → (react s input).closes ≡ true → is_ended (react s input).next.state.phase ≡ true
+pub input_ends : (s : Listener) (input : Input) → (react s input).closes ≡ true → is_ended (react s input).next.state.phase ≡ true
 unfolding react
 input_ends s (called c) h = absurd (let o = answered_open s (allowed s.state c) in cc)
-input_ends s (taken said) h = said_ends s.state said h
+input_ends s (taken words) h = words_end (taker_of s) words h
 input_ends s (unread fault) h = absurd (let o = fault_open s.state fault in cc)
 input_ends s opened h = absurd (let o = either_quiet (is_wait_transport s.state.phase) (begun s) (rests s) refl refl in cc)
 input_ends s (refused reason) h = absurd (let o = either_quiet (is_wait_transport s.state.phase) (denied reason s) (rests s) refl refl in cc)
 input_ends s broken h = absurd (cc)
 
-came_silent : (s : Standing) (read : Result Said SpduFault) → ((said : Said) → read ≡ Ok said → closes_alone said ≡ true)
+-- and so over whole messages
+pub whole_ends : (s : whole.Standing) (input : whole.Input) → (whole.react s input).closes ≡ true → is_ended (whole.after_input s input).state.phase ≡ true
+whole_ends s input h =
+    let same = moves_as_whole s input in
+    subst (λ (m : Move). is_ended m.next.state.phase ≡ true) same (input_ends (listening s) (in_words input) (ap (λ (m : Move). m.closes) same ∙ h))
+
+came_silent : (s : Listener) (read : Result Words SpduFault) → ((words : Words) → read ≡ Ok words → closes_alone words ≡ true)
     → (react s (came_as read)).closes ≡ true → (react s (came_as read)).reply ≡ None
 unfolding react
-came_silent s (Ok said) h c = said_silent s.state said (h said refl) c
+came_silent s (Ok words) h c = words_silent (taker_of s) words (h words refl) c
 came_silent s (Err fault) h c = absurd (let o = fault_open s.state fault in cc)
 
-pub octets_silent : (s : Standing) (octets : List ℕ) → (react s (came octets)).closes ≡ true → (react s (came octets)).reply ≡ None
+pub octets_silent : (s : Listener) (octets : List ℕ) → (react s (came octets)).closes ≡ true → (react s (came octets)).reply ≡ None
 octets_silent s octets = came_silent s (said_at octets) (octets_alone octets)

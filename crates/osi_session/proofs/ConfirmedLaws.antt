@@ -1,5 +1,5 @@
 -- What raises V(A), and that it does not fall but by a restart.
-use Rattle.std.proofs.Common.{◌≡◌, refl, sym, subst, ℕ, ◌+◌, ◌≤◌, Bool, true, false, not, ◌&&◌, ◌||◌, nat_le, nat_lt, List, [], ◌∷◌, Ok, Option, Some, None, if◌then◌else◌, arith}
+use Rattle.std.proofs.Common.{◌≡◌, refl, sym, ◌∙◌, subst, ℕ, ◌+◌, ◌≤◌, Bool, true, false, not, ◌&&◌, ◌||◌, nat_le, nat_lt, List, [], ◌∷◌, Ok, Option, Some, None, if◌then◌else◌, arith}
 use Rattle.std.specs.List.{AllByRecursion, list_any}
 use Rattle.std.proofs.lemmas.Bool.{leb-true, and_parts}
 use Rattle.osi_session.specs.declared.faults.UnitFault.{UnitFault}
@@ -12,16 +12,18 @@ use Rattle.osi_session.specs.Phases.{is_wait_cn, is_aborting, is_ended}
 use Rattle.osi_session.specs.Sound.{IsSound, AreOrdered}
 use Rattle.osi_session.specs.Calls.{Call, Accept, Refuse, Data, Give, Please, Minor, MinorConfirm, Major, MajorConfirm, Restart, RestartConfirm, Release, ReleaseAccept, ReleaseRefuse, Abort}
 use Rattle.osi_message.specs.Meanings.{Meaning, CN, AC, RF, DT, GT, PT, MIP, MIA, MAP, MAA, RS, RA, FN, DN, NF, AB, AA}
-use Rattle.osi_message.specs.Numbered.{IsNumbered}
+use Rattle.osi_message.specs.Numbered.{IsNumberedWord}
+use Rattle.osi_message.specs.Words.{Word, Words, as_message}
 use Rattle.osi_session.specs.Shown.{MinorConfirmed, BadUnit}
 use Rattle.osi_session.specs.Allowed.{Step, needs, after, allowed, AllHold}
-use Rattle.osi_session.specs.Respond.{Outcome, si, conditions, first_fault, is_expected, drops, is_acceptable, stands, becomes, bad, judged, take_expected, respond_unit, is_faulty, verdict, AllMet, respond_all, acting}
-use Rattle.osi_session.specs.Moves.{Input, called, taken, unread, opened, refused, broken, Standing, after_input, after_inputs}
-use Rattle.osi_session.specs.Runs.{HasNumbers}
-use Rattle.osi_session.proofs.ActingLaws.{acting_numbered}
+use Rattle.osi_session.specs.Respond.{Outcome, si, conditions, first_fault, is_expected, drops, is_acceptable, stands, becomes, bad, judged, take_expected, respond_unit, is_faulty, AllMet}
+use Rattle.osi_session.specs.Joining.{Taker, Hearing, word_verdict, respond_word, respond_words, acting_words}
+use Rattle.osi_session.specs.Listening.{Input, called, taken, unread, opened, refused, broken, Listener, taker_of, after_input, after_inputs}
+use Rattle.osi_session.specs.Runs.{HasNumbersInWords}
 use Rattle.osi_session.specs.Causes.{call_renews, unit_renews, renews}
 use Rattle.osi_session.proofs.Passed.{passed}
-use Rattle.osi_session.proofs.SoundUnits.{unit_sound}
+use Rattle.osi_session.proofs.TsduLaws.{word_sound}
+use Rattle.osi_session.proofs.WordCases.{acts_alike, word_keeps, all_acting}
 use Rattle.osi_session.proofs.RunCases.{call_cases, unit_cases, taken_cases, fault_cases, opened_cases, refused_cases, broken_cases}
 use Rattle.osi_session.proofs.RunLaws.{input_sound}
 
@@ -155,29 +157,34 @@ or_parts : (a b : Bool) → (a || b) ≡ false → (a ≡ false) × (b ≡ false
 or_parts true b h = absurd (cc)
 or_parts false b h = (refl, h)
 
-either_rises : (v : Numbers) (b : Bool) (x y : Outcome) → Rises v x.next.numbers → Rises v y.next.numbers → Rises v (if b then x else y).next.numbers
+word_rises : (t : Taker) (w : Word) → unit_renews (as_message w) ≡ false → IsSound t.state → Rises t.state.numbers (respond_word t w).next.state.numbers
+word_rises t w r h = word_keeps (λ next. Rises t.state.numbers next.numbers) t w
+    (λ u a. unit_rises t.state u (acts_alike unit_renews (λ a b. refl) w u a ∙ r) h) (λ o. same t.state.numbers) (same t.state.numbers)
+
+either_rises : (v : Numbers) (b : Bool) (x y : Hearing) → Rises v x.next.state.numbers → Rises v y.next.state.numbers → Rises v (if b then x else y).next.state.numbers
 either_rises v true x y h k = h
 either_rises v false x y h k = k
 
-all_rises : (s : State) (us : List Meaning) → list_any unit_renews us ≡ false → AllByRecursion IsNumbered us → IsSound s → Rises s.numbers (respond_all s us).next.numbers
-unfolding respond_all
-all_rises s [] r small h = same s.numbers
-all_rises s (u ∷ us) r small h =
-    let parts = or_parts (unit_renews u) (list_any unit_renews us) r in
-    let one = unit_rises s u parts.0 h in
-    let more = all_rises (respond_unit s u).next us parts.1 small.1 (unit_sound s u small.0 h) in
-    either_rises s.numbers (is_faulty (verdict s u)) _ _ one (omega arith)
+all_rises : (t : Taker) (ws : Words) → list_any (λ w. unit_renews (as_message w)) ws ≡ false → AllByRecursion IsNumberedWord ws → IsSound t.state
+    → Rises t.state.numbers (respond_words t ws).next.state.numbers
+unfolding respond_words
+all_rises t [] r small h = same t.state.numbers
+all_rises t (w ∷ ws) r small h =
+    let parts = or_parts (unit_renews (as_message w)) (list_any (λ w. unit_renews (as_message w)) ws) r in
+    let one = word_rises t w parts.0 h in
+    let more = all_rises (respond_word t w).next ws parts.1 small.1 (word_sound t w small.0 h) in
+    either_rises t.state.numbers (is_faulty (word_verdict t w)) _ _ one (omega arith)
 
-input_rises : (s : Standing) (input : Input) → renews input ≡ false → HasNumbers input → IsSound s.state → Rises s.state.numbers (after_input s input).state.numbers
+input_rises : (s : Listener) (input : Input) → renews input ≡ false → HasNumbersInWords input → IsSound s.state → Rises s.state.numbers (after_input s input).state.numbers
 input_rises s (called c) r small h = call_cases (λ next. Rises s.state.numbers next.numbers) s c (same s.state.numbers)
     (λ x e. let q = passed s.state c x e in subst (λ (y : Step). Rises s.state.numbers y.next.numbers) (sym q.gives) (after_rises s.state c r q.needed h))
-input_rises s (taken said) r small h = taken_cases (λ next. Rises s.state.numbers next.numbers) s said (all_rises s.state (acting said) r (acting_numbered said small) h)
+input_rises s (taken words) r small h = taken_cases (λ next. Rises s.state.numbers next.numbers) s words (all_rises (taker_of s) (acting_words words) r (all_acting IsNumberedWord words small) h)
 input_rises s (unread fault) r small h = fault_cases (λ next. Rises s.state.numbers next.numbers) s fault (same s.state.numbers) (λ o. same s.state.numbers)
 input_rises s opened r small h = opened_cases (λ next. Rises s.state.numbers next.numbers) s (λ w. same s.state.numbers) (same s.state.numbers)
 input_rises s (refused reason) r small h = refused_cases (λ next. Rises s.state.numbers next.numbers) s reason (λ w. same s.state.numbers) (same s.state.numbers)
 input_rises s broken r small h = broken_cases (λ next. Rises s.state.numbers next.numbers) s (same s.state.numbers)
 
-pub never_falls : (s : Standing) (inputs : List Input) → AllByRecursion HasNumbers inputs → AllByRecursion (λ i. renews i ≡ false) inputs → IsSound s.state
+pub never_falls : (s : Listener) (inputs : List Input) → AllByRecursion HasNumbersInWords inputs → AllByRecursion (λ i. renews i ≡ false) inputs → IsSound s.state
     → s.state.numbers.confirmed ≤ (after_inputs s inputs).state.numbers.confirmed
 never_falls s [] small r h = omega arith
 never_falls s (input ∷ inputs) small r h =

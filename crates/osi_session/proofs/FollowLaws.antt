@@ -1,18 +1,19 @@
--- Units that follow one another, and the token item that acts after the last of them.
-use Rattle.std.proofs.Common.{◌≡◌, refl, sym, ◌∙◌, ap, subst, Bool, true, false, ◌||◌, List, [], ◌∷◌, ◌++◌, Option, Some, None, Result, Ok, Err, if◌then◌else◌}
+use Rattle.std.proofs.Common.{◌≡◌, refl, sym, ◌∙◌, ap, subst, ℕ, Bool, true, false, ◌||◌, List, [], ◌∷◌, ◌++◌, Option, Some, None, Result, Ok, Err, if◌then◌else◌}
 use Rattle.std.specs.Prelude.{OnErr}
 use Rattle.std.specs.List.{list_any}
-use Rattle.std.proofs.lemmas.List.{append_assoc}
+use Rattle.std.proofs.lemmas.List.{append_assoc, append-nil}
 use Rattle.osi_spdu.specs.declared.behind.Behind.{Behind}
 use Rattle.osi_spdu.specs.declared.units.Spdu.{Spdu}
 use Rattle.osi_spdu.specs.Groups.{GivesBehind, units_behind}
-use Rattle.osi_session.specs.declared.state.State.{State}
 use Rattle.osi_session.specs.declared.grouping.Reactions.{Reactions}
-use Rattle.osi_session.specs.Steps.{outcome_of_all}
+use Rattle.osi_session.specs.Steps.{hearing_of_all, takes_room}
 use Rattle.osi_message.specs.Meanings.{Meaning}
-use Rattle.osi_session.specs.Respond.{Outcome, nothing, is_silent, is_resynchronize, first_reply, and_then, respond_unit, is_faulty, verdict, respond_all, acting, respond}
-use Rattle.osi_session.proofs.GroupLaws.{first_loud, second_loud}
-use Rattle.osi_session.proofs.VerdictLaws.{and_nothing, one}
+use Rattle.osi_message.specs.Words.{Word, Words}
+use Rattle.osi_session.specs.Respond.{first_reply, is_faulty}
+use Rattle.osi_session.specs.Joining.{Taker, Hearing, heard_then, idle, is_restart_word, word_verdict, respond_word, respond_words, acting_words, respond_tsdu}
+use Rattle.osi_session.proofs.JoinedLaws.{InPhase}
+use Rattle.osi_session.proofs.RoomLaws.{SoFar, none_so_far, word_so_far, word_takes, takes_behind}
+use Rattle.osi_session.proofs.WordLaws.{one_word}
 
 or_again : (a b c : Bool) → (a || (b || c)) ≡ ((a || b) || c)
 or_again true b c = refl
@@ -22,131 +23,139 @@ reply_again : (a b c : Option Meaning) → first_reply a (first_reply b c) ≡ f
 reply_again None b c = refl
 reply_again (Some m) b c = refl
 
--- outcomes that follow one another
-and_then_again : (o p q : Outcome) → and_then o (and_then p q) ≡ and_then (and_then o p) q
-and_then_again o p q =
+-- what is heard one after the other
+then_again : (o p q : Hearing) → heard_then o (heard_then p q) ≡ heard_then (heard_then o p) q
+then_again o p q =
     let shown = sym (append_assoc o.shown p.shown q.shown) in
     let reply = reply_again o.reply p.reply q.reply in
     let closes = or_again o.closes p.closes q.closes in
     λ i. record { next = q.next; shown = shown i; reply = reply i; closes = closes i }
 
 -- what is still to act: these units, and behind them the item unless one of them is an RS, or one before them was
-abbrev pub acting_behind : Bool → Meaning → List Meaning → List Meaning
-acting_behind restarts item us = if restarts || list_any is_resynchronize us then us else us ++ item ∷ []
+abbrev pub acting_behind : Bool → Word → Words → Words
+acting_behind restarts item us = if restarts || list_any is_restart_word us then us else us ++ item ∷ []
 
-shift : (restarts r a : Bool) (u item : Meaning) (us : List Meaning) →
+shift : (restarts r a : Bool) (u item : Word) (us : Words) →
     (if restarts || (r || a) then u ∷ us else (u ∷ us) ++ item ∷ []) ≡ u ∷ (if (restarts || r) || a then us else us ++ item ∷ [])
 shift true r a u item us = refl
 shift false true a u item us = refl
 shift false false true u item us = refl
 shift false false false u item us = refl
 
-taken_next : (restarts : Bool) (item u : Meaning) (us : List Meaning) →
-    acting_behind restarts item (u ∷ us) ≡ u ∷ acting_behind (restarts || is_resynchronize u) item us
-taken_next restarts item u us = shift restarts (is_resynchronize u) (list_any is_resynchronize us) u item us
+taken_next : (restarts : Bool) (item u : Word) (us : Words) →
+    acting_behind restarts item (u ∷ us) ≡ u ∷ acting_behind (restarts || is_restart_word u) item us
+taken_next restarts item u us = shift restarts (is_restart_word u) (list_any is_restart_word us) u item us
 
 -- this outcome, and those of what is still to act, are what is wanted
-abbrev pub Leads : Outcome → Outcome → Bool → Meaning → List Meaning → Type 0
-Leads want o restarts item us = and_then o (respond_all o.next (acting_behind restarts item us)) ≡ want
+abbrev pub Leads : Hearing → Hearing → Bool → Word → Words → Type 0
+Leads want o restarts item us = heard_then o (respond_words o.next (acting_behind restarts item us)) ≡ want
 
-pub good_then : (s : State) (u : Meaning) (us : List Meaning) → is_faulty (verdict s u) ≡ false
-    → respond_all s (u ∷ us) ≡ and_then (respond_unit s u) (respond_all (respond_unit s u).next us)
-unfolding respond_all
+pub good_then : (s : Taker) (u : Word) (us : Words) → is_faulty (word_verdict s u) ≡ false
+    → respond_words s (u ∷ us) ≡ heard_then (respond_word s u) (respond_words (respond_word s u).next us)
+unfolding respond_words
 good_then s u us h = rw h refl
 
-bad_then : (s : State) (u : Meaning) (us : List Meaning) → is_faulty (verdict s u) ≡ true → respond_all s (u ∷ us) ≡ respond_unit s u
-unfolding respond_all
+bad_then : (s : Taker) (u : Word) (us : Words) → is_faulty (word_verdict s u) ≡ true → respond_words s (u ∷ us) ≡ respond_word s u
+unfolding respond_words
 bad_then s u us h = rw h refl
 
 -- a unit that is not bad
-pub goes_on : (want o : Outcome) (restarts : Bool) (item u : Meaning) (us : List Meaning) → Leads want o restarts item (u ∷ us)
-    → is_faulty (verdict o.next u) ≡ false → Leads want (and_then o (respond_unit o.next u)) (restarts || is_resynchronize u) item us
+pub goes_on : (want o : Hearing) (restarts : Bool) (item u : Word) (us : Words) → Leads want o restarts item (u ∷ us)
+    → is_faulty (word_verdict o.next u) ≡ false → Leads want (heard_then o (respond_word o.next u)) (restarts || is_restart_word u) item us
 goes_on want o restarts item u us h good =
-    let rest = acting_behind (restarts || is_resynchronize u) item us in
-    let e = ap (λ (xs : List Meaning). and_then o (respond_all o.next xs)) (taken_next restarts item u us) in
-    let f = ap (and_then o) (good_then o.next u rest good) in
-    let g = and_then_again o (respond_unit o.next u) (respond_all (respond_unit o.next u).next rest) in
+    let rest = acting_behind (restarts || is_restart_word u) item us in
+    let e = ap (λ (xs : Words). heard_then o (respond_words o.next xs)) (taken_next restarts item u us) in
+    let f = ap (heard_then o) (good_then o.next u rest good) in
+    let g = then_again o (respond_word o.next u) (respond_words (respond_word o.next u).next rest) in
     sym g ∙ sym f ∙ sym e ∙ h
 
 -- a bad unit is the last that acts
-pub stops : (want o : Outcome) (restarts : Bool) (item u : Meaning) (us : List Meaning) → Leads want o restarts item (u ∷ us)
-    → is_faulty (verdict o.next u) ≡ true → and_then o (respond_unit o.next u) ≡ want
+pub stops : (want o : Hearing) (restarts : Bool) (item u : Word) (us : Words) → Leads want o restarts item (u ∷ us)
+    → is_faulty (word_verdict o.next u) ≡ true → heard_then o (respond_word o.next u) ≡ want
 stops want o restarts item u us h bad =
-    let rest = acting_behind (restarts || is_resynchronize u) item us in
-    let e = ap (λ (xs : List Meaning). and_then o (respond_all o.next xs)) (taken_next restarts item u us) in
-    let f = ap (and_then o) (bad_then o.next u rest bad) in
+    let rest = acting_behind (restarts || is_restart_word u) item us in
+    let e = ap (λ (xs : Words). heard_then o (respond_words o.next xs)) (taken_next restarts item u us) in
+    let f = ap (heard_then o) (bad_then o.next u rest bad) in
     sym f ∙ sym e ∙ h
 
-loud_now : (s : State) (u : Meaning) (us : List Meaning) → is_silent (respond_unit s u) ≡ false → is_silent (respond_all s (u ∷ us)) ≡ false
-unfolding respond_all
-loud_now s u us h = by (is_faulty (verdict s u)) (respond_all (respond_unit s u).next us)
-  where
-    by : (b : Bool) (p : Outcome) → is_silent (if b then respond_unit s u else and_then (respond_unit s u) p) ≡ false
-    by true p = h
-    by false p = first_loud (respond_unit s u) p h
-
--- where a unit shows or sends something, so does the whole
-pub is_loud : (want o : Outcome) (restarts : Bool) (item u : Meaning) (us : List Meaning) → Leads want o restarts item (u ∷ us)
-    → is_silent (respond_unit o.next u) ≡ false → is_silent want ≡ false
-is_loud want o restarts item u us h loud =
-    let rest = acting_behind (restarts || is_resynchronize u) item us in
-    let e = ap (λ (xs : List Meaning). and_then o (respond_all o.next xs)) (taken_next restarts item u us) in
-    subst (λ (p : Outcome). is_silent p ≡ false) (sym e ∙ h)
-    (second_loud o (respond_all o.next (u ∷ rest)) (loud_now o.next u rest loud))
+-- where memory is wanted for a word, it is for the whole
+pub takes : (j : Option (List ℕ)) (want o : Hearing) (restarts : Bool) (item u : Word) (us : Words) → SoFar j o → Leads want o restarts item (u ∷ us)
+    → takes_room o.next.joined (respond_word o.next u) ≡ true → takes_room j want ≡ true
+takes j want o restarts item u us s h room =
+    let rest = acting_behind (restarts || is_restart_word u) item us in
+    let e = ap (λ (xs : Words). heard_then o (respond_words o.next xs)) (taken_next restarts item u us) in
+    subst (λ (p : Hearing). takes_room j p ≡ true) (sym e ∙ h)
+    (takes_behind j o (respond_words o.next (u ∷ rest)) s.grows (word_takes o.next u rest room))
 
 -- no unit is left
-pub ends_restarted : (want o : Outcome) (item : Meaning) → Leads want o true item [] → o ≡ want
-unfolding respond_all
-ends_restarted want o item h = sym (and_nothing o) ∙ h
+or_false : (b : Bool) → (b || false) ≡ b
+or_false true = refl
+or_false false = refl
 
-pub ends_with_item : (want o : Outcome) (item : Meaning) → Leads want o false item [] → and_then o (respond_unit o.next item) ≡ want
-ends_with_item want o item h = sym (ap (and_then o) (one o.next item)) ∙ h
+reply_none : (r : Option Meaning) → first_reply r None ≡ r
+reply_none None = refl
+reply_none (Some m) = refl
 
-pub item_is_loud : (want o : Outcome) (item : Meaning) → Leads want o false item [] → is_silent (respond_unit o.next item) ≡ false → is_silent want ≡ false
-item_is_loud want o item h loud =
-    subst (λ (p : Outcome). is_silent p ≡ false) (ends_with_item want o item h) (second_loud o (respond_unit o.next item) loud)
+then_idle : (h : Hearing) → heard_then h (idle h.next) ≡ h
+then_idle h =
+    let shown = append-nil h.shown in let reply = reply_none h.reply in let closes = or_false h.closes in
+    λ i. record { next = h.next; shown = shown i; reply = reply i; closes = closes i }
 
--- ---- a TSDU of more units than one
+pub ends_restarted : (want o : Hearing) (item : Word) → Leads want o true item [] → o ≡ want
+unfolding respond_words
+ends_restarted want o item h = sym (then_idle o) ∙ h
 
-pub tsdu_begins : (s : State) (o : Outcome) (item : Meaning) (us : List Meaning) → o ≡ nothing s → Leads (respond s (item ∷ us)) o false item us
-unfolding acting
-tsdu_begins s o item us e = subst (λ (p : Outcome). Leads (respond s (item ∷ us)) p false item us) (sym e) refl
+pub ends_with_item : (want o : Hearing) (item : Word) → Leads want o false item [] → heard_then o (respond_word o.next item) ≡ want
+ends_with_item want o item h = sym (ap (heard_then o) (one_word o.next item)) ∙ h
 
--- what the loop over the units of a TSDU keeps
-pub record Walks (want : Outcome) (r : Reactions) (restarts : Bool) (item : Meaning) (us : List Meaning) : Type 0 where
-  pub leads : Leads want (outcome_of_all r) restarts item us
+pub item_takes : (j : Option (List ℕ)) (want o : Hearing) (item : Word) → SoFar j o → Leads want o false item [] → takes_room o.next.joined (respond_word o.next item) ≡ true → takes_room j want ≡ true
+item_takes j want o item s h room =
+    subst (λ (p : Hearing). takes_room j p ≡ true) (ends_with_item want o item h) (takes_behind j o (respond_word o.next item) s.grows room)
+
+-- ---- a TSDU of more words than one
+
+pub tsdu_begins : (t : Taker) (o : Hearing) (item : Word) (us : Words) → o ≡ idle t → Leads (respond_tsdu t (item ∷ us)) o false item us
+unfolding acting_words
+tsdu_begins t o item us e = subst (λ (p : Hearing). Leads (respond_tsdu t (item ∷ us)) p false item us) (sym e) refl
+
+-- what the loop over the words of a TSDU keeps
+pub record Walks (want : Hearing) (j : Option (List ℕ)) (r : Reactions) (restarts : Bool) (item : Word) (us : Words) : Type 0 where
+  pub leads : Leads want (hearing_of_all j r) restarts item us
+  pub so_far : SoFar j (hearing_of_all j r)
   pub ordered : r.first ≡ None → r.more.items ≡ []
 
-pub walks_begin : (s : State) (r : Reactions) (item first : Meaning) (us units : List Meaning) → outcome_of_all r ≡ nothing s → r.more.items ≡ []
-    → item ≡ first → us ≡ units → Walks (respond s (first ∷ units)) r false item us
-walks_begin s r item first us units e m i b = record {
-  leads = subst (λ (x : Meaning). Leads (respond s (first ∷ units)) (outcome_of_all r) false x us) (sym i)
-      (subst (λ (xs : List Meaning). Leads (respond s (first ∷ units)) (outcome_of_all r) false first xs) (sym b)
-      (tsdu_begins s (outcome_of_all r) first units e));
+pub walks_begin : (t : Taker) (r : Reactions) (item first : Word) (us units : Words) → hearing_of_all t.joined r ≡ idle t → InPhase t → r.more.items ≡ []
+    → item ≡ first → us ≡ units → Walks (respond_tsdu t (first ∷ units)) t.joined r false item us
+walks_begin t r item first us units e k m i b = record {
+  leads = subst (λ (x : Word). Leads (respond_tsdu t (first ∷ units)) (hearing_of_all t.joined r) false x us) (sym i)
+      (subst (λ (xs : Words). Leads (respond_tsdu t (first ∷ units)) (hearing_of_all t.joined r) false first xs) (sym b)
+      (tsdu_begins t (hearing_of_all t.joined r) first units e));
+  so_far = none_so_far t (hearing_of_all t.joined r) e k;
   ordered = λ k. m;
 }
 
--- one unit is taken off
-pub walks_turn : (want : Outcome) (r : Reactions) (restarts : Bool) (item u v : Meaning) (us units : List Meaning) → Walks want r restarts item us
-    → us ≡ v ∷ units → u ≡ v → Walks want r restarts item (u ∷ units)
-walks_turn want r restarts item u v us units w e i =
-    subst (λ (x : Meaning). Walks want r restarts item (x ∷ units)) (sym i) (subst (λ (xs : List Meaning). Walks want r restarts item xs) e w)
+-- one word is taken off
+pub walks_turn : (want : Hearing) (j : Option (List ℕ)) (r : Reactions) (restarts : Bool) (item u v : Word) (us units : Words) → Walks want j r restarts item us
+    → us ≡ v ∷ units → u ≡ v → Walks want j r restarts item (u ∷ units)
+walks_turn want j r restarts item u v us units w e i =
+    subst (λ (x : Word). Walks want j r restarts item (x ∷ units)) (sym i) (subst (λ (xs : Words). Walks want j r restarts item xs) e w)
 
-pub walks_on : (want : Outcome) (r next : Reactions) (restarts now : Bool) (item u : Meaning) (us : List Meaning) → Walks want r restarts item (u ∷ us)
-    → is_faulty (verdict r.next u) ≡ false → outcome_of_all next ≡ and_then (outcome_of_all r) (respond_unit r.next u)
-    → (next.first ≡ None → next.more.items ≡ []) → now ≡ (restarts || is_resynchronize u) → Walks want next now item us
-walks_on want r next restarts now item u us w good e ordered n = record {
-  leads = subst (λ (b : Bool). Leads want (outcome_of_all next) b item us) (sym n)
-      (subst (λ (o : Outcome). Leads want o (restarts || is_resynchronize u) item us) (sym e)
-      (goes_on want (outcome_of_all r) restarts item u us w.leads good));
+pub walks_on : (want : Hearing) (j : Option (List ℕ)) (r next : Reactions) (restarts now : Bool) (item u : Word) (us : Words) → Walks want j r restarts item (u ∷ us)
+    → is_faulty (word_verdict (hearing_of_all j r).next u) ≡ false → hearing_of_all j next ≡ heard_then (hearing_of_all j r) (respond_word (hearing_of_all j r).next u)
+    → (next.first ≡ None → next.more.items ≡ []) → now ≡ (restarts || is_restart_word u) → Walks want j next now item us
+walks_on want j r next restarts now item u us w good e ordered n = record {
+  leads = subst (λ (b : Bool). Leads want (hearing_of_all j next) b item us) (sym n)
+      (subst (λ (o : Hearing). Leads want o (restarts || is_restart_word u) item us) (sym e)
+      (goes_on want (hearing_of_all j r) restarts item u us w.leads good));
+  so_far = subst (SoFar j) (sym e) (word_so_far j (hearing_of_all j r) u w.so_far);
   ordered = ordered;
 }
 
--- where no unit is left
-pub walks_end : (want : Outcome) (r : Reactions) (restarts b : Bool) (item : Meaning) (us : List Meaning) → Walks want r restarts item us
-    → us ≡ [] → restarts ≡ b → Leads want (outcome_of_all r) b item []
-walks_end want r restarts b item us w e h =
-    subst (λ (x : Bool). Leads want (outcome_of_all r) x item []) h (subst (λ (xs : List Meaning). Leads want (outcome_of_all r) restarts item xs) e w.leads)
+-- where no word is left
+pub walks_end : (want : Hearing) (j : Option (List ℕ)) (r : Reactions) (restarts b : Bool) (item : Word) (us : Words) → Walks want j r restarts item us
+    → us ≡ [] → restarts ≡ b → Leads want (hearing_of_all j r) b item []
+walks_end want j r restarts b item us w e h =
+    subst (λ (x : Bool). Leads want (hearing_of_all j r) x item []) h (subst (λ (xs : Words). Leads want (hearing_of_all j r) restarts item xs) e w.leads)
 
 pub on_err : {A E P : Type 0} (r : Result A E) → P → OnErr r P
 on_err (Ok x) p = tt

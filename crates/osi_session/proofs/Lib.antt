@@ -1,8 +1,6 @@
 mod StateLaws
-pub mod ActingLaws
 pub mod Begun
 pub mod CallLaws
-pub mod FollowLaws
 pub mod GroupLaws
 pub mod ConfirmedLaws
 pub mod HeldLaws
@@ -26,4 +24,16 @@ pub mod VerdictLaws
 pub mod ClosingLaws
 pub mod AnswerLaws
 pub mod WrittenLaws
+pub mod JoiningLaws
+pub mod RoomLaws
+pub mod FollowLaws
+pub mod SessionMoves
 pub mod DataLaws
+pub mod HearingLaws
+pub mod WordLaws
+pub mod WordCases
+pub mod JoinedLaws
+pub mod PartLaws
+pub mod KeptLaws
+pub mod PartRuns
+pub mod ProfileLaws

@@ -3,62 +3,64 @@ use Rattle.std.proofs.Common.{inl, inr, ◌≡◌, refl, sym, ◌∙◌, ap, ℕ
 use Rattle.osi_spdu.specs.declared.faults.SpduFault.{SpduFault}
 use Rattle.osi_session.specs.declared.state.State.{State}
 use Rattle.osi_session.specs.declared.faults.CallError.{CallError}
-use Rattle.osi_message.specs.Reading.{Said}
+use Rattle.osi_message.specs.Words.{Words}
 use Rattle.osi_message.specs.Written.{written}
 use Rattle.osi_session.specs.Calls.{Call}
 use Rattle.osi_session.specs.Allowed.{Step, Answer, allowed}
-use Rattle.osi_session.specs.Respond.{Outcome, respond, respond_fault, respond_read, lost}
-use Rattle.osi_session.specs.Moves.{called, taken, unread, opened, refused, broken, came_as, Standing, Move, rests, in_state, answered, moved, begun, denied, react, after_input}
+use Rattle.osi_session.specs.Respond.{Outcome, respond_fault, lost}
+use Rattle.osi_session.specs.Joining.{Hearing, heard, respond_tsdu, respond_came}
+use Rattle.osi_session.specs.Listening.{called, taken, unread, opened, refused, broken, came_as, Listener, Move, taker_of, rests, in_state, answered, moved, begun, denied, react, after_input}
 use Rattle.osi_session.specs.Sessions.{Planned, IsPlanOf}
 use Rattle.osi_session.specs.declared.faults.CallError.TheVariants as error
 use Rattle.std.proofs.lemmas.Bool.{cases_Bool}
 use Rattle.osi_session.specs.Phases.{is_wait_transport, is_over}
 
-pub call_is : (s : Standing) (c : Call) (a : Answer) → allowed s.state c ≡ a → react s (called c) ≡ answered s a
+pub call_is : (s : Listener) (c : Call) (a : Answer) → allowed s.state c ≡ a → react s (called c) ≡ answered s a
 unfolding react
 call_is s c a e = ap (answered s) e
 
-pub call_next : (s : Standing) (c : Call) (x : Step) → allowed s.state c ≡ Ok x → (react s (called c)).next ≡ in_state s x.next
+pub call_next : (s : Listener) (c : Call) (x : Step) → allowed s.state c ≡ Ok x → (react s (called c)).next ≡ in_state s x.next
 call_next s c x e = ap (λ (m : Move). m.next) (call_is s c (Ok x) e)
 
-pub call_leaves : (s : Standing) (c : Call) (x : Step) → allowed s.state c ≡ Ok x → in_state s x.next ≡ (react s (called c)).next
+pub call_leaves : (s : Listener) (c : Call) (x : Step) → allowed s.state c ≡ Ok x → in_state s x.next ≡ (react s (called c)).next
 call_leaves s c x e = sym (call_next s c x e)
 
-pub call_sends : (s : Standing) (c : Call) (x : Step) → allowed s.state c ≡ Ok x → option_map written (react s (called c)).reply ≡ Some (written x.sent)
+pub call_sends : (s : Listener) (c : Call) (x : Step) → allowed s.state c ≡ Ok x → option_map written (react s (called c)).reply ≡ Some (written x.sent)
 call_sends s c x e = ap (λ (m : Move). option_map written m.reply) (call_is s c (Ok x) e)
 
-pub call_reply : (s : Standing) (c : Call) (x : Step) → allowed s.state c ≡ Ok x → (react s (called c)).reply ≡ Some x.sent
+pub call_reply : (s : Listener) (c : Call) (x : Step) → allowed s.state c ≡ Ok x → (react s (called c)).reply ≡ Some x.sent
 call_reply s c x e = ap (λ (m : Move). m.reply) (call_is s c (Ok x) e)
 
-pub call_errs : (s : Standing) (c : Call) (e : CallError) → allowed s.state c ≡ Err e → (react s (called c)).error ≡ Some e
+pub call_errs : (s : Listener) (c : Call) (e : CallError) → allowed s.state c ≡ Err e → (react s (called c)).error ≡ Some e
 call_errs s c e h = ap (λ (m : Move). m.error) (call_is s c (Err e) h)
 
-pub call_passes : (s : Standing) (c : Call) (x : Step) → allowed s.state c ≡ Ok x → (react s (called c)).error ≡ None
+pub call_passes : (s : Listener) (c : Call) (x : Step) → allowed s.state c ≡ Ok x → (react s (called c)).error ≡ None
 call_passes s c x e = ap (λ (m : Move). m.error) (call_is s c (Ok x) e)
 
-pub taken_is : (s : Standing) (said : Said) (o : Outcome) → respond s.state said ≡ o → react s (taken said) ≡ moved s o
+pub taken_is : (s : Listener) (words : Words) (h : Hearing) → respond_tsdu (taker_of s) words ≡ h → react s (taken words) ≡ moved s h
 unfolding react
-taken_is s said o e = ap (moved s) e
+taken_is s words h e = ap (moved s) e
 
-pub unread_is : (s : Standing) (fault : SpduFault) (o : Outcome) → respond_fault s.state fault ≡ o → react s (unread fault) ≡ moved s o
+pub unread_is : (s : Listener) (fault : SpduFault) (o : Outcome) → respond_fault s.state fault ≡ o → react s (unread fault) ≡ moved s (heard s.joined o)
 unfolding react
-unread_is s fault o e = ap (moved s) e
+unread_is s fault o e = ap (λ (x : Outcome). moved s (heard s.joined x)) e
 
 -- the octets of a TSDU: units, or octets that are none
-pub came_is : (s : Standing) (read : Result Said SpduFault) (o : Outcome) → respond_read s.state read ≡ o → react s (came_as read) ≡ moved s o
-came_is s (Ok said) o e = taken_is s said o e
-came_is s (Err fault) o e = unread_is s fault o e
+pub came_is : (s : Listener) (read : Result Words SpduFault) (h : Hearing) → respond_came (taker_of s) read ≡ h → react s (came_as read) ≡ moved s h
+unfolding react
+came_is s (Ok words) h e = ap (moved s) e
+came_is s (Err fault) h e = ap (moved s) e
 
 -- ---- plans
 
 -- what is committed of a plan is the move of its call
-accepted : (s : Standing) (c : Call) (plan : Planned) (p : IsPlanOf c plan) → plan.was ≡ s.state → allowed s.state c ≡ Ok (record { next = plan.next; sent = p.0 })
+accepted : (s : Listener) (c : Call) (plan : Planned) (p : IsPlanOf c plan) → plan.was ≡ s.state → allowed s.state c ≡ Ok (record { next = plan.next; sent = p.0 })
 accepted s c plan p e = ap (λ (x : State). allowed x c) (sym e) ∙ p.1
 
-pub committed : (s : Standing) (c : Call) (plan : Planned) → IsPlanOf c plan → plan.was ≡ s.state → in_state s plan.next ≡ after_input s (called c)
+pub committed : (s : Listener) (c : Call) (plan : Planned) → IsPlanOf c plan → plan.was ≡ s.state → in_state s plan.next ≡ after_input s (called c)
 committed s c plan p e = call_leaves s c (record { next = plan.next; sent = p.0 }) (accepted s c plan p e)
 
-pub committed_sends : (s : Standing) (c : Call) (plan : Planned) → IsPlanOf c plan → plan.was ≡ s.state → option_map written (react s (called c)).reply ≡ Some plan.sent
+pub committed_sends : (s : Listener) (c : Call) (plan : Planned) → IsPlanOf c plan → plan.was ≡ s.state → option_map written (react s (called c)).reply ≡ Some plan.sent
 committed_sends s c plan p e = call_sends s c (record { next = plan.next; sent = p.0 }) (accepted s c plan p e) ∙ ap (λ (o : List ℕ). Some o) (sym p.2)
 
 over_refused : (s : State) (c : Call) → is_over s.phase ≡ true → allowed s c ≡ Err error.Ended
@@ -81,34 +83,34 @@ plan_of c plan x e n o = (x.sent, e ∙ ap (λ (s : State). Ok (let y : Step = r
 
 -- ---- the move of each input
 
-pub of_call : (s : Standing) (c : Call) → react s (called c) ≡ answered s (allowed s.state c)
+pub of_call : (s : Listener) (c : Call) → react s (called c) ≡ answered s (allowed s.state c)
 unfolding react
 of_call s c = refl
 
-pub of_units : (s : Standing) (said : Said) → react s (taken said) ≡ moved s (respond s.state said)
+pub of_words : (s : Listener) (words : Words) → react s (taken words) ≡ moved s (respond_tsdu (taker_of s) words)
 unfolding react
-of_units s said = refl
+of_words s words = refl
 
-pub of_fault : (s : Standing) (fault : SpduFault) → react s (unread fault) ≡ moved s (respond_fault s.state fault)
+pub of_fault : (s : Listener) (fault : SpduFault) → react s (unread fault) ≡ moved s (heard s.joined (respond_fault s.state fault))
 unfolding react
 of_fault s fault = refl
 
-pub of_opened : (s : Standing) → is_wait_transport s.state.phase ≡ true → react s opened ≡ begun s
+pub of_opened : (s : Listener) → is_wait_transport s.state.phase ≡ true → react s opened ≡ begun s
 unfolding react
 of_opened s w = rw w refl
 
-pub of_refused : (s : Standing) (reason : ℕ) → is_wait_transport s.state.phase ≡ true → react s (refused reason) ≡ denied reason s
+pub of_refused : (s : Listener) (reason : ℕ) → is_wait_transport s.state.phase ≡ true → react s (refused reason) ≡ denied reason s
 unfolding react
 of_refused s reason w = rw w refl
 
-pub of_broken : (s : Standing) → react s broken ≡ moved s (lost s.state)
+pub of_broken : (s : Listener) → react s broken ≡ moved s (heard s.joined (lost s.state))
 unfolding react
 of_broken s = refl
 
-pub not_opened : (s : Standing) → is_wait_transport s.state.phase ≡ false → react s opened ≡ rests s
+pub not_opened : (s : Listener) → is_wait_transport s.state.phase ≡ false → react s opened ≡ rests s
 unfolding react
 not_opened s w = rw w refl
 
-pub not_refused : (s : Standing) (reason : ℕ) → is_wait_transport s.state.phase ≡ false → react s (refused reason) ≡ rests s
+pub not_refused : (s : Listener) (reason : ℕ) → is_wait_transport s.state.phase ≡ false → react s (refused reason) ≡ rests s
 unfolding react
 not_refused s reason w = rw w refl

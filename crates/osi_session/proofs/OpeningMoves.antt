@@ -8,13 +8,16 @@ use Rattle.osi_session.specs.declared.state.State.{State}
 use Rattle.osi_session.specs.Phases.{is_ready, is_major_asked, is_major_due, is_releasing, is_release_due, may_hold}
 use Rattle.osi_session.specs.Calls.{Call, Accept, Refuse, Data, Give, Please, Minor, MinorConfirm, Major, MajorConfirm, Restart, RestartConfirm, Release, ReleaseAccept, ReleaseRefuse, Abort}
 use Rattle.osi_message.specs.Meanings.{Meaning, CN, AC, RF, DT, GT, PT, MIP, MIA, MAP, MAA, RS, RA, FN, DN, NF, AB, AA}
+use Rattle.osi_message.specs.Words.{Word, Words, as_message}
 use Rattle.osi_session.specs.Allowed.{Step, may_call, after}
-use Rattle.osi_session.specs.Respond.{Outcome, is_expected, is_acceptable, stands, becomes, respond_unit, is_faulty, verdict, respond_all, acting}
-use Rattle.osi_session.specs.Moves.{Input, called, taken, unread, opened, refused, broken, Standing, after_input, after_inputs}
-use Rattle.osi_session.specs.Causes.{some_unit, call_opens, unit_opens, opens_connection}
+use Rattle.osi_session.specs.Respond.{is_expected, is_acceptable, stands, becomes, respond_unit, is_faulty}
+use Rattle.osi_session.specs.Joining.{Taker, Hearing, word_verdict, respond_word, respond_words, acting_words}
+use Rattle.osi_session.specs.Listening.{Input, called, taken, unread, opened, refused, broken, Listener, taker_of, after_input, after_inputs}
+use Rattle.osi_session.specs.Causes.{some_word, call_opens, unit_opens, opens_connection}
 use Rattle.osi_session.proofs.Passed.{passed}
 use Rattle.osi_session.proofs.PhaseLaws.{implied}
 use Rattle.osi_session.proofs.RunCases.{call_cases, unit_cases, taken_cases, fault_cases, opened_cases, refused_cases, broken_cases}
+use Rattle.osi_session.proofs.WordCases.{acts_alike, word_keeps}
 
 -- tokens may be held after, where they could not be before, only by this cause
 abbrev OpenedBy : Bool → Phase → Phase → Type 0
@@ -48,7 +51,7 @@ after_opens s (ReleaseAccept octets) p = λ h k. absurd (cc)
 after_opens s (ReleaseRefuse octets) p = open_before _ s.phase Ready (implied is_release_due may_hold refl s.phase p)
 after_opens s (Abort octets) p = λ h k. absurd (cc)
 
-call_opened : (s : Standing) (c : Call) → OpenedBy (call_opens c) s.state.phase (after_input s (called c)).state.phase
+call_opened : (s : Listener) (c : Call) → OpenedBy (call_opens c) s.state.phase (after_input s (called c)).state.phase
 call_opened s c = call_cases (λ next. OpenedBy (call_opens c) s.state.phase next.phase) s c (same _ s.state.phase)
     (λ x e. let q = passed s.state c x e in subst (λ (y : Step). OpenedBy (call_opens c) s.state.phase y.next.phase) (sym q.gives) (after_opens s.state c q.phase))
 
@@ -89,28 +92,37 @@ both_opened a b p mid q f g h k = elim (cases_Bool (may_hold mid)) [
 weaker : (a b : Bool) (p q : Phase) → OpenedBy a p q → OpenedBy (a || b) p q
 weaker a b p q f h k = or_left a b (f h k)
 
-either_opened : (cause b : Bool) (p : Phase) (x y : Outcome) → OpenedBy cause p x.next.phase → OpenedBy cause p y.next.phase → OpenedBy cause p (if b then x else y).next.phase
+word_opened : (t : Taker) (w : Word) → OpenedBy (unit_opens (as_message w)) t.state.phase (respond_word t w).next.state.phase
+word_opened t w = word_keeps (λ next. OpenedBy (unit_opens (as_message w)) t.state.phase next.phase) t w
+    (λ u a. subst (λ cause. OpenedBy cause t.state.phase (respond_unit t.state u).next.phase) (acts_alike unit_opens (λ a b. refl) w u a) (unit_opened t.state u))
+    (λ o h k. absurd (cc)) (same _ t.state.phase)
+
+either_opened : (cause b : Bool) (p : Phase) (x y : Hearing) → OpenedBy cause p x.next.state.phase → OpenedBy cause p y.next.state.phase → OpenedBy cause p (if b then x else y).next.state.phase
 either_opened cause true p x y h k = h
 either_opened cause false p x y h k = k
 
-all_opened : (s : State) (us : List Meaning) → OpenedBy (list_any unit_opens us) s.phase (respond_all s us).next.phase
-unfolding respond_all
-all_opened s [] = same false s.phase
-all_opened s (u ∷ us) =
-    let one = weaker (unit_opens u) (list_any unit_opens us) s.phase (respond_unit s u).next.phase (unit_opened s u) in
-    let both = both_opened (unit_opens u) (list_any unit_opens us) s.phase (respond_unit s u).next.phase
-    (respond_all (respond_unit s u).next us).next.phase (unit_opened s u) (all_opened (respond_unit s u).next us) in
-    either_opened (unit_opens u || list_any unit_opens us) (is_faulty (verdict s u)) s.phase _ _ one both
+abbrev word_opens : Word → Bool
+word_opens w = unit_opens (as_message w)
 
-pub input_opened : (s : Standing) (input : Input) → may_hold s.state.phase ≡ false → may_hold (after_input s input).state.phase ≡ true → opens_connection input ≡ true
+all_opened : (t : Taker) (ws : Words) → OpenedBy (list_any word_opens ws) t.state.phase (respond_words t ws).next.state.phase
+unfolding respond_words
+all_opened t [] = same false t.state.phase
+all_opened t (w ∷ ws) =
+    let next = (respond_word t w).next in
+    let one = weaker (word_opens w) (list_any word_opens ws) t.state.phase next.state.phase (word_opened t w) in
+    let both = both_opened (word_opens w) (list_any word_opens ws) t.state.phase next.state.phase
+    (respond_words next ws).next.state.phase (word_opened t w) (all_opened next ws) in
+    either_opened (word_opens w || list_any word_opens ws) (is_faulty (word_verdict t w)) t.state.phase _ _ one both
+
+pub input_opened : (s : Listener) (input : Input) → may_hold s.state.phase ≡ false → may_hold (after_input s input).state.phase ≡ true → opens_connection input ≡ true
 input_opened s (called c) = call_opened s c
-input_opened s (taken said) = taken_cases (λ next. OpenedBy (some_unit unit_opens said) s.state.phase next.phase) s said (all_opened s.state (acting said))
+input_opened s (taken words) = taken_cases (λ next. OpenedBy (some_word unit_opens words) s.state.phase next.phase) s words (all_opened (taker_of s) (acting_words words))
 input_opened s (unread fault) = fault_cases (λ next. OpenedBy false s.state.phase next.phase) s fault (same _ s.state.phase) (λ o h k. absurd (cc))
 input_opened s opened = opened_cases (λ next. OpenedBy false s.state.phase next.phase) s (λ w h k. absurd (cc)) (same _ s.state.phase)
 input_opened s (refused reason) = refused_cases (λ next. OpenedBy false s.state.phase next.phase) s reason (λ w h k. absurd (cc)) (same _ s.state.phase)
 input_opened s broken = broken_cases (λ next. OpenedBy false s.state.phase next.phase) s (λ h k. absurd (cc))
 
-pub some_opened : (s : Standing) (inputs : List Input) → may_hold s.state.phase ≡ false → may_hold (after_inputs s inputs).state.phase ≡ true → list_any opens_connection inputs ≡ true
+pub some_opened : (s : Listener) (inputs : List Input) → may_hold s.state.phase ≡ false → may_hold (after_inputs s inputs).state.phase ≡ true → list_any opens_connection inputs ≡ true
 some_opened s [] h k = absurd (cc)
 some_opened s (input ∷ inputs) h k = elim (cases_Bool (may_hold (after_input s input).state.phase)) [
   | inl t ↦ or_left (opens_connection input) (list_any opens_connection inputs) (input_opened s input h t)

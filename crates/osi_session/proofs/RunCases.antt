@@ -1,6 +1,5 @@
 -- The outcomes of each event.
-use Rattle.std.proofs.Common.{◌≡◌, refl, ℕ, Bool, true, false, not, List, [], ◌∷◌, Option, Some, None, Ok, Err, if◌then◌else◌}
-use Rattle.std.specs.List.{AllByRecursion}
+use Rattle.std.proofs.Common.{◌≡◌, refl, ℕ, Bool, true, false, not, Option, Some, None, Ok, Err, if◌then◌else◌}
 use Rattle.osi_spdu.specs.declared.faults.SpduFault.{SpduFault}
 use Rattle.osi_session.specs.declared.phases.Phase.TheVariants.{Connecting, Aborting, Ended}
 use Rattle.osi_session.specs.declared.faults.UnitFault.{UnitFault}
@@ -9,19 +8,20 @@ use Rattle.osi_session.specs.Phases.{is_wait_transport, is_aborting, is_ended, i
 use Rattle.osi_session.specs.State.{without_tokens}
 use Rattle.osi_session.specs.Calls.{Call}
 use Rattle.osi_message.specs.Meanings.{Meaning, AB, AA}
-use Rattle.osi_message.specs.Reading.{Said}
+use Rattle.osi_message.specs.Words.{Words}
 use Rattle.osi_session.specs.Allowed.{Step, Answer, allowed}
-use Rattle.osi_session.specs.Respond.{Outcome, si, conditions, first_fault, is_expected, drops, becomes, judged, take_expected, in_aborting, in_ended, respond_unit, AllMet, is_faulty, verdict, respond_all, acting, respond, respond_fault}
-use Rattle.osi_session.specs.Moves.{called, taken, unread, opened, refused, broken, Standing, Move, answered, react, after_input}
+use Rattle.osi_session.specs.Respond.{Outcome, si, conditions, first_fault, is_expected, drops, becomes, judged, take_expected, in_aborting, in_ended, respond_unit, AllMet, respond_fault}
+use Rattle.osi_session.specs.Joining.{respond_tsdu}
+use Rattle.osi_session.specs.Listening.{called, taken, unread, opened, refused, broken, Listener, Move, taker_of, answered, react, after_input}
 use Rattle.osi_session.proofs.SoundUnits.{all_met}
 
 -- a call is accepted, or changes nothing
-answer_cases : (P : State → Type 0) (s : Standing) (c : Call) (a : Answer) → allowed s.state c ≡ a
+answer_cases : (P : State → Type 0) (s : Listener) (c : Call) (a : Answer) → allowed s.state c ≡ a
     → P s.state → ((x : Step) → allowed s.state c ≡ Ok x → P x.next) → P (answered s a).next.state
 answer_cases P s c (Ok x) e h k = k x e
 answer_cases P s c (Err d) e h k = h
 
-pub call_cases : (P : State → Type 0) (s : Standing) (c : Call) → P s.state
+pub call_cases : (P : State → Type 0) (s : Listener) (c : Call) → P s.state
     → ((x : Step) → allowed s.state c ≡ Ok x → P x.next) → P (after_input s (called c)).state
 unfolding react
 call_cases P s c h k = answer_cases P s c (allowed s.state c) refl h k
@@ -67,49 +67,31 @@ unit_cases P s u h =
     either P (not (is_expected s.phase u)) _ _ (λ x. h.bad a e) (λ x.
     expected_cases P s u (h.bad a e) (λ met. h.good a e (not_false (is_expected s.phase u) x) met)))))
 
--- what each unit keeps is kept by units that follow one another
-pub all_kept : (P : State → Type 0) (Q : Meaning → Type 0) (s : State) (us : List Meaning)
-    → ((r : State) (u : Meaning) → Q u → P r → P (respond_unit r u).next) → AllByRecursion Q us → P s → P (respond_all s us).next
-unfolding respond_all
-all_kept P Q s [] k q h = h
-all_kept P Q s (u ∷ us) k q h =
-    either P (is_faulty (verdict s u)) _ _ (λ e. k s u q.0 h)
-    (λ e. all_kept P Q (respond_unit s u).next us k q.1 (k s u q.0 h))
-
-pub any_unit : (us : List Meaning) → AllByRecursion (λ u. Unit {0}) us
-any_unit [] = tt
-any_unit (u ∷ us) = (tt, any_unit us)
-
--- what each unit keeps is kept by a TSDU
-pub said_kept : (P : State → Type 0) (s : State) (said : Said) → ((r : State) (u : Meaning) → P r → P (respond_unit r u).next)
-    → P s → P (respond s said).next
-said_kept P s said k h = all_kept P (λ u. Unit {0}) s (acting said) (λ r u q. k r u) (any_unit (acting said)) h
-
 -- a TSDU that is no session units
-pub fault_cases : (P : State → Type 0) (s : Standing) (fault : SpduFault) → P s.state
+pub fault_cases : (P : State → Type 0) (s : Listener) (fault : SpduFault) → P s.state
     → (is_over s.state.phase ≡ false → P (without_tokens Aborting s.state)) → P (after_input s (unread fault)).state
 unfolding react respond_fault
 fault_cases P s fault h k = either P (is_over s.state.phase) _ _ (λ o. h) k
 
-pub taken_cases : (P : State → Type 0) (s : Standing) (said : Said) → P (respond s.state said).next → P (after_input s (taken said)).state
+pub taken_cases : (P : State → Type 0) (s : Listener) (words : Words) → P (respond_tsdu (taker_of s) words).next.state → P (after_input s (taken words)).state
 unfolding react
-taken_cases P s said h = h
+taken_cases P s words h = h
 
 awaited : (P : State → Type 0) (b : Bool) (x s : Move) → (b ≡ true → P x.next.state) → P s.next.state → P (if b then x else s).next.state
 awaited P true x s h k = h refl
 awaited P false x s h k = k
 
 -- the transport connection is awaited, or nothing changes
-pub opened_cases : (P : State → Type 0) (s : Standing) → (is_wait_transport s.state.phase ≡ true → P (without_tokens Connecting s.state))
+pub opened_cases : (P : State → Type 0) (s : Listener) → (is_wait_transport s.state.phase ≡ true → P (without_tokens Connecting s.state))
     → P s.state → P (after_input s opened).state
 unfolding react
 opened_cases P s h k = awaited P (is_wait_transport s.state.phase) _ _ h k
 
-pub refused_cases : (P : State → Type 0) (s : Standing) (reason : ℕ) → (is_wait_transport s.state.phase ≡ true → P (without_tokens Ended s.state))
+pub refused_cases : (P : State → Type 0) (s : Listener) (reason : ℕ) → (is_wait_transport s.state.phase ≡ true → P (without_tokens Ended s.state))
     → P s.state → P (after_input s (refused reason)).state
 unfolding react
 refused_cases P s reason h k = awaited P (is_wait_transport s.state.phase) _ _ h k
 
-pub broken_cases : (P : State → Type 0) (s : Standing) → P (without_tokens Ended s.state) → P (after_input s broken).state
+pub broken_cases : (P : State → Type 0) (s : Listener) → P (without_tokens Ended s.state) → P (after_input s broken).state
 unfolding react
 broken_cases P s h = h

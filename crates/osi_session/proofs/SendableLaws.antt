@@ -19,9 +19,12 @@ use Rattle.osi_session.specs.Allowed.{Step, last_number, needs, may_call, sends,
 use Rattle.osi_session.specs.Respond.{Outcome, si, conditions, first_fault, is_expected, drops, reply_for, first_reply, judged, take_expected, in_aborting, in_ended, respond_unit, is_faulty, verdict, respond_all, acting, respond}
 use Rattle.osi_message.specs.Written.{user_data_of}
 use Rattle.osi_message.specs.Sendable.{IsAddress, IsAddressed, IsSendable, is_of_version_2, is_sized}
-use Rattle.osi_session.specs.Moves.{called, Standing, react}
+use Rattle.osi_session.specs.Listening.{called, Listener, react}
 use Rattle.osi_session.specs.Sessions.{CanBeSent}
+use Rattle.osi_message.specs.Words.{Word, Words}
+use Rattle.osi_session.specs.Joining.{Taker, Hearing, word_verdict, respond_word, respond_words, acting_words, respond_tsdu}
 use Rattle.osi_session.proofs.MoveLaws.{call_reply}
+use Rattle.osi_session.proofs.WordCases.{outcome_in, word_does}
 use Rattle.osi_session.proofs.CallLaws.{sent_short}
 use Rattle.osi_session.proofs.Passed.{passed}
 use Rattle.osi_session.proofs.SizeLaws.{answered_are, user_sizes}
@@ -113,7 +116,7 @@ sent_sendable s c x sound small h =
       short = sent_short s c x h;
     }
 
-pub call_sendable : (s : Standing) (c : Call) (x : Step) → IsSound s.state → HasSerial c → allowed s.state c ≡ Ok x → CanBeSent (react s (called c)).reply
+pub call_sendable : (s : Listener) (c : Call) (x : Step) → IsSound s.state → HasSerial c → allowed s.state c ≡ Ok x → CanBeSent (react s (called c)).reply
 call_sendable s c x sound small h = subst CanBeSent (sym (call_reply s c x h)) (sent_sendable s.state c x sound small h)
 
 -- ---- what a caller asks for
@@ -204,3 +207,23 @@ all_replies s (u ∷ us) =
 -- what a TSDU is answered by can be sent
 pub reply_can_be_sent : (s : State) (said : Said) (m : Meaning) → (respond s said).reply ≡ Some m → IsSendable m
 reply_can_be_sent s said m e = subst CanBeSent e (all_replies s (acting said))
+
+-- ---- over words
+
+word_replies : (t : Taker) (w : Word) → Replies (outcome_in (respond_word t w))
+word_replies t w = word_does Replies t w (record { acts = λ u a. unit_replies t.state u; bad = λ fault o. abort_sendable 5; rests = tt })
+
+either_answered : (b : Bool) (x y : Hearing) → CanBeSent x.reply → CanBeSent y.reply → CanBeSent (if b then x else y).reply
+either_answered true x y h k = h
+either_answered false x y h k = k
+
+all_answered : (t : Taker) (ws : Words) → CanBeSent (respond_words t ws).reply
+unfolding respond_words
+all_answered t [] = tt
+all_answered t (w ∷ ws) =
+    either_answered (is_faulty (word_verdict t w)) _ _ (word_replies t w)
+    (first_sendable (respond_word t w).reply (respond_words (respond_word t w).next ws).reply (word_replies t w) (all_answered (respond_word t w).next ws))
+
+-- what the words of a TSDU are answered by can be sent
+pub words_answer : (t : Taker) (words : Words) (m : Meaning) → (respond_tsdu t words).reply ≡ Some m → IsSendable m
+words_answer t words m e = subst CanBeSent e (all_answered t (acting_words words))

@@ -15,20 +15,20 @@ use Rattle.osi_session.specs.Numbers.{from_base}
 use Rattle.osi_message.specs.Tokens.{no_token}
 use Rattle.osi_session.specs.Units.{functional_units, has_points}
 use Rattle.osi_spdu.specs.Known.{Units}
-use Rattle.osi_message.specs.Reading.{Said}
+use Rattle.osi_message.specs.Words.{Words}
 use Rattle.osi_message.specs.Laws.Numbers.{units_numbered}
 use Rattle.osi_message.specs.Meanings.{Meaning}
-use Rattle.osi_session.specs.Respond.{Outcome, respond}
+use Rattle.osi_session.specs.Joining.{Taker, Hearing, respond_tsdu}
 use Rattle.osi_spdu.specs.Reading.{tsdu_at}
 use Rattle.osi_message.specs.Reading.{said_by_units}
-use Rattle.osi_message.specs.Sendable.{said_of}
+use Rattle.osi_message.specs.Sendable.{words_of}
 use Rattle.osi_message.specs.Written.{is_second, spelled, written}
 use Rattle.osi_session.specs.Openings.{asked_for}
 use Rattle.osi_session.specs.Sessions.{awaiting, asking, lone, lone_of, unit_in}
 use Rattle.osi_session.proofs.SoundCalls.{call_sound, call_begun}
 use Rattle.osi_session.proofs.SizeLaws.{user_sizes}
 use Rattle.osi_session.proofs.SoundNumbers.{from_ordered}
-use Rattle.osi_session.proofs.TsduLaws.{respond_sound, respond_begun}
+use Rattle.osi_session.proofs.TsduLaws.{words_sound, words_begun}
 
 -- the number of an Accept in memory is one that a point may have, and its sizes are such
 pub request_small : (r : Request) → HasSerial (called_by r)
@@ -41,12 +41,12 @@ request_sound s r x h sound = call_sound s (called_by r) x (request_small r) h s
 pub request_begun : (s : State) (r : Request) (x : Step) → allowed s (called_by r) ≡ Ok x → is_wait_transport x.next.phase ≡ false
 request_begun s r x h = call_begun s (called_by r) x h
 
-pub group_sound : (s : State) (units : Units) (o : Outcome) → respond s (said_by_units units) ≡ o → IsSound s → IsSound o.next
-group_sound s units o e h = subst (λ (x : Outcome). IsSound x.next) e (respond_sound s (said_by_units units) (units_numbered units) h)
+pub group_sound : (t : Taker) (units : Units) (h : Hearing) → respond_tsdu t (said_by_units units) ≡ h → IsSound t.state → IsSound h.next.state
+group_sound t units h e sound = subst (λ (x : Hearing). IsSound x.next.state) e (words_sound t (said_by_units units) (units_numbered units) sound)
 
-pub group_begun : (s : State) (said : Said) (o : Outcome) → respond s said ≡ o
-    → is_wait_transport o.next.phase ≡ true → is_wait_transport s.phase ≡ true
-group_begun s said o e = subst (λ (x : Outcome). is_wait_transport x.next.phase ≡ true → is_wait_transport s.phase ≡ true) e (respond_begun s said)
+pub group_begun : (t : Taker) (words : Words) (h : Hearing) → respond_tsdu t words ≡ h
+    → is_wait_transport h.next.state.phase ≡ true → is_wait_transport t.state.phase ≡ true
+group_begun t words h e = subst (λ (x : Hearing). is_wait_transport x.next.state.phase ≡ true → is_wait_transport t.state.phase ≡ true) e (words_begun t words)
 
 -- before any point
 pub at_first : (s : State) → s.base ≡ 0 → s.numbers ≡ from_base 0 → s.proposed < 1000000 → in_major s.phase ≡ false → is_restart_due s.phase ≡ false
@@ -71,7 +71,7 @@ pub asking_sound : (o : Opening) → IsSound (asking o)
 asking_sound o = at_first (asking o) refl refl (first_small (has_points (functional_units (unit_bits o.requirements))) o.serial.number o.serial.small) refl refl refl (user_sizes o.sizes)
 
 -- a unit that is sent alone is read as it
-pub read_again : (m : Meaning) → is_second m ≡ false → tsdu_at (written m) ≡ Ok (spelled m) → said_by_units (spelled m) ≡ said_of m → unit_in (written m) ≡ Some m
+pub read_again : (m : Meaning) → is_second m ≡ false → tsdu_at (written m) ≡ Ok (spelled m) → said_by_units (spelled m) ≡ words_of m → unit_in (written m) ≡ Some m
 unfolding unit_in
 read_again m f r s = ap lone_of r ∙ ap lone s ∙ (rw f refl)
 

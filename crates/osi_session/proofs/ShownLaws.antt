@@ -1,14 +1,18 @@
 -- How much a TSDU shows.
-use Rattle.std.proofs.Common.{sym, subst, ℕ, ◌+◌, ◌≤◌, Bool, true, false, List, [], ◌∷◌, ◌++◌, length, if◌then◌else◌, arith}
+use Rattle.std.proofs.Common.{◌≡◌, refl, ap, sym, subst, ℕ, suc, ◌+◌, ◌≤◌, Bool, true, false, List, [], ◌∷◌, ◌++◌, length, map, None, if◌then◌else◌, arith}
 use Rattle.std.specs.List.{list_any}
 use Rattle.std.proofs.lemmas.List.{length-append}
 use Rattle.osi_session.specs.declared.state.State.{State}
 use Rattle.osi_session.specs.Phases.{is_aborting, is_wait_cn}
 use Rattle.osi_message.specs.Meanings.{Meaning, CN, AC, RF, DT, GT, PT, MIP, MIA, MAP, MAA, RS, RA, FN, DN, NF, AB, AA}
 use Rattle.osi_message.specs.Reading.{Said}
+use Rattle.osi_message.specs.Words.{Word, Words, says}
+use Rattle.osi_session.specs.Joining.{Taker, Hearing, word_verdict, respond_word, respond_words, is_restart_word, acting_words, respond_tsdu}
 use Rattle.osi_session.specs.Shown.{Shown}
-use Rattle.osi_session.specs.Respond.{Outcome, is_acceptable, is_resynchronize, stands, shown_for, in_aborting, in_ended, respond_unit, Verdict, over, dropped, faulty, fine, verdict, enacted, is_faulty, respond_all, acting, respond}
+use Rattle.osi_session.specs.Respond.{Outcome, is_acceptable, stands, shown_for, in_aborting, in_ended, respond_unit, Verdict, over, dropped, faulty, fine, verdict, enacted, is_faulty, respond}
 use Rattle.osi_session.proofs.VerdictLaws.{enacts}
+use Rattle.osi_session.proofs.WordCases.{word_does}
+use Rattle.osi_session.proofs.WordLaws.{plain_tsdu}
 
 abbrev AtMost : ℕ → List Shown → Type 0
 AtMost n shown = length shown ≤ n
@@ -62,24 +66,43 @@ unit_shows s u = subst (λ (o : Outcome). AtMost 1 o.shown) (sym (enacts s u)) (
 both_show : (a b : List Shown) (n : ℕ) → length a ≤ 1 → length b ≤ n → length (a ++ b) ≤ n + 1
 both_show a b n h k = omega (arith, length-append a b)
 
-all_show : (s : State) (us : List Meaning) → length (respond_all s us).shown ≤ length us
-unfolding respond_all
-all_show s [] = omega arith
-all_show s (u ∷ us) =
-    let one = unit_shows s u in
-    let both = both_show (respond_unit s u).shown (respond_all (respond_unit s u).next us).shown (length us) one (all_show (respond_unit s u).next us) in
-    either_shows (is_faulty (verdict s u)) (length (u ∷ us)) _ _ (omega arith) (omega arith)
+word_shows : (t : Taker) (w : Word) → length (respond_word t w).shown ≤ 1
+word_shows t w = word_does (λ o. AtMost 1 o.shown) t w (record { acts = λ u a. unit_shows t.state u; bad = λ fault o. enacted_shows t.state AA (faulty fault); rests = omega arith })
 
-either_long : (b : Bool) (n : ℕ) (x y : List Meaning) → length x ≤ n → length y ≤ n → length (if b then x else y) ≤ n
+either_heard : (b : Bool) (n : ℕ) (x y : Hearing) → AtMost n x.shown → AtMost n y.shown → AtMost n (if b then x else y).shown
+either_heard true n x y h k = h
+either_heard false n x y h k = k
+
+all_show : (t : Taker) (ws : Words) → length (respond_words t ws).shown ≤ length ws
+unfolding respond_words
+all_show t [] = omega arith
+all_show t (w ∷ ws) =
+    let one = word_shows t w in
+    let both = both_show (respond_word t w).shown (respond_words (respond_word t w).next ws).shown (length ws) one (all_show (respond_word t w).next ws) in
+    either_heard (is_faulty (word_verdict t w)) (length (w ∷ ws)) _ _ (omega arith) (omega arith)
+
+either_long : (b : Bool) (n : ℕ) (x y : Words) → length x ≤ n → length y ≤ n → length (if b then x else y) ≤ n
 either_long true n x y h k = h
 either_long false n x y h k = k
 
-acting_len : (said : Said) → length (acting said) ≤ length said
-unfolding acting
+acting_len : (words : Words) → length (acting_words words) ≤ length words
+unfolding acting_words
 acting_len [] = omega arith
-acting_len (first ∷ units) =
-    either_long (list_any is_resynchronize units) (length (first ∷ units)) _ _ (omega arith) (omega (arith, length-append units (first ∷ [])))
+acting_len (first ∷ words) =
+    either_long (list_any is_restart_word words) (length (first ∷ words)) _ _ (omega arith) (omega (arith, length-append words (first ∷ [])))
 
--- and a TSDU at most one for each unit
+-- and a TSDU at most one for each word
+pub words_show : (t : Taker) (words : Words) → length (respond_tsdu t words).shown ≤ length words
+words_show t words = let a = all_show t (acting_words words) in let b = acting_len words in omega arith
+
+says_len : (said : Said) → length (map says said) ≡ length said
+says_len [] = refl
+says_len (m ∷ said) = ap (λ n. suc n) (says_len said)
+
+-- so also over whole messages
 pub tsdu_shows : (s : State) (said : Said) → length (respond s said).shown ≤ length said
-tsdu_shows s said = let a = all_show s (acting said) in let b = acting_len said in omega arith
+tsdu_shows s said =
+    let same = ap (λ (h : Hearing). length h.shown) (plain_tsdu s said) in
+    let some = words_show (record { state = s; joined = None }) (map says said) in
+    let long = says_len said in
+    omega arith

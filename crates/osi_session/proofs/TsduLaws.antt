@@ -1,29 +1,41 @@
--- What the units of a TSDU keep.
-use Rattle.std.proofs.Common.{◌≡◌, refl, subst, ℕ, List, Bool, true, false, Result, Ok, Err, if◌then◌else◌}
+-- What the words of a TSDU keep.
+use Rattle.std.proofs.Common.{◌≡◌, refl, sym, subst, ℕ, List, Bool, true, false, Result, Ok, Err, if◌then◌else◌}
 use Rattle.osi_spdu.specs.declared.faults.SpduFault.{SpduFault}
 use Rattle.osi_session.specs.declared.phases.Phase.TheVariants.{Aborting}
 use Rattle.osi_session.specs.declared.state.State.{State}
 use Rattle.osi_session.specs.Phases.{is_over, is_wait_transport}
 use Rattle.osi_session.specs.Sound.{IsSound}
-use Rattle.osi_message.specs.Numbered.{IsNumbered, AreNumbered}
-use Rattle.osi_message.specs.Reading.{Said, said_by_units, said_if_read, said_at}
+use Rattle.osi_message.specs.Meanings.{Meaning}
+use Rattle.osi_message.specs.Numbered.{IsNumbered, IsNumberedWord, AreNumberedWords}
+use Rattle.osi_message.specs.Reading.{said_by_units, said_if_read, said_at}
+use Rattle.osi_message.specs.Words.{Word, Words, says, part}
 use Rattle.osi_message.specs.Laws.Numbers.{units_numbered}
 use Rattle.osi_spdu.specs.Known.{Units}
 use Rattle.osi_spdu.specs.Reading.{tsdu_at}
-use Rattle.osi_session.specs.Respond.{Outcome, acting, respond, respond_fault, respond_read}
-use Rattle.osi_session.proofs.ActingLaws.{acting_numbered}
+use Rattle.osi_session.specs.Joining.{Taker, Hearing, respond_word, respond_tsdu, respond_came}
+use Rattle.osi_session.specs.Respond.{Outcome, respond_fault}
 use Rattle.osi_session.proofs.Begun.{Begins, unit_begun}
-use Rattle.osi_session.proofs.RunCases.{all_kept, said_kept}
 use Rattle.osi_session.proofs.SoundCalls.{bare}
 use Rattle.osi_session.proofs.SoundUnits.{unit_sound}
+use Rattle.osi_session.proofs.WordCases.{ActsAs, word_keeps, tsdu_keeps, any_tsdu_keeps}
+
+numbered_as : (w : Word) (u : Meaning) → IsNumberedWord w → ActsAs w u → IsNumbered u
+numbered_as (says m) u h a = subst IsNumbered (sym a) h
+numbered_as (part place octets) u h a = subst IsNumbered (sym a.1) tt
 
 -- what is true at all times
-pub respond_sound : (s : State) (said : Said) → AreNumbered said → IsSound s → IsSound (respond s said).next
-respond_sound s said small h = all_kept IsSound IsNumbered s (acting said) unit_sound (acting_numbered said small) h
+pub word_sound : (t : Taker) (w : Word) → IsNumberedWord w → IsSound t.state → IsSound (respond_word t w).next.state
+word_sound t w small h = word_keeps IsSound t w (λ u a. unit_sound t.state u (numbered_as w u small a) h) (λ o. bare Aborting t.state refl refl h) h
 
--- no unit goes back to awaiting the transport connection
-pub respond_begun : (s : State) (said : Said) → is_wait_transport (respond s said).next.phase ≡ true → is_wait_transport s.phase ≡ true
-respond_begun s said = said_kept (Begins s) s said (λ r u h k. h (unit_begun r u k)) (λ k. k)
+pub words_sound : (t : Taker) (words : Words) → AreNumberedWords words → IsSound t.state → IsSound (respond_tsdu t words).next.state
+words_sound t words small h = tsdu_keeps IsSound IsNumberedWord t words word_sound small h
+
+-- no word goes back to awaiting the transport connection
+word_begun : (t : Taker) (w : Word) → Begins t.state (respond_word t w).next.state
+word_begun t w = word_keeps (Begins t.state) t w (λ u a. unit_begun t.state u) (λ o k. absurd (cc)) (λ k. k)
+
+pub words_begun : (t : Taker) (words : Words) → is_wait_transport (respond_tsdu t words).next.state.phase ≡ true → is_wait_transport t.state.phase ≡ true
+words_begun t words = any_tsdu_keeps (Begins t.state) t words (λ r w h k. h (word_begun r w k)) (λ k. k)
 
 -- ---- a TSDU that is no session units
 
@@ -45,18 +57,18 @@ fault_begun s fault = either_begun (is_over s.phase) s _ _ (λ k. k) (λ k. absu
 
 -- ---- a TSDU as octets
 
-read_sound : (s : State) (read : Result Units SpduFault) → IsSound s → IsSound (respond_read s (said_if_read read)).next
-read_sound s (Ok units) h = respond_sound s (said_by_units units) (units_numbered units) h
-read_sound s (Err fault) h = fault_sound s fault h
+read_sound : (t : Taker) (read : Result Units SpduFault) → IsSound t.state → IsSound (respond_came t (said_if_read read)).next.state
+read_sound t (Ok units) h = words_sound t (said_by_units units) (units_numbered units) h
+read_sound t (Err fault) h = fault_sound t.state fault h
 
-pub octets_sound : (s : State) (tsdu : List ℕ) (o : Outcome) → respond_read s (said_at tsdu) ≡ o → IsSound s → IsSound o.next
+pub octets_sound : (t : Taker) (tsdu : List ℕ) (h : Hearing) → respond_came t (said_at tsdu) ≡ h → IsSound t.state → IsSound h.next.state
 unfolding said_at
-octets_sound s tsdu o e h = subst (λ (x : Outcome). IsSound x.next) e (read_sound s (tsdu_at tsdu) h)
+octets_sound t tsdu h e sound = subst (λ (x : Hearing). IsSound x.next.state) e (read_sound t (tsdu_at tsdu) sound)
 
-read_begun : (s : State) (read : Result Said SpduFault) → is_wait_transport (respond_read s read).next.phase ≡ true → is_wait_transport s.phase ≡ true
-read_begun s (Ok said) = respond_begun s said
-read_begun s (Err fault) = fault_begun s fault
+read_begun : (t : Taker) (read : Result Words SpduFault) → is_wait_transport (respond_came t read).next.state.phase ≡ true → is_wait_transport t.state.phase ≡ true
+read_begun t (Ok words) = words_begun t words
+read_begun t (Err fault) = fault_begun t.state fault
 
-pub octets_begun : (s : State) (tsdu : List ℕ) (o : Outcome) → respond_read s (said_at tsdu) ≡ o
-    → is_wait_transport o.next.phase ≡ true → is_wait_transport s.phase ≡ true
-octets_begun s tsdu o e = subst (λ (x : Outcome). is_wait_transport x.next.phase ≡ true → is_wait_transport s.phase ≡ true) e (read_begun s (said_at tsdu))
+pub octets_begun : (t : Taker) (tsdu : List ℕ) (h : Hearing) → respond_came t (said_at tsdu) ≡ h
+    → is_wait_transport h.next.state.phase ≡ true → is_wait_transport t.state.phase ≡ true
+octets_begun t tsdu h e = subst (λ (x : Hearing). is_wait_transport x.next.state.phase ≡ true → is_wait_transport t.state.phase ≡ true) e (read_begun t (said_at tsdu))

@@ -180,7 +180,7 @@ no_abort_if : (b : Bool) (x y : Option Meaning) → replies_abort x ≡ false �
 no_abort_if true x y h k = h
 no_abort_if false x y h k = k
 
-good_reply : (u : Meaning) → replies_abort (reply_for u) ≡ false
+pub good_reply : (u : Meaning) → replies_abort (reply_for u) ≡ false
 good_reply (CN version_2 requirements serial wishes from to sizes octets) =
     no_abort_if (not version_2) _ _ refl (no_abort_if (not (has_data (functional_units requirements) && are_sizes sizes)) _ _ refl refl)
 good_reply (AB bits octets) = refl
@@ -199,7 +199,7 @@ over_reply : (b : Bool) (x y : Outcome) → replies_abort x.reply ≡ false → 
 over_reply true x y h k = h
 over_reply false x y h k = k
 
-enacted_reply : (s : State) (u : Meaning) (v : Verdict) → replies_abort (enacted s u v).reply ≡ is_faulty v
+pub enacted_reply : (s : State) (u : Meaning) (v : Verdict) → replies_abort (enacted s u v).reply ≡ is_faulty v
 enacted_reply s u over = over_reply (is_aborting s.phase) _ _ (aborting_reply s u) (ended_reply s u)
 enacted_reply s u dropped = refl
 enacted_reply s u (faulty f) = refl

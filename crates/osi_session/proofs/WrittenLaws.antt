@@ -1,23 +1,33 @@
 -- What is sent is taken as it was meant: from the octets of a message to the row of the table of units.
-use Rattle.std.proofs.Common.{◌≡◌, ◌∙◌, ap, Result, Ok}
+use Rattle.std.proofs.Common.{◌≡◌, ◌∙◌, ap, ℕ, List, [], ◌∷◌, Result, Ok}
 use Rattle.osi_spdu.specs.declared.faults.SpduFault.{SpduFault}
 use Rattle.osi_spdu.specs.Reading.{tsdu_at}
-use Rattle.osi_message.specs.Meanings.{Meaning}
-use Rattle.osi_message.specs.Reading.{Said, said_by_units, said_if_read, said_at}
-use Rattle.osi_message.specs.Sendable.{said_of}
+use Rattle.osi_message.specs.declared.places.Place.{Place}
+use Rattle.osi_message.specs.Meanings.{Meaning, GT}
+use Rattle.osi_message.specs.Tokens.{no_token}
+use Rattle.osi_message.specs.Reading.{said_by_units, said_if_read, said_at}
+use Rattle.osi_message.specs.Sendable.{words_of}
+use Rattle.osi_message.specs.Words.{Words, says, part, part_octets}
 use Rattle.osi_message.specs.Written.{written, spelled}
-use Rattle.osi_session.specs.Moves.{came_as, came, Standing, moved, react}
-use Rattle.osi_session.specs.Respond.{respond_unit}
+use Rattle.osi_session.specs.Joining.{respond_word}
+use Rattle.osi_session.specs.Listening.{came_as, came, Listener, taker_of, moved, react}
 use Rattle.osi_session.proofs.MoveLaws.{taken_is}
-use Rattle.osi_session.proofs.VerdictLaws.{of_said}
+use Rattle.osi_session.proofs.WordLaws.{word_behind, words_of_message}
 
-said_again : (m : Meaning) → tsdu_at (written m) ≡ Ok (spelled m) → said_by_units (spelled m) ≡ said_of m → said_at (written m) ≡ Ok (said_of m)
+pub said_again : (m : Meaning) → tsdu_at (written m) ≡ Ok (spelled m) → said_by_units (spelled m) ≡ words_of m → said_at (written m) ≡ Ok (words_of m)
 unfolding said_at
-said_again m read said = ap said_if_read read ∙ ap (λ (s : Said). Ok s) said
+said_again m read said = ap said_if_read read ∙ ap (λ (words : Words). Ok words) said
 
 -- from the octets of a message to its row
-pub taken_as_meant : (s : Standing) (m : Meaning) → tsdu_at (written m) ≡ Ok (spelled m) → said_by_units (spelled m) ≡ said_of m
-    → react s (came (written m)) ≡ moved s (respond_unit s.state m)
+pub taken_as_meant : (s : Listener) (m : Meaning) → tsdu_at (written m) ≡ Ok (spelled m) → said_by_units (spelled m) ≡ words_of m
+    → react s (came (written m)) ≡ moved s (respond_word (taker_of s) (says m))
 taken_as_meant s m read said =
-    ap (λ (r : Result Said SpduFault). react s (came_as r)) (said_again m read said)
-    ∙ taken_is s (said_of m) (respond_unit s.state m) (of_said s.state m)
+    ap (λ (r : Result Words SpduFault). react s (came_as r)) (said_again m read said)
+    ∙ taken_is s (words_of m) (respond_word (taker_of s) (says m)) (words_of_message (taker_of s) m)
+
+-- and of a part
+pub part_taken : (s : Listener) (place : Place) (octets : List ℕ) → said_at (part_octets place octets) ≡ Ok (says (GT no_token) ∷ part place octets ∷ [])
+    → react s (came (part_octets place octets)) ≡ moved s (respond_word (taker_of s) (part place octets))
+part_taken s place octets said =
+    ap (λ (r : Result Words SpduFault). react s (came_as r)) said
+    ∙ taken_is s (says (GT no_token) ∷ part place octets ∷ []) (respond_word (taker_of s) (part place octets)) (word_behind (taker_of s) (part place octets))

@@ -9,13 +9,14 @@ use Rattle.osi_session.specs.Units.{functional_units, both_units, available}
 use Rattle.osi_session.specs.Sides.{settle, stated, side_for, is_asker}
 use Rattle.osi_session.specs.Calls.{Call, Accept, Refuse, Give, Restart, RestartConfirm, ReleaseAccept, Abort}
 use Rattle.osi_message.specs.Meanings.{Meaning, CN, AC, RF, GT, RS, RA, DN, AB}
-use Rattle.osi_message.specs.Reading.{Said}
-use Rattle.osi_session.specs.Respond.{is_acceptable, stands, acting}
-use Rattle.osi_session.specs.Moves.{Input, called, taken}
+use Rattle.osi_message.specs.Words.{Words, as_message}
+use Rattle.osi_session.specs.Respond.{is_acceptable, stands}
+use Rattle.osi_session.specs.Joining.{acting_words}
+use Rattle.osi_session.specs.Listening.{Input, called, taken}
 
--- one of the units of a TSDU that act
-abbrev pub some_unit : (Meaning → Bool) → Said → Bool
-some_unit p said = list_any p (acting said)
+-- one of the words of a TSDU that act
+abbrev pub some_word : (Meaning → Bool) → Words → Bool
+some_word p words = list_any (λ w. p (as_message w)) (acting_words words)
 
 -- ---- a connection is opened, and after a restart opened again
 
@@ -31,7 +32,7 @@ unit_opens _ = false
 
 abbrev pub opens_connection : Input → Bool
 opens_connection (called c) = call_opens c
-opens_connection (taken said) = some_unit unit_opens said
+opens_connection (taken words) = some_word unit_opens words
 opens_connection _ = false
 
 -- ---- a token is given to this side
@@ -98,5 +99,5 @@ unit_renews _ = false
 
 abbrev pub renews : Input → Bool
 renews (called c) = call_renews c
-renews (taken said) = some_unit unit_renews said
+renews (taken words) = some_word unit_renews words
 renews _ = false

@@ -5,7 +5,7 @@ use Rattle.std.specs.List.{list_any}
 use Rattle.osi_session.specs.declared.phases.Phase.{Phase}
 use Rattle.osi_session.specs.Phases.{is_connecting, is_releasing, is_aborting}
 use Rattle.osi_message.specs.Meanings.{Meaning, RF, DN, AB, AA}
-use Rattle.osi_message.specs.Reading.{Said}
+use Rattle.osi_message.specs.Words.{Word, Words, as_message}
 
 -- a unit that is taken as the last: a refusal, the end of a release, an abort and its answer
 abbrev pub may_close : Meaning → Bool
@@ -15,10 +15,13 @@ may_close (AB bits octets) = true
 may_close AA = true
 may_close _ = false
 
--- such a unit stands alone in its TSDU
-abbrev pub closes_alone : Said → Bool
-closes_alone (u ∷ []) = true
-closes_alone said = not (list_any may_close said)
+abbrev pub may_close_word : Word → Bool
+may_close_word w = may_close (as_message w)
+
+-- such a word stands alone in its TSDU
+abbrev pub closes_alone : Words → Bool
+closes_alone (w ∷ []) = true
+closes_alone words = not (list_any may_close_word words)
 
 -- a CN that cannot be accepted is answered by RF, a bad unit by AB, and AB by AA
 abbrev pub is_answer : Meaning → Bool

@@ -2,6 +2,8 @@ pub mod Allowed
 pub mod Calls
 pub mod Causes
 pub mod Closing
+pub mod Joining
+pub mod Listening
 pub mod Moves
 pub mod Numbers
 pub mod Openings
@@ -18,3 +20,6 @@ pub mod State
 pub mod Steps
 pub mod Units
 pub mod Same
+pub mod Whole
+pub mod Kept
+pub mod Parts

@@ -1,5 +1,5 @@
--- All that can happen to a session, and the move that it makes.
-use Rattle.std.specs.Prelude.{ℕ, Bool, true, false, List, [], ◌∷◌, Option, Some, None, Result, Ok, Err, if◌then◌else◌}
+-- All that can happen to a session over whole messages, and the move that it makes.
+use Rattle.std.specs.Prelude.{ℕ, Bool, true, false, List, [], ◌∷◌, Option, Some, None, Ok, Err, if◌then◌else◌}
 use Rattle.osi_spdu.specs.declared.faults.SpduFault.{SpduFault}
 use Rattle.osi_session.specs.declared.phases.Phase.TheVariants.{Connecting, Ended}
 use Rattle.osi_session.specs.declared.faults.CallError.{CallError}
@@ -8,7 +8,7 @@ use Rattle.osi_session.specs.Phases.{is_wait_transport}
 use Rattle.osi_session.specs.State.{without_tokens}
 use Rattle.osi_session.specs.Calls.{Call}
 use Rattle.osi_message.specs.Meanings.{Meaning}
-use Rattle.osi_message.specs.Reading.{Said, said_at}
+use Rattle.osi_message.specs.Reading.{Said}
 use Rattle.osi_session.specs.Shown.{Shown, RefusedByTransport}
 use Rattle.osi_session.specs.Allowed.{Answer, allowed}
 use Rattle.osi_session.specs.Respond.{Outcome, respond, respond_fault, lost}
@@ -76,14 +76,6 @@ after_input s input = (react s input).next
 abbrev pub after_inputs : Standing → List Input → Standing
 after_inputs s [] = s
 after_inputs s (input ∷ inputs) = after_inputs (after_input s input) inputs
-
--- what comes as the octets of a TSDU: units, or octets that are none
-abbrev pub came_as : Result Said SpduFault → Input
-came_as (Ok said) = taken said
-came_as (Err fault) = unread fault
-
-abbrev pub came : List ℕ → Input
-came octets = came_as (said_at octets)
 
 abbrev pub is_opened : Input → Bool
 is_opened opened = true

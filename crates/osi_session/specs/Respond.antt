@@ -1,6 +1,6 @@
 -- The table of units: what the user is shown, what is sent, whether the transport connection is
 -- closed, and the new state; then the units of a TSDU, one after the other.
-use Rattle.std.specs.Prelude.{◌≡◌, ℕ, ◌+◌, Bool, true, false, not, ◌&&◌, ◌||◌, if◌then◌else◌, ◌==◌, nat_le, nat_lt, List, [], ◌∷◌, ◌++◌, Option, Some, None, unwrap_or, is_none, Result, Ok, Err}
+use Rattle.std.specs.Prelude.{◌≡◌, ℕ, ◌+◌, Bool, true, false, not, ◌&&◌, ◌||◌, if◌then◌else◌, ◌==◌, nat_le, nat_lt, List, [], ◌∷◌, ◌++◌, Option, Some, None, unwrap_or, is_none}
 use Rattle.std.specs.List.{list_any}
 use Rattle.osi_spdu.specs.declared.kinds.Kind.{Kind}
 use Rattle.osi_spdu.specs.declared.kinds.Kind.TheVariants as kind
@@ -377,8 +377,3 @@ lost s = record (nothing (without_tokens Ended s)) { shown = if shows_loss s.pha
 -- nothing is shown and nothing sent
 abbrev pub is_silent : Outcome → Bool
 is_silent o = is_nil o.shown && is_none o.reply
-
--- what is read of a TSDU, units or its fault
-abbrev pub respond_read : State → Result Said SpduFault → Outcome
-respond_read s (Ok said) = respond s said
-respond_read s (Err fault) = respond_fault s fault

@@ -6,14 +6,21 @@ use Rattle.osi_message.specs.Tokens.{no_token}
 use Rattle.osi_session.specs.Numbers.{from_base}
 use Rattle.osi_session.specs.Phases.{is_wait_transport, is_wait_cn}
 use Rattle.osi_session.specs.Calls.{HasSerial}
-use Rattle.osi_message.specs.Numbered.{AreNumbered}
+use Rattle.osi_message.specs.Numbered.{AreNumbered, AreNumberedWords}
 use Rattle.osi_session.specs.Moves.{Input, called, taken}
+use Rattle.osi_session.specs.Listening as listening
 
 -- the numbers in what happens are those that a point may have
 abbrev pub HasNumbers : Input → Type 0
 HasNumbers (called c) = HasSerial c
 HasNumbers (taken said) = AreNumbered said
 HasNumbers _ = Unit {0}
+
+-- and where it comes in words
+abbrev pub HasNumbersInWords : listening.Input → Type 0
+HasNumbersInWords (listening.called c) = HasSerial c
+HasNumbersInWords (listening.taken words) = AreNumberedWords words
+HasNumbersInWords _ = Unit {0}
 
 -- a called side that awaits a CN, or a calling side that awaits the transport connection
 pub record IsFresh (s : State) : Type 0 where

@@ -1,13 +1,14 @@
 -- What a session begins with, and what its calls answer.
 use Rattle.osi_spdu.specs.Fields.{unit_bits}
 use Rattle.osi_spdu.specs.Sizes.{named_by, no_sizes}
-use Rattle.std.specs.Prelude.{◌≡◌, ℕ, Bool, true, false, not, List, [], ◌∷◌, ◌++◌, length, map, Option, Some, None, option_map, Result, Ok, Err, IfOk, OnOk, OnErr, if◌then◌else◌, nat_le, is_none, ◌&&◌}
+use Rattle.std.specs.Prelude.{◌≡◌, ℕ, Bool, true, false, not, List, [], ◌∷◌, ◌++◌, length, map, Option, Some, None, option_map, Result, Ok, Err, IfOk, OnOk, OnErr, if◌then◌else◌, nat_le, nat_lt, is_none, ◌&&◌, ◌||◌}
 use Rattle.osi_spdu.specs.declared.settings.Wish.TheVariants.{Asker}
 use Rattle.osi_spdu.specs.declared.faults.SpduFault.{SpduFault}
 use Rattle.osi_spdu.specs.Known.{Units}
 use Rattle.osi_spdu.specs.Reading.{tsdu_at}
 use Rattle.osi_message.specs.Meanings.{Meaning}
-use Rattle.osi_message.specs.Reading.{Said, said_by_units}
+use Rattle.osi_message.specs.Reading.{said_by_units}
+use Rattle.osi_message.specs.Words.{Words, says}
 use Rattle.osi_message.specs.Sendable.{IsSendable}
 use Rattle.osi_message.specs.Tokens.{no_token}
 use Rattle.osi_message.specs.Written.{written}
@@ -25,7 +26,8 @@ use Rattle.osi_session.specs.Openings.{asked_for}
 use Rattle.osi_session.specs.Allowed.{base_for, most_user_data, allowed}
 use Rattle.osi_session.specs.Respond.{is_nil}
 use Rattle.osi_session.specs.Calls.{Call}
-use Rattle.osi_session.specs.Moves.{Standing, Move}
+use Rattle.osi_session.specs.Listening.{Listener, Move}
+use Rattle.osi_session.specs.Joining.{joined_octets}
 use Rattle.osi_session.specs.Steps.{shown_list}
 
 -- ---- what a call answers
@@ -83,8 +85,8 @@ refusal_of o =
     else None
 
 -- a caller: the CN waits for the transport connection
-abbrev pub opens : Opening → Standing
-opens o = record { state = asking o; waiting = Some (asked_for o) }
+abbrev pub opens : Opening → Listener
+opens o = record { state = asking o; waiting = Some (asked_for o); joined = None }
 
 -- the called end awaits a CN
 abbrev pub awaiting : State
@@ -100,13 +102,13 @@ awaiting = record {
   sizes = no_sizes;
 }
 
-abbrev pub awaits : Standing
-awaits = record { state = awaiting; waiting = None }
+abbrev pub awaits : Listener
+awaits = record { state = awaiting; waiting = None; joined = None }
 
 -- ---- the CN that waits, in octets
 
-abbrev pub lone : Said → Option Meaning
-lone (u ∷ []) = Some u
+abbrev pub lone : Words → Option Meaning
+lone (says u ∷ []) = Some u
 lone _ = None
 
 abbrev pub lone_of : Result Units SpduFault → Option Meaning
@@ -127,13 +129,17 @@ shown_in t = shown_list t.first ++ map shown_by t.more.items
 abbrev pub is_quiet : Move → Bool
 is_quiet m = is_nil m.shown && is_none m.reply
 
+-- something is shown or sent, or more octets are joined than before
+abbrev pub takes_memory : Listener → Move → Bool
+takes_memory old m = not (is_quiet m) || nat_lt (length (joined_octets old.joined)) (length (joined_octets m.next.joined))
+
 -- A TSDU that is taken makes this move; want of memory changes nothing, and comes only where something
--- is shown or sent.
-pub record Takes {E : Type 0} (result : Result Taken E) (move : Move) (old new : Standing) : Type 0 where
+-- is shown, sent or joined.
+pub record Takes {E : Type 0} (result : Result Taken E) (move : Move) (old new : Listener) : Type 0 where
   pub state : OnOk result (new ≡ move.next)
   pub shown : IfOk result (λ t. shown_in t ≡ move.shown)
   pub first : IfOk result (λ t. t.first ≡ None → t.more.items ≡ [])
   pub reply : IfOk result (λ t. t.reply ≡ option_map written move.reply)
   pub closes : IfOk result (λ t. t.closes ≡ move.closes)
   pub err : OnErr result (new ≡ old)
-  pub memory : OnErr result (is_quiet move ≡ false)
+  pub memory : OnErr result (takes_memory old move ≡ true)

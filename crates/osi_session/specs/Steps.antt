@@ -1,5 +1,5 @@
 -- The views of what calls and units give in memory, by which the tables say it.
-use Rattle.std.specs.Prelude.{◌≡◌, false, List, [], ◌∷◌, ◌++◌, Option, Some, None, map, option_map, Result, Ok, Err}
+use Rattle.std.specs.Prelude.{◌≡◌, ℕ, Bool, true, false, not, ◌&&◌, ◌||◌, nat_lt, is_none, List, [], ◌∷◌, ◌++◌, length, Option, Some, None, map, option_map, Result, Ok, Err}
 use Rattle.osi_session.specs.declared.faults.CallError.{CallError}
 use Rattle.osi_session.specs.declared.calling.Step as memory
 use Rattle.osi_message.specs.Meanings.{Meaning, meant_by}
@@ -8,10 +8,19 @@ use Rattle.osi_session.specs.declared.reactions.Reply.{Reply}
 use Rattle.osi_session.specs.declared.reactions.Reply.TheVariants as replies
 use Rattle.osi_session.specs.declared.reactions.Reaction.{Reaction}
 use Rattle.osi_session.specs.declared.grouping.Reactions.{Reactions}
+use Rattle.osi_session.specs.declared.hearing.Heard.{Heard}
+use Rattle.osi_session.specs.declared.hearing.Joined.{Joined}
+use Rattle.osi_session.specs.declared.hearing.Joined.TheVariants as leaves
+use Rattle.osi_session.specs.declared.joining.PartVerdict.{PartVerdict}
+use Rattle.osi_session.specs.declared.joining.PartVerdict.TheVariants as part_is
+use Rattle.osi_session.specs.declared.words.Word as memory_word
+use Rattle.osi_session.specs.declared.words.Word.TheVariants as word
 use Rattle.osi_message.specs.Meanings.{RF, AB, AA}
 use Rattle.osi_session.specs.Shown.{Shown, shown_by}
 use Rattle.osi_session.specs.Allowed.{Step, Test, Answer, first_error}
-use Rattle.osi_session.specs.Respond.{Outcome, is_silent}
+use Rattle.osi_session.specs.Respond.{Outcome, is_nil, is_silent, Verdict, over, dropped, faulty, fine}
+use Rattle.osi_session.specs.Joining.{Hearing, joined_octets}
+use Rattle.osi_message.specs.Words.{Word, says, part}
 
 abbrev pub step_of : memory.Step → Step
 step_of s = record { next = s.next; sent = meant_by s.sent }
@@ -56,3 +65,42 @@ outcome_of_all r = record {
   reply = option_map reply_of r.reply;
   closes = r.closes;
 }
+
+-- ---- words
+
+abbrev pub word_by : memory_word.Word → Word
+word_by (word.Says message) = says (meant_by message)
+word_by (word.Part place octets) = part place octets.now
+
+-- what is to be done with a part
+abbrev pub told_of : Verdict → PartVerdict
+told_of over = part_is.Dropped
+told_of dropped = part_is.Dropped
+told_of (faulty fault) = part_is.Bad fault
+told_of fine = part_is.Good
+
+-- what is joined after, of what was before
+abbrev pub joined_after : Joined → Option (List ℕ) → Option (List ℕ)
+joined_after leaves.Kept joined = joined
+joined_after leaves.Dropped joined = None
+joined_after (leaves.Now octets) joined = Some octets
+
+abbrev pub hearing_of : Option (List ℕ) → Joined → Outcome → Hearing
+hearing_of joined after o = record {
+  next = record { state = o.next; joined = joined_after after joined };
+  shown = o.shown;
+  reply = o.reply;
+  closes = o.closes;
+}
+
+abbrev pub hearing_of_all : Option (List ℕ) → Reactions → Hearing
+hearing_of_all joined r = hearing_of joined r.joined (outcome_of_all r)
+
+-- Something is shown or sent, or more octets are joined than before.
+abbrev pub takes_room : Option (List ℕ) → Hearing → Bool
+takes_room joined h = not (is_nil h.shown && is_none h.reply) || nat_lt (length (joined_octets joined)) (length (joined_octets h.next.joined))
+
+-- The hearing of the table. Memory is wanted only where something is shown, sent or joined.
+abbrev pub Hears : {E : Type 0} → Option (List ℕ) → Result Heard E → Hearing → Type 0
+Hears joined (Ok h) hearing = hearing ≡ hearing_of joined h.joined (outcome_of h.reaction)
+Hears joined (Err e) hearing = takes_room joined hearing ≡ true

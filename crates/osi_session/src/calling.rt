@@ -2,10 +2,10 @@
 
 ghost use Rattle.osi_spdu.specs.Fields.{bits_of, unit_bits};
 ghost use Rattle.osi_spdu.specs.Sizes.{named_by};
-ghost use Rattle.std.specs.Prelude.{◌≡◌, ◌<◌, ◌≤◌, ◌&&◌, true, length, nat_le, Ok, Err, IfOk, OnOk, IfErr};
+ghost use Rattle.std.specs.Prelude.{◌≡◌, ◌<◌, ◌≤◌, ◌&&◌, true, length, nat_le, nat_lt, Ok, Err, IfOk, OnOk, IfErr};
 ghost use Rattle.osi_session.specs.Allowed.{allowed, met, needs, may_call, octets_of, most_of, has_right, point_needs, is_restartable};
 ghost use Rattle.osi_session.specs.Calls.{called_by, Accept, Refuse, Data, Give, Please, Minor, MinorConfirm, Major, MajorConfirm, Restart, RestartConfirm, Release, ReleaseAccept, ReleaseRefuse, Abort};
-ghost use Rattle.osi_message.specs.Meanings.{meant_by, DT};
+ghost use Rattle.osi_message.specs.Meanings.{meant_by, DT, MIP, MIA};
 ghost use Rattle.osi_session.specs.Sound.{IsSound};
 ghost use Rattle.osi_session.specs.State.{without_tokens};
 ghost use Rattle.osi_session.specs.Steps.{Answers, Finds, step_of};
@@ -19,7 +19,7 @@ use crate::phases::Phase;
 use crate::requests::Request;
 use crate::selected::{FunctionalUnits, is_profile};
 use crate::sides::{Sides, offered};
-use crate::sizes::{answered_sizes, fits_limit};
+use crate::sizes::{answered_sizes, fits_limit, fits_limit_of};
 use crate::state::State;
 use osi_message::{Message, Tokens};
 use osi_spdu::{Requirements, ResyncType, Serial, TokenSet, TokenSetting, TsduSizes};
@@ -28,7 +28,7 @@ use osi_spdu::{Requirements, ResyncType, Serial, TokenSet, TokenSetting, TsduSiz
 pub(crate) const MOST_USER_DATA: usize = 10_240;
 
 /// The most octets of data: a TSDU has 4 more.
-const MOST_DATA: usize = 1_048_572;
+pub(crate) const MOST_DATA: usize = 1_048_572;
 
 /// The number of the last point that there can be.
 const LAST_NUMBER: u32 = 999_999;
@@ -255,11 +255,20 @@ fn next_point(state: &State, is_selected: bool, has_rights: bool) -> Result<Seri
     })
 }
 
+/// The number of the next minor point.
+fn next_minor(state: &State) -> Result<Serial, CallError>
+    ensures tests { Finds result (point_needs state.now state.now.units.minor (has_right state.now token.data_token && has_right state.now token.minor)) }
+    ensures number { IfOk result (λ s. s.number ≡ state.now.numbers.next) }
+{
+    let serial = next_point(state, state.units.minor, state.has_minor_rights())?;
+    Ok(serial)
+}
+
 #[tactic(auto, unfolding(crate::specs::Allowed::met))]
 fn minor<'a>(state: &State, confirm: bool, user_data: &'a [u8]) -> Result<Step<'a>, CallError>
     ensures { Answers result (met state.now (Minor confirm user_data.entry.now)) }
 {
-    let number = next_point(state, state.units.minor, state.has_minor_rights())?;
+    let number = next_minor(state)?;
     Ok(Step {
         next: State {
             numbers: state.numbers.point_sent(),
@@ -274,6 +283,12 @@ fn minor<'a>(state: &State, confirm: bool, user_data: &'a [u8]) -> Result<Step<'
 }
 
 /// A minor point may be confirmed where points were taken last, once, up to the last.
+fn is_confirmable(numbers: Numbers, number: u32) -> bool
+    ensures { result ≡ (numbers.answers && (nat_le numbers.confirmed number && nat_lt number numbers.next)) }
+{
+    numbers.answers && numbers.confirmed <= number && number < numbers.next
+}
+
 #[tactic(auto, unfolding(crate::specs::Allowed::met))]
 fn minor_confirm<'a>(state: &State, number: u32, user_data: &'a [u8]) -> Result<Step<'a>, CallError>
     requires { state.now.numbers.next ≤ 1000000 }
@@ -283,7 +298,7 @@ fn minor_confirm<'a>(state: &State, number: u32, user_data: &'a [u8]) -> Result<
         return Err(CallError::NotSelected);
     }
     let numbers = state.numbers;
-    if !(numbers.answers && numbers.confirmed <= number && number < numbers.next) {
+    if !is_confirmable(numbers, number) {
         return Err(CallError::BadNumber);
     }
     Ok(Step {
@@ -551,4 +566,88 @@ pub(crate) fn allow_data(state: &State, user_data: &[u8]) -> Result<(), CallErro
         return Err(CallError::TooLong);
     }
     Ok(())
+}
+
+/// A minor point that may be sent or confirmed, and the numbers after it.
+#[derive(Clone, Copy)]
+pub(crate) struct Point {
+    pub(crate) number: Serial,
+    pub(crate) numbers: Numbers,
+}
+
+/// The first error of a minor point; else its number and the numbers after it: nothing else changes,
+/// and MIP is sent.
+#[tactic(auto, unfolding(crate::specs::Allowed::allowed, crate::specs::Allowed::met, osi_message::specs::Written::user_data_of))]
+pub(crate) fn allow_minor(
+    state: &State,
+    confirm: bool,
+    user_data: &[u8],
+) -> Result<Point, CallError>
+    requires { IsSound state.now }
+    ensures ok { IfOk result (λ p. allowed state.now (Minor confirm user_data.now)
+        ≡ Ok (record { next = record state.now { numbers = p.numbers }; sent = MIP confirm p.number.number user_data.now })) }
+    ensures err { IfErr result (λ e. allowed state.now (Minor confirm user_data.now) ≡ Err e) }
+{
+    if state.phase.is_over() {
+        return Err(CallError::Ended);
+    }
+    if !state.phase.is_ready() {
+        return Err(CallError::BadState);
+    }
+    let number = next_minor(state)?;
+    if user_data.len() > MOST_USER_DATA {
+        return Err(CallError::TooLong);
+    }
+    let sent = Message::MinorPoint {
+        confirm,
+        number,
+        user_data,
+    };
+    if !fits_limit_of(state, &sent) {
+        return Err(CallError::TooLong);
+    }
+    let numbers = state.numbers.point_sent();
+    Ok(Point { number, numbers })
+}
+
+/// The first error of a confirmation; else the numbers after it: nothing else changes, and MIA is sent.
+#[tactic(auto, unfolding(crate::specs::Allowed::allowed, crate::specs::Allowed::met, osi_message::specs::Written::user_data_of))]
+pub(crate) fn allow_minor_confirm(
+    state: &State,
+    number: u32,
+    user_data: &[u8],
+) -> Result<Point, CallError>
+    requires { IsSound state.now }
+    ensures ok { IfOk result (λ p. allowed state.now (MinorConfirm number user_data.now)
+        ≡ Ok (record { next = record state.now { numbers = p.numbers }; sent = MIA p.number.number user_data.now })) }
+    ensures err { IfErr result (λ e. allowed state.now (MinorConfirm number user_data.now) ≡ Err e) }
+{
+    if state.phase.is_over() {
+        return Err(CallError::Ended);
+    }
+    if !state.phase.may_confirm_minor() {
+        return Err(CallError::BadState);
+    }
+    if !state.units.minor {
+        return Err(CallError::NotSelected);
+    }
+    let numbers = state.numbers;
+    if !is_confirmable(numbers, number) {
+        return Err(CallError::BadNumber);
+    }
+    if user_data.len() > MOST_USER_DATA {
+        return Err(CallError::TooLong);
+    }
+    let serial = Serial { number };
+    let sent = Message::MinorAck {
+        number: serial,
+        user_data,
+    };
+    if !fits_limit_of(state, &sent) {
+        return Err(CallError::TooLong);
+    }
+    Ok(Point {
+        number: serial,
+        numbers: numbers.minor_confirmed(number),
+    })
 }

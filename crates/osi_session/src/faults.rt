@@ -63,4 +63,11 @@ pub enum UnitFault {
     /// The tokens are not those that may be named.
     #[error("bad tokens in unit {0}")]
     BadTokens(u8),
+    /// A first part or whole data, a token item with tokens, a point or a finish within an unfinished
+    /// SSDU, or a later part without one.
+    #[error("bad enclosure in unit {0}")]
+    BadEnclosure(u8),
+    /// The parts of one Data have more than 1,048,572 octets.
+    #[error("too much data in unit {0}")]
+    DataTooLong(u8),
 }

@@ -1,32 +1,34 @@
 //! What the units of a TSDU do, one after the other.
 
-ghost use Rattle.std.specs.Prelude.{◌≡◌, ℕ, ◌||◌, ◌++◌, List, [], true, false, None, IfOk, IfSome, OnOk, OnErr};
-ghost use Rattle.osi_message.specs.Meanings.{meant_by, DT};
-ghost use Rattle.osi_message.specs.Plain.{plain_meaning};
+ghost use Rattle.std.specs.Prelude.{◌≡◌, ℕ, ◌||◌, ◌++◌, List, [], true, false, Option, None, option_copied, IfOk, IfSome, OnOk, OnErr};
+ghost use Rattle.osi_message.specs.Meanings.{DT};
 ghost use Rattle.osi_message.specs.Reading.{said_by_units, said_at};
-ghost use Rattle.osi_message.specs.Sendable.{said_of};
 ghost use Rattle.osi_spdu.specs.Groups.{units_of};
-ghost use Rattle.osi_session.specs.Respond.{is_nil, is_silent, nothing, respond_unit, respond, respond_fault, respond_read, and_then, is_faulty, shows, verdict};
+ghost use Rattle.osi_session.specs.Joining.{heard, heard_then, idle, kept_in, word_verdict, respond_word, respond_tsdu, respond_came};
+ghost use Rattle.osi_session.specs.Respond.{is_nil, is_faulty, respond_unit, respond_fault, shows};
 ghost use Rattle.osi_session.specs.Shown.{Data, shown_by};
-ghost use Rattle.osi_session.specs.Steps.{all_shown, outcome_of, outcome_of_all, shown_list};
+ghost use Rattle.osi_session.specs.Steps.{all_shown, hearing_of, hearing_of_all, joined_after, outcome_of, outcome_of_all, shown_list, takes_room, word_by};
 
 use crate::faults::UnitFault;
+use crate::hearing::{Heard, Joined, take_word};
 use crate::indications::Indication;
 use crate::reactions::{Reaction, Reply};
 use crate::state::State;
-use crate::taking::{is_restart, take_unit};
-use osi_message::{Message, Octets, PlainUnit};
+use crate::words::Word;
+use osi_message::{Octets, PlainUnit};
 use osi_spdu::{Group, SpduFault, read_tsdu};
 use std::alloc::{AllocError, Global};
 
 /// The SI of a DT, which stands behind a GT that names no token.
 const DATA_TRANSFER: u8 = 0x01;
 
-/// What the units of a TSDU do: the state after them, the indications in their order, at most one
-/// unit that is sent, and whether the transport connection is closed.
+/// What the units of a TSDU do: the state after them, what they leave of the octets that are joined,
+/// the indications in their order, at most one unit that is sent, and whether the transport connection
+/// is closed.
 #[derive(Drop)]
 pub(crate) struct Reactions {
     pub(crate) next: State,
+    pub(crate) joined: Joined,
     /// The first indication.
     pub(crate) first: Option<Indication>,
     /// Those after it.
@@ -36,17 +38,35 @@ pub(crate) struct Reactions {
 }
 
 impl Reactions {
-    /// Those of a unit that acts alone.
-    pub(crate) fn of(alloc: Global, reaction: Reaction) -> Reactions
-        ensures outcome { outcome_of_all result ≡ outcome_of reaction }
+    /// Those of a word that acts alone.
+    pub(crate) fn of(alloc: Global, heard: Heard) -> Reactions
+        ensures outcome { outcome_of_all result ≡ outcome_of heard.reaction }
+        ensures joined { result.joined ≡ heard.joined }
         ensures ordered { result.more.items ≡ [] }
     {
+        let reaction = heard.reaction;
         Reactions {
             next: reaction.next,
+            joined: heard.joined,
             first: reaction.shown,
             more: Vec::new(alloc),
             reply: reaction.reply,
             closes: reaction.closes,
+        }
+    }
+
+    /// Nothing is done yet.
+    fn none(alloc: Global, state: &State) -> Reactions
+        ensures heard { (joined : Option (List ℕ)) → hearing_of_all joined result ≡ idle (record { state = state.now; joined = joined }) }
+        ensures ordered { result.more.items ≡ [] }
+    {
+        Reactions {
+            next: *state,
+            joined: Joined::Kept,
+            first: None,
+            more: Vec::new(alloc),
+            reply: None,
+            closes: false,
         }
     }
 
@@ -55,7 +75,7 @@ impl Reactions {
         requires { self.old.first ≡ None → self.old.more.items ≡ [] }
         ensures shown { OnOk result (all_shown self.new.first self.new.more.items ≡ all_shown self.old.first self.old.more.items ++ shown_list shown) }
         ensures ordered { OnOk result (self.new.first ≡ None → self.new.more.items ≡ []) }
-        ensures others { OnOk result ((self.new.next ≡ self.old.next) × (self.new.reply ≡ self.old.reply) × (self.new.closes ≡ self.old.closes)) }
+        ensures others { OnOk result ((self.new.next ≡ self.old.next) × (self.new.joined ≡ self.old.joined) × (self.new.reply ≡ self.old.reply) × (self.new.closes ≡ self.old.closes)) }
         ensures err { OnErr result (is_nil (shown_list shown) ≡ false) }
     {
         let Some(indication) = shown else {
@@ -71,18 +91,27 @@ impl Reactions {
 }
 
 impl Reactions {
-    /// What one unit does, behind what was done so far; and whether the unit is bad.
-    fn then(&mut self, alloc: Global, unit: Message<'_>) -> Result<bool, AllocError>
+    /// What one word does, behind what was done so far; and whether the word is bad.
+    fn then(
+        &mut self,
+        alloc: Global,
+        joined: Option<&Octets>,
+        word: Word<'_>,
+    ) -> Result<bool, AllocError>
         requires { self.old.first ≡ None → self.old.more.items ≡ [] }
-        ensures bad { IfOk result (λ b. b ≡ is_faulty (verdict self.old.next (meant_by unit.entry))) }
-        ensures outcome { OnOk result (outcome_of_all self.new ≡ and_then (outcome_of_all self.old) (respond_unit self.old.next (meant_by unit.entry))) }
+        ensures bad { IfOk result (λ b. b ≡ is_faulty (word_verdict (hearing_of_all (option_copied joined.entry) self.old).next (word_by word.entry))) }
+        ensures heard { OnOk result (hearing_of_all (option_copied joined.entry) self.new
+            ≡ heard_then (hearing_of_all (option_copied joined.entry) self.old) (respond_word (hearing_of_all (option_copied joined.entry) self.old).next (word_by word.entry))) }
         ensures ordered { OnOk result (self.new.first ≡ None → self.new.more.items ≡ []) }
-        ensures err { OnErr result (is_silent (respond_unit self.old.next (meant_by unit.entry)) ≡ false) }
+        ensures err { OnErr result (takes_room (hearing_of_all (option_copied joined.entry) self.old).next.joined
+            (respond_word (hearing_of_all (option_copied joined.entry) self.old).next (word_by word.entry)) ≡ true) }
     {
-        let reaction = take_unit(alloc, &self.next, unit)?;
+        let heard = take_word(alloc, &self.next, self.joined.after(joined), word)?;
+        let reaction = heard.reaction;
         let is_bad = reaction.is_bad();
         self.show(reaction.shown)?;
         self.next = reaction.next;
+        self.joined.go_on(heard.joined);
         self.closes = self.closes || reaction.closes;
         if self.reply.is_none() {
             self.reply = reaction.reply;
@@ -93,19 +122,27 @@ impl Reactions {
 
 /// What the units of a TSDU do, one after the other: the first unit acts after those behind it, and
 /// does not act where one of these is an RS. A bad unit is the last that acts.
-pub(crate) fn take_all(alloc: Global, state: &State, group: &Group) -> Result<Reactions, AllocError>
-    ensures outcome { IfOk result (λ r. outcome_of_all r ≡ respond state.now (said_by_units (units_of group.now))) }
+pub(crate) fn take_all(
+    alloc: Global,
+    state: &State,
+    joined: Option<&Octets>,
+    group: &Group,
+) -> Result<Reactions, AllocError>
+    requires { kept_in state.now.phase (option_copied joined) ≡ option_copied joined }
+    ensures heard { IfOk result (λ r. hearing_of_all (option_copied joined.entry) r
+        ≡ respond_tsdu (record { state = state.now; joined = option_copied joined.entry }) (said_by_units (units_of group.now))) }
     ensures ordered { IfOk result (λ r. r.first ≡ None → r.more.items ≡ []) }
-    ensures err { OnErr result (is_silent (respond state.now (said_by_units (units_of group.now))) ≡ false) }
+    ensures err { OnErr result (takes_room (option_copied joined.entry)
+        (respond_tsdu (record { state = state.now; joined = option_copied joined.entry }) (said_by_units (units_of group.now))) ≡ true) }
 {
-    let first = Message::of(group.first());
+    let first = Word::of(group.first());
     let mut behind = group.behind();
-    let mut reactions = Reactions::of(alloc, Reaction::silent(*state));
+    let mut reactions = Reactions::none(alloc, state);
     let mut restarts = false;
     'units: while let Some(unit) = behind.next() {
-        let message = Message::of(&unit);
-        restarts = either(restarts, is_restart(&message));
-        let is_bad = reactions.then(alloc, message)?;
+        let word = Word::of(&unit);
+        restarts = either(restarts, word.is_restart());
+        let is_bad = reactions.then(alloc, joined, word)?;
         if is_bad {
             return Ok(reactions);
         }
@@ -113,7 +150,7 @@ pub(crate) fn take_all(alloc: Global, state: &State, group: &Group) -> Result<Re
     if restarts {
         return Ok(reactions);
     }
-    let _is_bad = reactions.then(alloc, first)?;
+    let _is_bad = reactions.then(alloc, joined, first)?;
     Ok(reactions)
 }
 
@@ -134,47 +171,28 @@ pub(crate) fn unread(state: &State, fault: SpduFault) -> Reaction
     Reaction::bad(state, UnitFault::Spelling(fault))
 }
 
-/// What a unit does behind a token item that names no token, or alone.
-#[tactic(auto, using(crate::proofs::VerdictLaws::of_said))]
-fn take_plain(alloc: Global, state: &State, unit: PlainUnit<'_>) -> Result<Reactions, AllocError>
-    ensures outcome { IfOk result (λ r. outcome_of_all r ≡ respond state.now (said_of (plain_meaning unit.entry))) }
-    ensures ordered { IfOk result (λ r. r.first ≡ None → r.more.items ≡ []) }
-    ensures err { OnErr result (is_silent (respond state.now (said_of (plain_meaning unit.entry))) ≡ false) }
-{
-    let reaction = take_unit(alloc, state, unit.message())?;
-    Ok(Reactions::of(alloc, reaction))
-}
-
-/// What the octets of a TSDU do, read by the general reader. It stands out of line: else the room for
-/// its units would be made for each TSDU that is read straight.
-#[inline(never)]
+/// What the octets of a TSDU do, read by the general reader.
 #[tactic(auto, unfolding(osi_message::specs::Reading::said_at))]
-fn take_read(alloc: Global, state: &State, tsdu: &[u8]) -> Result<Reactions, AllocError>
-    ensures outcome { IfOk result (λ r. outcome_of_all r ≡ respond_read state.now (said_at tsdu.now)) }
-    ensures ordered { IfOk result (λ r. r.first ≡ None → r.more.items ≡ []) }
-    ensures err { OnErr result (is_silent (respond_read state.now (said_at tsdu.now)) ≡ false) }
-{
-    match read_tsdu(tsdu) {
-        Ok(group) => take_all(alloc, state, &group),
-        Err(fault) => Ok(Reactions::of(alloc, unread(state, fault))),
-    }
-}
-
-/// What the octets of a TSDU do: its units, or that it is none.
-#[tactic(auto, unfolding(osi_message::specs::Reading::said_at))]
-pub(crate) fn take_octets(
+pub(crate) fn take_read(
     alloc: Global,
     state: &State,
+    joined: Option<&Octets>,
     tsdu: &[u8],
 ) -> Result<Reactions, AllocError>
-    ensures outcome { IfOk result (λ r. outcome_of_all r ≡ respond_read state.now (said_at tsdu.now)) }
+    requires { kept_in state.now.phase (option_copied joined) ≡ option_copied joined }
+    ensures heard { IfOk result (λ r. hearing_of_all (option_copied joined.entry) r
+        ≡ respond_came (record { state = state.now; joined = option_copied joined.entry }) (said_at tsdu.now)) }
     ensures ordered { IfOk result (λ r. r.first ≡ None → r.more.items ≡ []) }
-    ensures err { OnErr result (is_silent (respond_read state.now (said_at tsdu.now)) ≡ false) }
+    ensures err { OnErr result (takes_room (option_copied joined.entry)
+        (respond_came (record { state = state.now; joined = option_copied joined.entry }) (said_at tsdu.now)) ≡ true) }
 {
-    if let Some(unit) = PlainUnit::read(tsdu) {
-        return take_plain(alloc, state, unit);
+    match read_tsdu(tsdu) {
+        Ok(group) => take_all(alloc, state, joined, &group),
+        Err(fault) => {
+            let heard = Heard::of(unread(state, fault), Joined::Kept);
+            Ok(Reactions::of(alloc, heard))
+        }
     }
-    take_read(alloc, state, tsdu)
 }
 
 /// Whether data that comes now is shown, and changes nothing: the phase expects it, and the peer has
@@ -186,15 +204,19 @@ fn expects_data(state: &State) -> bool
     state.phase.takes_data() && !state.held.data_token
 }
 
-/// The indication of a TSDU with data that is expected; none of any other.
-#[tactic(auto, using(crate::proofs::VerdictLaws::of_said))]
+/// The indication of a TSDU with whole data that is expected, where nothing is unfinished; none of any
+/// other.
+#[tactic(auto, using(crate::proofs::DataLaws::data_comes, crate::proofs::DataLaws::data_takes))]
 pub(crate) fn expected_data(
     alloc: Global,
     state: &State,
+    is_unfinished: bool,
     tsdu: &[u8],
 ) -> Result<Option<Indication>, AllocError>
-    ensures shown { IfOk result (λ shown. IfSome shown (λ i. respond_read state.now (said_at tsdu.now) ≡ shows state.now (shown_by i))) }
-    ensures err { OnErr result (is_silent (respond_read state.now (said_at tsdu.now)) ≡ false) }
+    ensures shown { IfOk result (λ shown. IfSome shown (λ i. (is_unfinished ≡ false)
+        × (respond_came (record { state = state.now; joined = None }) (said_at tsdu.now) ≡ heard None (shows state.now (shown_by i))))) }
+    ensures err { OnErr result ((is_unfinished ≡ false)
+        × (takes_room None (respond_came (record { state = state.now; joined = None }) (said_at tsdu.now)) ≡ true)) }
 {
     let [_, _, DATA_TRANSFER, ..] = tsdu else {
         return Ok(None);
@@ -202,9 +224,14 @@ pub(crate) fn expected_data(
     let Some(PlainUnit::Data { user_data }) = PlainUnit::read(tsdu) else {
         return Ok(None);
     };
+    if is_unfinished {
+        return Ok(None);
+    }
     if !expects_data(state) {
         return Ok(None);
     }
-    let user_data = Octets::copy(alloc, user_data)?;
-    Ok(Some(Indication::Data { user_data }))
+    match Octets::copy(alloc, user_data) {
+        Ok(user_data) => Ok(Some(Indication::Data { user_data })),
+        Err(error) => Err(error),
+    }
 }

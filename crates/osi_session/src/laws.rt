@@ -1,12 +1,14 @@
 //! Laws of the definitions that the contracts cite. Each function does nothing: its clauses are the
 //! laws.
 
-ghost use Rattle.std.specs.Prelude.{◌≡◌, ◌+◌, ◌<◌, ◌≤◌, ◌⊎◌, ℕ, true, false, ◌||◌, if◌then◌else◌, length, List, [], ◌∷◌, Some, None, Ok, option_map};
+ghost use Rattle.std.specs.Prelude.{◌≡◌, ◌+◌, ◌<◌, ◌≤◌, ◌⊎◌, ℕ, true, false, ◌||◌, if◌then◌else◌, length, map, List, [], ◌∷◌, ◌++◌, Option, Some, None, Ok, is_some, option_map};
 ghost use Rattle.std.specs.List.{AllByRecursion, list_any};
 ghost use Rattle.std.specs.Int.RustNames.{bit_and};
 ghost use Rattle.osi_session.specs.declared.faults.UnitFault.{UnitFault};
 ghost use Rattle.osi_spdu.specs.declared.faults.SpduFault.{SpduFault};
 ghost use Rattle.osi_spdu.specs.declared.fields.ResyncType.{ResyncType};
+ghost use Rattle.osi_message.specs.declared.places.Place.{Place};
+ghost use Rattle.osi_message.specs.declared.places.Place.TheVariants.{First, Middle, Last};
 ghost use Rattle.osi_spdu.specs.declared.fields.TsduMaximumSize.{TsduMaximumSize};
 ghost use Rattle.osi_spdu.specs.declared.settings.TokenSetting.{TokenSetting};
 ghost use Rattle.osi_spdu.specs.Known.{Units};
@@ -14,64 +16,88 @@ ghost use Rattle.osi_session.specs.declared.opening.Opening.{Opening};
 ghost use Rattle.osi_session.specs.declared.requests.Request.{Request};
 ghost use Rattle.osi_session.specs.declared.state.State.{State};
 ghost use Rattle.osi_message.specs.declared.tokens.Tokens.{Tokens};
-ghost use Rattle.osi_session.specs.Allowed.{Step, allowed, Passed};
+ghost use Rattle.osi_session.specs.Allowed.{Step, allowed, most_data, Passed};
 ghost use Rattle.osi_session.specs.Calls.{Call, Give, MinorConfirm, HasSerial, called_by};
 ghost use Rattle.osi_session.specs.Causes.{opens_connection, call_gives, unit_gives, call_holds, unit_holds, renews};
-ghost use Rattle.osi_message.specs.Meanings.{Meaning, MIA, RS, AA};
+ghost use Rattle.osi_message.specs.Meanings.{Meaning, DT, MIA, RS, AA};
 ghost use Rattle.osi_session.specs.Numbers.{lower};
 ghost use Rattle.osi_session.specs.Closing.{closes_alone, is_answer, awaits_close};
 ghost use Rattle.osi_session.specs.declared.phases.Phase.{Phase};
 ghost use Rattle.osi_session.specs.Phases.{is_wait_transport, is_wait_cn, is_aborting, is_over, is_ended, is_restarting, is_restart_due, may_abort, may_hold};
 ghost use Rattle.osi_message.specs.Reading.{Said, alone, behind, said_by_units, said_at};
-ghost use Rattle.osi_session.specs.Moves.{Input, is_opened, called, taken, unread, opened, refused, broken, came, rests, answered as call_move, moved, begun, denied, Standing, in_state, react, after_input, after_inputs};
+ghost use Rattle.osi_message.specs.Words.{Words, says, part, part_octets};
+ghost use Rattle.osi_session.specs.Joining.{Taker, kept_in, heard, respond_word, respond_words, respond_tsdu};
+ghost use Rattle.osi_session.specs.Listening.{Input, is_opened, called, taken, unread, opened, refused, broken, came, rests, answered as call_move, moved, begun, denied, Listener, taker_of, in_state, react, after_input, after_inputs};
+ghost use Rattle.osi_session.specs.Moves as whole;
+ghost use Rattle.osi_session.specs.Kept.{IsKeptIn, IsKept, IsJoinedAs, IsNoFault, IsJoined};
+ghost use Rattle.osi_session.specs.Parts.{Act, part_comes, act_in_words, act_in_octets, calls_in, AreParts, AreSilent, HasProfile};
+ghost use Rattle.osi_session.specs.Units.{is_profile};
+ghost use Rattle.osi_spdu.specs.Fields.{unit_bits};
+ghost use Rattle.osi_session.specs.Whole.{listening, standing_of, in_words, is_apart, joins};
 ghost use Rattle.osi_message.specs.Written.{written};
 ghost use Rattle.osi_session.specs.Respond.{nothing, bad, becomes, respond_unit, respond_all, respond, respond_fault, lost, stands, drops, verdict, enacted, fine, IsGood, has_no_effect, is_token_item, is_resynchronize, and_then};
 ghost use Rattle.osi_session.specs.Restarts.{HasAsked, AreCrossed, after_restart};
-ghost use Rattle.osi_session.specs.Runs.{HasNumbers, IsFresh};
+ghost use Rattle.osi_session.specs.Runs.{HasNumbers, HasNumbersInWords, IsFresh};
 ghost use Rattle.osi_session.specs.Sessions.{awaiting, asking, Planned, IsPlanOf};
 ghost use Rattle.osi_session.specs.Shown.{MinorConfirmed};
 ghost use Rattle.osi_session.specs.Sizes.{answered, smaller_sizes, answered_sizes, limit_of, is_bounded};
 ghost use Rattle.osi_session.specs.Sound.{IsSound};
 ghost use Rattle.osi_message.specs.Tokens.{Token, has, is_disjoint, token_octet};
 ghost use Rattle.osi_session.specs.Openings.{asked_for};
-ghost use Rattle.osi_message.specs.Sendable.{IsSendable, said_of};
+ghost use Rattle.osi_message.specs.Sendable.{IsSendable, said_of, words_of};
 
-/// What an accepted call sends can be sent, and so can what a TSDU is answered by and what a caller
-/// asks for. So each is read as
-/// in [`osi_message::laws::what_is_sent_is_read`].
+/// What an accepted call sends can be sent, and so can what a TSDU is answered by, of whole messages and of
+/// words, and what a caller asks for. So each is read as in [`osi_message::laws::what_is_sent_is_read`].
 pub fn what_is_sent_can_be_sent()
     ensures called { (s : State) (c : Call) (x : Step) → IsSound s → HasSerial c → allowed s c ≡ Ok x → IsSendable x.sent }
     ensures replied { (s : State) (said : Said) (m : Meaning) → (respond s said).reply ≡ Some m → IsSendable m }
+    ensures heard { (t : Taker) (words : Words) (m : Meaning) → (respond_tsdu t words).reply ≡ Some m → IsSendable m }
     ensures asked { (o : Opening) → length o.user_data.now < 65000 → IsSendable (asked_for o) }
 {}
 
-/// The move of each input: what the tables give for a call, for the units of a TSDU and for one that is
+/// Where nothing is joined, messages do what the tables of whole messages say: one word, words one after
+/// the other, a TSDU, and each input of a session, over every list of them. All else than the words of a
+/// TSDU does the same also where something is joined, which is kept or dropped by the phase that is left.
+pub fn messages_do_what_they_did()
+    ensures word { (s : State) (u : Meaning) → respond_word (record { state = s; joined = None }) (says u) ≡ heard None (respond_unit s u) }
+    ensures words { (s : State) (us : List Meaning) → respond_words (record { state = s; joined = None }) (map says us) ≡ heard None (respond_all s us) }
+    ensures tsdu { (s : State) (said : Said) → respond_tsdu (record { state = s; joined = None }) (map says said) ≡ heard None (respond s said) }
+    ensures moves { (s : whole.Standing) (input : whole.Input) → react (listening s) (in_words input) ≡ joins None (whole.react s input) }
+    ensures run { (s : whole.Standing) (inputs : List whole.Input) → after_inputs (listening s) (map in_words inputs) ≡ listening (whole.after_inputs s inputs) }
+    ensures others { (l : Listener) (input : whole.Input) → kept_in l.state.phase l.joined ≡ l.joined → is_apart input ≡ true →
+        react l (in_words input) ≡ joins l.joined (whole.react (standing_of l) input) }
+{}
+
+/// The move of each input: what the tables give for a call, for the words of a TSDU and for one that is
 /// none; the transport connection is there, or there is none, while it is awaited, and no other time;
 /// and it is lost.
 pub fn what_each_input_does()
-    ensures called { (s : Standing) (c : Call) → react s (called c) ≡ call_move s (allowed s.state c) }
-    ensures taken { (s : Standing) (said : Said) → react s (taken said) ≡ moved s (respond s.state said) }
-    ensures unread { (s : Standing) (fault : SpduFault) → react s (unread fault) ≡ moved s (respond_fault s.state fault) }
-    ensures opened { (s : Standing) → is_wait_transport s.state.phase ≡ true → react s opened ≡ begun s }
-    ensures refused { (s : Standing) (reason : ℕ) → is_wait_transport s.state.phase ≡ true → react s (refused reason) ≡ denied reason s }
-    ensures broken { (s : Standing) → react s broken ≡ moved s (lost s.state) }
-    ensures not_opened { (s : Standing) → is_wait_transport s.state.phase ≡ false → react s opened ≡ rests s }
-    ensures not_refused { (s : Standing) (reason : ℕ) → is_wait_transport s.state.phase ≡ false → react s (refused reason) ≡ rests s }
+    ensures called { (l : Listener) (c : Call) → react l (called c) ≡ call_move l (allowed l.state c) }
+    ensures taken { (l : Listener) (words : Words) → react l (taken words) ≡ moved l (respond_tsdu (taker_of l) words) }
+    ensures unread { (l : Listener) (fault : SpduFault) → react l (unread fault) ≡ moved l (heard l.joined (respond_fault l.state fault)) }
+    ensures opened { (l : Listener) → is_wait_transport l.state.phase ≡ true → react l opened ≡ begun l }
+    ensures refused { (l : Listener) (reason : ℕ) → is_wait_transport l.state.phase ≡ true → react l (refused reason) ≡ denied reason l }
+    ensures broken { (l : Listener) → react l broken ≡ moved l (heard l.joined (lost l.state)) }
+    ensures not_opened { (l : Listener) → is_wait_transport l.state.phase ≡ false → react l opened ≡ rests l }
+    ensures not_refused { (l : Listener) (reason : ℕ) → is_wait_transport l.state.phase ≡ false → react l (refused reason) ≡ rests l }
 {}
 
-/// What is sent is taken as it was meant: from the octets of a message to its row of the table of
-/// units. So of what an accepted call sends, of what a TSDU is answered by, and of what a caller asks
-/// for.
+/// What is sent is taken as it was meant: from the octets of a message to what it does as a word. So of
+/// what an accepted call sends, of what a TSDU is answered by, and of what a caller asks for; and the
+/// octets of a part are taken as the part.
 pub fn what_is_sent_is_taken()
-    ensures message { (s : Standing) (m : Meaning) → IsSendable m → react s (came (written m)) ≡ moved s (respond_unit s.state m) }
-    ensures called { (sender : State) (c : Call) (x : Step) (s : Standing) → IsSound sender → HasSerial c → allowed sender c ≡ Ok x →
-        react s (came (written x.sent)) ≡ moved s (respond_unit s.state x.sent) }
-    ensures replied { (sender : State) (said : Said) (m : Meaning) (s : Standing) → (respond sender said).reply ≡ Some m →
-        react s (came (written m)) ≡ moved s (respond_unit s.state m) }
-    ensures asked { (o : Opening) (s : Standing) → length o.user_data.now < 65000 →
-        react s (came (written (asked_for o))) ≡ moved s (respond_unit s.state (asked_for o)) }
+    ensures message { (l : Listener) (m : Meaning) → IsSendable m → react l (came (written m)) ≡ moved l (respond_word (taker_of l) (says m)) }
+    ensures part { (l : Listener) (place : Place) (octets : List ℕ) →
+        react l (came (part_octets place octets)) ≡ moved l (respond_word (taker_of l) (part place octets)) }
+    ensures called { (sender : State) (c : Call) (x : Step) (l : Listener) → IsSound sender → HasSerial c → allowed sender c ≡ Ok x →
+        react l (came (written x.sent)) ≡ moved l (respond_word (taker_of l) (says x.sent)) }
+    ensures replied { (sender : Taker) (words : Words) (m : Meaning) (l : Listener) → (respond_tsdu sender words).reply ≡ Some m →
+        react l (came (written m)) ≡ moved l (respond_word (taker_of l) (says m)) }
+    ensures asked { (o : Opening) (l : Listener) → length o.user_data.now < 65000 →
+        react l (came (written (asked_for o))) ≡ moved l (respond_word (taker_of l) (says (asked_for o))) }
 {
     osi_message::laws::what_is_sent_is_read();
+    osi_message::laws::what_a_part_says();
 }
 
 /// What closes the transport connection sends nothing, and leaves a session that has ended, which
@@ -79,12 +105,13 @@ pub fn what_is_sent_is_taken()
 /// AB would still be answered, but no octets say that. A call leaves the transport connection open.
 pub fn what_closes_sends_nothing()
     ensures unit { (s : State) (u : Meaning) → (respond_unit s u).closes ≡ true → (respond_unit s u).reply ≡ None }
-    ensures said { (s : State) (said : Said) → closes_alone said ≡ true → (respond s said).closes ≡ true → (respond s said).reply ≡ None }
-    ensures alone { (octets : List ℕ) (said : Said) → said_at octets ≡ Ok said → closes_alone said ≡ true }
-    ensures octets { (s : Standing) (octets : List ℕ) → (react s (came octets)).closes ≡ true → (react s (came octets)).reply ≡ None }
-    ensures call { (s : Standing) (c : Call) → (react s (called c)).closes ≡ false }
-    ensures ended { (s : Standing) (input : Input) → (react s input).closes ≡ true → is_ended (after_input s input).state.phase ≡ true }
-    ensures awaited { (s : Standing) (octets : List ℕ) → (react s (came octets)).closes ≡ true → awaits_close s.state.phase ≡ true }
+    ensures said { (t : Taker) (words : Words) → closes_alone words ≡ true → (respond_tsdu t words).closes ≡ true → (respond_tsdu t words).reply ≡ None }
+    ensures alone { (octets : List ℕ) (words : Words) → said_at octets ≡ Ok words → closes_alone words ≡ true }
+    ensures octets { (l : Listener) (octets : List ℕ) → (react l (came octets)).closes ≡ true → (react l (came octets)).reply ≡ None }
+    ensures call { (l : Listener) (c : Call) → (react l (called c)).closes ≡ false }
+    ensures ended { (s : whole.Standing) (input : whole.Input) → (whole.react s input).closes ≡ true → is_ended (whole.after_input s input).state.phase ≡ true }
+    ensures last { (l : Listener) (input : Input) → (react l input).closes ≡ true → is_ended (after_input l input).state.phase ≡ true }
+    ensures awaited { (l : Listener) (octets : List ℕ) → (react l (came octets)).closes ≡ true → awaits_close l.state.phase ≡ true }
 {}
 
 /// Who answers a TSDU is over: RF is sent and the session has ended, AB is sent and it is aborted, or
@@ -93,11 +120,11 @@ pub fn what_closes_sends_nothing()
 pub fn what_answers_is_over()
     ensures unit { (s : State) (u m : Meaning) → (respond_unit s u).reply ≡ Some m →
         (is_answer m ≡ true) × (is_over (respond_unit s u).next.phase ≡ true) }
-    ensures octets { (s : Standing) (octets : List ℕ) (m : Meaning) → (react s (came octets)).reply ≡ Some m →
-        (is_answer m ≡ true) × (is_over (after_input s (came octets)).state.phase ≡ true) }
-    ensures aborting { (s : Standing) (octets : List ℕ) → is_aborting s.state.phase ≡ true → (react s (came octets)).reply ≡ None }
-    ensures ended { (s : Standing) (octets : List ℕ) (m : Meaning) → is_ended s.state.phase ≡ true →
-        (react s (came octets)).reply ≡ Some m → m ≡ AA }
+    ensures octets { (l : Listener) (octets : List ℕ) (m : Meaning) → (react l (came octets)).reply ≡ Some m →
+        (is_answer m ≡ true) × (is_over (after_input l (came octets)).state.phase ≡ true) }
+    ensures aborting { (l : Listener) (octets : List ℕ) → is_aborting l.state.phase ≡ true → (react l (came octets)).reply ≡ None }
+    ensures ended { (l : Listener) (octets : List ℕ) (m : Meaning) → is_ended l.state.phase ≡ true →
+        (react l (came octets)).reply ≡ Some m → m ≡ AA }
 {}
 
 /// A call is accepted only where the user may abort: not before the transport connection is there, not
@@ -107,9 +134,9 @@ pub fn what_answers_is_over()
 pub fn where_a_call_is_accepted()
     ensures phase { (s : State) (c : Call) (x : Step) → allowed s c ≡ Ok x → may_abort s.phase ≡ true }
     ensures live { (p : Phase) → may_abort p ≡ true → (is_wait_transport p ≡ false) × (is_wait_cn p ≡ false) × (is_over p ≡ false) }
-    ensures begun { (s : Standing) (input : Input) → is_wait_transport (after_input s input).state.phase ≡ true → is_wait_transport s.state.phase ≡ true }
-    ensures waiting { (s : Standing) (input : Input) → is_opened input ≡ false → is_wait_transport s.state.phase ≡ true →
-        (is_wait_transport (after_input s input).state.phase || is_over (after_input s input).state.phase) ≡ true }
+    ensures begun { (l : Listener) (input : Input) → is_wait_transport (after_input l input).state.phase ≡ true → is_wait_transport l.state.phase ≡ true }
+    ensures waiting { (l : Listener) (input : Input) → is_opened input ≡ false → is_wait_transport l.state.phase ≡ true →
+        (is_wait_transport (after_input l input).state.phase || is_over (after_input l input).state.phase) ≡ true }
 {}
 
 /// What becomes of a unit: the table of units enacts its verdict. A unit that is not discarded, that
@@ -137,9 +164,9 @@ pub fn what_two_units_do()
         (if is_resynchronize u then respond_unit s u else and_then (respond_unit s u) (respond_unit (respond_unit s u).next item)) }
 {}
 
-/// A TSDU shows at most one thing for each of its units.
+/// A TSDU shows at most one thing for each of its words.
 pub fn what_a_tsdu_shows()
-    ensures { (s : State) (said : Said) → length (respond s said).shown ≤ length said }
+    ensures { (t : Taker) (words : Words) → length (respond_tsdu t words).shown ≤ length words }
 {}
 
 /// An accepted call passed each test of its row, in its phase, with user data that is short enough and
@@ -166,37 +193,40 @@ pub fn what_sizes_are_agreed()
 /// The numbers in a call, and in the units of a TSDU, are those that a point may have, and the sizes
 /// of a call those that a user may give.
 pub fn what_happens_has_numbers()
-    ensures request { (request : Request) → HasNumbers (called (called_by request)) }
-    ensures units { (units : Units) → HasNumbers (taken (said_by_units units)) }
+    ensures request { (request : Request) → HasNumbersInWords (called (called_by request)) }
+    ensures units { (units : Units) → HasNumbersInWords (taken (said_by_units units)) }
 {}
 
 /// Over every list of calls, TSDUs and what befalls the transport connection, from the state of a
 /// called or of a calling side: V(A) and V(R) are between the base and V(M), which is at most
 /// 1,000,000; a major point that is outstanding has a number, and so has a restart that is to be
 /// answered; tokens are held only in Ready, MajorAsked, MajorDue, Releasing and ReleaseDue; and each
-/// size is 0, or 64 to 65,535.
+/// size is 0, or 64 to 65,535. So over whole messages, and over words.
 pub fn numbers_stay_in_order()
     ensures called { IsFresh awaiting }
     ensures caller { (o : Opening) → IsFresh (asking o) }
     ensures begins { (s : State) → IsFresh s → IsSound s }
-    ensures kept { (s : Standing) (inputs : List Input) → AllByRecursion HasNumbers inputs → IsSound s.state → IsSound (after_inputs s inputs).state }
+    ensures kept { (s : whole.Standing) (inputs : List whole.Input) → AllByRecursion HasNumbers inputs → IsSound s.state →
+        IsSound (whole.after_inputs s inputs).state }
+    ensures heard { (l : Listener) (inputs : List Input) → AllByRecursion HasNumbersInWords inputs → IsSound l.state →
+        IsSound (after_inputs l inputs).state }
 {}
 
 /// Whatever happens, a session that is aborted or ended stays so, and one that is ended stays ended;
 /// and one whose transport connection is lost has ended.
 pub fn an_ended_session_stays_ended()
-    ensures over { (s : Standing) (inputs : List Input) → is_over s.state.phase ≡ true → is_over (after_inputs s inputs).state.phase ≡ true }
-    ensures ended { (s : Standing) (inputs : List Input) → is_ended s.state.phase ≡ true → is_ended (after_inputs s inputs).state.phase ≡ true }
-    ensures lost { (s : Standing) → is_ended (after_input s broken).state.phase ≡ true }
+    ensures over { (l : Listener) (inputs : List Input) → is_over l.state.phase ≡ true → is_over (after_inputs l inputs).state.phase ≡ true }
+    ensures ended { (l : Listener) (inputs : List Input) → is_ended l.state.phase ≡ true → is_ended (after_inputs l inputs).state.phase ≡ true }
+    ensures lost { (l : Listener) → is_ended (after_input l broken).state.phase ≡ true }
 {}
 
 /// Tokens come to be held only where a connection is opened: by a call of Accept or RestartConfirm, or
 /// by a TSDU with an AC or an RA. The same over whatever happens.
 pub fn what_opens_a_connection()
-    ensures input { (s : Standing) (input : Input) → may_hold s.state.phase ≡ false →
-        may_hold (after_input s input).state.phase ≡ true → opens_connection input ≡ true }
-    ensures inputs { (s : Standing) (inputs : List Input) → may_hold s.state.phase ≡ false →
-        may_hold (after_inputs s inputs).state.phase ≡ true → list_any opens_connection inputs ≡ true }
+    ensures input { (l : Listener) (input : Input) → may_hold l.state.phase ≡ false →
+        may_hold (after_input l input).state.phase ≡ true → opens_connection input ≡ true }
+    ensures inputs { (l : Listener) (inputs : List Input) → may_hold l.state.phase ≡ false →
+        may_hold (after_inputs l inputs).state.phase ≡ true → list_any opens_connection inputs ≡ true }
 {}
 
 /// Tokens that are given were held, and are not held after. A token is held after a call or a unit
@@ -224,10 +254,10 @@ pub fn what_is_held()
 /// sends, so that the laws over lists of inputs hold of runs with plans; and a session that is aborted or
 /// ended has no plan.
 pub fn a_plan_is_its_call()
-    ensures step { (s : Standing) (call : Call) (plan : Planned) → IsPlanOf call plan → plan.was ≡ s.state →
-        in_state s plan.next ≡ after_input s (called call) }
-    ensures sent { (s : Standing) (call : Call) (plan : Planned) → IsPlanOf call plan → plan.was ≡ s.state →
-        option_map written (react s (called call)).reply ≡ Some plan.sent }
+    ensures step { (l : Listener) (call : Call) (plan : Planned) → IsPlanOf call plan → plan.was ≡ l.state →
+        in_state l plan.next ≡ after_input l (called call) }
+    ensures sent { (l : Listener) (call : Call) (plan : Planned) → IsPlanOf call plan → plan.was ≡ l.state →
+        option_map written (react l (called call)).reply ≡ Some plan.sent }
     ensures live { (call : Call) (plan : Planned) → IsPlanOf call plan → is_over plan.was.phase ≡ false }
 {}
 
@@ -258,9 +288,55 @@ pub fn what_is_confirmed_stays_confirmed()
         (s.numbers.confirmed ≤ n) × (x.next.numbers.confirmed ≡ n + 1) }
     ensures unit { (s : State) (n : ℕ) (octets : List ℕ) → (respond_unit s (MIA n octets)).shown ≡ MinorConfirmed n octets ∷ [] →
         (respond_unit s (MIA n octets)).next.numbers.confirmed ≡ n + 1 }
-    ensures kept { (s : Standing) (inputs : List Input) → AllByRecursion HasNumbers inputs →
-        AllByRecursion (λ i. renews i ≡ false) inputs → IsSound s.state →
-        s.state.numbers.confirmed ≤ (after_inputs s inputs).state.numbers.confirmed }
+    ensures kept { (l : Listener) (inputs : List Input) → AllByRecursion HasNumbersInWords inputs →
+        AllByRecursion (λ i. renews i ≡ false) inputs → IsSound l.state →
+        l.state.numbers.confirmed ≤ (after_inputs l inputs).state.numbers.confirmed }
     ensures yielded { (s : State) (kind : ResyncType) (n : ℕ) (wishes : TokenSetting) (octets : List ℕ) → stands s n ≡ false →
         (respond_unit s (RS kind n wishes octets)).next.numbers ≡ s.numbers }
+{}
+
+/// What a session has joined. Whatever happens, something is joined only in a phase that keeps it, in which
+/// tokens may be held, and it has at most 1,048,572 octets. The taker of the parts of one Data has joined
+/// their octets, or nothing where it discards data: so it stays in each call of its user, and where the next
+/// part comes, if the whole data would be no fault then; and the last part does what the whole data does there.
+pub fn what_is_joined()
+    ensures kept { (l : Listener) (inputs : List Input) → IsKept l → IsKept (after_inputs l inputs) }
+    ensures held { (l : Listener) → IsKept l → is_some l.joined ≡ true → may_hold l.state.phase ≡ true }
+    ensures called { (s : State) (joined begun : Option (List ℕ)) (c : Call) (x : Step) → allowed s c ≡ Ok x → IsJoinedAs s joined begun →
+        IsJoinedAs x.next (kept_in x.next.phase joined) begun }
+    ensures begins { (s : State) (joined : Option (List ℕ)) (o all : List ℕ) → length o ≤ most_data → IsKeptIn s.phase joined → IsNoFault s all →
+        IsJoinedAs s joined None → IsJoined s joined (part First o) (Some o) }
+    ensures goes_on { (s : State) (joined : Option (List ℕ)) (b o all : List ℕ) → length (b ++ o) ≤ most_data → IsKeptIn s.phase joined → IsNoFault s all →
+        IsJoinedAs s joined (Some b) → IsJoined s joined (part Middle o) (Some (b ++ o)) }
+    ensures ends { (s : State) (joined : Option (List ℕ)) (front last : List ℕ) → length (front ++ last) ≤ most_data → IsKeptIn s.phase joined →
+        IsNoFault s (front ++ last) → IsJoinedAs s joined (Some front) →
+        respond_word (record { state = s; joined = joined }) (part Last last) ≡ respond_word (record { state = s; joined = None }) (says (DT (front ++ last))) }
+{}
+
+/// From a session that has joined nothing, in which the whole data is no fault: over the parts of one Data,
+/// whatever calls of their taker come between, the last part gives what the whole Data gives behind the calls
+/// alone; in words, and in octets. Before it the parts show and send nothing, and the calls show and send what
+/// they do where no part comes.
+pub fn parts_are_the_whole()
+    ensures words { (l : Listener) (acts : List Act) (front last : List ℕ) → l.joined ≡ None → HasProfile l.state → IsNoFault l.state (front ++ last) →
+        length (front ++ last) ≤ most_data → AreParts None acts front →
+        react (after_inputs l (map act_in_words acts)) (part_comes Last last)
+        ≡ react (after_inputs l (calls_in acts)) (taken (words_of (DT (front ++ last)))) }
+    ensures octets { (l : Listener) (acts : List Act) (front last : List ℕ) → l.joined ≡ None → HasProfile l.state → IsNoFault l.state (front ++ last) →
+        length (front ++ last) ≤ most_data → AreParts None acts front →
+        react (after_inputs l (map act_in_octets acts)) (came (part_octets Last last))
+        ≡ react (after_inputs l (calls_in acts)) (came (written (DT (front ++ last)))) }
+    ensures before { (l : Listener) (acts : List Act) (front last : List ℕ) → l.joined ≡ None → HasProfile l.state → IsNoFault l.state (front ++ last) →
+        length (front ++ last) ≤ most_data → AreParts None acts front → AreSilent l l acts }
+{
+    osi_message::laws::what_is_sent_is_read();
+    osi_message::laws::what_a_part_says();
+}
+
+/// The functional units that a caller asks for, and those that are agreed on, are half-duplex with any of the
+/// others, or duplex alone: over every list of inputs, of a called side and of a caller that opened.
+pub fn units_are_a_profile()
+    ensures called { HasProfile awaiting }
+    ensures caller { (o : Opening) → is_profile (unit_bits o.requirements) ≡ true → HasProfile (asking o) }
+    ensures kept { (l : Listener) (inputs : List Input) → HasProfile l.state → HasProfile (after_inputs l inputs).state }
 {}

@@ -5,7 +5,9 @@
 mod calling;
 mod faults;
 mod grouping;
+mod hearing;
 mod indications;
+mod joining;
 pub mod laws;
 mod numbers;
 mod opening;
@@ -21,6 +23,7 @@ mod sizes;
 mod state;
 mod taken;
 mod taking;
+mod words;
 
 pub use faults::{CallError, UnitFault};
 pub use indications::{AbortCause, Indication};

@@ -1,5 +1,5 @@
 ghost use Rattle.std.specs.Prelude.{◌≡◌};
-ghost use Rattle.osi_session.specs.Phases.{is_over, is_wait_transport, is_wait_cn, is_connecting, is_answering, is_ready, is_major_asked, is_major_due, is_releasing, is_release_due, is_restarting, is_restart_due, is_aborting, is_ended, is_settled, in_major, may_give, may_ask, may_confirm_minor, may_restart, takes_data, takes_give, takes_please, takes_minor_ack, takes_restart, may_abort, shows_loss};
+ghost use Rattle.osi_session.specs.Phases.{is_over, is_wait_transport, is_wait_cn, is_connecting, is_answering, is_ready, is_major_asked, is_major_due, is_releasing, is_release_due, is_restarting, is_restart_due, is_aborting, is_ended, is_settled, in_major, may_give, may_ask, may_confirm_minor, may_restart, takes_data, takes_give, takes_please, takes_minor_ack, takes_restart, may_abort, may_hold, shows_loss};
 
 /// Where a session connection stands (X.225 annex A, states).
 #[derive(Clone, Copy, PartialEq, Eq, Debug)]
@@ -177,6 +177,20 @@ impl Phase {
         matches!(
             self,
             Phase::Ready | Phase::MajorAsked | Phase::MajorDue | Phase::ReleaseDue
+        )
+    }
+
+    /// Tokens are held, and an unfinished SSDU is kept.
+    pub(crate) fn may_hold(self) -> bool
+        ensures { result ≡ may_hold self }
+    {
+        matches!(
+            self,
+            Phase::Ready
+                | Phase::MajorAsked
+                | Phase::MajorDue
+                | Phase::Releasing
+                | Phase::ReleaseDue
         )
     }
 

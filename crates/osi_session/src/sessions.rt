@@ -6,10 +6,12 @@ ghost use Rattle.osi_session.specs.Steps.{reply_of};
 ghost use Rattle.osi_message.specs.Meanings.{meant_by};
 ghost use Rattle.osi_message.specs.Written.{written, user_data_of};
 
-use crate::calling::{MOST_USER_DATA, allow_data, decide};
+use crate::calling::{MOST_USER_DATA, allow_data, allow_minor, allow_minor_confirm, decide};
 use crate::faults::CallError;
-use crate::grouping::{Reactions, expected_data, take_all, take_octets, unread};
+use crate::grouping::{Reactions, expected_data, take_all, take_read, unread};
+use crate::hearing::{Heard, Joined, take_says};
 use crate::indications::Indication;
+use crate::joining::{PartVerdict, join, joined_octets, judge_part, shown_behind};
 use crate::opening::Opening;
 use crate::phases::Phase;
 use crate::plans::Plan;
@@ -18,37 +20,42 @@ use crate::requests::Request;
 use crate::selected::is_profile;
 use crate::state::State;
 use crate::taken::Taken;
-use osi_message::{Message, Sent, laws};
+use osi_message::{Message, Octets, Place, PlainUnit, Sent, laws};
 use osi_spdu::{Group, SpduFault, TokenSet};
 use std::alloc::{AllocError, Global};
 use std::marker::Model;
 
 /// One side of one session connection (X.225 version 2): which call its user may make now, what
 /// each unit that comes does, who holds which token, and which number the next synchronization
-/// point has.
+/// point has. It joins the parts of one Data.
 #[derive(Drop)]
 pub struct Session {
     alloc: Global,
     state: State,
     /// The CN, until the transport connection is there.
     waiting: Option<Sent>,
+    /// The octets of an unfinished SSDU, at most 1,048,572.
+    joined: Option<Octets>,
 }
 
 impl Model for Session {
-    ghost use Rattle.std.specs.Prelude.{◌≡◌, true, IsSome, option_map};
+    ghost use Rattle.std.specs.Prelude.{◌≡◌, ◌≤◌, true, length, IsSome, option_map};
     ghost use Rattle.std.specs.Option.{option_and_then};
     ghost use Rattle.osi_message.specs.Written.{written};
+    ghost use Rattle.osi_session.specs.Joining.{joined_octets, kept_in};
+    ghost use Rattle.osi_session.specs.Listening.{Listener};
     ghost use Rattle.osi_session.specs.Phases.{is_wait_transport};
-    ghost use Rattle.osi_session.specs.Moves.{Standing};
     ghost use Rattle.osi_session.specs.Sessions.{unit_in};
     ghost use Rattle.osi_session.specs.Sound.{IsSound};
 
-    ghost Value = { Standing };
+    ghost Value = { Listener };
 
-    ghost view = { λ s. record { state = s.state; waiting = option_and_then unit_in s.waiting } };
+    ghost view = { λ s. record { state = s.state; waiting = option_and_then unit_in s.waiting; joined = s.joined } };
 
     ghost invariant = { λ s. IsSound s.state × (is_wait_transport s.state.phase ≡ true → IsSome s.waiting)
-        × (option_map written (option_and_then unit_in s.waiting) ≡ s.waiting) };
+        × (option_map written (option_and_then unit_in s.waiting) ≡ s.waiting)
+        × (kept_in s.state.phase s.joined ≡ s.joined)
+        × (length (joined_octets s.joined) ≤ 1048572) };
 }
 
 /// The octets of an answer, if there is one. Want of memory comes only where there is.
@@ -84,18 +91,22 @@ fn written_connect(alloc: Global, opening: &Opening) -> Result<Sent, AllocError>
 }
 
 impl Session {
-    ghost use Rattle.std.specs.Prelude.{◌≡◌, ◌++◌, [], true, false, map, option_map, None, Some, IsSome, IfSome, OnSome, IfNone, ◌≢◌, IfOk, OnOk, IfErr, OnErr, is_none, ◌&&◌};
+    ghost use Rattle.std.specs.Prelude.{◌≡◌, ◌++◌, [], true, false, map, option_map, None, Some, IsSome, IfSome, OnSome, IfNone, ◌≢◌, IfOk, OnOk, IfErr, OnErr, length, ◌≤◌};
     ghost use Rattle.osi_spdu.specs.Groups.{units_of};
     ghost use Rattle.osi_message.specs.Reading.{said_by_units};
     ghost use Rattle.osi_message.specs.Tokens.{named, token_octet};
-    ghost use Rattle.osi_session.specs.Calls.{Data, called_by};
-    ghost use Rattle.osi_session.specs.Moves.{called, taken, unread, came, opened, refused, broken, in_state, react};
+    ghost use Rattle.osi_session.specs.Calls.{Data, Minor, MinorConfirm, called_by};
+    ghost use Rattle.osi_session.specs.Listening.{called, taken, unread, came, opened, refused, broken, in_state, moved, react, taker_of};
     ghost use Rattle.osi_session.specs.Phases.{is_wait_transport};
-    ghost use Rattle.osi_session.specs.Respond.{is_nil};
-    ghost use Rattle.osi_session.specs.Sessions.{Refused, CanBeSent, IsPlanOf, opens, refusal_of, awaits, shown_in, is_quiet};
+    ghost use Rattle.osi_session.specs.Respond.{fine};
+    ghost use Rattle.osi_session.specs.Sessions.{Refused, CanBeSent, IsPlanOf, opens, refusal_of, awaits, shown_in, takes_memory, Takes};
     ghost use Rattle.osi_session.specs.Shown.{shown_by};
     ghost use Rattle.osi_session.specs.Sound.{IsSound};
-    ghost use Rattle.osi_session.specs.Steps.{shown_list, outcome_of_all};
+    ghost use Rattle.osi_session.specs.Steps.{shown_list, joined_after, hearing_of_all};
+    ghost use Rattle.osi_session.specs.Joining.{joined_octets, kept_in, respond_word, word_verdict};
+    ghost use Rattle.osi_message.specs.Meanings.{meant_by};
+    ghost use Rattle.osi_message.specs.Plain.{plain_word};
+    ghost use Rattle.osi_message.specs.Words.{says, part};
 
     /// The calling side: the CN is made, and is sent once the transport connection is there.
     ///
@@ -119,6 +130,7 @@ impl Session {
                 alloc,
                 state: State::asking(opening),
                 waiting: Some(sent),
+                joined: None,
             }),
             Err(_) => Err(CallError::OutOfMemory),
         }
@@ -133,12 +145,26 @@ impl Session {
             alloc,
             state: State::AWAITING,
             waiting: None,
+            joined: None,
         }
+    }
+
+    /// Goes to a state, by whose phase an unfinished SSDU is kept or dropped.
+    #[inline(always)]
+    fn go(&mut self, next: State)
+        requires sound { IsSound next }
+        requires begun { is_wait_transport next.phase ≡ true → is_wait_transport self.old.state.phase ≡ true }
+        ensures { self.new ≡ in_state self.old next }
+    {
+        if !next.phase.may_hold() {
+            self.joined = None;
+        }
+        self.state = next;
     }
 
     /// The transport connection is there: the CN that is to be sent now. `None` in any phase but
     /// WaitTransport, in which nothing changes.
-    #[tactic(auto, unfolding(crate::specs::Moves::react))]
+    #[tactic(auto, unfolding(crate::specs::Listening::react))]
     pub fn opened(&mut self) -> Option<Sent>
         ensures state { self.new ≡ (react self.old opened).next }
         ensures sent { result ≡ option_map written (react self.old opened).reply }
@@ -146,13 +172,13 @@ impl Session {
         if !self.state.phase.is_wait_transport() {
             return None;
         }
-        self.state = self.state.without_tokens(Phase::Connecting);
+        self.go(self.state.without_tokens(Phase::Connecting));
         self.waiting.take()
     }
 
     /// There is no transport connection, for this reason (X.224 section 13.5.3). `None` in any
     /// phase but WaitTransport, in which nothing changes.
-    #[tactic(auto, unfolding(crate::specs::Moves::react))]
+    #[tactic(auto, unfolding(crate::specs::Listening::react))]
     pub fn refused(&mut self, reason: u8) -> Option<Indication>
         ensures state { self.new ≡ (react self.old (refused reason)).next }
         ensures shown { shown_list result ≡ (react self.old (refused reason)).shown }
@@ -160,7 +186,7 @@ impl Session {
         if !self.state.phase.is_wait_transport() {
             return None;
         }
-        self.state = self.state.without_tokens(Phase::Ended);
+        self.go(self.state.without_tokens(Phase::Ended));
         Some(Indication::RefusedByTransport { reason })
     }
 
@@ -198,7 +224,7 @@ impl Session {
         if !plan.was.is_same(&self.state) {
             return None;
         }
-        self.state = plan.next;
+        self.go(plan.next);
         Some(plan.sent)
     }
 
@@ -214,6 +240,10 @@ impl Session {
     {
         match request {
             Request::Data { user_data } => self.call_data(user_data),
+            Request::Minor { confirm, user_data } => self.call_minor(confirm, user_data),
+            Request::MinorConfirm { number, user_data } => {
+                self.call_minor_confirm(number, user_data)
+            }
             _ => self.call_other(request),
         }
     }
@@ -233,6 +263,55 @@ impl Session {
         }
     }
 
+    /// A call of the user for a minor point: only the numbers change, so that no whole state is made.
+    #[inline(never)]
+    #[tactic(auto, using(crate::proofs::CallLaws::refused, crate::proofs::CallLaws::wanting))]
+    fn call_minor(&mut self, confirm: bool, user_data: &[u8]) -> Result<Sent, CallError>
+        ensures state { OnOk result (self.new ≡ (react self.old (called (Minor confirm user_data.now))).next) }
+        ensures sent { IfOk result (λ s. option_map written (react self.old (called (Minor confirm user_data.now))).reply ≡ Some s) }
+        ensures sendable { OnOk result (CanBeSent (react self.old (called (Minor confirm user_data.now))).reply) }
+        ensures refused { IfErr result (λ e. Refused e (react self.old (called (Minor confirm user_data.now))).error) }
+        ensures err { OnErr result (self.new ≡ self.old) }
+    {
+        let point = allow_minor(&self.state, confirm, user_data)?;
+        let message = Message::MinorPoint {
+            confirm,
+            number: point.number,
+            user_data,
+        };
+        match written_message(self.alloc, &message) {
+            Ok(sent) => {
+                self.state.numbers = point.numbers;
+                Ok(sent)
+            }
+            Err(_) => Err(CallError::OutOfMemory),
+        }
+    }
+
+    /// A call of the user for the confirmation of a minor point: only the numbers change.
+    #[inline(never)]
+    #[tactic(auto, using(crate::proofs::CallLaws::refused, crate::proofs::CallLaws::wanting))]
+    fn call_minor_confirm(&mut self, number: u32, user_data: &[u8]) -> Result<Sent, CallError>
+        ensures state { OnOk result (self.new ≡ (react self.old (called (MinorConfirm number user_data.now))).next) }
+        ensures sent { IfOk result (λ s. option_map written (react self.old (called (MinorConfirm number user_data.now))).reply ≡ Some s) }
+        ensures sendable { OnOk result (CanBeSent (react self.old (called (MinorConfirm number user_data.now))).reply) }
+        ensures refused { IfErr result (λ e. Refused e (react self.old (called (MinorConfirm number user_data.now))).error) }
+        ensures err { OnErr result (self.new ≡ self.old) }
+    {
+        let point = allow_minor_confirm(&self.state, number, user_data)?;
+        let message = Message::MinorAck {
+            number: point.number,
+            user_data,
+        };
+        match written_message(self.alloc, &message) {
+            Ok(sent) => {
+                self.state.numbers = point.numbers;
+                Ok(sent)
+            }
+            Err(_) => Err(CallError::OutOfMemory),
+        }
+    }
+
     /// Any call. It stands out of line: else the room for its state and its message would be made on
     /// the way to data, too.
     #[inline(never)]
@@ -247,7 +326,7 @@ impl Session {
         let step = decide(&self.state, &request)?;
         match written_message(self.alloc, &step.sent) {
             Ok(sent) => {
-                self.state = step.next;
+                self.go(step.next);
                 Ok(sent)
             }
             Err(_) => Err(CallError::OutOfMemory),
@@ -255,8 +334,8 @@ impl Session {
     }
 
     /// The units of a TSDU that came: the indications, the TSDU to send, and whether the transport
-    /// connection is closed (X.225 section 7). `Err` changes nothing, and comes only where
-    /// something is shown or sent.
+    /// connection is closed (X.225 section 7). A part of one Data is joined to those before it. `Err`
+    /// changes nothing, and comes only where something is shown or sent, or octets are joined.
     pub fn take(&mut self, group: &Group) -> Result<Taken, AllocError>
         ensures state { OnOk result (self.new ≡ (react self.old (taken (said_by_units (units_of group.now)))).next) }
         ensures shown { IfOk result (λ t. shown_in t ≡ (react self.old (taken (said_by_units (units_of group.now)))).shown) }
@@ -265,10 +344,12 @@ impl Session {
         ensures reply { IfOk result (λ t. t.reply ≡ option_map written (react self.old (taken (said_by_units (units_of group.now)))).reply) }
         ensures closes { IfOk result (λ t. t.closes ≡ (react self.old (taken (said_by_units (units_of group.now)))).closes) }
         ensures err { OnErr result (self.new ≡ self.old) }
-        ensures memory { OnErr result (is_quiet (react self.old (taken (said_by_units (units_of group.now)))) ≡ false) }
+        ensures memory { OnErr result (takes_memory self.old (react self.old (taken (said_by_units (units_of group.now)))) ≡ true) }
     {
-        let reactions = take_all(self.alloc, &self.state, group)?;
-        self.settle(reactions)
+        match take_all(self.alloc, &self.state, self.joined.as_ref(), group) {
+            Ok(reactions) => self.settle(reactions),
+            Err(error) => Err(error),
+        }
     }
 
     /// A TSDU that came, as octets: what [`Session::take`] does with its units, and
@@ -281,33 +362,94 @@ impl Session {
         ensures reply { IfOk result (λ t. t.reply ≡ option_map written (react self.old (came tsdu.now)).reply) }
         ensures closes { IfOk result (λ t. t.closes ≡ (react self.old (came tsdu.now)).closes) }
         ensures err { OnErr result (self.new ≡ self.old) }
-        ensures memory { OnErr result (is_quiet (react self.old (came tsdu.now)) ≡ false) }
+        ensures memory { OnErr result (takes_memory self.old (react self.old (came tsdu.now)) ≡ true) }
     {
-        let Some(indication) = expected_data(self.alloc, &self.state, tsdu)? else {
-            return self.take_other(tsdu);
-        };
-        Ok(Taken {
-            first: Some(indication),
-            more: Vec::new(self.alloc),
-            reply: None,
-            closes: false,
-        })
+        match expected_data(self.alloc, &self.state, self.joined.is_some(), tsdu) {
+            Ok(Some(indication)) => Ok(Taken::showing(self.alloc, Some(indication))),
+            Ok(None) => self.take_other(tsdu),
+            Err(error) => Err(error),
+        }
     }
 
     /// Any TSDU. It stands out of line: else the room for what its units do would be made on the way to
     /// data, too.
     #[inline(never)]
     fn take_other(&mut self, tsdu: &[u8]) -> Result<Taken, AllocError>
-        ensures state { OnOk result (self.new ≡ (react self.old (came tsdu.now)).next) }
-        ensures shown { IfOk result (λ t. shown_in t ≡ (react self.old (came tsdu.now)).shown) }
-        ensures first { IfOk result (λ t. t.first ≡ None → t.more.items ≡ []) }
-        ensures reply { IfOk result (λ t. t.reply ≡ option_map written (react self.old (came tsdu.now)).reply) }
-        ensures closes { IfOk result (λ t. t.closes ≡ (react self.old (came tsdu.now)).closes) }
-        ensures err { OnErr result (self.new ≡ self.old) }
-        ensures memory { OnErr result (is_quiet (react self.old (came tsdu.now)) ≡ false) }
+        ensures { Takes result (react self.old (came tsdu.now)) self.old self.new }
     {
-        let reactions = take_octets(self.alloc, &self.state, tsdu)?;
-        self.settle(reactions)
+        match PlainUnit::read(tsdu) {
+            Some(unit) => self.take_plain(unit),
+            None => self.take_general(tsdu),
+        }
+    }
+
+    /// A TSDU that is read by the general reader. It stands out of line: else the room for its units
+    /// would be made for each TSDU that is read straight.
+    #[inline(never)]
+    fn take_general(&mut self, tsdu: &[u8]) -> Result<Taken, AllocError>
+        ensures { Takes result (react self.old (came tsdu.now)) self.old self.new }
+    {
+        match take_read(self.alloc, &self.state, self.joined.as_ref(), tsdu) {
+            Ok(reactions) => self.settle(reactions),
+            Err(error) => Err(error),
+        }
+    }
+
+    /// A word behind a token item that names no token, which does what the word does alone.
+    fn take_plain(&mut self, unit: PlainUnit<'_>) -> Result<Taken, AllocError>
+        ensures { Takes result (moved self.old (respond_word (taker_of self.old) (plain_word unit.entry))) self.old self.new }
+    {
+        match unit {
+            PlainUnit::Data { user_data } => self.take_message(Message::Data { user_data }),
+            PlainUnit::Part { place, user_data } => self.take_part(place, user_data),
+            PlainUnit::MinorPoint { number } => self.take_message(Message::MinorPoint {
+                confirm: true,
+                number,
+                user_data: &[],
+            }),
+            PlainUnit::MinorAck { number } => self.take_message(Message::MinorAck {
+                number,
+                user_data: &[],
+            }),
+        }
+    }
+
+    /// A message, alone.
+    fn take_message(&mut self, message: Message<'_>) -> Result<Taken, AllocError>
+        ensures { Takes result (moved self.old (respond_word (taker_of self.old) (says (meant_by message.entry)))) self.old self.new }
+    {
+        match take_says(self.alloc, &self.state, self.joined.as_ref(), message) {
+            Ok(heard) => self.settle(Reactions::of(self.alloc, heard)),
+            Err(error) => Err(error),
+        }
+    }
+
+    /// A part of one Data, which is joined to those before it. It stands out of line: whole data comes
+    /// more often.
+    #[inline(never)]
+    fn take_part(&mut self, place: Place, user_data: &[u8]) -> Result<Taken, AllocError>
+        ensures { Takes result (moved self.old (respond_word (taker_of self.old) (part place user_data.now))) self.old self.new }
+    {
+        match judge_part(&self.state, self.joined.as_ref(), place, user_data) {
+            PartVerdict::Dropped => Ok(Taken::showing(self.alloc, None)),
+            PartVerdict::Bad(fault) => {
+                let heard = Heard::of(Reaction::bad(&self.state, fault), Joined::Kept);
+                self.settle(Reactions::of(self.alloc, heard))
+            }
+            PartVerdict::Good => self.join(place, user_data),
+        }
+    }
+
+    /// Joins a part that is good. The octets of the last are put behind what is joined, which then is
+    /// shown, and is not copied.
+    fn join(&mut self, place: Place, user_data: &[u8]) -> Result<Taken, AllocError>
+        requires { word_verdict (taker_of self.old) (part place user_data.now) ≡ fine }
+        ensures { Takes result (moved self.old (respond_word (taker_of self.old) (part place user_data.now))) self.old self.new }
+    {
+        match join(self.alloc, &mut self.joined, user_data) {
+            Ok(()) => Ok(Taken::showing(self.alloc, shown_behind(place, &mut self.joined))),
+            Err(error) => Err(error),
+        }
     }
 
     /// A TSDU came that is no session units. In Aborting and Ended it is discarded unread; else it
@@ -319,30 +461,27 @@ impl Session {
         ensures reply { IfOk result (λ t. t.reply ≡ option_map written (react self.old (unread fault)).reply) }
         ensures closes { IfOk result (λ t. t.closes ≡ (react self.old (unread fault)).closes) }
         ensures err { OnErr result (self.new ≡ self.old) }
-        ensures memory { OnErr result (is_quiet (react self.old (unread fault)) ≡ false) }
+        ensures memory { OnErr result (takes_memory self.old (react self.old (unread fault)) ≡ true) }
     {
-        let reactions = Reactions::of(self.alloc, unread(&self.state, fault));
-        self.settle(reactions)
+        let heard = Heard::of(unread(&self.state, fault), Joined::Kept);
+        self.settle(Reactions::of(self.alloc, heard))
     }
 
-    /// Sends the answer, if there is one, and takes the new state.
+    /// Sends the answer, if there is one, takes the new state, and what is then joined.
     #[tactic(auto, using(crate::proofs::GroupLaws::loud_reply))]
     fn settle(&mut self, reactions: Reactions) -> Result<Taken, AllocError>
         requires sound { IsSound reactions.next }
         requires begun { is_wait_transport reactions.next.phase ≡ true → is_wait_transport self.old.state.phase ≡ true }
         requires ordered { reactions.first ≡ None → reactions.more.items ≡ [] }
-        ensures state { OnOk result (self.new ≡ in_state self.old reactions.next) }
-        ensures shown { IfOk result (λ t. shown_in t ≡ (outcome_of_all reactions).shown) }
-        ensures first { IfOk result (λ t. t.first ≡ None → t.more.items ≡ []) }
-        ensures reply { IfOk result (λ t. t.reply ≡ option_map written (outcome_of_all reactions).reply) }
-        ensures closes { IfOk result (λ t. t.closes ≡ reactions.closes) }
-        ensures err { OnErr result (self.new ≡ self.old) }
-        ensures memory { OnErr result ((is_nil (outcome_of_all reactions).shown && is_none (outcome_of_all reactions).reply) ≡ false) }
+        requires kept { kept_in reactions.next.phase (joined_after reactions.joined self.old.joined) ≡ joined_after reactions.joined self.old.joined }
+        requires few { length (joined_octets (joined_after reactions.joined self.old.joined)) ≤ 1048572 }
+        ensures { Takes result (moved self.old (hearing_of_all self.old.joined reactions)) self.old self.new }
     {
         let reply = match written_reply(self.alloc, reactions.reply) {
             Ok(reply) => reply,
             Err(error) => return Err(error),
         };
+        reactions.joined.put(&mut self.joined);
         self.state = reactions.next;
         Ok(Taken {
             first: reactions.first,
@@ -354,13 +493,13 @@ impl Session {
 
     /// The transport connection was closed or broken, or had a fault. The user is shown it except
     /// before a CN was taken and after an abort; the connection is gone.
-    #[tactic(auto, unfolding(crate::specs::Moves::react))]
+    #[tactic(auto, unfolding(crate::specs::Listening::react))]
     pub fn broken(&mut self) -> Option<Indication>
         ensures state { self.new ≡ (react self.old broken).next }
         ensures shown { shown_list result ≡ (react self.old broken).shown }
     {
         let reaction = Reaction::lost(&self.state);
-        self.state = reaction.next;
+        self.go(reaction.next);
         reaction.shown
     }
 
@@ -372,12 +511,21 @@ impl Session {
         self.state.held.set()
     }
 
-    /// Where the connection stands. Its numbers are in order and its tokens in their phases, and in
-    /// WaitTransport a CN waits.
+    /// How many octets are joined of an unfinished SSDU.
+    pub fn joined(&self) -> usize
+        ensures value { result ≡ length (joined_octets self.now.joined) }
+        ensures at_most { result ≤ 1048572 }
+    {
+        joined_octets(self.joined.as_ref()).len()
+    }
+
+    /// Where the connection stands. Its numbers are in order and its tokens in their phases, in
+    /// WaitTransport a CN waits, and octets are joined only where tokens may be held.
     pub fn phase(&self) -> Phase
         ensures value { result ≡ self.now.state.phase }
         ensures sound { IsSound self.now.state }
         ensures waiting { is_wait_transport self.now.state.phase ≡ true → IsSome self.now.waiting }
+        ensures kept { kept_in self.now.state.phase self.now.joined ≡ self.now.joined }
     {
         self.state.phase
     }

@@ -1,10 +1,10 @@
 //! The largest TSDU in each direction: what a CN and an AC agree on, and what it bounds.
 
-ghost use Rattle.std.specs.Prelude.{◌≡◌, ◌<◌, length};
+ghost use Rattle.std.specs.Prelude.{◌≡◌, ◌<◌, ◌==◌, ◌||◌, nat_le, length};
 ghost use Rattle.osi_spdu.specs.Sizes.{are_sizes};
 ghost use Rattle.osi_spdu.specs.Values.{is_size};
 ghost use Rattle.osi_message.specs.Meanings.{meant_by};
-ghost use Rattle.osi_message.specs.Written.{user_data_of};
+ghost use Rattle.osi_message.specs.Written.{user_data_of, written};
 ghost use Rattle.osi_session.specs.Calls.{called_by};
 ghost use Rattle.osi_session.specs.Sizes.{smaller, answered, smaller_sizes, answered_sizes, limit_of, fits_limit};
 
@@ -87,18 +87,23 @@ fn limit_of(state: &State) -> u16
     }
 }
 
+/// Whether the TSDU of a message is within the limit.
+pub(crate) fn fits_limit_of(state: &State, sent: &Message) -> bool
+    requires { length (user_data_of (meant_by sent.now)) < 65000 }
+    ensures { result ≡ (limit_of state.now == 0 || nat_le (length (written (meant_by sent.now))) (limit_of state.now)) }
+{
+    let limit = limit_of(state);
+    limit == 0 || sent.written_len() <= limit as usize
+}
+
 /// Whether the TSDU in which a call is sent is within the limit. Data may be longer, and so may an
 /// answer to the CN.
 pub(crate) fn fits_limit(state: &State, request: &Request, sent: &Message) -> bool
     requires { length (user_data_of (meant_by sent.now)) < 65000 }
     ensures { result ≡ fits_limit state.now (called_by request.now) (meant_by sent.now) }
 {
-    let limit = limit_of(state);
-    if limit == 0 {
-        return true;
-    }
     match request {
         Request::Accept { .. } | Request::Refuse { .. } | Request::Data { .. } => true,
-        _ => sent.written_len() <= limit as usize,
+        _ => fits_limit_of(state, sent),
     }
 }

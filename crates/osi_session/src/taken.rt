@@ -1,5 +1,8 @@
+ghost use Rattle.std.specs.Prelude.{◌≡◌, [], None, false};
+
 use crate::indications::Indication;
 use osi_message::Sent;
+use std::alloc::Global;
 
 /// What a taken TSDU does, besides the new state: the indications in their order, at most one for
 /// each unit, at most one TSDU to send, and whether the transport connection is closed, with reason
@@ -14,4 +17,20 @@ pub struct Taken {
     pub reply: Option<Sent>,
     /// The transport connection is closed.
     pub closes: bool,
+}
+
+impl Taken {
+    /// The user is shown at most this, and nothing is sent.
+    pub(crate) fn showing(alloc: Global, first: Option<Indication>) -> Taken
+        ensures first { result.first ≡ first }
+        ensures more { result.more.items ≡ [] }
+        ensures others { (result.reply ≡ None) × (result.closes ≡ false) }
+    {
+        Taken {
+            first,
+            more: Vec::new(alloc),
+            reply: None,
+            closes: false,
+        }
+    }
 }

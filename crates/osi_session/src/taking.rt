@@ -2,7 +2,7 @@
 
 ghost use Rattle.std.specs.Prelude.{◌≡◌, false};
 ghost use Rattle.osi_message.specs.Meanings.{meant_by};
-ghost use Rattle.osi_session.specs.Respond.{has_no_effect, passes_restarting, is_resynchronize, has_terms, in_phase, in_aborting, in_ended, respond_unit};
+ghost use Rattle.osi_session.specs.Respond.{drops, has_no_effect, passes_restarting, is_resynchronize, has_terms, in_phase, in_aborting, in_ended, respond_unit};
 ghost use Rattle.osi_session.specs.Steps.{Reacts, outcome_of};
 
 use crate::phases::Phase;
@@ -41,6 +41,14 @@ fn passes_restarting(message: &Message) -> bool
         message,
         Message::Restart { .. } | Message::RestartAck { .. } | Message::Abort { .. }
     )
+}
+
+/// What is discarded: a token item that names no token, and while a restart is awaited what does not
+/// pass.
+pub(crate) fn drops(state: &State, message: &Message) -> bool
+    ensures { result ≡ drops state.now (meant_by message.now) }
+{
+    has_no_effect(message) || (state.phase.is_restarting() && !passes_restarting(message))
 }
 
 /// RS: a token item in front of it has no effect.
@@ -176,7 +184,7 @@ pub(crate) fn take_unit(
     if state.phase.is_ended() {
         return Ok(take_ended(state, &message));
     }
-    if has_no_effect(&message) || (state.phase.is_restarting() && !passes_restarting(&message)) {
+    if drops(state, &message) {
         return Ok(Reaction::silent(*state));
     }
     take_live(alloc, state, message)

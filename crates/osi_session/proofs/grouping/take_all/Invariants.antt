@@ -1,13 +1,14 @@
-use Rattle.std.proofs.Common.{length, map}
+use Rattle.std.proofs.Common.{length, map, option_copied}
 use Rattle.osi_spdu.specs.Groups.{units_behind, units_of}
-use Rattle.osi_message.specs.Meanings.{meant_by}
-use Rattle.osi_message.specs.Reading.{meaning, said_by_units}
-use Rattle.osi_session.specs.Respond.{respond}
+use Rattle.osi_message.specs.Reading.{word, said_by_units}
+use Rattle.osi_session.specs.Joining.{respond_tsdu}
+use Rattle.osi_session.specs.Steps.{word_by}
 use Rattle.osi_session.proofs.FollowLaws.{Walks}
 use Rattle.osi_session.proofs.grouping.take_all.Given as goal
 
 abbrev pub invariant-units : goal.invariant-units
-invariant-units l = Walks (respond l.fn.state (said_by_units (units_of l.fn.group))) l.reactions l.restarts (meant_by l.first) (map meaning (units_behind l.behind))
+invariant-units l = Walks (respond_tsdu (record { state = l.fn.state; joined = option_copied l.fn.joined }) (said_by_units (units_of l.fn.group)))
+    (option_copied l.fn.joined) l.reactions l.restarts (word_by l.first) (map word (units_behind l.behind))
 
 abbrev pub decreases-units : goal.decreases-units
 decreases-units l = length (units_behind l.behind)

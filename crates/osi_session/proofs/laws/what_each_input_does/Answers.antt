@@ -1,11 +1,11 @@
-use Rattle.osi_session.proofs.MoveLaws.{of_call, of_units, of_fault, of_opened, of_refused, of_broken, not_opened, not_refused}
+use Rattle.osi_session.proofs.MoveLaws.{of_call, of_words, of_fault, of_opened, of_refused, of_broken, not_opened, not_refused}
 use Rattle.osi_session.proofs.laws.what_each_input_does.Goals as goal
 
 pub returns-clause-called : goal.returns-clause-called
 returns-clause-called c = of_call
 
 pub returns-clause-taken : goal.returns-clause-taken
-returns-clause-taken c = of_units
+returns-clause-taken c = of_words
 
 pub returns-clause-unread : goal.returns-clause-unread
 returns-clause-unread c = of_fault

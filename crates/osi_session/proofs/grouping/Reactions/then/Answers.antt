@@ -1,12 +1,14 @@
-use Rattle.osi_session.proofs.VerdictLaws.{told_bad}
-use Rattle.osi_session.specs.Steps.{outcome_of}
-use Rattle.osi_message.specs.Meanings.{meant_by}
+use Rattle.std.proofs.Common.{option_copied}
+use Rattle.osi_session.specs.Steps.{joined_after, word_by}
+use Rattle.osi_session.proofs.HearingLaws.{told_as}
 use Rattle.osi_session.proofs.grouping.Reactions.then.Goals as goal
 
 pub returns-then-is_none-clause-bad : goal.returns-then-is_none-clause-bad
 returns-then-is_none-clause-bad c =
-    told_bad c.args.self.now.next (meant_by c.args.unit) (outcome_of c.in_ok-reaction.reaction) c.is_bad-is_bad.result c.in_ok-reaction.ensures c.is_bad-is_bad.ensures
+    told_as c.args.self.now.next (option_copied c.after.result) (joined_after c.args.self.now.joined (option_copied c.args.joined)) (word_by c.args.word)
+    c.in_ok-heard.heard c.is_bad-is_bad.result c.after.ensures c.in_ok-heard.ensures c.is_bad-is_bad.ensures
 
 pub returns-else-is_none-clause-bad : goal.returns-else-is_none-clause-bad
 returns-else-is_none-clause-bad c =
-    told_bad c.args.self.now.next (meant_by c.args.unit) (outcome_of c.in_ok-reaction.reaction) c.is_bad-is_bad.result c.in_ok-reaction.ensures c.is_bad-is_bad.ensures
+    told_as c.args.self.now.next (option_copied c.after.result) (joined_after c.args.self.now.joined (option_copied c.args.joined)) (word_by c.args.word)
+    c.in_ok-heard.heard c.is_bad-is_bad.result c.after.ensures c.in_ok-heard.ensures c.is_bad-is_bad.ensures

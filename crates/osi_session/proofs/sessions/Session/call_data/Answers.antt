@@ -4,37 +4,38 @@ use Rattle.osi_message.specs.Meanings.{DT}
 use Rattle.osi_message.specs.Written.{written}
 use Rattle.osi_session.specs.Allowed.{Step}
 use Rattle.osi_session.specs.Calls.{Call, Data}
-use Rattle.osi_session.specs.Moves.{called, Standing, react}
+use Rattle.osi_session.specs.Listening.{called, Listener, react}
 use Rattle.osi_session.specs.Sessions.{CanBeSent, unit_in}
 use Rattle.osi_session.proofs.MoveLaws.{call_leaves, call_sends, call_passes}
+use Rattle.osi_session.proofs.SessionMoves.{stays}
 use Rattle.osi_session.proofs.SendableLaws.{call_sendable}
 use Rattle.osi_session.proofs.sessions.Session.call_data.Goals as goal
 
 pub returns-in-Ok-clause-sent : goal.returns-in-Ok-clause-sent
 returns-in-Ok-clause-sent c =
-    let v : Standing = record { state = c.self.inside.state; waiting = option_and_then unit_in c.self.inside.waiting } in
+    let v : Listener = record { state = c.self.inside.state; waiting = option_and_then unit_in c.self.inside.waiting; joined = c.self.inside.joined } in
     let k : Call = Data c.args.user_data.now in
     let x : Step = record { next = v.state; sent = DT c.args.user_data.now } in
-    ap (λ (s : Standing). option_map written (react s (called k)).reply) (sym c.self.view_is) ∙ call_sends v k x c.in_ok-allow_data.ensures.ok ∙ ap Some (sym c.in-Ok.ensures)
+    ap (λ (s : Listener). option_map written (react s (called k)).reply) (sym c.self.view_is) ∙ call_sends v k x c.in_ok-allow_data.ensures.ok ∙ ap Some (sym c.in-Ok.ensures)
 
 pub returns-in-Ok-clause-sendable : goal.returns-in-Ok-clause-sendable
 returns-in-Ok-clause-sendable c =
-    let v : Standing = record { state = c.self.inside.state; waiting = option_and_then unit_in c.self.inside.waiting } in
+    let v : Listener = record { state = c.self.inside.state; waiting = option_and_then unit_in c.self.inside.waiting; joined = c.self.inside.joined } in
     let k : Call = Data c.args.user_data.now in
     let x : Step = record { next = v.state; sent = DT c.args.user_data.now } in
-    subst (λ (s : Standing). CanBeSent (react s (called k)).reply) c.self.view_is
+    subst (λ (s : Listener). CanBeSent (react s (called k)).reply) c.self.view_is
     (call_sendable v k x c.self.invariant.0 tt c.in_ok-allow_data.ensures.ok)
 
 pub returns-in-Ok-clause-state : goal.returns-in-Ok-clause-state
 returns-in-Ok-clause-state c =
-    let v : Standing = record { state = c.self.inside.state; waiting = option_and_then unit_in c.self.inside.waiting } in
+    let v : Listener = record { state = c.self.inside.state; waiting = option_and_then unit_in c.self.inside.waiting; joined = c.self.inside.joined } in
     let k : Call = Data c.args.user_data.now in
     let x : Step = record { next = v.state; sent = DT c.args.user_data.now } in
-    sym c.self.view_is ∙ call_leaves v k x c.in_ok-allow_data.ensures.ok ∙ ap (λ (s : Standing). (react s (called k)).next) c.self.view_is
+    sym c.self.view_is ∙ stays v c.self.invariant.3 ∙ call_leaves v k x c.in_ok-allow_data.ensures.ok ∙ ap (λ (s : Listener). (react s (called k)).next) c.self.view_is
 
 pub returns-in-Err-clause-refused : goal.returns-in-Err-clause-refused
 returns-in-Err-clause-refused c =
-    let v : Standing = record { state = c.self.inside.state; waiting = option_and_then unit_in c.self.inside.waiting } in
+    let v : Listener = record { state = c.self.inside.state; waiting = option_and_then unit_in c.self.inside.waiting; joined = c.self.inside.joined } in
     let k : Call = Data c.args.user_data.now in
     let x : Step = record { next = v.state; sent = DT c.args.user_data.now } in
-    subst (λ (s : Standing). (react s (called k)).error ≡ None) c.self.view_is (call_passes v k x c.in_ok-allow_data.ensures.ok)
+    subst (λ (s : Listener). (react s (called k)).error ≡ None) c.self.view_is (call_passes v k x c.in_ok-allow_data.ensures.ok)

@@ -1,8 +1,9 @@
 use Rattle.std.proofs.Common.{◌≡◌, ◌∙◌, ap, subst, sym, Some, None, option_map}
 use Rattle.std.specs.Option.{option_and_then}
 use Rattle.osi_message.specs.Written.{written}
+use Rattle.osi_session.specs.Allowed.{allowed}
 use Rattle.osi_session.specs.Calls.{called_by}
-use Rattle.osi_session.specs.Moves.{called, Standing, react}
+use Rattle.osi_session.specs.Listening.{called, Listener, react}
 use Rattle.osi_session.specs.Sessions.{CanBeSent, unit_in}
 use Rattle.osi_session.specs.Steps.{step_of}
 use Rattle.osi_session.proofs.CallLaws.{sent_short}
@@ -18,37 +19,36 @@ written_message-requires c =
 
 pub returns-in-Ok-clause-sent : goal.returns-in-Ok-clause-sent
 returns-in-Ok-clause-sent c =
-    let v : Standing = record { state = c.self.inside.state; waiting = option_and_then unit_in c.self.inside.waiting } in
+    let v : Listener = record { state = c.self.inside.state; waiting = option_and_then unit_in c.self.inside.waiting; joined = c.self.inside.joined } in
     let k = called_by c.args.request in
     let x = step_of c.in_ok-step.step in
-    ap (λ (s : Standing). option_map written (react s (called k)).reply) (sym c.self.view_is) ∙ call_sends v k x c.in_ok-step.ensures ∙ ap Some (sym c.in-Ok.ensures)
+    ap (λ (s : Listener). option_map written (react s (called k)).reply) (sym c.self.view_is) ∙ call_sends v k x c.in_ok-step.ensures ∙ ap Some (sym c.in-Ok.ensures)
 
 pub returns-in-Ok-clause-sendable : goal.returns-in-Ok-clause-sendable
 returns-in-Ok-clause-sendable c =
-    let v : Standing = record { state = c.self.inside.state; waiting = option_and_then unit_in c.self.inside.waiting } in
+    let v : Listener = record { state = c.self.inside.state; waiting = option_and_then unit_in c.self.inside.waiting; joined = c.self.inside.joined } in
     let k = called_by c.args.request in
     let x = step_of c.in_ok-step.step in
-    subst (λ (s : Standing). CanBeSent (react s (called k)).reply) c.self.view_is
+    subst (λ (s : Listener). CanBeSent (react s (called k)).reply) c.self.view_is
     (call_sendable v k x c.self.invariant.0 (request_small c.args.request) c.in_ok-step.ensures)
 
 pub returns-in-Err-clause-refused : goal.returns-in-Err-clause-refused
 returns-in-Err-clause-refused c =
-    let v : Standing = record { state = c.self.inside.state; waiting = option_and_then unit_in c.self.inside.waiting } in
+    let v : Listener = record { state = c.self.inside.state; waiting = option_and_then unit_in c.self.inside.waiting; joined = c.self.inside.joined } in
     let k = called_by c.args.request in
     let x = step_of c.in_ok-step.step in
-    subst (λ (s : Standing). (react s (called k)).error ≡ None) c.self.view_is (call_passes v k x c.in_ok-step.ensures)
+    subst (λ (s : Listener). (react s (called k)).error ≡ None) c.self.view_is (call_passes v k x c.in_ok-step.ensures)
 
 pub returns-in-Ok-clause-state : goal.returns-in-Ok-clause-state
 returns-in-Ok-clause-state c =
-    let v : Standing = record { state = c.self.inside.state; waiting = option_and_then unit_in c.self.inside.waiting } in
     let k = called_by c.args.request in
     let x = step_of c.in_ok-step.step in
-    call_leaves v k x c.in_ok-step.ensures ∙ ap (λ (s : Standing). (react s (called k)).next) c.self.view_is
+    c.go.ensures ∙ call_leaves c.args.self.now k x (ap (λ (s : Listener). allowed s.state k) (sym c.self.view_is) ∙ c.in_ok-step.ensures)
 
-pub invariant_of-self : goal.invariant_of-self
-invariant_of-self c =
-    let begun = request_begun c.self.inside.state c.args.request (step_of c.in_ok-step.step) c.in_ok-step.ensures in (
-      request_sound c.self.inside.state c.args.request (step_of c.in_ok-step.step) c.in_ok-step.ensures c.self.invariant.0,
-      λ k. absurd (cc),
-      c.self.invariant.2,
-    )
+pub go-requires-clause-sound : goal.go-requires-clause-sound
+go-requires-clause-sound c =
+    request_sound c.self.inside.state c.args.request (step_of c.in_ok-step.step) c.in_ok-step.ensures c.self.invariant.0
+
+pub go-requires-clause-begun : goal.go-requires-clause-begun
+go-requires-clause-begun c =
+    let begun = request_begun c.self.inside.state c.args.request (step_of c.in_ok-step.step) c.in_ok-step.ensures in λ k. absurd (cc)

@@ -2,7 +2,7 @@ use Rattle.std.proofs.Common.{◌≡◌, ◌∙◌, ap, refl, subst, sym, Some, 
 use Rattle.std.specs.Option.{option_and_then}
 use Rattle.osi_message.specs.Written.{written}
 use Rattle.osi_session.specs.Calls.{called_by}
-use Rattle.osi_session.specs.Moves.{called, Standing, in_state, react}
+use Rattle.osi_session.specs.Listening.{called, Listener, in_state, react}
 use Rattle.osi_session.specs.Sessions.{CanBeSent, unit_in}
 use Rattle.osi_session.specs.Steps.{step_of}
 use Rattle.osi_session.proofs.CallLaws.{sent_short}
@@ -18,32 +18,32 @@ written_message-requires c =
 
 pub returns-in-Ok-clause-sent : goal.returns-in-Ok-clause-sent
 returns-in-Ok-clause-sent c =
-    let v : Standing = record { state = c.self.inside.state; waiting = option_and_then unit_in c.self.inside.waiting } in
+    let v : Listener = record { state = c.self.inside.state; waiting = option_and_then unit_in c.self.inside.waiting; joined = c.self.inside.joined } in
     let k = called_by c.args.request in
     let x = step_of c.in_ok-step.step in
-    ap (λ (s : Standing). option_map written (react s (called k)).reply) (sym c.self.view_is) ∙ call_sends v k x c.in_ok-step.ensures ∙ ap Some (sym c.in-Ok.ensures)
+    ap (λ (s : Listener). option_map written (react s (called k)).reply) (sym c.self.view_is) ∙ call_sends v k x c.in_ok-step.ensures ∙ ap Some (sym c.in-Ok.ensures)
 
 pub returns-in-Ok-clause-sendable : goal.returns-in-Ok-clause-sendable
 returns-in-Ok-clause-sendable c =
-    let v : Standing = record { state = c.self.inside.state; waiting = option_and_then unit_in c.self.inside.waiting } in
+    let v : Listener = record { state = c.self.inside.state; waiting = option_and_then unit_in c.self.inside.waiting; joined = c.self.inside.joined } in
     let k = called_by c.args.request in
     let x = step_of c.in_ok-step.step in
-    subst (λ (s : Standing). CanBeSent (react s (called k)).reply) c.self.view_is
+    subst (λ (s : Listener). CanBeSent (react s (called k)).reply) c.self.view_is
     (call_sendable v k x c.self.invariant.0 (request_small c.args.request) c.in_ok-step.ensures)
 
 pub returns-in-Err-clause-refused : goal.returns-in-Err-clause-refused
 returns-in-Err-clause-refused c =
-    let v : Standing = record { state = c.self.inside.state; waiting = option_and_then unit_in c.self.inside.waiting } in
+    let v : Listener = record { state = c.self.inside.state; waiting = option_and_then unit_in c.self.inside.waiting; joined = c.self.inside.joined } in
     let k = called_by c.args.request in
     let x = step_of c.in_ok-step.step in
-    subst (λ (s : Standing). (react s (called k)).error ≡ None) c.self.view_is (call_passes v k x c.in_ok-step.ensures)
+    subst (λ (s : Listener). (react s (called k)).error ≡ None) c.self.view_is (call_passes v k x c.in_ok-step.ensures)
 
 pub returns-in-Ok-clause-state : goal.returns-in-Ok-clause-state
 returns-in-Ok-clause-state c =
-    let v : Standing = record { state = c.self.inside.state; waiting = option_and_then unit_in c.self.inside.waiting } in
+    let v : Listener = record { state = c.self.inside.state; waiting = option_and_then unit_in c.self.inside.waiting; joined = c.self.inside.joined } in
     let k = called_by c.args.request in
     let x = step_of c.in_ok-step.step in
-    subst (λ (s : Standing). (react s (called k)).next ≡ in_state s c.in_ok-step.step.next) c.self.view_is (call_next v k x c.in_ok-step.ensures)
+    subst (λ (s : Listener). (react s (called k)).next ≡ in_state s c.in_ok-step.step.next) c.self.view_is (call_next v k x c.in_ok-step.ensures)
 
 pub returns-in-Ok-clause-planned : goal.returns-in-Ok-clause-planned
 returns-in-Ok-clause-planned c =

@@ -1,66 +1,125 @@
-use Rattle.std.proofs.Common.{◌≡◌, ◌∙◌, ap, subst, sym, true, false, option_map}
-use Rattle.std.specs.Prelude.{IfOk, OnOk, OnErr}
+use Rattle.std.proofs.Common.{◌≡◌, ◌∙◌, refl, ap, subst, sym, ℕ, List, Option, true, option_copied}
+use Rattle.std.specs.Option.{option_and_then}
+use Rattle.osi_session.specs.Listening.{Listener, Move, moved, taker_of}
+use Rattle.osi_session.specs.Joining.{kept_in, Taker, Hearing, respond_tsdu}
+use Rattle.osi_session.specs.Steps.{hearing_of_all}
+use Rattle.osi_session.specs.Sessions.{unit_in, takes_memory}
 use Rattle.osi_spdu.specs.Groups.{units_of}
-use Rattle.osi_message.specs.Reading.{Said, said_by_units}
-use Rattle.osi_session.specs.Moves.{Standing, Move}
-use Rattle.osi_session.specs.Respond.{respond}
-use Rattle.osi_session.proofs.FollowLaws.{on_err}
+use Rattle.osi_message.specs.Reading.{said_by_units}
+use Rattle.osi_message.specs.Words.{Words}
+use Rattle.osi_message.specs.Laws.Numbers.{units_numbered}
 use Rattle.osi_session.proofs.MoveLaws.{taken_is}
-use Rattle.osi_session.proofs.SessionLaws.{group_sound, group_begun}
-use Rattle.osi_message.specs.Written.{written}
-use Rattle.osi_session.specs.declared.state.State.{State}
-use Rattle.osi_session.specs.Phases.{is_wait_transport}
-use Rattle.osi_session.specs.Sessions.{shown_in, is_quiet}
-use Rattle.osi_session.specs.Steps.{outcome_of_all}
+use Rattle.osi_session.proofs.SessionMoves.{Holds, holds, leaves_words, leaves_as, of_value, room_of_value, takes_as}
 use Rattle.osi_session.proofs.sessions.Session.take.Goals as goal
 
 pub settle-requires-clause-sound : goal.settle-requires-clause-sound
-settle-requires-clause-sound c = group_sound c.self.inside.state (units_of c.args.group.now)
-    (outcome_of_all c.in_ok-reactions.reactions) (sym c.in_ok-reactions.ensures.outcome) c.self.invariant.0
+settle-requires-clause-sound c =
+    let words : Words = said_by_units (units_of c.args.group.now) in
+    let state_is : c.self.inside.state ≡ c.args.self.now.state = ap (λ (s : Listener). s.state) c.self.view_is in
+    let joined_is : option_copied c.as_ref.result ≡ c.args.self.now.joined = c.as_ref.ensures.value ∙ ap (λ (s : Listener). s.joined) c.self.view_is in
+    let want : Taker → Hearing = λ t. respond_tsdu t words in
+    let e = of_value want c.args.self.now c.self.inside.state (option_copied c.as_ref.result) c.in-Ok.reactions state_is joined_is c.in-Ok.ensures.heard in
+    let l : Listener = c.args.self.now in
+    let h : Holds l = holds l c.self.inside.state (option_and_then unit_in c.self.inside.waiting) c.self.inside.joined c.self.view_is
+    c.self.invariant.0 c.self.invariant.3 c.self.invariant.4 in
+    (leaves_as l (hearing_of_all l.joined c.in-Ok.reactions) (respond_tsdu (taker_of l) words) e (leaves_words l words h (units_numbered (units_of c.args.group.now)))).sound
 
 pub settle-requires-clause-begun : goal.settle-requires-clause-begun
 settle-requires-clause-begun c =
-    subst (λ (s : State). is_wait_transport c.in_ok-reactions.reactions.next.phase ≡ true → is_wait_transport s.phase ≡ true)
-    (ap (λ s. s.state) c.self.view_is)
-    (group_begun c.self.inside.state (said_by_units (units_of c.args.group.now)) (outcome_of_all c.in_ok-reactions.reactions) (sym c.in_ok-reactions.ensures.outcome))
+    let words : Words = said_by_units (units_of c.args.group.now) in
+    let state_is : c.self.inside.state ≡ c.args.self.now.state = ap (λ (s : Listener). s.state) c.self.view_is in
+    let joined_is : option_copied c.as_ref.result ≡ c.args.self.now.joined = c.as_ref.ensures.value ∙ ap (λ (s : Listener). s.joined) c.self.view_is in
+    let want : Taker → Hearing = λ t. respond_tsdu t words in
+    let e = of_value want c.args.self.now c.self.inside.state (option_copied c.as_ref.result) c.in-Ok.reactions state_is joined_is c.in-Ok.ensures.heard in
+    let l : Listener = c.args.self.now in
+    let h : Holds l = holds l c.self.inside.state (option_and_then unit_in c.self.inside.waiting) c.self.inside.joined c.self.view_is
+    c.self.invariant.0 c.self.invariant.3 c.self.invariant.4 in
+    (leaves_as l (hearing_of_all l.joined c.in-Ok.reactions) (respond_tsdu (taker_of l) words) e (leaves_words l words h (units_numbered (units_of c.args.group.now)))).begun
 
-pub returns-in_err-reactions-clause-memory : goal.returns-in_err-reactions-clause-memory
-returns-in_err-reactions-clause-memory c =
-    let said : Said = said_by_units (units_of c.args.group.now) in
-    let m = taken_is c.args.self.now said (respond c.self.inside.state said) (ap (λ (s : Standing). respond s.state said) (sym c.self.view_is)) in
-    on_err c.from_residual.result (subst (λ (mv : Move). is_quiet mv ≡ false) (sym m) c.in_err-reactions.ensures.err)
+pub settle-requires-clause-kept : goal.settle-requires-clause-kept
+settle-requires-clause-kept c =
+    let words : Words = said_by_units (units_of c.args.group.now) in
+    let state_is : c.self.inside.state ≡ c.args.self.now.state = ap (λ (s : Listener). s.state) c.self.view_is in
+    let joined_is : option_copied c.as_ref.result ≡ c.args.self.now.joined = c.as_ref.ensures.value ∙ ap (λ (s : Listener). s.joined) c.self.view_is in
+    let want : Taker → Hearing = λ t. respond_tsdu t words in
+    let e = of_value want c.args.self.now c.self.inside.state (option_copied c.as_ref.result) c.in-Ok.reactions state_is joined_is c.in-Ok.ensures.heard in
+    let l : Listener = c.args.self.now in
+    let h : Holds l = holds l c.self.inside.state (option_and_then unit_in c.self.inside.waiting) c.self.inside.joined c.self.view_is
+    c.self.invariant.0 c.self.invariant.3 c.self.invariant.4 in
+    (leaves_as l (hearing_of_all l.joined c.in-Ok.reactions) (respond_tsdu (taker_of l) words) e (leaves_words l words h (units_numbered (units_of c.args.group.now)))).phase
 
-pub returns-clause-state : goal.returns-clause-state
-returns-clause-state c =
-    let said : Said = said_by_units (units_of c.args.group.now) in
-    let m = taken_is c.args.self.now said (outcome_of_all c.in_ok-reactions.reactions)
-    (ap (λ (s : Standing). respond s.state said) (sym c.self.view_is) ∙ sym c.in_ok-reactions.ensures.outcome) in
-    subst (λ (mv : Move). OnOk c.settle.result (c.settle.new.self ≡ mv.next)) (sym m) c.settle.ensures.state
+pub settle-requires-clause-few : goal.settle-requires-clause-few
+settle-requires-clause-few c =
+    let words : Words = said_by_units (units_of c.args.group.now) in
+    let state_is : c.self.inside.state ≡ c.args.self.now.state = ap (λ (s : Listener). s.state) c.self.view_is in
+    let joined_is : option_copied c.as_ref.result ≡ c.args.self.now.joined = c.as_ref.ensures.value ∙ ap (λ (s : Listener). s.joined) c.self.view_is in
+    let want : Taker → Hearing = λ t. respond_tsdu t words in
+    let e = of_value want c.args.self.now c.self.inside.state (option_copied c.as_ref.result) c.in-Ok.reactions state_is joined_is c.in-Ok.ensures.heard in
+    let l : Listener = c.args.self.now in
+    let h : Holds l = holds l c.self.inside.state (option_and_then unit_in c.self.inside.waiting) c.self.inside.joined c.self.view_is
+    c.self.invariant.0 c.self.invariant.3 c.self.invariant.4 in
+    (leaves_as l (hearing_of_all l.joined c.in-Ok.reactions) (respond_tsdu (taker_of l) words) e (leaves_words l words h (units_numbered (units_of c.args.group.now)))).few
 
-pub returns-clause-shown : goal.returns-clause-shown
-returns-clause-shown c =
-    let said : Said = said_by_units (units_of c.args.group.now) in
-    let m = taken_is c.args.self.now said (outcome_of_all c.in_ok-reactions.reactions)
-    (ap (λ (s : Standing). respond s.state said) (sym c.self.view_is) ∙ sym c.in_ok-reactions.ensures.outcome) in
-    subst (λ (mv : Move). IfOk c.settle.result (λ t. shown_in t ≡ mv.shown)) (sym m) c.settle.ensures.shown
+pub take_all-requires : goal.take_all-requires
+take_all-requires c =
+    subst (λ (j : Option (List ℕ)). kept_in c.self.inside.state.phase j ≡ j) (sym c.as_ref.ensures.value) c.self.invariant.3
 
-pub returns-clause-reply : goal.returns-clause-reply
-returns-clause-reply c =
-    let said : Said = said_by_units (units_of c.args.group.now) in
-    let m = taken_is c.args.self.now said (outcome_of_all c.in_ok-reactions.reactions)
-    (ap (λ (s : Standing). respond s.state said) (sym c.self.view_is) ∙ sym c.in_ok-reactions.ensures.outcome) in
-    subst (λ (mv : Move). IfOk c.settle.result (λ t. t.reply ≡ option_map written mv.reply)) (sym m) c.settle.ensures.reply
+pub returns-in-Ok-clause-state : goal.returns-in-Ok-clause-state
+returns-in-Ok-clause-state c =
+    let words : Words = said_by_units (units_of c.args.group.now) in
+    let state_is : c.self.inside.state ≡ c.args.self.now.state = ap (λ (s : Listener). s.state) c.self.view_is in
+    let joined_is : option_copied c.as_ref.result ≡ c.args.self.now.joined = c.as_ref.ensures.value ∙ ap (λ (s : Listener). s.joined) c.self.view_is in
+    let want : Taker → Hearing = λ t. respond_tsdu t words in
+    let e = of_value want c.args.self.now c.self.inside.state (option_copied c.as_ref.result) c.in-Ok.reactions state_is joined_is c.in-Ok.ensures.heard in
+    (takes_as c.settle.result (moved c.args.self.now (hearing_of_all c.args.self.now.joined c.in-Ok.reactions)) _ c.args.self.now c.settle.new.self
+    (sym (taken_is c.args.self.now words (hearing_of_all c.args.self.now.joined c.in-Ok.reactions) (sym e))) c.settle.ensures).state
 
-pub returns-clause-closes : goal.returns-clause-closes
-returns-clause-closes c =
-    let said : Said = said_by_units (units_of c.args.group.now) in
-    let m = taken_is c.args.self.now said (outcome_of_all c.in_ok-reactions.reactions)
-    (ap (λ (s : Standing). respond s.state said) (sym c.self.view_is) ∙ sym c.in_ok-reactions.ensures.outcome) in
-    subst (λ (mv : Move). IfOk c.settle.result (λ t. t.closes ≡ mv.closes)) (sym m) c.settle.ensures.closes
+pub returns-in-Ok-clause-shown : goal.returns-in-Ok-clause-shown
+returns-in-Ok-clause-shown c =
+    let words : Words = said_by_units (units_of c.args.group.now) in
+    let state_is : c.self.inside.state ≡ c.args.self.now.state = ap (λ (s : Listener). s.state) c.self.view_is in
+    let joined_is : option_copied c.as_ref.result ≡ c.args.self.now.joined = c.as_ref.ensures.value ∙ ap (λ (s : Listener). s.joined) c.self.view_is in
+    let want : Taker → Hearing = λ t. respond_tsdu t words in
+    let e = of_value want c.args.self.now c.self.inside.state (option_copied c.as_ref.result) c.in-Ok.reactions state_is joined_is c.in-Ok.ensures.heard in
+    (takes_as c.settle.result (moved c.args.self.now (hearing_of_all c.args.self.now.joined c.in-Ok.reactions)) _ c.args.self.now c.settle.new.self
+    (sym (taken_is c.args.self.now words (hearing_of_all c.args.self.now.joined c.in-Ok.reactions) (sym e))) c.settle.ensures).shown
 
-pub returns-clause-memory : goal.returns-clause-memory
-returns-clause-memory c =
-    let said : Said = said_by_units (units_of c.args.group.now) in
-    let m = taken_is c.args.self.now said (outcome_of_all c.in_ok-reactions.reactions)
-    (ap (λ (s : Standing). respond s.state said) (sym c.self.view_is) ∙ sym c.in_ok-reactions.ensures.outcome) in
-    subst (λ (mv : Move). OnErr c.settle.result (is_quiet mv ≡ false)) (sym m) c.settle.ensures.memory
+pub returns-in-Ok-clause-reply : goal.returns-in-Ok-clause-reply
+returns-in-Ok-clause-reply c =
+    let words : Words = said_by_units (units_of c.args.group.now) in
+    let state_is : c.self.inside.state ≡ c.args.self.now.state = ap (λ (s : Listener). s.state) c.self.view_is in
+    let joined_is : option_copied c.as_ref.result ≡ c.args.self.now.joined = c.as_ref.ensures.value ∙ ap (λ (s : Listener). s.joined) c.self.view_is in
+    let want : Taker → Hearing = λ t. respond_tsdu t words in
+    let e = of_value want c.args.self.now c.self.inside.state (option_copied c.as_ref.result) c.in-Ok.reactions state_is joined_is c.in-Ok.ensures.heard in
+    (takes_as c.settle.result (moved c.args.self.now (hearing_of_all c.args.self.now.joined c.in-Ok.reactions)) _ c.args.self.now c.settle.new.self
+    (sym (taken_is c.args.self.now words (hearing_of_all c.args.self.now.joined c.in-Ok.reactions) (sym e))) c.settle.ensures).reply
+
+pub returns-in-Ok-clause-closes : goal.returns-in-Ok-clause-closes
+returns-in-Ok-clause-closes c =
+    let words : Words = said_by_units (units_of c.args.group.now) in
+    let state_is : c.self.inside.state ≡ c.args.self.now.state = ap (λ (s : Listener). s.state) c.self.view_is in
+    let joined_is : option_copied c.as_ref.result ≡ c.args.self.now.joined = c.as_ref.ensures.value ∙ ap (λ (s : Listener). s.joined) c.self.view_is in
+    let want : Taker → Hearing = λ t. respond_tsdu t words in
+    let e = of_value want c.args.self.now c.self.inside.state (option_copied c.as_ref.result) c.in-Ok.reactions state_is joined_is c.in-Ok.ensures.heard in
+    (takes_as c.settle.result (moved c.args.self.now (hearing_of_all c.args.self.now.joined c.in-Ok.reactions)) _ c.args.self.now c.settle.new.self
+    (sym (taken_is c.args.self.now words (hearing_of_all c.args.self.now.joined c.in-Ok.reactions) (sym e))) c.settle.ensures).closes
+
+pub returns-in-Ok-clause-memory : goal.returns-in-Ok-clause-memory
+returns-in-Ok-clause-memory c =
+    let words : Words = said_by_units (units_of c.args.group.now) in
+    let state_is : c.self.inside.state ≡ c.args.self.now.state = ap (λ (s : Listener). s.state) c.self.view_is in
+    let joined_is : option_copied c.as_ref.result ≡ c.args.self.now.joined = c.as_ref.ensures.value ∙ ap (λ (s : Listener). s.joined) c.self.view_is in
+    let want : Taker → Hearing = λ t. respond_tsdu t words in
+    let e = of_value want c.args.self.now c.self.inside.state (option_copied c.as_ref.result) c.in-Ok.reactions state_is joined_is c.in-Ok.ensures.heard in
+    (takes_as c.settle.result (moved c.args.self.now (hearing_of_all c.args.self.now.joined c.in-Ok.reactions)) _ c.args.self.now c.settle.new.self
+    (sym (taken_is c.args.self.now words (hearing_of_all c.args.self.now.joined c.in-Ok.reactions) (sym e))) c.settle.ensures).memory
+
+pub returns-in-Err-clause-memory : goal.returns-in-Err-clause-memory
+returns-in-Err-clause-memory c =
+    let words : Words = said_by_units (units_of c.args.group.now) in
+    let state_is : c.self.inside.state ≡ c.args.self.now.state = ap (λ (s : Listener). s.state) c.self.view_is in
+    let joined_is : option_copied c.as_ref.result ≡ c.args.self.now.joined = c.as_ref.ensures.value ∙ ap (λ (s : Listener). s.joined) c.self.view_is in
+    let want : Taker → Hearing = λ t. respond_tsdu t words in
+    let m = taken_is c.args.self.now words (want (taker_of c.args.self.now)) refl in
+    subst (λ (mv : Move). takes_memory c.args.self.now mv ≡ true) (sym m)
+    (room_of_value want c.args.self.now c.self.inside.state (option_copied c.as_ref.result) state_is joined_is c.in-Err.ensures.err)

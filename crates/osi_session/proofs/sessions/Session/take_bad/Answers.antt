@@ -1,61 +1,90 @@
-use Rattle.std.proofs.Common.{◌≡◌, ◌∙◌, ap, subst, sym, true, false, option_map}
-use Rattle.std.specs.Prelude.{IfOk, OnOk, OnErr}
-use Rattle.osi_session.specs.Moves.{Standing, Move}
-use Rattle.osi_session.specs.Respond.{Outcome, respond_fault}
+use Rattle.std.proofs.Common.{◌∙◌, refl, ap, sym}
+use Rattle.std.specs.Option.{option_and_then}
+use Rattle.osi_session.specs.Listening.{Listener, moved}
+use Rattle.osi_session.specs.Joining.{heard}
+use Rattle.osi_session.specs.Steps.{hearing_of_all}
+use Rattle.osi_session.specs.Sessions.{unit_in}
+use Rattle.osi_session.specs.Respond.{respond_fault}
 use Rattle.osi_session.proofs.MoveLaws.{unread_is}
-use Rattle.osi_session.proofs.TsduLaws.{fault_sound, fault_begun}
-use Rattle.osi_message.specs.Written.{written}
-use Rattle.osi_session.specs.declared.state.State.{State}
-use Rattle.osi_session.specs.Phases.{is_wait_transport}
-use Rattle.osi_session.specs.Sound.{IsSound}
-use Rattle.osi_session.specs.Sessions.{shown_in, is_quiet}
-use Rattle.osi_session.specs.Steps.{outcome_of_all}
+use Rattle.osi_session.proofs.SessionMoves.{Holds, holds, leaves_fault, leaves_as, of_heard, takes_as}
 use Rattle.osi_session.proofs.sessions.Session.take_bad.Goals as goal
 
 pub settle-requires-clause-sound : goal.settle-requires-clause-sound
 settle-requires-clause-sound c =
-    let e = c.of-reactions.ensures.outcome ∙ c.unread.ensures in
-    subst (λ (o : Outcome). IsSound o.next) (sym e) (fault_sound c.self.inside.state c.args.fault c.self.invariant.0)
+    let e = of_heard c.args.self.now.joined c.of.result c.of-heard.result (heard c.args.self.now.joined (respond_fault c.args.self.now.state c.args.fault))
+    c.of.ensures.outcome c.of.ensures.joined
+    (c.of-heard.ensures c.args.self.now.joined ∙ ap (heard c.args.self.now.joined) (c.unread.ensures ∙ ap (λ (s : Listener). respond_fault s.state c.args.fault) c.self.view_is)) in
+    let l : Listener = c.args.self.now in
+    let h : Holds l = holds l c.self.inside.state (option_and_then unit_in c.self.inside.waiting) c.self.inside.joined c.self.view_is
+    c.self.invariant.0 c.self.invariant.3 c.self.invariant.4 in
+    (leaves_as l (hearing_of_all l.joined c.of.result) (heard l.joined (respond_fault l.state c.args.fault)) e (leaves_fault l c.args.fault h)).sound
 
 pub settle-requires-clause-begun : goal.settle-requires-clause-begun
 settle-requires-clause-begun c =
-    let e = c.of-reactions.ensures.outcome ∙ c.unread.ensures in
-    subst (λ (s : State). is_wait_transport c.of-reactions.result.next.phase ≡ true → is_wait_transport s.phase ≡ true)
-    (ap (λ s. s.state) c.self.view_is)
-    (subst (λ (o : Outcome). is_wait_transport o.next.phase ≡ true → is_wait_transport c.self.inside.state.phase ≡ true) (sym e)
-    (fault_begun c.self.inside.state c.args.fault))
+    let e = of_heard c.args.self.now.joined c.of.result c.of-heard.result (heard c.args.self.now.joined (respond_fault c.args.self.now.state c.args.fault))
+    c.of.ensures.outcome c.of.ensures.joined
+    (c.of-heard.ensures c.args.self.now.joined ∙ ap (heard c.args.self.now.joined) (c.unread.ensures ∙ ap (λ (s : Listener). respond_fault s.state c.args.fault) c.self.view_is)) in
+    let l : Listener = c.args.self.now in
+    let h : Holds l = holds l c.self.inside.state (option_and_then unit_in c.self.inside.waiting) c.self.inside.joined c.self.view_is
+    c.self.invariant.0 c.self.invariant.3 c.self.invariant.4 in
+    (leaves_as l (hearing_of_all l.joined c.of.result) (heard l.joined (respond_fault l.state c.args.fault)) e (leaves_fault l c.args.fault h)).begun
+
+pub settle-requires-clause-kept : goal.settle-requires-clause-kept
+settle-requires-clause-kept c =
+    let e = of_heard c.args.self.now.joined c.of.result c.of-heard.result (heard c.args.self.now.joined (respond_fault c.args.self.now.state c.args.fault))
+    c.of.ensures.outcome c.of.ensures.joined
+    (c.of-heard.ensures c.args.self.now.joined ∙ ap (heard c.args.self.now.joined) (c.unread.ensures ∙ ap (λ (s : Listener). respond_fault s.state c.args.fault) c.self.view_is)) in
+    let l : Listener = c.args.self.now in
+    let h : Holds l = holds l c.self.inside.state (option_and_then unit_in c.self.inside.waiting) c.self.inside.joined c.self.view_is
+    c.self.invariant.0 c.self.invariant.3 c.self.invariant.4 in
+    (leaves_as l (hearing_of_all l.joined c.of.result) (heard l.joined (respond_fault l.state c.args.fault)) e (leaves_fault l c.args.fault h)).phase
+
+pub settle-requires-clause-few : goal.settle-requires-clause-few
+settle-requires-clause-few c =
+    let e = of_heard c.args.self.now.joined c.of.result c.of-heard.result (heard c.args.self.now.joined (respond_fault c.args.self.now.state c.args.fault))
+    c.of.ensures.outcome c.of.ensures.joined
+    (c.of-heard.ensures c.args.self.now.joined ∙ ap (heard c.args.self.now.joined) (c.unread.ensures ∙ ap (λ (s : Listener). respond_fault s.state c.args.fault) c.self.view_is)) in
+    let l : Listener = c.args.self.now in
+    let h : Holds l = holds l c.self.inside.state (option_and_then unit_in c.self.inside.waiting) c.self.inside.joined c.self.view_is
+    c.self.invariant.0 c.self.invariant.3 c.self.invariant.4 in
+    (leaves_as l (hearing_of_all l.joined c.of.result) (heard l.joined (respond_fault l.state c.args.fault)) e (leaves_fault l c.args.fault h)).few
 
 pub returns-clause-state : goal.returns-clause-state
 returns-clause-state c =
-    let e = c.of-reactions.ensures.outcome ∙ c.unread.ensures in
-    let m = unread_is c.args.self.now c.args.fault (outcome_of_all c.of-reactions.result)
-    (ap (λ (s : Standing). respond_fault s.state c.args.fault) (sym c.self.view_is) ∙ sym e) in
-    subst (λ (mv : Move). OnOk c.settle.result (c.settle.new.self ≡ mv.next)) (sym m) c.settle.ensures.state
+    let e = of_heard c.args.self.now.joined c.of.result c.of-heard.result (heard c.args.self.now.joined (respond_fault c.args.self.now.state c.args.fault))
+    c.of.ensures.outcome c.of.ensures.joined
+    (c.of-heard.ensures c.args.self.now.joined ∙ ap (heard c.args.self.now.joined) (c.unread.ensures ∙ ap (λ (s : Listener). respond_fault s.state c.args.fault) c.self.view_is)) in
+    (takes_as c.settle-2.result (moved c.args.self.now (hearing_of_all c.args.self.now.joined c.of.result)) _ c.args.self.now c.settle-2.new.self
+    (ap (moved c.args.self.now) e ∙ sym (unread_is c.args.self.now c.args.fault (respond_fault c.args.self.now.state c.args.fault) refl)) c.settle-2.ensures).state
 
 pub returns-clause-shown : goal.returns-clause-shown
 returns-clause-shown c =
-    let e = c.of-reactions.ensures.outcome ∙ c.unread.ensures in
-    let m = unread_is c.args.self.now c.args.fault (outcome_of_all c.of-reactions.result)
-    (ap (λ (s : Standing). respond_fault s.state c.args.fault) (sym c.self.view_is) ∙ sym e) in
-    subst (λ (mv : Move). IfOk c.settle.result (λ t. shown_in t ≡ mv.shown)) (sym m) c.settle.ensures.shown
+    let e = of_heard c.args.self.now.joined c.of.result c.of-heard.result (heard c.args.self.now.joined (respond_fault c.args.self.now.state c.args.fault))
+    c.of.ensures.outcome c.of.ensures.joined
+    (c.of-heard.ensures c.args.self.now.joined ∙ ap (heard c.args.self.now.joined) (c.unread.ensures ∙ ap (λ (s : Listener). respond_fault s.state c.args.fault) c.self.view_is)) in
+    (takes_as c.settle-2.result (moved c.args.self.now (hearing_of_all c.args.self.now.joined c.of.result)) _ c.args.self.now c.settle-2.new.self
+    (ap (moved c.args.self.now) e ∙ sym (unread_is c.args.self.now c.args.fault (respond_fault c.args.self.now.state c.args.fault) refl)) c.settle-2.ensures).shown
 
 pub returns-clause-reply : goal.returns-clause-reply
 returns-clause-reply c =
-    let e = c.of-reactions.ensures.outcome ∙ c.unread.ensures in
-    let m = unread_is c.args.self.now c.args.fault (outcome_of_all c.of-reactions.result)
-    (ap (λ (s : Standing). respond_fault s.state c.args.fault) (sym c.self.view_is) ∙ sym e) in
-    subst (λ (mv : Move). IfOk c.settle.result (λ t. t.reply ≡ option_map written mv.reply)) (sym m) c.settle.ensures.reply
+    let e = of_heard c.args.self.now.joined c.of.result c.of-heard.result (heard c.args.self.now.joined (respond_fault c.args.self.now.state c.args.fault))
+    c.of.ensures.outcome c.of.ensures.joined
+    (c.of-heard.ensures c.args.self.now.joined ∙ ap (heard c.args.self.now.joined) (c.unread.ensures ∙ ap (λ (s : Listener). respond_fault s.state c.args.fault) c.self.view_is)) in
+    (takes_as c.settle-2.result (moved c.args.self.now (hearing_of_all c.args.self.now.joined c.of.result)) _ c.args.self.now c.settle-2.new.self
+    (ap (moved c.args.self.now) e ∙ sym (unread_is c.args.self.now c.args.fault (respond_fault c.args.self.now.state c.args.fault) refl)) c.settle-2.ensures).reply
 
 pub returns-clause-closes : goal.returns-clause-closes
 returns-clause-closes c =
-    let e = c.of-reactions.ensures.outcome ∙ c.unread.ensures in
-    let m = unread_is c.args.self.now c.args.fault (outcome_of_all c.of-reactions.result)
-    (ap (λ (s : Standing). respond_fault s.state c.args.fault) (sym c.self.view_is) ∙ sym e) in
-    subst (λ (mv : Move). IfOk c.settle.result (λ t. t.closes ≡ mv.closes)) (sym m) c.settle.ensures.closes
+    let e = of_heard c.args.self.now.joined c.of.result c.of-heard.result (heard c.args.self.now.joined (respond_fault c.args.self.now.state c.args.fault))
+    c.of.ensures.outcome c.of.ensures.joined
+    (c.of-heard.ensures c.args.self.now.joined ∙ ap (heard c.args.self.now.joined) (c.unread.ensures ∙ ap (λ (s : Listener). respond_fault s.state c.args.fault) c.self.view_is)) in
+    (takes_as c.settle-2.result (moved c.args.self.now (hearing_of_all c.args.self.now.joined c.of.result)) _ c.args.self.now c.settle-2.new.self
+    (ap (moved c.args.self.now) e ∙ sym (unread_is c.args.self.now c.args.fault (respond_fault c.args.self.now.state c.args.fault) refl)) c.settle-2.ensures).closes
 
 pub returns-clause-memory : goal.returns-clause-memory
 returns-clause-memory c =
-    let e = c.of-reactions.ensures.outcome ∙ c.unread.ensures in
-    let m = unread_is c.args.self.now c.args.fault (outcome_of_all c.of-reactions.result)
-    (ap (λ (s : Standing). respond_fault s.state c.args.fault) (sym c.self.view_is) ∙ sym e) in
-    subst (λ (mv : Move). OnErr c.settle.result (is_quiet mv ≡ false)) (sym m) c.settle.ensures.memory
+    let e = of_heard c.args.self.now.joined c.of.result c.of-heard.result (heard c.args.self.now.joined (respond_fault c.args.self.now.state c.args.fault))
+    c.of.ensures.outcome c.of.ensures.joined
+    (c.of-heard.ensures c.args.self.now.joined ∙ ap (heard c.args.self.now.joined) (c.unread.ensures ∙ ap (λ (s : Listener). respond_fault s.state c.args.fault) c.self.view_is)) in
+    (takes_as c.settle-2.result (moved c.args.self.now (hearing_of_all c.args.self.now.joined c.of.result)) _ c.args.self.now c.settle-2.new.self
+    (ap (moved c.args.self.now) e ∙ sym (unread_is c.args.self.now c.args.fault (respond_fault c.args.self.now.state c.args.fault) refl)) c.settle-2.ensures).memory

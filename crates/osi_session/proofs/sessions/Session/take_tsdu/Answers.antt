@@ -1,46 +1,29 @@
-use Rattle.std.proofs.Common.{◌≡◌, ◌∷◌, ◌∙◌, map, ap, subst, sym, false, option_map, Result}
-use Rattle.osi_spdu.specs.declared.faults.SpduFault.{SpduFault}
-use Rattle.osi_message.specs.Reading.{Said, said_at}
-use Rattle.osi_message.specs.Written.{written}
-use Rattle.osi_session.specs.Moves.{Standing, Move}
-use Rattle.osi_session.specs.Respond.{respond_read}
-use Rattle.osi_session.specs.Sessions.{is_quiet}
-use Rattle.osi_session.specs.Shown.{shown_by}
-use Rattle.osi_session.proofs.DataLaws.{data_moves}
-use Rattle.osi_session.proofs.FollowLaws.{on_err}
-use Rattle.osi_session.proofs.MoveLaws.{came_is}
+use Rattle.std.proofs.Common.{ap}
+use Rattle.osi_message.specs.Reading.{said_at}
+use Rattle.osi_session.specs.Listening.{Listener}
+use Rattle.osi_session.proofs.DataLaws.{data_taken, data_refused}
 use Rattle.osi_session.proofs.sessions.Session.take_tsdu.Goals as goal
 
-pub returns-in_err-indication-clause-memory : goal.returns-in_err-indication-clause-memory
-returns-in_err-indication-clause-memory c =
-    let read : Result Said SpduFault = said_at c.args.tsdu.now in
-    let m = came_is c.args.self.now read (respond_read c.self.inside.state read) (ap (λ (s : Standing). respond_read s.state read) (sym c.self.view_is)) in
-    on_err c.from_residual.result (subst (λ (mv : Move). is_quiet mv ≡ false) (sym m) c.in_err-indication.ensures.err)
+pub returns-in-Ok-Some-clause-state : goal.returns-in-Ok-Some-clause-state
+returns-in-Ok-Some-clause-state c = (data_taken {E = Unit {0}} c.showing.result c.args.self.now c.self.inside.state c.self.inside.joined c.is_some.result (said_at c.args.tsdu.now) c.in-Ok-Some.field-0 c.in-Ok-Some.indication
+    (ap (λ (s : Listener). s.state) c.self.view_is) (ap (λ (s : Listener). s.joined) c.self.view_is) c.is_some.ensures c.in-Ok-Some.ensures.shown c.in-Ok-Some.field-0-is
+    c.showing.ensures.first c.showing.ensures.more c.showing.ensures.others).state
 
-pub returns-clause-state : goal.returns-clause-state
-returns-clause-state c =
-    let read : Result Said SpduFault = said_at c.args.tsdu.now in
-    let m = data_moves c.args.self.now c.self.inside.state read c.in_ok-indication.field-0 c.in-Some.indication (sym (ap (λ (s : Standing). s.state) c.self.view_is))
-    c.in_ok-indication.ensures.shown c.in-Some.is in
-    sym (ap (λ (mv : Move). mv.next) m)
+pub returns-in-Ok-Some-clause-shown : goal.returns-in-Ok-Some-clause-shown
+returns-in-Ok-Some-clause-shown c = (data_taken {E = Unit {0}} c.showing.result c.args.self.now c.self.inside.state c.self.inside.joined c.is_some.result (said_at c.args.tsdu.now) c.in-Ok-Some.field-0 c.in-Ok-Some.indication
+    (ap (λ (s : Listener). s.state) c.self.view_is) (ap (λ (s : Listener). s.joined) c.self.view_is) c.is_some.ensures c.in-Ok-Some.ensures.shown c.in-Ok-Some.field-0-is
+    c.showing.ensures.first c.showing.ensures.more c.showing.ensures.others).shown
 
-pub returns-clause-shown : goal.returns-clause-shown
-returns-clause-shown c =
-    let read : Result Said SpduFault = said_at c.args.tsdu.now in
-    let m = data_moves c.args.self.now c.self.inside.state read c.in_ok-indication.field-0 c.in-Some.indication (sym (ap (λ (s : Standing). s.state) c.self.view_is))
-    c.in_ok-indication.ensures.shown c.in-Some.is in
-    ap (λ l. shown_by c.in-Some.indication ∷ map shown_by l) c.new.ensures.items ∙ sym (ap (λ (mv : Move). mv.shown) m)
+pub returns-in-Ok-Some-clause-reply : goal.returns-in-Ok-Some-clause-reply
+returns-in-Ok-Some-clause-reply c = (data_taken {E = Unit {0}} c.showing.result c.args.self.now c.self.inside.state c.self.inside.joined c.is_some.result (said_at c.args.tsdu.now) c.in-Ok-Some.field-0 c.in-Ok-Some.indication
+    (ap (λ (s : Listener). s.state) c.self.view_is) (ap (λ (s : Listener). s.joined) c.self.view_is) c.is_some.ensures c.in-Ok-Some.ensures.shown c.in-Ok-Some.field-0-is
+    c.showing.ensures.first c.showing.ensures.more c.showing.ensures.others).reply
 
-pub returns-clause-reply : goal.returns-clause-reply
-returns-clause-reply c =
-    let read : Result Said SpduFault = said_at c.args.tsdu.now in
-    let m = data_moves c.args.self.now c.self.inside.state read c.in_ok-indication.field-0 c.in-Some.indication (sym (ap (λ (s : Standing). s.state) c.self.view_is))
-    c.in_ok-indication.ensures.shown c.in-Some.is in
-    sym (ap (λ (mv : Move). option_map written mv.reply) m)
+pub returns-in-Ok-Some-clause-closes : goal.returns-in-Ok-Some-clause-closes
+returns-in-Ok-Some-clause-closes c = (data_taken {E = Unit {0}} c.showing.result c.args.self.now c.self.inside.state c.self.inside.joined c.is_some.result (said_at c.args.tsdu.now) c.in-Ok-Some.field-0 c.in-Ok-Some.indication
+    (ap (λ (s : Listener). s.state) c.self.view_is) (ap (λ (s : Listener). s.joined) c.self.view_is) c.is_some.ensures c.in-Ok-Some.ensures.shown c.in-Ok-Some.field-0-is
+    c.showing.ensures.first c.showing.ensures.more c.showing.ensures.others).closes
 
-pub returns-clause-closes : goal.returns-clause-closes
-returns-clause-closes c =
-    let read : Result Said SpduFault = said_at c.args.tsdu.now in
-    let m = data_moves c.args.self.now c.self.inside.state read c.in_ok-indication.field-0 c.in-Some.indication (sym (ap (λ (s : Standing). s.state) c.self.view_is))
-    c.in_ok-indication.ensures.shown c.in-Some.is in
-    sym (ap (λ (mv : Move). mv.closes) m)
+pub returns-in-Err-clause-memory : goal.returns-in-Err-clause-memory
+returns-in-Err-clause-memory c = data_refused c.args.self.now c.self.inside.state c.self.inside.joined c.is_some.result (said_at c.args.tsdu.now)
+    (ap (λ (s : Listener). s.state) c.self.view_is) (ap (λ (s : Listener). s.joined) c.self.view_is) c.is_some.ensures c.in-Err.ensures.err

@@ -1,0 +1,214 @@
+-- The moves of a session in memory.
+use Rattle.std.proofs.Common.{◌≡◌, ◌∙◌, refl, sym, ap, subst, ℕ, ◌≤◌, ◌<◌, true, false, ◌&&◌, if◌then◌else◌, is_some, List, [], ◌∷◌, ◌++◌, length, map, Option, Some, None, option_map, Result, Ok, Err}
+use Rattle.std.proofs.lemmas.List.{append-nil}
+use Rattle.osi_spdu.specs.declared.faults.SpduFault.{SpduFault}
+use Rattle.osi_message.specs.Meanings.{Meaning}
+use Rattle.osi_message.specs.Numbered.{IsNumberedWord, AreNumberedWords}
+use Rattle.osi_message.specs.Reading.{said_at}
+use Rattle.osi_message.specs.declared.places.Place.{Place}
+use Rattle.osi_message.specs.declared.places.Place.TheVariants.{First, Middle, Last}
+use Rattle.osi_message.specs.Words.{Word, Words, part}
+use Rattle.osi_message.specs.Written.{written}
+use Rattle.osi_session.specs.declared.indications.Indication.{Indication}
+use Rattle.osi_session.specs.declared.joining.PartVerdict.TheVariants as is
+use Rattle.osi_session.specs.declared.grouping.Reactions.{Reactions}
+use Rattle.osi_session.specs.declared.hearing.Heard.{Heard}
+use Rattle.osi_session.specs.declared.hearing.Joined.{Joined}
+use Rattle.osi_session.specs.declared.state.State.{State}
+use Rattle.osi_session.specs.declared.taken.Taken.{Taken}
+use Rattle.osi_session.specs.Joining.{Taker, Hearing, kept_in, joined_octets, is_last, word_verdict, heard, respond_word, respond_tsdu, respond_came}
+use Rattle.osi_session.specs.Listening.{Listener, Move, in_state, moved, taker_of}
+use Rattle.osi_session.specs.Phases.{is_wait_transport, may_hold}
+use Rattle.osi_session.specs.Respond.{Outcome, nothing, shows, fine, respond_fault}
+use Rattle.osi_session.specs.Shown.{Data, shown_by}
+use Rattle.osi_session.specs.Sessions.{Takes, takes_memory}
+use Rattle.osi_session.specs.Sound.{IsSound}
+use Rattle.osi_session.specs.Steps.{hearing_of, hearing_of_all, outcome_of, outcome_of_all, shown_list, takes_room, told_of}
+use Rattle.osi_session.proofs.HearingLaws.{kept_held, part_dropped, fine_holds, first_is, middle_is, last_is, early_takes}
+use Rattle.osi_session.proofs.JoinedLaws.{InPhase, Few, kept_few, words_in_phase, words_few, octets_in_phase, octets_few}
+use Rattle.osi_session.proofs.TsduLaws.{words_sound, words_begun, octets_sound, octets_begun, fault_sound, fault_begun}
+use Rattle.osi_session.proofs.WordLaws.{kept_none, kept_twice, word_alone}
+
+-- a session stays as it is where its phase keeps what is joined
+pub stays : (l : Listener) → kept_in l.state.phase l.joined ≡ l.joined → l ≡ in_state l l.state
+stays l k = λ i. record { state = l.state; waiting = l.waiting; joined = sym k i }
+
+pub stays_in : (s next : State) (w : Option Meaning) (j : Option (List ℕ)) → kept_in next.phase j ≡ j →
+    (let l : Listener = record { state = s; waiting = w; joined = j } in let n : Listener = record { state = next; waiting = w; joined = j } in n ≡ in_state l next)
+stays_in s next w j k = λ i. record { state = next; waiting = w; joined = sym k i }
+
+-- what a TSDU takes, by the move that it is
+pub takes_as : {E : Type 0} (r : Result Taken E) (m n : Move) (old new : Listener) → m ≡ n → Takes r m old new → Takes r n old new
+takes_as r m n old new e t = subst (λ (x : Move). Takes r x old new) e t
+
+pub takes_nothing : {E : Type 0} (e : E) (l new : Listener) (m : Move) → new ≡ l → takes_memory l m ≡ true → (let r : Result Taken E = Err e in Takes r m l new)
+takes_nothing e l new m n h = record { state = tt; shown = tt; first = tt; reply = tt; closes = tt; err = n; memory = h }
+
+-- ---- what is true of a session in memory is true of what it hears
+
+pub record Holds (l : Listener) : Type 0 where
+  pub sound : IsSound l.state
+  pub phase : InPhase (taker_of l)
+  pub few : Few l.joined
+
+pub holds : (l : Listener) (s : State) (w : Option Meaning) (j : Option (List ℕ)) → (let v : Listener = record { state = s; waiting = w; joined = j } in v ≡ l)
+    → IsSound s → kept_in s.phase j ≡ j → length (joined_octets j) ≤ 1048572 → Holds l
+holds l s w j e sound phase few = subst Holds e (record { sound = sound; phase = phase; few = few })
+
+pub record Leaves (l : Listener) (h : Hearing) : Type 0 where
+  pub sound : IsSound h.next.state
+  pub begun : is_wait_transport h.next.state.phase ≡ true → is_wait_transport l.state.phase ≡ true
+  pub phase : InPhase h.next
+  pub few : Few h.next.joined
+
+pub leaves_words : (l : Listener) (words : Words) → Holds l → AreNumberedWords words → Leaves l (respond_tsdu (taker_of l) words)
+leaves_words l words h n = record {
+  sound = words_sound (taker_of l) words n h.sound;
+  begun = words_begun (taker_of l) words;
+  phase = words_in_phase (taker_of l) words h.phase;
+  few = words_few (taker_of l) words h.few;
+}
+
+pub leaves_word : (l : Listener) (w : Word) → Holds l → IsNumberedWord w → Leaves l (respond_word (taker_of l) w)
+leaves_word l w h n = subst (Leaves l) (word_alone (taker_of l) w) (leaves_words l (w ∷ []) h (n, tt))
+
+pub leaves_octets : (l : Listener) (tsdu : List ℕ) → Holds l → Leaves l (respond_came (taker_of l) (said_at tsdu))
+leaves_octets l tsdu h = record {
+  sound = octets_sound (taker_of l) tsdu _ refl h.sound;
+  begun = octets_begun (taker_of l) tsdu _ refl;
+  phase = octets_in_phase (taker_of l) tsdu _ refl h.phase;
+  few = octets_few (taker_of l) tsdu _ refl h.few;
+}
+
+pub leaves_fault : (l : Listener) (fault : SpduFault) → Holds l → Leaves l (heard l.joined (respond_fault l.state fault))
+leaves_fault l fault h = record {
+  sound = fault_sound l.state fault h.sound;
+  begun = fault_begun l.state fault;
+  phase = kept_twice (respond_fault l.state fault).next.phase l.joined;
+  few = kept_few (respond_fault l.state fault).next.phase l.joined h.few;
+}
+
+pub leaves_as : (l : Listener) (h k : Hearing) → h ≡ k → Leaves l k → Leaves l h
+leaves_as l h k e x = subst (Leaves l) (sym e) x
+
+-- ---- what was heard in memory, by the session's value
+
+pub of_heard : (j : Option (List ℕ)) (r : Reactions) (h : Heard) (want : Hearing) → outcome_of_all r ≡ outcome_of h.reaction → r.joined ≡ h.joined
+    → hearing_of j h.joined (outcome_of h.reaction) ≡ want → hearing_of_all j r ≡ want
+of_heard j r h want e f w = ap (λ (o : Outcome). hearing_of j r.joined o) e ∙ ap (λ (k : Joined). hearing_of j k (outcome_of h.reaction)) f ∙ w
+
+pub of_value : (want : Taker → Hearing) (l : Listener) (s : State) (j : Option (List ℕ)) (r : Reactions) → s ≡ l.state → j ≡ l.joined
+    → hearing_of_all j r ≡ want (record { state = s; joined = j }) → hearing_of_all l.joined r ≡ want (taker_of l)
+of_value want l s j r e f h =
+    subst (λ (k : Option (List ℕ)). hearing_of_all k r ≡ want (record { state = l.state; joined = k })) f
+    (subst (λ (x : State). hearing_of_all j r ≡ want (record { state = x; joined = j })) e h)
+
+pub room_of_value : (want : Taker → Hearing) (l : Listener) (s : State) (j : Option (List ℕ)) → s ≡ l.state → j ≡ l.joined
+    → takes_room j (want (record { state = s; joined = j })) ≡ true → takes_memory l (moved l (want (taker_of l))) ≡ true
+room_of_value want l s j e f h =
+    subst (λ (k : Option (List ℕ)). takes_room k (want (record { state = l.state; joined = k })) ≡ true) f
+    (subst (λ (x : State). takes_room j (want (record { state = x; joined = j })) ≡ true) e h)
+
+pub value_of : (want : Taker → Hearing) (l : Listener) (s : State) (j : Option (List ℕ)) (h : Hearing) → s ≡ l.state → j ≡ l.joined
+    → want (record { state = s; joined = j }) ≡ h → want (taker_of l) ≡ h
+value_of want l s j h e f k = let p : _ ≡ _ = (λ i. want (record { state = e i; joined = f i })) in sym p ∙ k
+
+pub of_place : (P : Taker → Type 0) (l : Listener) (s : State) (j : Option (List ℕ)) → s ≡ l.state → j ≡ l.joined → P (record { state = s; joined = j }) → P (taker_of l)
+of_place P l s j e f h =
+    subst (λ (k : Option (List ℕ)). P (record { state = l.state; joined = k })) f (subst (λ (x : State). P (record { state = x; joined = j })) e h)
+
+-- ---- what shows at most one thing, and sends nothing
+
+pub takes_shown : {E : Type 0} (t : Taken) (l new : Listener) (h : Hearing) → new ≡ (moved l h).next → shown_list t.first ≡ h.shown → t.more.items ≡ []
+    → (t.reply ≡ None) × (t.closes ≡ false) → h.reply ≡ None → h.closes ≡ false → (let r : Result Taken E = Ok t in Takes r (moved l h) l new)
+takes_shown t l new h n s m o r c = record {
+  state = n;
+  shown = ap (λ (more : List Indication). shown_list t.first ++ map shown_by more) m ∙ append-nil (shown_list t.first) ∙ s;
+  first = λ k. m;
+  reply = o.0 ∙ ap (option_map written) (sym r);
+  closes = o.1 ∙ sym c;
+  err = tt;
+  memory = tt;
+}
+
+-- ---- a part
+
+abbrev quietly : State → Option (List ℕ) → Hearing
+quietly s j = record { next = record { state = s; joined = j }; shown = []; reply = None; closes = false }
+
+abbrev showing : State → List ℕ → Hearing
+showing s o = record { next = record { state = s; joined = None }; shown = Data o ∷ []; reply = None; closes = false }
+
+early : (s : State) (j : Option (List ℕ)) → may_hold s.phase ≡ true → heard j (nothing s) ≡ quietly s j
+early s j m = let k = kept_held s.phase j m in λ i. record { next = record { state = s; joined = k i }; shown = []; reply = None; closes = false }
+
+last : (s : State) (o : List ℕ) → heard None (shows s (Data o)) ≡ showing s o
+last s o = let k = kept_none s.phase in λ i. record { next = record { state = s; joined = k i }; shown = Data o ∷ []; reply = None; closes = false }
+
+joins_early : {E : Type 0} (t : Taken) (s : State) (w : Option Meaning) (j k m : Option (List ℕ)) (h : Hearing) (o : List ℕ) → h ≡ quietly s (Some (joined_octets j ++ o))
+    → k ≡ Some (joined_octets j ++ o) → shown_list t.first ≡ [] → m ≡ k → t.more.items ≡ [] → (t.reply ≡ None) × (t.closes ≡ false)
+    → (let l : Listener = record { state = s; waiting = w; joined = j } in let r : Result Taken E = Ok t in let n : Listener = record { state = s; waiting = w; joined = m } in Takes r (moved l h) l n)
+joins_early t s w j k m h o e f shown n more others =
+    let l : Listener = record { state = s; waiting = w; joined = j } in
+    let x : Listener = record { state = s; waiting = w; joined = m } in
+    let g : m ≡ Some (joined_octets j ++ o) = n ∙ f in
+    takes_as (Ok t) (moved l (quietly s (Some (joined_octets j ++ o)))) (moved l h) l x (ap (moved l) (sym e))
+    (takes_shown t l x (quietly s (Some (joined_octets j ++ o))) (λ i. record { state = s; waiting = w; joined = g i }) shown more others refl refl)
+
+joins_last : {E : Type 0} (t : Taken) (s : State) (w : Option Meaning) (j k m : Option (List ℕ)) (h : Hearing) (o : List ℕ) → h ≡ showing s (joined_octets j ++ o)
+    → k ≡ Some (joined_octets j ++ o) → shown_list t.first ≡ (if is_some k then Data (joined_octets k) ∷ [] else []) → m ≡ None → t.more.items ≡ [] → (t.reply ≡ None) × (t.closes ≡ false)
+    → (let l : Listener = record { state = s; waiting = w; joined = j } in let r : Result Taken E = Ok t in let n : Listener = record { state = s; waiting = w; joined = m } in Takes r (moved l h) l n)
+joins_last t s w j k m h o e f shown n more others =
+    let l : Listener = record { state = s; waiting = w; joined = j } in
+    let x : Listener = record { state = s; waiting = w; joined = m } in
+    takes_as (Ok t) (moved l (showing s (joined_octets j ++ o))) (moved l h) l x (ap (moved l) (sym e))
+    (takes_shown t l x (showing s (joined_octets j ++ o)) (λ i. record { state = s; waiting = w; joined = n i })
+    (shown ∙ ap (λ (y : Option (List ℕ)). if is_some y then Data (joined_octets y) ∷ [] else []) f) more others refl refl)
+
+joins_placed : {E : Type 0} (place : Place) (t : Taken) (s : State) (w : Option Meaning) (j k m : Option (List ℕ)) (o : List ℕ)
+    → (let u : Taker = record { state = s; joined = j } in word_verdict u (part place o) ≡ fine) → k ≡ Some (joined_octets j ++ o)
+    → shown_list t.first ≡ (if is_last place && is_some k then Data (joined_octets k) ∷ [] else []) → m ≡ (if◌then◌else◌ {A = Option (List ℕ)} (is_last place) None k)
+    → t.more.items ≡ [] → (t.reply ≡ None) × (t.closes ≡ false)
+    → (let l : Listener = record { state = s; waiting = w; joined = j } in let r : Result Taken E = Ok t in let n : Listener = record { state = s; waiting = w; joined = m } in
+    Takes r (moved l (respond_word (taker_of l) (part place o))) l n)
+joins_placed First t s w j k m o e f shown n more others =
+    let u : Taker = record { state = s; joined = j } in
+    joins_early t s w j k m (respond_word u (part First o)) o (first_is u o e ∙ early s (Some (joined_octets j ++ o)) (fine_holds u First o e)) f shown n more others
+joins_placed Middle t s w j k m o e f shown n more others =
+    let u : Taker = record { state = s; joined = j } in
+    joins_early t s w j k m (respond_word u (part Middle o)) o (middle_is u o e ∙ early s (Some (joined_octets j ++ o)) (fine_holds u Middle o e)) f shown n more others
+joins_placed Last t s w j k m o e f shown n more others =
+    let u : Taker = record { state = s; joined = j } in
+    joins_last t s w j k m (respond_word u (part Last o)) o (last_is u o e ∙ last s (joined_octets j ++ o)) f shown n more others
+
+pub part_joins : {E : Type 0} (place : Place) (t : Taken) (l : Listener) (s : State) (w : Option Meaning) (j k m : Option (List ℕ)) (o : List ℕ)
+    → (let v : Listener = record { state = s; waiting = w; joined = j } in v ≡ l) → word_verdict (taker_of l) (part place o) ≡ fine → k ≡ Some (joined_octets j ++ o)
+    → shown_list t.first ≡ (if is_last place && is_some k then Data (joined_octets k) ∷ [] else []) → m ≡ (if◌then◌else◌ {A = Option (List ℕ)} (is_last place) None k)
+    → t.more.items ≡ [] → (t.reply ≡ None) × (t.closes ≡ false)
+    → (let r : Result Taken E = Ok t in let n : Listener = record { state = s; waiting = w; joined = m } in Takes r (moved l (respond_word (taker_of l) (part place o))) l n)
+part_joins {E = E} place t l s w j k m o view e f shown n more others =
+    subst (λ (x : Listener). let r : Result Taken E = Ok t in let y : Listener = record { state = s; waiting = w; joined = m } in Takes r (moved x (respond_word (taker_of x) (part place o))) x y) view
+    (joins_placed place t s w j k m o (subst (λ (x : Listener). word_verdict (taker_of x) (part place o) ≡ fine) (sym view) e) f shown n more others)
+
+part_room : (t : Taker) (place : Place) (o : List ℕ) → word_verdict t (part place o) ≡ fine → 0 < length o → takes_room t.joined (respond_word t (part place o)) ≡ true
+part_room t First o e h = subst (λ (x : Hearing). takes_room t.joined x ≡ true) (sym (first_is t o e)) (early_takes t.state t.joined o (fine_holds t First o e) h)
+part_room t Middle o e h = subst (λ (x : Hearing). takes_room t.joined x ≡ true) (sym (middle_is t o e)) (early_takes t.state t.joined o (fine_holds t Middle o e) h)
+part_room t Last o e h = subst (λ (x : Hearing). takes_room t.joined x ≡ true) (sym (last_is t o e)) refl
+
+-- a refused growth changes nothing
+pub part_refused : {E : Type 0} (e : E) (place : Place) (l : Listener) (s : State) (w : Option Meaning) (j k : Option (List ℕ)) (o : List ℕ)
+    → (let v : Listener = record { state = s; waiting = w; joined = j } in v ≡ l) → word_verdict (taker_of l) (part place o) ≡ fine → k ≡ j → 0 < length o
+    → (let r : Result Taken E = Err e in let n : Listener = record { state = s; waiting = w; joined = k } in Takes r (moved l (respond_word (taker_of l) (part place o))) l n)
+part_refused e place l s w j k o view fit same h =
+    let n : Listener = record { state = s; waiting = w; joined = k } in
+    let p : n ≡ record { state = s; waiting = w; joined = j } = λ i. record { state = s; waiting = w; joined = same i } in
+    takes_nothing e l n (moved l (respond_word (taker_of l) (part place o))) (p ∙ view) (part_room (taker_of l) place o fit h)
+
+-- a part that does nothing
+pub part_rests : {E : Type 0} (t : Taken) (l : Listener) (place : Place) (o : List ℕ) → kept_in l.state.phase l.joined ≡ l.joined
+    → is.Dropped ≡ told_of (word_verdict (taker_of l) (part place o)) → t.first ≡ None → t.more.items ≡ [] → (t.reply ≡ None) × (t.closes ≡ false)
+    → (let r : Result Taken E = Ok t in Takes r (moved l (respond_word (taker_of l) (part place o))) l l)
+part_rests t l place o k e first more others =
+    takes_as (Ok t) (moved l (heard l.joined (nothing l.state))) (moved l (respond_word (taker_of l) (part place o))) l l
+    (ap (moved l) (sym (part_dropped (taker_of l) place o e)))
+    (takes_shown t l l (heard l.joined (nothing l.state)) (stays l k) (ap shown_list first) more others refl refl)

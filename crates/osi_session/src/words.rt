@@ -1,0 +1,43 @@
+//! What a unit of a TSDU says.
+
+ghost use Rattle.std.specs.Prelude.{◌≡◌};
+ghost use Rattle.osi_session.specs.Joining.{is_restart_word};
+ghost use Rattle.osi_message.specs.Reading.{word};
+ghost use Rattle.osi_session.specs.Steps.{word_by};
+ghost use Rattle.osi_spdu.specs.Units.{said_by};
+
+use crate::taking::is_restart;
+use osi_message::{Message, Place};
+use osi_spdu::Spdu;
+
+/// What a unit says: a message, or a part of one Data.
+#[derive(Clone, Copy)]
+pub(crate) enum Word<'a> {
+    /// A message.
+    Says(Message<'a>),
+    /// A part of one Data, and its octets.
+    Part(Place, &'a [u8]),
+}
+
+impl<'a> Word<'a> {
+    /// What this unit says.
+    #[tactic(auto, unfolding(osi_message::specs::Reading::word))]
+    pub(crate) fn of(unit: &Spdu<'a>) -> Word<'a>
+        ensures { word_by result ≡ word (said_by unit.now) }
+    {
+        match Place::of(unit) {
+            None => Word::Says(Message::of(unit)),
+            Some(place) => Word::Part(place, unit.information()),
+        }
+    }
+
+    /// RS: a token item in front of it has no effect.
+    pub(crate) fn is_restart(&self) -> bool
+        ensures { result ≡ is_restart_word (word_by self.now) }
+    {
+        match self {
+            Word::Says(message) => is_restart(message),
+            Word::Part(..) => false,
+        }
+    }
+}
