@@ -16,6 +16,11 @@ pub record SayLaws : Type 0 where
   pub closed : (s : Standing) (i : Input) → (react s i).closes ≡ true → is_ended (after_input s i).state.phase ≡ true
   pub lost : (s : Standing) → is_ended (after_input s broken_off).state.phase ≡ true
 
+-- a session that is lost has ended
+pub lost_ends : (s : Standing) → is_ended (after_input s broken_off).state.phase ≡ true
+unfolding react
+lost_ends s = refl
+
 -- what a side has said and heard
 pub record Words : Type 0 where
   pub said : List Meaning

@@ -33,7 +33,7 @@ unfoldable pub use Rattle.osi_session.specs.Allowed.{met, allowed}
 pub use Rattle.osi_session.specs.Respond.{Outcome, nothing, si, has_no_effect, is_expected, Condition, lacks, is_acknowledgeable, is_restart, conditions, first_fault, is_acceptable, agreed_base, becomes, shown_for, reply_for, closes_for, good, bad, judged, passes_restarting, in_aborting, in_ended, is_resynchronize, lost}
 unfoldable pub use Rattle.osi_session.specs.Respond.{stands, take_expected, respond_unit}
 pub use Rattle.osi_session.specs.Sound.{AreOrdered, IsSound}
-pub use Rattle.osi_session.specs.Sessions.{awaiting, asking, opens}
+pub use Rattle.osi_session.specs.Sessions.{awaiting, asking}
 pub use Rattle.osi_message.specs.Reading.{alone}
 pub use Rattle.osi_session.specs.Respond.{respond}
 pub use Rattle.osi_session.specs.Moves.{Input, called as call_input, taken as taken_input, Standing, answered as call_move, moved as unit_move, after_inputs}

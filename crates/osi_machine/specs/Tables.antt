@@ -4,10 +4,9 @@
 use Rattle.std.specs.Prelude.{ℕ, ◌+◌, Bool, true, false, not, ◌||◌, if◌then◌else◌, List, [], ◌∷◌, ◌++◌, take, map, Option, Some, None, is_some}
 use Rattle.osi_session.specs.declared.faults.CallError.TheVariants as error
 use Rattle.osi_session.specs.Moves.{Input, called, taken, opened, refused, broken as broken_off, Standing, Move, react}
-use Rattle.osi_session.specs.Sessions.{awaits}
 use Rattle.osi_session.specs.Shown.{Shown}
 use Rattle.osi_message.specs.Sendable.{said_of}
-use Rattle.osi_machine.specs.Floor.{WaitTransport, Call, without_tokens}
+use Rattle.osi_machine.specs.Floor.{WaitTransport, Call, without_tokens, awaiting}
 use Rattle.osi_machine.specs.Core.{Offer, Side, Left, Right, offering, offer_sent}
 use Rattle.osi_machine.specs.Worlds.{Class, class_2, Message, unit, ask, agree, deny, bye, over, Transport, not_yet, waiting, linked, closing, gone, put, replied, Terms, accepts, denies}
 use Rattle.osi_machine.specs.Machine.{Ending, closed_here, Refusal, Step, connects, calls, delivers, breaks, ends, Entry, connect_answered, call_answered, shown_at, ended, connection_at, with_connection, is_given, refusal_by, learns, is_told}
@@ -29,6 +28,10 @@ turned l = record { own = l.peer; peer = l.own }
 -- the session of a caller, whose CN waits for the transport connection
 abbrev pub calling : Offer → Standing
 calling o = record { state = without_tokens WaitTransport (offering o); waiting = Some (offer_sent o) }
+
+-- that of a called end, which awaits a CN
+abbrev pub awaits : Standing
+awaits = record { state = awaiting; waiting = None }
 
 -- a caller asks for a transport connection
 abbrev pub asked_with : Bool → Offer → Line

@@ -242,7 +242,6 @@ pub fn what_is_heard_was_said()
 {
     session::where_a_call_is_accepted();
     session::what_closes_sends_nothing();
-    session::an_ended_session_stays_ended();
 }
 
 /// Examples, computed. A token that is given and not yet taken when the other side asks for a restart

@@ -7,12 +7,13 @@ use Rattle.osi_carrier.specs.Runs as runs
 use Rattle.osi_carrier.specs.State.{State as Carrier}
 use Rattle.osi_message.specs.Meanings.{Meaning}
 use Rattle.osi_session.specs.Calls.{Call as SessionCall}
-use Rattle.osi_session.specs.Moves.{Standing, called, react}
+use Rattle.osi_session.specs.Listening.{Listener, called, react}
 use Rattle.osi_session.specs.declared.faults.CallError.{CallError}
 use Rattle.osi_session.specs.declared.faults.CallError.TheVariants.{NoSuchConnection}
 use Rattle.osi_stack.specs.Calls.{has_given, connect_error, call_error, or_else, reply_refusal, session_refusal, phase_of, phase_at}
 use Rattle.osi_stack.specs.Runs.{quieted, hushed, put_back, Call, told_of, carried_in, AreAlike, AreAlikeByReference, LookAlike}
-use Rattle.osi_stack.specs.State.{Line, End, Holding, session_in, session_at}
+use Rattle.osi_stack.specs.State.{Line, End, Holding, session_in, session_at, joined_in}
+use Rattle.osi_stack.proofs.Keeps.{joined_quiet, kept_same}
 
 -- what waits is no matter to a session
 quieted_by : (r q : ℕ) (line : Line) (lines : Rows Line) (b : Bool) → (q == r) ≡ b → session_in (value_at r (quieted lines)) ≡ session_in (value_at r lines) →
@@ -25,10 +26,10 @@ quieted_at r [] = refl
 quieted_at r ((q, line) ∷ lines) = quieted_by r q line lines (q == r) refl (quieted_at r lines)
 
 session_hushed : (r : ℕ) (e : End) → session_at r (hushed e) ≡ session_at r e
-session_hushed r e = ap (λ (o : Option Standing). if is_some (value_at r e.carrier.live) then o else None) (quieted_at r e.lines)
+session_hushed r e = ap (λ (o : Option Listener). if is_some (value_at r e.carrier.live) then o else None) (quieted_at r e.lines)
 
 phase_hushed : (r : ℕ) (e : End) → phase_at r (hushed e) ≡ phase_at r e
-phase_hushed r e = ap (λ (o : Option Standing). if has_given r e.carrier then Some (phase_of o) else None) (session_hushed r e)
+phase_hushed r e = ap (λ (o : Option Listener). if has_given r e.carrier then Some (phase_of o) else None) (session_hushed r e)
 
 -- ---- the answer to a call
 
@@ -36,7 +37,7 @@ reply_apart : (o : List ℕ) (r : ℕ) (reply : Option Meaning) (c : Carrier) �
 reply_apart o r None c = refl
 reply_apart o r (Some unit) c = refl
 
-refusal_apart : (o : List ℕ) (r : ℕ) (session : Option Standing) (call : SessionCall) (c : Carrier) → session_refusal r session call (runs.put_back [] o c) ≡ session_refusal r session call c
+refusal_apart : (o : List ℕ) (r : ℕ) (session : Option Listener) (call : SessionCall) (c : Carrier) → session_refusal r session call (runs.put_back [] o c) ≡ session_refusal r session call c
 refusal_apart o r None call c = refl
 refusal_apart o r (Some session) call c = ap (or_else (react session (called call)).error) (reply_apart o r (react session (called call)).reply c)
 
@@ -44,7 +45,7 @@ pub call_apart : (o : List ℕ) (r : ℕ) (call : SessionCall) (e : End) → cal
 call_apart o r call e = ap (λ (x : Option CallError). if not (has_given r e.carrier) then Some NoSuchConnection else x) (refusal_apart o r (session_at r e) call e.carrier)
 
 pub call_hushed : (r : ℕ) (call : SessionCall) (e : End) → call_error r call (hushed e) ≡ call_error r call e
-call_hushed r call e = ap (λ (s : Option Standing). if not (has_given r e.carrier) then Some NoSuchConnection else session_refusal r s call e.carrier) (session_hushed r e)
+call_hushed r call e = ap (λ (s : Option Listener). if not (has_given r e.carrier) then Some NoSuchConnection else session_refusal r s call e.carrier) (session_hushed r e)
 
 call_same : (o : List ℕ) (r : ℕ) (call : SessionCall) (e : End) → call_error r call (put_back o (hushed e)) ≡ call_error r call e
 call_same o r call e = call_apart o r call (hushed e) ∙ call_hushed r call e
@@ -57,7 +58,9 @@ look_apart a b xs ys h = record {
   indications = h.told;
   octets = ap (λ (e : End). e.carrier.outgoing) h.end;
   ended = ap (λ (e : End). e.carrier.ended) h.end;
-  kept = ap (λ (l : List ℕ). length l + kept_in a.end.carrier.live) h.octets ∙ ap (λ (e : End). length b.held.octets + kept_in e.carrier.live) h.end;
+  kept = kept_same a b (put_back (flat_map carried_in xs) (hushed a.end)) (put_back (flat_map carried_in ys) (hushed b.end)) (ap length h.octets) refl
+      (sym (joined_quiet a.end.carrier.live a.end.lines)) refl (sym (joined_quiet b.end.carrier.live b.end.lines)) (ap (λ (e : End). kept_in e.carrier.live) h.end)
+      (ap (λ (e : End). joined_in e.carrier.live e.lines) h.end);
   requests = λ c. ap (connect_error c) h.end;
   answers = λ r call. sym (call_same (flat_map carried_in xs) r call a.end) ∙ ap (call_error r call) h.end ∙ call_same (flat_map carried_in ys) r call b.end;
 }

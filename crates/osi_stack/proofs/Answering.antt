@@ -12,9 +12,9 @@ use Rattle.osi_message.specs.Sendable.{IsSendable}
 use Rattle.osi_message.specs.Written.{written}
 use Rattle.osi_session.specs.Allowed.{Step, Answer, allowed, Passed}
 use Rattle.osi_session.specs.Calls.{Call, HasSerial}
-use Rattle.osi_session.specs.Moves.{Input, Standing, Move, called, answered, react, after_inputs}
+use Rattle.osi_session.specs.Listening.{Input, Listener, Move, called, answered, react, after_inputs}
 use Rattle.osi_session.specs.Phases.{is_wait_cn, may_abort}
-use Rattle.osi_session.specs.Runs.{HasNumbers, IsFresh}
+use Rattle.osi_session.specs.Runs.{HasNumbersInWords, IsFresh}
 use Rattle.osi_session.specs.Sessions.{awaiting, asking}
 use Rattle.osi_session.specs.Sound.{IsSound as IsSoundState}
 use Rattle.osi_session.specs.declared.faults.CallError.{CallError}
@@ -36,20 +36,20 @@ pub record Below : Type 0 where
   pub fresh_called : IsFresh awaiting
   pub fresh_asking : (o : Opening) → IsFresh (asking o)
   pub begins : (s : State) → IsFresh s → IsSoundState s
-  pub kept : (s : Standing) (inputs : List Input) → AllByRecursion HasNumbers inputs → IsSoundState s.state → IsSoundState (after_inputs s inputs).state
+  pub kept : (s : Listener) (inputs : List Input) → AllByRecursion HasNumbersInWords inputs → IsSoundState s.state → IsSoundState (after_inputs s inputs).state
   pub sendable : (s : State) (c : Call) (x : Step) → IsSoundState s → HasSerial c → allowed s c ≡ Ok x → IsSendable x.sent
   pub passed : (s : State) (c : Call) (x : Step) → allowed s c ≡ Ok x → Passed s c x
   pub phase : (s : State) (c : Call) (x : Step) → allowed s c ≡ Ok x → may_abort s.phase ≡ true
 
-sound_first : Below → (s : Standing) → (h : CameAbout s) → IsSoundState h.first.state
+sound_first : Below → (s : Listener) → (h : CameAbout s) → IsSoundState h.first.state
 sound_first law s h = elim h.fresh [
-  | inl is ↦ subst (λ (x : Standing). IsSoundState x.state) (sym is) (law.begins awaiting law.fresh_called)
-  | inr asked ↦ subst (λ (x : Standing). IsSoundState x.state) (sym asked.1) (law.begins (asking (opening_of asked.0)) (law.fresh_asking (opening_of asked.0)))
+  | inl is ↦ subst (λ (x : Listener). IsSoundState x.state) (sym is) (law.begins awaiting law.fresh_called)
+  | inr asked ↦ subst (λ (x : Listener). IsSoundState x.state) (sym asked.1) (law.begins (asking (opening_of asked.0)) (law.fresh_asking (opening_of asked.0)))
 ]
 
 -- the numbers of a session are in order
-sound_session : Below → (s : Standing) → CameAbout s → IsSoundState s.state
-sound_session law s h = subst (λ (x : Standing). IsSoundState x.state) h.is (law.kept h.first h.inputs h.numbered (sound_first law s h))
+sound_session : Below → (s : Listener) → CameAbout s → IsSoundState s.state
+sound_session law s h = subst (λ (x : Listener). IsSoundState x.state) h.is (law.kept h.first h.inputs h.numbered (sound_first law s h))
 
 -- ---- the carrier takes what a call sends
 
@@ -63,7 +63,7 @@ or_right : (a b : Bool) → b ≡ true → (a || b) ≡ true
 or_right true b h = refl
 or_right false b h = h
 
-answer_by : Below → (r : ℕ) (call : Call) (e : End) (s : Standing) (a : Answer) → allowed s.state call ≡ a → HasSerial call → e.carrier.ended ≡ None → Soundness e →
+answer_by : Below → (r : ℕ) (call : Call) (e : End) (s : Listener) (a : Answer) → allowed s.state call ≡ a → HasSerial call → e.carrier.ended ≡ None → Soundness e →
     kept_at r e.lines ≡ Some s → CameAbout s → move_refusal r (react s (called call)) e.carrier ≡ (react s (called call)).error
 unfolding react
 answer_by law r call e s (Err err) allows serial lasts sound here came =
@@ -77,13 +77,13 @@ answer_by law r call e s (Ok x) allows serial lasts sound here came =
     let opened = sound.links lasts r s here needs in
     ap (λ (m : Move). move_refusal r m e.carrier) is ∙ open_by (open_link r e.carrier) (written x.sent) opened short ∙ sym (ap (λ (m : Move). m.error) is)
 
-answered_at : Below → (r : ℕ) (call : Call) (e : End) (o : Option Standing) → session_at r e ≡ o → HasSerial call → e.carrier.ended ≡ None → Soundness e → AllCameAbout e.lines →
+answered_at : Below → (r : ℕ) (call : Call) (e : End) (o : Option Listener) → session_at r e ≡ o → HasSerial call → e.carrier.ended ≡ None → Soundness e → AllCameAbout e.lines →
     session_refusal r o call e.carrier ≡ session_error o call
 answered_at law r call e None at serial lasts sound all = refl
 answered_at law r call e (Some s) at serial lasts sound all =
     let there = line_of (is_some (value_at r e.carrier.live)) (value_at r e.lines) s at in
     let kept : kept_at r e.lines ≡ Some s = ap session_in there.1 ∙ there.2 in
-    let came : CameAbout s = subst (λ (o : Option Standing). IfSome o CameAbout) there.2 (at_line r there.0 e.lines all there.1) in
+    let came : CameAbout s = subst (λ (o : Option Listener). IfSome o CameAbout) there.2 (at_line CameAbout r there.0 e.lines all there.1) in
     answer_by law r call e s (allowed s.state call) refl serial lasts sound kept came
 
 pub answered_is : Below → (r : ℕ) (call : Call) (e : End) → HasSerial call → e.carrier.ended ≡ None → Soundness e → AllCameAbout e.lines → call_error r call e ≡ table_error r call e

@@ -2,7 +2,7 @@
 use Rattle.std.proofs.Common.{◌≡◌, ℕ, ◌==◌, Bool, true, false, ◌||◌, not, List, [], ◌∷◌, ◌++◌, Some, is_some, refl, sym, ap, ◌∙◌}
 use Rattle.osi_carrier.specs.Rows.{Rows, value_at}
 use Rattle.osi_carrier.specs.State.{Connection}
-use Rattle.osi_session.specs.Moves.{Standing}
+use Rattle.osi_session.specs.Listening.{Listener}
 use Rattle.osi_session.specs.Shown.{Shown}
 use Rattle.osi_stack.specs.Messages.{shown_of, all_waiting}
 use Rattle.osi_stack.specs.Rounds.{WaitForLive}
@@ -44,19 +44,19 @@ wait_push q c live ((r, line) ∷ lines) all =
 -- ---- the lines that are kept
 
 -- a new line joins, where indications wait and where all was told
-pub record Joins (live : Rows Connection) (q : ℕ) (s : Standing) (lines : Rows Line) : Type 0 where
+pub record Joins (live : Rows Connection) (q : ℕ) (s : Listener) (lines : Rows Line) : Type 0 where
   pub same : quieted (used_lines live (joined_lines q s lines)) ≡ quieted (used_lines live (joined_lines q s (quieted lines)))
   pub waiting : all_waiting (used_lines live (joined_lines q s lines)) ≡ all_waiting lines
   pub none : all_waiting (used_lines live (joined_lines q s (quieted lines))) ≡ []
 
-abbrev new_line : ℕ → Standing → ℕ × Line
+abbrev new_line : ℕ → Listener → ℕ × Line
 new_line q s = (q, record { session = Some s; waiting = [] })
 
-last_waiting : (live : Rows Connection) (q : ℕ) (s : Standing) (b : Bool) → is_used live (new_line q s) ≡ b → all_waiting (used_lines live (new_line q s ∷ [])) ≡ []
+last_waiting : (live : Rows Connection) (q : ℕ) (s : Listener) (b : Bool) → is_used live (new_line q s) ≡ b → all_waiting (used_lines live (new_line q s ∷ [])) ≡ []
 last_waiting live q s true e = ap all_waiting (used_by live (new_line q s) [] true e)
 last_waiting live q s false e = ap all_waiting (used_by live (new_line q s) [] false e)
 
-row_joins : (live : Rows Connection) (q p : ℕ) (s : Standing) (y : Line) (lines : Rows Line) (b : Bool) → is_some (value_at p live) ≡ b →
+row_joins : (live : Rows Connection) (q p : ℕ) (s : Listener) (y : Line) (lines : Rows Line) (b : Bool) → is_some (value_at p live) ≡ b →
     (is_some (value_at p live) || not (line_waits y)) ≡ true → Joins live q s lines → Joins live q s ((p, y) ∷ lines)
 row_joins live q p s y lines true e may j =
     let used : is_used live (p, y) ≡ true = ap (λ x. x || line_waits y) e in
@@ -80,7 +80,7 @@ row_joins live q p s y lines false e may j =
       none = ap all_waiting hushed ∙ j.none;
     }
 
-pub joins_alike : (live : Rows Connection) (q : ℕ) (s : Standing) (lines : Rows Line) → WaitForLive live lines → Joins live q s lines
+pub joins_alike : (live : Rows Connection) (q : ℕ) (s : Listener) (lines : Rows Line) → WaitForLive live lines → Joins live q s lines
 joins_alike live q s [] all = record {
   same = refl;
   waiting = last_waiting live q s (is_used live (new_line q s)) refl;

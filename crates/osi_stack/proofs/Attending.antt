@@ -4,7 +4,7 @@ use Rattle.osi_tpkt.specs.Stream.{ArePackets}
 use Rattle.osi_tpkt.specs.declared.cutting.Fed.{Fed}
 use Rattle.osi_carrier.specs.declared.ends.EndReason.{EndReason}
 use Rattle.osi_carrier.specs.declared.ends.EndReason.TheVariants.{Broken, NoMemory}
-use Rattle.osi_session.specs.Moves.{Input}
+use Rattle.osi_session.specs.Listening.{Input}
 use Rattle.osi_stack.specs.Calls.{connects, breaks}
 use Rattle.osi_stack.specs.Feeding.{Goes, Feeds}
 use Rattle.osi_stack.specs.Hearing.{ends, hears_times, with_events, with_carrier, Starves}

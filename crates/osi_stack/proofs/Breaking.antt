@@ -6,7 +6,7 @@ use Rattle.std.proofs.lemmas.List.Elements.{filter-append}
 use Rattle.std.specs.List.{flat_map}
 use Rattle.osi_carrier.specs.Rows.{Rows, value_at}
 use Rattle.osi_carrier.specs.declared.ends.EndReason.TheVariants.{Broken}
-use Rattle.osi_session.specs.Moves.{Standing}
+use Rattle.osi_session.specs.Listening.{Listener}
 use Rattle.osi_session.specs.Shown.{Shown}
 use Rattle.osi_stack.specs.Calls.{breaks}
 use Rattle.osi_stack.specs.Hearing.{ends, shown_at_loss, all_lost}
@@ -100,7 +100,7 @@ broken_apart a b xs ys apart others h = record {
   end = broken_end (flat_map carried_in xs) (flat_map carried_in ys) a.end b.end h.end;
   told = λ r. lost_told r (flat_map told_in xs) a.end.lines apart
       ∙ ap (λ (l : List (ℕ × Shown)). l ++ shown_of r (shown_at_loss (kept_at r a.end.lines))) (ap (told_of r) h.told)
-      ∙ ap (λ (s : Option Standing). told_of r (flat_map told_in ys ++ all_waiting b.end.lines) ++ shown_of r (shown_at_loss s)) (kept_alike a b xs ys h r)
+      ∙ ap (λ (s : Option Listener). told_of r (flat_map told_in ys ++ all_waiting b.end.lines) ++ shown_of r (shown_at_loss s)) (kept_alike a b xs ys h r)
       ∙ sym (lost_told r (flat_map told_in ys) b.end.lines others);
 }
 

@@ -7,7 +7,7 @@ use Rattle.osi_carrier.specs.Packets.{Carrying}
 use Rattle.osi_carrier.specs.Rows.{Rows, value_at, place_of, put}
 use Rattle.osi_carrier.specs.State.{State as Carrier}
 use Rattle.osi_session.specs.Calls.{Call}
-use Rattle.osi_session.specs.Moves.{Input, Standing}
+use Rattle.osi_session.specs.Listening.{Input, Listener}
 use Rattle.osi_session.specs.declared.faults.CallError.{CallError}
 use Rattle.osi_stack.specs.Calls.{session_refusal, session_error, Refuses}
 use Rattle.osi_stack.specs.Moving.{line_by, carrier_by, by_line, to_session}
@@ -83,4 +83,4 @@ pub refused_at : {A : Type 0} (result : Result A CallError) (r : ℕ) (rows : Ro
     IfErr result (λ e. Refuses e (session_error (session_in (value_at r rows)) call) (session_refusal r (session_in (value_at r rows)) call c))
 refused_at result r rows i row call c e here h =
     subst (λ (o : Option CallError). IfErr result (λ e. Refuses e (session_error (session_in (value_at r rows)) call) o)) (refusal_at r rows i row call c e here)
-    (subst (λ (o : Option Standing). IfErr result (λ e. Refuses e (session_error o call) (session_refusal row.0 row.1.session call c))) (session_here r rows i row e here) h)
+    (subst (λ (o : Option Listener). IfErr result (λ e. Refuses e (session_error o call) (session_refusal row.0 row.1.session call c))) (session_here r rows i row e here) h)

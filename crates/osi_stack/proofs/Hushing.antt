@@ -3,7 +3,7 @@ use Rattle.std.proofs.Common.{◌≡◌, ℕ, ◌==◌, Bool, true, false, List,
 use Rattle.std.proofs.lemmas.List.{append-nil}
 use Rattle.osi_carrier.specs.Rows.{Rows, value_at, put}
 use Rattle.osi_session.specs.Calls.{Call as SessionCall}
-use Rattle.osi_session.specs.Moves.{Input, Standing, called, react}
+use Rattle.osi_session.specs.Listening.{Input, Listener, called, react}
 use Rattle.osi_session.specs.Shown.{Shown}
 use Rattle.osi_stack.specs.Calls.{call_error}
 use Rattle.osi_stack.specs.Messages.{shown_of, all_waiting}
@@ -46,7 +46,7 @@ put_quieted : (r : ℕ) (x y : Line) (lines : Rows Line) → hush x ≡ hush y �
 put_quieted r x y [] same = refl
 put_quieted r x y ((q, line) ∷ lines) same = put_quieted_by r q x y line lines (q == r) refl same (put_quieted r x y lines same)
 
-line_hushed : (line : Line) (session : Option Standing) (input : Input) → hush (line_by line session input) ≡ hush (line_by (hush line) session input)
+line_hushed : (line : Line) (session : Option Listener) (input : Input) → hush (line_by line session input) ≡ hush (line_by (hush line) session input)
 line_hushed line None input = refl
 line_hushed line (Some session) input = refl
 

@@ -12,7 +12,7 @@ use Rattle.osi_carrier.specs.Runs.Act.{packet, user}
 use Rattle.osi_carrier.specs.Runs.UserCall.{sends, closes}
 use Rattle.osi_carrier.specs.State.{State as Carrier}
 use Rattle.osi_carrier.specs.declared.faults.SendError.{SendError}
-use Rattle.osi_session.specs.Moves.{Input, Standing, opened, react}
+use Rattle.osi_session.specs.Listening.{Input, Listener, opened, react}
 use Rattle.osi_stack.specs.Hearing.{opens, hears, hears_first, hears_next, hears_times, hears_all, with_events, with_carrier, all_lost, concludes, attends, after_packet}
 use Rattle.osi_stack.specs.Moving.{line_by, carrier_by, by_line, to_session}
 use Rattle.osi_stack.specs.Runs.{put_back}
@@ -45,7 +45,7 @@ module _ (o : List ℕ) where
   apart_answers true r tsdu c = apart_closed r 128 c
   apart_answers false r tsdu c = apart_some r tsdu c
 
-  apart_carrier : (r : ℕ) (session : Option Standing) (input : Input) (c : Carrier) → carrier_by r session input (behind c) ≡ behind (carrier_by r session input c)
+  apart_carrier : (r : ℕ) (session : Option Listener) (input : Input) (c : Carrier) → carrier_by r session input (behind c) ≡ behind (carrier_by r session input c)
   apart_carrier r None input c = refl
   apart_carrier r (Some session) input c = apart_answers (react session input).closes r _ c
 

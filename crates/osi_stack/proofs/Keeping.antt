@@ -11,7 +11,7 @@ use Rattle.osi_carrier.specs.declared.faults.SendError.{SendError}
 use Rattle.osi_class.specs.Link.{Standing as Link}
 use Rattle.osi_class.specs.declared.terms.Class.{Class}
 use Rattle.osi_class.specs.declared.terms.Class.TheVariants.{Zero, Two}
-use Rattle.osi_session.specs.Moves.{Input, Standing, opened, react}
+use Rattle.osi_session.specs.Listening.{Input, Listener, opened, react}
 use Rattle.osi_stack.specs.Hearing.{opens, hears}
 use Rattle.osi_stack.specs.Moving.{carrier_by, by_line, to_session}
 use Rattle.osi_stack.specs.State.{Line, End}
@@ -55,7 +55,7 @@ answers_keep_by : (closing : Bool) (r : ℕ) (tsdu : Option (List ℕ)) (c : Car
 answers_keep_by true r tsdu c = closed_keeps_by r 128 (open_link r c) c refl
 answers_keep_by false r tsdu c = some_keeps r tsdu c
 
-carrier_keeps : (r : ℕ) (o : Option Standing) (input : Input) (c : Carrier) → Keeps c (carrier_by r o input c)
+carrier_keeps : (r : ℕ) (o : Option Listener) (input : Input) (c : Carrier) → Keeps c (carrier_by r o input c)
 carrier_keeps r None input c = same c
 carrier_keeps r (Some session) input c = answers_keep_by (react session input).closes r _ c
 

@@ -25,6 +25,10 @@ pub mod Empties
 pub mod Opened
 pub mod Ordering
 pub mod InFront
+pub mod Keeps
+pub mod Parted
+pub mod Gone
+pub mod Joinings
 pub mod Accounts
 pub mod Overs
 pub mod Runs

@@ -17,8 +17,9 @@ use Rattle.osi_carrier.proofs.ToldOpen.{sent_opens, closed_opens}
 use Rattle.osi_class.specs.Link.{Standing as Link}
 use Rattle.osi_class.specs.declared.terms.Class.{Class}
 use Rattle.osi_class.specs.declared.terms.Class.TheVariants.{Zero, Two}
-use Rattle.osi_session.specs.Moves.{Input, Standing, opened, refused, broken, came, came_as, react}
-use Rattle.osi_message.specs.Reading.{Said, said_at}
+use Rattle.osi_session.specs.Listening.{Input, Listener, opened, refused, broken, came, came_as, react}
+use Rattle.osi_message.specs.Reading.{said_at}
+use Rattle.osi_message.specs.Words.{Words}
 use Rattle.osi_spdu.specs.declared.faults.SpduFault.{SpduFault}
 use Rattle.osi_session.specs.Phases.{is_ended}
 use Rattle.osi_session.specs.Sessions.{awaits}
@@ -35,11 +36,11 @@ use Rattle.osi_stack.proofs.Moves.{lost_at}
 
 -- what the tables of sessions say
 pub record SessionLaws : Type 0 where
-  pub closed : (s : Standing) (input : Input) → (react s input).closes ≡ true → is_ended (react s input).next.state.phase ≡ true
-  pub ended : (s : Standing) (input : Input) → is_ended s.state.phase ≡ true → is_ended (react s input).next.state.phase ≡ true
-  pub linked : (s : Standing) (input : Input) → (input ≡ opened → ⊥) → needs_link (react s input).next.state.phase ≡ true → needs_link s.state.phase ≡ true
+  pub closed : (s : Listener) (input : Input) → (react s input).closes ≡ true → is_ended (react s input).next.state.phase ≡ true
+  pub ended : (s : Listener) (input : Input) → is_ended s.state.phase ≡ true → is_ended (react s input).next.state.phase ≡ true
+  pub linked : (s : Listener) (input : Input) → (input ≡ opened → ⊥) → needs_link (react s input).next.state.phase ≡ true → needs_link s.state.phase ≡ true
   -- once it is there
-  pub begun : (s : Standing) → needs_link (react s opened).next.state.phase ≡ true → needs_link s.state.phase ≡ false → is_ended s.state.phase ≡ false
+  pub begun : (s : Listener) → needs_link (react s opened).next.state.phase ≡ true → needs_link s.state.phase ≡ false → is_ended s.state.phase ≡ false
   pub unneeded : (p : Phase) → is_ended p ≡ true → needs_link p ≡ false
 
 -- ---- what a session does to the carrier
@@ -160,14 +161,14 @@ later_false r (told.faulted q fault) rest h = h
 
 -- ---- what is true of one reference while events wait
 
-pub record HasClosed (r : ℕ) (o : Option Standing) (c : Carrier) : Type 0 where
+pub record HasClosed (r : ℕ) (o : Option Listener) (c : Carrier) : Type 0 where
   pub live : IsSome (value_at r c.live)
-  pub session : Standing
+  pub session : Listener
   pub is : o ≡ Some session
   pub ended : is_ended session.state.phase ≡ true
 
-pub record IsLinked (r : ℕ) (o : Option Standing) (events : List Happening) (c : Carrier) : Type 0 where
-  pub needed : (s : Standing) → o ≡ Some s → needs_link s.state.phase ≡ true → open_after r true events ≡ true → is_open r c ≡ true
+pub record IsLinked (r : ℕ) (o : Option Listener) (events : List Happening) (c : Carrier) : Type 0 where
+  pub needed : (s : Listener) → o ≡ Some s → needs_link s.state.phase ≡ true → open_after r true events ≡ true → is_open r c ≡ true
   pub fresh : (open_after r false events ≡ true → is_open r c ≡ true) ⊎ HasClosed r o c
 
 -- an event for another connection
@@ -182,7 +183,7 @@ event_other (told.tsdu q octets) r b rest ne = refl
 event_other (told.closed q reason) r b rest ne = ap (λ x. open_after r (b && not x) rest) (unlike q r ne) ∙ ap (λ x. open_after r x rest) (and_true b)
 event_other (told.faulted q fault) r b rest ne = ap (λ x. open_after r (b && not x) rest) (unlike q r ne) ∙ ap (λ x. open_after r x rest) (and_true b)
 
-other_linked : (event : Happening) (rest : List Happening) (r : ℕ) (o : Option Standing) (c d : Carrier) → r ≢ told_of event → is_open r d ≡ is_open r c →
+other_linked : (event : Happening) (rest : List Happening) (r : ℕ) (o : Option Listener) (c d : Carrier) → r ≢ told_of event → is_open r d ≡ is_open r c →
     (IsSome (value_at r c.live) → IsSome (value_at r d.live)) → IsLinked r o (event ∷ rest) c → IsLinked r o rest d
 other_linked event rest r o c d ne same stays l = record {
   needed = λ s is n h. same ∙ l.needed s is n (event_other event r true rest ne ∙ h);
@@ -193,7 +194,7 @@ other_linked event rest r o c d ne same stays l = record {
 }
 
 -- no session is there
-none_linked : (event : Happening) (rest : List Happening) (r : ℕ) (o : Option Standing) (c : Carrier) → o ≡ None → IsLinked r o (event ∷ rest) c → IsLinked r o rest c
+none_linked : (event : Happening) (rest : List Happening) (r : ℕ) (o : Option Listener) (c : Carrier) → o ≡ None → IsLinked r o (event ∷ rest) c → IsLinked r o rest c
 none_linked event rest r o c none l = record {
   needed = λ s is n h. let no : None ≡ Some s = sym none ∙ is in cc;
   fresh = elim l.fresh [
@@ -203,21 +204,21 @@ none_linked event rest r o c none l = record {
 }
 
 -- the session there made its move
-here_linked : SessionLaws → (q : ℕ) (s : Standing) (input : Input) (event : Happening) (rest : List Happening) (c d : Carrier) (b : Bool) → (react s input).closes ≡ b →
+here_linked : SessionLaws → (q : ℕ) (s : Listener) (input : Input) (event : Happening) (rest : List Happening) (c d : Carrier) (b : Bool) → (react s input).closes ≡ b →
     Answered q (react s input).closes c d → d.ended ≡ None →
     (needs_link (react s input).next.state.phase ≡ true → open_after q true rest ≡ true → is_open q c ≡ true) →
     IsLinked q (Some s) (event ∷ rest) c → IsLinked q (Some (react s input).next) rest d
 here_linked laws q s input event rest c d false e a over needs l = record {
   needed = λ t is n h.
       let same : (react s input).next ≡ t = cc in
-      a.here e ∙ needs (ap (λ (x : Standing). needs_link x.state.phase) same ∙ n) h;
+      a.here e ∙ needs (ap (λ (x : Listener). needs_link x.state.phase) same ∙ n) h;
   fresh = elim l.fresh [
     | inl f ↦ inl (λ h. a.here e ∙ f (later_false q event rest h))
     | inr k ↦ inr (let same : k.session ≡ s = cc k.is in record {
       live = a.stays over q k.live;
       session = (react s input).next;
       is = refl;
-      ended = laws.ended s input (ap (λ (x : Standing). is_ended x.state.phase) (sym same) ∙ k.ended);
+      ended = laws.ended s input (ap (λ (x : Listener). is_ended x.state.phase) (sym same) ∙ k.ended);
     })
   ];
 }
@@ -225,7 +226,7 @@ here_linked laws q s input event rest c d true e a over needs l = record {
   needed = λ t is n h.
       let same : (react s input).next ≡ t = cc in
       let none = laws.unneeded (react s input).next.state.phase (laws.closed s input e) in
-      both (needs_link (react s input).next.state.phase) (ap (λ (x : Standing). needs_link x.state.phase) same ∙ n) none;
+      both (needs_link (react s input).next.state.phase) (ap (λ (x : Listener). needs_link x.state.phase) same ∙ n) none;
   fresh = elim (a.closing_here e over) [
     | inr live ↦ inr (record { live = live; session = (react s input).next; is = refl; ended = laws.closed s input e })
     | inl still ↦ elim l.fresh [
@@ -238,7 +239,7 @@ here_linked laws q s input event rest c d true e a over needs l = record {
 -- ---- what hearing does to the session of a reference
 
 pub record HasMoved (q : ℕ) (input : Input) (old new : End) : Type 0 where
-  pub session : Standing
+  pub session : Listener
   pub was : kept_at q old.lines ≡ Some session
   pub is : kept_at q new.lines ≡ Some (react session input).next
   pub others : (r : ℕ) → r ≢ q → kept_at r new.lines ≡ kept_at r old.lines
@@ -251,10 +252,10 @@ pub record HasRested (q : ℕ) (old new : End) : Type 0 where
 abbrev pub Hearing : ℕ → Input → End → End → Type 0
 Hearing q input old new = HasMoved q input old new ⊎ HasRested q old new
 
-line_hears : (q : ℕ) (input : Input) (e : End) (line : Line) (o : Option Standing) → value_at q e.lines ≡ Some line → line.session ≡ o → Hearing q input e (by_line q (Some line) input e)
+line_hears : (q : ℕ) (input : Input) (e : End) (line : Line) (o : Option Listener) → value_at q e.lines ≡ Some line → line.session ≡ o → Hearing q input e (by_line q (Some line) input e)
 line_hears q input e line None here is = inr (record {
   none = ap session_in here ∙ is;
-  same = ap (λ (x : Option Standing). record { carrier = carrier_by q x input e.carrier; lines = put q (line_by line x input) e.lines }) is
+  same = ap (λ (x : Option Listener). record { carrier = carrier_by q x input e.carrier; lines = put q (line_by line x input) e.lines }) is
       ∙ ap (λ (l : Rows Line). record { carrier = e.carrier; lines = l }) (put_same q line e.lines here);
 })
 line_hears q input e line (Some s) here is =
@@ -262,9 +263,9 @@ line_hears q input e line (Some s) here is =
     inl (record {
       session = s;
       was = ap session_in here ∙ is;
-      is = ap session_in (put_here q after line e.lines here) ∙ ap (λ (x : Option Standing). (line_by line x input).session) is;
+      is = ap session_in (put_here q after line e.lines here) ∙ ap (λ (x : Option Listener). (line_by line x input).session) is;
       others = λ r ne. ap session_in (put_other r q after e.lines ne);
-      answered = subst (λ (x : Option Standing). Answered q (react s input).closes e.carrier (carrier_by q x input e.carrier)) (sym is)
+      answered = subst (λ (x : Option Listener). Answered q (react s input).closes e.carrier (carrier_by q x input e.carrier)) (sym is)
           (answered_by q (react s input).closes (option_map written (react s input).reply) e.carrier);
     })
 
@@ -280,17 +281,17 @@ abbrev pub AllLinked : List Happening → End → Type 0
 AllLinked events e = (r : ℕ) → IsLinked r (kept_at r e.lines) events e.carrier
 
 moved_linked : SessionLaws → (q : ℕ) (input : Input) (event : Happening) (rest : List Happening) (e d : End) → told_of event ≡ q → HasMoved q input e d → d.carrier.ended ≡ None →
-    ((s : Standing) → kept_at q e.lines ≡ Some s → needs_link (react s input).next.state.phase ≡ true → open_after q true rest ≡ true → is_open q e.carrier ≡ true) →
+    ((s : Listener) → kept_at q e.lines ≡ Some s → needs_link (react s input).next.state.phase ≡ true → open_after q true rest ≡ true → is_open q e.carrier ≡ true) →
     AllLinked (event ∷ rest) e → (r : ℕ) (b : Bool) → (r == q) ≡ b → IsLinked r (kept_at r d.lines) rest d.carrier
 moved_linked laws q input event rest e d of m over needs l r true at =
     let same = eqb-true r q at in
-    let before : IsLinked q (Some m.session) (event ∷ rest) e.carrier = subst (λ (o : Option Standing). IsLinked q o (event ∷ rest) e.carrier) m.was (l q) in
+    let before : IsLinked q (Some m.session) (event ∷ rest) e.carrier = subst (λ (o : Option Listener). IsLinked q o (event ∷ rest) e.carrier) m.was (l q) in
     let after = here_linked laws q m.session input event rest e.carrier d.carrier (react m.session input).closes refl m.answered over (needs m.session m.was) before in
-    subst (λ (n : ℕ). IsLinked n (kept_at n d.lines) rest d.carrier) (sym same) (subst (λ (o : Option Standing). IsLinked q o rest d.carrier) (sym m.is) after)
+    subst (λ (n : ℕ). IsLinked n (kept_at n d.lines) rest d.carrier) (sym same) (subst (λ (o : Option Listener). IsLinked q o rest d.carrier) (sym m.is) after)
 moved_linked laws q input event rest e d of m over needs l r false at =
     let ne : r ≢ q = (λ same. both (r == q) (eq-eqb r q same) at) in
     let other : r ≢ told_of event = (λ same. ne (same ∙ of)) in
-    subst (λ (o : Option Standing). IsLinked r o rest d.carrier) (sym (m.others r ne))
+    subst (λ (o : Option Listener). IsLinked r o rest d.carrier) (sym (m.others r ne))
     (other_linked event rest r (kept_at r e.lines) e.carrier d.carrier other (m.answered.others over r ne) (m.answered.stays over r) (l r))
 
 rested_linked : (q : ℕ) (event : Happening) (rest : List Happening) (e : End) → told_of event ≡ q → kept_at q e.lines ≡ None → AllLinked (event ∷ rest) e →
@@ -303,7 +304,7 @@ rested_linked q event rest e of none l r false at =
     other_linked event rest r (kept_at r e.lines) e.carrier e.carrier other refl (λ x. x) (l r)
 
 pub session_linked : SessionLaws → (q : ℕ) (input : Input) (event : Happening) (rest : List Happening) (e d : End) → told_of event ≡ q → Hearing q input e d → d.carrier.ended ≡ None →
-    ((s : Standing) → kept_at q e.lines ≡ Some s → needs_link (react s input).next.state.phase ≡ true → open_after q true rest ≡ true → is_open q e.carrier ≡ true) →
+    ((s : Listener) → kept_at q e.lines ≡ Some s → needs_link (react s input).next.state.phase ≡ true → open_after q true rest ≡ true → is_open q e.carrier ≡ true) →
     AllLinked (event ∷ rest) e → AllLinked rest d
 session_linked laws q input event rest e d of (inl m) over needs l = λ r. moved_linked laws q input event rest e d of m over needs l r (r == q) refl
 session_linked laws q input event rest e d of (inr m) over needs l =
@@ -399,7 +400,7 @@ pub apart_used : (live : Rows Connection) (lines : Rows Line) → AreApart lines
 apart_used live [] apart = tt
 apart_used live ((p, y) ∷ lines) apart = apart_used_by p y live lines (is_used live (p, y)) refl apart.0 apart.1 (apart_used live lines apart.1)
 
-pub apart_joins : (r : ℕ) (s : Standing) (e : End) → value_at r e.lines ≡ None → AreApart e.lines → AreApart (joins r s e).lines
+pub apart_joins : (r : ℕ) (s : Listener) (e : End) → value_at r e.lines ≡ None → AreApart e.lines → AreApart (joins r s e).lines
 apart_joins r s e none apart = apart_used e.carrier.live _ (apart_push r (record { session = Some s; waiting = [] }) e.lines none apart)
 
 pub apart_lost : (lines : Rows Line) → AreApart lines → AreApart (all_lost lines)
@@ -416,7 +417,7 @@ joined_here q rest e none l h = elim l.fresh [
   | inr k ↦ (let no : None ≡ Some k.session = sym (ap session_in none) ∙ k.is in cc)
 ]
 
-abbrev pub joined_lines : ℕ → Standing → Rows Line → Rows Line
+abbrev pub joined_lines : ℕ → Listener → Rows Line → Rows Line
 joined_lines q s lines = lines ++ (q, record { session = Some s; waiting = [] }) ∷ []
 
 joined_by : (q : ℕ) (rest : List Happening) (e : End) → value_at q e.lines ≡ None → AllLinked (told.opened q ∷ rest) e → (r : ℕ) (b : Bool) → (r == q) ≡ b →
@@ -425,22 +426,22 @@ joined_by q rest e none l r true at (inl same) =
     let is = eqb-true r q at in
     let kept : kept_at r (joins q awaits e).lines ≡ Some awaits =
     ap session_in (same ∙ ap (λ n. value_at n (joined_lines q awaits e.lines)) is ∙ push_here q (record { session = Some awaits; waiting = [] }) e.lines none) in
-    subst (λ (o : Option Standing). IsLinked r o rest e.carrier) (sym kept) (record {
+    subst (λ (o : Option Listener). IsLinked r o rest e.carrier) (sym kept) (record {
       needed = λ s same n h. ap (λ n. is_open n e.carrier) is ∙ joined_here q rest e none (l q) (ap (λ n. open_after n true rest) (sym is) ∙ h);
       fresh = inl (λ h. ap (λ n. is_open n e.carrier) is ∙ joined_here q rest e none (l q) (mono q rest false true (λ no. refl) (ap (λ n. open_after n false rest) (sym is) ∙ h)));
     })
 joined_by q rest e none l r true at (inr gone) =
     let is = eqb-true r q at in
     let before : kept_at r e.lines ≡ None = ap (λ n. kept_at n e.lines) is ∙ ap session_in none in
-    subst (λ (o : Option Standing). IsLinked r o rest e.carrier) (before ∙ sym (ap session_in gone.0)) (none_linked (told.opened q) rest r (kept_at r e.lines) e.carrier before (l r))
+    subst (λ (o : Option Listener). IsLinked r o rest e.carrier) (before ∙ sym (ap session_in gone.0)) (none_linked (told.opened q) rest r (kept_at r e.lines) e.carrier before (l r))
 joined_by q rest e none l r false at (inl same) =
     let ne : r ≢ q = (λ is. both (r == q) (eq-eqb r q is) at) in
     let kept : kept_at r e.lines ≡ kept_at r (joins q awaits e).lines = ap session_in (sym (push_other r q _ e.lines ne) ∙ sym same) in
-    subst (λ (o : Option Standing). IsLinked r o rest e.carrier) kept (other_linked (told.opened q) rest r (kept_at r e.lines) e.carrier e.carrier ne refl (λ x. x) (l r))
+    subst (λ (o : Option Listener). IsLinked r o rest e.carrier) kept (other_linked (told.opened q) rest r (kept_at r e.lines) e.carrier e.carrier ne refl (λ x. x) (l r))
 joined_by q rest e none l r false at (inr gone) =
     let ne : r ≢ q = (λ is. both (r == q) (eq-eqb r q is) at) in
     let before = other_linked (told.opened q) rest r (kept_at r e.lines) e.carrier e.carrier ne refl (λ x. x) (l r) in
-    subst (λ (o : Option Standing). IsLinked r o rest e.carrier) (sym (ap session_in gone.0)) (record {
+    subst (λ (o : Option Listener). IsLinked r o rest e.carrier) (sym (ap session_in gone.0)) (record {
       needed = λ s same n h. cc;
       fresh = elim before.fresh [
         | inl f ↦ inl f
@@ -454,23 +455,23 @@ joined_linked q rest e apart none l =
 
 -- ---- one event
 
-not_opened_by : (read : Result Said SpduFault) → came_as read ≡ opened → ⊥
+not_opened_by : (read : Result Words SpduFault) → came_as read ≡ opened → ⊥
 not_opened_by (Ok said) e = cc
 not_opened_by (Err fault) e = cc
 
-broken_needs_none : (s : Standing) → needs_link (react s broken).next.state.phase ≡ false
+broken_needs_none : (s : Listener) → needs_link (react s broken).next.state.phase ≡ false
 unfolding react
 broken_needs_none s = refl
 
 -- a session that needs its connection once it is there
-opened_needs : SessionLaws → (q : ℕ) (rest : List Happening) (e : End) (s : Standing) (b : Bool) → needs_link s.state.phase ≡ b → kept_at q e.lines ≡ Some s →
+opened_needs : SessionLaws → (q : ℕ) (rest : List Happening) (e : End) (s : Listener) (b : Bool) → needs_link s.state.phase ≡ b → kept_at q e.lines ≡ Some s →
     IsLinked q (kept_at q e.lines) (told.opened q ∷ rest) e.carrier → needs_link (react s opened).next.state.phase ≡ true → open_after q true rest ≡ true → is_open q e.carrier ≡ true
 opened_needs laws q rest e s true needs is l n h = l.needed s is needs h
 opened_needs laws q rest e s false needs is l n h = elim l.fresh [
   | inl f ↦ f (mono q rest true (false || (q == q)) (λ x. eq-eqb q q refl) h)
   | inr k ↦ (
       let same : k.session ≡ s = (let both_are : Some k.session ≡ Some s = sym k.is ∙ is in cc) in
-      both (is_ended s.state.phase) (ap (λ (x : Standing). is_ended x.state.phase) (sym same) ∙ k.ended) (laws.begun s n needs)
+      both (is_ended s.state.phase) (ap (λ (x : Listener). is_ended x.state.phase) (sym same) ∙ k.ended) (laws.begun s n needs)
       )
 ]
 
@@ -540,7 +541,7 @@ times_apart (suc n) e apart = times_apart n (hears_next e) (next_apart e.carrier
     next_apart (event ∷ rest) e apart = hears_apart event (with_events rest e) apart
 
 -- what a carrier has still to tell is no matter
-untold_linked : (rest : List Happening) (r : ℕ) (o : Option Standing) (events : List Happening) (c : Carrier) → IsLinked r o events c → IsLinked r o events (record c { events = rest })
+untold_linked : (rest : List Happening) (r : ℕ) (o : Option Listener) (events : List Happening) (c : Carrier) → IsLinked r o events c → IsLinked r o events (record c { events = rest })
 untold_linked rest r o events c l = record {
   needed = l.needed;
   fresh = elim l.fresh [

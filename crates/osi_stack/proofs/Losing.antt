@@ -3,7 +3,7 @@ use Rattle.std.proofs.Common.{◌≡◌, ℕ, ◌+◌, ◌<◌, ◌==◌, zero, 
 use Rattle.std.proofs.lemmas.List.{append-nil, map-append}
 use Rattle.osi_carrier.proofs.Places.{placed, here_is}
 use Rattle.osi_carrier.specs.Rows.{Rows, value_at, place_of, put}
-use Rattle.osi_session.specs.Moves.{Standing, broken, react}
+use Rattle.osi_session.specs.Listening.{Listener, broken, react}
 use Rattle.osi_session.specs.Phases.{shows_loss}
 use Rattle.osi_session.specs.Shown.{Shown, Lost, shown_by}
 use Rattle.osi_session.specs.declared.indications.Indication.{Indication}
@@ -11,11 +11,11 @@ use Rattle.osi_stack.specs.Hearing.{shown_at_loss, loses, all_lost}
 use Rattle.osi_stack.specs.State.{Line}
 
 -- what a session shows when it is lost
-lost_shown : (s : Standing) → (react s broken).shown ≡ (if shows_loss s.state.phase then Lost ∷ [] else [])
+lost_shown : (s : Listener) → (react s broken).shown ≡ (if shows_loss s.state.phase then Lost ∷ [] else [])
 unfolding react
 lost_shown s = refl
 
-pub lost_line : (s : Standing) (l : Line) (b : Bool) (waiting : List Shown) → l.session ≡ Some s → b ≡ shows_loss s.state.phase →
+pub lost_line : (s : Listener) (l : Line) (b : Bool) (waiting : List Shown) → l.session ≡ Some s → b ≡ shows_loss s.state.phase →
     waiting ≡ l.waiting ++ (if b then Lost ∷ [] else []) → record { session = None; waiting = waiting } ≡ loses l
 lost_line s l b waiting e shows h =
     ap (λ (w : List Shown). record { session = None; waiting = w }) (h ∙ ap (λ (v : Bool). l.waiting ++ (if v then Lost ∷ [] else [])) shows

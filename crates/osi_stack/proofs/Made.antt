@@ -22,7 +22,7 @@ use Rattle.osi_carrier.specs.State.{Connection, State as Carrier}
 use Rattle.osi_carrier.specs.declared.ends.EndReason.{EndReason}
 use Rattle.osi_carrier.specs.declared.ends.EndReason.TheVariants.{Broken}
 use Rattle.osi_session.specs.Calls.{Call as SessionCall}
-use Rattle.osi_session.specs.Moves.{Input, Standing, called, opened as linked_up, react, after_inputs}
+use Rattle.osi_session.specs.Listening.{Input, Listener, called, opened as linked_up, react, after_inputs}
 use Rattle.osi_session.specs.Sessions.{awaits}
 use Rattle.osi_stack.specs.Calls.{calls_with, connects, breaks, call_error, connect_error, without_first}
 use Rattle.osi_stack.specs.Feeding.{TakesPackets, Goes, Feeds}
@@ -60,7 +60,7 @@ inputs_more : (r : ℕ) (l m : List (ℕ × Input)) → inputs_of r (l ++ m) ≡
 inputs_more r [] m = refl
 inputs_more r ((q, input) ∷ l) m = inputs_by r q input l m (q == r) refl (inputs_more r l m)
 
-after_more : (s : Standing) (l m : List Input) → after_inputs s (l ++ m) ≡ after_inputs (after_inputs s l) m
+after_more : (s : Listener) (l m : List Input) → after_inputs s (l ++ m) ≡ after_inputs (after_inputs s l) m
 after_more s [] m = refl
 after_more s (input ∷ l) m = after_more (react s input).next l m
 
@@ -90,7 +90,7 @@ then_none past = ap (λ (x : List (ℕ × Input)). record past { inputs = x }) (
 
 -- each is what its inputs made of it, and above this reference nothing has happened
 pub record IsKnown (g : ℕ) (past : Past) (lines : Rows Line) : Type 0 where
-  pub made : (r : ℕ) (s : Standing) → kept_at r lines ≡ Some s → s ≡ made_at r past
+  pub made : (r : ℕ) (s : Listener) → kept_at r lines ≡ Some s → s ≡ made_at r past
   pub unasked : (r : ℕ) → g < r → value_at r past.asked ≡ None
   pub unheard : (r : ℕ) → g < r → inputs_of r past.inputs ≡ []
 
@@ -104,26 +104,26 @@ unheard_more : (g q : ℕ) (input : Input) (past : Past) → ((r : ℕ) → g < 
 unheard_more g q input past none r above ne =
     inputs_more r past.inputs ((q, input) ∷ []) ∙ ap (λ (l : List Input). l ++ inputs_of r ((q, input) ∷ [])) (none r above) ∙ one_other r q input (unlike q r ne)
 
-moved_made : (q : ℕ) (input : Input) (e d : End) (past : Past) → HasMoved q input e d → ((r : ℕ) (s : Standing) → kept_at r e.lines ≡ Some s → s ≡ made_at r past) →
-    (r : ℕ) (s : Standing) (b : Bool) → (q == r) ≡ b → kept_at r d.lines ≡ Some s → s ≡ made_at r (then_came ((q, input) ∷ []) past)
+moved_made : (q : ℕ) (input : Input) (e d : End) (past : Past) → HasMoved q input e d → ((r : ℕ) (s : Listener) → kept_at r e.lines ≡ Some s → s ≡ made_at r past) →
+    (r : ℕ) (s : Listener) (b : Bool) → (q == r) ≡ b → kept_at r d.lines ≡ Some s → s ≡ made_at r (then_came ((q, input) ∷ []) past)
 moved_made q input e d past m made r s true at is =
     let same = eqb-true q r at in
     let here : kept_at q d.lines ≡ Some s = ap (λ n. kept_at n d.lines) same ∙ is in
     let two : Some (react m.session input).next ≡ Some s = sym m.is ∙ here in
     let one : (react m.session input).next ≡ s = cc in
-    sym one ∙ ap (λ (x : Standing). (react x input).next) (made q m.session m.was) ∙ sym (made_here q input past) ∙ ap (λ n. made_at n (then_came ((q, input) ∷ []) past)) same
+    sym one ∙ ap (λ (x : Listener). (react x input).next) (made q m.session m.was) ∙ sym (made_here q input past) ∙ ap (λ n. made_at n (then_came ((q, input) ∷ []) past)) same
 moved_made q input e d past m made r s false at is =
     let ne : r ≢ q = (λ same. both (q == r) (eq-eqb q r (sym same)) at) in
     made r s (sym (m.others r ne) ∙ is) ∙ sym (made_other r q input past at)
 
-rested_made : (q : ℕ) (input : Input) (e : End) (past : Past) → kept_at q e.lines ≡ None → ((r : ℕ) (s : Standing) → kept_at r e.lines ≡ Some s → s ≡ made_at r past) →
-    (r : ℕ) (s : Standing) (b : Bool) → (q == r) ≡ b → kept_at r e.lines ≡ Some s → s ≡ made_at r (then_came ((q, input) ∷ []) past)
+rested_made : (q : ℕ) (input : Input) (e : End) (past : Past) → kept_at q e.lines ≡ None → ((r : ℕ) (s : Listener) → kept_at r e.lines ≡ Some s → s ≡ made_at r past) →
+    (r : ℕ) (s : Listener) (b : Bool) → (q == r) ≡ b → kept_at r e.lines ≡ Some s → s ≡ made_at r (then_came ((q, input) ∷ []) past)
 rested_made q input e past none made r s true at is =
     let no : None ≡ Some s = sym none ∙ ap (λ n. kept_at n e.lines) (eqb-true q r at) ∙ is in cc
 rested_made q input e past none made r s false at is = made r s is ∙ sym (made_other r q input past at)
 
-session_made : (q : ℕ) (input : Input) (e : End) (past : Past) → ((r : ℕ) (s : Standing) → kept_at r e.lines ≡ Some s → s ≡ made_at r past) →
-    (r : ℕ) (s : Standing) → kept_at r (to_session q input e).lines ≡ Some s → s ≡ made_at r (then_came ((q, input) ∷ []) past)
+session_made : (q : ℕ) (input : Input) (e : End) (past : Past) → ((r : ℕ) (s : Listener) → kept_at r e.lines ≡ Some s → s ≡ made_at r past) →
+    (r : ℕ) (s : Listener) → kept_at r (to_session q input e).lines ≡ Some s → s ≡ made_at r (then_came ((q, input) ∷ []) past)
 session_made q input e past made r s is = elim (session_hears q input e) [
   | inl m ↦ moved_made q input e (to_session q input e) past m made r s (q == r) refl is
   | inr m ↦ rested_made q input e past m.none made r s (q == r) refl (ap (λ (x : End). kept_at r x.lines) (sym m.same) ∙ is)
@@ -139,7 +139,7 @@ given_known g q input e past up k = record {
 
 -- ---- a new session
 
-kept_joined : (q r : ℕ) (s t : Standing) (live : Rows Connection) (lines : Rows Line) (b : Bool) → (q == r) ≡ b → value_at q lines ≡ None → Stays r live (joined_lines q s lines) →
+kept_joined : (q r : ℕ) (s t : Listener) (live : Rows Connection) (lines : Rows Line) (b : Bool) → (q == r) ≡ b → value_at q lines ≡ None → Stays r live (joined_lines q s lines) →
     kept_at r (used_lines live (joined_lines q s lines)) ≡ Some t → ((q ≡ r) × (t ≡ s)) ⊎ ((q ≡ r → ⊥) × (kept_at r lines ≡ Some t))
 kept_joined q r s t live lines true at none (inl same) is =
     let e = eqb-true q r at in
@@ -160,7 +160,7 @@ joins_known : (g q : ℕ) (e : End) (past : Past) → g < q → AreApart e.lines
 joins_known g q e past above apart none k = record {
   made = λ r t is. elim (kept_joined q r awaits t e.carrier.live e.lines (q == r) refl none
       (used_at r e.carrier.live (joined_lines q awaits e.lines) (apart_push q (record { session = Some awaits; waiting = [] }) e.lines none apart)) is) [
-        | inl h ↦ h.1 ∙ sym (ap (λ (x : Standing). (react x linked_up).next) (new_awaits g past e.lines q k above) ∙ awaits_still)
+        | inl h ↦ h.1 ∙ sym (ap (λ (x : Listener). (react x linked_up).next) (new_awaits g past e.lines q k above) ∙ awaits_still)
             ∙ sym (made_here q linked_up past) ∙ ap (λ n. made_at n (then_came ((q, linked_up) ∷ []) past)) h.0
         | inr h ↦ k.made r t h.1 ∙ sym (made_other r q linked_up past (unlike q r (λ e. h.0 (sym e))))
       ];
@@ -447,7 +447,7 @@ connect_known c e past s k =
       unheard = λ r up. k.unheard r (omega arith);
     }
 
-live_by : (o : Option Connection) (kept : Option Standing) (s : Standing) → (if is_some o then kept else None) ≡ Some s → IsSome o
+live_by : (o : Option Connection) (kept : Option Listener) (s : Listener) → (if is_some o then kept else None) ≡ Some s → IsSome o
 live_by None kept s h = cc
 live_by (Some c) kept s h = refl
 

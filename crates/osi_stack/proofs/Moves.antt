@@ -19,10 +19,10 @@ use Rattle.osi_message.specs.Meanings.{Meaning}
 use Rattle.osi_message.specs.Reading.{said_by_units, said_at, said_if_read}
 use Rattle.osi_spdu.specs.Known.{Units}
 use Rattle.osi_spdu.specs.declared.faults.SpduFault.{SpduFault}
-use Rattle.osi_message.specs.Sendable.{said_of, IsSendable}
+use Rattle.osi_message.specs.Sendable.{words_of, IsSendable}
 use Rattle.osi_message.specs.Written.{written, spelled}
 use Rattle.osi_spdu.specs.Reading.{tsdu_at}
-use Rattle.osi_session.specs.Moves.{Input, Standing, Move, called, opened, refused, broken, taken, came, came_as, answered, react}
+use Rattle.osi_session.specs.Listening.{Input, Listener, Move, called, opened, refused, broken, taken, came, came_as, answered, react}
 use Rattle.osi_session.specs.Sessions.{awaits}
 use Rattle.osi_session.specs.Shown.{Shown}
 use Rattle.osi_stack.specs.Calls.{first_shown, first_by, without_first, rest_by, has_given, send_refusal, move_refusal, session_refusal, call_error}
@@ -60,7 +60,7 @@ answers_put r false (Some m) c short = handed r (written m) c short
 
 -- ---- a move
 
-by_acts : (r : ℕ) (input : Input) (e : End) (line : Line) (s : Standing) → value_at r e.lines ≡ Some line → line.session ≡ Some s → IsShort (react s input).reply →
+by_acts : (r : ℕ) (input : Input) (e : End) (line : Line) (s : Listener) → value_at r e.lines ≡ Some line → line.session ≡ Some s → IsShort (react s input).reply →
     Acts r input e (to_session r input e)
 by_acts r input e line s here is short =
     let at : to_session r input e ≡ by_line r (Some line) input e = ap (λ o. by_line r o input e) here in
@@ -121,10 +121,10 @@ opens_to r e line here = ap (λ o. opens r o e) here
 
 pub record Readings : Type 0 where
   pub read : (m : Meaning) → IsSendable m → tsdu_at (written m) ≡ Ok (spelled m)
-  pub said : (m : Meaning) → IsSendable m → said_by_units (spelled m) ≡ said_of m
+  pub said : (m : Meaning) → IsSendable m → said_by_units (spelled m) ≡ words_of m
 
 -- what is sent comes as what it says
-pub came_is : Readings → (m : Meaning) → IsSendable m → came (written m) ≡ taken (said_of m)
+pub came_is : Readings → (m : Meaning) → IsSendable m → came (written m) ≡ taken (words_of m)
 unfolding said_at
 came_is law m sendable = ap (λ (r : Result Units SpduFault). came_as (said_if_read r)) (law.read m sendable) ∙ ap taken (law.said m sendable)
 
@@ -145,7 +145,7 @@ arrives law r (was_given (Some asked)) (deny reason) v e whole h can = happens_b
 arrives law r (was_given (Some asked)) (bye reason) v e whole h can = rests_by r v e h
 arrives law r (was_given (Some asked)) over v e whole h can = rests_by r v e h
 arrives law r (was_given (Some (linked peer link))) (unit m) v e whole h can =
-    happens_by r (taken (said_of m)) (told.tsdu r (written m)) v e h (ap (λ i. to_session r i (told_all v e)) (came_is law m whole)) can
+    happens_by r (taken (words_of m)) (told.tsdu r (written m)) v e h (ap (λ i. to_session r i (told_all v e)) (came_is law m whole)) can
 arrives law r (was_given (Some (linked peer link))) ask v e whole h can = rests_by r v e h
 arrives law r (was_given (Some (linked peer link))) agree v e whole h can = rests_by r v e h
 arrives law r (was_given (Some (linked peer link))) (deny reason) v e whole h can = rests_by r v e h
@@ -229,7 +229,7 @@ unsent_link (Some link) tsdu h = short_by (nat_lt 1048576 (length tsdu)) refl
     short_by true e = let no = rw e at h in cc
     short_by false e = record { opened = refl; short = grind (arith, nat_tests) }
 
-granted_by : (r : ℕ) (call : Call) (s : Standing) (c : Carrier) (a : Answer) → allowed s.state call ≡ a → move_refusal r (react s (called call)) c ≡ None → IsGranted r call s c
+granted_by : (r : ℕ) (call : Call) (s : Listener) (c : Carrier) (a : Answer) → allowed s.state call ≡ a → move_refusal r (react s (called call)) c ≡ None → IsGranted r call s c
 unfolding react
 granted_by r call s c (Err error) e h =
     let is : react s (called call) ≡ answered s (Err error) = ap (answered s) e in
@@ -250,12 +250,12 @@ granted_by r call s c (Ok step) e h =
       next = ap (λ (m : Move). m.next) is;
     }
 
-pub line_of : (b : Bool) (o : Option Line) (s : Standing) → (if b then session_in o else None) ≡ Some s → (line : Line) × (o ≡ Some line) × (line.session ≡ Some s)
+pub line_of : (b : Bool) (o : Option Line) (s : Listener) → (if b then session_in o else None) ≡ Some s → (line : Line) × (o ≡ Some line) × (line.session ≡ Some s)
 line_of true (Some line) s h = (line, refl, h)
 line_of true None s h = cc
 line_of false o s h = cc
 
-says_at : (r : ℕ) (call : Call) (e : End) (o : Option Standing) → session_at r e ≡ o → session_refusal r o call e.carrier ≡ None → Says r call e (to_session r (called call) e)
+says_at : (r : ℕ) (call : Call) (e : End) (o : Option Listener) → session_at r e ≡ o → session_refusal r o call e.carrier ≡ None → Says r call e (to_session r (called call) e)
 unfolding by_acts
 says_at r call e None at h = let no : Some error.Ended ≡ None = h in cc
 says_at r call e (Some s) at h =

@@ -5,12 +5,12 @@ use Rattle.osi_tpkt.specs.Held.{Held}
 use Rattle.osi_carrier.specs.Calls.{asks}
 use Rattle.osi_carrier.specs.Rows.{Rows}
 use Rattle.osi_carrier.specs.State.{State as Carrier}
-use Rattle.osi_session.specs.Moves.{Standing}
+use Rattle.osi_session.specs.Listening.{Listener}
 use Rattle.osi_stack.specs.Calls.{connects, calls_with}
 use Rattle.osi_stack.specs.State.{Line, Holding, used_lines}
 use Rattle.osi_stack.specs.declared.connecting.Connect.{Connect}
 
-abbrev begins_with : ℕ → Standing → ℕ × Line
+abbrev begins_with : ℕ → Listener → ℕ × Line
 begins_with r session = (r, record { session = Some session; waiting = [] })
 
 abbrev asked_by : Connect → Carrier → Carrier
@@ -19,7 +19,7 @@ asked_by c old = asks (option_map tsap_octets c.calling_tsap) (option_map tsap_o
 abbrev pub holds : Carrier → Rows Line → Held → Holding
 holds carrier lines held = record { end = record { carrier = carrier; lines = lines }; held = held }
 
-pub end_connects : (c : Connect) (old new : Carrier) (held kept : Held) (lines pushed swept : Rows Line) (r : ℕ) (row : ℕ × Line) (session : Standing) →
+pub end_connects : (c : Connect) (old new : Carrier) (held kept : Held) (lines pushed swept : Rows Line) (r : ℕ) (row : ℕ × Line) (session : Listener) →
     r ≡ old.given → session ≡ calls_with c → row ≡ begins_with (r + 1) session → pushed ≡ lines ++ row ∷ [] → new ≡ asked_by c old → kept ≡ held →
     swept ≡ used_lines new.live pushed → holds new swept kept ≡ record { end = connects c (record { carrier = old; lines = lines }); held = held }
 end_connects c old new held kept lines pushed swept r row session given is row_is pushed_is new_is kept_is swept_is =

@@ -26,7 +26,7 @@ use Rattle.osi_carrier.proofs.Apart.{beyond, push_here}
 use Rattle.osi_carrier.proofs.AtReferences.{put_up, push_other}
 use Rattle.osi_carrier.proofs.Effects.{free_of}
 use Rattle.osi_carrier.proofs.Reacts.{none_of}
-use Rattle.osi_session.specs.Moves.{Input, Standing, opened as linked_up, react}
+use Rattle.osi_session.specs.Listening.{Input, Listener, opened as linked_up, react}
 use Rattle.osi_session.specs.Sessions.{awaits}
 use Rattle.osi_session.specs.Shown.{Shown}
 use Rattle.osi_stack.specs.Calls.{calls_with, connects, connect_error, terms_error, breaks, carried, without_first, rest_by}
@@ -80,7 +80,7 @@ answers_leave : (closing : Bool) (r : ℕ) (octets : Option (List ℕ)) (c : Car
 answers_leave true r octets c = closed_leaves r 128 (open_link r c) c
 answers_leave false r octets c = some_leaves r octets c
 
-carrier_leaves : (r : ℕ) (o : Option Standing) (input : Input) (c : Carrier) → Leaves c (carrier_by r o input c)
+carrier_leaves : (r : ℕ) (o : Option Listener) (input : Input) (c : Carrier) → Leaves c (carrier_by r o input c)
 carrier_leaves r None input c = left c
 carrier_leaves r (Some session) input c = answers_leave (react session input).closes r _ c
 

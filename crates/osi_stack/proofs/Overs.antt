@@ -11,7 +11,7 @@ use Rattle.osi_carrier.specs.declared.ends.EndReason.{EndReason}
 use Rattle.osi_carrier.specs.declared.ends.EndReason.TheVariants.{NoMemory}
 use Rattle.osi_carrier.proofs.Reading.{acts_cases}
 use Rattle.osi_class.specs.Link.{Standing as Link}
-use Rattle.osi_session.specs.Moves.{Input, Standing, opened, react}
+use Rattle.osi_session.specs.Listening.{Input, Listener, opened, react}
 use Rattle.osi_stack.specs.Hearing.{opens, hears, hears_first, hears_next, hears_times, hears_all, with_events, with_carrier, attends, after_packet, starves, RunsOut, Starves}
 use Rattle.osi_stack.specs.Moving.{carrier_by, by_line}
 use Rattle.osi_stack.specs.State.{Line, End}
@@ -31,7 +31,7 @@ answers_over true r tsdu c over = ap (λ (o : Option (ℕ × Link)). closed_on r
 answers_over false r None c over = refl
 answers_over false r (Some tsdu) c over = ap (λ (o : Option (ℕ × Link)). sent_unless (send_error tsdu o) r tsdu c) (none_open r c over)
 
-carrier_over : (r : ℕ) (session : Option Standing) (input : Input) (c : Carrier) → is_some c.ended ≡ true → carrier_by r session input c ≡ c
+carrier_over : (r : ℕ) (session : Option Listener) (input : Input) (c : Carrier) → is_some c.ended ≡ true → carrier_by r session input c ≡ c
 carrier_over r None input c over = refl
 carrier_over r (Some session) input c over = answers_over (react session input).closes r _ c over
 

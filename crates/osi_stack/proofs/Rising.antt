@@ -7,7 +7,7 @@ use Rattle.osi_carrier.specs.Orderly.{RiseFrom, AreUpTo}
 use Rattle.osi_carrier.specs.Rows.{Rows, value_at}
 use Rattle.osi_carrier.specs.State.{Connection}
 use Rattle.osi_carrier.proofs.AtReferences.{rise_lower, put_rise}
-use Rattle.osi_session.specs.Moves.{Input, Standing}
+use Rattle.osi_session.specs.Listening.{Input, Listener}
 use Rattle.osi_session.specs.Sessions.{awaits}
 use Rattle.osi_session.specs.Shown.{Shown}
 use Rattle.osi_stack.specs.Calls.{calls_with, connects, breaks, without_first, rest_by}
@@ -60,7 +60,7 @@ rise_first n ((p, y) ∷ lines) rise = rise_first_by n p y y.waiting lines rise.
 -- ---- what happens to an end
 
 -- a new line has a reference above those that were given
-pub rise_joins : (g r : ℕ) (s : Standing) (e : End) → g < r → AreUpTo g e.lines → RiseFrom 0 e.lines → RiseFrom 0 (joins r s e).lines
+pub rise_joins : (g r : ℕ) (s : Listener) (e : End) → g < r → AreUpTo g e.lines → RiseFrom 0 e.lines → RiseFrom 0 (joins r s e).lines
 rise_joins g r s e over up rise =
     rise_used 0 e.carrier.live _ (rise_push 0 g r (record { session = Some s; waiting = [] }) e.lines (omega arith) over up rise)
 

@@ -14,7 +14,7 @@ use Rattle.osi_carrier.specs.Runs.UserCall.{connects as connects_call}
 use Rattle.osi_carrier.specs.Rows.{Rows}
 use Rattle.osi_carrier.specs.State.{asked, State as Carrier}
 use Rattle.osi_carrier.specs.declared.ends.EndReason.TheVariants.{Broken}
-use Rattle.osi_session.specs.Moves.{called}
+use Rattle.osi_session.specs.Listening.{called}
 use Rattle.osi_session.specs.Shown.{Shown}
 use Rattle.osi_stack.specs.Calls.{connects, calls_with}
 use Rattle.osi_stack.specs.Hearing.{ends}

@@ -2,7 +2,7 @@
 use Rattle.std.proofs.Common.{◌≡◌, ℕ, Bool, true, false, [], ◌++◌, map, Option, None, option_map, Result, Ok, refl, sym, ap, subst, ◌∙◌, if◌then◌else◌}
 use Rattle.std.proofs.lemmas.List.{append-nil}
 use Rattle.osi_message.specs.Written.{written}
-use Rattle.osi_session.specs.Moves.{Input, Standing, Move, opened, refused, broken, react}
+use Rattle.osi_session.specs.Listening.{Input, Listener, Move, opened, refused, broken, react}
 use Rattle.osi_session.specs.Phases.{is_wait_transport}
 use Rattle.osi_session.specs.Sessions.{Takes}
 use Rattle.osi_session.specs.Shown.{shown_by}
@@ -28,22 +28,22 @@ unseen_if : (b : Bool) (x y : Move) → IsUnseen x → IsUnseen y → IsUnseen (
 unseen_if true x y h k = h
 unseen_if false x y h k = k
 
-pub opened_is_unseen : (s : Standing) → IsUnseen (react s opened)
+pub opened_is_unseen : (s : Listener) → IsUnseen (react s opened)
 unfolding react
 opened_is_unseen s = unseen_if (is_wait_transport s.state.phase) _ _ (record { shown = refl; closes = refl }) (record { shown = refl; closes = refl })
 
-pub refused_is_quiet : (s : Standing) (reason : ℕ) → IsQuiet (react s (refused reason))
+pub refused_is_quiet : (s : Listener) (reason : ℕ) → IsQuiet (react s (refused reason))
 unfolding react
 refused_is_quiet s reason = quiet_if (is_wait_transport s.state.phase) _ _ (record { reply = refl; closes = refl }) (record { reply = refl; closes = refl })
 
-pub broken_is_quiet : (s : Standing) → IsQuiet (react s broken)
+pub broken_is_quiet : (s : Listener) → IsQuiet (react s broken)
 unfolding react
 broken_is_quiet s = record { reply = refl; closes = refl }
 
 -- ---- what is taken
 
 -- one thing is shown at most, with this answer
-pub quiet_takes : {E : Type 0} (t : Taken) (shown : Option Indication) (move : Move) (old new : Standing) → t.first ≡ shown → t.more.items ≡ [] →
+pub quiet_takes : {E : Type 0} (t : Taken) (shown : Option Indication) (move : Move) (old new : Listener) → t.first ≡ shown → t.more.items ≡ [] →
     t.reply ≡ option_map written move.reply → t.closes ≡ move.closes → new ≡ move.next → shown_list shown ≡ move.shown → Takes {E = E} (Ok t) move old new
 quiet_takes t shown move old new first more reply closes next is = record {
   state = next;
@@ -55,6 +55,6 @@ quiet_takes t shown move old new first more reply closes next is = record {
   memory = tt;
 }
 
-pub takes_if : {E : Type 0} (result : Result Taken E) (s : Standing) (i j : Input) (old new : Standing) → j ≡ i →
+pub takes_if : {E : Type 0} (result : Result Taken E) (s : Listener) (i j : Input) (old new : Listener) → j ≡ i →
     Takes result (react s i) old new → Takes result (react s j) old new
 takes_if result s i j old new e h = subst (λ (k : Input). Takes result (react s k) old new) (sym e) h

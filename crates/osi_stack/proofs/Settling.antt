@@ -1,6 +1,6 @@
 -- What is true of every end between any two calls stays so.
 use Rattle.std.proofs.Common.{◌≡◌, ℕ, ◌≤◌, ◌<◌, Bool, true, false, ◌||◌, not, List, [], ◌∷◌, length, drop, Option, Some, None, Result, Ok, Err, arith, is_some, IsSome, option_map, refl, sym, ap, subst, ◌∙◌, inl, inr, ◌⊎◌, if◌then◌else◌}
-use Rattle.std.specs.Prelude.{OnOk, OnErr, IfErr}
+use Rattle.std.specs.Prelude.{OnOk, OnErr, IfErr, IfSome}
 use Rattle.osi_tpdu.specs.Limits.{tsap_octets}
 use Rattle.osi_tpdu.specs.Packet.{units_of}
 use Rattle.osi_tpdu.specs.Value.{Value}
@@ -20,23 +20,32 @@ use Rattle.osi_carrier.specs.declared.ends.EndReason.{EndReason}
 use Rattle.osi_carrier.specs.declared.ends.EndReason.TheVariants.{Broken, NoMemory}
 use Rattle.osi_carrier.proofs.Effects.{free_of, orderly_fresh, orderly_units, orderly_packet, orderly_asks, orderly_end, orderly_ended, orderly_same}
 use Rattle.osi_session.specs.Calls.{Call, HasSerial}
-use Rattle.osi_session.specs.Moves.{Input, Standing, called, taken}
-use Rattle.osi_session.specs.Sessions.{is_memory}
-use Rattle.osi_session.specs.Runs.{HasNumbers}
+use Rattle.osi_session.specs.Listening.{Input, Listener, called, taken, react, after_inputs}
+use Rattle.osi_session.specs.Parts.{HasProfile}
+use Rattle.osi_session.specs.Units.{is_profile}
+use Rattle.osi_session.specs.declared.opening.Opening.{Opening}
+use Rattle.osi_spdu.specs.Fields.{unit_bits}
+use Rattle.osi_carrier.specs.declared.faults.OpenError.{OpenError}
+use Rattle.osi_stack.specs.declared.connecting.ConnectError.{ConnectError}
+use Rattle.osi_stack.specs.declared.connecting.ConnectError.TheVariants.{NotSelected}
+use Rattle.osi_session.specs.Sessions.{awaiting, asking, is_memory}
+use Rattle.osi_session.specs.Runs.{HasNumbersInWords}
 use Rattle.osi_session.specs.declared.faults.CallError.{CallError}
 use Rattle.osi_session.specs.declared.faults.CallError.TheVariants as error
-use Rattle.osi_stack.specs.Calls.{connects, connect_error, terms_error, breaks, carried, without_first, has_given, call_error, table_error, session_refusal, session_error, RefusesBy, Refuses, by_rule}
+use Rattle.osi_stack.specs.Calls.{connects, connect_error, terms_error, after_open, opening_of, calls_with, breaks, carried, without_first, has_given, call_error, table_error, session_refusal, session_error, RefusesBy, Refuses, by_rule}
 use Rattle.osi_stack.specs.Feeding.{stops, TakesPackets, Goes, Feeds}
 use Rattle.osi_stack.specs.Hearing.{hears_all, hears_times, with_events, with_carrier, attends, after_packet, ends, starves, Starves}
 use Rattle.osi_stack.specs.Moving.{by_line, to_session}
 use Rattle.osi_stack.specs.State.{Line, End, Holding, IsAttended, fresh_end, session_in, session_at, waits}
+use Rattle.osi_stack.specs.Folds.{CameAbout, IsProfiled, OfSessions}
 use Rattle.osi_stack.specs.Settled.{IsSettled}
 use Rattle.osi_stack.specs.declared.connecting.Connect.{Connect}
 use Rattle.osi_stack.proofs.Answering.{Below, answered_is}
 use Rattle.osi_stack.proofs.Attending.{session_attended, connect_attended, breaks_attended, feeds_attended}
-use Rattle.osi_stack.proofs.Folds.{connect_all, call_all, feeds_all, told_all, breaks_all}
+use Rattle.osi_stack.proofs.Folds.{at_line, session_all, connect_all, call_came, feeds_all, told_all, breaks_all, came_asking, came_true, profile_true}
 use Rattle.osi_stack.proofs.Comings.{attended_then}
 use Rattle.osi_stack.proofs.Events.{concluded_carrier}
+use Rattle.osi_stack.proofs.Gone.{lasting_gone, connect_gone, call_gone, first_gone, breaks_gone, feeds_gone}
 use Rattle.osi_stack.proofs.Lifting.{both, or_first, or_second, packet_is}
 use Rattle.osi_stack.proofs.Linking.{SessionLaws}
 use Rattle.osi_stack.proofs.Ordering.{fresh_ordered, connect_ordered, call_ordered, feeds_ordered, first_ordered, carried_ordered, breaks_ordered}
@@ -158,10 +167,17 @@ feeds_orderly laws old new piece fed h attended sound orderly = feeds_by laws ol
 
 -- ---- what is true of every end
 
+-- which functional units a session has
+pub record Profiles : Type 0 where
+  pub called : HasProfile awaiting
+  pub caller : (o : Opening) → is_profile (unit_bits o.requirements) ≡ true → HasProfile (asking o)
+  pub kept : (s : Listener) (inputs : List Input) → HasProfile s.state → HasProfile (after_inputs s inputs).state
+
 -- what the laws of one end say
 pub record Steps : Type 0 where
   pub laws : SessionLaws
-  pub units : (units : Units) → HasNumbers (taken (said_by_units units))
+  pub profiles : Profiles
+  pub units : (units : Units) → HasNumbersInWords (taken (said_by_units units))
 
 pub fresh_settled : (is_caller : Bool) (local : Local) → IsSettled (fresh_end is_caller local)
 fresh_settled is_caller local = record {
@@ -170,24 +186,43 @@ fresh_settled is_caller local = record {
   sound = fresh_sound is_caller local;
   ordered = fresh_ordered is_caller local;
   came = tt;
+  profiled = tt;
+  gone = lasting_gone (fresh_end is_caller local) refl;
 }
 
-pub connect_settled : (c : Connect) (e : End) → connect_error c e ≡ None → IsSettled e → IsSettled (connects c e)
-connect_settled c e allowed s = record {
+-- a connection is asked for with units that can be selected together
+units_of_terms : (b : Bool) (error : Option ConnectError) → (if not b then Some NotSelected else error) ≡ None → b ≡ true
+units_of_terms true error h = refl
+units_of_terms false error h = cc
+
+terms_none : (o : Option OpenError) (error : Option ConnectError) → after_open o error ≡ None → error ≡ None
+terms_none None error h = h
+terms_none (Some e) error h = cc
+
+asks_profile : Profiles → (c : Connect) (e : End) → connect_error c e ≡ None → IsProfiled (calls_with c)
+asks_profile profiles c e allowed =
+    profiles.caller (opening_of c) (units_of_terms (is_profile (unit_bits c.requirements)) _ (terms_none (may_connect e.carrier) (terms_error c) allowed))
+
+pub connect_settled : Profiles → (c : Connect) (e : End) → connect_error c e ≡ None → IsSettled e → IsSettled (connects c e)
+connect_settled profiles c e allowed s = record {
   attended = connect_attended c e s.attended;
   orderly = connect_orderly c e allowed s.orderly;
   sound = connect_sound c e allowed s.sound;
   ordered = connect_ordered c e allowed s.sound s.ordered;
-  came = connect_all c e s.came;
+  came = connect_all CameAbout c e (came_asking c) s.came;
+  profiled = connect_all IsProfiled c e (asks_profile profiles c e allowed) s.profiled;
+  gone = connect_gone c e allowed;
 }
 
-pub call_settled : SessionLaws → (r : ℕ) (call : Call) (e : End) → HasSerial call → IsSettled e → IsSettled (to_session r (called call) e)
-call_settled laws r call e serial s = record {
+pub call_settled : Profiles → SessionLaws → ((s : Listener) (call : Call) → (react s (called call)).closes ≡ false) → (r : ℕ) (call : Call) (e : End) → HasSerial call → IsSettled e → IsSettled (to_session r (called call) e)
+call_settled profiles laws still r call e serial s = record {
   attended = session_attended r (called call) e s.attended;
   orderly = session_orderly r (called call) e s.orderly;
   sound = call_sound laws r call e s.sound;
   ordered = call_ordered r (called call) e s.ordered;
-  came = call_all r call e serial s.came;
+  came = call_came r call e serial s.came;
+  profiled = session_all IsProfiled r (called call) e (λ x h. profiles.kept x (called call ∷ []) h) s.profiled;
+  gone = call_gone still r call e s.gone;
 }
 
 pub feeds_settled : Steps → (old new : Holding) (piece : List ℕ) (fed : Fed) → Feeds old piece fed new → IsSettled old.end → IsSettled new.end
@@ -196,7 +231,9 @@ feeds_settled steps old new piece fed h s = record {
   orderly = feeds_orderly steps.laws old new piece fed h s.attended s.sound s.orderly;
   sound = feeds_sound steps.laws old new piece fed h s.attended s.sound;
   ordered = feeds_ordered steps.laws old new piece fed h s.attended s.sound s.ordered;
-  came = feeds_all steps.units old new piece fed h s.came;
+  came = feeds_all CameAbout (came_true steps.units) old new piece fed h s.came;
+  profiled = feeds_all IsProfiled (profile_true steps.profiles.kept steps.profiles.called) old new piece fed h s.profiled;
+  gone = feeds_gone old new piece fed h s.gone;
 }
 
 pub first_settled : (e : End) → IsSettled e → IsSettled (record e { lines = without_first e.lines })
@@ -205,7 +242,9 @@ first_settled e s = record {
   orderly = s.orderly;
   sound = first_sound e s.sound;
   ordered = first_ordered e s.ordered;
-  came = told_all e.lines s.came;
+  came = told_all CameAbout e.lines s.came;
+  profiled = told_all IsProfiled e.lines s.profiled;
+  gone = first_gone e s.gone;
 }
 
 pub carried_settled : (octets : ℕ) (e : End) → IsSettled e → IsSettled (carried octets e)
@@ -215,6 +254,8 @@ carried_settled octets e s = record {
   sound = carried_sound octets e s.sound;
   ordered = carried_ordered octets e s.ordered;
   came = s.came;
+  profiled = s.profiled;
+  gone = s.gone;
 }
 
 pub breaks_settled : (e : End) → IsSettled e → IsSettled (breaks e)
@@ -223,8 +264,16 @@ breaks_settled e s = record {
   orderly = breaks_orderly e s.orderly;
   sound = breaks_sound e;
   ordered = breaks_ordered e s.ordered;
-  came = breaks_all e s.came;
+  came = breaks_all CameAbout e s.came;
+  profiled = breaks_all IsProfiled e s.profiled;
+  gone = breaks_gone e s.gone;
 }
+
+-- ---- one session
+
+pub profiled_at : (r : ℕ) (s : Listener) (lines : Rows Line) (o : Option Line) → value_at r lines ≡ o → session_in o ≡ Some s → OfSessions IsProfiled lines → HasProfile s.state
+profiled_at r s lines None at is all = cc
+profiled_at r s lines (Some line) at is all = subst (λ (o : Option Listener). IfSome o IsProfiled) is (at_line IsProfiled r line lines all at)
 
 -- ---- after the end
 
@@ -236,8 +285,8 @@ table_by : Below → (r : ℕ) (call : Call) (e : End) (o : Option EndReason) �
 table_by law r call e None is serial s = answered_is law r call e serial is (s.sound is) s.came
 table_by law r call e (Some reason) is serial s =
     let none = none_at r e s.orderly (ap is_some is) in
-    ap (λ (o : Option Standing). if not (has_given r e.carrier) then Some error.NoSuchConnection else session_refusal r o call e.carrier) none
-    ∙ sym (ap (λ (o : Option Standing). if not (has_given r e.carrier) then Some error.NoSuchConnection else session_error o call) none)
+    ap (λ (o : Option Listener). if not (has_given r e.carrier) then Some error.NoSuchConnection else session_refusal r o call e.carrier) none
+    ∙ sym (ap (λ (o : Option Listener). if not (has_given r e.carrier) then Some error.NoSuchConnection else session_error o call) none)
 
 pub table_is : Below → (r : ℕ) (call : Call) (e : End) → HasSerial call → IsSettled e → call_error r call e ≡ table_error r call e
 table_is law r call e serial s = table_by law r call e e.carrier.ended refl serial s
@@ -249,7 +298,7 @@ given_or false = refl
 -- no call is accepted
 pub over_is : (r : ℕ) (call : Call) (e : End) → IsSettled e → IsSome e.carrier.ended → IsSome (call_error r call e)
 over_is r call e s over =
-    subst (λ (o : Option Standing). IsSome (if not (has_given r e.carrier) then Some error.NoSuchConnection else session_refusal r o call e.carrier))
+    subst (λ (o : Option Listener). IsSome (if not (has_given r e.carrier) then Some error.NoSuchConnection else session_refusal r o call e.carrier))
     (sym (none_at r e s.orderly over)) (given_or (has_given r e.carrier))
 
 -- ---- for the calls of a stack
@@ -259,10 +308,10 @@ pub settled_by : {A F : Type 0} (result : Result A F) (old new next : Holding) �
 settled_by (Ok x) old new next ok err was is = subst (λ (h : Holding). IsSettled h.end) (sym ok) is
 settled_by (Err e) old new next ok err was is = subst (λ (h : Holding). IsSettled h.end) (sym err) was
 
-pub settled_connect : {A F : Type 0} (result : Result A F) (c : Connect) (old new : Holding) → OnOk result (new ≡ record old { end = connects c old.end }) →
+pub settled_connect : {A F : Type 0} (result : Result A F) (c : Connect) (old new : Holding) → (connect_error c old.end ≡ None → IsSettled old.end → IsSettled (connects c old.end)) → OnOk result (new ≡ record old { end = connects c old.end }) →
     OnOk result (connect_error c old.end ≡ None) → OnErr result (new ≡ old) → IsSettled old.end → IsSettled new.end
-settled_connect (Ok x) c old new ok allowed err was = subst (λ (h : Holding). IsSettled h.end) (sym ok) (connect_settled c old.end allowed was)
-settled_connect (Err e) c old new ok allowed err was = subst (λ (h : Holding). IsSettled h.end) (sym err) was
+settled_connect (Ok x) c old new settles ok allowed err was = subst (λ (h : Holding). IsSettled h.end) (sym ok) (settles allowed was)
+settled_connect (Err e) c old new settles ok allowed err was = subst (λ (h : Holding). IsSettled h.end) (sym err) was
 
 refused_by : (b : Bool) (e : CallError) (first all : Option CallError) → all ≡ first → RefusesBy b e first all → (if b then None else Some e) ≡ first
 refused_by true e first all same h = sym h

@@ -25,7 +25,7 @@ use Rattle.osi_carrier.proofs.AtReferences.{put_up, push_other}
 use Rattle.osi_carrier.proofs.Effects.{How, effect, orderly_packet, orderly_asks, orderly_sent, orderly_closed, orderly_same, orderly_fresh}
 use Rattle.osi_carrier.proofs.ToldOpen.{packet_opens, asks_opens}
 use Rattle.osi_session.specs.Calls.{Call}
-use Rattle.osi_session.specs.Moves.{Input, Standing, called, opened, react}
+use Rattle.osi_session.specs.Listening.{Input, Listener, called, opened, react}
 use Rattle.osi_session.specs.Sessions.{awaits}
 use Rattle.osi_stack.specs.Calls.{connects, connect_error, after_open, terms_error, calls_with, breaks, carried, without_first, rest_by}
 use Rattle.osi_stack.specs.Feeding.{TakesPackets, Goes, Feeds}
@@ -100,7 +100,7 @@ or_none true h = refl
 or_none false h = cc
 
 -- a new line is kept only where its connection is live
-up_joined : (n r : ℕ) (s : Standing) (live : Rows Connection) (lines : Rows Line) → AreUpTo n live → AreUpTo n lines → AreUpTo n (used_lines live (joined_lines r s lines))
+up_joined : (n r : ℕ) (s : Listener) (live : Rows Connection) (lines : Rows Line) → AreUpTo n live → AreUpTo n lines → AreUpTo n (used_lines live (joined_lines r s lines))
 up_joined n r s live [] up known =
     up_used_by n r (record { session = Some s; waiting = [] }) live [] (is_used live (r, record { session = Some s; waiting = [] })) refl
     (λ used. up_at r n live up (or_none (is_some (value_at r live)) used)) tt
@@ -138,7 +138,7 @@ answers_leave true r tsdu c = record { orderly = orderly_closed r 128 c; given =
 answers_leave false r None c = leaves_same c
 answers_leave false r (Some tsdu) c = unless_leaves (send_error tsdu (open_link r c)) r tsdu c
 
-pub carrier_leaves : (r : ℕ) (o : Option Standing) (input : Input) (c : Carrier) → Leaves c (carrier_by r o input c)
+pub carrier_leaves : (r : ℕ) (o : Option Listener) (input : Input) (c : Carrier) → Leaves c (carrier_by r o input c)
 carrier_leaves r None input c = leaves_same c
 carrier_leaves r (Some s) input c = answers_leave (react s input).closes r _ c
 
@@ -159,7 +159,7 @@ line_fits r input e (Some line) f =
 pub session_fits : (r : ℕ) (input : Input) (e : End) → Fits e → Fits (to_session r input e)
 session_fits r input e f = line_fits r input e (value_at r e.lines) f
 
-pub joins_fits : (r : ℕ) (s : Standing) (e : End) → Fits e → Fits (joins r s e)
+pub joins_fits : (r : ℕ) (s : Listener) (e : End) → Fits e → Fits (joins r s e)
 joins_fits r s e f = record { orderly = f.orderly; known = up_joined e.carrier.given r s e.carrier.live e.lines f.orderly.up_to f.known }
 
 opens_fits : (r : ℕ) (e : End) (o : Option Line) → Fits e → Fits (opens r o e)
@@ -266,23 +266,23 @@ open_none None error h = refl
 open_none (Some e) error h = cc
 
 -- a caller's session waits for its connection
-asked_linked : (q : ℕ) (s : Standing) (e : End) (c : Carrier) → value_at q e.lines ≡ None → AreApart e.lines → needs_link s.state.phase ≡ false → AllLinked [] e →
+asked_linked : (q : ℕ) (s : Listener) (e : End) (c : Carrier) → value_at q e.lines ≡ None → AreApart e.lines → needs_link s.state.phase ≡ false → AllLinked [] e →
     ((r : ℕ) → is_open r c ≡ is_open r e.carrier) → (r : ℕ) (b : Bool) → (r == q) ≡ b → Stays r c.live (joined_lines q s e.lines) →
     IsLinked r (kept_at r (used_lines c.live (joined_lines q s e.lines))) [] c
 asked_linked q s e c none apart unneeded l same r true at (inl is) =
     let here = eqb-true r q at in
     let kept : kept_at r (used_lines c.live (joined_lines q s e.lines)) ≡ Some s =
     ap session_in (is ∙ ap (λ n. value_at n (joined_lines q s e.lines)) here ∙ push_here q (record { session = Some s; waiting = [] }) e.lines none) in
-    subst (λ (o : Option Standing). IsLinked r o [] c) (sym kept) (record {
-      needed = λ t is n h. (let one : s ≡ t = cc in both (needs_link s.state.phase) (ap (λ (x : Standing). needs_link x.state.phase) one ∙ n) unneeded);
+    subst (λ (o : Option Listener). IsLinked r o [] c) (sym kept) (record {
+      needed = λ t is n h. (let one : s ≡ t = cc in both (needs_link s.state.phase) (ap (λ (x : Listener). needs_link x.state.phase) one ∙ n) unneeded);
       fresh = inl (λ h. cc);
     })
 asked_linked q s e c none apart unneeded l same r b at (inr gone) =
-    subst (λ (o : Option Standing). IsLinked r o [] c) (sym (ap session_in gone.0)) (record { needed = λ t is n h. cc; fresh = inl (λ h. cc) })
+    subst (λ (o : Option Listener). IsLinked r o [] c) (sym (ap session_in gone.0)) (record { needed = λ t is n h. cc; fresh = inl (λ h. cc) })
 asked_linked q s e c none apart unneeded l same r false at (inl is) =
     let ne : r ≢ q = (λ here. both (r == q) (eq-eqb r q here) at) in
     let kept : kept_at r (used_lines c.live (joined_lines q s e.lines)) ≡ kept_at r e.lines = ap session_in (is ∙ push_other r q _ e.lines ne) in
-    subst (λ (o : Option Standing). IsLinked r o [] c) (sym kept) (record {
+    subst (λ (o : Option Listener). IsLinked r o [] c) (sym kept) (record {
       needed = λ t is n h. same r ∙ (l r).needed t is n h;
       fresh = inl (λ h. cc);
     })

@@ -17,7 +17,7 @@ use Rattle.osi_spdu.specs.Fields.{unit_bits}
 use Rattle.osi_spdu.specs.Sizes.{named_by}
 use Rattle.osi_session.specs.Allowed.{serial_for, most_user_data}
 use Rattle.osi_session.specs.Calls.{Call}
-use Rattle.osi_session.specs.Moves.{Standing, Move, called, react}
+use Rattle.osi_session.specs.Listening.{Listener, Move, called, react}
 use Rattle.osi_session.specs.Numbers.{from_base}
 use Rattle.osi_session.specs.Sessions.{asking, is_memory}
 use Rattle.osi_session.specs.Shown.{Shown}
@@ -87,8 +87,8 @@ asked_for c = CN true (unit_bits c.requirements) (serial_for (functional_units (
     (offered (functional_units (unit_bits c.requirements)) c.wishes) (calling_octets c) (called_octets c) (named_by c.sizes) c.user_data.now
 
 -- the session of a caller, whose CN waits for the transport connection
-abbrev pub calls_with : Connect → Standing
-calls_with c = record { state = asking (opening_of c); waiting = Some (asked_for c) }
+abbrev pub calls_with : Connect → Listener
+calls_with c = record { state = asking (opening_of c); waiting = Some (asked_for c); joined = None }
 
 -- a CR is written, and the connection has a session
 abbrev pub connects : Connect → End → End
@@ -120,11 +120,11 @@ abbrev pub move_refusal : ℕ → Move → Carrier → Option CallError
 move_refusal r move c = or_else move.error (reply_refusal r move.reply c)
 
 -- the error of the session, and where it has none that of the carrier
-abbrev pub session_error : Option Standing → Call → Option CallError
+abbrev pub session_error : Option Listener → Call → Option CallError
 session_error None call = Some error.Ended
 session_error (Some session) call = (react session (called call)).error
 
-abbrev pub session_refusal : ℕ → Option Standing → Call → Carrier → Option CallError
+abbrev pub session_refusal : ℕ → Option Listener → Call → Carrier → Option CallError
 session_refusal r None call c = Some error.Ended
 session_refusal r (Some session) call c = move_refusal r (react session (called call)) c
 
@@ -151,11 +151,11 @@ by_rule e = if is_memory e then None else Some e
 
 -- ---- what a session holds
 
-abbrev pub held_by : Option Standing → Tokens
+abbrev pub held_by : Option Listener → Tokens
 held_by None = no_token
 held_by (Some session) = session.state.held
 
-abbrev pub phase_of : Option Standing → Phase
+abbrev pub phase_of : Option Listener → Phase
 phase_of None = Ended
 phase_of (Some session) = session.state.phase
 
@@ -163,7 +163,7 @@ phase_of (Some session) = session.state.phase
 abbrev pub phase_at : ℕ → End → Option Phase
 phase_at r e = if has_given r e.carrier then Some (phase_of (session_at r e)) else None
 
-abbrev pub numbers_of : Option Standing → Numbers
+abbrev pub numbers_of : Option Listener → Numbers
 numbers_of None = from_base 0
 numbers_of (Some session) = session.state.numbers
 

@@ -9,7 +9,7 @@ use Rattle.osi_carrier.specs.State.{State as Carrier}
 use Rattle.osi_carrier.specs.State as carriers
 use Rattle.osi_carrier.specs.declared.ends.EndReason.{EndReason}
 use Rattle.osi_carrier.specs.declared.ends.EndReason.TheVariants.{NoMemory}
-use Rattle.osi_session.specs.Moves.{Standing, opened, refused, broken, came, react}
+use Rattle.osi_session.specs.Listening.{Listener, opened, refused, broken, came, react}
 use Rattle.osi_session.specs.Sessions.{awaits}
 use Rattle.osi_session.specs.Shown.{Shown}
 use Rattle.osi_stack.specs.Moving.{to_session}
@@ -56,7 +56,7 @@ hears_all e = hears_times (length e.carrier.events) e
 -- ---- the end
 
 -- what a session shows when its connection is lost
-abbrev pub shown_at_loss : Option Standing → List Shown
+abbrev pub shown_at_loss : Option Listener → List Shown
 shown_at_loss None = []
 shown_at_loss (Some session) = (react session broken).shown
 

@@ -6,7 +6,7 @@ use Rattle.osi_carrier.specs.Happenings as told
 use Rattle.osi_carrier.specs.Orderly.{told_of}
 use Rattle.osi_carrier.specs.Packets as carriers
 use Rattle.osi_carrier.specs.Rows.{Rows, value_at}
-use Rattle.osi_session.specs.Moves.{Input, Standing, called, opened, refused, broken, came, after_inputs}
+use Rattle.osi_session.specs.Listening.{Input, Listener, called, opened, refused, broken, came, after_inputs}
 use Rattle.osi_session.specs.Sessions.{awaits}
 use Rattle.osi_stack.specs.Calls.{calls_with, connect_error, call_error}
 use Rattle.osi_stack.specs.Hearing.{after_packet}
@@ -49,16 +49,16 @@ inputs_of r [] = []
 inputs_of r ((q, input) ∷ inputs) = if q == r then input ∷ inputs_of r inputs else inputs_of r inputs
 
 -- a session is to send the CN of the user that asked for its connection; or it awaits a CN
-abbrev pub begun_as : Option Connect → Standing
+abbrev pub begun_as : Option Connect → Listener
 begun_as None = awaits
 begun_as (Some c) = calls_with c
 
-abbrev pub made_at : ℕ → Past → Standing
+abbrev pub made_at : ℕ → Past → Listener
 made_at r past = after_inputs (begun_as (value_at r past.asked)) (inputs_of r past.inputs)
 
 -- each session of an end is what its own inputs made of what it began as
 abbrev pub AreMadeBy : Past → End → Type 0
-AreMadeBy past e = (r : ℕ) (s : Standing) → kept_at r e.lines ≡ Some s → s ≡ made_at r past
+AreMadeBy past e = (r : ℕ) (s : Listener) → kept_at r e.lines ≡ Some s → s ≡ made_at r past
 
 -- ---- what happens in a call
 

@@ -1,6 +1,7 @@
 pub mod State
 pub mod Transport
 pub mod Moving
+pub mod Parted
 pub mod Telling
 pub mod Hearing
 pub mod Feeding

@@ -3,7 +3,7 @@ use Rattle.std.specs.Prelude.{◌≡◌, ℕ, Bool, true, ◌||◌, [], ◌∷�
 use Rattle.osi_carrier.specs.Orderly.{AreUpTo, IsOrderly}
 use Rattle.osi_carrier.specs.Rows.{Rows, value_at}
 use Rattle.osi_carrier.specs.Told.{is_open}
-use Rattle.osi_session.specs.Moves.{Standing}
+use Rattle.osi_session.specs.Listening.{Listener}
 use Rattle.osi_session.specs.Phases.{is_wait_cn, may_abort}
 use Rattle.osi_session.specs.declared.phases.Phase.{Phase}
 use Rattle.osi_stack.specs.Messages.{kept_at}
@@ -15,7 +15,7 @@ needs_link p = is_wait_cn p || may_abort p
 
 -- While the carrier lasts, the transport connection of each such session is open.
 abbrev pub HasLinks : End → Type 0
-HasLinks e = e.carrier.ended ≡ None → (r : ℕ) (s : Standing) → kept_at r e.lines ≡ Some s → needs_link s.state.phase ≡ true →
+HasLinks e = e.carrier.ended ≡ None → (r : ℕ) (s : Listener) → kept_at r e.lines ≡ Some s → needs_link s.state.phase ≡ true →
     is_open r e.carrier ≡ true
 
 -- no two lines have one reference

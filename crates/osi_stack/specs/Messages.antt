@@ -1,7 +1,7 @@
 -- What an end takes, shows and puts for a connection, in whole messages.
 use Rattle.std.specs.Prelude.{◌≡◌, ◌≢◌, ◌≤◌, ℕ, Bool, true, false, List, [], ◌∷◌, ◌++◌, length, Option, Some, None, IsSome, Ok}
 use Rattle.osi_message.specs.Meanings.{Meaning}
-use Rattle.osi_message.specs.Sendable.{said_of, IsSendable}
+use Rattle.osi_message.specs.Sendable.{words_of, IsSendable}
 use Rattle.osi_message.specs.Written.{written}
 use Rattle.osi_tpdu.specs.Value.{Value}
 use Rattle.osi_carrier.specs.Calls.{open_link, sent, closed_with}
@@ -13,7 +13,7 @@ use Rattle.osi_carrier.specs.Rows.{Rows, value_at, put}
 use Rattle.osi_carrier.specs.State.{asked, linked, State as Carrier}
 use Rattle.osi_session.specs.Allowed.{Step, allowed}
 use Rattle.osi_session.specs.Calls.{Call}
-use Rattle.osi_session.specs.Moves.{Input, Standing, called, opened, refused, broken, taken, in_state, react}
+use Rattle.osi_session.specs.Listening.{Input, Listener, called, opened, refused, broken, taken, in_state, react}
 use Rattle.osi_session.specs.Sessions.{awaits}
 use Rattle.osi_session.specs.Shown.{Shown}
 use Rattle.osi_stack.specs.Coming.{carries_out}
@@ -76,7 +76,7 @@ puts r (m ∷ messages) c = puts r messages (does r m c)
 -- carrier did what it put. All other lines stand as they did.
 pub record Acts (r : ℕ) (input : Input) (old new : End) : Type 0 where
   pub line : Line
-  pub session : Standing
+  pub session : Listener
   pub here : value_at r old.lines ≡ Some line
   pub is : line.session ≡ Some session
   pub lines : new.lines ≡ put r (line_after line (react session input)) old.lines
@@ -95,7 +95,7 @@ abbrev pub effect_at : Place → Message → Effect
 effect_at never ask = begins
 effect_at (was_given (Some asked)) agree = happens opened
 effect_at (was_given (Some asked)) (deny reason) = happens (refused reason)
-effect_at (was_given (Some (linked peer link))) (unit m) = happens (taken (said_of m))
+effect_at (was_given (Some (linked peer link))) (unit m) = happens (taken (words_of m))
 effect_at (was_given (Some (linked peer link))) (bye reason) = happens broken
 effect_at place m = rests
 
@@ -111,7 +111,7 @@ told_at r place m = []
 -- a connection has a session
 pub record HasSession (r : ℕ) (lines : Rows Line) : Type 0 where
   pub line : Line
-  pub session : Standing
+  pub session : Listener
   pub here : value_at r lines ≡ Some line
   pub is : line.session ≡ Some session
 
@@ -145,7 +145,7 @@ pub record Arrives (r : ℕ) (effect : Effect) (tpdu : Value) (old new : End) : 
 -- ---- a call
 
 -- A call that the table of calls allows, on an open connection: it sends one unit.
-pub record IsGranted (r : ℕ) (call : Call) (s : Standing) (c : Carrier) : Type 0 where
+pub record IsGranted (r : ℕ) (call : Call) (s : Listener) (c : Carrier) : Type 0 where
   pub step : Step
   pub accepted : allowed s.state call ≡ Ok step
   pub opened : IsSome (open_link r c)
@@ -164,7 +164,7 @@ pub record Says (r : ℕ) (call : Call) (old new : End) : Type 0 where
 -- ---- what is seen of connections
 
 -- the session of a reference, also of one that is gone while its user has still to be shown something
-abbrev pub kept_at : ℕ → Rows Line → Option Standing
+abbrev pub kept_at : ℕ → Rows Line → Option Listener
 kept_at r lines = session_in (value_at r lines)
 
 abbrev pub waiting_of : Option Line → List Shown
@@ -177,7 +177,7 @@ waiting_at r lines = waiting_of (value_at r lines)
 
 -- The session at a reference became this one, and its user is to be shown this more; all others are as
 -- they were.
-pub record Becomes (r : ℕ) (session : Standing) (shown : List Shown) (old new : Rows Line) : Type 0 where
+pub record Becomes (r : ℕ) (session : Listener) (shown : List Shown) (old new : Rows Line) : Type 0 where
   pub session_is : kept_at r new ≡ Some session
   pub waiting : waiting_at r new ≡ waiting_at r old ++ shown
   pub others : (q : ℕ) → q ≢ r → value_at q new ≡ value_at q old

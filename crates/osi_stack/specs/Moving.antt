@@ -3,7 +3,7 @@ use Rattle.std.specs.Prelude.{ℕ, ◌++◌, Option, Some, None, option_map}
 use Rattle.osi_carrier.specs.Rows.{value_at, put}
 use Rattle.osi_carrier.specs.State.{State as Carrier}
 use Rattle.osi_message.specs.Written.{written}
-use Rattle.osi_session.specs.Moves.{Input, Standing, Move, react}
+use Rattle.osi_session.specs.Listening.{Input, Listener, Move, react}
 use Rattle.osi_stack.specs.State.{Line, End}
 use Rattle.osi_stack.specs.Transport.{answers_by}
 
@@ -16,11 +16,11 @@ abbrev pub line_after : Line → Move → Line
 line_after line move = record { session = Some move.next; waiting = line.waiting ++ move.shown }
 
 -- something happens to the session of a line, if there is one
-abbrev pub line_by : Line → Option Standing → Input → Line
+abbrev pub line_by : Line → Option Listener → Input → Line
 line_by line None input = line
 line_by line (Some session) input = line_after line (react session input)
 
-abbrev pub carrier_by : ℕ → Option Standing → Input → Carrier → Carrier
+abbrev pub carrier_by : ℕ → Option Listener → Input → Carrier → Carrier
 carrier_by r None input c = c
 carrier_by r (Some session) input c = answers r (react session input) c
 

@@ -5,7 +5,7 @@ use Rattle.std.specs.List.{flat_map}
 use Rattle.osi_carrier.specs.Rows.{Rows, value_at}
 use Rattle.osi_carrier.specs.State.{Connection}
 use Rattle.osi_session.specs.Calls.{Call as SessionCall}
-use Rattle.osi_session.specs.Moves.{called}
+use Rattle.osi_session.specs.Listening.{called}
 use Rattle.osi_stack.specs.Calls.{connects, breaks, call_error}
 use Rattle.osi_stack.specs.Moving.{to_session}
 use Rattle.osi_stack.specs.Runs.{Call, CallsAlong, used_in}

@@ -5,7 +5,6 @@ use Rattle.std.specs.List.{flat_map, filter}
 use Rattle.osi_tpkt.specs.Packet.{IsPartial}
 use Rattle.osi_tpkt.specs.Stream.{ArePackets, offset_of}
 use Rattle.osi_tpkt.specs.declared.cutting.Fed.{Fed}
-use Rattle.osi_carrier.specs.Calls.{kept_in}
 use Rattle.osi_carrier.specs.Rows.{Rows}
 use Rattle.osi_session.specs.Calls.{Call as SessionCall}
 use Rattle.osi_session.specs.Shown.{Shown}
@@ -13,7 +12,7 @@ use Rattle.osi_stack.specs.Calls.{connect_error, call_error, first_shown, withou
 use Rattle.osi_stack.specs.Feeding.{stops, RunsDry, StopsBehind, Refuses, Feeds}
 use Rattle.osi_stack.specs.Hearing.{after_packet}
 use Rattle.osi_stack.specs.Messages.{all_waiting}
-use Rattle.osi_stack.specs.State.{Line, End, Holding, session_at}
+use Rattle.osi_stack.specs.State.{Line, End, Holding, session_at, kept_octets}
 use Rattle.osi_stack.specs.declared.connecting.Connect.{Connect}
 
 -- ---- what an end comes to
@@ -136,6 +135,6 @@ pub record LookAlike (a : Holding) (xs : List Call) (b : Holding) (ys : List Cal
   pub indications : (r : ℕ) → told_of r (flat_map told_in xs ++ all_waiting a.end.lines) ≡ told_of r (flat_map told_in ys ++ all_waiting b.end.lines)
   pub octets : flat_map carried_in xs ++ a.end.carrier.outgoing ≡ flat_map carried_in ys ++ b.end.carrier.outgoing
   pub ended : a.end.carrier.ended ≡ b.end.carrier.ended
-  pub kept : length a.held.octets + kept_in a.end.carrier.live ≡ length b.held.octets + kept_in b.end.carrier.live
+  pub kept : kept_octets a ≡ kept_octets b
   pub requests : (c : Connect) → connect_error c a.end ≡ connect_error c b.end
   pub answers : (r : ℕ) (call : SessionCall) → call_error r call a.end ≡ call_error r call b.end

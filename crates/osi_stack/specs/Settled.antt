@@ -1,9 +1,15 @@
 -- What is true of every end between any two calls.
+use Rattle.std.specs.Prelude.{◌≡◌, ℕ, None, IsSome}
 use Rattle.osi_carrier.specs.Orderly.{IsOrderly}
-use Rattle.osi_stack.specs.Folds.{AllCameAbout}
+use Rattle.osi_stack.specs.Folds.{AllCameAbout, AllProfiled}
 use Rattle.osi_stack.specs.Links.{IsSound}
+use Rattle.osi_stack.specs.Messages.{kept_at}
 use Rattle.osi_stack.specs.Ordered.{IsOrdered}
 use Rattle.osi_stack.specs.State.{End, IsAttended}
+
+-- once the carrier has ended no session is left
+abbrev pub IsGone : End → Type 0
+IsGone e = IsSome e.carrier.ended → (r : ℕ) → kept_at r e.lines ≡ None
 
 pub record IsSettled (e : End) : Type 0 where
   -- while it lasts, its sessions have heard all that its carrier told
@@ -16,3 +22,7 @@ pub record IsSettled (e : End) : Type 0 where
   pub ordered : IsOrdered e
   -- each session is what its inputs made of it
   pub came : AllCameAbout e.lines
+  -- its functional units can be selected together
+  pub profiled : AllProfiled e.lines
+  -- and none is left once it has ended
+  pub gone : IsGone e

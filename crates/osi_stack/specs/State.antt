@@ -1,18 +1,19 @@
 -- One end of a byte connection: the carrier, and for each of its connections a session.
-use Rattle.std.specs.Prelude.{◌≡◌, ℕ, Bool, not, ◌||◌, List, [], ◌∷◌, ◌++◌, Option, Some, None, is_some, length, ◌==◌, if◌then◌else◌}
-use Rattle.std.specs.List.{list_any, count_by, filter}
+use Rattle.std.specs.Prelude.{◌≡◌, ℕ, ◌+◌, Bool, not, ◌||◌, List, [], ◌∷◌, ◌++◌, Option, Some, None, is_some, length, ◌==◌, if◌then◌else◌}
+use Rattle.std.specs.List.{list_any, count_by, filter, sum_by}
 use Rattle.osi_tpkt.specs.Held.{Held}
 use Rattle.osi_class.specs.declared.terms.Local.{Local}
-use Rattle.osi_carrier.specs.Calls.{fresh_state}
+use Rattle.osi_carrier.specs.Calls.{fresh_state, kept_in}
 use Rattle.osi_carrier.specs.Rows.{Rows, value_at}
 use Rattle.osi_carrier.specs.State.{Connection, State as Carrier}
-use Rattle.osi_session.specs.Moves.{Standing}
+use Rattle.osi_session.specs.Joining.{joined_octets}
+use Rattle.osi_session.specs.Listening.{Listener}
 use Rattle.osi_session.specs.Shown.{Shown}
 
 -- A connection: its session, none from the end of the carrier on; and what its user is still to be
 -- shown, the oldest first.
 pub record Line : Type 0 where
-  pub session : Option Standing
+  pub session : Option Listener
   pub waiting : List Shown
 
 -- `lines`: by the references that this end gave, in the order in which it gave them
@@ -32,13 +33,32 @@ fresh_end is_caller local = record { carrier = fresh_state is_caller local; line
 
 -- ---- the session of a reference
 
-abbrev pub session_in : Option Line → Option Standing
+abbrev pub session_in : Option Line → Option Listener
 session_in None = None
 session_in (Some line) = line.session
 
 -- that of a live connection; none where the connection is gone
-abbrev pub session_at : ℕ → End → Option Standing
+abbrev pub session_at : ℕ → End → Option Listener
 session_at r e = if is_some (value_at r e.carrier.live) then session_in (value_at r e.lines) else None
+
+-- ---- what is kept
+
+-- how many octets a session has joined of an unfinished SSDU
+abbrev pub joined_of : Option Listener → ℕ
+joined_of None = 0
+joined_of (Some session) = length (joined_octets session.joined)
+
+-- that of a line, where its connection is live
+abbrev pub joined_live : Rows Connection → ℕ × Line → ℕ
+joined_live live row = if is_some (value_at row.0 live) then joined_of row.1.session else 0
+
+-- and that of all of them
+abbrev pub joined_in : Rows Connection → Rows Line → ℕ
+joined_in live lines = sum_by (λ row. joined_live live row) lines
+
+-- of the packet under way, of unfinished TSDUs and of unfinished SSDUs
+abbrev pub kept_octets : Holding → ℕ
+kept_octets h = length h.held.octets + kept_in h.end.carrier.live + joined_in h.end.carrier.live h.end.lines
 
 -- ---- what waits
 
@@ -63,7 +83,7 @@ abbrev pub used_lines : Rows Connection → Rows Line → Rows Line
 used_lines live lines = filter (is_used live) lines
 
 -- a new session, for which nothing waits; lines that are of no use are dropped
-abbrev pub joins : ℕ → Standing → End → End
+abbrev pub joins : ℕ → Listener → End → End
 joins r session e = record e { lines = used_lines e.carrier.live (e.lines ++ (r, record { session = Some session; waiting = [] }) ∷ []) }
 
 -- an end that has not ended has heard all that its carrier told

@@ -1,5 +1,5 @@
 -- What sessions are told in memory.
-use Rattle.osi_session.specs.Moves.{Input, opened, refused, broken, came}
+use Rattle.osi_session.specs.Listening.{Input, opened, refused, broken, came}
 use Rattle.osi_stack.specs.declared.told.Told.{Told}
 use Rattle.osi_stack.specs.declared.told.Told.TheVariants.{Opened, Refused, Tsdu, Lost}
 

@@ -3,7 +3,7 @@
 ghost use Rattle.std.specs.Prelude.{◌≡◌, [], None, false, ◌<◌, ◌≤◌, ◌+◌, ◌++◌, map, length, OnOk, OnErr};
 ghost use Rattle.std.specs.Vec.{vec_len};
 ghost use Rattle.std.specs.VecDeque.{deque_len, deque_capacity};
-ghost use Rattle.osi_session.specs.Moves.{react};
+ghost use Rattle.osi_session.specs.Listening.{react};
 ghost use Rattle.osi_session.specs.Phases.{shows_loss};
 ghost use Rattle.osi_session.specs.Sessions.{Takes};
 ghost use Rattle.osi_session.specs.Shown.{shown_by};

@@ -1,6 +1,6 @@
 //! Laws of one end. Each function does nothing: its clauses are the laws.
 
-ghost use Rattle.std.specs.Prelude.{◌≡◌, ◌≢◌, ◌<◌, ◌≤◌, ◌^◌, ◌⊎◌, ℕ, Bool, List, [], ◌++◌, None, Some, IsSome, is_some, false, true, length, take};
+ghost use Rattle.std.specs.Prelude.{◌≡◌, ◌≢◌, ◌<◌, ◌≤◌, ◌^◌, ◌⊎◌, ℕ, Bool, List, [], ◌++◌, None, Some, IsSome, is_some, false, true, length, map, take};
 ghost use Rattle.std.specs.List.{flat_map};
 ghost use Rattle.osi_tpkt.specs.Held.{fresh};
 ghost use Rattle.osi_tpkt.specs.Packet.{IsPartial};
@@ -13,9 +13,18 @@ ghost use Rattle.osi_carrier.specs.Orderly.{RiseFrom};
 ghost use Rattle.osi_carrier.specs.React.{react as carrier_react};
 ghost use Rattle.osi_carrier.specs.Rows.{Rows, value_at};
 ghost use Rattle.osi_carrier.specs.State.{Connection};
+ghost use Rattle.osi_carrier.specs.Told.{is_open};
 ghost use Rattle.osi_carrier.specs.declared.ends.EndReason.TheVariants.{NoMemory};
 ghost use Rattle.osi_session.specs.Calls.{Call, HasSerial};
-ghost use Rattle.osi_session.specs.Moves.{Input, called, react};
+ghost use Rattle.osi_message.specs.Meanings.{DT};
+ghost use Rattle.osi_message.specs.Words.{part_octets};
+ghost use Rattle.osi_message.specs.Written.{written as whole_octets};
+ghost use Rattle.osi_message.specs.declared.places.Place.TheVariants.{Last};
+ghost use Rattle.osi_session.specs.Allowed.{most_data};
+ghost use Rattle.osi_session.specs.Joining.{joined_octets};
+ghost use Rattle.osi_session.specs.Kept.{IsNoFault};
+ghost use Rattle.osi_session.specs.Listening.{Input, Listener, called, came, react};
+ghost use Rattle.osi_session.specs.Parts.{Act, AreParts, HasProfile, act_in_octets, calls_in};
 ghost use Rattle.osi_stack.specs.Calls.{call_error, table_error, connect_error, connects, carried, breaks, first_shown, without_first};
 ghost use Rattle.osi_stack.specs.Folds.{AllCameAbout};
 ghost use Rattle.osi_stack.specs.Inputs.{AreMadeBy, Past, Step, StepsAlong, no_past};
@@ -28,6 +37,7 @@ ghost use Rattle.osi_stack.specs.Hearing.{after_packet, all_lost};
 ghost use Rattle.osi_stack.specs.Messages.{Message, Effect, begins, IsWhole, Acts, effect_at, told_at, CanHear, Arrives, kept_at, Becomes, Says, AreLost, all_waiting, IsFirstOf};
 ghost use Rattle.osi_stack.specs.Moving.{to_session};
 ghost use Rattle.osi_stack.specs.Ordered.{IsOrdered, TellsLowest};
+ghost use Rattle.osi_stack.specs.Parted.{to_session_along};
 ghost use Rattle.osi_stack.specs.Rounds.{Round, RoundsAlong, AreInStep, calls_of};
 ghost use Rattle.osi_stack.specs.Runs.{Call as EndCall, CallsAlong, CallsInRoom, Reads, AreAlike, AreAlikeByReference, LookAlike, used_in};
 ghost use Rattle.osi_stack.specs.Settled.{IsSettled};
@@ -35,9 +45,9 @@ ghost use Rattle.osi_stack.specs.State.{Line, End, Holding, IsAttended, fresh_en
 
 use osi_message::laws::what_is_sent_is_read;
 use osi_session::laws::{
-    an_ended_session_stays_ended, numbers_stay_in_order, what_an_accepted_call_passed,
-    what_closes_sends_nothing, what_happens_has_numbers, what_is_sent_can_be_sent,
-    where_a_call_is_accepted,
+    an_ended_session_stays_ended, numbers_stay_in_order, parts_are_the_whole, units_are_a_profile,
+    what_an_accepted_call_passed, what_closes_sends_nothing, what_happens_has_numbers,
+    what_is_joined, what_is_sent_can_be_sent, where_a_call_is_accepted,
 };
 use osi_spdu::laws::{few_octets_fit, serial_digits};
 use osi_tpkt::laws::{a_prefix_of_a_packet, a_stream_has_one_cut, no_packet_begins_another};
@@ -183,7 +193,7 @@ pub fn lines_rise_whatever_comes()
 }
 
 /// So between any two calls, whatever was called, fed, told and lost, what [`IsSettled`] says is true of an end:
-/// also once it has ended, when none of its connections is live. A stack keeps it.
+/// also once it has ended, when none of its connections is live and no session is left. A stack keeps it.
 ///
 /// [`IsSettled`]: ../specs/Settled.antt
 pub fn an_end_is_settled_between_calls()
@@ -195,11 +205,14 @@ pub fn an_end_is_settled_between_calls()
     ensures carried { (octets : ℕ) (e : End) → IsSettled e → IsSettled (carried octets e) }
     ensures broken { (e : End) → IsSettled e → IsSettled (breaks e) }
     ensures over { (r : ℕ) (e : End) → IsSettled e → IsSome e.carrier.ended → session_at r e ≡ None }
+    ensures gone { (r : ℕ) (e : End) → IsSettled e → IsSome e.carrier.ended → kept_at r e.lines ≡ None }
+    ensures profile { (r : ℕ) (session : Listener) (e : End) → IsSettled e → kept_at r e.lines ≡ Some session → HasProfile session.state }
 {
     an_ended_session_stays_ended();
     what_closes_sends_nothing();
     where_a_call_is_accepted();
     what_happens_has_numbers();
+    units_are_a_profile();
 }
 
 /// So between any two calls, also once an end has ended, a call is answered as the table of its session says,
@@ -214,6 +227,32 @@ pub fn a_call_of_a_settled_end_is_answered_by_its_session()
     what_is_sent_can_be_sent();
     what_an_accepted_call_passed();
     where_a_call_is_accepted();
+}
+
+/// So between any two calls, while an end lasts, a session that has joined octets of an unfinished SSDU may be
+/// called and has an open transport connection, and it has joined no more than one Data.
+pub fn what_is_joined_has_a_connection()
+    ensures opened { (r : ℕ) (session : Listener) (e : End) → IsSettled e → e.carrier.ended ≡ None → kept_at r e.lines ≡ Some session →
+        is_some session.joined ≡ true → is_open r e.carrier ≡ true }
+    ensures few { (r : ℕ) (session : Listener) (e : End) → IsSettled e → kept_at r e.lines ≡ Some session →
+        length (joined_octets session.joined) ≤ most_data }
+{
+    what_is_joined();
+}
+
+/// Data that comes in parts does to an end what it does in one TSDU: over the parts in their order, with any
+/// calls of the user of their session between, where nothing is unfinished and the whole Data is no fault. Behind
+/// the last part the end is the same as behind these calls and the whole Data: the session, what waits for its
+/// user, and what is put for the peer. Each session of a settled end has such functional units as are asked here
+/// ([`an_end_is_settled_between_calls`], `profile`).
+pub fn parts_are_one_data()
+    ensures { (r : ℕ) (session : Listener) (acts : List Act) (front last : List ℕ) (e : End) → kept_at r e.lines ≡ Some session →
+        session.joined ≡ None → HasProfile session.state → IsNoFault session.state (front ++ last) → length (front ++ last) ≤ most_data →
+        AreParts None acts front →
+        to_session r (came (part_octets Last last)) (to_session_along r (map act_in_octets acts) e)
+        ≡ to_session r (came (whole_octets (DT (front ++ last)))) (to_session_along r (calls_in acts) e) }
+{
+    parts_are_the_whole();
 }
 
 /// While the carrier of an end lasts, the sessions have heard all that it told, between any two calls.

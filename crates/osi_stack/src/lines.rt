@@ -1,15 +1,16 @@
 //! The sessions of one end, each with what its user is still to be shown.
 
-ghost use Rattle.std.specs.Prelude.{◌≡◌, ◌+◌, ◌<◌, ◌++◌, ◌∷◌, ◌==◌, [], true, false, cond, length, take, position, is_some, Some, None, IfOk, IfErr, IfSome, OnOk, OnErr, option_map};
+ghost use Rattle.std.specs.Prelude.{◌≡◌, ◌+◌, ◌*◌, ◌<◌, ◌≤◌, ◌++◌, ◌∷◌, ◌==◌, [], true, false, cond, length, take, position, is_some, Some, None, IfOk, IfErr, IfSome, OnOk, OnErr, option_map};
 ghost use Rattle.std.specs.VecDeque.{deque_len, deque_capacity};
+ghost use Rattle.osi_carrier.specs.Orderly.{RiseFrom};
 ghost use Rattle.osi_carrier.specs.Rows.{value_at, place_of};
 ghost use Rattle.osi_session.specs.Calls.{Data, called_by};
-ghost use Rattle.osi_session.specs.Moves.{called, react};
+ghost use Rattle.osi_session.specs.Listening.{called, react};
 ghost use Rattle.osi_session.specs.Shown.{Lost, shown_by};
 ghost use Rattle.osi_stack.specs.Calls.{move_refusal, session_refusal, session_error, Refuses, first_shown, without_first, TellsOf};
 ghost use Rattle.osi_stack.specs.Hearing.{loses, all_lost};
 ghost use Rattle.osi_stack.specs.Moving.{answers, line_by, carrier_by, to_session};
-ghost use Rattle.osi_stack.specs.State.{line_waits, waits, how_many_wait, is_used, used_lines, session_in};
+ghost use Rattle.osi_stack.specs.State.{line_waits, waits, how_many_wait, is_used, used_lines, session_in, joined_live, joined_in};
 ghost use Rattle.osi_stack.specs.Telling.{told_input};
 
 use crate::hearing::{hear, shows_loss};
@@ -176,6 +177,17 @@ impl Line {
         self.session.as_ref()
     }
 
+    /// How many octets the session has joined of an unfinished SSDU, where the connection is live.
+    fn joined(&self, carrier: &Carrier) -> usize
+        ensures value { result ≡ joined_live carrier.now.state.live self.now }
+        ensures at_most { result ≤ 1048572 * cond (is_some (value_at self.now.0 carrier.now.state.live)) 1 0 }
+    {
+        match &self.session {
+            Some(session) if carrier.is_live(Ref(self.reference)) => session.joined(),
+            _ => 0,
+        }
+    }
+
     /// The oldest indication that waits.
     fn next(&mut self) -> Option<Indication>
         ensures tells { TellsOf (option_map shown_by result) self.old self.new }
@@ -311,6 +323,20 @@ fn count_waiting(rows: &[Line]) -> usize
     waiting
 }
 
+/// How many octets the sessions of live connections have joined.
+fn count_joined(rows: &[Line], carrier: &Carrier) -> usize
+    requires rise { RiseFrom 0 rows.now }
+    requires few { length carrier.now.state.live ≤ 64 }
+    ensures value { result ≡ joined_in carrier.now.state.live rows.now }
+    ensures at_most { result ≤ 1048572 * length carrier.now.state.live }
+{
+    let mut octets = 0;
+    'lines: for line in rows {
+        octets += line.joined(carrier);
+    }
+    octets
+}
+
 /// For how many of so many lines an indication waits, where one did or did not and now does or does
 /// not.
 fn recount(waiting: usize, lines: usize, before: bool, after: bool) -> usize
@@ -359,6 +385,16 @@ impl Lines {
         ensures { result ≡ waits self.now }
     {
         self.waiting > 0
+    }
+
+    /// How many octets the sessions of live connections have joined.
+    pub fn joined(&self, carrier: &Carrier) -> usize
+        requires rise { RiseFrom 0 self.now }
+        requires few { length carrier.now.state.live ≤ 64 }
+        ensures value { result ≡ joined_in carrier.now.state.live self.now }
+        ensures at_most { result ≤ 1048572 * length carrier.now.state.live }
+    {
+        count_joined(self.rows.as_slice(), carrier)
     }
 
     /// Whether a connection has this reference.

@@ -34,17 +34,16 @@ impl Model for Stack {
 impl Stack {
     ghost use Rattle.std.specs.Prelude.{◌≡◌, ◌+◌, ◌*◌, ◌≤◌, true, false, None, [], IsSome, OnOk, OnErr, IfOk, IfErr, option_map, length};
     ghost use Rattle.osi_tpkt.specs.Held.{fresh};
-    ghost use Rattle.osi_carrier.specs.Calls.{kept_in};
     ghost use Rattle.osi_message.specs.Tokens.{named, no_token, token_octet};
     ghost use Rattle.osi_spdu.specs.Fields.{bits_of};
     ghost use Rattle.osi_session.specs.Calls.{called_by};
-    ghost use Rattle.osi_session.specs.Moves.{called};
+    ghost use Rattle.osi_session.specs.Listening.{called};
     ghost use Rattle.osi_session.specs.Shown.{shown_by};
     ghost use Rattle.osi_stack.specs.Calls.{connect_error, refusal, connects, call_error, table_error, Refuses, by_rule, held_by, phase_at, numbers_of, first_shown, without_first, carried, breaks};
     ghost use Rattle.osi_stack.specs.Feeding.{Feeds};
     ghost use Rattle.osi_stack.specs.Moving.{to_session};
     ghost use Rattle.osi_stack.specs.Ordered.{TellsLowest};
-    ghost use Rattle.osi_stack.specs.State.{fresh_end, session_at};
+    ghost use Rattle.osi_stack.specs.State.{fresh_end, session_at, kept_octets};
 
     /// The calling end of a byte connection. Nothing is written yet.
     pub fn caller(alloc: Global, local: Local) -> Self
@@ -212,11 +211,13 @@ impl Stack {
         self.hub.ended()
     }
 
-    /// How many octets are held of what came: those of the packet under way and of the unfinished
-    /// TSDUs of open connections. At most 65,535, and 1,048,576 for each live connection.
+    /// How many octets are held of what came: those of the packet under way, of the unfinished TSDUs of
+    /// open connections, and of data that came in parts of which the last is still to come. At most
+    /// 65,535, and 2,097,148 for each live connection: a TSDU of 1,048,576, and data of 1,048,572. Takes
+    /// a look at each connection.
     pub fn kept(&self) -> usize
-        ensures value { result ≡ length self.now.held.octets + kept_in self.now.end.carrier.live }
-        ensures at_most { result ≤ 65535 + 1048576 * length self.now.end.carrier.live }
+        ensures value { result ≡ kept_octets self.now }
+        ensures at_most { result ≤ 65535 + 2097148 * length self.now.end.carrier.live }
     {
         self.hub.kept()
     }

@@ -1,15 +1,15 @@
 //! The calls of the user, and what the sessions hold.
 
 ghost use Rattle.std.specs.Prelude.{◌≡◌, ◌+◌, ◌*◌, ◌≤◌, None, OnOk, OnErr, IfErr, option_map, is_some, length};
-ghost use Rattle.osi_carrier.specs.Calls.{kept_in};
+ghost use Rattle.osi_carrier.specs.Orderly.{RiseFrom};
 ghost use Rattle.osi_message.specs.Tokens.{named, token_octet};
 ghost use Rattle.osi_spdu.specs.Fields.{bits_of};
 ghost use Rattle.osi_session.specs.Calls.{called_by};
-ghost use Rattle.osi_session.specs.Moves.{called};
+ghost use Rattle.osi_session.specs.Listening.{called};
 ghost use Rattle.osi_session.specs.Shown.{shown_by};
 ghost use Rattle.osi_stack.specs.Calls.{has_given, call_error, table_error, Refuses, held_by, phase_at, numbers_of, first_shown, without_first, carried};
 ghost use Rattle.osi_stack.specs.Moving.{to_session};
-ghost use Rattle.osi_stack.specs.State.{session_at};
+ghost use Rattle.osi_stack.specs.State.{session_at, kept_octets};
 
 use super::Hub;
 use osi_carrier::{EndReason, Ref};
@@ -137,9 +137,11 @@ impl Hub {
 
     /// The octets that are held of what came.
     pub fn kept(&self) -> usize
-        ensures value { result ≡ length self.now.held.octets + kept_in self.now.end.carrier.live }
-        ensures at_most { result ≤ 65535 + 1048576 * length self.now.end.carrier.live }
+        requires rise { RiseFrom 0 self.now.end.lines }
+        requires few { length self.now.end.carrier.live ≤ 64 }
+        ensures value { result ≡ kept_octets self.now }
+        ensures at_most { result ≤ 65535 + 2097148 * length self.now.end.carrier.live }
     {
-        self.carrier.kept()
+        self.carrier.kept() + self.lines.joined(&self.carrier)
     }
 }

@@ -1,3 +1,4 @@
+use Rattle.osi_machine.proofs.SaidLines.{lost_ends}
 use Rattle.osi_machine.proofs.SaidRuns.{heard_was_said}
 use Rattle.osi_machine.proofs.laws.what_is_heard_was_said.Goals as goal
 
@@ -5,5 +6,5 @@ pub returns : goal.returns
 returns c = heard_was_said (record {
   accepted = c.where_a_call_is_accepted.ensures.phase;
   closed = c.what_closes_sends_nothing.ensures.ended;
-  lost = c.an_ended_session_stays_ended.ensures.lost;
+  lost = lost_ends;
 })

@@ -8,7 +8,7 @@ returns c =
     let laws : SessionLaws = session_laws (record {
       over = c.an_ended_session_stays_ended.ensures.over;
       ended = c.an_ended_session_stays_ended.ensures.ended;
-      closed = c.what_closes_sends_nothing.ensures.ended;
+      closed = c.what_closes_sends_nothing.ensures.last;
       waiting = λ s input other. c.where_a_call_is_accepted.ensures.waiting s input (unopened input other);
     }) in
     made_along laws c.a_prefix_of_a_packet.ensures.nothing c.a_stream_has_one_cut.ensures.packets

@@ -10,7 +10,7 @@ returns c =
     let laws = session_laws (record {
       over = c.an_ended_session_stays_ended.ensures.over;
       ended = c.an_ended_session_stays_ended.ensures.ended;
-      closed = c.what_closes_sends_nothing.ensures.ended;
+      closed = c.what_closes_sends_nothing.ensures.last;
       waiting = λ s input other. c.where_a_call_is_accepted.ensures.waiting s input (unopened input other);
     }) in
     record {

@@ -1,5 +1,5 @@
 use Rattle.std.proofs.Common.{refl}
-use Rattle.osi_session.specs.Moves.{called}
+use Rattle.osi_session.specs.Listening.{called}
 use Rattle.osi_stack.proofs.Attending.{session_attended, connect_attended, breaks_attended, feeds_attended}
 use Rattle.osi_stack.proofs.laws.all_that_is_told_is_heard.Goals as goal
 

@@ -1,5 +1,7 @@
+use Rattle.std.proofs.Common.{refl}
+use Rattle.osi_carrier.specs.Rows.{value_at}
 use Rattle.osi_stack.proofs.Linking.{SessionLaws}
-use Rattle.osi_stack.proofs.Settling.{fresh_settled, connect_settled, call_settled, feeds_settled, first_settled, carried_settled, breaks_settled, none_at}
+use Rattle.osi_stack.proofs.Settling.{Profiles, fresh_settled, connect_settled, call_settled, feeds_settled, first_settled, carried_settled, breaks_settled, none_at, profiled_at}
 use Rattle.osi_stack.proofs.Tables.{session_laws, unopened}
 use Rattle.osi_stack.proofs.laws.an_end_is_settled_between_calls.Goals as goal
 
@@ -8,16 +10,23 @@ returns c =
     let laws : SessionLaws = session_laws (record {
       over = c.an_ended_session_stays_ended.ensures.over;
       ended = c.an_ended_session_stays_ended.ensures.ended;
-      closed = c.what_closes_sends_nothing.ensures.ended;
+      closed = c.what_closes_sends_nothing.ensures.last;
       waiting = λ s input other. c.where_a_call_is_accepted.ensures.waiting s input (unopened input other);
     }) in
+    let profiles : Profiles = record {
+      called = c.units_are_a_profile.ensures.called;
+      caller = c.units_are_a_profile.ensures.caller;
+      kept = c.units_are_a_profile.ensures.kept;
+    } in
     record {
       begins = fresh_settled;
-      connects = connect_settled;
-      called = call_settled laws;
-      fed = feeds_settled (record { laws = laws; units = c.what_happens_has_numbers.ensures.units });
+      connects = connect_settled profiles;
+      called = call_settled profiles laws c.what_closes_sends_nothing.ensures.call;
+      fed = feeds_settled (record { laws = laws; profiles = profiles; units = c.what_happens_has_numbers.ensures.units });
       shown = first_settled;
       carried = carried_settled;
       broken = breaks_settled;
       over = λ r e s over. none_at r e s.orderly over;
+      gone = λ r e s over. s.gone over r;
+      profile = λ r session e s kept. profiled_at r session e.lines (value_at r e.lines) refl kept s.profiled;
     }

@@ -1,5 +1,5 @@
 use Rattle.osi_stack.proofs.Rising.{rise_connect, rise_session, rise_arrives, rise_first, rise_breaks}
-use Rattle.osi_session.specs.Moves.{called}
+use Rattle.osi_session.specs.Listening.{called}
 use Rattle.osi_stack.proofs.laws.lines_rise_by_reference.Goals as goal
 
 pub returns : goal.returns

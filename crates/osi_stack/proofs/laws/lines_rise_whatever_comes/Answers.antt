@@ -1,4 +1,4 @@
-use Rattle.osi_session.specs.Moves.{called}
+use Rattle.osi_session.specs.Listening.{called}
 use Rattle.osi_stack.proofs.Linking.{SessionLaws}
 use Rattle.osi_stack.proofs.Ordering.{fresh_ordered, connect_ordered, call_ordered, feeds_ordered, first_ordered, carried_ordered, breaks_ordered}
 use Rattle.osi_stack.proofs.Tables.{session_laws, unopened}
@@ -9,7 +9,7 @@ returns c =
     let laws : SessionLaws = session_laws (record {
       over = c.an_ended_session_stays_ended.ensures.over;
       ended = c.an_ended_session_stays_ended.ensures.ended;
-      closed = c.what_closes_sends_nothing.ensures.ended;
+      closed = c.what_closes_sends_nothing.ensures.last;
       waiting = λ s input other. c.where_a_call_is_accepted.ensures.waiting s input (unopened input other);
     }) in
     record {

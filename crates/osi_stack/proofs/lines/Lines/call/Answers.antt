@@ -2,7 +2,7 @@ use Rattle.std.proofs.Common.{rules, length, ◌≡◌, Some, None, get_or, sym,
 use Rattle.osi_carrier.proofs.Places.{placed}
 use Rattle.osi_carrier.specs.Rows.{Rows, place_of}
 use Rattle.osi_session.specs.Calls.{called_by}
-use Rattle.osi_session.specs.Moves.{called}
+use Rattle.osi_session.specs.Listening.{called}
 use Rattle.osi_stack.specs.Calls.{session_refusal}
 use Rattle.osi_stack.specs.State.{Line, session_in}
 use Rattle.osi_stack.proofs.Found.{nowhere, heard_rows, allowed_at, refused_at}

@@ -1,7 +1,7 @@
 use Rattle.std.proofs.Common.{◌≡◌, subst}
 use Rattle.std.specs.Prelude.{IfErr}
 use Rattle.osi_session.specs.Calls.{called_by}
-use Rattle.osi_session.specs.Moves.{called}
+use Rattle.osi_session.specs.Listening.{called}
 use Rattle.osi_session.proofs.SessionLaws.{request_small}
 use Rattle.osi_stack.specs.Calls.{call_error, table_error, by_rule}
 use Rattle.osi_stack.specs.Moving.{to_session}

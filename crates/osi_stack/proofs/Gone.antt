@@ -1,0 +1,139 @@
+-- Once the carrier has ended no session is left.
+use Rattle.std.proofs.Common.{◌≡◌, ℕ, zero, suc, ◌||◌, Bool, true, false, List, [], ◌∷◌, Option, Some, None, is_some, IsSome, option_map, refl, sym, ap, subst, ◌∙◌, inl, inr, ◌⊎◌, if◌then◌else◌}
+use Rattle.osi_tpkt.specs.Stream.{ArePackets}
+use Rattle.osi_tpkt.specs.declared.cutting.Fed.{Fed}
+use Rattle.osi_carrier.specs.Calls.{send_error, open_link, sent, sent_on, may_connect}
+use Rattle.osi_carrier.specs.Packets as carriers
+use Rattle.osi_carrier.specs.Rows.{Rows, value_at, put}
+use Rattle.osi_carrier.specs.State.{State as Carrier}
+use Rattle.osi_carrier.specs.declared.ends.EndReason.{EndReason}
+use Rattle.osi_carrier.specs.declared.ends.EndReason.TheVariants.{Broken, NoMemory}
+use Rattle.osi_carrier.specs.declared.faults.SendError.{SendError}
+use Rattle.osi_carrier.proofs.Effects.{free_of}
+use Rattle.osi_carrier.proofs.Places.{put_same}
+use Rattle.osi_class.specs.Link.{Standing as Link}
+use Rattle.osi_message.specs.Written.{written}
+use Rattle.osi_session.specs.Calls.{Call}
+use Rattle.osi_session.specs.Listening.{Input, Listener, called, react}
+use Rattle.osi_stack.specs.Calls.{connects, connect_error, terms_error, breaks, without_first}
+use Rattle.osi_stack.specs.Feeding.{TakesPackets, Goes, Feeds}
+use Rattle.osi_stack.specs.Hearing.{with_events, with_carrier, hears_all, hears_times, concludes, attends, after_packet, ends, starves, all_lost, Starves}
+use Rattle.osi_stack.specs.Messages.{kept_at}
+use Rattle.osi_stack.specs.Moving.{line_by, carrier_by, by_line, to_session}
+use Rattle.osi_stack.specs.Settled.{IsGone}
+use Rattle.osi_stack.specs.State.{Line, End, Holding, session_in, waits}
+use Rattle.osi_stack.specs.Transport.{sent_unless, answers_by}
+use Rattle.osi_stack.specs.declared.connecting.Connect.{Connect}
+use Rattle.osi_stack.proofs.Lifting.{packet_is}
+use Rattle.osi_stack.proofs.Moves.{are_lost, kept_first}
+use Rattle.osi_stack.proofs.Soundness.{open_none}
+
+-- what lasts loses no session
+pub lasting_gone : (e : End) → e.carrier.ended ≡ None → IsGone e
+lasting_gone e lasts over = let no : IsSome {T = EndReason} None = subst IsSome lasts over in cc
+
+-- where all are lost none is left
+lost_gone : (e new : End) → new.lines ≡ all_lost e.lines → IsGone new
+lost_gone e new is over r = ap (kept_at r) is ∙ (are_lost e.lines).none r
+
+-- ---- calls
+
+unended : (o : Option EndReason) → is_some o ≡ false → o ≡ None
+unended None h = refl
+unended (Some reason) h = cc
+
+pub connect_gone : (c : Connect) (e : End) → connect_error c e ≡ None → IsGone (connects c e)
+connect_gone c e allowed = lasting_gone (connects c e) (unended e.carrier.ended (free_of e.carrier (open_none (may_connect e.carrier) (terms_error c) allowed)).lasts)
+
+sent_lasts_by : (r : ℕ) (tsdu : List ℕ) (o : Option (ℕ × Link)) (c : Carrier) → (sent_on r tsdu o c).ended ≡ c.ended
+sent_lasts_by r tsdu None c = refl
+sent_lasts_by r tsdu (Some (peer, link)) c = refl
+
+hands_lasts : (o : Option SendError) (r : ℕ) (tsdu : List ℕ) (c : Carrier) → (sent_unless o r tsdu c).ended ≡ c.ended
+hands_lasts None r tsdu c = sent_lasts_by r tsdu (open_link r c) c
+hands_lasts (Some error) r tsdu c = refl
+
+-- what a call sends does not end the carrier
+answers_last : (closes : Bool) (r : ℕ) (tsdu : Option (List ℕ)) (c : Carrier) → closes ≡ false → (answers_by closes r tsdu c).ended ≡ c.ended
+answers_last true r tsdu c still = cc
+answers_last false r None c still = refl
+answers_last false r (Some tsdu) c still = hands_lasts (send_error tsdu (open_link r c)) r tsdu c
+
+carrier_lasts : ((s : Listener) (call : Call) → (react s (called call)).closes ≡ false) → (r : ℕ) (o : Option Listener) (call : Call) (c : Carrier) →
+    (carrier_by r o (called call) c).ended ≡ c.ended
+carrier_lasts law r None call c = refl
+carrier_lasts law r (Some s) call c = answers_last (react s (called call)).closes r (option_map written (react s (called call)).reply) c (law s call)
+
+line_gone : (r : ℕ) (input : Input) (e : End) (line : Line) (o : Option Listener) → value_at r e.lines ≡ Some line → line.session ≡ o → kept_at r e.lines ≡ None →
+    put r (line_by line o input) e.lines ≡ e.lines
+line_gone r input e line None here is none = put_same r line e.lines here
+line_gone r input e line (Some s) here is none = let no : Some s ≡ None = sym is ∙ sym (ap session_in here) ∙ none in cc
+
+-- a session that is not there does nothing
+rest_by : (r : ℕ) (input : Input) (e : End) (o : Option Line) → value_at r e.lines ≡ o → kept_at r e.lines ≡ None → (by_line r o input e).lines ≡ e.lines
+rest_by r input e None here none = refl
+rest_by r input e (Some line) here none = line_gone r input e line line.session here refl none
+
+call_ended : ((s : Listener) (call : Call) → (react s (called call)).closes ≡ false) → (r : ℕ) (call : Call) (e : End) (o : Option Line) →
+    (by_line r o (called call) e).carrier.ended ≡ e.carrier.ended
+call_ended law r call e None = refl
+call_ended law r call e (Some line) = carrier_lasts law r line.session call e.carrier
+
+pub call_gone : ((s : Listener) (call : Call) → (react s (called call)).closes ≡ false) → (r : ℕ) (call : Call) (e : End) → IsGone e → IsGone (to_session r (called call) e)
+call_gone law r call e gone over q =
+    let ended : IsSome e.carrier.ended = subst IsSome (call_ended law r call e (value_at r e.lines)) over in
+    ap (kept_at q) (rest_by r (called call) e (value_at r e.lines) refl (gone ended r)) ∙ gone ended q
+
+pub first_gone : (e : End) → IsGone e → IsGone (record e { lines = without_first e.lines })
+first_gone e gone over r = kept_first r e.lines ∙ gone over r
+
+breaks_by : (b : Bool) (e : End) → IsGone e → IsGone (if b then e else ends Broken e)
+breaks_by true e gone = gone
+breaks_by false e gone = lost_gone e (ends Broken e) refl
+
+pub breaks_gone : (e : End) → IsGone e → IsGone (breaks e)
+breaks_gone e gone = breaks_by (is_some e.carrier.ended) e gone
+
+-- ---- packets
+
+concludes_by : (o : Option EndReason) (e : End) → e.carrier.ended ≡ o → IsGone (if is_some o then record e { lines = all_lost e.lines } else e)
+concludes_by None e is = lasting_gone e is
+concludes_by (Some reason) e is = lost_gone e (record e { lines = all_lost e.lines }) refl
+
+concluded_gone : (e : End) → IsGone (concludes e)
+concluded_gone e = concludes_by e.carrier.ended e refl
+
+then_gone : (e new : End) → new ≡ attends e → IsGone new
+then_gone e new is = subst IsGone (sym is) (concluded_gone (hears_all e))
+
+along_gone : (units : List (List ℕ)) (old new : End) → TakesPackets old units new → IsGone old → IsGone new
+along_gone [] old new h gone = subst IsGone (sym h) gone
+along_gone (u ∷ units) old new h gone =
+    along_gone units (after_packet old u) new h.1 (then_gone (with_carrier (carriers.after_packet old.carrier u) old) (after_packet old u) (packet_is old u))
+
+-- ---- feeding
+
+starved_gone : (e new : End) (packet : List ℕ) → Starves e packet new → IsGone new
+starved_gone e new packet (inl h) = then_gone (with_carrier h.0 e) new h.2
+starved_gone e new packet (inr h) =
+    lost_gone (with_events h.2.more (hears_times h.2.heard (with_carrier h.0 e))) new (ap (λ (x : End). x.lines) h.2.starved)
+
+none_found : (e new : End) (rest : List ℕ) → (new ≡ ends NoMemory e) ⊎ ((packet : List ℕ) × ArePackets (packet ∷ []) rest [] × Starves e packet new) → IsGone new
+none_found e new rest (inl is) = lost_gone e new (ap (λ (x : End). x.lines) is)
+none_found e new rest (inr p) = starved_gone e new p.0 p.2
+
+goes_gone : (old new : Holding) (piece : List ℕ) (used : ℕ) → Goes old piece used new → IsGone old.end → IsGone new.end
+goes_gone old new piece used (inl (inl h)) gone = along_gone h.units old.end new.end h.taken gone
+goes_gone old new piece used (inl (inr h)) gone = along_gone h.units old.end new.end h.taken gone
+goes_gone old new piece used (inr (inl h)) gone = lost_gone h.before new.end (ap (λ (x : End). x.lines) h.ended)
+goes_gone old new piece used (inr (inr h)) gone = none_found h.before new.end h.rest h.how
+
+feeds_by : (old new : Holding) (piece : List ℕ) (fed : Fed) (o : Option EndReason) (b : Bool) → old.end.carrier.ended ≡ o → waits old.end.lines ≡ b → Feeds old piece fed new →
+    IsGone old.end → IsGone new.end
+feeds_by old new piece fed (Some reason) b is waiting h gone = subst (λ (x : Holding). IsGone x.end) (sym (h.over (ap is_some is)).1) gone
+feeds_by old new piece fed None true is waiting h gone = subst (λ (x : Holding). IsGone x.end) (sym (h.waiting is waiting).1) gone
+feeds_by old new piece fed None false is waiting h gone =
+    goes_gone old new piece fed.used (h.goes (ap (λ (o : Option EndReason). is_some o || waits old.end.lines) is ∙ waiting)) gone
+
+pub feeds_gone : (old new : Holding) (piece : List ℕ) (fed : Fed) → Feeds old piece fed new → IsGone old.end → IsGone new.end
+feeds_gone old new piece fed h gone = feeds_by old new piece fed old.end.carrier.ended (waits old.end.lines) refl refl h gone

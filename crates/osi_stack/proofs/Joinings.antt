@@ -1,0 +1,50 @@
+-- A session that has joined something has an open connection.
+use Rattle.std.proofs.Common.{◌≡◌, ℕ, ◌≤◌, ◌||◌, not, Bool, true, false, List, length, Option, Some, None, is_some, refl, sym, ap, subst, ◌∙◌, inl, inr, ◌⊎◌, arith}
+use Rattle.std.specs.Prelude.{IfSome}
+use Rattle.osi_carrier.specs.Rows.{Rows, value_at}
+use Rattle.osi_carrier.specs.Told.{is_open}
+use Rattle.osi_session.specs.Allowed.{most_data}
+use Rattle.osi_session.specs.Joining.{joined_octets}
+use Rattle.osi_session.specs.Kept.{IsKept}
+use Rattle.osi_session.specs.Listening.{Input, Listener, after_inputs}
+use Rattle.osi_session.specs.Phases.{may_hold}
+use Rattle.osi_session.specs.Sessions.{awaits}
+use Rattle.osi_session.specs.declared.phases.Phase.{Phase}
+use Rattle.osi_session.proofs.PhaseLaws.{implied}
+use Rattle.osi_stack.specs.Calls.{calls_with}
+use Rattle.osi_stack.specs.Folds.{CameAbout, AllCameAbout}
+use Rattle.osi_stack.specs.Links.{needs_link}
+use Rattle.osi_stack.specs.Messages.{kept_at}
+use Rattle.osi_stack.specs.Settled.{IsSettled}
+use Rattle.osi_stack.specs.State.{Line, End, session_in}
+use Rattle.osi_stack.specs.declared.connecting.Connect.{Connect}
+use Rattle.osi_stack.proofs.Folds.{at_line}
+
+pub record JoinedLaws : Type 0 where
+  pub kept : (l : Listener) (inputs : List Input) → IsKept l → IsKept (after_inputs l inputs)
+  pub held : (l : Listener) → IsKept l → is_some l.joined ≡ true → may_hold l.state.phase ≡ true
+
+first_kept : (s : Listener) → (s ≡ awaits) ⊎ ((c : Connect) × (s ≡ calls_with c)) → IsKept s
+first_kept s (inl is) = subst IsKept (sym is) (record { phase = refl; few = omega arith })
+first_kept s (inr asked) = subst IsKept (sym asked.1) (record { phase = refl; few = omega arith })
+
+came_kept : JoinedLaws → (s : Listener) → CameAbout s → IsKept s
+came_kept law s h = subst IsKept h.is (law.kept h.first h.inputs (first_kept h.first h.fresh))
+
+came_by : (r : ℕ) (s : Listener) (lines : Rows Line) (o : Option Line) → value_at r lines ≡ o → session_in o ≡ Some s → AllCameAbout lines → CameAbout s
+came_by r s lines None at is all = cc
+came_by r s lines (Some line) at is all = subst (λ (o : Option Listener). IfSome o CameAbout) is (at_line CameAbout r line lines all at)
+
+kept_of : JoinedLaws → (r : ℕ) (s : Listener) (e : End) → IsSettled e → kept_at r e.lines ≡ Some s → IsKept s
+kept_of law r s e settled is = came_kept law s (came_by r s e.lines (value_at r e.lines) refl is settled.came)
+
+-- where tokens may be held the user may abort
+holds_link : (p : Phase) → may_hold p ≡ true → needs_link p ≡ true
+holds_link p h = implied may_hold needs_link refl p h
+
+pub joined_open : JoinedLaws → (r : ℕ) (s : Listener) (e : End) → IsSettled e → e.carrier.ended ≡ None → kept_at r e.lines ≡ Some s → is_some s.joined ≡ true → is_open r e.carrier ≡ true
+joined_open law r s e settled lasts is some =
+    (settled.sound lasts).links lasts r s is (holds_link s.state.phase (law.held s (kept_of law r s e settled is) some))
+
+pub joined_few : JoinedLaws → (r : ℕ) (s : Listener) (e : End) → IsSettled e → kept_at r e.lines ≡ Some s → length (joined_octets s.joined) ≤ most_data
+joined_few law r s e settled is = (kept_of law r s e settled is).few

@@ -1,0 +1,7 @@
+use Rattle.std.proofs.Common.{◌≡◌, ◌*◌, ◌≤◌, take}
+use Rattle.osi_stack.specs.State.{joined_in}
+use Rattle.osi_stack.proofs.Keeps.{live_in}
+use Rattle.osi_stack.proofs.lines.count_joined.Given as goal
+
+abbrev pub invariant-lines : goal.invariant-lines
+invariant-lines l = (l.octets ≡ joined_in l.carrier.state.live (take l.line-index l.rows)) × (l.octets ≤ 1048572 * live_in l.carrier.state.live (take l.line-index l.rows))

@@ -1,0 +1,9 @@
+use Rattle.std.proofs.Common.{sym, subst}
+use Rattle.osi_stack.specs.Settled.{IsSettled}
+use Rattle.osi_stack.specs.State.{Holding}
+use Rattle.osi_stack.proofs.stacks.Stack.taken.Goals as goal
+
+pub invariant_of-self : goal.invariant_of-self
+invariant_of-self c =
+    subst (λ (h : Holding). IsSettled h.end) (sym c.taken.ensures)
+    (c.an_end_is_settled_between_calls.ensures.carried c.args.octets c.self.inside.hub.end c.self.invariant)
