@@ -21,21 +21,26 @@ use Rattle.osi_machine.specs.Core as machine
 use Rattle.osi_machine.specs.Floor.{Meaning}
 use Rattle.osi_machine.specs.Machine.{Step}
 use Rattle.osi_machine.specs.Sayings.{units_in, is_parting, IsHeardAsSaid}
-use Rattle.osi_machine.specs.Tables.{side_of, turned}
+use Rattle.osi_machine.specs.Tables.{Seat, side_of, turned}
 use Rattle.osi_machine.specs.Worlds.{Message}
 use Rattle.osi_machine.specs.Worlds as worlds
+use Rattle.osi_session.specs.Listening.{Listener}
+use Rattle.osi_session.specs.Whole.{listening}
+use Rattle.osi_stack.specs.Messages.{kept_at}
+use Rattle.osi_stack.specs.State.{Holding, session_at, joined_of, joined_in}
 use Rattle.osi_pair.specs.Ends.{TwoEnds, end_at}
-use Rattle.osi_pair.specs.Promises.{sent_by, taken_by, AreTakenInOrder, AreAtRest, IsOpenAt, kept_at, kept_of, IsAllTaken}
+use Rattle.osi_pair.specs.Promises.{sent_by, taken_by, AreTakenInOrder, AreAtRest, IsOpenAt, kept_at as kept_by, begun_of, kept_of, IsAllTaken}
 use Rattle.osi_pair.specs.Reached.{HoldLess}
 use Rattle.osi_pair.specs.Sides.{other}
-use Rattle.osi_pair.specs.Standing.{terms_in, is_caller, transport_in, message_in, carriers_of, AreAlike, StandsAt}
+use Rattle.osi_pair.specs.Standing.{terms_in, is_caller, transport_in, message_in, carriers_of, AreAlike, IsSeated, HasLine, StandsAt}
 use Rattle.osi_pair.specs.declared.reach.Reach.{Reach}
 use Rattle.osi_pair.specs.declared.sides.Side.{Side}
 use Rattle.osi_pair.specs.declared.sides.Side.TheVariants.{Left, Right}
-use Rattle.osi_pair.proofs.NothingKept.{open_there, open_here, none_begun}
+use Rattle.osi_pair.proofs.NothingKept.{open_there, open_here, none_begun, none_joined}
 use Rattle.osi_pair.proofs.StandingActed.{live_place}
 use Rattle.osi_pair.proofs.StandingFinish.{order_of}
-use Rattle.osi_pair.proofs.StandingPromises.{tables_at, line_at, outside_by, within}
+use Rattle.osi_pair.proofs.StandingPromises.{tables_at, line_at, outside_by, outside, within}
+use Rattle.osi_pair.proofs.StandingSeats.{live_session}
 
 -- two ends at rest, each of which holds less than a packet
 record Resting (p : TwoEnds) : Type 0 where
@@ -156,12 +161,18 @@ all_there heard empties p steps r h rest left right =
           ((heard machine.Right r terms steps).whole (turned here.line) (ap (side_of machine.Right) here.found) (ap is_parting peer) (ap is_parting own) whole);
       leftward = none_left (taken_by Left r p steps) (sent_by Right r p steps) here.line.peer.channel back
           ((heard machine.Left r terms steps).whole here.line (ap (side_of machine.Left) here.found) (ap is_parting own) (ap is_parting peer) whole);
-      kept = kept there;
+      kept = kept here there;
     }
   where
-    kept : IsAllThere r (carriers_of p) h.now left.link right.link → (side : Side) → kept_of (value_at r (end_at side p).end.carrier.live) ≡ 0
-    kept there Left = ap kept_of left.live ∙ ap length there.links.begun
-    kept there Right = ap kept_of right.live ∙ ap length there.links.begun_there
+    kept : HasLine r p h.now (tables_at p steps) → IsAllThere r (carriers_of p) h.now left.link right.link → (side : Side) → kept_of r (end_at side p).end ≡ 0
+    kept here there Left =
+        let begun : begun_of (value_at r p.left.end.carrier.live) ≡ 0 = ap begun_of left.live ∙ ap length there.links.begun in
+        let joined : joined_of (session_at r p.left.end) ≡ 0 = ap joined_of (here.is.left.live (ap is_some left.live)) in
+        omega arith
+    kept here there Right =
+        let begun : begun_of (value_at r p.right.end.carrier.live) ≡ 0 = ap begun_of right.live ∙ ap length there.links.begun_there in
+        let joined : joined_of (session_at r p.right.end) ≡ 0 = ap joined_of (here.is.right.live (ap is_some right.live)) in
+        omega arith
 
 pub all_taken : Heard → Empties → (p : TwoEnds) (steps : List Step) (r : ℕ) → StandsAt p steps → HoldLess p → AreAtRest p → IsOpenAt r p.left.end → IsOpenAt r p.right.end →
     IsAllTaken r p steps
@@ -192,12 +203,31 @@ none_begun_at empties Right p steps h rest r (linked peer link) at =
     let here = open_here terms p.left.end.carrier p.right.end.carrier r peer link (joined_at_rest p steps h rest) at in
     ap length (empties terms (carriers_of p) h.now r here.peer peer here.link link h.stands.between (at_rest p steps h rest) here.live at).links.begun_there
 
-none_kept : Empties → (p : TwoEnds) (steps : List Step) → StandsAt p steps → Resting p → (side : Side) → kept_at side p ≡ 0
+-- a live session has joined nothing
+seated_none : (n : ℕ) (h : Holding) (seat : Seat) (l : Listener) → IsSeated n h seat → is_some (value_at n h.end.carrier.live) ≡ true → kept_at n h.end.lines ≡ Some l → l.joined ≡ None
+seated_none n h seat l s lives at =
+    let same : l ≡ listening seat.session = s.kept l at in
+    ap (λ (x : Listener). x.joined) same
+
+none_joined_at : (side : Side) (p : TwoEnds) (steps : List Step) (h : StandsAt p steps) (r : ℕ) (l : Listener) → is_some (value_at r (end_at side p).end.carrier.live) ≡ true → kept_at r (end_at side p).end.lines ≡ Some l → l.joined ≡ None
+none_joined_at side p steps h r l lives at = by side (within r p.left.end.carrier.given) lives at
+  where
+    by : (side : Side) → ((r ≡ 0) ⊎ (p.left.end.carrier.given < r)) ⊎ ((0 < r) × (r ≤ p.left.end.carrier.given)) → is_some (value_at r (end_at side p).end.carrier.live) ≡ true →
+        kept_at r (end_at side p).end.lines ≡ Some l → l.joined ≡ None
+    by side (inl out) lives at =
+        let none : None ≡ Some l = sym (outside side r p steps h out) ∙ live_session r (end_at side p).end lives ∙ at in
+        absurd (cc)
+    by Left (inr given) lives at = let line = line_at r p steps h given.0 given.1 in seated_none r p.left line.line.own l line.is.left lives at
+    by Right (inr given) lives at = let line = line_at r p steps h given.0 given.1 in seated_none r p.right line.line.peer l line.is.right lives at
+
+none_kept : Empties → (p : TwoEnds) (steps : List Step) → StandsAt p steps → Resting p → (side : Side) → kept_by side p ≡ 0
 none_kept empties p steps h rest side =
     let held : length (end_at side p).held.octets ≡ 0 = ap length (rests_at side p steps h rest).1 in
     let begun : kept_in (end_at side p).end.carrier.live ≡ 0 =
     none_begun 0 (end_at side p).end.carrier.live (order_of side p h.now (tables_at p steps) h.stands (rest.lasts side)).sound.orderly.rise (none_begun_at empties side p steps h rest) in
+    let joined : joined_in (end_at side p).end.carrier.live (end_at side p).end.lines ≡ 0 =
+    none_joined 0 (end_at side p).end.carrier.live (end_at side p).end.lines (order_of side p h.now (tables_at p steps) h.stands (rest.lasts side)).rising (none_joined_at side p steps h) in
     omega arith
 
-pub nothing_kept : Empties → (p : TwoEnds) (steps : List Step) → StandsAt p steps → HoldLess p → AreAtRest p → (side : Side) → kept_at side p ≡ 0
+pub nothing_kept : Empties → (p : TwoEnds) (steps : List Step) → StandsAt p steps → HoldLess p → AreAtRest p → (side : Side) → kept_by side p ≡ 0
 nothing_kept empties p steps h held rest side = none_kept empties p steps h (resting p held rest) side

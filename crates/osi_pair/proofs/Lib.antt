@@ -13,6 +13,7 @@ pub mod StandingWays
 pub mod StandingArrived
 pub mod StandingTurned
 pub mod StandingSeats
+pub mod StandingListens
 pub mod StandingFinish
 pub mod StandingRests
 pub mod StandingResting

@@ -1,6 +1,6 @@
 -- Where nothing is on the way between two ends, a connection that is open at one is open at the other, and
 -- nothing of what came is kept.
-use Rattle.std.proofs.Common.{◌≡◌, refl, sym, ◌∙◌, ap, subst, ℕ, ◌+◌, Bool, true, false, ◌==◌, nat_lt, if◌then◌else◌, List, [], ◌∷◌, ◌++◌, Some, None, arith}
+use Rattle.std.proofs.Common.{◌≡◌, refl, sym, ◌∙◌, ap, subst, ℕ, ◌+◌, Bool, true, false, ◌==◌, nat_lt, if◌then◌else◌, List, [], ◌∷◌, ◌++◌, length, Option, Some, None, is_some, arith}
 use Rattle.std.proofs.lemmas.Bool.{eqb-true, eq-eqb}
 use Rattle.std.proofs.lemmas.List.Sums.{sum_by-cons}
 use Rattle.osi_tpdu.specs.Value.{Value}
@@ -20,6 +20,10 @@ use Rattle.osi_carrier.specs.Rows.{Rows, value_at}
 use Rattle.osi_carrier.specs.State.{Connection, State, linked}
 use Rattle.osi_carrier.specs.Terms.{Terms, by_two, by_zero, refusing}
 use Rattle.osi_carrier.specs.Zero as zero
+use Rattle.osi_session.specs.Joining.{joined_octets}
+use Rattle.osi_session.specs.Listening.{Listener}
+use Rattle.osi_stack.specs.Messages.{kept_at}
+use Rattle.osi_stack.specs.State.{Line, session_in, joined_of, joined_live, joined_in}
 
 -- ---- a connection that is open at one end
 
@@ -126,4 +130,33 @@ none_begun n ((r, x) ∷ rows) rise all =
     let first : begun_by x ≡ 0 = all r x (row_there r x rows) in
     let rest : kept_in rows ≡ 0 = none_begun r rows rise.1 (λ q y at. all q y (row_behind r q x y rows rise.1 at)) in
     let sum : kept_in ((r, x) ∷ rows) ≡ begun_by x + kept_in rows = sum_by-cons (λ (row : ℕ × Connection). begun_by row.1) (r, x) rows in
+    sum ∙ omega arith
+
+-- ---- the octets that sessions have joined
+
+there_by : (r : ℕ) (line : Line) (lines : Rows Line) → kept_at r ((r, line) ∷ lines) ≡ line.session
+there_by r line lines = ap (λ (b : Bool). session_in (if b then Some line else value_at r lines)) (eq-eqb r r refl)
+
+behind_by : (r q : ℕ) (line : Line) (lines : Rows Line) (l : Listener) → RiseFrom r lines → kept_at q lines ≡ Some l → kept_at q ((r, line) ∷ lines) ≡ Some l
+behind_by r q line lines l rise at = by (r == q) refl
+  where
+    by : (b : Bool) → (r == q) ≡ b → session_in (if b then Some line else value_at q lines) ≡ Some l
+    by true e =
+        let same : r ≡ q = eqb-true r q e in
+        let no : None ≡ Some l = sym (ap session_in (absent q r lines (omega arith) rise)) ∙ at in
+        absurd (cc)
+    by false e = at
+
+none_of : (live : Bool) (session : Option Listener) → ((l : Listener) → live ≡ true → session ≡ Some l → l.joined ≡ None) → (if live then joined_of session else 0) ≡ 0
+none_of false session all = refl
+none_of true None all = refl
+none_of true (Some l) all = ap (λ (joined : Option (List ℕ)). length (joined_octets joined)) (all l refl refl)
+
+pub none_joined : (n : ℕ) (live : Rows Connection) (lines : Rows Line) → RiseFrom n lines →
+    ((r : ℕ) (l : Listener) → is_some (value_at r live) ≡ true → kept_at r lines ≡ Some l → l.joined ≡ None) → joined_in live lines ≡ 0
+none_joined n live [] rise all = refl
+none_joined n live ((r, line) ∷ lines) rise all =
+    let first : joined_live live (r, line) ≡ 0 = none_of (is_some (value_at r live)) line.session (λ l lives is. all r l lives (there_by r line lines ∙ is)) in
+    let rest : joined_in live lines ≡ 0 = none_joined r live lines rise.1 (λ q l lives at. all q l lives (behind_by r q line lines l rise.1 at)) in
+    let sum : joined_in live ((r, line) ∷ lines) ≡ joined_live live (r, line) + joined_in live lines = sum_by-cons (λ (row : ℕ × Line). joined_live live row) (r, line) lines in
     sum ∙ omega arith

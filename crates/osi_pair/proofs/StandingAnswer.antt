@@ -12,6 +12,8 @@ use Rattle.osi_machine.specs.Tables.{Seat, Line, Tables, seen_from, side_of}
 use Rattle.osi_machine.specs.Worlds.{gone, not_yet}
 use Rattle.osi_session.specs.Allowed.{Answer, may_call, octets_of, most_of, sends, met, sized, allowed}
 use Rattle.osi_session.specs.Calls.{Call, HasSerial}
+use Rattle.osi_session.specs.Listening.{Listener}
+use Rattle.osi_session.specs.Listening as words
 use Rattle.osi_session.specs.Moves.{Standing, called, answered, react}
 use Rattle.osi_session.specs.Phases.{is_ended, is_over}
 use Rattle.osi_session.specs.Sizes.{fits_limit}
@@ -27,6 +29,7 @@ use Rattle.osi_pair.specs.Ends.{TwoEnds, end_at}
 use Rattle.osi_pair.specs.Standing.{side_in, transport_in, is_parting, IsSeated, Stands}
 use Rattle.osi_pair.specs.declared.sides.Side.{Side}
 use Rattle.osi_pair.proofs.StandingActs.{OfEnd, of_end, there, NoneBeyond, place_given, place_ahead}
+use Rattle.osi_pair.proofs.StandingListens.{moves_so}
 use Rattle.osi_pair.proofs.StandingSides.{seen}
 
 -- what the machine answers, by the line of the reference
@@ -68,7 +71,7 @@ pub no_such : (r : ℕ) (call : Call) (e : End) → e.carrier.given < r → tabl
 no_such r call e h = by_given r call e false (not_given r e.carrier h)
 
 pub session_gone : (r : ℕ) (e : End) → value_at r e.carrier.live ≡ None → session_at r e ≡ None
-session_gone r e h = ap (λ (o : Option Connection). if◌then◌else◌ {A = Option Standing} (is_some o) (session_in (value_at r e.lines)) None) h
+session_gone r e h = ap (λ (o : Option Connection). if◌then◌else◌ {A = Option Listener} (is_some o) (session_in (value_at r e.lines)) None) h
 
 live_given : (x : Connection) → is_given (transport_in (was_given (Some x))) ≡ true
 live_given asked = refl
@@ -80,7 +83,7 @@ seat_by : (r : ℕ) (h : Holding) (seat : Seat) (call : Call) (o : Option Connec
 seat_by r h seat call None some within at s =
     let place : place_at r h.end.carrier ≡ was_given None = place_given r h.end.carrier within ∙ ap was_given at in
     let transport : seat.transport ≡ gone = s.transport ∙ ap transport_in place in
-    by_given r call h.end true (was_there r h.end.carrier some within) ∙ ap (λ (o : Option Standing). session_error o call) (session_gone r h.end at)
+    by_given r call h.end true (was_there r h.end.carrier some within) ∙ ap (λ (o : Option Listener). session_error o call) (session_gone r h.end at)
     ∙ sym (ended_refuses seat.session call (over_gone s transport))
     ∙ sym (ap (λ (t : _). if◌then◌else◌ {A = Option CallError} (is_given t) (react seat.session (called call)).error (Some error.NoSuchConnection)) transport)
   where
@@ -89,7 +92,8 @@ seat_by r h seat call None some within at s =
 seat_by r h seat call (Some x) some within at s =
     let place : place_at r h.end.carrier ≡ was_given (Some x) = place_given r h.end.carrier within ∙ ap was_given at in
     let given : is_given seat.transport ≡ true = ap is_given (s.transport ∙ ap transport_in place) ∙ live_given x in
-    by_given r call h.end true (was_there r h.end.carrier some within) ∙ ap (λ (o : Option Standing). session_error o call) (s.live (ap is_some at))
+    by_given r call h.end true (was_there r h.end.carrier some within) ∙ ap (λ (o : Option Listener). session_error o call) (s.live (ap is_some at))
+    ∙ ap (λ (m : words.Move). m.error) (moves_so seat.session (called call))
     ∙ sym (ap (λ (b : Bool). if◌then◌else◌ {A = Option CallError} b (react seat.session (called call)).error (Some error.NoSuchConnection)) given)
 
 seat_at : (r : ℕ) (h : Holding) (seat : Seat) (call : Call) (given : Bool) → 0 < r → nat_le r h.end.carrier.given ≡ given → IsSeated r h seat → table_error r call h.end ≡ seat_error seat call
@@ -128,8 +132,8 @@ table_alone answers r side p b t call (Some reason) serial h is =
     let e : End = (end_at side p).end in
     let none : value_at r e.carrier.live ≡ None = ap (value_at r) (h.over (subst (λ (o : Option EndReason). IsSome o) (sym is) refl)) in
     let gone_now : session_at r e ≡ None = session_gone r e none in
-    ap (λ (o : Option Standing). if◌then◌else◌ {A = Option CallError} (not (has_given r e.carrier)) (Some error.NoSuchConnection) (session_refusal r o call e.carrier)) gone_now
-    ∙ sym (ap (λ (o : Option Standing). if◌then◌else◌ {A = Option CallError} (not (has_given r e.carrier)) (Some error.NoSuchConnection) (session_error o call)) gone_now)
+    ap (λ (o : Option Listener). if◌then◌else◌ {A = Option CallError} (not (has_given r e.carrier)) (Some error.NoSuchConnection) (session_refusal r o call e.carrier)) gone_now
+    ∙ sym (ap (λ (o : Option Listener). if◌then◌else◌ {A = Option CallError} (not (has_given r e.carrier)) (Some error.NoSuchConnection) (session_error o call)) gone_now)
 
 pub answer_same : NoneBeyond → Answered → (r : ℕ) (side : Side) (p : TwoEnds) (b : Between) (t : Tables) (call : Call) → HasSerial call → Stands p b t →
     call_error r call (end_at side p).end ≡ line_error (side_of (side_in side) (connection_at r t.lines)) call

@@ -42,6 +42,7 @@ use Rattle.osi_pair.proofs.StandingCall.{put_nothing}
 use Rattle.osi_pair.proofs.StandingCloses.{closes_from, close_is}
 use Rattle.osi_pair.proofs.StandingFinish.{terms_at, order_of, line_then}
 use Rattle.osi_pair.proofs.StandingHeard.{lasting}
+use Rattle.osi_pair.proofs.StandingListens.{as_made}
 use Rattle.osi_pair.proofs.StandingMoved.{Moving, move_of, loud_lines, moved_end, IsLinkedAt, known_by, moved_line, turn_of, moved_tables, HasMoved}
 use Rattle.osi_pair.proofs.StandingMoves.{is_move}
 use Rattle.osi_pair.proofs.StandingPacket.{terms_then}
@@ -217,7 +218,7 @@ answered_shown laws s p t packet h v x sound open_still reply =
     let go = v.sends x reply in
     let linked_now = linked_sends s p t packet h v x reply (move_ends v.m.row v.row) in
     let a = sent_acts n (written x) e.carrier linked_now.peer linked_now.link v.lasts linked_now.at in
-    let acts : answers n (move_of v.m) e.carrier ≡ c =
+    let acts : answers n (as_made (move_of v.m)) e.carrier ≡ c =
     ap (λ (b : Bool). answers_by b n (option_map written (move_of v.m).reply) e.carrier) open_still ∙ ap (λ (o : Option Meaning). answers_by false n (option_map written o) e.carrier) reply
     ∙ handed n (written x) e.carrier go.short in
     let same : after_packet (end_at s p).end packet ≡ answered_end c lines =
@@ -241,7 +242,7 @@ closed_shown laws s p t packet h v sound two known closing reply over =
     let linked_now = linked_closes s p t packet h v closing (move_ends v.m.row v.row) in
     let two_now : terms_at p1 ≡ by_two = terms_then s p e h v.local ∙ two in
     let a = close_is laws s p1 v.now t1 n linked_now.peer linked_now.link (record { end = e; held = h }) here v.stands two_now v.lasts linked_now.at in
-    let acts : answers n (move_of v.m) e.carrier ≡ c = ap (λ (b : Bool). answers_by b n (option_map written (move_of v.m).reply) e.carrier) closing in
+    let acts : answers n (as_made (move_of v.m)) e.carrier ≡ c = ap (λ (b : Bool). answers_by b n (option_map written (move_of v.m).reply) e.carrier) closing in
     let same : after_packet (end_at s p).end packet ≡ answered_end c lines =
     v.does ∙ ap (λ (k : Carrier). concludes (answered_end k lines)) acts ∙ lasting (answered_end c lines) a.lasts in
     let events = closed_events n 128 e.carrier linked_now.peer linked_now.link (open_is n e.carrier linked_now.peer linked_now.link v.lasts linked_now.at) in
@@ -273,7 +274,7 @@ silent_shown s p t packet h v open_still reply =
     let lines = loud_lines s p v.m in
     let p1 = turned_pair s e h n (move_of v.m).shown p in
     let t1 = moved_tables s t v.m in
-    let acts : answers n (move_of v.m) e.carrier ≡ e.carrier =
+    let acts : answers n (as_made (move_of v.m)) e.carrier ≡ e.carrier =
     ap (λ (b : Bool). answers_by b n (option_map written (move_of v.m).reply) e.carrier) open_still ∙ ap (λ (o : Option Meaning). answers_by false n (option_map written o) e.carrier) reply in
     let same : after_packet (end_at s p).end packet ≡ answered_end e.carrier lines =
     v.does ∙ ap (λ (k : Carrier). concludes (answered_end k lines)) acts ∙ lasting (answered_end e.carrier lines) v.lasts in

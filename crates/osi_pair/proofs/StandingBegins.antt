@@ -14,6 +14,8 @@ use Rattle.osi_carrier.proofs.Apart.{push_here, beyond}
 use Rattle.osi_carrier.proofs.AtReferences.{push_other}
 use Rattle.osi_machine.specs.Machine.{delivers, learns}
 use Rattle.osi_machine.specs.Tables.{Tables, seen_from, end_of, step, unseen}
+use Rattle.osi_machine.specs.Tables as tables
+use Rattle.osi_session.specs.Listening.{Listener}
 use Rattle.osi_session.specs.Moves.{Standing}
 use Rattle.osi_session.specs.Sessions.{awaits}
 use Rattle.osi_stack.specs.Links.{AreApart}
@@ -75,11 +77,11 @@ begun_here n live lines none lives = ap session_in (used_live n live (joined n l
 pub begun_live : (n q : ℕ) (live : Rows Connection) (lines : Rows Line) → q ≢ n → is_some (value_at q live) ≡ true → kept_at q (used_lines live (joined n lines)) ≡ kept_at q lines
 begun_live n q live lines apart lives = ap session_in (used_live q live (joined n lines) lives ∙ push_other q n new_line lines apart)
 
-kept_by : (n q : ℕ) (live : Rows Connection) (lines : Rows Line) (x : Standing) → q ≢ n → Stays q live (joined n lines) → kept_at q (used_lines live (joined n lines)) ≡ Some x → kept_at q lines ≡ Some x
+kept_by : (n q : ℕ) (live : Rows Connection) (lines : Rows Line) (x : Listener) → q ≢ n → Stays q live (joined n lines) → kept_at q (used_lines live (joined n lines)) ≡ Some x → kept_at q lines ≡ Some x
 kept_by n q live lines x apart (inl same) h = ap session_in (sym (push_other q n new_line lines apart)) ∙ ap session_in (sym same) ∙ h
 kept_by n q live lines x apart (inr gone) h = let no_way : None ≡ Some x = sym (ap session_in gone.0) ∙ h in cc
 
-pub begun_kept : (n q : ℕ) (live : Rows Connection) (lines : Rows Line) (x : Standing) → q ≢ n → value_at n lines ≡ None → AreApart lines → kept_at q (used_lines live (joined n lines)) ≡ Some x → kept_at q lines ≡ Some x
+pub begun_kept : (n q : ℕ) (live : Rows Connection) (lines : Rows Line) (x : Listener) → q ≢ n → value_at n lines ≡ None → AreApart lines → kept_at q (used_lines live (joined n lines)) ≡ Some x → kept_at q lines ≡ Some x
 begun_kept n q live lines x apart none all h = kept_by n q live lines x apart (used_at q live (joined n lines) (apart_push n new_line lines none all)) h
 
 -- ---- the reference is new
@@ -127,13 +129,13 @@ begins_unit s p b t packet h old alive lasting pa d row behind new =
     let known = learns t.terms l.own.transport sp.first t.known in
     let turn = turn_rests (terms_at p) t.terms t.broken 0 d.row l sp.first sp.others carrier.ask old.terms tr d.is (ap rests row) one sp.is in
     let is = step_opens t (side_in s) n (λ r. 0) l sp.first sp.others (unseen line) lasting at.found sp.parts turn refl in
-    let session : l.own.session ≡ awaits = at.is.here.awaiting (tr ∙ ap (λ (r : Row). transport_by (before r)) row) in
+    let session : l.own.session ≡ tables.awaits = at.is.here.awaiting (tr ∙ ap (λ (r : Row). transport_by (before r)) row) in
     finish s p b t (step t (delivers (side_in s) n (λ r. 0))) e h n [] l l.own.session (sends_then d.row t.broken l.own.channel) sp.others old alive d new.lasts new.local new.role pa.first.given behind new.order new.waits
     (record {
       sessions = λ q apart lives. begun_live n q live was.lines apart lives;
       kept = λ q apart x kept. begun_kept n q live was.lines x apart none order.sound.apart kept;
     })
-    (subst (λ (x : Standing). HasSession n e.lines (after d.row) x) (sym session) (subst (λ (r : Row). HasSession n e.lines (after r) awaits) (sym row)
+    (subst (λ (x : Standing). HasSession n e.lines (after d.row) x) (sym session) (subst (λ (r : Row). HasSession n e.lines (after r) tables.awaits) (sym row)
     (let k = begun_here n live was.lines none lives in
     record {
       live = λ x. k;

@@ -31,8 +31,11 @@ use Rattle.osi_message.specs.Sendable.{IsSendable}
 use Rattle.osi_message.specs.Written.{written}
 use Rattle.osi_session.specs.Allowed.{Step, Answer, allowed, octets_of}
 use Rattle.osi_session.specs.Calls.{Call, HasSerial}
-use Rattle.osi_session.specs.Moves.{Standing, called, answered, react}
+use Rattle.osi_session.specs.Listening.{Listener}
+use Rattle.osi_session.specs.Listening as words
+use Rattle.osi_session.specs.Moves.{called, answered, react}
 use Rattle.osi_session.specs.Shown.{Shown}
+use Rattle.osi_session.specs.Whole.{listening}
 use Rattle.osi_session.specs.Sound.{IsSound as IsSoundState}
 use Rattle.osi_session.specs.declared.faults.CallError.{CallError}
 use Rattle.osi_session.specs.declared.state.State.{State}
@@ -52,6 +55,7 @@ use Rattle.osi_pair.specs.declared.sides.Side.{Side}
 use Rattle.osi_pair.specs.declared.sides.Side.TheVariants.{Left, Right}
 use Rattle.osi_pair.proofs.StandingActs.{out_way, back_way, place_given, OfEnd, of_end, NoneBeyond, more_said, StandsOn}
 use Rattle.osi_pair.proofs.StandingAnswer.{line_error, Answered}
+use Rattle.osi_pair.proofs.StandingListens.{moves_so}
 use Rattle.osi_pair.proofs.StandingSides.{SeenLine, seen, as_line, seen_twice, IsLeft, other_line, same_place}
 
 -- what the crates below say
@@ -59,12 +63,12 @@ pub record CallLaws : Type 0 where
   pub handed_in : (terms : Terms) (end : Bool) (both : Both) (b : Between) (n peer : ℕ) (link : Link) (tsdu : List ℕ) → AreBetween terms both b →
       (two.side end both).state.ended ≡ None → value_at n (two.side end both).state.live ≡ Some (linked peer link) → IsShortTsdu tsdu → IsOctets tsdu →
       Acted terms end n both (becomes end (sent n tsdu (two.side end both).state) (two.side end both).held both) b [] (carrier.message tsdu ∷ [])
-  pub says : (r : ℕ) (call : Call) (e : End) → call_error r call e ≡ None → Says r call e (to_session r (called call) e)
+  pub says : (r : ℕ) (call : Call) (e : End) → call_error r call e ≡ None → Says r call e (to_session r (words.called call) e)
   pub answers : Answered
-  pub sound : (r : ℕ) (call : Call) (e : End) → IsSound e → IsSound (to_session r (called call) e)
-  pub attended : (r : ℕ) (call : Call) (e : End) → IsAttended e → IsAttended (to_session r (called call) e)
-  pub rising : (r : ℕ) (call : Call) (e : End) → RiseFrom 0 e.lines → RiseFrom 0 (to_session r (called call) e).lines
-  pub came : (r : ℕ) (call : Call) (e : End) → HasSerial call → AllCameAbout e.lines → AllCameAbout (to_session r (called call) e).lines
+  pub sound : (r : ℕ) (call : Call) (e : End) → IsSound e → IsSound (to_session r (words.called call) e)
+  pub attended : (r : ℕ) (call : Call) (e : End) → IsAttended e → IsAttended (to_session r (words.called call) e)
+  pub rising : (r : ℕ) (call : Call) (e : End) → RiseFrom 0 e.lines → RiseFrom 0 (to_session r (words.called call) e).lines
+  pub came : (r : ℕ) (call : Call) (e : End) → HasSerial call → AllCameAbout e.lines → AllCameAbout (to_session r (words.called call) e).lines
   pub octets : (m : Meaning) → IsSendable m → IsInOctets m → IsOctets (written m)
   pub sendable : (s : State) (c : Call) (x : Step) → IsSoundState s → HasSerial c → allowed s c ≡ Ok x → IsSendable x.sent
   pub says_octets : (s : State) (c : Call) (x : Step) → allowed s c ≡ Ok x → IsSendable x.sent → IsOctets (octets_of c) → IsInOctets x.sent
@@ -172,16 +176,16 @@ sent_is r tsdu c peer link is =
 -- ---- the end of an accepted call
 
 abbrev pub now_of : ℕ → Call → Holding → Holding
-now_of r call h = record h { end = to_session r (called call) h.end }
+now_of r call h = record h { end = to_session r (words.called call) h.end }
 
 -- what is so of it
 pub record Called (r : ℕ) (call : Call) (h : Holding) : Type 0 where
-  pub session : Standing
+  pub session : Listener
   pub was : session_at r h.end ≡ Some session
   pub granted : Step
   pub accepted : allowed session.state call ≡ Ok granted
-  pub reply : (react session (called call)).reply ≡ Some granted.sent
-  pub waits : (react session (called call)).next.waiting ≡ session.waiting
+  pub reply : (words.react session (words.called call)).reply ≡ Some granted.sent
+  pub waits : (words.react session (words.called call)).next.waiting ≡ session.waiting
   pub short : length (written granted.sent) ≤ 1048576
   pub opened : OpenAt r h.end.carrier
   pub is : (now_of r call h).end.carrier ≡ sent r (written granted.sent) h.end.carrier
@@ -189,7 +193,7 @@ pub record Called (r : ℕ) (call : Call) (h : Holding) : Type 0 where
   pub line : stack.Line
   pub found : value_at r h.end.lines ≡ Some line
   pub line_now : stack.Line
-  pub session_now : line_now.session ≡ Some (react session (called call)).next
+  pub session_now : line_now.session ≡ Some (words.react session (words.called call)).next
   pub waiting_now : line_now.waiting ≡ line.waiting
   pub lines : (now_of r call h).end.lines ≡ put r line_now h.end.lines
 
@@ -200,7 +204,7 @@ called_is laws r call h none =
     let session = s.acts.session in
     let open_now : OpenAt r h.end.carrier = open_by r h.end.carrier h.end.carrier.ended (value_at r h.end.carrier.live) refl refl g.opened in
     let is : (now_of r call h).end.carrier ≡ sent r (written g.step.sent) h.end.carrier =
-    s.acts.carrier ∙ ap (λ (b : Bool). puts r (put_by b (react session (called call)).reply) h.end.carrier) g.closes
+    s.acts.carrier ∙ ap (λ (b : Bool). puts r (put_by b (words.react session (words.called call)).reply) h.end.carrier) g.closes
     ∙ ap (λ (o : Option Meaning). puts r (put_by false o) h.end.carrier) g.reply in
     record {
       session = session;
@@ -208,14 +212,14 @@ called_is laws r call h none =
       granted = g.step;
       accepted = g.accepted;
       reply = g.reply;
-      waits = ap (λ (x : Standing). x.waiting) g.next;
+      waits = ap (λ (x : Listener). x.waiting) g.next;
       short = g.short;
       opened = open_now;
       is = is;
       kept = subst (SentOn r h.end.carrier) (sym is) (sent_is r (written g.step.sent) h.end.carrier open_now.peer open_now.link open_now.is);
       line = s.acts.line;
       found = s.acts.here;
-      line_now = line_after s.acts.line (react session (called call));
+      line_now = line_after s.acts.line (words.react session (words.called call));
       session_now = refl;
       waiting_now = ap (λ (l : List Shown). s.acts.line.waiting ++ l) g.shown ∙ append-nil s.acts.line.waiting;
       lines = s.acts.lines;
@@ -236,18 +240,28 @@ line_found r call h c = ap (value_at r) c.lines ∙ put_here r c.line_now c.line
 
 pub session_now_is : (r : ℕ) (e : End) (x : Connection) (l : stack.Line) → value_at r e.carrier.live ≡ Some x → value_at r e.lines ≡ Some l → session_at r e ≡ l.session
 session_now_is r e x l live at =
-    ap (λ (o : Option Connection). if◌then◌else◌ {A = Option Standing} (is_some o) (session_in (value_at r e.lines)) None) live ∙ ap session_in at
+    ap (λ (o : Option Connection). if◌then◌else◌ {A = Option Listener} (is_some o) (session_in (value_at r e.lines)) None) live ∙ ap session_in at
 
 -- the session of the seat is the one that was called
-pub seat_session : (r : ℕ) (call : Call) (h : Holding) (seat : Seat) (c : Called r call h) → IsSeated r h seat → seat.session ≡ c.session
-seat_session r call h seat c s = let e : Some seat.session ≡ Some c.session = sym (s.live (ap is_some c.opened.at)) ∙ c.was in cc
+pub seat_session : (r : ℕ) (call : Call) (h : Holding) (seat : Seat) (c : Called r call h) → IsSeated r h seat → listening seat.session ≡ c.session
+seat_session r call h seat c s = let e : Some (listening seat.session) ≡ Some c.session = sym (s.live (ap is_some c.opened.at)) ∙ c.was in cc
+
+-- and it makes the move that the seat's makes
+next_so : (r : ℕ) (call : Call) (h : Holding) (seat : Seat) (c : Called r call h) → IsSeated r h seat → (words.react c.session (words.called call)).next ≡ listening (react seat.session (called call)).next
+next_so r call h seat c s =
+    ap (λ (y : Listener). (words.react y (words.called call)).next) (sym (seat_session r call h seat c s)) ∙ ap (λ (m : words.Move). m.next) (moves_so seat.session (called call))
+
+reply_so : (r : ℕ) (call : Call) (h : Holding) (seat : Seat) (c : Called r call h) → IsSeated r h seat → (react seat.session (called call)).reply ≡ Some c.granted.sent
+reply_so r call h seat c s =
+    sym (ap (λ (m : words.Move). m.reply) (moves_so seat.session (called call))) ∙ ap (λ (y : Listener). (words.react y (words.called call)).reply) (seat_session r call h seat c s) ∙ c.reply
 
 seat_now : (r : ℕ) (call : Call) (h : Holding) (broken : Bool) (x : Line) (c : Called r call h) → r ≤ h.end.carrier.given → IsSeated r h x.own → IsSeated r (now_of r call h) (after_call broken call x).own
 seat_now r call h broken x c within s =
-    let same : x.own.session ≡ c.session = seat_session r call h x.own c s in
+    let same : listening x.own.session ≡ c.session = seat_session r call h x.own c s in
+    let next = next_so r call h x.own c s in
     let transport : x.own.transport ≡ worlds.linked = s.transport ∙ ap transport_in (place_then r call h c within) in
-    let session : Option Standing = Some (react x.own.session (called call)).next in
-    let now : c.line_now.session ≡ session = c.session_now ∙ ap (λ (y : Standing). Some (react y (called call)).next) (sym same) in
+    let session : Option Listener = Some (listening (react x.own.session (called call)).next) in
+    let now : c.line_now.session ≡ session = c.session_now ∙ ap Some next in
     record {
       transport = transport ∙ ap transport_in (sym (place_now r call h c within));
       live = λ e. session_now_is r (now_of r call h).end (linked c.kept.peer c.kept.link) c.line_now (value_now r call h c) (line_found r call h c) ∙ now;
@@ -255,7 +269,7 @@ seat_now r call h broken x c within s =
       over_now = λ e. let no : false ≡ true = sym (ap is_parting transport) ∙ e in absurd cc;
       awaiting = λ e. let no : worlds.linked ≡ worlds.not_yet = sym transport ∙ e in absurd cc;
       octets = subst (λ (o : Option Meaning). IfSome o IsInOctets)
-          (sym (ap (λ (y : Standing). (react y (called call)).next.waiting) same ∙ c.waits ∙ ap (λ (y : Standing). y.waiting) (sym same))) s.octets;
+          (sym (ap (λ (y : Listener). y.waiting) (sym next) ∙ c.waits ∙ ap (λ (y : Listener). y.waiting) (sym same))) s.octets;
     }
 
 left_alone : (q r : ℕ) (call : Call) (h : Holding) → Called r call h → q ≢ r → IsLeft q h (now_of r call h)
@@ -323,8 +337,7 @@ none_gone g h gone a b keeps = keeps (ap (λ (x : Progress). leaves_use x h) a �
 line_acts : (side : Side) (r : ℕ) (call : Call) (p : TwoEnds) (b : Between) (t : Tables) (x : Line) (c : Called r call (end_at side p)) (a : MayAct side r call p b c.granted.sent) → OfEnd side p b t →
     t.broken ≡ is_some p.reach → r ≤ (end_at side p).end.carrier.given → SeenLine side r p b x → SeenLine side r (new_of side r call p) a.now (after_call t.broken call x)
 line_acts side r call p b t x c a o broken within h =
-    let same : x.own.session ≡ c.session = seat_session r call (end_at side p) x.own c h.own in
-    let sends : (react x.own.session (called call)).reply ≡ Some c.granted.sent = ap (λ (y : Standing). (react y (called call)).reply) same ∙ c.reply in
+    let sends : (react x.own.session (called call)).reply ≡ Some c.granted.sent = reply_so r call (end_at side p) x.own c h.own in
     let before = progress_then side r call p b t c o within in
     let after = progress_now side r call p b c a within in
     record {

@@ -16,8 +16,10 @@ use Rattle.osi_message.specs.Sendable.{IsSendable}
 use Rattle.osi_message.specs.Written.{written}
 use Rattle.osi_session.specs.Allowed.{octets_of}
 use Rattle.osi_session.specs.Calls.{Call, HasSerial}
-use Rattle.osi_session.specs.Moves.{Standing, called, react}
+use Rattle.osi_session.specs.Listening.{Listener}
+use Rattle.osi_session.specs.Moves.{called, react}
 use Rattle.osi_session.specs.Sound.{IsSound as IsSoundState}
+use Rattle.osi_session.specs.Whole.{listening}
 use Rattle.osi_session.specs.declared.faults.CallError.{CallError}
 use Rattle.osi_session.specs.declared.faults.CallError.TheVariants as error
 use Rattle.osi_stack.specs.Calls.{has_given, session_refusal, call_error}
@@ -135,8 +137,8 @@ sent_octets : (laws : CallLaws) (side : Side) (r : ℕ) (call : Call) (p : TwoEn
     IsOctets (octets_of call) → connection_at r t.lines ≡ Some l → There r p b t l → IsOctets (written c.granted.sent)
 sent_octets laws side r call p b t l c tabled serial octets at th =
     let x : Line = seen_from (side_in side) l in
-    let same : x.own.session ≡ c.session = seat_session r call (end_at side p) x.own c (seen side r p b l th.is).own in
-    let sound : IsSoundState c.session.state = subst (λ (y : Standing). IsSoundState y.state) same (sound_seat side l (laws.sound_lines t tabled r l at)).sound in
+    let same : listening x.own.session ≡ c.session = seat_session r call (end_at side p) x.own c (seen side r p b l th.is).own in
+    let sound : IsSoundState c.session.state = subst (λ (y : Listener). IsSoundState y.state) same (sound_seat side l (laws.sound_lines t tabled r l at)).sound in
     let sendable : IsSendable c.granted.sent = laws.sendable c.session.state call c.granted sound serial c.accepted in
     laws.octets c.granted.sent sendable (laws.says_octets c.session.state call c.granted c.accepted sendable octets)
 

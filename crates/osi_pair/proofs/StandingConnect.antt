@@ -22,7 +22,7 @@ use Rattle.osi_machine.specs.Machine.{Step, connects as connecting, connection_a
 use Rattle.osi_machine.specs.Tables.{Line, Tables, asked_with, refusal, asked_in, calling, step, run}
 use Rattle.osi_machine.specs.Tables as tables
 use Rattle.osi_machine.specs.Worlds.{ask}
-use Rattle.osi_session.specs.Moves.{Standing}
+use Rattle.osi_session.specs.Listening.{Listener}
 use Rattle.osi_session.specs.Shown.{Shown}
 use Rattle.osi_session.specs.Units.{is_profile}
 use Rattle.osi_spdu.specs.Fields.{unit_bits}
@@ -121,7 +121,7 @@ used_kept : (k q : ℕ) (l : stack.Line) (live : Rows Connection) (lines : Rows 
 used_kept k q l live [] rise at = at
 used_kept k q l live ((p, y) ∷ lines) rise at = used_kept_by q p y l live lines (is_used live (p, y)) (p == q) refl refl rise.1 (used_kept p q l live lines rise.1) at
 
-kept_used : (k q : ℕ) (live : Rows Connection) (lines : Rows stack.Line) (s : Standing) (o : Option stack.Line) → RiseFrom k lines → value_at q (used_lines live lines) ≡ o → session_in o ≡ Some s → kept_at q lines ≡ Some s
+kept_used : (k q : ℕ) (live : Rows Connection) (lines : Rows stack.Line) (s : Listener) (o : Option stack.Line) → RiseFrom k lines → value_at q (used_lines live lines) ≡ o → session_in o ≡ Some s → kept_at q lines ≡ Some s
 kept_used k q live lines s None rise at h = cc
 kept_used k q live lines s (Some l) rise at h = ap session_in (used_kept k q l live lines rise at) ∙ h
 
@@ -140,7 +140,7 @@ quiet_used : (live : Rows Connection) (lines : Rows stack.Line) → waiting_in l
 quiet_used live [] h = refl
 quiet_used live ((p, y) ∷ lines) h = quiet_used_by p y live lines (is_used live (p, y)) refl y.waiting refl h (quiet_used live lines)
 
-quiet_push : (n : ℕ) (s : Option Standing) (lines : Rows stack.Line) → waiting_in (lines ++ (n, record { session = s; waiting = [] }) ∷ []) ≡ waiting_in lines
+quiet_push : (n : ℕ) (s : Option Listener) (lines : Rows stack.Line) → waiting_in (lines ++ (n, record { session = s; waiting = [] }) ∷ []) ≡ waiting_in lines
 quiet_push n s [] = refl
 quiet_push n s ((p, y) ∷ lines) = ap (λ (w : List (ℕ × Shown)). map (λ shown. (p, shown)) y.waiting ++ w) (quiet_push n s lines)
 

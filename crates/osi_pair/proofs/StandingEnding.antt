@@ -16,13 +16,13 @@ use Rattle.osi_carrier.specs.State.{Connection, asked, linked, closing, State}
 use Rattle.osi_carrier.proofs.MessageLaws.{messages_front}
 use Rattle.osi_machine.specs.Core as machine
 use Rattle.osi_machine.specs.Machine.{connection_at, is_given}
-use Rattle.osi_machine.specs.Tables.{Seat, Line, seen_from, ends_there, ended_lines}
+use Rattle.osi_machine.specs.Tables.{Seat, Line, awaits, seen_from, ends_there, ended_lines}
 use Rattle.osi_machine.specs.Worlds.{Message, Transport, not_yet, waiting, gone}
 use Rattle.osi_machine.specs.Worlds as worlds
 use Rattle.osi_message.specs.InOctets.{IsInOctets}
 use Rattle.osi_message.specs.Meanings.{Meaning}
+use Rattle.osi_session.specs.Listening.{Listener}
 use Rattle.osi_session.specs.Moves.{Standing, broken as broken_off, react}
-use Rattle.osi_session.specs.Sessions.{awaits}
 use Rattle.osi_stack.specs.Messages.{kept_at}
 use Rattle.osi_stack.specs.State.{Holding}
 use Rattle.osi_stack.proofs.Lifting.{both}
@@ -94,7 +94,7 @@ not_live n live none some =
     let no : false ≡ true = sym (ap (λ (rows : Rows Connection). is_some (value_at n rows)) none) ∙ some in
     cc
 
-not_kept : (n : ℕ) (new : Holding) (s : Standing) → kept_at n new.end.lines ≡ None → kept_at n new.end.lines ≡ Some s → ⊥
+not_kept : (n : ℕ) (new : Holding) (s : Listener) → kept_at n new.end.lines ≡ None → kept_at n new.end.lines ≡ Some s → ⊥
 not_kept n new s none some = let no : None ≡ Some s = sym none ∙ some in cc
 
 pub still_waiting : (s : Standing) → (react s broken_off).next.waiting ≡ s.waiting

@@ -20,9 +20,10 @@ use Rattle.osi_carrier.specs.Terms.{Terms}
 use Rattle.osi_carrier.specs.declared.ends.EndReason.TheVariants.{NoMemory}
 use Rattle.osi_carrier.proofs.AtReferences.{put_other, put_rise}
 use Rattle.osi_machine.specs.Tables.{Tables}
-use Rattle.osi_message.specs.Reading.{Said, meaning, said_at, said_if_read}
-use Rattle.osi_session.specs.Moves.{Input, Standing, Move, begun, denied, rests, came, came_as, react}
-use Rattle.osi_session.specs.Moves as inputs
+use Rattle.osi_message.specs.Reading.{word, said_at, said_if_read}
+use Rattle.osi_message.specs.Words.{Words}
+use Rattle.osi_session.specs.Listening.{Input, Listener, Move, begun, denied, rests, taker_of, came, came_as, react}
+use Rattle.osi_session.specs.Listening as inputs
 use Rattle.osi_session.specs.Phases.{shows_loss, is_wait_transport, is_wait_cn, is_over}
 use Rattle.osi_session.specs.Respond.{nothing, bad, respond_fault}
 use Rattle.osi_session.specs.declared.faults.UnitFault.{UnitFault}
@@ -30,7 +31,7 @@ use Rattle.osi_session.specs.declared.faults.UnitFault.TheVariants.{Spelling}
 use Rattle.osi_session.specs.declared.state.State.{State}
 use Rattle.osi_session.specs.Sessions.{awaits}
 use Rattle.osi_session.specs.Shown.{Shown, BadUnit}
-use Rattle.osi_session.proofs.ShownLaws.{tsdu_shows}
+use Rattle.osi_session.proofs.ShownLaws.{words_show}
 use Rattle.osi_spdu.specs.Known.{Contents, Units}
 use Rattle.osi_spdu.specs.Reading.{◌>>=◌, Next, Placed, next_at, unit_at, behind_at, ended, continued, contents_of, tsdu_at}
 use Rattle.osi_spdu.specs.Kinds.{category_of}
@@ -106,12 +107,12 @@ few_units octets = few_by (unit_at false 0 octets)
 
 -- ---- how much a session shows
 
-abbrev FewSaid : Result Said SpduFault → Type 0
+abbrev FewSaid : Result Words SpduFault → Type 0
 FewSaid (Ok said) = length said ≤ 17
 FewSaid (Err fault) = Unit {0}
 
 few_said_by : (r : Result Units SpduFault) → FewIn 17 r → FewSaid (said_if_read r)
-few_said_by (Ok us) few = let same = length-map us meaning in omega arith
+few_said_by (Ok us) few = let same = length-map us word in omega arith
 few_said_by (Err fault) few = tt
 
 few_said : (octets : List ℕ) → FewSaid (said_at octets)
@@ -130,24 +131,24 @@ fault_shows : (s : State) (fault : SpduFault) → length (respond_fault s fault)
 unfolding respond_fault
 fault_shows s fault = fault_shows_by (is_over s.phase) s (Spelling fault)
 
-came_shows : (x : Standing) (r : Result Said SpduFault) → FewSaid r → length (react x (came_as r)).shown ≤ 17
+came_shows : (x : Listener) (r : Result Words SpduFault) → FewSaid r → length (react x (came_as r)).shown ≤ 17
 unfolding react
-came_shows x (Ok said) few = let shown = tsdu_shows x.state said in omega arith
+came_shows x (Ok said) few = let shown = words_show (taker_of x) said in omega arith
 came_shows x (Err fault) few = fault_shows x.state fault
 
 rest_shows : (b : Bool) (x y : Move) → length x.shown ≤ 17 → length y.shown ≤ 17 → length (if b then x else y).shown ≤ 17
 rest_shows true x y h k = h
 rest_shows false x y h k = k
 
-opened_shows : (x : Standing) → length (react x inputs.opened).shown ≤ 17
+opened_shows : (x : Listener) → length (react x inputs.opened).shown ≤ 17
 unfolding react
 opened_shows x = rest_shows (is_wait_transport x.state.phase) (begun x) (rests x) (omega arith) (omega arith)
 
-refused_shows : (x : Standing) (reason : ℕ) → length (react x (inputs.refused reason)).shown ≤ 17
+refused_shows : (x : Listener) (reason : ℕ) → length (react x (inputs.refused reason)).shown ≤ 17
 unfolding react
 refused_shows x reason = rest_shows (is_wait_transport x.state.phase) (denied reason x) (rests x) (omega arith) (omega arith)
 
-broken_shows : (x : Standing) → length (react x inputs.broken).shown ≤ 17
+broken_shows : (x : Listener) → length (react x inputs.broken).shown ≤ 17
 broken_shows x = let one = shows_one x in omega arith
 
 -- ---- the lines of an end
@@ -199,7 +200,7 @@ put_same : (n : ℕ) (line : Line) (lines : Rows Line) → value_at n lines ≡ 
 put_same n line [] is = cc
 put_same n line ((r, x) ∷ lines) is = put_same_by n r line x lines (r == n) refl is (put_same n line lines)
 
-live_then_by : (n q : ℕ) (line : Line) (lines : Rows Line) (live : Rows Connection) (y : Standing) (b : Bool) → (q == n) ≡ b → IsSome (value_at n live) → AreLive lines live →
+live_then_by : (n q : ℕ) (line : Line) (lines : Rows Line) (live : Rows Connection) (y : Listener) (b : Bool) → (q == n) ≡ b → IsSome (value_at n live) → AreLive lines live →
     kept_at q (put n line lines) ≡ Some y → shows_loss y.state.phase ≡ true → IsSome (value_at q live)
 live_then_by n q line lines live y true e here all kept shown = subst (λ (m : ℕ). IsSome (value_at m live)) (sym (eqb-true q n e)) here
 live_then_by n q line lines live y false e here all kept shown =
@@ -217,20 +218,20 @@ record Hearing (e : End) (live : Rows Connection) (n : ℕ) : Type 0 where
   most : length live ≤ 64
   here : IsSome (value_at n live)
 
-moved_few : (n : ℕ) (input : Input) (e : End) (live : Rows Connection) (o : Option Line) → value_at n e.lines ≡ o → Hearing e live n → ((x : Standing) → length (react x input).shown ≤ 17) →
+moved_few : (n : ℕ) (input : Input) (e : End) (live : Rows Connection) (o : Option Line) → value_at n e.lines ≡ o → Hearing e live n → ((x : Listener) → length (react x input).shown ≤ 17) →
     length (waiting_in (concludes (by_line n o input e)).lines) ≤ 81
 moved_few n input e live None is h shows =
     concluded_by e live (is_some e.carrier.ended) h.rise h.all h.most (let none : length (waiting_in e.lines) ≡ 0 = ap length h.quiet in omega arith)
 moved_few n input e live (Some line) is h shows = line_few line.session refl
   where
-    line_few : (x : Option Standing) → line.session ≡ x → length (waiting_in (concludes (by_line n (Some line) input e)).lines) ≤ 81
+    line_few : (x : Option Listener) → line.session ≡ x → length (waiting_in (concludes (by_line n (Some line) input e)).lines) ≤ 81
     line_few None f =
-        let same : (by_line n (Some line) input e).lines ≡ e.lines = ap (λ (y : Option Standing). put n (line_by line y input) e.lines) f ∙ put_same n line e.lines is in
+        let same : (by_line n (Some line) input e).lines ≡ e.lines = ap (λ (y : Option Listener). put n (line_by line y input) e.lines) f ∙ put_same n line e.lines is in
         concluded_by (by_line n (Some line) input e) live (is_some (by_line n (Some line) input e).carrier.ended)
         (subst (RiseFrom 0) (sym same) h.rise) (subst (λ (l : Rows Line). AreLive l live) (sym same) h.all) h.most
         (let none : length (waiting_in (by_line n (Some line) input e).lines) ≡ 0 = ap (λ (l : Rows Line). length (waiting_in l)) same ∙ ap length h.quiet in omega arith)
     line_few (Some x) f =
-        let there : (by_line n (Some line) input e).lines ≡ put n (line_after line (react x input)) e.lines = ap (λ (y : Option Standing). put n (line_by line y input) e.lines) f in
+        let there : (by_line n (Some line) input e).lines ≡ put n (line_after line (react x input)) e.lines = ap (λ (y : Option Listener). put n (line_by line y input) e.lines) f in
         concluded_by (by_line n (Some line) input e) live (is_some (by_line n (Some line) input e).carrier.ended)
         (subst (RiseFrom 0) (sym there) (put_rise 0 n (line_after line (react x input)) e.lines h.rise))
         (subst (λ (l : Rows Line). AreLive l live) (sym there) (live_then n (line_after line (react x input)) e.lines live h.here h.all)) h.most
@@ -285,7 +286,7 @@ record HasInput (n : ℕ) (row : Row) : Type 0 where
   told : told_for n row ≡ event ∷ []
   input : Input
   hears_it : (e : End) → hears event e ≡ to_session n input e
-  shows : (x : Standing) → length (react x input).shown ≤ 17
+  shows : (x : Listener) → length (react x input).shown ≤ 17
   there : is_there (before row) ≡ true
 
 -- or that its transport connection is there

@@ -14,6 +14,7 @@ use Rattle.osi_carrier.specs.Terms.{Terms, by_two, by_zero, refusing, accepts_in
 use Rattle.osi_machine.specs.Machine.{shown_at}
 use Rattle.osi_machine.specs.Tables.{Line, Tables}
 use Rattle.osi_machine.specs.Worlds.{Message}
+use Rattle.osi_session.specs.Listening.{Listener}
 use Rattle.osi_session.specs.Moves.{Standing}
 use Rattle.osi_session.specs.Shown.{Shown}
 use Rattle.osi_stack.specs.Messages.{kept_at}
@@ -138,7 +139,7 @@ line_then row x channel back l = record {
 -- the sessions of all other connections
 pub record OtherSessions (s : Side) (p : TwoEnds) (e : End) (n : ℕ) : Type 0 where
   pub sessions : (q : ℕ) → q ≢ n → is_some (value_at q e.carrier.live) ≡ true → kept_at q e.lines ≡ kept_at q (end_at s p).end.lines
-  pub kept : (q : ℕ) → q ≢ n → (x : Standing) → kept_at q e.lines ≡ Some x → kept_at q (end_at s p).end.lines ≡ Some x
+  pub kept : (q : ℕ) → q ≢ n → (x : Listener) → kept_at q e.lines ≡ Some x → kept_at q (end_at s p).end.lines ≡ Some x
 
 abbrev pub terms_at : TwoEnds → Terms
 terms_at p = terms_of p.left.end.carrier.local p.right.end.carrier.local

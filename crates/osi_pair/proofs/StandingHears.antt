@@ -6,19 +6,22 @@ use Rattle.osi_carrier.specs.Messages as carrier
 use Rattle.osi_carrier.specs.Progress.{in_use, gone}
 use Rattle.osi_carrier.specs.Rows.{value_at}
 use Rattle.osi_machine.specs.Core.{offer_sent}
-use Rattle.osi_machine.specs.Tables.{Seat}
+use Rattle.osi_machine.specs.Tables.{Seat, awaits}
 use Rattle.osi_machine.specs.Worlds.{Message, unit, ask, agree, deny, bye, over}
 use Rattle.osi_machine.specs.Worlds as worlds
 use Rattle.osi_message.specs.InOctets.{IsInOctets}
 use Rattle.osi_message.specs.Meanings.{Meaning}
 use Rattle.osi_message.specs.Reading.{said_by_units}
-use Rattle.osi_message.specs.Sendable.{said_of, IsSendable}
+use Rattle.osi_message.specs.Sendable.{words_of, IsSendable}
 use Rattle.osi_message.specs.Written.{written}
-use Rattle.osi_session.specs.Moves.{Input, taken, came, Standing, react}
+use Rattle.osi_session.specs.Listening.{came}
+use Rattle.osi_session.specs.Listening as words
+use Rattle.osi_session.specs.Moves.{Input, taken, Standing, react}
 use Rattle.osi_session.specs.Moves as session
 use Rattle.osi_session.specs.Phases.{is_ended}
-use Rattle.osi_session.specs.Runs.{HasNumbers}
-use Rattle.osi_session.specs.Sessions.{CanBeSent, awaits}
+use Rattle.osi_session.specs.Runs.{HasNumbersInWords}
+use Rattle.osi_session.specs.Sessions.{CanBeSent}
+use Rattle.osi_session.specs.Whole.{in_words}
 use Rattle.osi_session.proofs.PhaseLaws.{excluded}
 use Rattle.osi_stack.specs.Hearing.{hears, opens}
 use Rattle.osi_stack.specs.Links.{needs_link}
@@ -102,8 +105,8 @@ one_in row heard = one_by row (as_heard row heard)
 pub record HearsBy (n : ℕ) (row : Row) (m : Message) (x : Standing) : Type 0 where
   pub event : Happening
   pub told : told_for n row ≡ event ∷ []
-  pub hears : (e : End) (line : Line) → value_at n e.lines ≡ Some line → hears event e ≡ to_session n (heard_by row m) e
-  pub numbered : HasNumbers (heard_by row m)
+  pub hears : (e : End) (line : Line) → value_at n e.lines ≡ Some line → hears event e ≡ to_session n (in_words (heard_by row m)) e
+  pub numbered : HasNumbersInWords (in_words (heard_by row m))
   pub goes : GoesBy x (heard_by row m)
   pub lives : lives_in (before row) ≡ true
   pub ended : is_parting (transport_by (after row)) ≡ true → is_ended (react x (heard_by row m)).next.state.phase ≡ true
@@ -156,18 +159,18 @@ hears_leaves n reason m x octets = record {
   needs = λ e. sym (needs_none (react x session.broken).next (ended_broken x) e);
 }
 
-came_said : Readings → (octets : List ℕ) (u : Meaning) → octets ≡ written u → IsSendable u → came octets ≡ taken (said_of u)
+came_said : Readings → (octets : List ℕ) (u : Meaning) → octets ≡ written u → IsSendable u → came octets ≡ words.taken (words_of u)
 came_said readings octets u e sendable = ap came e ∙ came_is readings u sendable
 
-hears_tells : ReplyLaws → Readings → ((units : Units) → HasNumbers (taken (said_by_units units))) → (n : ℕ) (octets : List ℕ) (u : Meaning) (x : Standing) → octets ≡ written u → IsSendable u →
+hears_tells : ReplyLaws → Readings → ((units : Units) → HasNumbersInWords (words.taken (said_by_units units))) → (n : ℕ) (octets : List ℕ) (u : Meaning) (x : Standing) → octets ≡ written u → IsSendable u →
     IfSome x.waiting IsInOctets → HearsBy n (tells octets) (unit u) x
 hears_tells laws readings units n octets u x is sendable waits =
-    let same : came octets ≡ taken (said_of u) = came_said readings octets u is sendable in
+    let same : came octets ≡ words.taken (words_of u) = came_said readings octets u is sendable in
     record {
       event = tsdu n octets;
       told = refl;
-      hears = λ e line here. ap (λ (i : Input). to_session n i e) same;
-      numbered = subst HasNumbers same (came_numbers units octets);
+      hears = λ e line here. ap (λ (i : words.Input). to_session n i e) same;
+      numbered = subst HasNumbersInWords same (came_numbers units octets);
       goes = goes_taken laws x u waits;
       lives = refl;
       ended = λ e. absurd (no_move e);
@@ -181,7 +184,7 @@ hears_tells laws readings units n octets u x is sendable waits =
 pub record HearLaws : Type 0 where
   pub replies : ReplyLaws
   pub readings : Readings
-  pub units : (units : Units) → HasNumbers (taken (said_by_units units))
+  pub units : (units : Units) → HasNumbersInWords (words.taken (said_by_units units))
 
 -- a unit that is under way can be sent
 abbrev pub IsWhole : Message → Type 0

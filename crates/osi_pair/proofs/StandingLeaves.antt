@@ -32,6 +32,7 @@ use Rattle.osi_pair.proofs.StandingCall.{put_nothing}
 use Rattle.osi_pair.proofs.StandingFinish.{terms_at, DidAt, TablesAfter, is_agree, line_then, finish, known_then}
 use Rattle.osi_pair.proofs.StandingHeard.{session_then, lasting}
 use Rattle.osi_pair.proofs.StandingHears.{got_in}
+use Rattle.osi_pair.proofs.StandingListens.{as_made}
 use Rattle.osi_pair.proofs.StandingMoved.{move_of, loud_lines, MovingLaws, Arriving, PacketAt, arriving, moving, EndOf, DidThen, moved_then, rest_then, does_then}
 use Rattle.osi_pair.proofs.StandingMoves.{heard_by, moved_others}
 use Rattle.osi_pair.proofs.StandingPacket.{ActsAt, acts_at, is_heard, lasting_in, quiet_of}
@@ -175,11 +176,11 @@ leaving_packet laws s p b t packet h reason old run alive pa is =
     let f = acts_at s p b packet h pa in
     let keep = length d.stays in
     let silent = a.hears.silent (ap after is) in
-    let acts : answers n (move_of m) e.carrier ≡ e.carrier =
+    let acts : answers n (as_made (move_of m)) e.carrier ≡ e.carrier =
     ap (λ (b : Bool). answers_by b n (option_map written (move_of m).reply) e.carrier) silent.1 ∙ ap (λ (o : Option Meaning). answers_by false n (option_map written o) e.carrier) silent.0 in
     let then : after_packet (end_at s p).end packet ≡ answered_end e.carrier lines =
     does_then s p b t packet h pa a f ∙ ap (λ (c : Carrier). concludes (answered_end c lines)) acts ∙ lasting (answered_end e.carrier lines) f.lasts in
-    let waits = put_waits n a.kept.line (move_of m) (end_at s p).end.lines (quiet_of s p b t old) a.kept.here in
+    let waits = put_waits n a.kept.line (as_made (move_of m)) (end_at s p).end.lines (quiet_of s p b t old) a.kept.here in
     let stands : Stands (turned_pair s e h n (move_of m).shown p) d.now (LeftTables s p b t n keep row a) =
     turned_stands s p b t e h d.now (LeftTables s p b t n keep row a) n (move_of m).shown old alive (left_unit laws s p b t packet h reason old alive pa heard is a d same f) in
     subst (λ (x : End). StandsShown s p t x h) (sym then)

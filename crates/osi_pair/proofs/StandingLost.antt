@@ -14,11 +14,13 @@ use Rattle.osi_carrier.proofs.Apart.{absent, beyond}
 use Rattle.osi_carrier.proofs.AtReferences.{without_other}
 use Rattle.osi_machine.specs.Machine.{connection_at, shown_at}
 use Rattle.osi_machine.specs.Machine as entries
-use Rattle.osi_machine.specs.Tables.{Seat, Line, Tables, seen_from, shown_in_order}
+use Rattle.osi_machine.specs.Tables.{Seat, Line, Tables, awaits, seen_from, shown_in_order}
+use Rattle.osi_session.specs.Listening.{Listener}
+use Rattle.osi_session.specs.Listening as words
 use Rattle.osi_session.specs.Moves.{Standing, broken as broken_off, react}
 use Rattle.osi_session.specs.Phases.{is_ended, shows_loss}
-use Rattle.osi_session.specs.Sessions.{awaits}
 use Rattle.osi_session.specs.Shown.{Shown, Lost}
+use Rattle.osi_session.specs.Whole.{listening}
 use Rattle.osi_session.specs.declared.phases.Phase.{Phase}
 use Rattle.osi_session.proofs.PhaseLaws.{excluded}
 use Rattle.osi_stack.specs.Hearing.{shown_at_loss, all_lost}
@@ -53,9 +55,18 @@ few : (b : Bool) → length (if◌then◌else◌ {A = List Shown} b (Lost ∷ []
 few true = omega arith
 few false = omega arith
 
-pub shows_one : (s : Standing) → length (react s broken_off).shown ≤ 1
-unfolding react
-shows_one s = few (shows_loss s.state.phase)
+-- the session of an end shows as much
+pub quiet_loss : (l : Listener) → shows_loss l.state.phase ≡ false → (words.react l words.broken).shown ≡ []
+unfolding words.react
+quiet_loss l h = unshown l.state.phase h
+
+pub shows_one : (l : Listener) → length (words.react l words.broken).shown ≤ 1
+unfolding words.react
+shows_one l = few (shows_loss l.state.phase)
+
+lost_so : (s : Standing) → (react s broken_off).shown ≡ shown_at_loss (Some (listening s))
+unfolding react words.react
+lost_so s = refl
 
 pub is_over : (s : Standing) → is_ended (react s broken_off).next.state.phase ≡ true
 unfolding react
@@ -102,7 +113,7 @@ without_fewer r [] some = cc
 without_fewer r ((q, c) ∷ rows) some = without_fewer_by r q c rows (q == r) refl some (without_fewer r rows)
 
 abbrev pub AreLive : Rows stack.Line → Rows Connection → Type 0
-AreLive lines live = (q : ℕ) (s : Standing) → kept_at q lines ≡ Some s → shows_loss s.state.phase ≡ true → IsSome (value_at q live)
+AreLive lines live = (q : ℕ) (s : Listener) → kept_at q lines ≡ Some s → shows_loss s.state.phase ≡ true → IsSome (value_at q live)
 
 at_other : (q r : ℕ) (line : stack.Line) (lines : Rows stack.Line) → q ≢ r → kept_at q ((r, line) ∷ lines) ≡ kept_at q lines
 at_other q r line lines other = other_by (r == q) refl
@@ -115,7 +126,7 @@ at_here : (r : ℕ) (line : stack.Line) (lines : Rows stack.Line) → kept_at r 
 at_here r line lines = let e : (r == r) ≡ true = eq-eqb r r refl in rw e refl
 
 -- a reference behind is another
-behind_other : (q r : ℕ) (lines : Rows stack.Line) (s : Standing) → RiseFrom r lines → kept_at q lines ≡ Some s → q ≢ r
+behind_other : (q r : ℕ) (lines : Rows stack.Line) (s : Listener) → RiseFrom r lines → kept_at q lines ≡ Some s → q ≢ r
 behind_other q r lines s rise kept same =
     let none : value_at q lines ≡ None = absent q r lines (omega arith) rise in
     let no : None ≡ Some s = sym (ap session_in none) ∙ kept in
@@ -128,18 +139,18 @@ live_without : (r : ℕ) (lines : Rows stack.Line) (live : Rows Connection) → 
 live_without r lines live rise all q s kept shown =
     subst IsSome (sym (without_other q r live (behind_other q r lines s rise kept))) (all q s kept shown)
 
-few_lost_by : (r : ℕ) (line : stack.Line) (lines : Rows stack.Line) (live : Rows Connection) (o : Option Standing) (b : Bool) → line.session ≡ o →
-    ((s : Standing) → o ≡ Some s → shows_loss s.state.phase ≡ b) → RiseFrom r lines → AreLive ((r, line) ∷ lines) live →
+few_lost_by : (r : ℕ) (line : stack.Line) (lines : Rows stack.Line) (live : Rows Connection) (o : Option Listener) (b : Bool) → line.session ≡ o →
+    ((s : Listener) → o ≡ Some s → shows_loss s.state.phase ≡ b) → RiseFrom r lines → AreLive ((r, line) ∷ lines) live →
     ((rows : Rows Connection) → AreLive lines rows → length (lost_in lines) ≤ length rows) → length (lost_of r line ++ lost_in lines) ≤ length live
 few_lost_by r line lines live None b e is rise all more =
     let rest = more live (still_live r line lines live rise all) in
-    let none : lost_of r line ≡ [] = ap (λ (o : Option Standing). map (λ shown. (r, shown)) (shown_at_loss o)) e in
+    let none : lost_of r line ≡ [] = ap (λ (o : Option Listener). map (λ shown. (r, shown)) (shown_at_loss o)) e in
     let same : length (lost_of r line ++ lost_in lines) ≡ length (lost_in lines) = ap (λ (l : List (ℕ × Shown)). length (l ++ lost_in lines)) none in
     omega arith
 few_lost_by r line lines live (Some s) false e is rise all more =
     let rest = more live (still_live r line lines live rise all) in
-    let none : lost_of r line ≡ [] = ap (λ (o : Option Standing). map (λ shown. (r, shown)) (shown_at_loss o)) e
-    ∙ ap (map (λ shown. (r, shown))) (quiet_shows s (is s refl)) in
+    let none : lost_of r line ≡ [] = ap (λ (o : Option Listener). map (λ shown. (r, shown)) (shown_at_loss o)) e
+    ∙ ap (map (λ shown. (r, shown))) (quiet_loss s (is s refl)) in
     let same : length (lost_of r line ++ lost_in lines) ≡ length (lost_in lines) = ap (λ (l : List (ℕ × Shown)). length (l ++ lost_in lines)) none in
     omega arith
 few_lost_by r line lines live (Some s) true e is rise all more =
@@ -147,14 +158,14 @@ few_lost_by r line lines live (Some s) true e is rise all more =
     let fewer = without_fewer r live lives in
     let rest = more (without r live) (live_without r lines live rise (still_live r line lines live rise all)) in
     let long = length-append (lost_of r line) (lost_in lines) in
-    let one : length (lost_of r line) ≡ length (react s broken_off).shown =
-    length-map (shown_at_loss line.session) (λ shown. (r, shown)) ∙ ap (λ (o : Option Standing). length (shown_at_loss o)) e in
+    let one : length (lost_of r line) ≡ length (words.react s words.broken).shown =
+    length-map (shown_at_loss line.session) (λ shown. (r, shown)) ∙ ap (λ (o : Option Listener). length (shown_at_loss o)) e in
     let most = shows_one s in
     omega arith
 
-phase_shows : (o : Option Standing) → (b : Bool) × ((s : Standing) → o ≡ Some s → shows_loss s.state.phase ≡ b)
+phase_shows : (o : Option Listener) → (b : Bool) × ((s : Listener) → o ≡ Some s → shows_loss s.state.phase ≡ b)
 phase_shows None = (false, λ s e. cc)
-phase_shows (Some t) = (shows_loss t.state.phase, λ s e. let same : t ≡ s = cc in ap (λ (x : Standing). shows_loss x.state.phase) (sym same))
+phase_shows (Some t) = (shows_loss t.state.phase, λ s e. let same : t ≡ s = cc in ap (λ (x : Listener). shows_loss x.state.phase) (sym same))
 
 pub few_lost : (m : ℕ) (lines : Rows stack.Line) (live : Rows Connection) → RiseFrom m lines → AreLive lines live → length (lost_in lines) ≤ length live
 few_lost m [] live rise all = omega arith
@@ -232,10 +243,10 @@ ordered side m (l ∷ ls) ((r, line) ∷ lines) rise up all = ordered_by side m 
 -- ---- the sides
 
 -- what a side shows that is lost, is what the session shows that is kept of it
-kept_shows : (o : Option Standing) (seat : Seat) → ((s : Standing) → o ≡ Some s → s ≡ seat.session) → is_ended seat.session.state.phase ≡ true →
+kept_shows : (o : Option Listener) (seat : Seat) → ((s : Listener) → o ≡ Some s → s ≡ listening seat.session) → is_ended seat.session.state.phase ≡ true →
     (react seat.session broken_off).shown ≡ shown_at_loss o
 kept_shows None seat kept over = ended_shows seat.session over
-kept_shows (Some s) seat kept over = ap (λ (x : Standing). (react x broken_off).shown) (sym (kept s refl))
+kept_shows (Some s) seat kept over = lost_so seat.session ∙ ap (λ (x : Listener). shown_at_loss (Some x)) (sym (kept s refl))
 
 seat_shows_by : (n : ℕ) (h : Holding) (seat : Seat) (never_given : Bool) (o : Option Connection) → nat_lt h.end.carrier.given n ≡ never_given → value_at n h.end.carrier.live ≡ o →
     AreUpTo h.end.carrier.given h.end.lines → IsSeated n h seat → (react seat.session broken_off).shown ≡ shown_at_loss (kept_at n h.end.lines)
@@ -251,14 +262,14 @@ seat_shows_by n h seat false None e at up s =
 seat_shows_by n h seat false (Some c) e at up s =
     let here : session_at n h.end ≡ kept_at n h.end.lines =
     ap (λ (x : Option Connection). if is_some x then session_in (value_at n h.end.lines) else None) at in
-    ap shown_at_loss (sym (s.live (ap is_some at)) ∙ here)
+    lost_so seat.session ∙ ap shown_at_loss (sym (s.live (ap is_some at)) ∙ here)
 
 seat_shows : (n : ℕ) (h : Holding) (seat : Seat) → AreUpTo h.end.carrier.given h.end.lines → IsSeated n h seat →
     (react seat.session broken_off).shown ≡ shown_at_loss (kept_at n h.end.lines)
 seat_shows n h seat up s = seat_shows_by n h seat (nat_lt h.end.carrier.given n) (value_at n h.end.carrier.live) refl refl up s
 
 -- a session that shows its loss has a live connection
-seat_live_by : (n : ℕ) (h : Holding) (seat : Seat) (s : Standing) (never_given : Bool) (o : Option Connection) → nat_lt h.end.carrier.given n ≡ never_given →
+seat_live_by : (n : ℕ) (h : Holding) (seat : Seat) (s : Listener) (never_given : Bool) (o : Option Connection) → nat_lt h.end.carrier.given n ≡ never_given →
     value_at n h.end.carrier.live ≡ o → AreUpTo h.end.carrier.given h.end.lines → IsSeated n h seat → kept_at n h.end.lines ≡ Some s → shows_loss s.state.phase ≡ true → IsSome o
 seat_live_by n h seat s true o e at up is kept shown =
     let above : h.end.carrier.given < n = grind (arith, nat_tests) in
@@ -268,11 +279,11 @@ seat_live_by n h seat s false None e at up is kept shown =
     let place : place_at n h.end.carrier ≡ was_given None =
     ap (λ (b : Bool). if b then never else was_given (value_at n h.end.carrier.live)) e ∙ ap was_given at in
     let over : is_ended s.state.phase ≡ true =
-    ap (λ (x : Standing). is_ended x.state.phase) (is.kept s kept) ∙ is.over_now (ap is_parting (is.transport ∙ ap transport_in place)) in
+    ap (λ (x : Listener). is_ended x.state.phase) (is.kept s kept) ∙ is.over_now (ap is_parting (is.transport ∙ ap transport_in place)) in
     absurd (both (shows_loss s.state.phase) shown (excluded is_ended shows_loss refl s.state.phase over))
 seat_live_by n h seat s false (Some c) e at up is kept shown = refl
 
-seat_live : (n : ℕ) (h : Holding) (seat : Seat) (s : Standing) → AreUpTo h.end.carrier.given h.end.lines → IsSeated n h seat → kept_at n h.end.lines ≡ Some s →
+seat_live : (n : ℕ) (h : Holding) (seat : Seat) (s : Listener) → AreUpTo h.end.carrier.given h.end.lines → IsSeated n h seat → kept_at n h.end.lines ≡ Some s →
     shows_loss s.state.phase ≡ true → IsSome (value_at n h.end.carrier.live)
 seat_live n h seat s up is kept shown =
     seat_live_by n h seat s (nat_lt h.end.carrier.given n) (value_at n h.end.carrier.live) refl refl up is kept shown

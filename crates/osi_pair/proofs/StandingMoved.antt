@@ -26,6 +26,7 @@ use Rattle.osi_machine.specs.Worlds as worlds
 use Rattle.osi_machine.proofs.CoreLaws.{SessionLaws}
 use Rattle.osi_message.specs.Meanings.{Meaning}
 use Rattle.osi_session.specs.Moves.{Input, Standing, Move, react}
+use Rattle.osi_session.specs.Whole.{listening}
 use Rattle.osi_stack.specs.Hearing.{after_packet, concludes}
 use Rattle.osi_stack.specs.Messages.{told_all, kept_at}
 use Rattle.osi_stack.specs.Moving.{answers}
@@ -41,6 +42,7 @@ use Rattle.osi_pair.proofs.StandingFinish.{terms_at, DidAt, line_then, last_is, 
 use Rattle.osi_pair.proofs.StandingHeard.{lines_then, kept_then, one_told}
 use Rattle.osi_pair.proofs.StandingHears.{as_move, move_heard, got_in, one_in, HearsBy, HearLaws, IsWhole, hears_row}
 use Rattle.osi_pair.proofs.StandingKnown.{moved_known, moved_class}
+use Rattle.osi_pair.proofs.StandingListens.{as_made}
 use Rattle.osi_pair.proofs.StandingMoves.{is_move, heard_by, MovesBy, step_moves, move_unit}
 use Rattle.osi_pair.proofs.StandingOrder.{session_acts, acted_order}
 use Rattle.osi_pair.proofs.StandingPacket.{PacketLaws, ActsAt, acts_at, same_role, is_heard, lasting_in, quiet_of}
@@ -117,17 +119,17 @@ pub record HasMoved (s : Side) (p : TwoEnds) (t : Tables) (packet : List ℕ) (h
   pub given : m.n ≤ length t.lines
   -- how it stood
   pub here : value_at m.n (end_at s p).end.lines ≡ Some m.line
-  pub is : m.line.session ≡ Some m.seen.own.session
+  pub is : m.line.session ≡ Some (listening m.seen.own.session)
   pub found : connection_at m.n t.lines ≡ Some (seen_from (side_in s) m.seen)
   pub first : m.seen.peer.channel ≡ m.first ∷ m.rest
   -- what the packet does to the end, and the delivery to the tables
-  pub does : after_packet (end_at s p).end packet ≡ concludes (record { carrier = answers m.n (move_of m) (moved_end s p unit m).carrier; lines = loud_lines s p m })
+  pub does : after_packet (end_at s p).end packet ≡ concludes (record { carrier = answers m.n (as_made (move_of m)) (moved_end s p unit m).carrier; lines = loud_lines s p m })
   pub waits : waiting_in (loud_lines s p m) ≡ map (λ x. (m.n, x)) (move_of m).shown
   pub steps : (keep : ℕ → ℕ) → step t (delivers (side_in s) m.n keep) ≡ after_turn (record t { known = known_by t m }) (side_in s) m.n keep (turn_of t.broken m)
   -- how all stands before anything is sent or closed
   pub lasts : (moved_end s p unit m).carrier.ended ≡ None
   pub local : (moved_end s p unit m).carrier.local ≡ (end_at s p).end.carrier.local
-  pub kept : kept_at m.n (moved_end s p unit m).lines ≡ Some (move_of m).next
+  pub kept : kept_at m.n (moved_end s p unit m).lines ≡ Some (listening (move_of m).next)
   pub now : Between
   pub stands : Stands (turned_pair s (moved_end s p unit m) h m.n (move_of m).shown p) now (moved_tables s t m)
   pub found_now : connection_at m.n (moved_tables s t m).lines ≡ Some (seen_from (side_in s) (moved_line m))
@@ -162,9 +164,9 @@ first_whole over ms h = tt
 pub record KeptLine (n : ℕ) (lines : Rows Line) (x : Standing) : Type 0 where
   pub line : Line
   pub here : value_at n lines ≡ Some line
-  pub is : line.session ≡ Some x
+  pub is : line.session ≡ Some (listening x)
 
-line_by : (n : ℕ) (lines : Rows Line) (x : Standing) (o : Option Line) → value_at n lines ≡ o → session_in o ≡ Some x → KeptLine n lines x
+line_by : (n : ℕ) (lines : Rows Line) (x : Standing) (o : Option Line) → value_at n lines ≡ o → session_in o ≡ Some (listening x) → KeptLine n lines x
 line_by n lines x None e h = absurd cc
 line_by n lines x (Some line) e h = record { line = line; here = e; is = h }
 
@@ -323,7 +325,7 @@ stands_then laws s p b t packet h old alive pa move a d same f =
 pub does_then : (s : Side) (p : TwoEnds) (b : Between) (t : Tables) (packet : List ℕ) (h : Held) → (pa : PacketAt s p b packet h) →
     (a : Arriving s p b t (reference_of pa.unit) pa.did.row) → (f : ActsAt s p packet pa.unit (reference_of pa.unit) pa.did.row) →
     after_packet (end_at s p).end packet ≡ concludes (record {
-      carrier = answers (reference_of pa.unit) (move_of (moving s p b t (reference_of pa.unit) pa.did.row a)) (EndOf s p b t packet h pa a).carrier;
+      carrier = answers (reference_of pa.unit) (as_made (move_of (moving s p b t (reference_of pa.unit) pa.did.row a))) (EndOf s p b t packet h pa a).carrier;
       lines = loud_lines s p (moving s p b t (reference_of pa.unit) pa.did.row a);
     })
 does_then s p b t packet h pa a f =
@@ -368,7 +370,7 @@ has_moved laws s p b t packet h old run alive pa move =
         found = a.found;
         first = a.parts;
         does = does_then s p b t packet h pa a f;
-        waits = put_waits n a.kept.line (move_of m) (end_at s p).end.lines (quiet_of s p b t old) a.kept.here;
+        waits = put_waits n a.kept.line (as_made (move_of m)) (end_at s p).end.lines (quiet_of s p b t old) a.kept.here;
         steps = λ keep. step_moves t s n keep row a.seen a.first a.rest (got_in row) (lasting_in s p b t old alive) a.found a.parts a.transport move (one_in row heard) a.alike;
         lasts = f.lasts;
         local = f.local;

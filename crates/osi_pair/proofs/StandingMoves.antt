@@ -8,7 +8,7 @@ use Rattle.osi_carrier.specs.Messages as carrier
 use Rattle.osi_carrier.specs.Progress.{leaves_use}
 use Rattle.osi_carrier.specs.Rows.{Rows, value_at}
 use Rattle.osi_machine.specs.Machine.{connection_at, delivers, learns}
-use Rattle.osi_machine.specs.Tables.{Seat, Line as TableLine, Turn, Tables, seen_from, end_of, after_turn, step, hears, without_first, message_taken}
+use Rattle.osi_machine.specs.Tables.{Seat, Line as TableLine, Turn, Tables, awaits, seen_from, end_of, after_turn, step, hears, without_first, message_taken}
 use Rattle.osi_machine.specs.Worlds.{Message, unit, ask, agree, deny, bye, over, put, replied}
 use Rattle.osi_machine.specs.Worlds as worlds
 use Rattle.osi_message.specs.InOctets.{IsInOctets}
@@ -16,7 +16,7 @@ use Rattle.osi_message.specs.Sendable.{said_of}
 use Rattle.osi_message.specs.Meanings.{Meaning}
 use Rattle.osi_session.specs.Moves.{Input, taken, opened, refused, broken as broken_off, Standing, Move, react}
 use Rattle.osi_session.specs.Phases.{is_ended}
-use Rattle.osi_session.specs.Sessions.{awaits}
+use Rattle.osi_session.specs.Whole.{listening}
 use Rattle.osi_stack.specs.Messages.{kept_at}
 use Rattle.osi_stack.specs.State.{Line, End}
 use Rattle.osi_pair.specs.Ends.{TwoEnds, end_at}
@@ -159,7 +159,7 @@ moved_others s p e n line x input is =
 pub record MovesBy (s : Side) (p : TwoEnds) (n : ℕ) (x : Standing) (row : Row) (input : Input) : Type 0 where
   pub line : Line
   pub here : value_at n (end_at s p).end.lines ≡ Some line
-  pub is : line.session ≡ Some x
+  pub is : line.session ≡ Some (listening x)
   pub ended : is_parting (transport_by (after row)) ≡ true → is_ended (react x input).next.state.phase ≡ true
   pub waits : transport_by (after row) ≡ worlds.not_yet → (react x input).next ≡ awaits
   pub octets : IfSome (react x input).next.waiting IsInOctets

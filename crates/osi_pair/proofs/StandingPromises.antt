@@ -17,7 +17,9 @@ use Rattle.osi_machine.specs.Runs.{is_loss, loses}
 use Rattle.osi_machine.specs.Runs as runs
 use Rattle.osi_machine.specs.Tables.{Tables, run, start}
 use Rattle.osi_machine.specs.Views.{Told, told_of}
+use Rattle.osi_session.specs.Listening.{Listener}
 use Rattle.osi_session.specs.Moves.{Standing}
+use Rattle.osi_session.specs.Whole.{listening}
 use Rattle.osi_session.specs.Shown.{Shown, PeerAbort, BadUnit}
 use Rattle.osi_stack.specs.Calls.{held_by, numbers_of}
 use Rattle.osi_stack.specs.State.{Holding, session_at, session_in}
@@ -153,7 +155,7 @@ outside_by r most h None e over order given (inr above) = beyond r h.end.carrier
 outside_by r most h (Some why) e over order given out =
     ap (λ (rows : Rows Connection). value_at r rows) (over (subst (λ (o : Option EndReason). IsSome o) (sym e) refl))
 
-outside : (side : Side) (r : ℕ) (p : TwoEnds) (steps : List Step) → StandsAt p steps → (r ≡ 0) ⊎ (p.left.end.carrier.given < r) → session_at r (end_at side p).end ≡ None
+pub outside : (side : Side) (r : ℕ) (p : TwoEnds) (steps : List Step) → StandsAt p steps → (r ≡ 0) ⊎ (p.left.end.carrier.given < r) → session_at r (end_at side p).end ≡ None
 outside Left r p steps h out = no_session r p.left
     (outside_by r p.left.end.carrier.given p.left p.left.end.carrier.ended refl h.stands.over_left h.stands.order_left (omega arith) out)
 outside Right r p steps h out = no_session r p.right
@@ -163,10 +165,10 @@ outside Right r p steps h out = no_session r p.right
 -- what an end says is what the tables have, or nothing
 data Says (n : ℕ) (h : Holding) (s : Standing) : Type 0 where
   of_none : session_at n h.end ≡ None → Says n h s
-  of_some : session_at n h.end ≡ Some s → Says n h s
+  of_some : session_at n h.end ≡ Some (listening s) → Says n h s
 
 says_by : (n : ℕ) (h : Holding) (s : Standing) (live : Bool) → is_some (value_at n h.end.carrier.live) ≡ live →
-    (is_some (value_at n h.end.carrier.live) ≡ true → session_at n h.end ≡ Some s) → Says n h s
+    (is_some (value_at n h.end.carrier.live) ≡ true → session_at n h.end ≡ Some (listening s)) → Says n h s
 says_by n h s true e seated = of_some (seated e)
 says_by n h s false e seated = of_none (ap (λ (b : Bool). if b then session_in (value_at n h.end.lines) else None) e)
 
@@ -178,11 +180,11 @@ has_none minor = refl
 has_none major = refl
 has_none release = refl
 
-none_holds : (o other : Option Standing) (t : Token) → o ≡ None → (has (held_by o) t && has (held_by other) t) ≡ false
-none_holds o other t e = ap (λ (x : Option Standing). has (held_by x) t && has (held_by other) t) e ∙ ap (λ (b : Bool). b && has (held_by other) t) (has_none t)
+none_holds : (o other : Option Listener) (t : Token) → o ≡ None → (has (held_by o) t && has (held_by other) t) ≡ false
+none_holds o other t e = ap (λ (x : Option Listener). has (held_by x) t && has (held_by other) t) e ∙ ap (λ (b : Bool). b && has (held_by other) t) (has_none t)
 
-other_holds_none : (o other : Option Standing) (t : Token) → other ≡ None → (has (held_by o) t && has (held_by other) t) ≡ false
-other_holds_none o other t e = ap (λ (x : Option Standing). has (held_by o) t && has (held_by x) t) e
+other_holds_none : (o other : Option Listener) (t : Token) → other ≡ None → (has (held_by o) t && has (held_by other) t) ≡ false
+other_holds_none o other t e = ap (λ (x : Option Listener). has (held_by o) t && has (held_by x) t) e
     ∙ ap (λ (b : Bool). has (held_by o) t && b) (has_none t) ∙ and_false (has (held_by o) t)
 
 one_holds : (n : ℕ) (left right : Holding) (s q : Standing) (t : Token) → Says n left s → Says n right q → (has s.state.held t && has q.state.held t) ≡ false →
@@ -190,8 +192,8 @@ one_holds : (n : ℕ) (left right : Holding) (s q : Standing) (t : Token) → Sa
 one_holds n left right s q t (of_none e) other none = none_holds (session_at n left.end) (session_at n right.end) t e
 one_holds n left right s q t (of_some e) (of_none f) none = other_holds_none (session_at n left.end) (session_at n right.end) t f
 one_holds n left right s q t (of_some e) (of_some f) none =
-    ap (λ (x : Option Standing). has (held_by x) t && has (held_by (session_at n right.end)) t) e
-    ∙ ap (λ (x : Option Standing). has (held_by (Some s)) t && has (held_by x) t) f ∙ none
+    ap (λ (x : Option Listener). has (held_by x) t && has (held_by (session_at n right.end)) t) e
+    ∙ ap (λ (x : Option Listener). has (held_by (Some (listening s))) t && has (held_by x) t) f ∙ none
 
 -- a reference that was given, or none
 pub within : (r most : ℕ) → ((r ≡ 0) ⊎ (most < r)) ⊎ ((0 < r) × (r ≤ most))
@@ -221,9 +223,9 @@ one_holder holder offered p steps h r t = by (within r p.left.end.carrier.given)
 
 -- V(A) as an end says it is that of the tables, or 0
 no_more : (n : ℕ) (h : Holding) (s : Standing) → Says n h s → (numbers_of (session_at n h.end)).confirmed ≤ s.state.numbers.confirmed
-no_more n h s (of_none e) = let zero_then : (numbers_of (session_at n h.end)).confirmed ≡ 0 = ap (λ (o : Option Standing). (numbers_of o).confirmed) e in omega arith
+no_more n h s (of_none e) = let zero_then : (numbers_of (session_at n h.end)).confirmed ≡ 0 = ap (λ (o : Option Listener). (numbers_of o).confirmed) e in omega arith
 no_more n h s (of_some e) =
-    let same : (numbers_of (session_at n h.end)).confirmed ≡ s.state.numbers.confirmed = ap (λ (o : Option Standing). (numbers_of o).confirmed) e in omega arith
+    let same : (numbers_of (session_at n h.end)).confirmed ≡ s.state.numbers.confirmed = ap (λ (o : Option Listener). (numbers_of o).confirmed) e in omega arith
 
 fewer_seen : (low high : ℕ) (own other : Told) → low ≤ high → IsSeenThere high own other → IsSeenThere low own other
 fewer_seen low high own other le seen before n kind octets begins below asking = seen before n kind octets begins (omega arith) asking

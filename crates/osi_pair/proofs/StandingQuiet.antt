@@ -4,7 +4,7 @@ use Rattle.std.proofs.lemmas.Bool.{eqb-true}
 use Rattle.std.proofs.lemmas.List.{append-nil}
 use Rattle.osi_carrier.specs.Orderly.{RiseFrom, AreUpTo}
 use Rattle.osi_carrier.specs.Rows.{Rows, value_at, put}
-use Rattle.osi_session.specs.Moves.{Move}
+use Rattle.osi_session.specs.Listening.{Move}
 use Rattle.osi_session.specs.Shown.{Shown}
 use Rattle.osi_stack.specs.Folds.{AllCameAbout}
 use Rattle.osi_stack.specs.Links.{AreApart}

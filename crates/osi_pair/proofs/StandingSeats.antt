@@ -9,13 +9,14 @@ use Rattle.osi_carrier.specs.Progress as progress
 use Rattle.osi_carrier.specs.Rows.{Rows, value_at}
 use Rattle.osi_carrier.specs.State.{Connection, asked, linked, closing, State}
 use Rattle.osi_carrier.proofs.Apart.{beyond}
-use Rattle.osi_machine.specs.Tables.{Seat}
+use Rattle.osi_machine.specs.Tables.{Seat, awaits}
 use Rattle.osi_machine.specs.Worlds.{Message, Transport}
 use Rattle.osi_machine.specs.Worlds as worlds
 use Rattle.osi_message.specs.InOctets.{IsInOctets}
+use Rattle.osi_session.specs.Listening.{Listener}
 use Rattle.osi_session.specs.Moves.{Standing}
 use Rattle.osi_session.specs.Phases.{is_ended}
-use Rattle.osi_session.specs.Sessions.{awaits}
+use Rattle.osi_session.specs.Whole.{listening}
 use Rattle.osi_stack.specs.Messages.{kept_at}
 use Rattle.osi_stack.specs.State.{Line, End, Holding, session_in, session_at}
 use Rattle.osi_pair.specs.Standing.{transport_in, is_parting, IsSeated}
@@ -90,14 +91,14 @@ value_same n s t o q h = value_by n s t (nat_lt s.given n) (nat_lt t.given n) re
 -- ---- the session
 
 pub record HasSession (n : ℕ) (lines : Rows Line) (g : Progress) (x : Standing) : Type 0 where
-  pub live : lives_in g ≡ true → kept_at n lines ≡ Some x
-  pub kept : (y : Standing) → kept_at n lines ≡ Some y → y ≡ x
+  pub live : lives_in g ≡ true → kept_at n lines ≡ Some (listening x)
+  pub kept : (y : Listener) → kept_at n lines ≡ Some y → y ≡ listening x
   pub over_now : is_parting (transport_by g) ≡ true → is_ended x.state.phase ≡ true
   pub awaiting : transport_by g ≡ worlds.not_yet → x ≡ awaits
   pub octets : IfSome x.waiting IsInOctets
 
 pub live_session : (n : ℕ) (e : End) → is_some (value_at n e.carrier.live) ≡ true → session_at n e ≡ kept_at n e.lines
-live_session n e h = ap (λ (b : Bool). if◌then◌else◌ {A = Option Standing} b (session_in (value_at n e.lines)) None) h
+live_session n e h = ap (λ (b : Bool). if◌then◌else◌ {A = Option Listener} b (session_in (value_at n e.lines)) None) h
 
 pub session_of_seat : (n : ℕ) (h : Holding) (seat : Seat) (g : Progress) → progress_of (place_at n h.end.carrier) ≡ g → IsSeated n h seat → HasSession n h.end.lines g seat.session
 session_of_seat n h seat g e i =

@@ -39,6 +39,7 @@ use Rattle.osi_pair.proofs.StandingCall.{put_nothing}
 use Rattle.osi_pair.proofs.StandingEnded.{lost_end, keep_then, ended_stands, may_end, all_shown_then, none_left}
 use Rattle.osi_pair.proofs.StandingFinish.{terms_at, line_then}
 use Rattle.osi_pair.proofs.StandingLost.{SaysAll}
+use Rattle.osi_pair.proofs.StandingListens.{as_made}
 use Rattle.osi_pair.proofs.StandingMoved.{move_of, loud_lines, moved_end, known_by, moved_line, turn_of, moved_tables, HasMoved}
 use Rattle.osi_pair.proofs.StandingMoves.{heard_by}
 use Rattle.osi_pair.proofs.StandingPacket.{PacketLaws, terms_then}
@@ -150,7 +151,7 @@ shut_shown laws s p t packet h v zero known closing reply =
     let order = moved_order s p t packet h v in
     let alone = alone_by e.carrier.given lines (given_of s p e h n shown v.now between v.lasts) order.rising order.sound.known in
     let open_now = linked_closes s p t packet h v closing (move_ends v.m.row v.row) in
-    let acts : answers n (move_of v.m) e.carrier ≡ carriers.ends Closed e.carrier =
+    let acts : answers n (as_made (move_of v.m)) e.carrier ≡ carriers.ends Closed e.carrier =
     ap (λ (b : Bool). answers_by b n (option_map written (move_of v.m).reply) e.carrier) closing ∙ closes_carrier laws s p e h n shown v.now open_now.peer open_now.link between v.lasts open_now.at in
     let same : after_packet (end_at s p).end packet ≡ lost_end Closed e.carrier lines = v.does ∙ ap (λ (k : State). concludes (answered_end k lines)) acts in
     let keep = keep_then s Closed e.carrier lines h p v.now in

@@ -15,7 +15,7 @@ use Rattle.osi_carrier.specs.Terms.{Terms}
 use Rattle.osi_machine.specs.Machine.{replaced}
 use Rattle.osi_machine.specs.Tables.{Seat, Line, seen_from}
 use Rattle.osi_machine.specs.Worlds.{Message, put}
-use Rattle.osi_session.specs.Moves.{Standing}
+use Rattle.osi_session.specs.Listening.{Listener}
 use Rattle.osi_stack.specs.Messages.{kept_at}
 use Rattle.osi_stack.specs.State.{End, Holding, session_in, session_at}
 use Rattle.osi_pair.specs.Ends.{TwoEnds, end_at}
@@ -95,10 +95,10 @@ pub record IsLeft (q : ℕ) (h g : Holding) : Type 0 where
   pub place : place_at q g.end.carrier ≡ place_at q h.end.carrier
   pub live : value_at q g.end.carrier.live ≡ value_at q h.end.carrier.live
   pub line : is_some (value_at q g.end.carrier.live) ≡ true → value_at q g.end.lines ≡ value_at q h.end.lines
-  pub kept : (s : Standing) → kept_at q g.end.lines ≡ Some s → kept_at q h.end.lines ≡ Some s
+  pub kept : (s : Listener) → kept_at q g.end.lines ≡ Some s → kept_at q h.end.lines ≡ Some s
 
 session_of_live : (q : ℕ) (e : End) → is_some (value_at q e.carrier.live) ≡ true → session_at q e ≡ session_in (value_at q e.lines)
-session_of_live q e live = ap (λ (b : Bool). if◌then◌else◌ {A = Option Standing} b (session_in (value_at q e.lines)) None) live
+session_of_live q e live = ap (λ (b : Bool). if◌then◌else◌ {A = Option Listener} b (session_in (value_at q e.lines)) None) live
 
 pub seated_there : (q : ℕ) (h g : Holding) (seat : Seat) → IsLeft q h g → IsSeated q h seat → IsSeated q g seat
 seated_there q h g seat left s = record {

@@ -16,7 +16,7 @@ use Rattle.osi_machine.specs.AsTables.{IsTableRun, LosesAsItEnds}
 use Rattle.osi_machine.specs.Core as machine
 use Rattle.osi_machine.specs.Machine.{Entry, delivers, learns, shown_at, is_given}
 use Rattle.osi_machine.specs.Runs.{is_loss, loses}
-use Rattle.osi_machine.specs.Tables.{Line, Turn, Tables, seen_from, end_of, step, unseen, hears, puts, shortened, without_first, message_taken}
+use Rattle.osi_machine.specs.Tables.{Line, Turn, Tables, awaits, seen_from, end_of, step, unseen, hears, puts, shortened, without_first, message_taken}
 use Rattle.osi_machine.specs.Views.{is_side}
 use Rattle.osi_machine.specs.Worlds.{Message, unit, ask, agree, deny, bye, over, put, replied}
 use Rattle.osi_machine.specs.Worlds as worlds
@@ -24,7 +24,6 @@ use Rattle.osi_message.specs.InOctets.{IsInOctets}
 use Rattle.osi_message.specs.Meanings.{Meaning}
 use Rattle.osi_session.specs.Moves.{Standing, opened, broken as broken_off, begun, rests as stays_so, react}
 use Rattle.osi_session.specs.Phases.{is_wait_transport, shows_loss}
-use Rattle.osi_session.specs.Sessions.{awaits}
 use Rattle.osi_session.specs.Shown.{Shown, Lost}
 use Rattle.osi_session.specs.declared.phases.Phase.{Phase}
 use Rattle.osi_session.proofs.PhaseLaws.{excluded}

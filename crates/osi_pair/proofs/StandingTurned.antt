@@ -14,7 +14,7 @@ use Rattle.osi_machine.specs.Core as machine
 use Rattle.osi_machine.specs.Machine.{shown_at, connection_at}
 use Rattle.osi_machine.specs.Machine as entries
 use Rattle.osi_machine.specs.Tables.{Seat, Line, Tables, seen_from}
-use Rattle.osi_session.specs.Moves.{Standing}
+use Rattle.osi_session.specs.Listening.{Listener}
 use Rattle.osi_session.specs.Shown.{Shown}
 use Rattle.osi_stack.specs.Messages.{kept_at}
 use Rattle.osi_stack.specs.State.{End, Holding, session_at}
@@ -64,13 +64,13 @@ pub record Others (s : Side) (p : TwoEnds) (b : Between) (e : End) (h : Held) (c
   pub places : (q : ℕ) → q ≢ n → place_at q e.carrier ≡ place_at q (end_at s p).end.carrier
   pub lives : (q : ℕ) → q ≢ n → value_at q e.carrier.live ≡ value_at q (end_at s p).end.carrier.live
   pub sessions : (q : ℕ) → q ≢ n → is_some (value_at q e.carrier.live) ≡ true → kept_at q e.lines ≡ kept_at q (end_at s p).end.lines
-  pub kept : (q : ℕ) → q ≢ n → (x : Standing) → kept_at q e.lines ≡ Some x → kept_at q (end_at s p).end.lines ≡ Some x
+  pub kept : (q : ℕ) → q ≢ n → (x : Listener) → kept_at q e.lines ≡ Some x → kept_at q (end_at s p).end.lines ≡ Some x
   pub ways : (q : ℕ) → q ≢ n → (from : Bool) → under_way from q (carriers_of p) b ≡ under_way from q (carriers_of (with_holding s e h p)) c
   pub last : (q : ℕ) → q ≢ n → place_at q (last_of (is_caller s) c) ≡ place_at q (last_of (is_caller s) b)
   pub there : (q : ℕ) → place_at q (last_of (is_caller (other s)) c) ≡ place_at q (last_of (is_caller (other s)) b)
 
 live_session : (q : ℕ) (e : End) → is_some (value_at q e.carrier.live) ≡ true → session_at q e ≡ kept_at q e.lines
-live_session q e h = ap (λ (b : Bool). if◌then◌else◌ {A = Option Standing} b (kept_at q e.lines) None) h
+live_session q e h = ap (λ (b : Bool). if◌then◌else◌ {A = Option Listener} b (kept_at q e.lines) None) h
 
 other_seated : (s : Side) (p : TwoEnds) (b : Between) (e : End) (h : Held) (c : Between) (n q : ℕ) (seat : Seat) → q ≢ n → Others s p b e h c n → IsSeated q (end_at s p) seat →
     IsSeated q (record { end = e; held = h }) seat

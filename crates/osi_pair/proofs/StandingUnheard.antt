@@ -9,10 +9,9 @@ use Rattle.osi_carrier.specs.Course.{place_at, progress_of}
 use Rattle.osi_carrier.specs.Progress.{not_yet}
 use Rattle.osi_carrier.specs.State.{State}
 use Rattle.osi_machine.specs.Machine.{is_given}
-use Rattle.osi_machine.specs.Tables.{Seat, Line, Tables, seen_from}
+use Rattle.osi_machine.specs.Tables.{Seat, Line, Tables, awaits, seen_from}
 use Rattle.osi_machine.specs.Worlds as worlds
 use Rattle.osi_message.specs.InOctets.{IsInOctets}
-use Rattle.osi_session.specs.Sessions.{awaits}
 use Rattle.osi_stack.specs.State.{End, Holding}
 use Rattle.osi_pair.specs.Ends.{TwoEnds, end_at}
 use Rattle.osi_pair.specs.Standing.{side_in, is_caller, transport_in, class_in, carriers_of, HasLine, Stands}

@@ -3,7 +3,7 @@ use Rattle.std.specs.Prelude.{ℕ, ◌+◌, true, false, List, [], ◌∷◌, �
 use Rattle.osi_tpkt.specs.Held.{fresh}
 use Rattle.osi_class.specs.declared.terms.Local.{Local}
 use Rattle.osi_session.specs.Calls.{Call}
-use Rattle.osi_session.specs.Moves.{called}
+use Rattle.osi_session.specs.Listening.{called}
 use Rattle.osi_session.specs.declared.faults.CallError.{CallError}
 use Rattle.osi_stack.specs.Calls.{connect_error, connects, call_error}
 use Rattle.osi_stack.specs.Moving.{to_session}

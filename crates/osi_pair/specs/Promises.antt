@@ -1,8 +1,8 @@
 -- What the users of two ends may rely on, read from what they can see: the journal, and what each end
 -- says of its connections.
-use Rattle.std.specs.Prelude.{◌≡◌, ℕ, ◌+◌, ◌<◌, ◌≤◌, Bool, true, false, ◌&&◌, ◌||◌, List, [], ◌∷◌, ◌++◌, length, map, Option, Some, None, is_some}
+use Rattle.std.specs.Prelude.{◌≡◌, ℕ, ◌+◌, ◌<◌, ◌≤◌, Bool, true, false, ◌&&◌, ◌||◌, List, [], ◌∷◌, ◌++◌, map, Option, Some, None, is_some}
 use Rattle.std.specs.List.{list_any}
-use Rattle.osi_carrier.specs.Calls.{begun_by, kept_in}
+use Rattle.osi_carrier.specs.Calls.{begun_by}
 use Rattle.osi_carrier.specs.Rows.{value_at}
 use Rattle.osi_carrier.specs.State.{Connection, linked}
 use Rattle.osi_carrier.specs.Terms.{terms_of}
@@ -21,7 +21,7 @@ use Rattle.osi_machine.specs.Tables.{Tables, start}
 use Rattle.osi_machine.specs.Views.{Told, told_of}
 use Rattle.osi_session.specs.Shown.{PeerAbort, BadUnit}
 use Rattle.osi_stack.specs.Calls.{held_by, numbers_of}
-use Rattle.osi_stack.specs.State.{End, session_at}
+use Rattle.osi_stack.specs.State.{End, session_at, joined_of, kept_octets}
 use Rattle.osi_pair.specs.Ends.{TwoEnds, end_at}
 use Rattle.osi_pair.specs.Entries.{Entry}
 use Rattle.osi_pair.specs.Entries as noted
@@ -147,18 +147,21 @@ pub record IsOpenAt (r : ℕ) (e : End) : Type 0 where
 
 -- how many octets an end keeps of what came
 abbrev pub kept_at : Side → TwoEnds → ℕ
-kept_at side p = length (end_at side p).held.octets + kept_in (end_at side p).end.carrier.live
+kept_at side p = kept_octets (end_at side p)
 
--- and of a connection
-abbrev pub kept_of : Option Connection → ℕ
-kept_of None = 0
-kept_of (Some connection) = begun_by connection
+-- and of a connection: of a TSDU, and of data that comes in parts
+abbrev pub begun_of : Option Connection → ℕ
+begun_of None = 0
+begun_of (Some connection) = begun_by connection
+
+abbrev pub kept_of : ℕ → End → ℕ
+kept_of r e = begun_of (value_at r e.carrier.live) + joined_of (session_at r e)
 
 -- of a connection, each way, all that was sent was taken, and nothing is kept
 pub record IsAllTaken (r : ℕ) (p : TwoEnds) (steps : List Step) : Type 0 where
   pub rightward : taken_by Right r p steps ≡ sent_by Left r p steps
   pub leftward : taken_by Left r p steps ≡ sent_by Right r p steps
-  pub kept : (side : Side) → kept_of (value_at r (end_at side p).end.carrier.live) ≡ 0
+  pub kept : (side : Side) → kept_of r (end_at side p).end ≡ 0
 
 -- Steps of the machine at which the two ends stand: over them the units that one session took are how those that
 -- the other's sent begin, and all of them where nothing is under way; then nothing of what came is kept.

@@ -23,14 +23,14 @@ use Rattle.osi_machine.specs.Core.{Offer}
 use Rattle.osi_machine.specs.Core as machine
 use Rattle.osi_machine.specs.Machine.{Ending, told_of_break, closed_here, no_memory, Refusal, has_ended, negotiating, one_connection, too_many, references_used_up, not_selected, too_long, connect_answered, call_answered, shown_at, ended, connection_at, Step, delivers, breaks, HasNumber}
 use Rattle.osi_machine.specs.Machine as entries
-use Rattle.osi_machine.specs.Tables.{Seat, Line, Tables, run, start}
+use Rattle.osi_machine.specs.Tables.{Seat, Line, Tables, awaits, run, start}
 use Rattle.osi_machine.specs.Worlds.{Message, unit, ask, agree, deny, bye, over, Transport, not_yet, waiting, gone, Terms, accepts, denies}
 use Rattle.osi_machine.specs.Worlds as worlds
 use Rattle.osi_message.specs.InOctets.{IsInOctets}
 use Rattle.osi_message.specs.Written.{written}
-use Rattle.osi_session.specs.Moves.{Standing}
+use Rattle.osi_session.specs.Listening.{Listener}
 use Rattle.osi_session.specs.Phases.{is_ended}
-use Rattle.osi_session.specs.Sessions.{awaits}
+use Rattle.osi_session.specs.Whole.{listening}
 use Rattle.osi_stack.specs.Folds.{AllCameAbout}
 use Rattle.osi_stack.specs.Hearing.{after_packet}
 use Rattle.osi_stack.specs.Links.{Soundness}
@@ -140,12 +140,12 @@ is_parting worlds.closing = true
 is_parting gone = true
 is_parting transport = false
 
--- a side of it: its transport connection; its session, while it is live, and also as long as it is kept
--- once it is gone; one that parts is over, and one that was never given awaits a CN
+-- a side of it: its transport connection; its session, which has joined nothing, while it is live, and also
+-- as long as it is kept once it is gone; one that parts is over, and one that was never given awaits a CN
 pub record IsSeated (n : ℕ) (h : Holding) (seat : Seat) : Type 0 where
   pub transport : seat.transport ≡ transport_in (place_at n h.end.carrier)
-  pub live : is_some (value_at n h.end.carrier.live) ≡ true → session_at n h.end ≡ Some seat.session
-  pub kept : (s : Standing) → kept_at n h.end.lines ≡ Some s → s ≡ seat.session
+  pub live : is_some (value_at n h.end.carrier.live) ≡ true → session_at n h.end ≡ Some (listening seat.session)
+  pub kept : (l : Listener) → kept_at n h.end.lines ≡ Some l → l ≡ listening seat.session
   pub over_now : is_parting seat.transport ≡ true → is_ended seat.session.state.phase ≡ true
   pub awaiting : seat.transport ≡ not_yet → seat.session ≡ awaits
   -- the CN that waits goes into octets
