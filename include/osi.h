@@ -193,8 +193,9 @@ typedef struct osi_opening {
 
 /* Why a unit that came is bad. */
 typedef struct osi_fault {
-    uint8_t fault;     /* 1 spelling, 2 unexpected, 3 not selected, 4 token not held, 5 bad number, 6 bad tokens */
-    uint8_t si;        /* 2 to 6: the SI of the unit */
+    uint8_t fault;     /* 1 spelling, 2 unexpected, 3 not selected, 4 token not held, 5 bad number, 6 bad tokens,
+                          7 bad enclosure (not where it may come among the parts of one data), 8 data too long */
+    uint8_t si;        /* 2 to 8: the SI of the unit */
     uint8_t spelling;  /* 1: 1 unknown SI, 2 length past end, 3 missing, 4 duplicate parameter, 5 bad value,
                           6 bad concatenation, 7 octets left over */
     uint8_t parameter; /* spelling 3, 4 and 5: the code of the parameter */
@@ -343,8 +344,8 @@ uint32_t osi_broken(osi_end *end);
 #define OSI_END_NO_MEMORY_FOR_TSDU 22u
 uint32_t osi_ended(osi_end *end, uint64_t *detail);
 
-/* How many octets are kept of a packet and of TSDUs that are not whole yet: at most 65,535, and
- * 1,048,576 for each live connection. */
+/* How many octets are kept of a packet, of TSDUs and of data in parts that are not whole yet: at most
+ * 65,535, and 2,097,148 for each live connection (1,048,576 of a TSDU, 1,048,572 of data). */
 size_t osi_kept(osi_end *end);
 
 /* ---- indications ----------------------------------------------------------------------------------- */

@@ -390,6 +390,8 @@ enum class fault_kind : std::uint8_t {
     token_not_held = 4, /* the peer does not hold a token that the unit needs */
     bad_number = 5,     /* the number is of no point that the unit may name */
     bad_tokens = 6,     /* its tokens or sides are not as they may be */
+    bad_enclosure = 7,  /* it does not come where it stands among the parts of one data */
+    data_too_long = 8,  /* with it the parts of one data have more than 1,048,572 octets */
 };
 
 /* What is wrong with the octets of a unit. */
@@ -738,7 +740,8 @@ public:
         return osi::ended{static_cast<ending>(why), more};
     }
 
-    /* How many octets are kept of what is not whole yet. */
+    /* How many octets are kept of what is not whole yet: of a packet, of TSDUs, and of data that comes in
+     * parts. */
     std::size_t kept() noexcept { return slot_ ? osi_kept(slot_.get()) : 0; }
 
     /* ---- indications */

@@ -412,6 +412,23 @@ static void bad_units_are_shown()
     CHECK(second && second->fault.kind == osi::fault_kind::unexpected && second->fault.si == 10);
 }
 
+static void data_in_parts_is_joined()
+{
+    static const std::uint8_t first[] = {0x03, 0x00, 0x00, 0x0f, 0x02, 0xf0, 0x80, 0x01,
+                                         0x00, 0x01, 0x03, 0x19, 0x01, 0x01, 0x41};
+    static const std::uint8_t last[] = {0x03, 0x00, 0x00, 0x0f, 0x02, 0xf0, 0x80, 0x01,
+                                        0x00, 0x01, 0x03, 0x19, 0x01, 0x02, 0x42};
+    pair both = opened(osi::classes::class_0);
+    CHECK(!both.called.feed(first)->waits && both.called.kept() == 1);
+    CHECK(both.called.feed(last)->waits);
+    const auto shown = both.called.next();
+    CHECK(shown && shown->tag == tag::data && shown->user_data == "AB");
+    CHECK(both.called.kept() == 0);
+    CHECK(both.called.feed(last)->waits);
+    const auto second = both.called.next();
+    CHECK(second && second->fault.kind == osi::fault_kind::bad_enclosure && second->fault.si == 1);
+}
+
 static void bad_packets_end_an_end()
 {
     osi::end end = *osi::end::called();
@@ -528,6 +545,7 @@ int main()
     aborts_are_shown();
     losses_are_shown();
     bad_units_are_shown();
+    data_in_parts_is_joined();
     bad_packets_end_an_end();
     connections_are_told_apart();
     terms_are_judged();

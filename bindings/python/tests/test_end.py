@@ -238,6 +238,7 @@ class Indications(Case):
                 FaultKind.SPELLING, spelling=Spelling.MISSING_PARAMETER, parameter=42, offset=2
             ),
             b"\x0a\x00": Fault(FaultKind.UNEXPECTED, si=10),
+            b"\x01\x00\x01\x03\x19\x01\x02A": Fault(FaultKind.BAD_ENCLOSURE, si=1),
         }
         for tsdu, fault in cases.items():
             pair = Pair.opened()
@@ -262,6 +263,14 @@ class Indications(Case):
 
 
 class Octets(Case):
+    def test_data_in_parts_is_joined(self):
+        pair = Pair.opened()
+        head = b"\x01\x00\x01\x03\x19\x01"
+        self.assertEqual(list(pair.called.feed_all(packet(head + b"\x01one "))), [])
+        self.assertEqual(pair.called.kept(), 4)
+        self.assertEqual(list(pair.called.feed_all(packet(head + b"\x02two"))), [Data(1, b"one two")])
+        self.assertEqual(pair.called.kept(), 0)
+
     def test_feeding_stops_where_an_indication_waits(self):
         pair = Pair.opened()
         pair.caller.data(1, b"one")

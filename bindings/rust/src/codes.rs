@@ -317,6 +317,17 @@ pub enum Fault {
         /// The SI of the unit.
         si: u8,
     },
+    /// It does not come where it stands among the parts of one Data: a first part, whole data, a token
+    /// item with tokens, a point or a finish while one is unfinished, or a later part where none is.
+    BadEnclosure {
+        /// The SI of the unit.
+        si: u8,
+    },
+    /// With it the parts of one Data have more than 1,048,572 octets.
+    DataTooLong {
+        /// The SI of the unit.
+        si: u8,
+    },
 }
 
 impl fmt::Display for Fault {
@@ -330,6 +341,12 @@ impl fmt::Display for Fault {
                 write!(f, "the number in the unit with the SI {si} is of no such point")
             }
             Fault::BadTokens { si } => write!(f, "the tokens in the unit with the SI {si} are bad"),
+            Fault::BadEnclosure { si } => {
+                write!(f, "the unit with the SI {si} does not come there among the parts of one Data")
+            }
+            Fault::DataTooLong { si } => {
+                write!(f, "with the unit with the SI {si} the parts of one Data are too long")
+            }
         }
     }
 }

@@ -382,8 +382,8 @@ impl End {
         }
     }
 
-    /// How many octets are kept of a packet and of TSDUs that are not whole yet: at most 65,535, and
-    /// 1,048,576 for each live connection.
+    /// How many octets are kept of a packet, of TSDUs and of data in parts that are not whole yet: at
+    /// most 65,535, and 2,097,148 for each live connection.
     pub fn kept(&mut self) -> usize {
         unsafe { ffi::osi_kept(self.at()) }
     }

@@ -289,6 +289,8 @@ fn fault_of(fault: &ffi::osi_fault) -> Option<Fault> {
         4 => Fault::TokenNotHeld { si },
         5 => Fault::BadNumber { si },
         6 => Fault::BadTokens { si },
+        7 => Fault::BadEnclosure { si },
+        8 => Fault::DataTooLong { si },
         _ => return None,
     })
 }

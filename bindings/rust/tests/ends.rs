@@ -296,13 +296,26 @@ fn an_abort_and_a_loss_are_shown() {
 }
 
 #[test]
+fn data_in_parts_is_joined() {
+    let mut pair = Pair::opened(Classes::CLASS_0, &opening());
+    let first = packet(b"\x01\x00\x01\x03\x19\x01\x01one ");
+    assert_eq!(pair.called.feed_next(&mut first.as_slice()), None);
+    assert_eq!(pair.called.kept(), 4);
+    let last = packet(b"\x01\x00\x01\x03\x19\x01\x02two");
+    let shown = Indication::Data { user_data: b"one two".as_slice() };
+    assert_eq!(pair.called.feed_next(&mut last.as_slice()), Some((pair.of, shown)));
+    assert_eq!(pair.called.kept(), 0);
+}
+
+#[test]
 fn bad_units_are_shown() {
     let unknown = Fault::Spelling { spelling: Spelling::UnknownSi, offset: 0 };
     let missing = Fault::Spelling { spelling: Spelling::MissingParameter(42), offset: 2 };
-    let cases: [(&[u8], Fault); 3] = [
+    let cases: [(&[u8], Fault); 4] = [
         (&[0x21, 0x00], unknown),
         (&[0x01, 0x00, 0x31, 0x00], missing),
         (&[0x0a, 0x00], Fault::Unexpected { si: 10 }),
+        (b"\x01\x00\x01\x03\x19\x01\x02A", Fault::BadEnclosure { si: 1 }),
     ];
     for (tsdu, fault) in cases {
         let mut pair = Pair::opened(Classes::CLASS_0, &opening());

@@ -2,11 +2,10 @@
 use Rattle.std.specs.Prelude.{◌≡◌, ℕ, ◌≤◌, ◌+◌, ◌*◌, Bool, false, List, [], length, Option, Some, None, option_map}
 use Rattle.osi_tpkt.specs.Held.{fresh}
 use Rattle.osi_class.specs.declared.terms.Local.{Local}
-use Rattle.osi_carrier.specs.Calls.{kept_in}
 use Rattle.osi_carrier.specs.declared.ends.EndReason.{EndReason}
 use Rattle.osi_message.specs.Tokens.{token_octet}
 use Rattle.osi_session.specs.Calls.{Call}
-use Rattle.osi_session.specs.Moves.{called}
+use Rattle.osi_session.specs.Listening.{called}
 use Rattle.osi_session.specs.Numbers.{from_base}
 use Rattle.osi_session.specs.Shown.{Shown, shown_by}
 use Rattle.osi_session.specs.declared.faults.CallError.{CallError}
@@ -15,7 +14,7 @@ use Rattle.osi_session.specs.declared.phases.Phase.{Phase}
 use Rattle.osi_stack.specs.Calls.{connect_error, refusal, connects, call_error, table_error, Refuses, held_by, phase_at, numbers_of, first_shown, without_first, carried, breaks}
 use Rattle.osi_stack.specs.Feeding.{Feeds}
 use Rattle.osi_stack.specs.Moving.{to_session}
-use Rattle.osi_stack.specs.State.{End, fresh_end, session_at}
+use Rattle.osi_stack.specs.State.{End, fresh_end, session_at, kept_octets}
 use Rattle.osi_stack.specs.declared.connecting.Connect.{Connect}
 use Rattle.osi_stack.specs.declared.connecting.ConnectError.{ConnectError}
 use Rattle.osi_c.specs.Arguments.{IsTerms, SaysTerms, IsOpening, SaysOpening}
@@ -137,12 +136,12 @@ abbrev pub numbers : ℕ → Option Contents → Numbers
 numbers r None = from_base 0
 numbers r (Some c) = numbers_of (session_at r c.stack.end)
 
--- the octets of packets and TSDUs that are not whole yet
+-- the octets of packets, TSDUs and data in parts that are not whole yet
 abbrev pub kept : Option Contents → ℕ
 kept None = 0
-kept (Some c) = length c.stack.held.octets + kept_in c.stack.end.carrier.live
+kept (Some c) = kept_octets c.stack
 
--- as many as there may be: of a packet, and of a TSDU of each live connection
+-- as many as there may be: of a packet, and of a TSDU and data in parts of each live connection
 abbrev pub most_kept : Option Contents → ℕ
 most_kept None = 0
-most_kept (Some c) = 65535 + 1048576 * length c.stack.end.carrier.live
+most_kept (Some c) = 65535 + 2097148 * length c.stack.end.carrier.live

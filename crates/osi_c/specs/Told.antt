@@ -11,7 +11,7 @@ use Rattle.osi_spdu.specs.declared.fields.TsduMaximumSize.{TsduMaximumSize}
 use Rattle.osi_spdu.specs.declared.settings.TokenSetting.{TokenSetting}
 use Rattle.osi_session.specs.Shown.{Shown, Connect, Connected, RefusedByTransport, RefusedBySession, Data, Given, Asked, Minor, MinorConfirmed, Major, MajorConfirmed, Restart, Restarted, Release, Released, ReleaseRefused, Aborted, Lost, PeerAbort, BadUnit}
 use Rattle.osi_session.specs.declared.faults.UnitFault.{UnitFault}
-use Rattle.osi_session.specs.declared.faults.UnitFault.TheVariants.{Spelling, Unexpected, NotSelected, TokenHeld, BadNumber, BadTokens}
+use Rattle.osi_session.specs.declared.faults.UnitFault.TheVariants.{Spelling, Unexpected, NotSelected, TokenHeld, BadNumber, BadTokens, BadEnclosure, DataTooLong}
 use Rattle.osi_session.specs.declared.sides.Sides.{Sides}
 use Rattle.osi_c.specs.declared.arguments.OsiSides.{OsiSides}
 use Rattle.osi_c.specs.declared.telling.OsiFault.{OsiFault}
@@ -43,6 +43,8 @@ fault_told (NotSelected si) = of_unit 3 si
 fault_told (TokenHeld si) = of_unit 4 si
 fault_told (BadNumber si) = of_unit 5 si
 fault_told (BadTokens si) = of_unit 6 si
+fault_told (BadEnclosure si) = of_unit 7 si
+fault_told (DataTooLong si) = of_unit 8 si
 
 -- ---- the side for each token
 

@@ -105,8 +105,8 @@ pub extern "C" fn osi_ended(end: &mut OsiEnd, detail: &mut u64) -> u32
     why.code
 }
 
-/// How many octets of packets and TSDUs are kept that are not whole yet: at most 65,535, and 1,048,576
-/// for each live connection; 0 of a slot that holds no end.
+/// How many octets of packets, TSDUs and data in parts are kept that are not whole yet: at most 65,535,
+/// and 2,097,148 for each live connection; 0 of a slot that holds no end.
 #[unsafe(no_mangle)]
 pub extern "C" fn osi_kept(end: &mut OsiEnd) -> usize
     ensures value { result ≡ kept end.old.inner.value }

@@ -133,6 +133,8 @@ fn fault_codes(fault: UnitFault) -> OsiFault
         UnitFault::TokenHeld(si) => of_unit(4, si),
         UnitFault::BadNumber(si) => of_unit(5, si),
         UnitFault::BadTokens(si) => of_unit(6, si),
+        UnitFault::BadEnclosure(si) => of_unit(7, si),
+        UnitFault::DataTooLong(si) => of_unit(8, si),
     }
 }
 

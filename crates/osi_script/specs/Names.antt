@@ -69,6 +69,8 @@ unit_fault_name (fault.NotSelected si) = codes "NotSelected"
 unit_fault_name (fault.TokenHeld si) = codes "TokenHeld"
 unit_fault_name (fault.BadNumber si) = codes "BadNumber"
 unit_fault_name (fault.BadTokens si) = codes "BadTokens"
+unit_fault_name (fault.BadEnclosure si) = codes "BadEnclosure"
+unit_fault_name (fault.DataTooLong si) = codes "DataTooLong"
 
 unfoldable pub phase_name : Phase → List ℕ
 phase_name phase.WaitTransport = codes "WaitTransport"

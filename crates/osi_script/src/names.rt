@@ -53,6 +53,8 @@ pub(crate) fn unit_fault(fault: UnitFault) -> &'static str
         UnitFault::TokenHeld(_) => "TokenHeld",
         UnitFault::BadNumber(_) => "BadNumber",
         UnitFault::BadTokens(_) => "BadTokens",
+        UnitFault::BadEnclosure(_) => "BadEnclosure",
+        UnitFault::DataTooLong(_) => "DataTooLong",
     }
 }
 

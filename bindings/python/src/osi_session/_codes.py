@@ -212,6 +212,10 @@ class FaultKind(IntEnum):
     """Its number is of no point that it may name."""
     BAD_TOKENS = 6
     """Its tokens or sides are not as they may be."""
+    BAD_ENCLOSURE = 7
+    """It does not come where it stands among the parts of one Data."""
+    DATA_TOO_LONG = 8
+    """With it the parts of one Data have more than 1,048,572 octets."""
 
 
 class Spelling(IntEnum):

@@ -319,7 +319,8 @@ class End:
         return Ending(Reason(reason), detail.value) if reason != 0 else None
 
     def kept(self) -> int:
-        """How many octets are kept of a packet and of TSDUs that are not whole yet."""
+        """How many octets are kept of a packet, of TSDUs and of data in parts that are not whole yet: at
+        most 65,535, and 2,097,148 for each live connection."""
         with self._lock:
             return int(self._osi.osi_kept(byref(self._slot)))
 
