@@ -19,8 +19,8 @@ use std::io;
 /// The most octets that are kept of a packet that is not whole.
 const OF_A_PACKET: usize = 65_535;
 
-/// The most octets that are kept of the unfinished TSDU of a connection.
-const OF_A_TSDU: usize = 1_048_576;
+/// The most octets that are kept of the unfinished TSDU of a connection, and of data that came in parts.
+const OF_A_CONNECTION: usize = 2_097_148;
 
 /// What happened to an end before it is fed a damaged packet.
 #[derive(Clone, Copy)]
@@ -308,7 +308,7 @@ fn is_within_bounds(stack: &Stack) -> bool {
             break;
         };
         if !matches!(phase, Phase::Ended) {
-            most = most.saturating_add(OF_A_TSDU);
+            most = most.saturating_add(OF_A_CONNECTION);
         }
         if stack.ended().is_some() && !stack.held(Ref(reference)).is_empty() {
             return false;

@@ -1,8 +1,8 @@
 //! Scripts and transcripts that are written short.
 //!
-//! A word `41*10240` stands for the two digits so many times. A line `3 times A | B` stands for the
-//! lines `A` and `B`, three times. So what is asked for at the greatest lengths is a file of few
-//! octets.
+//! A word `41*10240` stands for the two digits so many times, and `0100+41*10240` for these behind
+//! others. A line `3 times A | B` stands for the lines `A` and `B`, three times. A comment stands for
+//! itself. So what is asked for at the greatest lengths is a file of few octets.
 
 use std::alloc::{AllocError, Global};
 
@@ -19,6 +19,10 @@ pub(crate) fn written_out(alloc: Global, text: &str) -> Result<String, AllocErro
 }
 
 fn push_line(out: &mut String, line: &str) -> Result<(), AllocError> {
+    if line.starts_with('#') {
+        out.push_str(line)?;
+        return out.push('\n');
+    }
     let Some((count, lines)) = line.split_once(" times ") else {
         return push_words(out, line);
     };
@@ -49,8 +53,15 @@ fn push_words(out: &mut String, line: &str) -> Result<(), AllocError> {
 }
 
 fn push_word(out: &mut String, word: &str) -> Result<(), AllocError> {
-    let Some((digits, count)) = word.split_once('*') else {
-        return out.push_str(word);
+    for part in word.split('+') {
+        push_part(out, part)?;
+    }
+    Ok(())
+}
+
+fn push_part(out: &mut String, part: &str) -> Result<(), AllocError> {
+    let Some((digits, count)) = part.split_once('*') else {
+        return out.push_str(part);
     };
     for _ in 0..number(count) {
         out.push_str(digits)?;

@@ -6,9 +6,9 @@
 //! differ. Behind `again` stand those in which an event that finds no memory is applied again. Behind
 //! `octets` stand ends that are fed octets, and what they answer; behind `show` captures with their
 //! listings; behind `damaged` captures whose packets are damaged and fed to ends, of which is said how
-//! many did what they should. Behind `long` stand scripts and transcripts that are written short, behind
-//! `together` those whose events are given in one list, and behind `texts` files with the text of each
-//! fault and error.
+//! many did what they should. Behind `long` stand scripts and transcripts that are written short, as the
+//! files behind `octets` may be, behind `together` those whose events are given in one list, and behind
+//! `texts` files with the text of each fault and error.
 #![tactic(auto)]
 
 mod again;
@@ -135,7 +135,7 @@ fn judged_again<R: Files + AllocGlobal>(rt: &R, name: &str) -> io::Result<String
 }
 
 fn judged_octets<R: Files + AllocGlobal>(rt: &R, name: &str) -> io::Result<String> {
-    let wanted = text_of(rt, name, "octets")?;
+    let wanted = written_out(rt.alloc(), text_of(rt, name, "octets")?.as_str())?;
     let came = played(rt.alloc(), wanted.as_str())?;
     if came.as_slice() != wanted.as_str().as_bytes() {
         return another(rt.alloc(), came.as_slice(), 0);

@@ -130,6 +130,8 @@ fn push_sessions(alloc: Global, out: &mut String) -> Result<(), AllocError> {
         UnitFault::TokenHeld(4),
         UnitFault::BadNumber(5),
         UnitFault::BadTokens(6),
+        UnitFault::BadEnclosure(7),
+        UnitFault::DataTooLong(8),
     ];
     push_all(alloc, out, &errors)?;
     push_all(alloc, out, &faults)

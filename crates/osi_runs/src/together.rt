@@ -20,7 +20,7 @@ pub(crate) fn run_together(alloc: Global, script: &str) -> io::Result<Together> 
     let lines = lines_in(alloc, script)?;
     let events = events_in(alloc, lines.as_slice())?;
     let mut together = pair_in(alloc, script)?;
-    let refused = together.run(events.as_slice()).err();
+    let refused = run_all(&mut together, events.as_slice());
     let mut single = pair_in(alloc, script)?;
     let stopped = apply_each(&mut single, events.as_slice());
     let came = all_of(alloc, &together)?;
@@ -29,6 +29,11 @@ pub(crate) fn run_together(alloc: Global, script: &str) -> io::Result<Together> 
         is_same: refused == stopped && came.as_slice() == wanted.as_slice(),
         refused,
     })
+}
+
+/// Runs events that are given in one list, up to the first that is refused.
+fn run_all(pair: &mut Pair, events: &[Event]) -> Option<RunError> {
+    pair.run(events).err()
 }
 
 /// The lines that ask for events.

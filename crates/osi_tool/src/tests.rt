@@ -1,4 +1,4 @@
-use crate::faults::ToolFault;
+use crate::faults::{ProgramFault, ToolFault};
 use crate::jobs::Job;
 use crate::pairing::pair;
 use crate::showing::show;
@@ -183,6 +183,54 @@ fn an_octet_too_many_octet_by_octet(rt: HostRuntime) -> Result<(), Fail> {
     Ok(())
 }
 
+/// What the program prints of a fault.
+fn is_named(rt: &HostRuntime, fault: ProgramFault, name: &str) -> Result<(), Fail> {
+    if format!(in rt.alloc(); "{fault}")?.as_str() != name {
+        return Err(Fail::from("another name"));
+    }
+    Ok(())
+}
+
+#[test]
+fn faults_are_named(rt: HostRuntime) -> Result<(), Fail> {
+    is_named(&rt, ProgramFault::Words, "Words")?;
+    is_named(&rt, ProgramFault::Tool(ToolFault::Input), "Input")?;
+    is_named(&rt, ProgramFault::Tool(ToolFault::BadHex), "BadHex")?;
+    is_named(&rt, ProgramFault::Tool(ToolFault::Write), "Write")?;
+    is_named(
+        &rt,
+        ProgramFault::Tool(ToolFault::OutOfMemory),
+        "OutOfMemory",
+    )
+}
+
+/// A capture of 16,777,216 octets: 128 packets of 65,535, each with data of 65,524 octets, and blanks.
+fn the_longest_capture(rt: &HostRuntime) -> Result<Vec<u8>, Fail> {
+    let data = vec![in rt.alloc(); b'5'; 131_048]?;
+    let blanks = vec![in rt.alloc(); b' '; 256]?;
+    let mut text = Vec::new(rt.alloc());
+    for _ in 0..128 {
+        text.extend_from_slice(b"0300ffff02f08001000100")?;
+        text.extend_from_slice(data.as_slice())?;
+    }
+    text.extend_from_slice(blanks.as_slice())?;
+    Ok(text)
+}
+
+#[test]
+fn the_longest_capture_is_listed(rt: HostRuntime) -> Result<(), Fail> {
+    let text = the_longest_capture(&rt)?;
+    assert_eq!(rt; text.len(), LONGEST_INPUT);
+    let mut out = Vec::new(rt.alloc());
+    let mut reader = text.as_slice();
+    assert_eq!(rt; show(rt.alloc(), &mut reader, &mut out), Ok(0));
+    assert!(rt;
+        out.as_slice()
+            .ends_with(b"    tsdu 65528\n    GT\n    DT octets 65524\nrest 0\n")
+    );
+    Ok(())
+}
+
 /// The kind of error that the words give.
 fn refused(rt: &HostRuntime, words: &[&str]) -> Option<ErrorKind> {
     match job(rt.alloc(), words) {
@@ -255,4 +303,40 @@ fn a_script_is_not_read_or_its_transcript_not_written(rt: HostRuntime) {
         pair(rt.alloc(), &mut reader, &mut Unflushed),
         Err(ToolFault::Write)
     );
+}
+
+/// The first lines of a long script: a connection is opened.
+const OPENED: &str = "ends 0 0 10 4
+connect 0001 0 aaaa -
+carry left 999
+carry right 999
+carry left 999
+right 1 accept 0001 0 aaaa -
+carry right 999
+";
+
+/// The last lines of its transcript.
+const LAST_DATA: &str = "left carried 12
+right 1 Data 41
+left 1 phase Ready held 01 next 0 below 0 lowest 0
+right 1 phase Ready held 00 next 0 below 0 lowest 0
+";
+
+/// A script of 100,007 lines: data that is shown, an octet at a time.
+fn a_long_script(rt: &HostRuntime) -> Result<Vec<u8>, Fail> {
+    let mut script = Vec::from_slice(rt.alloc(), OPENED.as_bytes())?;
+    for _ in 0..50_000 {
+        script.extend_from_slice(b"left 1 data 41\ncarry left 999\n")?;
+    }
+    Ok(script)
+}
+
+#[test]
+fn a_script_of_100_007_lines_is_run(rt: HostRuntime) -> Result<(), Fail> {
+    let script = a_long_script(&rt)?;
+    let mut out = Vec::new(rt.alloc());
+    let mut reader = script.as_slice();
+    assert_eq!(rt; pair(rt.alloc(), &mut reader, &mut out), Ok(0));
+    assert!(rt; out.as_slice().ends_with(LAST_DATA.as_bytes()));
+    Ok(())
 }
