@@ -128,16 +128,21 @@ const CLASS_2: [u8; 17] = [
     0x00,
 ];
 
-/// A caller has connection 1 open in class 2, and nothing is to be carried.
-fn opened(rt: &HostRuntime) -> Result<Carrier, Fail> {
+/// A caller has connection 1 open by this CC, and nothing is to be carried.
+fn opened_by(rt: &HostRuntime, confirm: &[u8]) -> Result<Carrier, Fail> {
     let mut caller = Carrier::caller(rt.alloc(), local(true, true)?);
     connects(&mut caller, 1)?;
     caller.taken(caller.outgoing().len());
-    takes(&mut caller, &CLASS_2)?;
+    takes(&mut caller, confirm)?;
     match caller.next_event() {
         Some(Event::Opened(Ref(1))) => Ok(caller),
         _ => Err(Fail::from("another event")),
     }
+}
+
+/// A caller has connection 1 open in class 2, and nothing is to be carried.
+fn opened(rt: &HostRuntime) -> Result<Carrier, Fail> {
+    opened_by(rt, &CLASS_2)
 }
 
 #[test]
@@ -148,10 +153,22 @@ fn a_tsdu_is_sent_on_an_open_connection_alone(rt: HostRuntime) -> Result<(), Fai
     refuses_to_send(&mut caller, b"A", SendError::NotOpen)
 }
 
+/// Two TSDUs are sent, and a copy of them is given away: most of the first goes behind credit that has
+/// not come, and the others behind it.
+fn sends_three(carrier: &mut Carrier, alloc: Global, tsdu: &[u8]) -> Result<(), Fail> {
+    carrier.send(Ref(1), tsdu)?;
+    carrier.send(Ref(1), tsdu)?;
+    carrier.send_owned(Ref(1), Vec::from_slice(alloc, tsdu)?)?;
+    Ok(())
+}
+
 #[test]
 fn a_sent_tsdu_has_at_most_1048576_octets(rt: HostRuntime) -> Result<(), Fail> {
-    let tsdu = vec![in rt.alloc(); 0x5A; 1_048_577]?;
-    refuses_to_send(&mut opened(&rt)?, tsdu.as_slice(), SendError::TooLong)
+    let octets = vec![in rt.alloc(); 0x5A; 1_048_577]?;
+    let (longest, _) = octets.as_slice().split_at_checked(1_048_576).ok_or("octets")?;
+    let mut caller = opened(&rt)?;
+    refuses_to_send(&mut caller, octets.as_slice(), SendError::TooLong)?;
+    sends_three(&mut caller, rt.alloc(), longest)
 }
 
 #[test]
@@ -203,4 +220,72 @@ fn a_connection_of_class_2_carries_and_is_closed(rt: HostRuntime) -> Result<(), 
     gives_away(&mut caller, rt.alloc())?;
     hands_out(&mut caller)?;
     closes(&mut caller)
+}
+
+/// The CC by which class 0 is selected.
+const CLASS_0_SELECTED: [u8; 14] = [
+    0x03, 0x00, 0x00, 0x0E, 0x09, 0xD0, 0x00, 0x01, 0x00, 0x01, 0x00, 0xC0, 0x01, 0x0A,
+];
+
+/// Five DTs of class 0.
+const FIVE_IN_CLASS_0: [u8; 40] = [
+    3, 0, 0, 8, 2, 0xF0, 0x80, 0x41, 3, 0, 0, 8, 2, 0xF0, 0x80, 0x42, 3, 0, 0, 8, 2, 0xF0, 0x80,
+    0x43, 3, 0, 0, 8, 2, 0xF0, 0x80, 0x44, 3, 0, 0, 8, 2, 0xF0, 0x80, 0x45,
+];
+
+/// Four DTs of class 2, with the numbers 0 to 3.
+const FOUR_IN_CLASS_2: [u8; 40] = [
+    3, 0, 0, 0x0A, 4, 0xF0, 0, 1, 0x80, 0x41, 3, 0, 0, 0x0A, 4, 0xF0, 0, 1, 0x81, 0x42, 3, 0, 0,
+    0x0A, 4, 0xF0, 0, 1, 0x82, 0x43, 3, 0, 0, 0x0A, 4, 0xF0, 0, 1, 0x83, 0x44,
+];
+
+/// Five TSDUs of one octet.
+fn five(alloc: Global) -> Result<Vec<Vec<u8>>, Fail> {
+    let mut tsdus = Vec::new(alloc);
+    for octet in *b"ABCDE" {
+        tsdus.push(vec![in alloc; octet; 1]?)?;
+    }
+    Ok(tsdus)
+}
+
+/// TSDUs are sent together. Where no memory is found nothing is written, and they are sent once more, as
+/// if they had not been.
+fn sends_all(carrier: &mut Carrier, tsdus: &[Vec<u8>]) -> Result<(), Fail> {
+    match carrier.send_all(Ref(1), tsdus) {
+        Ok(()) => Ok(()),
+        Err(SendError::OutOfMemory) => {
+            writes(carrier, &[])?;
+            carrier.send_all(Ref(1), tsdus)?;
+            Ok(())
+        }
+        Err(error) => Err(Fail::from(error)),
+    }
+}
+
+#[test]
+fn tsdus_are_sent_together_in_class_0(rt: HostRuntime) -> Result<(), Fail> {
+    let mut caller = opened_by(&rt, &CLASS_0_SELECTED)?;
+    sends_all(&mut caller, five(rt.alloc())?.as_slice())?;
+    writes(&mut caller, &FIVE_IN_CLASS_0)
+}
+
+#[test]
+fn tsdus_are_sent_together_in_class_2(rt: HostRuntime) -> Result<(), Fail> {
+    let mut caller = opened(&rt)?;
+    sends_all(&mut caller, five(rt.alloc())?.as_slice())?;
+    writes(&mut caller, &FOUR_IN_CLASS_2)?;
+    // an AK: number 4, credit 4
+    takes(&mut caller, &[3, 0, 0, 9, 4, 0x64, 0, 1, 4])?;
+    writes(&mut caller, &[3, 0, 0, 0x0A, 4, 0xF0, 0, 1, 0x84, 0x45])
+}
+
+#[test]
+fn an_empty_list_is_sent_on_an_open_connection_alone(rt: HostRuntime) -> Result<(), Fail> {
+    let mut caller = Carrier::caller(rt.alloc(), local(true, true)?);
+    if caller.send_all(Ref(1), &[]) != Err(SendError::NotOpen) {
+        return Err(Fail::from("another answer to sending"));
+    }
+    let mut opened = opened(&rt)?;
+    sends_all(&mut opened, &[])?;
+    writes(&mut opened, &[])
 }

@@ -149,6 +149,30 @@ fn a_tsdu_is_cut_at_the_size(rt: HostRuntime) -> Result<(), Fail> {
     parts_go_on(&mut link, tsdu.as_slice())
 }
 
+/// A TSDU of 126 octets and an empty one.
+fn two(rt: &HostRuntime) -> Result<Vec<Vec<u8>>, Fail> {
+    let mut tsdus = Vec::new(rt.alloc());
+    tsdus.push(vec![in rt.alloc(); 0x5a; 126]?)?;
+    tsdus.push(Vec::new(rt.alloc()))?;
+    Ok(tsdus)
+}
+
+fn a_list_goes_on(link: &mut impl Link, tsdus: &[Vec<u8>]) -> Result<(), Fail> {
+    sends(link, b"A")?;
+    link.send_tsdus(tsdus)?;
+    gives_part(link, true, 1)?;
+    gives_part(link, false, 125)?;
+    gives_part(link, true, 1)?;
+    gives_part(link, true, 0)?;
+    gives_nothing(link)
+}
+
+#[test]
+fn tsdus_are_handed_in_together(rt: HostRuntime) -> Result<(), Fail> {
+    let mut link = Class0::new(rt.alloc(), SizeCode::new(7));
+    a_list_goes_on(&mut link, two(&rt)?.as_slice())
+}
+
 /// Fifteen TSDUs of an octet each go out at once.
 fn fifteen_go_out(link: &mut impl Link) -> Result<(), Fail> {
     for number in 0..15u8 {

@@ -166,6 +166,31 @@ fn data_has_a_greatest_length(rt: HostRuntime) -> Result<(), Fail> {
     lengths_go_on(&mut connected(&rt)?, octets.as_slice())
 }
 
+/// How a PT for all tokens begins that has 10,240 octets of user data.
+const ASKS: [u8; 11] = [
+    0x02, 0xFF, 0x28, 0x07, 0x10, 0x01, 0x55, 0xC1, 0xFF, 0x28, 0x00,
+];
+
+/// A minor point is set with the user data of a PT, and the PT is taken.
+fn user_data_goes_on(left: &mut Session, asks: &[u8]) -> Result<(), Fail> {
+    let Some((_, user_data)) = asks.split_at_checked(11) else {
+        return Err(Fail::from("too few octets"));
+    };
+    left.call(Request::Minor {
+        confirm: true,
+        user_data,
+    })?;
+    left.take(&read_tsdu(asks)?)?;
+    Ok(())
+}
+
+#[test]
+fn user_data_has_10240_octets(rt: HostRuntime) -> Result<(), Fail> {
+    let mut asks = vec![in rt.alloc(); 0x41u8; 10_251]?;
+    asks[..11].copy_from_slice(&ASKS);
+    user_data_goes_on(&mut connected(&rt)?, asks.as_slice())
+}
+
 fn plan_goes_on(left: &mut Session) -> Result<(), Fail> {
     let plan = left.plan(Request::Give {
         tokens: TokenSet::from_bits_retain(0x01),
@@ -317,4 +342,70 @@ fn a_call_is_within_the_agreed_size(rt: HostRuntime) -> Result<(), Fail> {
     let mut right = accepts(&rt, &connect, TsduSizes::NONE, &sized(0x0E, 64, 0, 2))?;
     let user_data = octets.as_slice();
     has_length(&mut right, Request::Abort { user_data }, 311)
+}
+
+/// The octets of a part of one Data: which part it is, by its enclosure, and how many octets it has.
+fn part(rt: &HostRuntime, enclosure: u8, octets: usize) -> Result<Vec<u8>, Fail> {
+    let mut tsdu = Vec::new(rt.alloc());
+    tsdu.extend_from_slice(&[0x01, 0x00, 0x01, 0x03, 0x19, 0x01, enclosure])?;
+    let user_data = vec![in rt.alloc(); 0x41u8; octets]?;
+    tsdu.extend_from_slice(user_data.as_slice())?;
+    Ok(tsdu)
+}
+
+/// A part that is not the last: nothing is shown or answered, and so many octets are joined.
+fn joins(right: &mut Session, tsdu: &[u8], want: usize) -> Result<(), Fail> {
+    let taken = right.take_tsdu(tsdu)?;
+    if taken.first.is_some() || taken.reply.is_some() || right.joined() != want {
+        return Err(Fail::from("another answer"));
+    }
+    Ok(())
+}
+
+fn shows_data(right: &mut Session, tsdu: &[u8], want: usize) -> Result<(), Fail> {
+    let taken = right.take_tsdu(tsdu)?;
+    match &taken.first {
+        Some(Indication::Data { user_data }) if user_data.as_slice().len() == want => {}
+        _ => return Err(Fail::from("another indication")),
+    }
+    if right.joined() != 0 {
+        return Err(Fail::from("octets are joined"));
+    }
+    is_in(right, Phase::Ready)
+}
+
+fn is_too_long(right: &mut Session, tsdu: &[u8]) -> Result<(), Fail> {
+    let taken = right.take_tsdu(tsdu)?;
+    match taken.first {
+        Some(
+            Indication::ProviderAbort {
+                cause: AbortCause::Unit(UnitFault::DataTooLong(1)),
+            },
+        ) => {}
+        _ => return Err(Fail::from("another indication")),
+    }
+    if right.joined() != 0 {
+        return Err(Fail::from("octets are joined"));
+    }
+    is_in(right, Phase::Aborting)
+}
+
+#[test]
+fn data_in_parts_has_a_greatest_length(rt: HostRuntime) -> Result<(), Fail> {
+    let mut right = accepts(&rt, &CONNECT, TsduSizes::NONE, &ACCEPT)?;
+    joins(&mut right, part(&rt, 1, 1_048_000)?.as_slice(), 1_048_000)?;
+    joins(&mut right, part(&rt, 0, 572)?.as_slice(), 1_048_572)?;
+    shows_data(&mut right, part(&rt, 2, 0)?.as_slice(), 1_048_572)
+}
+
+#[test]
+fn data_in_parts_may_be_too_long(rt: HostRuntime) -> Result<(), Fail> {
+    let mut right = accepts(&rt, &CONNECT, TsduSizes::NONE, &ACCEPT)?;
+    joins(&mut right, part(&rt, 1, 1_048_572)?.as_slice(), 1_048_572)?;
+    is_too_long(&mut right, part(&rt, 0, 1)?.as_slice())?;
+    let mut right = accepts(&rt, &CONNECT, TsduSizes::NONE, &ACCEPT)?;
+    joins(&mut right, part(&rt, 1, 1_048_572)?.as_slice(), 1_048_572)?;
+    is_too_long(&mut right, part(&rt, 2, 1)?.as_slice())?;
+    let mut right = accepts(&rt, &CONNECT, TsduSizes::NONE, &ACCEPT)?;
+    is_too_long(&mut right, part(&rt, 1, 1_048_573)?.as_slice())
 }

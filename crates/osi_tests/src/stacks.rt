@@ -6,7 +6,7 @@ use osi_carrier::{EndReason, OpenError, Ref};
 use osi_class::Local;
 use osi_spdu::{Requirements, Serial, TsduSizes};
 use osi_stack::{Connect, ConnectError, Stack};
-use osi_tpdu::{SizeCode, Window};
+use osi_tpdu::{SizeCode, Tsap, Window};
 use std::test::Fail;
 
 /// Class 0, size 0A and window 4.
@@ -47,6 +47,30 @@ fn a_selector_has_at_most_16_octets(rt: HostRuntime) -> Result<(), Fail> {
     connect.called_selector = Some(&octets);
     let mut left = Stack::caller(rt.alloc(), class_0()?);
     is_refused(&mut left, &connect, ConnectError::TooLong)
+}
+
+/// A connection is asked for with addresses and user data of these octets.
+fn asks_with(
+    stack: &mut Stack,
+    tsap: &[u8],
+    address: &[u8],
+    user_data: &[u8],
+) -> Result<(), Fail> {
+    let mut connect = asking()?;
+    connect.calling_tsap = Tsap::new(tsap);
+    connect.called_tsap = Tsap::new(tsap);
+    connect.calling_selector = Some(address);
+    connect.called_selector = Some(address);
+    connect.user_data = user_data;
+    stack.connect(&connect)?;
+    Ok(())
+}
+
+#[test]
+fn a_connection_is_asked_for_at_the_greatest_lengths(rt: HostRuntime) -> Result<(), Fail> {
+    let octets = vec![in rt.alloc(); 0x41; 10_240]?;
+    let mut left = Stack::caller(rt.alloc(), class_0()?);
+    asks_with(&mut left, &[0x42; 32], &[0x43; 16], octets.as_slice())
 }
 
 #[test]

@@ -66,7 +66,9 @@ fn written_units_come_back(rt: HostRuntime) -> Result<(), Fail> {
     for octets in WRITTEN {
         is_its_own(rt.alloc(), octets)?;
     }
-    Ok(())
+    let mut longest = vec![in rt.alloc(); 0x5A; 65_531]?;
+    longest[..3].copy_from_slice(&[0x02, 0xF0, 0x80]);
+    is_its_own(rt.alloc(), longest.as_slice())
 }
 
 /// DST-REF 1234, then C6, an unknown parameter, C0, C7 and two octets of user data.

@@ -37,6 +37,7 @@ fn the_longest_tsdu_goes_over_class_0(rt: HostRuntime) -> Result<(), Fail> {
     let mut from = AnyLink::Zero(Class0::new(rt.alloc(), SizeCode::new(13)));
     let mut to = AnyLink::Zero(Class0::new(rt.alloc(), SizeCode::new(13)));
     from.send_tsdu(longest(rt.alloc())?.as_slice())?;
+    from.send_owned(longest(rt.alloc())?)?;
     assert_eq!(rt; length_over(&mut from, &mut to)?, 1_048_576);
     Ok(())
 }
@@ -48,6 +49,7 @@ fn the_longest_tsdu_goes_over_class_2(rt: HostRuntime) -> Result<(), Fail> {
     let mut from = AnyLink::Two(Class2::new(rt.alloc(), size, window, Credit::of(15)));
     let mut to = AnyLink::Two(Class2::new(rt.alloc(), size, window, Credit::of(15)));
     from.send_owned(longest(rt.alloc())?)?;
+    from.send_tsdu(longest(rt.alloc())?.as_slice())?;
     assert_eq!(rt; length_over(&mut from, &mut to)?, 1_048_576);
     Ok(())
 }
