@@ -9,9 +9,10 @@
 # (docs/TRIALS.md); make trials PART=--part runs a part of it. make fuzz SECONDS=60 SEED=1 feeds ends octets at random.
 # make ladders: draws the pictures of docs/ladders from examples/ladders (docs/LADDERS.md); make ladders-check runs the
 # tests of the program that draws them, and compares.
+# make pages: checks the links, limits and commands of the pages; it proves and builds nothing (scripts/pages).
 # make ledger: builds the same and the benchmarks, counts the instructions of each operation that a benchmark times, and
 # fails where one takes more than bench/ledger.txt says; some minutes where all is proved.
-.PHONY: all test edits bench ledger lib install gateways trials fuzz ladders ladders-check
+.PHONY: all test edits bench ledger lib install gateways trials fuzz ladders ladders-check pages
 PREFIX ?= /usr/local
 SECONDS ?= 60
 
@@ -63,3 +64,6 @@ ladders:
 ladders-check:
 	python3 -m unittest discover -s tools -t tools
 	scripts/draw_ladders --check docs/ladders
+
+pages:
+	scripts/pages

@@ -63,7 +63,7 @@ static bool report(const uint8_t *tsdu, size_t n, size_t rounds, uint16_t connec
     printf("%5d %11u %6zu %8zu", class_two ? 2 : 0, (unsigned)connections, piece, n);
     for (int k = 0; k < JOBS; k++)
         printf(" %8.0f %9.1f", (double)n * (double)rounds / best[k] / 1e6, best[k] / (double)rounds * 1e9);
-    printf(" %6.2f\n", best[1] / best[0]);
+    printf(" %8.2f\n", best[1] / best[0]);
     return good;
 }
 
@@ -89,8 +89,9 @@ int main(int count, char **words)
         tsdu[i] = (uint8_t)(i * 7);
     if (good && count == 7)
         return once(words, tsdu);
-    printf("%5s %11s %6s %8s %8s %9s %8s %9s %6s\n", "class", "connections", "piece", "octets", "MB/s", "ns/TSDU", "C", "ns/TSDU",
-           "/ C");
+    say_how("Carriers, in MB of user data a second", RUNS);
+    printf("%5s %11s %6s %8s %8s %9s %8s %9s %8s\n", "class", "connections", "piece", "octets", "ours", "ns a TSDU", "C", "ns a TSDU",
+           "ours / C");
     for (int kind = 0; kind < 3; kind++)
         for (int p = 0; p < 2; p++)
             for (int i = 0; good && i < 3; i++)

@@ -189,7 +189,8 @@ int main(int count, char **words)
         return 1;
     if (count == 5)
         return once(words, stream);
-    printf("%8s %8s %10s %10s %10s %8s\n", "packet", "piece", "proved", "C", "memcpy", "ratio");
+    say_how("Cutting packets, in MB of the stream a second", RUNS);
+    printf("%8s %8s %10s %10s %10s %8s\n", "packet", "piece", "ours", "C", "memcpy", "ours / C");
     for (size_t i = 0; i < 3; i++)
         for (size_t j = 0; j < 3; j++) {
             size_t filled = fill(stream, length, packets[i]);

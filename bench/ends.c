@@ -1,8 +1,8 @@
 /* The work of osi_bench_stacks by the library for C: the same calls in the same order, so that what
- * the interface for C costs can be counted. `ends c 1000 ..` does it by osi.h, `ends stacks 1000 ..`
- * by osi_bench; bench/ends.sh counts the instructions of both.
+ * the interface for C costs can be counted. `ends c ..` does it by osi.h, `ends stacks ..` by osi_bench;
+ * bench/ledger counts the instructions of both.
  *
- *     ends c|stacks ROUNDS SIZE CONNECTIONS CLASS POINTS */
+ *     ends c|stacks SIZE CONNECTIONS CLASS POINTS ROUNDS */
 #include "osi.h"
 
 #include <stdio.h>
@@ -97,9 +97,9 @@ int main(int count, char **words)
     static uint8_t data[1 << 20];
     if (count < 7)
         return 2;
-    size_t rounds = strtoull(words[2], NULL, 10), length = strtoull(words[3], NULL, 10);
-    uint16_t connections = (uint16_t)atoi(words[4]);
-    bool class_two = atoi(words[5]) == 2, points = atoi(words[6]) != 0;
+    size_t length = strtoull(words[2], NULL, 10), rounds = strtoull(words[6], NULL, 10);
+    uint16_t connections = (uint16_t)atoi(words[3]);
+    bool class_two = atoi(words[4]) == 2, points = atoi(words[5]) != 0;
     memset(data, 0x41, sizeof data);
     uint64_t seen = (strcmp(words[1], "c") == 0 ? over_c : osi_bench_stacks)(data, length, rounds, connections,
                                                                              class_two, points);

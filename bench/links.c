@@ -320,7 +320,7 @@ static int report(const uint8_t *tsdu, size_t n, size_t rounds, bool class_two)
         printf(" %9.0f", octets / best[k] / 1e6);
         good = good && answers[k] == rounds * 1000003 + rounds * n;
     }
-    printf(" %9.1f %6.2f %6.2f\n", best[0] / (double)rounds * 1e9, best[1] / best[0], best[2] / best[0]);
+    printf(" %9.1f %8.2f %13.2f\n", best[0] / (double)rounds * 1e9, best[1] / best[0], best[2] / best[0]);
     return good;
 }
 
@@ -342,7 +342,8 @@ int main(int count, char **words)
         tsdu[i] = (uint8_t)(i * 7);
     if (good && count == 5)
         return once(words, tsdu);
-    printf("%6s %8s %9s %9s %9s %9s %6s %6s\n", "class", "octets", "MB/s", "C", "C kept", "ns/TSDU", "/ C", "/ kept");
+    say_how("Links, in MB of user data a second", RUNS);
+    printf("%6s %8s %9s %9s %9s %9s %8s %13s\n", "class", "octets", "ours", "C", "C kept", "ns a TSDU", "ours / C", "ours / C kept");
     for (int i = 0; good && i < 6; i++)
         good = report(tsdu, lengths[i / 2], rounds[i / 2], i % 2 == 1);
     free(tsdu);

@@ -11,7 +11,10 @@ python3 - bench/out <<'P'
 import re, subprocess, sys, time
 sys.dont_write_bytecode = True
 sys.path.insert(0, "bench")
+from processor import processor
 from script import script
+
+RUNS = 25
 
 
 def timed(command, script):
@@ -30,23 +33,32 @@ def alike(transcript, counts):
     return "refused" not in transcript and counts.split() == [str(carried), str(shown)]
 
 
-took = {}
-for lines in (1000, 10000):
+def best_of(lines):
+    """The least seconds of the program, and of two ends for C, from start to end of a process."""
     turns = (lines - 7) // 6
     path = f"{sys.argv[1]}/pair-{lines}.script"
     with open(path, "w") as out:
         out.write(script(turns))
-    program = stacks = 1e9
-    for _ in range(25):
+    program = ends = 1e9
+    for _ in range(RUNS):
         seconds, transcript = timed(["crates/osi_tool/out/osi_tool", "pair"], path)
         program = min(program, seconds)
         seconds, counts = timed([f"{sys.argv[1]}/pair", str(turns)], path)
-        stacks = min(stacks, seconds)
+        ends = min(ends, seconds)
     assert alike(transcript, counts), (transcript[:200], counts)
-    took[lines] = program, stacks
-    print(f"{lines:6} lines {program * 1e3:8.2f} ms {program / lines * 1e6:6.2f} us a line, {len(transcript)} octets of transcript;"
-          f" by two ends for C {stacks * 1e3:6.2f} ms, {program / stacks:.2f} times as long")
-print(f"10,000 lines take {took[10000][0] / took[1000][0]:.1f} times as long as 1,000")
-more = [took[10000][way] - took[1000][way] for way in (0, 1)]
-print(f"9,000 lines more take {more[0] * 1e3:.2f} ms, by two ends for C {more[1] * 1e3:.2f} ms: {more[0] / more[1]:.2f} times as long")
+    return program, ends
+
+
+def row(name, program, ends, lines):
+    print(f"{name:>24} {program * 1e3:8.2f} {program / lines * 1e6:9.2f} {ends * 1e3:8.2f} {ends / program:8.2f}")
+
+
+print("Scripts of two ends, in ms, beside two ends by the library for C that do the same calls\n"
+      f"{processor()}, the best of {RUNS} runs of each in turn. Below \"ours / C\" stands our speed divided by that of the ends"
+      " for C: more is better.")
+print(f"{'lines':>24} {'ours':>8} {'us a line':>9} {'C':>8} {'ours / C':>8}")
+took = {lines: best_of(lines) for lines in (1000, 10000)}
+for lines in took:
+    row(f"{lines:,}", *took[lines], lines)
+row("9,000 behind the first", *(took[10000][way] - took[1000][way] for way in (0, 1)), 9000)
 P

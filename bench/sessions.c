@@ -120,7 +120,7 @@ static double timed(side *run, const uint8_t *data, size_t length, size_t part)
 
 static void line(size_t length, const char *name, double ours, double c)
 {
-    printf("%8zu %-28s %10.1f %10.1f %8.2f\n", length, name, ours, c, ours / c);
+    printf("%8zu %-28s %10.1f %10.1f %8.2f\n", length, name, ours, c, c / ours);
 }
 
 /* Prints the best of many runs in turn, and tells whether each sent what it is to send. */
@@ -164,7 +164,8 @@ int main(int argc, char **argv)
         printf("%zu operations: %llu\n", rounds, (unsigned long long)run(data, length, rounds, part));
         return 0;
     }
-    printf("%8s %-28s %10s %10s %8s\n", "octets", "ns for", "proved", "C", "proved/C");
+    say_how("Sessions, in ns for each call, TSDU and round", RUNS);
+    printf("%8s %-28s %10s %10s %8s\n", "octets", "", "ours", "C", "ours / C");
     for (int i = 0; good && i < 3; i++)
         good = report(data, lengths[i]);
     if (!good)

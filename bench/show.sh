@@ -5,37 +5,47 @@ cd "$(dirname "$0")/.."
 make >&2
 mkdir -p bench/out
 python3 - bench/out <<'P'
-import sys
-# the shortest packets, each with an empty TSDU, which is no group of session units
-small = "0300000702f080\n"
-# GT and DT in a TSDU of eight data units
-part = "0300008402f0%02x%s\n"
-rest = part % (0, "41" * 125) * 6 + part % (0x80, "41" * 125)
-data = part % (0, "01000100" + "41" * 121) + rest
-# GT and MIP with its number
-point = "0300000e02f080010031032a0131\n"
-# CN with a group and five octets of user data
-connect = "0300002202f0800d19050c1301001601021701311a0100140200b9c1054142434445\n"
-for name, text in (("small", small), ("data", data), ("point", point), ("connect", connect)):
-    count = (1 << 24) // len(text)
-    with open(f"{sys.argv[1]}/{name}.hex", "w") as out:
-        out.write(text * count)
-P
-for name in small data point connect; do
-    for job in "crates/osi_tool/out/osi_tool show" "xxd -r -p"; do
-        python3 - "$job" "bench/out/$name.hex" <<'P'
-import os, resource, subprocess, sys, time
-job, path = sys.argv[1].split(), sys.argv[2]
-best, size = 1e9, os.path.getsize(path)
-for _ in range(5):
+import os, subprocess, sys, time
+sys.dont_write_bytecode = True
+sys.path.insert(0, "bench")
+from processor import processor
+
+RUNS = 9
+PART = "0300008402f0%02x%s\n"
+# The shortest packets, each with an empty TSDU, which is no group of session units; GT and DT in a TSDU of eight data units;
+# GT and MIP with its number; CN with a group and five octets of user data.
+TEXTS = {
+    "the shortest packets": "0300000702f080\n",
+    "data units of 125 octets": PART % (0, "01000100" + "41" * 121) + PART % (0, "41" * 125) * 6 + PART % (0x80, "41" * 125),
+    "a minor point each": "0300000e02f080010031032a0131\n",
+    "a CN each": "0300002202f0800d19050c1301001601021701311a0100140200b9c1054142434445\n",
+}
+
+
+def timed(job, path):
+    """Seconds, the most MiB of memory, and the status."""
     with open(path, "rb") as text, open(os.devnull, "wb") as out:
         start = time.perf_counter()
-        status = subprocess.run(job, stdin=text, stdout=out).returncode
-        best = min(best, time.perf_counter() - start)
-    # 1 says that the listing has a fault
-    assert status == (1 if "osi" in job[0] and "small" in path else 0), status
-peak = resource.getrusage(resource.RUSAGE_CHILDREN).ru_maxrss // 1024
-print(f"{os.path.basename(path):10} {os.path.basename(job[0]):9} {best:6.3f} s {size / best / 1e6:8.0f} MB/s of text, peak {peak} MiB")
+        child = subprocess.Popen(job, stdin=text, stdout=out)
+        _, status, used = os.wait4(child.pid, 0)
+        return time.perf_counter() - start, used.ru_maxrss // 1024, os.waitstatus_to_exitcode(status)
+
+
+print("Listing 16 MiB of text, in seconds, beside `xxd -r -p`, which reads the digits and no more\n"
+      f"{processor()}, the best of {RUNS} runs of each in turn. Below \"ours / xxd\" stands our speed divided by that of xxd: more"
+      " is better.")
+print(f"{'packets':>24} {'ours':>8} {'MB/s':>8} {'MiB used':>8} {'xxd':>8} {'ours / xxd':>10}")
+for name, text in TEXTS.items():
+    path = f"{sys.argv[1]}/show.hex"
+    with open(path, "w") as out:
+        out.write(text * ((1 << 24) // len(text)))
+    best, peak = [1e9, 1e9], 0
+    for _ in range(RUNS):
+        seconds, used, status = timed(["crates/osi_tool/out/osi_tool", "show"], path)
+        # 1 says that the listing has a fault
+        assert status == (1 if "shortest" in name else 0), status
+        best[0], peak = min(best[0], seconds), max(peak, used)
+        best[1] = min(best[1], timed(["xxd", "-r", "-p"], path)[0])
+    size = os.path.getsize(path)
+    print(f"{name:>24} {best[0]:8.3f} {size / best[0] / 1e6:8.0f} {peak:8} {best[1]:8.3f} {best[1] / best[0]:10.2f}")
 P
-    done
-done

@@ -199,8 +199,8 @@ static bool timed(double best[JOBS], const uint8_t *data, size_t n, size_t round
 }
 
 /* One line: messages and MB of user data a second and ns a message. What it takes to open the connections and to go a
-   first round on each is left out. The time of our message is kept in `first` where it is 0, and the last column is the
-   time beside that. */
+   first round on each is left out. The time of our message is kept in `first` where it is 0, and the last column is our
+   speed divided by that. */
 static bool report(const uint8_t *data, size_t n, size_t rounds, uint16_t connections, bool class_two, bool points,
                    double *first)
 {
@@ -214,7 +214,7 @@ static bool report(const uint8_t *data, size_t n, size_t rounds, uint16_t connec
     printf("%5d %11u %6s %7zu", class_two ? 2 : 0, (unsigned)connections, points ? "points" : "data", n);
     for (int k = 0; k < JOBS; k++)
         printf(" %10.0f %7.0f %9.1f", messages / all[k], (double)n * (double)rounds / all[k] / 1e6, all[k] / messages * 1e9);
-    printf(" %6.2f %6.2f\n", all[1] / all[0], all[0] / *first);
+    printf(" %8.2f %8.2f\n", all[1] / all[0], *first / all[0]);
     return good;
 }
 
@@ -238,8 +238,9 @@ int main(int count, char **words)
         data[i] = (uint8_t)(i * 31);
     if (count == 7)
         return once(words, data);
-    printf("%5s %11s %6s %7s %10s %7s %9s %10s %7s %9s %6s %6s\n", "class", "connections", "round", "octets", "messages/s", "MB/s",
-           "ns each", "C", "MB/s", "ns each", "/ C", "to 1");
+    say_how("Stacks, in messages a second, and our speed divided by that with one connection", RUNS);
+    printf("%5s %11s %6s %7s %10s %7s %9s %10s %7s %9s %8s %8s\n", "class", "connections", "round", "octets", "ours", "MB/s",
+           "ns each", "C", "MB/s", "ns each", "ours / C", "/ with 1");
     for (int points = 0; points < 2; points++)
         for (int i = 0; good && i < 4; i++) {
             double of_class_zero = 0, of_one = 0;

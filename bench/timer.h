@@ -1,6 +1,8 @@
-/* The clocks of the benchmarks, in seconds. */
+/* The clocks of the benchmarks, in seconds, and what their tables say of how they were measured. */
 #ifndef TIMER_H
 #define TIMER_H
+#include <stdio.h>
+#include <string.h>
 #include <time.h>
 
 static inline double seconds_by(clockid_t clock)
@@ -19,6 +21,20 @@ static inline double now(void)
 static inline double worked(void)
 {
     return seconds_by(CLOCK_PROCESS_CPUTIME_ID);
+}
+
+/* The head of a table: what it times, on which processor, and of how many runs each figure is the best. */
+static inline void say_how(const char *what, int runs)
+{
+    char line[256], name[256] = "a processor with no name";
+    FILE *told = fopen("/proc/cpuinfo", "r");
+    while (told != NULL && fgets(line, sizeof line, told) != NULL)
+        if (sscanf(line, "model name : %255[^\n]", name) == 1)
+            break;
+    if (told != NULL)
+        fclose(told);
+    printf("%s\n%s, the best of %d runs of each in turn. Below \"ours / C\" stands our speed divided by that of C: more is better.\n",
+           what, name, runs);
 }
 
 #endif

@@ -81,7 +81,7 @@ static int report(const struct work *w)
             if (taken < best[k])
                 best[k] = taken;
         }
-    printf("%16s %8zu %8zu %8.2f %8.2f %8.2f\n", w->name, w->length, w->count, best[0], best[1], best[0] / best[1]);
+    printf("%16s %8zu %8zu %8.2f %8.2f %8.2f\n", w->name, w->length, w->count, best[0], best[1], best[1] / best[0]);
     return 1;
 }
 
@@ -110,7 +110,8 @@ int main(int argc, char **argv)
         printf("%zu operations: %llu\n", rounds, (unsigned long long)run(w->octets, w->length, rounds));
         return 0;
     }
-    printf("%16s %8s %8s %8s %8s %8s\n", "TSDU", "octets", "units", "proved", "C", "proved/C");
+    say_how("Reading TSDUs, in ns for each TSDU", RUNS);
+    printf("%16s %8s %8s %8s %8s %8s\n", "TSDU", "octets", "units", "ours", "C", "ours / C");
     for (size_t i = 0; i < sizeof works / sizeof works[0]; i++)
         good = good && report(&works[i]);
     if (!good)

@@ -493,8 +493,8 @@ static int report(struct work *w)
     double best[JOBS];
     uint64_t answers[JOBS];
     times(w, best, answers);
-    printf("%16s %8zu %8.2f %8.2f %8.2f %8.2f %8.2f\n", w->name, w->units, best[0], best[1], best[2],
-           best[0] / best[1], best[0] / best[2]);
+    printf("%16s %8zu %9.2f %9.2f %9.2f %14.2f %14.2f\n", w->name, w->units, best[0], best[1], best[2],
+           best[1] / best[0], best[2] / best[0]);
     free(w->packets);
     free(w->lengths);
     return same(answers);
@@ -532,7 +532,8 @@ int main(int count, char **words)
     if (count == 4)
         return once(words);
     good = agree_on_faults();
-    printf("%16s %8s %8s %8s %8s %8s %8s\n", "packets", "units", "proved", "C twice", "C once", "/ twice", "/ once");
+    say_how("Reading units, in ns for each unit", RUNS);
+    printf("%16s %8s %9s %9s %9s %14s %14s\n", "packets", "units", "ours", "C twice", "C once", "ours / C twice", "ours / C once");
     good = good && fill_data(&w, "DT, 128 octets", 10000, 128) && report(&w);
     good = good && fill_data(&w, "DT, 6 octets", 10000, 6) && report(&w);
     good = good && fill_mixed(&w, "mixed", 10000) && report(&w);

@@ -71,7 +71,8 @@ int main(int argc, char **argv)
         printf("%zu operations: %llu\n", rounds, (unsigned long long)osi_bench_writes(w->octets, w->length, rounds));
         return 0;
     }
-    printf("%20s %8s %8s\n", "TSDU", "octets", "ns");
+    say_how("Writing TSDUs, in ns for each TSDU", RUNS);
+    printf("%20s %8s %8s\n", "TSDU", "octets", "ours");
     for (size_t i = 0; i < sizeof works / sizeof works[0]; i++)
         good = good && report(&works[i]);
     if (!good)
