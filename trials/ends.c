@@ -183,7 +183,7 @@ void end_check(osi_end *end)
     bool ended = has_ended(end);
     check_nothing_fed(end);
     size_t kept = osi_kept(end), live = live_of(end);
-    holds(kept <= KEPT_OF_A_PACKET + live * (size_t)KEPT_OF_A_TSDU, "%zu octets are kept for %zu connections", kept,
+    holds(kept <= KEPT_OF_A_PACKET + live * ((size_t)KEPT_OF_A_TSDU + KEPT_OF_DATA), "%zu octets are kept for %zu connections", kept,
           live);
     for (uint16_t reference = 1; reference <= REFERENCES; reference++)
         check_connection(end, reference, ended);
@@ -227,8 +227,8 @@ static void text_sides(struct text *text, osi_sides s)
 /* What stands between the name and the user data. */
 static void text_fields(struct text *text, const osi_indication *i)
 {
-    static const char *const faults[] = {"",          "Spelling",  "Unexpected", "NotSelected",
-                                         "TokenHeld", "BadNumber", "BadTokens"};
+    static const char *const faults[] = {"",          "Spelling",  "Unexpected",   "NotSelected", "TokenHeld",
+                                         "BadNumber", "BadTokens", "BadEnclosure", "DataTooLong"};
     if (i->tag == OSI_CONNECT || i->tag == OSI_CONNECTED)
         text_put(text, i->has_number ? " units %04x serial %u" : " units %04x serial -", i->requirements,
                  i->number);

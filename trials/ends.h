@@ -10,6 +10,7 @@
 
 #define KEPT_OF_A_PACKET 65535u
 #define KEPT_OF_A_TSDU 1048576u
+#define KEPT_OF_DATA 1048572u
 
 /* What a program of the trials counts. `checks` are comparisons with what a contract says. */
 extern uint64_t runs, checks, failures;

@@ -61,7 +61,7 @@ uint32_t __wrap_osi_fetch(osi_end *end)
 
 size_t __wrap_osi_kept(osi_end *end)
 {
-    return __real_osi_kept(end) + (is_wrong("more_is_kept") ? (size_t)65 << 20 : 0);
+    return __real_osi_kept(end) + (is_wrong("more_is_kept") ? (size_t)129 << 20 : 0);
 }
 
 uint32_t __wrap_osi_data(osi_end *end, uint16_t reference, const uint8_t *data, size_t length)

@@ -21,7 +21,8 @@ NAMES = {1: "Connect", 2: "Connected", 3: "Refused transport", 4: "Refused sessi
          7: "Asked", 8: "Minor", 9: "MinorConfirmed", 10: "Major", 11: "MajorConfirmed", 12: "Restart",
          13: "Restarted", 14: "Release", 15: "Released", 16: "ReleaseRefused", 17: "Aborted",
          18: "ProviderAbort Lost", 19: "ProviderAbort Peer", 20: "ProviderAbort Unit"}
-FAULTS = ["", "Spelling", "Unexpected", "NotSelected", "TokenHeld", "BadNumber", "BadTokens"]
+FAULTS = ["", "Spelling", "Unexpected", "NotSelected", "TokenHeld", "BadNumber", "BadTokens",
+          "BadEnclosure", "DataTooLong"]
 REFUSALS = {3: "OutOfMemory", 10: "NoSuchConnection", 11: "Ended", 12: "BadState", 13: "NotSelected",
             14: "TokenNotHeld", 15: "TokenAlreadyHeld", 16: "BadNumber", 17: "SerialsUsedUp", 18: "Empty",
             19: "TooLong", 20: "NotCaller", 21: "Negotiating", 22: "OneConnection", 23: "TooMany",

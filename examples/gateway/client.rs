@@ -253,7 +253,17 @@ fn text(shown: &Shown) -> String {
         18 => "ProviderAbort Lost".to_string(),
         19 => format!("ProviderAbort Peer {:02x}", i.reason),
         _ => {
-            let names = ["", "Spelling", "Unexpected", "NotSelected", "TokenHeld", "BadNumber", "BadTokens"];
+            let names = [
+                "",
+                "Spelling",
+                "Unexpected",
+                "NotSelected",
+                "TokenHeld",
+                "BadNumber",
+                "BadTokens",
+                "BadEnclosure",
+                "DataTooLong",
+            ];
             format!("ProviderAbort Unit {}", names[usize::from(i.fault.fault)])
         }
     }

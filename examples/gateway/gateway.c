@@ -65,8 +65,8 @@ static bool is_one_of(const osi_indication *i, uint32_t first, uint32_t second)
 /* What stands between the name of an indication and its user data. */
 static void write_fields(FILE *log, const osi_indication *i)
 {
-    static const char *const faults[] = {"",          "Spelling",  "Unexpected", "NotSelected",
-                                         "TokenHeld", "BadNumber", "BadTokens"};
+    static const char *const faults[] = {"",          "Spelling",  "Unexpected",   "NotSelected", "TokenHeld",
+                                         "BadNumber", "BadTokens", "BadEnclosure", "DataTooLong"};
     if (is_one_of(i, OSI_CONNECT, OSI_CONNECTED))
         fprintf(log, i->has_number ? " units %04x serial %u" : " units %04x serial -", i->requirements, i->number);
     if (is_one_of(i, OSI_REFUSED_BY_TRANSPORT, OSI_REFUSED_BY_SESSION))

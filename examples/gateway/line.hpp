@@ -99,8 +99,8 @@ inline std::string opened(const osi::indication &shown)
 
 inline std::string words(const osi::indication &shown)
 {
-    static constexpr const char *faults[] = {"",          "Spelling",  "Unexpected", "NotSelected",
-                                             "TokenHeld", "BadNumber", "BadTokens"};
+    static constexpr const char *faults[] = {"",          "Spelling",  "Unexpected",   "NotSelected", "TokenHeld",
+                                             "BadNumber", "BadTokens", "BadEnclosure", "DataTooLong"};
     const std::string number = std::to_string(shown.number.value_or(0));
     const std::string tokens = hex(static_cast<unsigned>(shown.tokens), 2);
     const std::string data = " data " + hex(shown.user_data);
