@@ -165,7 +165,10 @@ fn sends_three(carrier: &mut Carrier, alloc: Global, tsdu: &[u8]) -> Result<(), 
 #[test]
 fn a_sent_tsdu_has_at_most_1048576_octets(rt: HostRuntime) -> Result<(), Fail> {
     let octets = vec![in rt.alloc(); 0x5A; 1_048_577]?;
-    let (longest, _) = octets.as_slice().split_at_checked(1_048_576).ok_or("octets")?;
+    let (longest, _) = octets
+        .as_slice()
+        .split_at_checked(1_048_576)
+        .ok_or("octets")?;
     let mut caller = opened(&rt)?;
     refuses_to_send(&mut caller, octets.as_slice(), SendError::TooLong)?;
     sends_three(&mut caller, rt.alloc(), longest)

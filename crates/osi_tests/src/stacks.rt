@@ -50,18 +50,20 @@ fn a_selector_has_at_most_16_octets(rt: HostRuntime) -> Result<(), Fail> {
 }
 
 /// A connection is asked for with addresses and user data of these octets.
-fn asks_with(
+fn asks_with<'a>(
     stack: &mut Stack,
     tsap: &[u8],
-    address: &[u8],
-    user_data: &[u8],
+    address: &'a [u8],
+    user_data: &'a [u8],
 ) -> Result<(), Fail> {
-    let mut connect = asking()?;
-    connect.calling_tsap = Tsap::new(tsap);
-    connect.called_tsap = Tsap::new(tsap);
-    connect.calling_selector = Some(address);
-    connect.called_selector = Some(address);
-    connect.user_data = user_data;
+    let connect = Connect {
+        calling_tsap: Tsap::new(tsap),
+        called_tsap: Tsap::new(tsap),
+        calling_selector: Some(address),
+        called_selector: Some(address),
+        user_data,
+        ..asking()?
+    };
     stack.connect(&connect)?;
     Ok(())
 }
