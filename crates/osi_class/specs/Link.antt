@@ -8,7 +8,7 @@ use Rattle.osi_class.specs.declared.units.Out.TheVariants.{Data0, Data2, Ack}
 use Rattle.osi_class.specs.Ends.{Ends, fresh_ends}
 use Rattle.osi_class.specs.Flow.{Flow, Sender, fresh_sender, fresh_receiver, after_sent, acknowledged, is_awaited, after_taken, ack_number, after_acked}
 use Rattle.osi_class.specs.Joining.{Joining, joined}
-use Rattle.osi_class.specs.Tsdus.{give}
+use Rattle.osi_class.specs.Tsdus.{give, octets_of_tsdus}
 
 -- class 0 has no flow control
 pub record Standing : Type 0 where
@@ -31,6 +31,10 @@ fresh_two unit_size window credit = record {
   ends = fresh_ends (unit_size - 5);
   flow = record { sender = fresh_sender credit; receiver = fresh_receiver window };
 }
+
+-- the octets of TSDUs that were handed in and are not yet in units
+abbrev pub unsent_octets : Standing → ℕ
+unsent_octets s = octets_of_tsdus s.ends.unsent
 
 -- a TSDU is put behind those that are to be sent
 abbrev pub with_tsdu : Standing → List ℕ → Standing

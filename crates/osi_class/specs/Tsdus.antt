@@ -1,5 +1,6 @@
 -- TSDUs and the parts in which they travel. A part is whether it ends its TSDU (EOT), and its octets.
 use Rattle.std.specs.Prelude.{◌≡◌, ℕ, Bool, true, false, List, [], ◌∷◌, ◌++◌, length, take, drop, map, nat_lt, Option, Some, None, if◌then◌else◌}
+use Rattle.std.specs.List.{sum_by}
 
 abbrev pub Part : Type 0
 Part = Bool × List ℕ
@@ -13,6 +14,10 @@ tsdus_after begun ((true, octets) ∷ parts) = (begun ++ octets) ∷ tsdus_after
 
 abbrev pub tsdus : List Part → List (List ℕ)
 tsdus parts = tsdus_after [] parts
+
+-- how many octets TSDUs have together
+abbrev pub octets_of_tsdus : List (List ℕ) → ℕ
+octets_of_tsdus tsdus = sum_by length tsdus
 
 -- each TSDU as one part
 abbrev pub uncut : List (List ℕ) → List Part

@@ -149,6 +149,10 @@ impl Link for Class2 {
         self.incoming.begun_octets()
     }
 
+    fn unsent(&self) -> usize {
+        self.outgoing.octets()
+    }
+
     fn room_for(&self, tsdu: &[u8]) -> Room {
         room_within(self.limit, self.sending.credit(), tsdu.len())
     }

@@ -105,6 +105,10 @@ impl Link for Class0 {
         self.incoming.begun_octets()
     }
 
+    fn unsent(&self) -> usize {
+        self.outgoing.octets()
+    }
+
     fn room_for(&self, tsdu: &[u8]) -> Room {
         let octets = tsdu.len();
         Room {

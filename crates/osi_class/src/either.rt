@@ -88,6 +88,13 @@ impl Link for AnyLink {
         }
     }
 
+    fn unsent(&self) -> usize {
+        match self {
+            AnyLink::Zero(link) => link.unsent(),
+            AnyLink::Two(link) => link.unsent(),
+        }
+    }
+
     fn room_for(&self, tsdu: &[u8]) -> Room {
         match self {
             AnyLink::Zero(link) => link.room_for(tsdu),

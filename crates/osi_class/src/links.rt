@@ -16,7 +16,7 @@ pub trait Link {
     ghost use Rattle.osi_tpdu.specs.View.{value};
     ghost use Rattle.osi_class.specs.Giving.{all_given, octets_in, most_given, GoesAtOnce, GivesPart};
     ghost use Rattle.osi_class.specs.Limits.{longest_tsdu};
-    ghost use Rattle.osi_class.specs.Link.{Standing, with_tsdu, with_tsdus, given, taken, needs_memory, next, Gives, Hands, FitsAUnit};
+    ghost use Rattle.osi_class.specs.Link.{Standing, with_tsdu, with_tsdus, unsent_octets, given, taken, needs_memory, next, Gives, Hands, FitsAUnit};
     ghost use Rattle.osi_class.specs.Sound.{IsSound};
     ghost use Rattle.osi_class.specs.Taking.{TakesUnit};
 
@@ -93,6 +93,11 @@ pub trait Link {
         ensures value { result ≡ length (standing self.now).ends.joining.begun }
         ensures at_most { result ≤ longest_tsdu }
         ensures sound { IsSound (standing self.now) };
+
+    /// How many octets of TSDUs were handed in and are not yet in units that [`Link::next_out`] gave: in
+    /// class 2 what credit holds back, in class 0 what is not given yet. Takes no memory.
+    fn unsent(&self) -> usize
+        ensures value { result ≡ unsent_octets (standing self.now) };
 
     /// What the units take that [`Link::next_out`] gives, up to none, once this TSDU is handed in at
     /// a link that gives none now: how many they are, and how many octets of TSDUs are in them.

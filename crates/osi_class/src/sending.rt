@@ -1,5 +1,5 @@
-ghost use Rattle.std.specs.Prelude.{◌≡◌, ◌≢◌, ◌≤◌, ◌++◌, [], ◌∷◌, true, false, map, IfNone, IfOk, IsOk, OnOk, OnErr, option_map};
-ghost use Rattle.osi_class.specs.Tsdus.{give};
+ghost use Rattle.std.specs.Prelude.{◌≡◌, ◌≢◌, ◌≤◌, ◌<◌, ◌+◌, ◌^◌, ◌++◌, [], ◌∷◌, true, false, map, IfNone, IfOk, IsOk, OnOk, OnErr, option_map};
+ghost use Rattle.osi_class.specs.Tsdus.{give, octets_of_tsdus};
 
 use std::alloc::{AllocError, Global};
 use std::collections::VecDeque;
@@ -21,11 +21,14 @@ pub struct Outgoing {
     has_more: bool,
     /// The TSDUs of which nothing was given.
     queue: VecDeque<Vec<u8>>,
+    /// The octets of these. With those of `current` they are no more than a `usize` counts.
+    queued: usize,
 }
 
 impl Model for Outgoing {
-    ghost use Rattle.std.specs.Prelude.{◌≤◌, ◌∷◌, length, drop, map, slice_range, if◌then◌else◌};
+    ghost use Rattle.std.specs.Prelude.{◌≡◌, ◌≤◌, ◌<◌, ◌+◌, ◌^◌, ◌∷◌, length, drop, map, slice_range, if◌then◌else◌};
     ghost use Rattle.osi_class.specs.Sending.{Sending};
+    ghost use Rattle.osi_class.specs.Tsdus.{octets_of_tsdus};
 
     ghost Value = { Sending };
 
@@ -34,7 +37,33 @@ impl Model for Outgoing {
       part = slice_range o.current.items o.from o.to;
     } };
 
-    ghost invariant = { λ o. (o.from ≤ o.to) × (o.to ≤ length o.current.items) };
+    ghost invariant = { λ o. (o.from ≤ o.to) × (o.to ≤ length o.current.items) ×
+        (o.queued ≡ octets_of_tsdus (map (λ v. v.items) o.queue.items)) × (o.queued + length o.current.items < 2 ^ 64) };
+}
+
+/// The octets that are queued with so many more, where they and those of the TSDU before them are no
+/// more than a `usize` counts.
+fn queued_with(queued: usize, more: usize, before: usize) -> Result<usize, AllocError>
+    ensures { IfOk result (λ octets. (octets ≡ queued + more) × (octets + before < 2 ^ 64)) }
+{
+    if more > usize::MAX - before {
+        return Err(AllocError);
+    }
+    if queued > usize::MAX - before - more {
+        return Err(AllocError);
+    }
+    Ok(queued + more)
+}
+
+/// The octets of TSDUs, where they are no more than a `usize` counts.
+fn octets_of(tsdus: &[Vec<u8>]) -> Result<usize, AllocError>
+    ensures { IfOk result (λ octets. octets ≡ octets_of_tsdus (map (λ v. v.items) tsdus.now)) }
+{
+    let mut octets: usize = 0;
+    'tsdus: for tsdu in tsdus {
+        octets = queued_with(octets, tsdu.len(), 0)?;
+    }
+    Ok(octets)
 }
 
 /// Copies of TSDUs, in their order.
@@ -62,6 +91,7 @@ impl Outgoing {
             to: 0,
             has_more: false,
             queue: VecDeque::new(alloc),
+            queued: 0,
         }
     }
 
@@ -74,6 +104,16 @@ impl Outgoing {
         !self.has_more && self.queue.is_empty()
     }
 
+    /// The octets that are to be sent.
+    pub fn octets(&self) -> usize
+        ensures { result ≡ octets_of_tsdus self.now.unsent }
+    {
+        if self.has_more {
+            return self.queued + (self.current.len() - self.to);
+        }
+        self.queued
+    }
+
     /// Puts a copy of a TSDU behind those that are to be sent.
     pub fn add(&mut self, tsdu: &[u8]) -> Result<(), AllocError>
         ensures ok { OnOk result (self.new.unsent ≡ self.old.unsent ++ tsdu.now ∷ []) }
@@ -82,8 +122,10 @@ impl Outgoing {
         if !self.has_more && self.queue.is_empty() {
             return self.begin(tsdu);
         }
+        let queued = queued_with(self.queued, tsdu.len(), self.current.len())?;
         let octets = Vec::from_slice(self.alloc, tsdu)?;
         self.queue.push_back(octets)?;
+        self.queued = queued;
         Ok(())
     }
 
@@ -92,8 +134,11 @@ impl Outgoing {
         ensures ok { OnOk result (self.new.unsent ≡ self.old.unsent ++ map (λ v. v.items) tsdus.now) }
         ensures err { OnErr result (self.new ≡ self.old) }
     {
+        let queued = queued_with(self.queued, octets_of(tsdus)?, self.current.len())?;
         let mut copies = copy_all(self.alloc, tsdus)?;
-        self.queue.append(&mut copies)
+        self.queue.append(&mut copies)?;
+        self.queued = queued;
+        Ok(())
     }
 
     /// Puts a TSDU itself behind those that are to be sent: its octets stay where they are. Where there
@@ -104,7 +149,9 @@ impl Outgoing {
         ensures alone { self.old.unsent ≡ [] → IsOk result }
     {
         if self.has_more || !self.queue.is_empty() {
+            let queued = queued_with(self.queued, tsdu.len(), self.current.len())?;
             self.queue.push_back(tsdu)?;
+            self.queued = queued;
             return Ok(());
         }
         self.current = tsdu;
@@ -143,6 +190,7 @@ impl Outgoing {
     {
         if !self.has_more {
             let tsdu = self.queue.pop_front()?;
+            self.queued -= tsdu.len();
             self.current = tsdu;
             self.to = 0;
             self.has_more = true;
