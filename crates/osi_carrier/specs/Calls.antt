@@ -3,7 +3,7 @@ use Rattle.std.specs.Prelude.{◌≡◌, ℕ, ◌+◌, Bool, List, [], ◌∷◌
 use Rattle.std.specs.List.{list_any, sum_by}
 use Rattle.osi_tpdu.specs.Value.{request, disconnect}
 use Rattle.osi_class.specs.Giving.{one_by_one}
-use Rattle.osi_class.specs.Link.{Standing, next, with_tsdu}
+use Rattle.osi_class.specs.Link.{Standing, next, with_tsdu, unsent_octets}
 use Rattle.osi_class.specs.declared.terms.Class.{Class}
 use Rattle.osi_class.specs.declared.terms.Class.TheVariants.{Zero, Two}
 use Rattle.osi_class.specs.declared.terms.Local.{Local}
@@ -142,7 +142,7 @@ closed_on r reason (Some (peer, link)) s = closes r peer reason s.class s
 abbrev pub closed_with : ℕ → ℕ → State → State
 closed_with r reason s = closed_on r reason (open_link r s) s
 
--- ---- the end, and what is kept
+-- ---- the end, what is kept, and what is unsent
 
 -- an end stays as it is
 abbrev pub ended_by : EndReason → State → State
@@ -156,6 +156,20 @@ begun_by (closing peer) = 0
 
 abbrev pub kept_in : Rows Connection → ℕ
 kept_in live = sum_by (λ row. begun_by row.1) live
+
+-- the octets of TSDUs that were handed in at a connection and are not yet in units
+abbrev pub unsent_by : Connection → ℕ
+unsent_by asked = 0
+unsent_by (linked peer link) = unsent_octets link
+unsent_by (closing peer) = 0
+
+abbrev pub unsent_at : Option Connection → ℕ
+unsent_at None = 0
+unsent_at (Some connection) = unsent_by connection
+
+-- those of all connections
+abbrev pub backlog_of : Rows Connection → ℕ
+backlog_of live = sum_by (λ row. unsent_by row.1) live
 
 -- ---- events
 

@@ -33,10 +33,10 @@ impl Model for Carrier {
 }
 
 impl Carrier {
-    ghost use Rattle.std.specs.Prelude.{◌≡◌, ◌≢◌, ◌+◌, ◌*◌, ◌≤◌, true, false, None, Some, Err, [], length, map, drop, IfOk, IfErr, OnOk, OnErr, MatchResult, option_map, is_some};
+    ghost use Rattle.std.specs.Prelude.{◌≡◌, ◌≢◌, ◌+◌, ◌-◌, ◌*◌, ◌^◌, ◌≤◌, true, false, None, Some, Err, [], length, map, min, drop, IfOk, IfErr, OnOk, OnErr, MatchResult, option_map, is_some};
     ghost use Rattle.osi_tpkt.specs.Held.{fresh};
     ghost use Rattle.osi_tpdu.specs.Limits.{tsap_octets};
-    ghost use Rattle.osi_carrier.specs.Calls.{fresh_state, may_connect, open_error, asks, open_link, close_error, send_error, send_all_error, call_error, closed_with, sent, sent_all, ended_by, kept_in, Tells, WaitsOn};
+    ghost use Rattle.osi_carrier.specs.Calls.{fresh_state, may_connect, open_error, asks, open_link, close_error, send_error, send_all_error, call_error, closed_with, sent, sent_all, ended_by, kept_in, unsent_at, backlog_of, Tells, WaitsOn};
     ghost use Rattle.osi_carrier.specs.Rows.{value_at};
     ghost use Rattle.osi_carrier.specs.Happenings.{happening};
     ghost use Rattle.osi_carrier.specs.Packets.{Feeds};
@@ -225,6 +225,31 @@ impl Carrier {
         ensures at_most { result ≤ 65535 + 1048576 * length self.now.state.live }
     {
         self.cutter.rest_len() + self.switch.kept()
+    }
+
+    /// How many octets of TSDUs were handed in at a connection and are not yet in units: what credit
+    /// holds back in class 2, where [`Carrier::outgoing`] does not show it (X.224 section 6.16). 0 where
+    /// no open connection has this reference. Takes no memory.
+    pub fn unsent(&self, reference: Ref) -> usize
+        ensures { result ≡ unsent_at (value_at reference.0 self.now.state.live) }
+    {
+        self.switch.unsent(reference.0)
+    }
+
+    /// The octets of [`Carrier::unsent`] of all connections together, or `usize::MAX` where they are
+    /// more. Takes no memory.
+    pub fn backlog(&self) -> usize
+        ensures { result ≡ min (backlog_of self.now.state.live) (2 ^ 64 - 1) }
+    {
+        self.switch.backlog()
+    }
+
+    /// How many connections are live: asked for, open or closing. At most 64. Takes no memory.
+    pub fn live(&self) -> usize
+        ensures value { result ≡ length self.now.state.live }
+        ensures at_most { result ≤ 64 }
+    {
+        self.switch.live()
     }
 
     /// Whether a live connection has this reference: one that is asked for, open or closing. Takes no

@@ -1,6 +1,6 @@
-ghost use Rattle.std.specs.Prelude.{◌≡◌, ◌*◌, ◌<◌, ◌≤◌, ◌∷◌, ◌++◌, ◌==◌, [], Some, true, length, map, is_some, IsOk, IfOk, IfSome, OnOk, OnErr};
+ghost use Rattle.std.specs.Prelude.{◌≡◌, ◌*◌, ◌^◌, ◌-◌, ◌<◌, ◌≤◌, ◌∷◌, ◌++◌, ◌==◌, [], Some, true, length, map, min, is_some, IsOk, IfOk, IfSome, OnOk, OnErr};
 ghost use Rattle.std.specs.Cow.{cow_slice_items, IsOwnedSlice};
-ghost use Rattle.osi_carrier.specs.Calls.{begun_by, kept_in, WaitsAlone};
+ghost use Rattle.osi_carrier.specs.Calls.{backlog_of, begun_by, kept_in, unsent_at, unsent_by, WaitsAlone};
 ghost use Rattle.osi_carrier.specs.Live.{connection, IsPumped};
 ghost use Rattle.osi_carrier.specs.Orderly.{RiseFrom};
 ghost use Rattle.osi_carrier.specs.Pump.{pumped, written_by, written_for};
@@ -90,6 +90,16 @@ impl Row {
         match &self.phase {
             Phase::Asked | Phase::Closing(_) => 0,
             Phase::Linked(_, link) => link.begun_octets(),
+        }
+    }
+
+    /// The octets of TSDUs that were handed in at it and are not yet in units.
+    fn unsent(&self) -> usize
+        ensures { result ≡ unsent_by self.now.1 }
+    {
+        match &self.phase {
+            Phase::Asked | Phase::Closing(_) => 0,
+            Phase::Linked(_, link) => link.unsent(),
         }
     }
 
@@ -267,6 +277,18 @@ fn kept_of(rows: &[Row]) -> usize
     octets
 }
 
+/// The octets of TSDUs that were handed in at these connections and are not yet in units, or
+/// `usize::MAX` where they are more.
+fn backlog_of(rows: &[Row]) -> usize
+    ensures { result ≡ min (backlog_of rows.now) (2 ^ 64 - 1) }
+{
+    let mut octets: usize = 0;
+    for row in rows {
+        octets = octets.saturating_add(row.unsent());
+    }
+    octets
+}
+
 impl Connections {
     /// None is live.
     pub fn new(alloc: Global) -> Self
@@ -324,6 +346,33 @@ impl Connections {
         ensures bound { result ≤ 67108864 }
     {
         kept_of(self.rows.as_slice())
+    }
+
+    /// The octets of TSDUs that were handed in at the connection of this reference and are not yet in
+    /// units; 0 where none has it.
+    #[tactic(auto, using(crate::proofs::ByStage::nowhere))]
+    pub fn unsent(&self, reference: u16) -> usize
+        ensures { result ≡ unsent_at (value_at reference self.now) }
+    {
+        match self.find(reference) {
+            None => 0,
+            Some(place) => self.unsent_by(place, reference),
+        }
+    }
+
+    /// Those of the connection at this place.
+    fn unsent_by(&self, place: usize, reference: u16) -> usize
+        requires { place_of reference self.now ≡ Some place }
+        ensures { result ≡ unsent_at (value_at reference self.now) }
+    {
+        self.rows[place].unsent()
+    }
+
+    /// Those of all connections, or `usize::MAX` where they are more.
+    pub fn backlog(&self) -> usize
+        ensures { result ≡ min (backlog_of self.now) (2 ^ 64 - 1) }
+    {
+        backlog_of(self.rows.as_slice())
     }
 
     /// How far the connection at this place is.

@@ -1,8 +1,8 @@
 //! Closing connections, the end, and what waits to be taken.
 
-ghost use Rattle.std.specs.Prelude.{◌≡◌, ◌≢◌, ◌≤◌, ◌*◌, drop, length, Err, IfErr, None, Some, IsOk, OnOk, OnErr, option_map, is_some};
+ghost use Rattle.std.specs.Prelude.{◌≡◌, ◌≢◌, ◌≤◌, ◌*◌, ◌^◌, ◌-◌, drop, length, min, Err, IfErr, None, Some, IsOk, OnOk, OnErr, option_map, is_some};
 ghost use Rattle.std.specs.Cow.{cow_slice_items, IsOwnedSlice};
-ghost use Rattle.osi_carrier.specs.Calls.{open_link, close_error, send_error, length_error, call_error, closed_with, closes, sent, ended_by, kept_in, Tells, WaitsAlone, WaitsOn};
+ghost use Rattle.osi_carrier.specs.Calls.{open_link, close_error, send_error, length_error, call_error, closed_with, closes, sent, ended_by, kept_in, unsent_at, backlog_of, Tells, WaitsAlone, WaitsOn};
 ghost use Rattle.osi_carrier.specs.Happenings.{happening};
 ghost use Rattle.osi_carrier.specs.Packets.{stops, waits, is_spoilt};
 ghost use Rattle.osi_carrier.specs.React.{pumps};
@@ -105,6 +105,29 @@ impl Switch {
         ensures bound { result ≤ 67108864 }
     {
         self.live.kept()
+    }
+
+    /// The octets of TSDUs that were handed in at the connection of this reference and are not yet in
+    /// units.
+    pub fn unsent(&self, reference: u16) -> usize
+        ensures { result ≡ unsent_at (value_at reference self.now.live) }
+    {
+        self.live.unsent(reference)
+    }
+
+    /// Those of all connections, or `usize::MAX` where they are more.
+    pub fn backlog(&self) -> usize
+        ensures { result ≡ min (backlog_of self.now.live) (2 ^ 64 - 1) }
+    {
+        self.live.backlog()
+    }
+
+    /// How many connections are live, at most 64.
+    pub fn live(&self) -> usize
+        ensures value { result ≡ length self.now.live }
+        ensures at_most { result ≤ 64 }
+    {
+        self.live.len()
     }
 
     /// Whether a live connection has this reference.
