@@ -32,8 +32,10 @@ impl Model for Stack {
 }
 
 impl Stack {
-    ghost use Rattle.std.specs.Prelude.{◌≡◌, ◌+◌, ◌*◌, ◌≤◌, true, false, None, [], IsSome, OnOk, OnErr, IfOk, IfErr, option_map, length};
+    ghost use Rattle.std.specs.Prelude.{◌≡◌, ◌+◌, ◌-◌, ◌*◌, ◌^◌, ◌≤◌, true, false, None, [], IsSome, OnOk, OnErr, IfOk, IfErr, option_map, length, min};
     ghost use Rattle.osi_tpkt.specs.Held.{fresh};
+    ghost use Rattle.osi_carrier.specs.Calls.{unsent_at, backlog_of};
+    ghost use Rattle.osi_carrier.specs.Rows.{value_at};
     ghost use Rattle.osi_message.specs.Tokens.{named, no_token, token_octet};
     ghost use Rattle.osi_spdu.specs.Fields.{bits_of};
     ghost use Rattle.osi_session.specs.Calls.{called_by};
@@ -220,5 +222,31 @@ impl Stack {
         ensures at_most { result ≤ 65535 + 2097148 * length self.now.end.carrier.live }
     {
         self.hub.kept()
+    }
+
+    /// How many octets of TSDUs were handed in at a connection and are not yet in [`Stack::outgoing`]:
+    /// what the peer's credit holds back in class 2. 0 where no open connection has this reference.
+    /// Takes no memory.
+    pub fn unsent(&self, reference: Ref) -> usize
+        ensures { result ≡ unsent_at (value_at reference.0 self.now.end.carrier.live) }
+    {
+        self.hub.unsent(reference)
+    }
+
+    /// The octets of [`Stack::unsent`] of all connections together, or `usize::MAX` where they are more.
+    /// Takes no memory.
+    pub fn backlog(&self) -> usize
+        ensures { result ≡ min (backlog_of self.now.end.carrier.live) (2 ^ 64 - 1) }
+    {
+        self.hub.backlog()
+    }
+
+    /// How many connections are live: those whose transport connection is asked for, open or closing. At
+    /// most 64. Takes no memory.
+    pub fn live(&self) -> usize
+        ensures value { result ≡ length self.now.end.carrier.live }
+        ensures at_most { result ≤ 64 }
+    {
+        self.hub.live()
     }
 }

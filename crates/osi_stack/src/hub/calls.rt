@@ -1,7 +1,9 @@
 //! The calls of the user, and what the sessions hold.
 
-ghost use Rattle.std.specs.Prelude.{◌≡◌, ◌+◌, ◌*◌, ◌≤◌, None, OnOk, OnErr, IfErr, option_map, is_some, length};
+ghost use Rattle.std.specs.Prelude.{◌≡◌, ◌+◌, ◌-◌, ◌*◌, ◌^◌, ◌≤◌, None, OnOk, OnErr, IfErr, option_map, is_some, length, min};
+ghost use Rattle.osi_carrier.specs.Calls.{unsent_at, backlog_of};
 ghost use Rattle.osi_carrier.specs.Orderly.{RiseFrom};
+ghost use Rattle.osi_carrier.specs.Rows.{value_at};
 ghost use Rattle.osi_message.specs.Tokens.{named, token_octet};
 ghost use Rattle.osi_spdu.specs.Fields.{bits_of};
 ghost use Rattle.osi_session.specs.Calls.{called_by};
@@ -143,5 +145,27 @@ impl Hub {
         ensures at_most { result ≤ 65535 + 2097148 * length self.now.end.carrier.live }
     {
         self.carrier.kept() + self.lines.joined(&self.carrier)
+    }
+
+    /// The octets of TSDUs of a connection that are not yet in units.
+    pub fn unsent(&self, reference: Ref) -> usize
+        ensures { result ≡ unsent_at (value_at reference.0 self.now.end.carrier.live) }
+    {
+        self.carrier.unsent(reference)
+    }
+
+    /// Those of all connections, or `usize::MAX` where they are more.
+    pub fn backlog(&self) -> usize
+        ensures { result ≡ min (backlog_of self.now.end.carrier.live) (2 ^ 64 - 1) }
+    {
+        self.carrier.backlog()
+    }
+
+    /// How many connections are live.
+    pub fn live(&self) -> usize
+        ensures value { result ≡ length self.now.end.carrier.live }
+        ensures at_most { result ≤ 64 }
+    {
+        self.carrier.live()
     }
 }
