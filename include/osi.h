@@ -348,6 +348,18 @@ uint32_t osi_ended(osi_end *end, uint64_t *detail);
  * 65,535, and 2,097,148 for each live connection (1,048,576 of a TSDU, 1,048,572 of data). */
 size_t osi_kept(osi_end *end);
 
+/* How many octets of a connection were handed in and are not yet in what osi_outgoing lends: those of
+ * TSDUs that the peer's credit holds back in class 2. They go as its acknowledgements are fed. 0 for a
+ * connection that is gone or never was. */
+size_t osi_unsent(osi_end *end, uint16_t reference);
+
+/* Those of all connections together; SIZE_MAX where they are more. */
+size_t osi_backlog(osi_end *end);
+
+/* How many connections are live, at most 64: those whose transport connection is asked for, open or
+ * closing. */
+size_t osi_live(osi_end *end);
+
 /* ---- indications ----------------------------------------------------------------------------------- */
 
 /* Fetches the oldest indication of the connection with the lowest reference that has one. It takes no

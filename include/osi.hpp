@@ -744,6 +744,14 @@ public:
      * parts. */
     std::size_t kept() noexcept { return slot_ ? osi_kept(slot_.get()) : 0; }
 
+    /* How many octets of a connection were handed in and are not yet outgoing, since the peer gives no
+     * credit for them; and those of all connections together. */
+    std::size_t unsent(osi::reference of) noexcept { return look(osi_unsent, of); }
+    std::size_t backlog() noexcept { return slot_ ? osi_backlog(slot_.get()) : 0; }
+
+    /* How many connections are live: those whose transport connection is asked for, open or closing. */
+    std::size_t live() noexcept { return slot_ ? osi_live(slot_.get()) : 0; }
+
     /* ---- indications */
 
     /* The oldest indication of the connection with the lowest reference that has one. */

@@ -1,7 +1,9 @@
 -- What the functions that C calls do: `old` and `new` are what the slot holds.
-use Rattle.std.specs.Prelude.{◌≡◌, ℕ, ◌≤◌, ◌+◌, ◌*◌, Bool, false, List, [], length, Option, Some, None, option_map}
+use Rattle.std.specs.Prelude.{◌≡◌, ℕ, ◌≤◌, ◌+◌, ◌-◌, ◌*◌, ◌^◌, min, Bool, false, List, [], length, Option, Some, None, option_map}
 use Rattle.osi_tpkt.specs.Held.{fresh}
 use Rattle.osi_class.specs.declared.terms.Local.{Local}
+use Rattle.osi_carrier.specs.Calls.{unsent_at, backlog_of}
+use Rattle.osi_carrier.specs.Rows.{value_at}
 use Rattle.osi_carrier.specs.declared.ends.EndReason.{EndReason}
 use Rattle.osi_message.specs.Tokens.{token_octet}
 use Rattle.osi_session.specs.Calls.{Call}
@@ -145,3 +147,18 @@ kept (Some c) = kept_octets c.stack
 abbrev pub most_kept : Option Contents → ℕ
 most_kept None = 0
 most_kept (Some c) = 65535 + 2097148 * length c.stack.end.carrier.live
+
+-- the octets of TSDUs of a connection that are not yet in those to be carried
+abbrev pub unsent : ℕ → Option Contents → ℕ
+unsent r None = 0
+unsent r (Some c) = unsent_at (value_at r c.stack.end.carrier.live)
+
+-- those of all connections, as far as a size_t counts
+abbrev pub backlog : Option Contents → ℕ
+backlog None = 0
+backlog (Some c) = min (backlog_of c.stack.end.carrier.live) (2 ^ 64 - 1)
+
+-- how many connections are asked for, open or closing
+abbrev pub live : Option Contents → ℕ
+live None = 0
+live (Some c) = length c.stack.end.carrier.live

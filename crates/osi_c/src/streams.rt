@@ -3,11 +3,12 @@
 ghost use types.Logic.{sem};
 ghost use Rattle.std.specs.Prelude.{◌≡◌, ◌≤◌, Some};
 ghost use Rattle.osi_c.specs.Codes.{answer_of, reason_of, detail_of};
-ghost use Rattle.osi_c.specs.Ends.{FeedsTo, outgoing, Carries, Breaks, ended, kept, most_kept};
+ghost use Rattle.osi_c.specs.Ends.{FeedsTo, outgoing, Carries, Breaks, ended, kept, most_kept, unsent, backlog, live};
 ghost use Rattle.osi_c.specs.Lent.{KeepsSlot};
 
 use crate::codes::{BAD_ARGUMENT, CLOSED, OK, end_code};
 use crate::slots::OsiEnd;
+use osi_carrier::Ref;
 
 /// What feeding did.
 #[repr(C)]
@@ -117,4 +118,45 @@ pub extern "C" fn osi_kept(end: &mut OsiEnd) -> usize
         return 0;
     }
     end.get_mut().stack.kept()
+}
+
+/// How many octets of a connection were handed in and are not yet in what `osi_outgoing` lends: those of
+/// TSDUs that the peer's credit holds back in class 2. 0 for a connection that is gone or never was, and
+/// of a slot that holds no end.
+#[unsafe(no_mangle)]
+pub extern "C" fn osi_unsent(end: &mut OsiEnd, reference: u16) -> usize
+    ensures value { result ≡ unsent reference end.old.inner.value }
+    ensures same { end.new.inner.value ≡ end.old.inner.value }
+{
+    if !end.full {
+        return 0;
+    }
+    end.get_mut().stack.unsent(Ref(reference))
+}
+
+/// Those of all connections together, or the greatest `size_t` where they are more; 0 of a slot that holds
+/// no end.
+#[unsafe(no_mangle)]
+pub extern "C" fn osi_backlog(end: &mut OsiEnd) -> usize
+    ensures value { result ≡ backlog end.old.inner.value }
+    ensures same { end.new.inner.value ≡ end.old.inner.value }
+{
+    if !end.full {
+        return 0;
+    }
+    end.get_mut().stack.backlog()
+}
+
+/// How many connections are live, at most 64: those whose transport connection is asked for, open or
+/// closing; 0 of a slot that holds no end.
+#[unsafe(no_mangle)]
+pub extern "C" fn osi_live(end: &mut OsiEnd) -> usize
+    ensures value { result ≡ live end.old.inner.value }
+    ensures at_most { result ≤ 64 }
+    ensures same { end.new.inner.value ≡ end.old.inner.value }
+{
+    if !end.full {
+        return 0;
+    }
+    end.get_mut().stack.live()
 }
