@@ -191,6 +191,7 @@ static void an_empty_end_is_closed()
     CHECK(none.taken(0) == code::closed && none.broken() == code::closed);
     CHECK(!none.ended() && !none.next() && none.last().tag == tag::none && none.kept() == 0);
     CHECK(none.phase(1) == osi::phase::none && none.held(1) == osi::tokens::none && none.next_serial(1) == 0);
+    CHECK(none.unsent(1) == 0 && none.backlog() == 0 && none.live() == 0);
     none.reset();
 }
 
@@ -412,6 +413,25 @@ static void bad_units_are_shown()
     CHECK(second && second->fault.kind == osi::fault_kind::unexpected && second->fault.si == 10);
 }
 
+static void what_credit_holds_back_is_unsent()
+{
+    const std::string message(1000, 'x');
+    pair two = opened(osi::classes::class_2);
+    for (int i = 0; i < 20; i++)
+        CHECK(two.caller.data(two.of, message) == code::ok);
+    CHECK(two.caller.unsent(two.of) == 5020 && two.caller.backlog() == 5020 && two.caller.live() == 1);
+    CHECK(two.caller.unsent(2) == 0 && two.called.backlog() == 0);
+    two.carry();
+    CHECK(two.caller.unsent(two.of) == 0 && two.caller.backlog() == 0);
+    CHECK(two.caller.abort(two.of) == code::ok);
+    two.carry();
+    CHECK(two.caller.live() == 0 && two.called.live() == 0);
+    pair zero = opened(osi::classes::class_0);
+    for (int i = 0; i < 20; i++)
+        CHECK(zero.caller.data(zero.of, message) == code::ok);
+    CHECK(zero.caller.unsent(zero.of) == 0 && zero.caller.backlog() == 0 && zero.caller.live() == 1);
+}
+
 static void data_in_parts_is_joined()
 {
     static const std::uint8_t first[] = {0x03, 0x00, 0x00, 0x0f, 0x02, 0xf0, 0x80, 0x01,
@@ -545,6 +565,7 @@ int main()
     aborts_are_shown();
     losses_are_shown();
     bad_units_are_shown();
+    what_credit_holds_back_is_unsent();
     data_in_parts_is_joined();
     bad_packets_end_an_end();
     connections_are_told_apart();

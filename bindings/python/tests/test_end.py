@@ -307,6 +307,34 @@ class Octets(Case):
                 pair.caller.feed(wrong)
 
 
+class Backlog(Case):
+    def test_what_credit_holds_back_is_unsent(self):
+        pair = Pair.opened(Classes.CLASS_2)
+        self.assertEqual((pair.caller.live(), pair.called.live()), (1, 1))
+        for _ in range(20):
+            pair.caller.data(1, bytes(1000))
+        self.assertEqual((pair.caller.unsent(1), pair.caller.unsent(2), pair.caller.backlog()), (5020, 0, 5020))
+        pair.carry()
+        self.assertEqual((pair.caller.unsent(1), pair.caller.backlog()), (0, 0))
+
+    def test_nothing_is_unsent_in_class_0(self):
+        pair = Pair.opened()
+        for _ in range(20):
+            pair.caller.data(1, bytes(1000))
+        self.assertEqual((pair.caller.unsent(1), pair.caller.backlog(), pair.caller.live()), (0, 0, 1))
+
+    def test_a_connection_is_live_until_it_is_gone(self):
+        pair = Pair(Classes.CLASS_2, Classes.CLASS_2)
+        self.assertEqual((pair.caller.live(), pair.called.live()), (0, 0))
+        pair.caller.connect(ASKED)
+        self.assertEqual((pair.caller.live(), pair.called.live()), (1, 0))
+        pair.carry()
+        self.assertEqual((pair.caller.live(), pair.called.live()), (1, 1))
+        pair.caller.abort(1)
+        pair.carry()
+        self.assertEqual((pair.caller.live(), pair.called.live()), (0, 0))
+
+
 class Ends(Case):
     def test_a_closed_end(self):
         pair = Pair.opened()
@@ -322,6 +350,7 @@ class Ends(Case):
         self.refused(Code.CLOSED, end.taken, 0)
         self.refused(Code.CLOSED, end.broken)
         self.assertEqual((end.outgoing(), end.kept(), end.ended()), (b"", 0, None))
+        self.assertEqual((end.unsent(1), end.backlog(), end.live()), (0, 0, 0))
         self.assertEqual((end.phase(1), end.held(1), end.next_serial(1)), (Phase.NONE, Tokens.NONE, 0))
         self.assertIsNone(end.next_indication())
 

@@ -388,6 +388,23 @@ impl End {
         unsafe { ffi::osi_kept(self.at()) }
     }
 
+    /// How many octets of a connection were handed in and are not yet [`outgoing`](End::outgoing), since
+    /// the peer gives no credit for them; 0 for a connection that is gone or never was.
+    pub fn unsent(&mut self, of: Reference) -> usize {
+        unsafe { ffi::osi_unsent(self.at(), of.0) }
+    }
+
+    /// The octets of [`unsent`](End::unsent) of all connections together.
+    pub fn backlog(&mut self) -> usize {
+        unsafe { ffi::osi_backlog(self.at()) }
+    }
+
+    /// How many connections are live, at most 64: those whose transport connection is asked for, open or
+    /// closing.
+    pub fn live(&mut self) -> usize {
+        unsafe { ffi::osi_live(self.at()) }
+    }
+
     /// The oldest indication of the connection with the lowest reference that has one. It takes no
     /// memory.
     ///

@@ -159,6 +159,9 @@ extern "C" {
     pub fn osi_broken(end: *mut osi_end) -> u32;
     pub fn osi_ended(end: *mut osi_end, detail: *mut u64) -> u32;
     pub fn osi_kept(end: *mut osi_end) -> usize;
+    pub fn osi_unsent(end: *mut osi_end, reference: u16) -> usize;
+    pub fn osi_backlog(end: *mut osi_end) -> usize;
+    pub fn osi_live(end: *mut osi_end) -> usize;
     pub fn osi_fetch(end: *mut osi_end) -> u32;
     pub fn osi_last(end: *mut osi_end, shown: *mut osi_indication);
     pub fn osi_phase(end: *mut osi_end, reference: u16) -> u32;

@@ -296,6 +296,26 @@ fn an_abort_and_a_loss_are_shown() {
 }
 
 #[test]
+fn what_credit_holds_back_is_unsent() {
+    let mut pair = Pair::opened(Classes::CLASS_2, &opening());
+    for _ in 0..20 {
+        pair.caller.data(pair.of, &[0; 1000]).unwrap();
+    }
+    assert_eq!((pair.caller.unsent(pair.of), pair.caller.unsent(Reference::new(2))), (5020, 0));
+    assert_eq!((pair.caller.backlog(), pair.caller.live()), (5020, 1));
+    pair.carry();
+    assert_eq!((pair.caller.unsent(pair.of), pair.caller.backlog()), (0, 0));
+    pair.caller.abort(pair.of, b"").unwrap();
+    pair.carry();
+    assert_eq!((pair.caller.live(), pair.called.live()), (0, 0));
+    let mut pair = Pair::opened(Classes::CLASS_0, &opening());
+    for _ in 0..20 {
+        pair.caller.data(pair.of, &[0; 1000]).unwrap();
+    }
+    assert_eq!((pair.caller.unsent(pair.of), pair.caller.backlog(), pair.caller.live()), (0, 0, 1));
+}
+
+#[test]
 fn data_in_parts_is_joined() {
     let mut pair = Pair::opened(Classes::CLASS_0, &opening());
     let first = packet(b"\x01\x00\x01\x03\x19\x01\x01one ");

@@ -324,6 +324,22 @@ class End:
         with self._lock:
             return int(self._osi.osi_kept(byref(self._slot)))
 
+    def unsent(self, reference: int) -> int:
+        """How many octets of a connection were handed in and are not yet outgoing, since the peer gives no
+        credit for them; 0 for a connection that is gone or never was."""
+        return self._look(self._osi.osi_unsent, reference)
+
+    def backlog(self) -> int:
+        """The octets of ``unsent`` of all connections together."""
+        with self._lock:
+            return int(self._osi.osi_backlog(byref(self._slot)))
+
+    def live(self) -> int:
+        """How many connections are live, at most 64: those whose transport connection is asked for, open or
+        closing."""
+        with self._lock:
+            return int(self._osi.osi_live(byref(self._slot)))
+
     def next_indication(self) -> Optional[Indication]:
         """The oldest indication of the connection with the lowest reference that has one."""
         said = IndicationOfC()
