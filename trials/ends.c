@@ -196,14 +196,16 @@ void end_state(osi_end *end, struct text *text)
     osi_octets octets;
     uint64_t detail;
     uint32_t ended = osi_ended(end, &detail);
-    text_put(text, "ended %u %llu kept %zu", ended, (unsigned long long)detail, ended == 0 ? osi_kept(end) : 0);
+    text_put(text, "ended %u %llu kept %zu live %zu backlog %zu", ended, (unsigned long long)detail,
+             ended == 0 ? osi_kept(end) : 0, osi_live(end), osi_backlog(end));
     for (uint16_t reference = 1; reference <= REFERENCES; reference++) {
         uint32_t phase = osi_phase(end, reference);
         if (phase == OSI_PHASE_NONE)
             break;
-        text_put(text, " | phase %u held %02x next %u below %u lowest %u", phase, osi_held(end, reference),
-                 osi_next_serial(end, reference), osi_confirmed_below(end, reference),
-                 osi_lowest_restart(end, reference));
+        text_put(text, " | phase %u held %02x next %u below %u lowest %u unsent %zu", phase,
+                 osi_held(end, reference), osi_next_serial(end, reference),
+                 osi_confirmed_below(end, reference), osi_lowest_restart(end, reference),
+                 osi_unsent(end, reference));
     }
     osi_outgoing(end, &octets);
     text_put(text, " | ");
