@@ -22,7 +22,7 @@ use osi_carrier::two_carriers::{
 use osi_machine::laws::{
     what_is_under_way_can_be_sent, what_stands_at_a_reference, what_two_tables_tell,
 };
-use osi_message::laws::{what_is_sent_is_octets, what_is_sent_is_read};
+use osi_message::laws::{what_a_part_says, what_is_sent_is_octets, what_is_sent_is_read};
 use osi_session::laws::{
     an_empty_token_item_changes_nothing, numbers_stay_in_order, what_an_accepted_call_passed,
     what_becomes_of_a_unit, what_closes_sends_nothing, what_happens_has_numbers,
@@ -88,6 +88,7 @@ pub fn how_two_ends_carry()
     serial_digits();
     what_is_sent_is_octets();
     what_is_sent_is_read();
+    what_a_part_says();
     what_is_sent_can_be_sent();
     what_becomes_of_a_unit();
     an_empty_token_item_changes_nothing();

@@ -20,7 +20,9 @@ use Rattle.osi_message.specs.Reading.{said_by_units, said_at, said_if_read}
 use Rattle.osi_spdu.specs.Known.{Units}
 use Rattle.osi_spdu.specs.declared.faults.SpduFault.{SpduFault}
 use Rattle.osi_message.specs.Sendable.{words_of, IsSendable}
+use Rattle.osi_message.specs.Words.{Words, part_octets}
 use Rattle.osi_message.specs.Written.{written, spelled}
+use Rattle.osi_message.specs.declared.places.Place.{Place as PartPlace}
 use Rattle.osi_spdu.specs.Reading.{tsdu_at}
 use Rattle.osi_session.specs.Listening.{Input, Listener, Move, called, opened, refused, broken, taken, came, came_as, answered, react}
 use Rattle.osi_session.specs.Sessions.{awaits}
@@ -28,7 +30,7 @@ use Rattle.osi_session.specs.Shown.{Shown}
 use Rattle.osi_stack.specs.Calls.{first_shown, first_by, without_first, rest_by, has_given, send_refusal, move_refusal, session_refusal, call_error}
 use Rattle.osi_stack.specs.Coming.{carries_out, after_unit}
 use Rattle.osi_stack.specs.Hearing.{opens, hears, hears_times, hears_first, hears_all, with_events, concludes, attends, shown_at_loss, loses, all_lost}
-use Rattle.osi_stack.specs.Messages.{Message, unit, ask, agree, deny, bye, over, IsWhole, put_by, puts, Acts, Effect, begins, happens, rests, effect_at, told_at, HasSession, IsShort, CanHear, Hears, told_all, Arrives, kept_at, waiting_of, Becomes, IsGranted, Says, AreLost, shown_of, all_waiting, IsFirstOf}
+use Rattle.osi_stack.specs.Messages.{Message, unit, part, ask, agree, deny, bye, over, IsWhole, put_by, puts, Acts, Effect, begins, happens, rests, effect_at, told_at, words_in_part, HasSession, IsShort, CanHear, Hears, told_all, Arrives, kept_at, waiting_of, Becomes, IsGranted, Says, AreLost, shown_of, all_waiting, IsFirstOf}
 use Rattle.osi_stack.specs.Moving.{line_after, line_by, carrier_by, by_line, to_session}
 use Rattle.osi_stack.specs.State.{Line, End, session_in, session_at, line_waits, waits, is_used, used_lines, joins}
 use Rattle.osi_stack.specs.Transport.{sent_unless, hands, answers_by}
@@ -122,15 +124,20 @@ opens_to r e line here = ap (λ o. opens r o e) here
 pub record Readings : Type 0 where
   pub read : (m : Meaning) → IsSendable m → tsdu_at (written m) ≡ Ok (spelled m)
   pub said : (m : Meaning) → IsSendable m → said_by_units (spelled m) ≡ words_of m
+  pub parts : (place : PartPlace) (octets : List ℕ) → said_at (part_octets place octets) ≡ Ok (words_in_part place octets)
 
 -- what is sent comes as what it says
 pub came_is : Readings → (m : Meaning) → IsSendable m → came (written m) ≡ taken (words_of m)
 unfolding said_at
 came_is law m sendable = ap (λ (r : Result Units SpduFault). came_as (said_if_read r)) (law.read m sendable) ∙ ap taken (law.said m sendable)
 
+part_came : Readings → (place : PartPlace) (octets : List ℕ) → came (part_octets place octets) ≡ taken (words_in_part place octets)
+part_came law place octets = ap came_as (law.parts place octets)
+
 pub arrives : Readings → (r : ℕ) (place : Place) (m : Message) (v : Value) (e : End) → IsWhole m → (carriers.react v e.carrier).events ≡ told_at r place m →
     CanHear r (effect_at place m) e.lines → Arrives r (effect_at place m) v e (after_unit e v)
 arrives law r never (unit m) v e whole h can = rests_by r v e h
+arrives law r never (part place octets) v e whole h can = rests_by r v e h
 arrives law r never ask v e whole h can =
     arrives_by r begins v e (joins r awaits (told_all v e)) refl (attends_one (carries_out v e) (told.opened r) h ∙ ap (λ o. concludes (opens r o (told_all v e))) can)
 arrives law r never agree v e whole h can = rests_by r v e h
@@ -139,6 +146,7 @@ arrives law r never (bye reason) v e whole h can = rests_by r v e h
 arrives law r never over v e whole h can = rests_by r v e h
 arrives law r (was_given None) m v e whole h can = rests_by r v e h
 arrives law r (was_given (Some asked)) (unit m) v e whole h can = rests_by r v e h
+arrives law r (was_given (Some asked)) (part place octets) v e whole h can = rests_by r v e h
 arrives law r (was_given (Some asked)) ask v e whole h can = rests_by r v e h
 arrives law r (was_given (Some asked)) agree v e whole h can = happens_by r opened (told.opened r) v e h (opens_to r (told_all v e) can.0.line can.0.here) can
 arrives law r (was_given (Some asked)) (deny reason) v e whole h can = happens_by r (refused reason) (told.refused r reason) v e h refl can
@@ -146,6 +154,9 @@ arrives law r (was_given (Some asked)) (bye reason) v e whole h can = rests_by r
 arrives law r (was_given (Some asked)) over v e whole h can = rests_by r v e h
 arrives law r (was_given (Some (linked peer link))) (unit m) v e whole h can =
     happens_by r (taken (words_of m)) (told.tsdu r (written m)) v e h (ap (λ i. to_session r i (told_all v e)) (came_is law m whole)) can
+arrives law r (was_given (Some (linked peer link))) (part place octets) v e whole h can =
+    happens_by r (taken (words_in_part place octets)) (told.tsdu r (part_octets place octets)) v e h
+    (ap (λ i. to_session r i (told_all v e)) (part_came law place octets)) can
 arrives law r (was_given (Some (linked peer link))) ask v e whole h can = rests_by r v e h
 arrives law r (was_given (Some (linked peer link))) agree v e whole h can = rests_by r v e h
 arrives law r (was_given (Some (linked peer link))) (deny reason) v e whole h can = rests_by r v e h

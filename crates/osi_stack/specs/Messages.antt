@@ -1,8 +1,12 @@
 -- What an end takes, shows and puts for a connection, in whole messages.
 use Rattle.std.specs.Prelude.{◌≡◌, ◌≢◌, ◌≤◌, ℕ, Bool, true, false, List, [], ◌∷◌, ◌++◌, length, Option, Some, None, IsSome, Ok}
-use Rattle.osi_message.specs.Meanings.{Meaning}
+use Rattle.osi_message.specs.Meanings.{Meaning, GT}
 use Rattle.osi_message.specs.Sendable.{words_of, IsSendable}
+use Rattle.osi_message.specs.Tokens.{no_token}
+use Rattle.osi_message.specs.Words.{Words, part_octets}
+use Rattle.osi_message.specs.Words as words
 use Rattle.osi_message.specs.Written.{written}
+use Rattle.osi_message.specs.declared.places.Place.{Place as PartPlace}
 use Rattle.osi_tpdu.specs.Value.{Value}
 use Rattle.osi_carrier.specs.Calls.{open_link, sent, closed_with}
 use Rattle.osi_carrier.specs.Course.{Place, never, was_given}
@@ -21,28 +25,31 @@ use Rattle.osi_stack.specs.Hearing.{with_events, concludes, shown_at_loss}
 use Rattle.osi_stack.specs.Moving.{line_after}
 use Rattle.osi_stack.specs.State.{Line, End, session_in, session_at, joins}
 
--- a session unit; and of a transport connection that it is asked for, agreed to, denied, or closed, and
--- that a close is answered
+-- a session unit, or a part of one Data; and of a transport connection that it is asked for, agreed to,
+-- denied, or closed, and that a close is answered
 pub data Message : Type 0 where
   unit : Meaning → Message
+  part : PartPlace → (octets : List ℕ) → Message
   ask : Message
   agree : Message
   deny : (reason : ℕ) → Message
   bye : (reason : ℕ) → Message
   over : Message
 
--- a message between the carriers: a unit is a TSDU
+-- a message between the carriers: a unit, or a part, is a TSDU
 abbrev pub carried : Message → between.Message
 carried (unit m) = between.message (written m)
+carried (part place octets) = between.message (part_octets place octets)
 carried ask = between.ask
 carried agree = between.agree
 carried (deny reason) = between.deny reason
 carried (bye reason) = between.bye reason
 carried over = between.over
 
--- a unit is one that can be sent, so that its octets are read as it
+-- a unit is one that can be sent, so that its octets are read as it; those of a part always are
 abbrev pub IsWhole : Message → Type 0
 IsWhole (unit m) = IsSendable m
+IsWhole (part place octets) = Unit {0}
 IsWhole ask = Unit {0}
 IsWhole agree = Unit {0}
 IsWhole (deny reason) = Unit {0}
@@ -60,6 +67,7 @@ put_by false (Some m) = unit m ∷ []
 -- what a session puts its carrier does; all else the carrier puts itself
 abbrev pub does : ℕ → Message → Carrier → Carrier
 does r (unit m) c = sent r (written m) c
+does r (part place octets) c = sent r (part_octets place octets) c
 does r (bye reason) c = closed_with r reason c
 does r ask c = c
 does r agree c = c
@@ -90,12 +98,17 @@ pub data Effect : Type 0 where
   happens : Input → Effect
   rests : Effect
 
+-- a part comes behind a GT that names no token
+abbrev pub words_in_part : PartPlace → List ℕ → Words
+words_in_part place octets = words.says (GT no_token) ∷ words.part place octets ∷ []
+
 -- by where the connection stands
 abbrev pub effect_at : Place → Message → Effect
 effect_at never ask = begins
 effect_at (was_given (Some asked)) agree = happens opened
 effect_at (was_given (Some asked)) (deny reason) = happens (refused reason)
 effect_at (was_given (Some (linked peer link))) (unit m) = happens (taken (words_of m))
+effect_at (was_given (Some (linked peer link))) (part place octets) = happens (taken (words_in_part place octets))
 effect_at (was_given (Some (linked peer link))) (bye reason) = happens broken
 effect_at place m = rests
 
@@ -105,6 +118,7 @@ told_at r never ask = told.opened r ∷ []
 told_at r (was_given (Some asked)) agree = told.opened r ∷ []
 told_at r (was_given (Some asked)) (deny reason) = told.refused r reason ∷ []
 told_at r (was_given (Some (linked peer link))) (unit m) = told.tsdu r (written m) ∷ []
+told_at r (was_given (Some (linked peer link))) (part place octets) = told.tsdu r (part_octets place octets) ∷ []
 told_at r (was_given (Some (linked peer link))) (bye reason) = told.closed r reason ∷ []
 told_at r place m = []
 

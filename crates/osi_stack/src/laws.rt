@@ -43,7 +43,7 @@ ghost use Rattle.osi_stack.specs.Runs.{Call as EndCall, CallsAlong, CallsInRoom,
 ghost use Rattle.osi_stack.specs.Settled.{IsSettled};
 ghost use Rattle.osi_stack.specs.State.{Line, End, Holding, IsAttended, fresh_end, session_at, waits, used_lines};
 
-use osi_message::laws::what_is_sent_is_read;
+use osi_message::laws::{what_a_part_says, what_is_sent_is_read};
 use osi_session::laws::{
     an_ended_session_stays_ended, numbers_stay_in_order, parts_are_the_whole, units_are_a_profile,
     what_an_accepted_call_passed, what_closes_sends_nothing, what_happens_has_numbers,
@@ -73,6 +73,7 @@ pub fn what_a_message_does()
         Becomes r (react a.session input).next (react a.session input).shown old.lines new.lines }
 {
     what_is_sent_is_read();
+    what_a_part_says();
 }
 
 /// A call that is accepted is one of the session's table, on an open connection: one unit is sent, and

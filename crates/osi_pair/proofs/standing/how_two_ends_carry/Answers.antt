@@ -31,7 +31,7 @@ returns c =
           enacted = c.what_becomes_of_a_unit.ensures.enacted;
           says = c.an_empty_token_item_changes_nothing.ensures.said;
         };
-        readings = record { read = c.what_is_sent_is_read.ensures.read; said = c.what_is_sent_is_read.ensures.said };
+        readings = record { read = c.what_is_sent_is_read.ensures.read; said = c.what_is_sent_is_read.ensures.said; parts = c.what_a_part_says.ensures };
         units = c.what_happens_has_numbers.ensures.units;
       };
       tables = record {
