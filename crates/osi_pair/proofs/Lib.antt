@@ -63,3 +63,4 @@ pub mod StandingRefusal
 pub mod StandingConnect
 pub mod StandingEvent
 pub mod Reaching
+mod WordLaws

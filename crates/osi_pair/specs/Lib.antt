@@ -12,3 +12,4 @@ pub mod Standing
 pub mod Promises
 pub mod Reached
 pub mod Advancing
+pub mod Words
