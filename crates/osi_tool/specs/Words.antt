@@ -4,9 +4,12 @@ use Rattle.clap.specs.Words.{App, Text, new_app, subcommand_of, with_subcommand}
 use Rattle.osi_tool.specs.declared.jobs.Job.{Job}
 use Rattle.osi_tool.specs.declared.jobs.Job.TheVariants.{Show, Pair}
 
--- the command `osi`, which wants a subcommand
+-- the command `osi`, which wants a subcommand and tells its version
 abbrev pub top : App
-top = record { top = record (new_app (codes "osi")).top { subcommand_required = true }; subs = (new_app (codes "osi")).subs }
+top = record {
+  top = record (new_app (codes "osi")).top { has_version = true; subcommand_required = true };
+  subs = (new_app (codes "osi")).subs
+}
 
 -- the same with its subcommands
 unfoldable pub osi : App

@@ -251,6 +251,10 @@ fn words_name_a_job(rt: HostRuntime) {
         refused(&rt, &["osi", "help"]),
         Some(ErrorKind::DisplayHelp)
     );
+    assert_eq!(rt;
+        refused(&rt, &["osi", "--version"]),
+        Some(ErrorKind::DisplayVersion)
+    );
     assert_eq!(rt; refused(&rt, &["osi"]), Some(ErrorKind::MissingSubcommand));
     assert_eq!(rt;
         refused(&rt, &["osi", "list"]),

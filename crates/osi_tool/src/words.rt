@@ -8,9 +8,13 @@ use clap::{Command, Error};
 use std::alloc::{AllocError, Global};
 use std::convert::AsStr;
 
+/// The number of this version, which is that of the file VERSION at the top.
+const VERSION: &str = "0.1.0";
+
 /// What a script is made of.
 const SCRIPTS: &str = "\
-A line for each event; empty lines and lines that begin with # are skipped.
+A line for each event, which ends at a line feed alone; empty lines and lines that begin with # are
+skipped.
 
   ends CALLER CALLED SIZE WINDOW      the first line: classes 0, 2 or 20 of the left end, which
                                       calls, and of the right one; TPDU size code 7 to 13;
@@ -38,7 +42,7 @@ answers, c for the choice of the side that answers. TOKENS has two digits: 01 da
 0020 resynchronize, 0080 negotiated release.";
 
 /// The job that the program's words ask for, of which the first is the program's name. A request for
-/// help, and words that name no job, are an error of `clap`.
+/// help or for the version, and words that name no job, are an error of `clap`.
 pub fn job<'a, S: AsStr>(alloc: Global, words: &'a [S]) -> Result<Job, Error>
     ensures named { IfOk result (λ job. named_by (map S.text words.entry.now) ≡ Some (name_of job)) }
     // Where clap takes the words and names a job's subcommand, the only error is want of memory.
@@ -67,6 +71,8 @@ fn command<'a>(alloc: Global) -> Result<Command<'a>, AllocError>
         .after_help(SCRIPTS);
     Command::new(alloc, "osi")
         .about("Read captures of the OSI session protocol over TPKT, and run scripts on two ends")
+        .version(VERSION)
+        .bin_name("osi")?
         .subcommand_required(true)
         .subcommand(show)?
         .subcommand(pair)
