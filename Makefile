@@ -1,10 +1,13 @@
 # make: proves the program and builds it. make test: proves and tests everything.
 # make edits, or make edits CRATE=osi_spdu: tries the edits of crates/*/edits, which the prover must refuse, and the
 # functions of scripts/refused_borrows, which must not compile.
-# make lib: builds the library for C, into build/: libosi.a, libosi.so and osi.pc. make install PREFIX=.. puts them,
-# with include/osi.h and osi.hpp, where the compiler finds them. make gateways: builds the program and the library, and
-# builds and runs the programs of examples/gateway, and the tests and clients of bindings/ (scripts/gateways does so with
-# what was built before).
+# make lib: builds the library for C, into build/: libosi-session.a and libosi-session.so, with the number of its soname.
+# make install PREFIX=.. LIBDIR=.. DESTDIR=..: puts what was built, program or library or both, where the system finds it,
+# and says where; make uninstall takes it away (scripts/install). Neither proves or builds anything.
+# make dist: builds the program and the library, and makes an archive and packages of them in dist/ (scripts/dist; over what
+# was built). make check-dist: the same, and installs them into empty roots and runs them there (scripts/check_dist).
+# make gateways: builds the program and the library, and builds and runs the programs of examples/gateway, and the tests and
+# clients of bindings/ (scripts/gateways does so with what was built before).
 # make trials: builds the same and runs what is proved against hostile octets, want of memory and breaks
 # (docs/TRIALS.md); make trials PART=--part runs a part of it. make fuzz SECONDS=60 SEED=1 feeds ends octets at random.
 # make ladders: draws the pictures of docs/ladders from examples/ladders (docs/LADDERS.md); make ladders-check runs the
@@ -12,8 +15,9 @@
 # make pages: checks the links, limits and commands of the pages; it proves and builds nothing (scripts/pages).
 # make ledger: builds the same and the benchmarks, counts the instructions of each operation that a benchmark times, and
 # fails where one takes more than bench/ledger.txt says; some minutes where all is proved.
-.PHONY: all test edits bench ledger lib install gateways trials fuzz ladders ladders-check pages
+.PHONY: all test edits bench ledger lib install uninstall dist check-dist gateways trials fuzz ladders ladders-check pages
 PREFIX ?= /usr/local
+LIBDIR ?= $(PREFIX)/lib
 SECONDS ?= 60
 
 all:
@@ -37,14 +41,22 @@ ledger: all lib
 	bench/ledger
 
 lib:
-	PREFIX=$(PREFIX) scripts/library
+	scripts/library
 
-install: lib
-	install -d $(DESTDIR)$(PREFIX)/include $(DESTDIR)$(PREFIX)/lib/pkgconfig
-	install -m 644 include/osi.h include/osi.hpp $(DESTDIR)$(PREFIX)/include
-	install -m 644 build/libosi.a $(DESTDIR)$(PREFIX)/lib
-	install -m 755 build/libosi.so $(DESTDIR)$(PREFIX)/lib
-	install -m 644 build/osi.pc $(DESTDIR)$(PREFIX)/lib/pkgconfig
+install uninstall: export PREFIX := $(PREFIX)
+install uninstall: export LIBDIR := $(LIBDIR)
+install uninstall: export DESTDIR := $(DESTDIR)
+install:
+	@scripts/install
+
+uninstall:
+	@scripts/install --remove
+
+dist: all lib
+	scripts/dist
+
+check-dist: all lib
+	scripts/check_dist
 
 gateways: all lib
 	scripts/gateways

@@ -6,7 +6,7 @@ set -eu
 cd "$(dirname "$0")/.."
 make all lib >&2
 mkdir -p bench/out
-gcc -O2 -Wall -Wextra -Iinclude -o bench/out/pair bench/pair.c build/libosi.a
+gcc -O2 -Wall -Wextra -Iinclude -o bench/out/pair bench/pair.c build/libosi-session.a
 python3 - bench/out <<'P'
 import re, subprocess, sys, time
 sys.dont_write_bytecode = True

@@ -47,6 +47,10 @@
 #include <stddef.h>
 #include <stdint.h>
 
+/* The version of this header. The soname of the library has its first number, and with it the second
+ * while the first is 0: a program takes none but a library that it was compiled for. */
+#define OSI_VERSION "0.1.0"
+
 #ifdef __cplusplus
 extern "C" {
 #endif

@@ -2,7 +2,7 @@
  * Tests of include/osi.hpp: views of octets, ends that are made, moved and freed, codes, and each kind
  * of indication between two ends in memory. The last line is `N passed, M failed`.
  *
- *     c++ -std=c++17 -Wall -Wextra -Wold-style-cast -Wpedantic -Iinclude bindings/cpp/test_osi.cpp build/libosi.a
+ *     c++ -std=c++17 -Wall -Wextra -Wold-style-cast -Wpedantic -Iinclude bindings/cpp/test_osi.cpp build/libosi-session.a
  */
 #include "osi.hpp"
 

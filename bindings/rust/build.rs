@@ -1,28 +1,28 @@
 //! Finds the library for C: in the folder `OSI_SESSION_DIR` (one that `make lib` made, or one that
 //! `make install` was given as `PREFIX`), or else by `pkg-config`.
 //!
-//! It is linked statically where `libosi.a` is there, unless `OSI_SESSION_SHARED` is set.
+//! It is linked statically where `libosi-session.a` is there, unless `OSI_SESSION_SHARED` is set.
 
 use std::env;
 use std::path::{Path, PathBuf};
 use std::process::{exit, Command};
 
 const HELP: &str = "\
-osi-session does not find the library for C. Set OSI_SESSION_DIR to the folder that has libosi.a (what
+osi-session does not find the library for C. Set OSI_SESSION_DIR to the folder that has libosi-session.a (what
 `make lib` makes is build/, with all of its path), or to the PREFIX of `make install`; or let pkg-config
-find osi.pc, by PKG_CONFIG_PATH=PREFIX/lib/pkgconfig.";
+find osi-session.pc, by PKG_CONFIG_PATH=PREFIX/lib/pkgconfig.";
 
 /// Where a folder has the library: in itself, or in its `lib`.
 fn within(folder: &Path) -> Option<PathBuf> {
     let places = [folder.to_path_buf(), folder.join("lib")];
     places
         .into_iter()
-        .find(|place| ["libosi.a", "libosi.so", "libosi.dylib"].iter().any(|name| place.join(name).is_file()))
+        .find(|place| ["libosi-session.a", "libosi-session.so", "libosi-session.dylib"].iter().any(|name| place.join(name).is_file()))
 }
 
 fn by_pkg_config() -> Option<PathBuf> {
     let program = env::var_os("PKG_CONFIG").unwrap_or_else(|| "pkg-config".into());
-    let words = ["--variable=libdir", "osi"];
+    let words = ["--variable=libdir", "osi-session"];
     let output = Command::new(program).args(words).output().ok()?;
     let folder = String::from_utf8(output.stdout).ok()?;
     within(Path::new(folder.trim()))
@@ -46,8 +46,8 @@ fn main() {
         exit(1);
     };
     let place = place.canonicalize().unwrap_or(place);
-    let shared = env::var_os("OSI_SESSION_SHARED").is_some() || !place.join("libosi.a").is_file();
+    let shared = env::var_os("OSI_SESSION_SHARED").is_some() || !place.join("libosi-session.a").is_file();
     println!("cargo:rustc-link-search=native={}", place.display());
-    println!("cargo:rustc-link-lib={}=osi", if shared { "dylib" } else { "static" });
-    println!("cargo:rerun-if-changed={}", place.join("libosi.a").display());
+    println!("cargo:rustc-link-lib={}=osi-session", if shared { "dylib" } else { "static" });
+    println!("cargo:rerun-if-changed={}", place.join("libosi-session.a").display());
 }

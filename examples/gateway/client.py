@@ -2,7 +2,7 @@
 """The calling side of client.c, over ctypes: it sends messages with a minor point behind each, whose
 confirmation it awaits, gives the tokens and accepts the release.
 
-    client.py --library build/libosi.so [--port 4000] [--classes 0|2|20] [--messages 5] [--log FILE]
+    client.py --library build/libosi-session.so [--port 4000] [--classes 0|2|20] [--messages 5] [--log FILE]
 """
 import argparse
 import ctypes

@@ -1,7 +1,7 @@
 //! The calling side of client.c, in Rust without crates: it sends messages with a minor point behind
 //! each, whose confirmation it awaits, gives the tokens and accepts the release.
 //!
-//!     rustc -O --edition 2021 -L build -l static=osi client.rs
+//!     rustc -O --edition 2021 -L build -l static=osi-session client.rs
 //!     client [--port 4000] [--classes 0|2|20] [--messages 5] [--log FILE]
 
 use std::env;

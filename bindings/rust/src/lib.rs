@@ -74,8 +74,8 @@
 //!
 //! # Linking
 //!
-//! The build script finds `libosi.a` (or `libosi.so`) in the folder that `OSI_SESSION_DIR` names, or by
-//! `pkg-config osi`. `OSI_SESSION_SHARED=1` links the shared library also where both are there.
+//! The build script finds `libosi-session.a` (or `libosi-session.so`) in the folder that `OSI_SESSION_DIR` names, or by
+//! `pkg-config osi-session`. `OSI_SESSION_SHARED=1` links the shared library also where both are there.
 
 mod codes;
 mod end;

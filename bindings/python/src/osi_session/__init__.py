@@ -9,7 +9,7 @@ packets (RFC 1006), as a value that is fed octets and gives octets.
 Octets of ``end.outgoing()`` go to the peer, and ``end.taken(count)`` says how many went; octets that come
 go to ``end.feed_all(piece)``, which gives the indications. ``osi_session.aio`` does this over asyncio.
 
-It calls the shared library libosi.so of the same project over ctypes: from the folder that
+It calls the shared library libosi-session.so of the same project over ctypes: from the folder that
 OSI_SESSION_DIR names (or the file OSI_SESSION_LIBRARY), else where the loader or pkg-config finds it.
 """
 from ._codes import (
@@ -25,7 +25,7 @@ from ._codes import (
     Units,
 )
 from ._end import End
-from ._library import LibraryNotFound
+from ._library import VERSION as __version__, LibraryNotFound
 from ._values import (
     Aborted,
     Asked,
@@ -57,8 +57,6 @@ from ._values import (
     Sizes,
     Terms,
 )
-
-__version__ = "0.1.0"
 
 __all__ = [
     "Aborted",

@@ -8,6 +8,10 @@ import subprocess
 from ctypes import POINTER, c_bool, c_size_t, c_uint8, c_uint16, c_uint32, c_uint64, c_void_p
 from typing import Iterator, Optional
 
+VERSION = "0.1.0"
+# The shared library by the name that it has for programs of this version: that of its soname.
+NAME = "libosi-session.so." + ".".join(VERSION.split(".")[: 2 if VERSION.startswith("0.") else 1])
+
 
 class Inner(ctypes.Structure):
     _fields_ = [("at", c_void_p)]
@@ -135,7 +139,7 @@ FUNCTIONS = {
 
 
 class LibraryNotFound(ImportError):
-    """The shared library libosi.so is nowhere where it is looked for."""
+    """The shared library libosi-session.so is nowhere where it is looked for."""
 
 
 def _named() -> Optional[list[str]]:
@@ -145,16 +149,16 @@ def _named() -> Optional[list[str]]:
         return [path]
     folder = os.environ.get("OSI_SESSION_DIR")
     if folder:
-        return [os.path.join(folder, "libosi.so"), os.path.join(folder, "lib", "libosi.so")]
+        return [os.path.join(folder, NAME), os.path.join(folder, "lib", NAME)]
     return None
 
 
 def _by_pkg_config() -> Iterator[str]:
     program = os.environ.get("PKG_CONFIG", "pkg-config")
     if shutil.which(program):
-        done = subprocess.run([program, "--variable=libdir", "osi"], capture_output=True, text=True, check=False)
+        done = subprocess.run([program, "--variable=libdir", "osi-session"], capture_output=True, text=True, check=False)
         if done.returncode == 0:
-            yield os.path.join(done.stdout.strip(), "libosi.so")
+            yield os.path.join(done.stdout.strip(), NAME)
 
 
 def _places() -> Iterator[str]:
@@ -163,7 +167,7 @@ def _places() -> Iterator[str]:
     if named is not None:
         yield from named
         return
-    yield "libosi.so"
+    yield NAME
     yield from _by_pkg_config()
 
 
@@ -182,7 +186,7 @@ def load() -> ctypes.CDLL:
             function.restype = answers
         return library
     raise LibraryNotFound(
-        "libosi.so is not found. Set OSI_SESSION_DIR to the folder that has it, or to the PREFIX of its"
+        f"{NAME} is not found. Set OSI_SESSION_DIR to the folder that has it, or to the PREFIX of its"
         " `make install`. Tried: " + "; ".join(tried)
     )
 
