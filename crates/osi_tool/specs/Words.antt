@@ -8,7 +8,7 @@ use Rattle.osi_tool.specs.declared.jobs.Job.TheVariants.{Show, Pair}
 abbrev pub top : App
 top = record {
   top = record (new_app (codes "osi")).top { has_version = true; subcommand_required = true };
-  subs = (new_app (codes "osi")).subs
+  subs = (new_app (codes "osi")).subs;
 }
 
 -- the same with its subcommands
