@@ -1,4 +1,5 @@
-# make: proves the program and builds it. make test: proves and tests everything.
+# make: proves the program and builds it; every half minute it says how far it is (scripts/proving).
+# make test: proves and tests everything.
 # make edits, or make edits CRATE=osi_spdu: tries the edits of crates/*/edits, which the prover must refuse, and the
 # functions of scripts/refused_borrows, which must not compile.
 # make lib: builds the library for C, into build/: libosi-session.a and libosi-session.so, with the number of its soname.
@@ -21,8 +22,7 @@ LIBDIR ?= $(PREFIX)/lib
 SECONDS ?= 60
 
 all:
-	cd crates/osi_tool && rt run -- --help > out.log 2>&1 || { cat out.log; exit 1; }
-	rm -f crates/osi_tool/out.log
+	scripts/proving osi_tool rt run -- --help
 	scripts/sources > crates/osi_tool/out/sources
 
 test:
@@ -36,8 +36,7 @@ bench:
 	bench/run
 
 ledger: all lib
-	cd crates/osi_bench && rt lib > out.log 2>&1 || { cat out.log; exit 1; }
-	rm -f crates/osi_bench/out.log
+	scripts/proving osi_bench rt lib
 	bench/ledger
 
 lib:
@@ -62,9 +61,8 @@ gateways: all lib
 	scripts/gateways
 
 trials: all lib
-	cd crates/osi_trial && rt lib > out.log 2>&1 || { cat out.log; exit 1; }
-	cd crates/osi_runs && rt run > out.log 2>&1 || { cat out.log; exit 1; }
-	rm -f crates/osi_trial/out.log crates/osi_runs/out.log
+	scripts/proving osi_trial rt lib
+	scripts/proving osi_runs rt run
 	scripts/trials $(PART)
 
 fuzz: lib
