@@ -292,3 +292,38 @@ fn an_empty_list_is_sent_on_an_open_connection_alone(rt: HostRuntime) -> Result<
     sends_all(&mut opened, &[])?;
     writes(&mut opened, &[])
 }
+
+/// So many octets are unsent, all of them of connection 1, and so many connections are live.
+fn holds_back(carrier: &Carrier, octets: usize, live: usize) -> Result<(), Fail> {
+    if carrier.unsent(Ref(1)) != octets || carrier.unsent(Ref(2)) != 0 {
+        return Err(Fail::from("other octets are unsent"));
+    }
+    if carrier.backlog() != octets || carrier.live() != live {
+        return Err(Fail::from("another backlog, or other connections are live"));
+    }
+    Ok(())
+}
+
+/// Six TSDUs of two octets are sent, with credit for four.
+fn sends_six(carrier: &mut Carrier) -> Result<(), Fail> {
+    for _ in 0..6u8 {
+        carrier.send(Ref(1), b"AB")?;
+    }
+    carrier.taken(carrier.outgoing().len());
+    Ok(())
+}
+
+#[test]
+fn what_credit_holds_back_is_unsent(rt: HostRuntime) -> Result<(), Fail> {
+    let mut caller = opened(&rt)?;
+    sends_six(&mut caller)?;
+    holds_back(&caller, 4, 1)?;
+    // an AK of these four, with credit for one
+    takes(&mut caller, &[3, 0, 0, 9, 4, 0x61, 0, 1, 4])?;
+    holds_back(&caller, 2, 1)?;
+    caller.close(Ref(1), 128)?;
+    holds_back(&caller, 0, 1)?;
+    // a DC
+    takes(&mut caller, &[3, 0, 0, 0x0A, 5, 0xC0, 0, 1, 0, 1])?;
+    holds_back(&caller, 0, 0)
+}
