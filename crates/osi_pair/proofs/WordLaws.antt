@@ -48,10 +48,11 @@ joins_whole (m ∷ ms) = ap (λ r. m ∷ r) (joins_whole ms)
 -- what is one message, put behind all that is whole, is one message put behind the others
 pub put_behind : (b : Option (List ℕ)) (words more : List Word) (m : Message) → AreInOrder b words → left_of b words ≡ None → AreOne more m →
     (joins b (words ++ more) ≡ joins b words ++ m ∷ []) × (left_of b (words ++ more) ≡ None) × AreInOrder b (words ++ more)
-put_behind b words more m h e one =
-    (joins_append b words more ∙ ap (λ (x : Option (List ℕ)). joins b words ++ joins x more) e ∙ ap (λ r. joins b words ++ r) one.joined,
-    left_append b words more ∙ ap (λ (x : Option (List ℕ)). left_of x more) e ∙ one.left,
-    order_append b words more h (subst (λ (x : Option (List ℕ)). AreInOrder x more) (sym e) one.order))
+put_behind b words more m h e one = (
+  joins_append b words more ∙ ap (λ (x : Option (List ℕ)). joins b words ++ joins x more) e ∙ ap (λ r. joins b words ++ r) one.joined,
+  left_append b words more ∙ ap (λ (x : Option (List ℕ)). left_of x more) e ∙ one.left,
+  order_append b words more h (subst (λ (x : Option (List ℕ)). AreInOrder x more) (sym e) one.order),
+)
 
 -- what is left of words that lose a suffix is what is left of their messages
 pub cut_behind : (b : Option (List ℕ)) (kept gone : List Word) → AreInOrder b (kept ++ gone) →
