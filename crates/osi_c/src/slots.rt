@@ -1,3 +1,5 @@
+//! The slot that C keeps of an end.
+
 ghost use Rattle.std.specs.Prelude.{◌≡◌, is_some};
 
 use crate::handles::{Contents, Handle};

@@ -1,3 +1,5 @@
+//! The carrier: its calls, and what it tells.
+
 use crate::ends::EndReason;
 use crate::events::{Event, Ref};
 use crate::faults::{OpenError, SendError};

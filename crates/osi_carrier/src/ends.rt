@@ -1,3 +1,5 @@
+//! Why a carrier ended.
+
 use osi_class::LinkFault;
 use osi_tpdu::TpduFault;
 use osi_tpkt::TpktFault;

@@ -1,3 +1,5 @@
+//! What a carrier tells its user.
+
 use osi_class::LinkFault;
 
 /// The reference that this end gave a connection: 1 to 65,535, and none twice.

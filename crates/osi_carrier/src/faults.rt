@@ -1,3 +1,5 @@
+//! Why a call of a carrier is refused.
+
 use thiserror::Error;
 
 /// Why no connection was asked for: the first that applies in this order.

@@ -1,3 +1,5 @@
+//! How far a connection is.
+
 /// How far the connection of a reference is.
 #[derive(Clone, Copy, PartialEq, Eq, Debug)]
 pub enum Stage {

@@ -1,3 +1,5 @@
+//! All of a carrier but the packet under way.
+
 use crate::ends::{CarrierFault, EndReason};
 use crate::events::Event;
 use crate::rows::Connections;

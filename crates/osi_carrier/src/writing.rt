@@ -68,7 +68,8 @@ pub fn put_disconnected(out: &mut BytesMut, destination: u16, source: u16) -> Re
     put(out, &unit)
 }
 
-// ---- what a CR or CC holds is in the range of its fields
+// ---- what a CR or CC holds is in the range of its fields. These functions do nothing: to name a
+// value gives a proof the facts of its type.
 
 // What a slice holds are octets.
 fn are_octets(octets: &[u8])

@@ -1,3 +1,5 @@
+//! A link of class 2: numbers, credit and acknowledgements.
+
 use crate::faults::LinkFault;
 use crate::flow::{ReceivingFlow, SendingFlow};
 use crate::joining::Incoming;
@@ -144,6 +146,7 @@ impl Link for Class2 {
     }
 
     fn begun_octets(&self) -> usize {
+        // Named for the proof: credit and window are at most 15.
         let _credit = self.sending.credit();
         let _window = self.receiving.window();
         self.incoming.begun_octets()

@@ -1,3 +1,5 @@
+//! A link of class 0: parts without numbers.
+
 use crate::faults::LinkFault;
 use crate::joining::Incoming;
 use crate::links::Link;
@@ -16,7 +18,8 @@ const HEADER: usize = 3;
 pub struct Class0 {
     outgoing: Outgoing,
     incoming: Incoming,
-    /// How many octets a unit carries, 125 to 8189.
+    /// How many octets a unit carries, 125 to 8189. The invariant has the bound that both classes
+    /// keep.
     limit: usize,
 }
 

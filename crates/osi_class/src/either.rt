@@ -1,3 +1,5 @@
+//! A link of either class.
+
 use crate::class_two::Class2;
 use crate::class_zero::Class0;
 use crate::faults::LinkFault;

@@ -1,3 +1,5 @@
+//! Why a link does not take a unit.
+
 use thiserror::Error;
 
 /// Why a unit is not taken. The first fault in this order is answered, and the link is as before.

@@ -1,3 +1,5 @@
+//! The flow control of class 2 (X.224 section 6.16), at the side that sends and at the one that takes.
+
 ghost use Rattle.std.specs.Prelude.{◌≡◌, ◌<◌, ◌≤◌, ◌+◌, ◌==◌, false, nat_lt, option_map, IfSome, IfNone};
 ghost use Rattle.osi_class.specs.Limits.{credit_units};
 ghost use Rattle.osi_class.specs.Flow.{fresh_sender, fresh_receiver, after_sent, acknowledged, is_awaited, after_taken, ack_number, after_acked};
@@ -45,8 +47,8 @@ impl SendingFlow {
         }
     }
 
-    /// How many units may be sent now, 0 to 15. What was sent and not acknowledged and this are at
-    /// most 15 together.
+    /// How many units may be sent now, 0 to 15 (X.224 section 6.16). What was sent and not acknowledged
+    /// and this are at most 15 together.
     pub fn credit(&self) -> u8
         ensures value { result ≡ self.now.credit }
         ensures next { self.now.next < 128 }

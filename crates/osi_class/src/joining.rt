@@ -1,3 +1,5 @@
+//! TSDUs that are joined from the parts that come.
+
 ghost use Rattle.std.specs.Prelude.{◌≡◌, ◌≤◌, ◌+◌, [], true, length, option_map};
 ghost use Rattle.osi_class.specs.Joining.{Pops, joined};
 ghost use Rattle.osi_class.specs.Limits.{longest_tsdu};

@@ -1,3 +1,5 @@
+//! The greatest lengths and counts of links.
+
 ghost use Rattle.std.specs.Prelude.{◌≡◌, ◌≤◌, ◌↔◌, IsSome, IfSome};
 
 /// The longest TSDU that is taken, in octets.

@@ -1,3 +1,5 @@
+//! What both classes of links promise.
+
 use crate::faults::LinkFault;
 use crate::units::{Out, Room};
 use osi_tpdu::Tpdu;

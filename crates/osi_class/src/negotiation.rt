@@ -1,3 +1,5 @@
+//! The answer to a connect request (X.224 section 6.5).
+
 ghost use Rattle.std.specs.Prelude.{◌≡◌, ◌==◌, ◌%◌, ◌/◌, min, option_map};
 ghost use Rattle.std.specs.List.{list_any, list_all};
 ghost use Rattle.osi_tpdu.specs.Limits.{size_code};

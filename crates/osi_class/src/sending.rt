@@ -1,3 +1,5 @@
+//! TSDUs that wait to be sent, and their next part.
+
 ghost use Rattle.std.specs.Prelude.{◌≡◌, ◌≢◌, ◌≤◌, ◌<◌, ◌+◌, ◌^◌, ◌++◌, [], ◌∷◌, true, false, map, IfNone, IfOk, IsOk, OnOk, OnErr, option_map};
 ghost use Rattle.osi_class.specs.Tsdus.{give, octets_of_tsdus};
 

@@ -1,3 +1,5 @@
+//! Sizes of units, and how many parts a TSDU has.
+
 ghost use Rattle.std.specs.Prelude.{◌≡◌, ◌<◌, ◌≤◌, ◌+◌, ◌*◌, ◌^◌, min, length, take, map, true, false, IfSome, IfNone, SomeIff};
 ghost use Rattle.osi_tpdu.specs.Limits.{size_code};
 ghost use Rattle.osi_class.specs.Ends.{unit_size};

@@ -1,3 +1,5 @@
+//! What an end supports, and what is agreed upon.
+
 use osi_tpdu::{SizeCode, Window};
 
 /// The classes of the transport protocol that are known here (X.224 section 5.4).

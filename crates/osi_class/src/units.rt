@@ -1,3 +1,5 @@
+//! Units that a link gives.
+
 ghost use Rattle.std.specs.Prelude.{◌≡◌, ◌<◌, ◌+◌, length};
 ghost use Rattle.osi_tpkt.specs.Octets.{IsOctets};
 ghost use Rattle.osi_tpdu.specs.Value.{data0, data2, acknowledge};
@@ -71,7 +73,8 @@ impl<'a> Out<'a> {
     }
 }
 
-/// What a slice holds are octets.
+/// What a slice holds are octets. The function does nothing: to name a slice gives a proof the facts
+/// of its type.
 fn are_octets(octets: &[u8])
     ensures { IsOctets octets.now }
 {

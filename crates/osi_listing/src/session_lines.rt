@@ -1,3 +1,5 @@
+//! The lines of session units.
+
 ghost use Rattle.std.specs.Prelude.{◌≡◌, ◌++◌, ℕ, List, IfOk, OnOk};
 ghost use Rattle.std.specs.List.{flat_map};
 ghost use Rattle.osi_spdu.specs.Octets.{octets_of};

@@ -1,3 +1,5 @@
+//! Data units that are joined into TSDUs, stream by stream.
+
 ghost use Rattle.std.specs.Prelude.{◌≡◌, ◌==◌, ℕ, List, [], if◌then◌else◌, IfOk, OnOk};
 ghost use Rattle.osi_listing.specs.Streams.{joined, brought};
 ghost use Rattle.osi_listing.specs.Streams.Join.{Begun};

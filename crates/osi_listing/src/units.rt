@@ -1,3 +1,5 @@
+//! The lines of transport units.
+
 ghost use Rattle.std.specs.Prelude.{◌≡◌, ◌++◌, option_copied, option_map, OnOk};
 ghost use Rattle.osi_tpdu.specs.Limits.{size_code, selector_octets};
 ghost use Rattle.osi_tpdu.specs.Value.{request as a_request, confirm as a_confirm};

@@ -1,3 +1,5 @@
+//! Session units by what they mean.
+
 use crate::tokens::Tokens;
 use osi_spdu::{Requirements, ResyncType, Selector, Serial, TokenSetting, TsduMaximumSize};
 

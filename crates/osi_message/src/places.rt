@@ -1,3 +1,5 @@
+//! Which part of one Data a DT has.
+
 ghost use Rattle.std.specs.Prelude.{◌≡◌};
 ghost use Rattle.osi_spdu.specs.declared.codes.Code.TheVariants as code;
 ghost use Rattle.osi_spdu.specs.Params.{known_of};

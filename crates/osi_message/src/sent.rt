@@ -1,3 +1,5 @@
+//! A message as the octets in which it is sent.
+
 ghost use Rattle.std.specs.Prelude.{◌≡◌, ◌<◌, length, IfOk, OnErr};
 ghost use Rattle.osi_spdu.specs.Groups.{units_of};
 ghost use Rattle.osi_spdu.specs.Writing.{tsdu_octets, TsduFits};

@@ -1,3 +1,5 @@
+//! The four tokens, by name.
+
 ghost use Rattle.osi_spdu.specs.Fields.{bits_of};
 ghost use Rattle.std.specs.Prelude.{◌≡◌};
 ghost use Rattle.osi_message.specs.Tokens.{named, token_octet, no_token, is_empty, is_within, is_disjoint, without, united};

@@ -1,3 +1,5 @@
+//! Two ends, and what an event does to them.
+
 use crate::asking::{call, connect};
 use crate::breaking::tell_break;
 use crate::carrying::carry;

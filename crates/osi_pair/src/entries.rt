@@ -1,3 +1,5 @@
+//! What the journal keeps.
+
 use crate::owned::{OwnedConnect, OwnedRequest};
 use crate::sides::Side;
 use osi_carrier::{EndReason, Ref};

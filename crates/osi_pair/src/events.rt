@@ -1,3 +1,5 @@
+//! What happens to two ends.
+
 use crate::sides::Side;
 use osi_carrier::Ref;
 use osi_session::Request;

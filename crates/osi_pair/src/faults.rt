@@ -1,3 +1,5 @@
+//! Why events are not applied.
+
 use thiserror::Error;
 
 /// Why an event was not applied. Nothing has changed.

@@ -15,7 +15,8 @@ use osi_session::Request;
 use osi_stack::Connect;
 use osi_tpdu::Tsap;
 
-/// What a slice of octets holds are octets.
+/// What a slice of octets holds are octets. The function does nothing: to name a slice gives a proof
+/// the facts of its type.
 fn are_octets(octets: &[u8])
     ensures { IsOctets octets.now }
 {

@@ -1,3 +1,5 @@
+//! Two ends of one byte connection, and what is promised of them.
+
 use crate::ends::Ends;
 use crate::entries::Entry;
 use crate::events::{Applied, Event};

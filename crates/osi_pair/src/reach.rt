@@ -1,3 +1,5 @@
+//! How far octets reach once the byte connection is broken.
+
 ghost use Rattle.std.specs.Prelude.{◌≡◌};
 ghost use Rattle.osi_pair.specs.Reaching.{within, reach_after};
 

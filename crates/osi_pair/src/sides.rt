@@ -1,3 +1,5 @@
+//! The two sides of a byte connection.
+
 ghost use Rattle.std.specs.Prelude.{◌≡◌};
 ghost use Rattle.osi_pair.specs.Sides.{other};
 

@@ -1,3 +1,5 @@
+//! The lines of a transcript for what is answered.
+
 ghost use Rattle.std.specs.Prelude.{◌≡◌, ◌+◌, ◌≤◌, ◌++◌, codes, length, vec_len, vec_capacity, OnOk, OnErr};
 ghost use Rattle.std.specs.Fmt.{decimal};
 ghost use Rattle.osi_script.specs.Answers.{refusal_name, line_fault_name, call_text, answer_line};

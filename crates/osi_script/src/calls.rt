@@ -1,3 +1,5 @@
+//! The words of each call, read.
+
 ghost use Rattle.std.specs.Prelude.{◌≡◌, option_map, option_copied};
 ghost use Rattle.osi_spdu.specs.Fields.{bits_of};
 ghost use Rattle.osi_session.specs.Calls.{called_by};

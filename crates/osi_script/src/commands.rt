@@ -1,3 +1,5 @@
+//! What a line of a script asks for.
+
 ghost use Rattle.std.specs.Prelude.{◌≡◌};
 ghost use Rattle.osi_script.specs.Commands.{has_class_0, has_class_2};
 

@@ -1,3 +1,5 @@
+//! A line of a script, and the octets of its user data.
+
 ghost use Rattle.std.specs.Prelude.{◌≡◌, ◌∷◌, codes, true, drop, option_map, option_copied, IfOk};
 ghost use Rattle.osi_script.specs.Words.{words_of, data_of};
 ghost use Rattle.osi_script.specs.Commands.{command_by, command_in, command_of, fourth, behind_accept, data_word, user_data_of};

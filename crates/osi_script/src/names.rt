@@ -1,3 +1,5 @@
+//! The names of errors, faults and phases.
+
 ghost use Rattle.std.specs.Prelude.{◌≡◌, ◌≤◌, length};
 ghost use Rattle.osi_script.specs.Names.{open_error_name, call_error_name, unit_fault_name, phase_name};
 

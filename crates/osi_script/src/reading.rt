@@ -1,3 +1,5 @@
+//! The lines of a script that are no calls, read.
+
 ghost use Rattle.std.specs.Prelude.{◌≡◌, option_map, option_copied};
 ghost use Rattle.osi_script.specs.Commands.{command_by, ends_of, connect_of, carry_of, break_of, told_of, user_call, command_in};
 ghost use Rattle.osi_script.specs.Splitting.{words_in};

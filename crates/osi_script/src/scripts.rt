@@ -1,3 +1,5 @@
+//! A text, cut into lines.
+
 ghost use Rattle.std.specs.Prelude.{◌≡◌, ◌∷◌, []};
 ghost use Rattle.std.specs.Option.{option_map_or};
 ghost use Rattle.osi_script.specs.Scripts.{lines_of, is_skipped};

@@ -1,3 +1,5 @@
+//! The lines of a transcript for what users are shown.
+
 ghost use Rattle.std.specs.Prelude.{◌≡◌, ◌+◌, ◌*◌, ◌≤◌, ◌++◌, codes, length, vec_len, vec_capacity, IfSome, OnOk, OnErr, option_copied};
 ghost use Rattle.std.specs.Fmt.{decimal};
 ghost use Rattle.osi_spdu.specs.Fields.{unit_bits};

@@ -1,3 +1,5 @@
+//! The two ends of a script.
+
 ghost use Rattle.std.specs.Prelude.{◌≡◌};
 ghost use Rattle.osi_script.specs.Names.{side_name};
 

@@ -1,3 +1,5 @@
+//! The lines of a transcript for where connections stand.
+
 ghost use Rattle.std.specs.Prelude.{◌≡◌, ◌+◌, ◌≤◌, ◌++◌, vec_len, vec_capacity, OnOk, OnErr};
 ghost use Rattle.osi_script.specs.Standing.{standing_line, standing_numbers, standing_text};
 

@@ -1,3 +1,5 @@
+//! The calls of a user, by the words of a script.
+
 ghost use Rattle.std.specs.Prelude.{◌≡◌, ◌≤◌, length};
 ghost use Rattle.osi_script.specs.Names.{verb_name, all_verbs};
 

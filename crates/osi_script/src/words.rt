@@ -1,3 +1,5 @@
+//! Words of a line: numbers, sets and sides.
+
 ghost use Rattle.std.specs.Prelude.{◌≡◌, ◌≤◌, ◌+◌, ◌*◌, ◌∷◌, ℕ, List, None, option_map, IfSome, IfNone};
 ghost use Rattle.osi_spdu.specs.Fields.{bits_of, unit_bits};
 ghost use Rattle.osi_spdu.specs.Sizes.{named_by, size_of as octets_of_size};

@@ -1,3 +1,5 @@
+//! Why a call is refused, and why a unit is bad.
+
 use osi_spdu::SpduFault;
 use thiserror::Error;
 

@@ -1,3 +1,5 @@
+//! What the user of a session is shown.
+
 use crate::faults::UnitFault;
 use crate::sides::Sides;
 use osi_message::Octets;

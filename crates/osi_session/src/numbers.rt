@@ -1,3 +1,5 @@
+//! The numbers of synchronization points (X.225 section 5.9).
+
 ghost use Rattle.std.specs.Prelude.{◌≡◌, ◌<◌, ◌≤◌, ◌+◌, ◌^◌};
 ghost use Rattle.osi_session.specs.Numbers.{from_base, point_sent, point_taken, minor_confirmed, major_confirmed, restarted_at, lower};
 

@@ -1,3 +1,5 @@
+//! What a caller asks for.
+
 ghost use Rattle.std.specs.Prelude.{◌≡◌};
 ghost use Rattle.osi_message.specs.Meanings.{meant_by};
 ghost use Rattle.osi_message.specs.Written.{user_data_of};

@@ -1,3 +1,5 @@
+//! Calls that are planned before they are done.
+
 ghost use Rattle.std.specs.Prelude.{◌≡◌};
 
 use crate::state::State;

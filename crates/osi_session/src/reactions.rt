@@ -1,3 +1,5 @@
+//! What a unit does, and what is sent in answer.
+
 ghost use Rattle.std.specs.Prelude.{◌≡◌, [], Some};
 ghost use Rattle.osi_session.specs.Respond.{nothing, shows, bad, lost, replies_abort};
 ghost use Rattle.osi_session.specs.Shown.{shown_by};

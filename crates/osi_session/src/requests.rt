@@ -1,3 +1,5 @@
+//! The calls of the user of a session.
+
 use crate::sides::Sides;
 use osi_spdu::{Requirements, Serial, TokenSet, TokenSetting, TsduSizes};
 

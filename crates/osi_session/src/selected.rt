@@ -1,3 +1,5 @@
+//! Functional units, and which go together.
+
 ghost use Rattle.osi_spdu.specs.Fields.{unit_bits};
 ghost use Rattle.std.specs.Prelude.{◌≡◌, option_map};
 ghost use Rattle.osi_session.specs.Allowed.{base_for, serial_for};

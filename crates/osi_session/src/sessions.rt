@@ -1,3 +1,5 @@
+//! One side of one session connection: its calls, and what it takes.
+
 ghost use Rattle.osi_spdu.specs.Fields.{bits_of};
 ghost use Rattle.std.specs.Prelude.{◌≡◌, ◌<◌, false, length, option_map, is_none, Some, IfOk, OnErr};
 ghost use Rattle.osi_session.specs.Openings.{asked_for};

@@ -1,3 +1,5 @@
+//! What a session knows.
+
 ghost use Rattle.std.specs.Prelude.{◌≡◌};
 ghost use Rattle.osi_session.specs.Sessions.{asking};
 

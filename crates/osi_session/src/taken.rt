@@ -1,3 +1,5 @@
+//! What a TSDU that was taken does.
+
 ghost use Rattle.std.specs.Prelude.{◌≡◌, [], None, false};
 
 use crate::indications::Indication;

@@ -1,3 +1,5 @@
+//! The codes of parameters and groups.
+
 ghost use Rattle.std.specs.Prelude.{◌≡◌};
 ghost use Rattle.osi_spdu.specs.Codes.{number_of, is_same, is_group, slot_of, every_code};
 ghost use Rattle.osi_spdu.specs.Reading.{code_among};

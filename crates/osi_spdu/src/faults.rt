@@ -1,3 +1,5 @@
+//! Why a TSDU holds no session units.
+
 use thiserror::Error;
 
 /// Why a TSDU holds no session units (X.225 section 8). It is the first fault from left to right.

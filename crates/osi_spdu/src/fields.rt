@@ -1,3 +1,5 @@
+//! Values of parameters that have a meaning of their own.
+
 ghost use Rattle.std.specs.Prelude.{◌≡◌, ◌≤◌, ◌/◌, ◌%◌, [], ◌∷◌, length, option_map};
 ghost use Rattle.osi_spdu.specs.Values.{canonical};
 ghost use Rattle.osi_spdu.specs.Fields.{sync_octet, resync_octet, enclosure_octet, octet_list, size_octets, reason_octets};

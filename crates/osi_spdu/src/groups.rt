@@ -1,3 +1,5 @@
+//! The units of one TSDU.
+
 ghost use Rattle.std.specs.Prelude.{◌≡◌, true, option_map, Some, None, [], ◌∷◌};
 ghost use Rattle.osi_spdu.specs.Kinds.{category_of};
 ghost use Rattle.osi_spdu.specs.declared.kinds.Category.TheVariants.{Two};

@@ -1,3 +1,5 @@
+//! Which units there are, and which codes each knows.
+
 ghost use Rattle.std.specs.Prelude.{◌≡◌};
 ghost use Rattle.osi_spdu.specs.Kinds.{si_of, category_of, codes_of, members_of, references_of, may_stand, kind_named};
 ghost use Rattle.osi_spdu.specs.Values.{may_have_parts, is_three, may_enclose};

@@ -53,6 +53,7 @@ pub fn few_octets_fit()
 pub fn has_written_form(group: &Group)
     ensures { IsFormedTsdu (units_of group.now) }
 {
+    // Named for the proof: what every group holds.
     let _group = *group;
 }
 

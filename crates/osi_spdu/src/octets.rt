@@ -1,3 +1,5 @@
+//! At most six octets, as a value.
+
 ghost use Rattle.std.specs.Prelude.{◌≡◌, ◌≤◌, ◌<◌, ◌==◌, ◌+◌, ◌/◌, ◌%◌, [], ◌∷◌, ◌++◌, drop, length};
 
 /// At most six octets, at the end of an array.

@@ -1,3 +1,5 @@
+//! The parameters of a session unit.
+
 ghost use Rattle.std.specs.Prelude.{◌≡◌, ◌==◌, true, None, Some, is_some, option_map, length, if◌then◌else◌};
 ghost use Rattle.osi_spdu.specs.Codes.{slot_of};
 ghost use Rattle.osi_spdu.specs.Values.{canonical, digits_of};

@@ -150,7 +150,8 @@ impl<'a> Params<'a> {
         self.reflect
     }
 
-    /// Why a connection is refused (50).
+    /// Why a connection is refused (50): at least one octet, of which the first is the reason code,
+    /// and user data may follow (X.225 section 8.3.5).
     pub fn reason(&self) -> Option<Reason<'a>>
         ensures { option_map reason_octets result ≡ known_of self.now Code.Reason }
     {

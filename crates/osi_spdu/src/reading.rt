@@ -1,3 +1,5 @@
+//! The units of a TSDU, read from left to right.
+
 ghost use Rattle.std.specs.Prelude.{◌≡◌, ◌<◌, ◌+◌, ◌^◌, true, length, Some, IfOk, IsOkAnd};
 ghost use Rattle.osi_spdu.specs.Kinds.{category_of, kind_named, may_stand};
 ghost use Rattle.osi_spdu.specs.Known.{Units};

@@ -1,3 +1,5 @@
+//! Sets of functional units.
+
 ghost use Rattle.std.specs.Prelude.{⊤, ◌≡◌, ◌/◌, ◌%◌, ◌==◌, ◌-◌, ◌^◌, [], ◌∷◌, codes, option_map};
 ghost use Rattle.osi_spdu.specs.Values.{canonical};
 ghost use Rattle.osi_spdu.specs.Fields.{requirement_octets};

@@ -1,3 +1,5 @@
+//! Addresses of session users.
+
 ghost use Rattle.std.specs.Prelude.{◌≡◌, ◌≤◌, ◌<◌, length, MatchOption, option_map};
 ghost use Rattle.osi_spdu.specs.Values.{canonical};
 ghost use Rattle.osi_spdu.specs.Octets.{octets_of};

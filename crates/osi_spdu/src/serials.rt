@@ -1,3 +1,5 @@
+//! Serial numbers of synchronization points.
+
 ghost use Rattle.std.specs.Prelude.{◌≡◌, ◌≤◌, ◌<◌, MatchOption, option_map};
 ghost use Rattle.osi_spdu.specs.Values.{digits_of, numeral};
 ghost use Rattle.osi_spdu.specs.Octets.{short_octets, octets_of};

@@ -1,3 +1,5 @@
+//! Which side is to hold each token at first.
+
 ghost use Rattle.std.specs.Prelude.{◌≡◌, true, false, ◌+◌, ◌*◌, ◌<◌, [], ◌∷◌, option_map, MatchOption};
 ghost use Rattle.osi_spdu.specs.Values.{canonical, is_setting};
 ghost use Rattle.osi_spdu.specs.Fields.{wish_number, wish_of, setting_octets};

@@ -1,3 +1,5 @@
+//! Sets of tokens.
+
 ghost use Rattle.std.specs.Prelude.{⊤, ◌≡◌, ◌/◌, ◌%◌, ◌==◌, ◌-◌, ◌^◌, [], ◌∷◌, codes, true, option_map};
 ghost use Rattle.osi_spdu.specs.Values.{token_bits, canonical};
 ghost use Rattle.osi_spdu.specs.Fields.{bits_of, token_octets, tokens_alone};

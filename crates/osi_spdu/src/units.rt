@@ -1,3 +1,5 @@
+//! One session unit.
+
 ghost use Rattle.std.specs.Prelude.{◌≡◌, ◌≤◌, true, length, MatchOption, option_map, []};
 ghost use Rattle.osi_spdu.specs.Kinds.{codes_of, members_of};
 ghost use Rattle.osi_spdu.specs.Octets.{octets_of};

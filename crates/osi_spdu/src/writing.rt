@@ -459,7 +459,8 @@ fn put_group(out: &mut BytesMut, group: &Group, lengths: &Lengths)
     put_behind(out, group.others(), &lengths.behind);
 }
 
-/// What a slice of octets holds are octets.
+/// What a slice of octets holds are octets. The function does nothing: to name a slice gives a proof
+/// the facts of its type.
 fn are_octets(octets: &[u8])
     ensures { IsOctets octets.now }
 {

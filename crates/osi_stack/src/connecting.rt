@@ -1,3 +1,5 @@
+//! What a connection is asked for with, and why none is.
+
 use osi_carrier::OpenError;
 use osi_spdu::{Requirements, Serial, TokenSetting, TsduSizes};
 use osi_tpdu::Tsap;

@@ -1,3 +1,5 @@
+//! One end of a byte connection: what a gateway holds.
+
 use crate::connecting::{Connect, ConnectError};
 use crate::hub::Hub;
 use crate::laws::{

@@ -1,3 +1,5 @@
+//! What happens to a session apart from its calls.
+
 /// What happens to a session, apart from the calls of its user.
 #[derive(Clone, Copy)]
 pub enum Told<'a> {

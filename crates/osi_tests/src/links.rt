@@ -1,3 +1,5 @@
+//! Links of both classes, call by call.
+
 ghost use Rattle.std.specs.Prelude.{◌<◌};
 
 use osi_class::*;

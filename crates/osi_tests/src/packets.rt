@@ -1,3 +1,5 @@
+//! Cutting and writing packets.
+
 use bytes::BytesMut;
 use osi_tpkt::*;
 use std::test::Fail;

@@ -1,3 +1,5 @@
+//! Transport units, read and written.
+
 ghost use Rattle.std.specs.Prelude.{IfOk};
 ghost use Rattle.osi_tpdu.specs.View.{value};
 ghost use Rattle.osi_tpdu.specs.Writing.{HasRoom, Fits};

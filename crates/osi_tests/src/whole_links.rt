@@ -1,3 +1,5 @@
+//! Two links, and the longest TSDUs between them.
+
 ghost use Rattle.std.specs.Prelude.{◌<◌};
 
 use osi_class::{AnyLink, Class0, Class2, Credit, LONGEST_TSDU, Link, LinkFault, Out};

@@ -1,3 +1,5 @@
+//! The text of a capture, read.
+
 ghost use Rattle.std.specs.Prelude.{◌≡◌, ◌∷◌, ◌++◌, ℕ, List, IfOk, Err};
 ghost use Rattle.osi_tool.specs.Capture.{digits_of, digits_left, is_blank, Captures, IsNoCapture};
 

@@ -1,3 +1,5 @@
+//! Why the program fails.
+
 use thiserror::Error;
 
 /// Why the program gave no listing. Its name is what the program prints on standard error.

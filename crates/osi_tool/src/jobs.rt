@@ -1,3 +1,5 @@
+//! What the program can do.
+
 /// What the program is to do.
 #[derive(Clone, Copy, PartialEq, Eq, Debug)]
 pub enum Job {

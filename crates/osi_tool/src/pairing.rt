@@ -1,3 +1,5 @@
+//! `osi pair`: reading, running and writing.
+
 ghost use Rattle.std.specs.Prelude.{◌≡◌, ◌<◌, ◌≤◌, ◌⊎◌, ◌↔◌, length, Err, IfOk, IfSome};
 ghost use Rattle.osi_tool.specs.Pairing.{Tells, Pairs};
 ghost use Rattle.osi_tool.specs.Show.{TakesAtMost};

@@ -1,3 +1,5 @@
+//! `osi show`: reading, listing and writing.
+
 ghost use Rattle.std.specs.Prelude.{◌≡◌, ◌<◌, ◌≤◌, ◌⊎◌, ◌++◌, ℕ, List, length, Err, Ok, IfOk, IfErr, IfSome, OnOk, MatchBool};
 ghost use Rattle.std.specs.Io.KnownBytes.{Appends, Consumes, Keeps};
 ghost use Rattle.osi_tool.specs.Capture.{Captures, IsNoCapture};

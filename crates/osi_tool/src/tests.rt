@@ -1,3 +1,5 @@
+//! The program, with readers and writers that fail.
+
 use crate::faults::{ProgramFault, ToolFault};
 use crate::jobs::Job;
 use crate::pairing::pair;

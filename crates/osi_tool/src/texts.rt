@@ -1,3 +1,5 @@
+//! The listing of a text.
+
 ghost use Rattle.std.specs.Prelude.{◌≡◌, ◌<◌, ◌≤◌, ◌⊎◌, ◌↔◌, length, Err, IfOk};
 ghost use Rattle.osi_tool.specs.Capture.{IsNoCapture};
 ghost use Rattle.osi_tool.specs.Show.{Lists};

@@ -1,3 +1,5 @@
+//! The words of the command line, and help.
+
 ghost use Rattle.std.specs.Prelude.{◌≡◌, ◌≢◌, true, Some, map, codes, option_map, IfOk, IfErr, IfSome, IfNone};
 ghost use Rattle.clap.specs.Words.{app_of, kind_of, takes};
 ghost use Rattle.osi_tool.specs.Words.{osi, name_of, named_by, IsJob};

@@ -1,3 +1,5 @@
+//! AK, data acknowledgement (X.224 section 13.9).
+
 ghost use Rattle.std.specs.Prelude.{◌≡◌, ◌<◌};
 
 /// AK of class 2 in normal format, which acknowledges units and gives credit (X.224 section 13.9).
@@ -14,7 +16,7 @@ pub struct DataAcknowledgement {
 }
 
 impl DataAcknowledgement {
-    /// CDT: how many units may be sent from that number on, 0 to 15.
+    /// CDT: how many units may be sent from that number on, 0 to 15 (X.224 section 13.9).
     pub fn credit(&self) -> u8
         ensures { result ≡ self.now.credit }
     {

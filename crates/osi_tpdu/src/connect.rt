@@ -1,3 +1,5 @@
+//! What a CR and a CC have in common.
+
 ghost use Rattle.std.specs.Prelude.{◌≡◌, ◌<◌, None};
 
 use crate::limits::SizeCode;
@@ -94,7 +96,7 @@ pub struct ConnectFields<'a> {
 }
 
 impl<'a> ConnectFields<'a> {
-    /// CDT: the first credit, 0 to 15.
+    /// CDT: the first credit, 0 to 15 (X.224 sections 13.3 and 13.4).
     pub fn credit(&self) -> u8
         ensures { result ≡ self.now.credit }
     {

@@ -1,3 +1,5 @@
+//! CC, connection confirm (X.224 section 13.4).
+
 ghost use Rattle.std.specs.Prelude.{◌≡◌};
 
 use crate::connect::ConnectFields;

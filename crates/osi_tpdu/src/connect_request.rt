@@ -1,3 +1,5 @@
+//! CR, connection request (X.224 section 13.3).
+
 ghost use Rattle.std.specs.Prelude.{◌≡◌};
 
 use crate::connect::ConnectFields;

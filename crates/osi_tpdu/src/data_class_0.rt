@@ -1,3 +1,5 @@
+//! DT of class 0 (X.224 section 13.7).
+
 ghost use Rattle.std.specs.Prelude.{◌≡◌};
 
 /// DT of class 0, a part of a TSDU (X.224 section 13.7). Its number is written 0 and not looked at.

@@ -1,3 +1,5 @@
+//! DT of class 2 (X.224 section 13.7).
+
 ghost use Rattle.std.specs.Prelude.{◌≡◌, ◌<◌};
 
 /// DT of class 2 in normal format, a numbered part of a TSDU (X.224 section 13.7).

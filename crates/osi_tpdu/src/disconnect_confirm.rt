@@ -1,3 +1,5 @@
+//! DC, disconnect confirm (X.224 section 13.6).
+
 ghost use Rattle.std.specs.Prelude.{◌≡◌};
 
 /// DC, the disconnect confirm (X.224 section 13.6).

@@ -1,3 +1,5 @@
+//! DR, disconnect request (X.224 section 13.5).
+
 ghost use Rattle.std.specs.Prelude.{◌≡◌};
 
 /// DR, the disconnect request (X.224 section 13.5). Its parameters are skipped.
@@ -28,7 +30,8 @@ impl<'a> DisconnectRequest<'a> {
         self.source
     }
 
-    /// Why the connection ends or is refused.
+    /// Why the connection ends or is refused: any octet, of which X.224 section 13.5.3 names some, as 128
+    /// for a normal disconnect.
     pub fn reason(&self) -> u8
         ensures { result ≡ self.now.reason }
     {

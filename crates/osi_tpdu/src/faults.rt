@@ -1,3 +1,5 @@
+//! Why octets are no transport units.
+
 use thiserror::Error;
 
 /// Why the octets of a packet are no transport units (X.224 sections 13.2 and 13.3).

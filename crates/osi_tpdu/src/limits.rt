@@ -1,3 +1,5 @@
+//! Sizes of units, and windows.
+
 ghost use Rattle.std.specs.Prelude.{◌≡◌, ◌≤◌, ◌^◌, ◌↔◌, IsSome, IfSome};
 
 /// The largest length of a unit, header included, as the code of the parameter TPDU size: the

@@ -1,3 +1,5 @@
+//! Halves, bits and references in octets.
+
 ghost use Rattle.std.specs.Prelude.{◌≡◌, ◌+◌, ◌<◌, ◌≤◌, ◌/◌, ◌%◌, ◌∷◌, [], length};
 ghost use Rattle.osi_tpdu.specs.Reading.{reference_at};
 ghost use Rattle.osi_tpdu.specs.Spelling.{below_bit};

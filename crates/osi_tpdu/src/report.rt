@@ -1,3 +1,5 @@
+//! ER, error report (X.224 section 13.12).
+
 ghost use Rattle.std.specs.Prelude.{◌≡◌};
 
 /// ER, the report of a protocol error (X.224 section 13.12). Its parameters are skipped.
@@ -18,7 +20,7 @@ impl ErrorReport {
         self.destination
     }
 
-    /// Which error it was.
+    /// Which error it was: any octet, of which X.224 section 13.12 names 0 to 3.
     pub fn cause(&self) -> u8
         ensures { result ≡ self.now.cause }
     {

@@ -1,3 +1,5 @@
+//! Transport selectors.
+
 ghost use Rattle.std.specs.Prelude.{◌≡◌, ◌≤◌, ◌↔◌, ℕ, length, slice_index, IsSome, IfSome};
 
 /// A transport selector of at most 32 octets, where it was read: the name of a transport service

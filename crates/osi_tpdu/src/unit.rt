@@ -1,3 +1,5 @@
+//! A transport unit of any kind.
+
 ghost use Rattle.std.specs.Prelude.{◌≡◌};
 ghost use Rattle.osi_tpdu.specs.Value.{destination_of, may_be_followed};
 ghost use Rattle.osi_tpdu.specs.View.{value};

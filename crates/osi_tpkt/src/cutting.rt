@@ -1,3 +1,5 @@
+//! A stream of octets, cut into packets.
+
 ghost use Rattle.std.specs.Prelude.{◌≡◌, ◌≢◌, ◌+◌, ◌<◌, ◌≤◌, ◌++◌, ℕ, List, [], length, None, Some, Ok, Err, true, IsOk, IfOk, IfSome, IfNone};
 ghost use Rattle.osi_tpkt.specs.Packet.{IsPacket, IsOnePacket, IsPartial, IsFaultOf};
 
@@ -71,7 +73,7 @@ impl Cutter {
         }
     }
 
-    /// TakesPiece octets of the next piece of the stream, up to the end of the first packet that they
+    /// Takes octets of the next piece of the stream, up to the end of the first packet that they
     /// make whole, or all of them. Octets of the piece that were not used are to be fed again after
     /// [`Cutter::advance`].
     ///

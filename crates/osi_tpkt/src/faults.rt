@@ -1,3 +1,5 @@
+//! Why octets are no packet.
+
 use thiserror::Error;
 
 /// Why octets are no packet (RFC 1006 section 6), or were not taken.

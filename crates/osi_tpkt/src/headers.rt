@@ -1,3 +1,5 @@
+//! Headers of packets, in one piece or in several.
+
 ghost use Rattle.std.specs.Prelude.{◌≡◌, ◌≢◌, ◌<◌, ◌≤◌, ◌+◌, ◌*◌, ◌++◌, ◌↔◌, length, take, Err, IfOk, OnOk, false, MatchBool, MatchOption, slice_index};
 ghost use Rattle.osi_tpkt.specs.Packet.{IsBadVersion, IsBadLength};
 ghost use Rattle.osi_tpkt.specs.Header.{IsFront, IsFull, IsUnfinished};

@@ -1,3 +1,5 @@
+//! One packet, read and written.
+
 ghost use Rattle.std.specs.Prelude.{◌≡◌, ◌≤◌, ◌+◌, ◌/◌, ◌%◌, ◌<◌, [], ◌∷◌, ◌++◌, ◌↔◌, ◌⊎◌, length, IsSome, IfSome, Err, OnOk, OnErr};
 ghost use Rattle.bytes.specs.Filled.{UsesSpare};
 ghost use Rattle.osi_tpkt.specs.Octets.{IsOctets};
@@ -146,7 +148,8 @@ fn put_header(out: &mut BytesMut, octets: usize)
     out.extend_reserved(&(octets as u16).to_be_bytes());
 }
 
-// What a slice holds are octets.
+// What a slice holds are octets. The function does nothing: to name a slice gives a proof the facts
+// of its type.
 fn are_octets(octets: &[u8])
     ensures { IsOctets octets.now }
 {

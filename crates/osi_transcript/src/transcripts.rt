@@ -1,3 +1,5 @@
+//! The transcript of a script of two ends.
+
 ghost use Rattle.std.specs.Prelude.{◌≡◌, ◌<◌, ◌^◌, length, IfOk};
 ghost use Rattle.osi_script.specs.Commands.{command_of};
 ghost use Rattle.osi_script.specs.Scripts.{lines_of};

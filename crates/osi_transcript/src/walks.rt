@@ -1,3 +1,5 @@
+//! A script, read line by line.
+
 ghost use Rattle.std.specs.Prelude.{◌≡◌, ◌+◌, ◌<◌, ◌^◌, ◌∷◌, [], length, option_map, IfSome, IfNone};
 ghost use Rattle.osi_script.specs.Scripts.{lines_of};
 ghost use Rattle.osi_transcript.specs.Numbered.{numbered, lines_left};

@@ -29,6 +29,7 @@ impl Carrier {
         ensures { Fetches self.old octets.now result self.new }
     {
         a_prefix_of_a_packet();
+        // Named for the proof: what every cutter holds.
         let _cutter = &self.cutter;
         if octets.is_empty() {
             return Fetched::Part;
@@ -70,6 +71,7 @@ impl Carrier {
         ensures goes { Goes self.old piece.now result self.new }
         ensures used { result ≤ length piece.now }
     {
+        // Named for the proof: what every cutter holds.
         let _cutter = &self.cutter;
         let mut rest = piece;
         'packets: loop {

@@ -1,3 +1,5 @@
+//! All units of a packet, read.
+
 ghost use Rattle.std.specs.Prelude.{◌≡◌, List, Err, IfOk, IfErr, IsOk, IsOkAnd, OnErr, MatchResult};
 ghost use Rattle.osi_tpdu.specs.Packet.{AreUnits, IsFirstFault, units_of};
 ghost use Rattle.osi_tpdu.specs.Reading.{ReadsAs};
