@@ -1,8 +1,10 @@
 pub mod FittingLaws
 pub mod OctetLaws
 pub mod PartLaws
+pub mod PartingLaws
 pub mod PlainLaws
 pub mod ReadingLaws
 pub mod SendingLaws
+pub mod SentLaws
 pub mod TokenLaws
 pub mod WritingLaws

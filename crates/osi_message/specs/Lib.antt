@@ -7,4 +7,6 @@ pub mod Sendable
 pub mod Tokens
 pub mod Written
 pub mod Words
+pub mod Parting
+pub mod Tsdus
 pub mod Laws

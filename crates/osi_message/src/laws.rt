@@ -1,15 +1,18 @@
 //! Laws of the definitions that the contracts cite. Each function does nothing: its clauses are the
 //! laws.
 
-ghost use Rattle.std.specs.Prelude.{◌≡◌, ℕ, List, [], ◌∷◌, Ok};
+ghost use Rattle.std.specs.Prelude.{◌≡◌, ◌<◌, ◌≤◌, ℕ, true, false, List, [], ◌∷◌, length, map, Ok};
+ghost use Rattle.std.specs.List.{AllByRecursion};
 ghost use Rattle.osi_tpkt.specs.Octets.{IsOctets};
 ghost use Rattle.osi_spdu.specs.Known.{Units};
 ghost use Rattle.osi_spdu.specs.Reading.{tsdu_at};
+ghost use Rattle.osi_spdu.specs.Values.{is_size};
 ghost use Rattle.osi_message.specs.declared.messages.Message.{Message};
 ghost use Rattle.osi_message.specs.InOctets.{IsInOctets};
 ghost use Rattle.osi_message.specs.declared.places.Place.{Place};
-ghost use Rattle.osi_message.specs.Meanings.{Meaning, GT, meant_by};
+ghost use Rattle.osi_message.specs.Meanings.{Meaning, DT, GT, meant_by};
 ghost use Rattle.osi_message.specs.Numbered.{IsNumbered, AreNumberedWords};
+ghost use Rattle.osi_message.specs.Parting.{is_parted, words_sent, tsdus_of, in_one, AreParts, joined, behind_no_token, AreFull};
 ghost use Rattle.osi_message.specs.Reading.{said_by_units, said_at};
 ghost use Rattle.osi_message.specs.Sendable.{IsSendable, words_of};
 ghost use Rattle.osi_message.specs.Tokens.{no_token};
@@ -44,6 +47,26 @@ pub fn what_is_sent_is_octets()
 {
     laws::serial_digits();
     laws::few_octets_fit();
+}
+
+/// How a message leaves, where a TSDU has at most so many octets, 0 for no limit (X.225 section 6.3.5,
+/// segmenting): in one TSDU, but for data that is longer. This leaves in parts, first to last, which are
+/// read as words, each behind a GT with no token, and which joined are the data. All but the last TSDU have
+/// as many octets as the limit, and none has more than 1,048,576.
+pub fn what_leaves_in_parts()
+    ensures whole { (limit : ℕ) (m : Meaning) → is_parted limit m ≡ false → tsdus_of limit m ≡ in_one m }
+    ensures parts { (limit : ℕ) (octets : List ℕ) → is_size limit ≡ true → is_parted limit (DT octets) ≡ true → AreParts (words_sent limit (DT octets)) }
+    ensures joined { (limit : ℕ) (octets : List ℕ) → joined (words_sent limit (DT octets)) ≡ octets }
+    ensures read { (limit : ℕ) (octets : List ℕ) →
+        map said_at (tsdus_of limit (DT octets)) ≡ map (λ word. Ok (behind_no_token word)) (words_sent limit (DT octets)) }
+    ensures full { (limit : ℕ) (octets : List ℕ) → is_size limit ≡ true → 0 < limit → AreFull limit (tsdus_of limit (DT octets)) }
+    ensures short { (limit : ℕ) (octets : List ℕ) → is_size limit ≡ true → length octets ≤ 1048572 →
+        AllByRecursion (λ tsdu. length tsdu ≤ 1048576) (tsdus_of limit (DT octets)) }
+    ensures octets { (limit : ℕ) (m : Meaning) → IsSendable m → IsInOctets m → AllByRecursion IsOctets (tsdus_of limit m) }
+{
+    what_is_sent_is_read();
+    what_a_part_says();
+    what_is_sent_is_octets();
 }
 
 /// The numbers in a message are those that a point may have, and so are those in what the units of a

@@ -5,11 +5,13 @@
 pub mod laws;
 mod messages;
 mod octets;
+mod parts;
 mod places;
 mod plain;
 mod reading;
 mod sent;
 mod tokens;
+mod tsdus;
 mod writing;
 
 pub use messages::Message;

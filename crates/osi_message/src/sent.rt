@@ -1,30 +1,38 @@
 //! A message as the octets in which it is sent.
 
-ghost use Rattle.std.specs.Prelude.{◌≡◌, ◌<◌, length, IfOk, OnErr};
+ghost use Rattle.std.specs.Prelude.{◌≡◌, ◌<◌, true, [], ◌∷◌, length, map, IfOk, IfErr, OnErr};
 ghost use Rattle.osi_spdu.specs.Groups.{units_of};
+ghost use Rattle.osi_spdu.specs.Values.{is_size};
 ghost use Rattle.osi_spdu.specs.Writing.{tsdu_octets, TsduFits};
-ghost use Rattle.osi_message.specs.Meanings.{meant_by};
-ghost use Rattle.osi_message.specs.Written.{written, user_data_of};
+ghost use Rattle.osi_message.specs.Meanings.{DT, meant_by};
+ghost use Rattle.osi_message.specs.Parting.{in_one, is_whole, tsdus_of};
+ghost use Rattle.osi_message.specs.Written.{user_data_of};
 
 use crate::messages::Message;
+use crate::parts::parts;
 use crate::plain;
+use crate::tsdus::Tsdus;
 use bytes::BytesMut;
 use osi_spdu::{Group, write_tsdu};
 use std::alloc::{AllocError, Global};
 use std::marker::Model;
+use std::slice;
 
-/// The octets of a TSDU that is to be sent.
+/// The octets of what is to be sent: one TSDU, or those of the parts of one Data, in their order.
 #[derive(Drop)]
 pub struct Sent {
-    octets: Vec<u8>,
+    tsdus: Tsdus,
 }
 
 impl Model for Sent {
     ghost use Rattle.std.specs.Prelude.{ℕ, List};
+    ghost use Rattle.osi_message.specs.Tsdus.{octets_in, AreSeveral};
 
-    ghost Value = { List ℕ };
+    ghost Value = { List (List ℕ) };
 
-    ghost view = { λ s. s.octets.items };
+    ghost view = { λ s. octets_in s.tsdus };
+
+    ghost invariant = { λ s. AreSeveral s.tsdus };
 }
 
 /// The written form of the units in which a message is sent. It stands out of line: else the room for
@@ -32,35 +40,44 @@ impl Model for Sent {
 #[inline(never)]
 fn by_units(alloc: Global, message: &Message) -> Result<Sent, AllocError>
     requires { length (user_data_of (meant_by message.now)) < 65000 }
-    ensures { IfOk result (λ s. s ≡ written (meant_by message.now)) }
+    ensures { IfOk result (λ s. s ≡ in_one (meant_by message.now)) }
 {
     Sent::written(alloc, &message.group())
 }
 
 impl Sent {
+    /// One TSDU.
+    fn one(octets: Vec<u8>) -> Sent
+        ensures { result ≡ octets.items ∷ [] }
+    {
+        Sent {
+            tsdus: Tsdus::One(octets),
+        }
+    }
+
     /// The written form of the units of a TSDU.
     pub fn written(alloc: Global, group: &Group) -> Result<Sent, AllocError>
         requires { TsduFits (units_of group.now) }
-        ensures { IfOk result (λ s. s ≡ tsdu_octets (units_of group.now)) }
+        ensures { IfOk result (λ s. s ≡ tsdu_octets (units_of group.now) ∷ []) }
     {
         let mut octets = BytesMut::new(alloc);
         write_tsdu(group, &mut octets)?;
         match octets.into_vec() {
-            Ok(octets) => Ok(Sent { octets }),
+            Ok(octets) => Ok(Sent::one(octets)),
             Err(_) => Err(AllocError),
         }
     }
 
-    /// The written form of a message. Data, and minor points and their confirmations without user
-    /// data, are written straight into a buffer of their length.
+    /// The written form of a message, in one TSDU. Data, and minor points and their confirmations
+    /// without user data, are written straight into a buffer of their length.
     pub fn of(alloc: Global, message: &Message) -> Result<Sent, AllocError>
         requires { length (user_data_of (meant_by message.now)) < 65000 }
-        ensures { IfOk result (λ s. s ≡ written (meant_by message.now)) }
+        ensures { IfOk result (λ s. s ≡ in_one (meant_by message.now)) }
     {
         match *message {
             Message::Data { user_data } => {
                 let octets = plain::data(alloc, user_data)?;
-                Ok(Sent { octets })
+                Ok(Sent::one(octets))
             }
             Message::MinorPoint {
                 confirm: true,
@@ -68,30 +85,76 @@ impl Sent {
                 user_data: [],
             } => {
                 let octets = plain::minor_point(alloc, number)?;
-                Ok(Sent { octets })
+                Ok(Sent::one(octets))
             }
             Message::MinorAck {
                 number,
                 user_data: [],
             } => {
                 let octets = plain::minor_ack(alloc, number)?;
-                Ok(Sent { octets })
+                Ok(Sent::one(octets))
             }
             _ => by_units(alloc, message),
         }
     }
 
-    /// The octets, with the room that they are in.
-    pub fn into_vec(self) -> Vec<u8>
-        ensures { result.items ≡ self }
+    /// Whether data leaves in one TSDU, where this has at most so many octets, 0 for no limit.
+    pub fn is_whole(limit: u16, user_data: &[u8]) -> bool
+        ensures { result ≡ is_whole limit user_data.now }
     {
-        self.octets
+        limit == 0 || 4 + user_data.len() <= limit as usize
     }
 
-    /// The octets.
-    pub fn as_slice(&self) -> &[u8]
-        ensures { result.now ≡ self.now }
+    /// Data (X.225 section 6.3.5, segmenting), where a TSDU has at most so many octets, 0 for no limit:
+    /// whole where its TSDU is within the limit, else in parts, of which all but the last are as long
+    /// as the limit. All of them are written, or none.
+    #[tactic(auto, using(crate::proofs::SentLaws::sent_whole, crate::proofs::SentLaws::sent_parted, crate::proofs::SentLaws::some_octets, crate::proofs::SentLaws::more_octets))]
+    pub fn data(alloc: Global, limit: u16, user_data: &[u8]) -> Result<Sent, AllocError>
+        requires { is_size limit ≡ true }
+        ensures { IfOk result (λ s. s ≡ tsdus_of limit (DT user_data.now)) }
     {
-        self.octets.as_slice()
+        if Sent::is_whole(limit, user_data) {
+            let octets = plain::data(alloc, user_data)?;
+            return Ok(Sent::one(octets));
+        }
+        let tsdus = parts(alloc, limit as usize - 7, user_data)?;
+        Ok(Sent {
+            tsdus: Tsdus::Parts(tsdus),
+        })
+    }
+
+    /// A message, where a TSDU has at most so many octets, 0 for no limit: data as [`Sent::data`] writes
+    /// it, and all else in one TSDU.
+    pub fn within(alloc: Global, limit: u16, message: &Message) -> Result<Sent, AllocError>
+        requires short { length (user_data_of (meant_by message.now)) < 65000 }
+        requires sized { is_size limit ≡ true }
+        ensures { IfOk result (λ s. s ≡ tsdus_of limit (meant_by message.now)) }
+    {
+        match *message {
+            Message::Data { user_data } => Sent::data(alloc, limit, user_data),
+            _ => Sent::of(alloc, message),
+        }
+    }
+
+    /// The octets of the TSDU, with the room that they are in; or those of each, where they are several.
+    pub fn into_one(self) -> Result<Vec<u8>, Vec<Vec<u8>>>
+        ensures one { IfOk result (λ v. self ≡ v.items ∷ []) }
+        ensures parts { IfErr result (λ v. self ≡ map (λ t. t.items) v.items) }
+        ensures several { OnErr result (1 < length self) }
+    {
+        match self.tsdus {
+            Tsdus::One(octets) => Ok(octets),
+            Tsdus::Parts(tsdus) => Err(tsdus),
+        }
+    }
+
+    /// The octets of each TSDU, in their order.
+    pub fn tsdus(&self) -> &[Vec<u8>]
+        ensures { map (λ t. t.items) result.now ≡ self.now }
+    {
+        match &self.tsdus {
+            Tsdus::One(octets) => slice::from_ref(octets),
+            Tsdus::Parts(tsdus) => tsdus.as_slice(),
+        }
     }
 }

@@ -1,0 +1,5 @@
+use Rattle.osi_message.proofs.SentLaws.{message_alone}
+use Rattle.osi_message.proofs.sent.Sent.within.Goals as goal
+
+pub returns-in_default : goal.returns-in_default
+returns-in_default c = rw (message_alone c.args.limit c.args.message.now c.in_default.not-Data) c.of.ensures
