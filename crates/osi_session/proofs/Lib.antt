@@ -12,6 +12,7 @@ pub mod RestartLaws
 pub mod RunCases
 pub mod RunLaws
 pub mod SendableLaws
+pub mod SentLaws
 pub mod SessionLaws
 pub mod ShownLaws
 pub mod SizeLaws

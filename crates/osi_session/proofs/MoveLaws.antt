@@ -1,16 +1,17 @@
 -- The move of each thing, from what the tables answer.
-use Rattle.std.proofs.Common.{inl, inr, ◌≡◌, refl, sym, ◌∙◌, ap, ℕ, true, false, List, Some, None, option_map, Result, Ok, Err}
+use Rattle.std.proofs.Common.{inl, inr, ◌≡◌, refl, sym, ◌∙◌, ap, ℕ, true, false, Some, None, Result, Ok, Err}
 use Rattle.osi_spdu.specs.declared.faults.SpduFault.{SpduFault}
 use Rattle.osi_session.specs.declared.state.State.{State}
 use Rattle.osi_session.specs.declared.faults.CallError.{CallError}
 use Rattle.osi_message.specs.Words.{Words}
-use Rattle.osi_message.specs.Written.{written}
+use Rattle.osi_message.specs.Parting.{tsdus_of, tsdus_sent}
 use Rattle.osi_session.specs.Calls.{Call}
 use Rattle.osi_session.specs.Allowed.{Step, Answer, allowed}
 use Rattle.osi_session.specs.Respond.{Outcome, respond_fault, lost}
 use Rattle.osi_session.specs.Joining.{Hearing, heard, respond_tsdu, respond_came}
 use Rattle.osi_session.specs.Listening.{called, taken, unread, opened, refused, broken, came_as, Listener, Move, taker_of, rests, in_state, answered, moved, begun, denied, react, after_input}
 use Rattle.osi_session.specs.Sessions.{Planned, IsPlanOf}
+use Rattle.osi_session.specs.Sizes.{limit_of}
 use Rattle.osi_session.specs.declared.faults.CallError.TheVariants as error
 use Rattle.std.proofs.lemmas.Bool.{cases_Bool}
 use Rattle.osi_session.specs.Phases.{is_wait_transport, is_over}
@@ -25,8 +26,8 @@ call_next s c x e = ap (λ (m : Move). m.next) (call_is s c (Ok x) e)
 pub call_leaves : (s : Listener) (c : Call) (x : Step) → allowed s.state c ≡ Ok x → in_state s x.next ≡ (react s (called c)).next
 call_leaves s c x e = sym (call_next s c x e)
 
-pub call_sends : (s : Listener) (c : Call) (x : Step) → allowed s.state c ≡ Ok x → option_map written (react s (called c)).reply ≡ Some (written x.sent)
-call_sends s c x e = ap (λ (m : Move). option_map written m.reply) (call_is s c (Ok x) e)
+pub call_sends : (s : Listener) (c : Call) (x : Step) → allowed s.state c ≡ Ok x → tsdus_of (limit_of s.state) x.sent ≡ tsdus_sent (limit_of s.state) (react s (called c)).reply
+call_sends s c x e = sym (ap (λ (m : Move). tsdus_sent (limit_of s.state) m.reply) (call_is s c (Ok x) e))
 
 pub call_reply : (s : Listener) (c : Call) (x : Step) → allowed s.state c ≡ Ok x → (react s (called c)).reply ≡ Some x.sent
 call_reply s c x e = ap (λ (m : Move). m.reply) (call_is s c (Ok x) e)
@@ -60,8 +61,9 @@ accepted s c plan p e = ap (λ (x : State). allowed x c) (sym e) ∙ p.1
 pub committed : (s : Listener) (c : Call) (plan : Planned) → IsPlanOf c plan → plan.was ≡ s.state → in_state s plan.next ≡ after_input s (called c)
 committed s c plan p e = call_leaves s c (record { next = plan.next; sent = p.0 }) (accepted s c plan p e)
 
-pub committed_sends : (s : Listener) (c : Call) (plan : Planned) → IsPlanOf c plan → plan.was ≡ s.state → option_map written (react s (called c)).reply ≡ Some plan.sent
-committed_sends s c plan p e = call_sends s c (record { next = plan.next; sent = p.0 }) (accepted s c plan p e) ∙ ap (λ (o : List ℕ). Some o) (sym p.2)
+pub committed_sends : (s : Listener) (c : Call) (plan : Planned) → IsPlanOf c plan → plan.was ≡ s.state → plan.sent ≡ tsdus_sent (limit_of s.state) (react s (called c)).reply
+committed_sends s c plan p e =
+    p.2 ∙ ap (λ (x : State). tsdus_of (limit_of x) p.0) e ∙ call_sends s c (record { next = plan.next; sent = p.0 }) (accepted s c plan p e)
 
 over_refused : (s : State) (c : Call) → is_over s.phase ≡ true → allowed s c ≡ Err error.Ended
 unfolding allowed
@@ -78,7 +80,7 @@ planned_live c plan p = elim (cases_Bool (is_over plan.was.phase)) [
     apart x e = cc
 
 -- what was decided and written is a plan
-pub plan_of : (c : Call) (plan : Planned) (x : Step) → allowed plan.was c ≡ Ok x → plan.next ≡ x.next → plan.sent ≡ written x.sent → IsPlanOf c plan
+pub plan_of : (c : Call) (plan : Planned) (x : Step) → allowed plan.was c ≡ Ok x → plan.next ≡ x.next → plan.sent ≡ tsdus_of (limit_of plan.was) x.sent → IsPlanOf c plan
 plan_of c plan x e n o = (x.sent, e ∙ ap (λ (s : State). Ok (let y : Step = record { next = s; sent = x.sent } in y)) (sym n), o)
 
 -- ---- the move of each input

@@ -307,7 +307,7 @@ silent_run : ReadAsParts → (s : State) (waiting : Option Meaning) (joined begu
 silent_run read s waiting joined begun [] front st h short = tt
 silent_run read s waiting joined begun (calls c ∷ acts) front st h short =
     let k = call_step s waiting joined begun c (allowed s c) refl st in (
-      k.alike,
+      (refl, k.alike),
       subst (λ (l : Listener). AreSilent l (after_input (at s waiting None) (called c)) acts) (sym k.is)
           (subst (λ (m : Listener). AreSilent (at k.state waiting k.now) m acts) (sym k.whole) (silent_run read k.state waiting k.now begun acts front k.stands h short)),
     )

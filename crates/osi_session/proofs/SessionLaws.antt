@@ -21,6 +21,7 @@ use Rattle.osi_message.specs.Meanings.{Meaning}
 use Rattle.osi_session.specs.Joining.{Taker, Hearing, respond_tsdu}
 use Rattle.osi_spdu.specs.Reading.{tsdu_at}
 use Rattle.osi_message.specs.Reading.{said_by_units}
+use Rattle.osi_message.specs.Parting.{in_one}
 use Rattle.osi_message.specs.Sendable.{words_of}
 use Rattle.osi_message.specs.Written.{is_second, spelled, written}
 use Rattle.osi_session.specs.Openings.{asked_for}
@@ -71,7 +72,7 @@ pub asking_sound : (o : Opening) → IsSound (asking o)
 asking_sound o = at_first (asking o) refl refl (first_small (has_points (functional_units (unit_bits o.requirements))) o.serial.number o.serial.small) refl refl refl (user_sizes o.sizes)
 
 -- a unit that is sent alone is read as it
-pub read_again : (m : Meaning) → is_second m ≡ false → tsdu_at (written m) ≡ Ok (spelled m) → said_by_units (spelled m) ≡ words_of m → unit_in (written m) ≡ Some m
+pub read_again : (m : Meaning) → is_second m ≡ false → tsdu_at (written m) ≡ Ok (spelled m) → said_by_units (spelled m) ≡ words_of m → unit_in (in_one m) ≡ Some m
 unfolding unit_in
 read_again m f r s = ap lone_of r ∙ ap lone s ∙ (rw f refl)
 

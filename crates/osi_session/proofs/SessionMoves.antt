@@ -8,7 +8,7 @@ use Rattle.osi_message.specs.Reading.{said_at}
 use Rattle.osi_message.specs.declared.places.Place.{Place}
 use Rattle.osi_message.specs.declared.places.Place.TheVariants.{First, Middle, Last}
 use Rattle.osi_message.specs.Words.{Word, Words, part}
-use Rattle.osi_message.specs.Written.{written}
+use Rattle.osi_message.specs.Parting.{in_one}
 use Rattle.osi_session.specs.declared.indications.Indication.{Indication}
 use Rattle.osi_session.specs.declared.joining.PartVerdict.TheVariants as is
 use Rattle.osi_session.specs.declared.grouping.Reactions.{Reactions}
@@ -125,7 +125,7 @@ takes_shown t l new h n s m o r c = record {
   state = n;
   shown = ap (λ (more : List Indication). shown_list t.first ++ map shown_by more) m ∙ append-nil (shown_list t.first) ∙ s;
   first = λ k. m;
-  reply = o.0 ∙ ap (option_map written) (sym r);
+  reply = o.0 ∙ ap (option_map in_one) (sym r);
   closes = o.1 ∙ sym c;
   err = tt;
   memory = tt;

@@ -5,6 +5,7 @@ use Rattle.osi_session.specs.declared.phases.Phase.TheVariants.{WaitCn, Answerin
 use Rattle.osi_session.specs.declared.selected.FunctionalUnits.{FunctionalUnits}
 use Rattle.osi_session.specs.declared.state.State.{State}
 use Rattle.osi_session.specs.Calls.{Call}
+use Rattle.osi_session.specs.Sizes.{limit_of}
 use Rattle.osi_session.specs.Listening.{Input, called, taken, came, Listener, Move, react, after_input}
 use Rattle.osi_message.specs.declared.places.Place.{Place}
 use Rattle.osi_message.specs.declared.places.Place.TheVariants.{First, Middle}
@@ -59,11 +60,12 @@ pub record AreAlike (a b : Move) : Type 0 where
   pub closes : a.closes ≡ b.closes
   pub error : a.error ≡ b.error
 
--- Each part does nothing that is seen, and each call makes the move that it makes where no part came.
+-- Each part does nothing that is seen, and each call makes the move that it makes where no part came, with
+-- the same sending size.
 abbrev pub AreSilent : Listener → Listener → List Act → Type 0
 AreSilent l m [] = Unit {0}
 AreSilent l m (comes place o ∷ acts) = IsSilent (react l (came (part_octets place o))) × AreSilent (after_input l (came (part_octets place o))) m acts
-AreSilent l m (calls c ∷ acts) = AreAlike (react l (called c)) (react m (called c)) × AreSilent (after_input l (called c)) (after_input m (called c)) acts
+AreSilent l m (calls c ∷ acts) = ((limit_of l.state ≡ limit_of m.state) × AreAlike (react l (called c)) (react m (called c))) × AreSilent (after_input l (called c)) (after_input m (called c)) acts
 
 -- ---- functional units
 

@@ -11,7 +11,7 @@ use Rattle.osi_message.specs.Reading.{said_by_units}
 use Rattle.osi_message.specs.Words.{Words, says}
 use Rattle.osi_message.specs.Sendable.{IsSendable}
 use Rattle.osi_message.specs.Tokens.{no_token}
-use Rattle.osi_message.specs.Written.{written}
+use Rattle.osi_message.specs.Parting.{tsdus_of, in_one}
 use Rattle.osi_session.specs.declared.phases.Phase.TheVariants.{WaitTransport, WaitCn}
 use Rattle.osi_session.specs.declared.faults.CallError.{CallError}
 use Rattle.osi_session.specs.declared.faults.CallError.TheVariants as error
@@ -28,6 +28,7 @@ use Rattle.osi_session.specs.Respond.{is_nil}
 use Rattle.osi_session.specs.Calls.{Call}
 use Rattle.osi_session.specs.Listening.{Listener, Move}
 use Rattle.osi_session.specs.Joining.{joined_octets}
+use Rattle.osi_session.specs.Sizes.{limit_of}
 use Rattle.osi_session.specs.Steps.{shown_list}
 
 -- ---- what a call answers
@@ -51,15 +52,15 @@ CanBeSent (Some m) = IsSendable m
 
 -- ---- a plan
 
--- the state in which a call is planned, the state after it, and the octets that it sends
+-- the state in which a call is planned, the state after it, and the octets of the TSDUs that it sends
 pub record Planned : Type 0 where
   pub was : State
   pub next : State
-  pub sent : List ℕ
+  pub sent : List (List ℕ)
 
 -- the plan of a call that is accepted in the state in which it is planned
 abbrev pub IsPlanOf : Call → Planned → Type 0
-IsPlanOf c plan = (m : Meaning) × (allowed plan.was c ≡ Ok (record { next = plan.next; sent = m })) × (plan.sent ≡ written m)
+IsPlanOf c plan = (m : Meaning) × (allowed plan.was c ≡ Ok (record { next = plan.next; sent = m })) × (plan.sent ≡ tsdus_of (limit_of plan.was) m)
 
 -- ---- what a session begins with
 
@@ -115,9 +116,10 @@ abbrev pub lone_of : Result Units SpduFault → Option Meaning
 lone_of (Ok units) = lone (said_by_units units)
 lone_of (Err fault) = None
 
--- the unit that octets are, where they are one unit alone
-unfoldable pub unit_in : List ℕ → Option Meaning
-unit_in octets = lone_of (tsdu_at octets)
+-- the unit that one TSDU is, where it is one unit alone
+unfoldable pub unit_in : List (List ℕ) → Option Meaning
+unit_in (octets ∷ []) = lone_of (tsdu_at octets)
+unit_in _ = None
 
 -- ---- a TSDU that is taken
 
@@ -139,7 +141,7 @@ pub record Takes {E : Type 0} (result : Result Taken E) (move : Move) (old new :
   pub state : OnOk result (new ≡ move.next)
   pub shown : IfOk result (λ t. shown_in t ≡ move.shown)
   pub first : IfOk result (λ t. t.first ≡ None → t.more.items ≡ [])
-  pub reply : IfOk result (λ t. t.reply ≡ option_map written move.reply)
+  pub reply : IfOk result (λ t. t.reply ≡ option_map in_one move.reply)
   pub closes : IfOk result (λ t. t.closes ≡ move.closes)
   pub err : OnErr result (new ≡ old)
   pub memory : OnErr result (takes_memory old move ≡ true)

@@ -27,6 +27,10 @@ answered_sizes a b = record { from_asker = answered a.from_asker b.from_asker; f
 abbrev pub limit_of : State → ℕ
 limit_of s = if is_settled s.phase then (if s.is_caller then s.sizes.from_asker else s.sizes.from_answerer) else 0
 
+abbrev pub is_data : Call → Bool
+is_data (Data octets) = true
+is_data _ = false
+
 -- data may be longer, and so may an answer to the CN
 abbrev pub is_bounded : Call → Bool
 is_bounded (Accept requirements serial sides sizes octets) = false

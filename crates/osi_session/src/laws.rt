@@ -17,7 +17,7 @@ ghost use Rattle.osi_session.specs.declared.requests.Request.{Request};
 ghost use Rattle.osi_session.specs.declared.state.State.{State};
 ghost use Rattle.osi_message.specs.declared.tokens.Tokens.{Tokens};
 ghost use Rattle.osi_session.specs.Allowed.{Step, allowed, most_data, Passed};
-ghost use Rattle.osi_session.specs.Calls.{Call, Give, MinorConfirm, HasSerial, called_by};
+ghost use Rattle.osi_session.specs.Calls.{Call, Data, Give, MinorConfirm, HasSerial, called_by};
 ghost use Rattle.osi_session.specs.Causes.{opens_connection, call_gives, unit_gives, call_holds, unit_holds, renews};
 ghost use Rattle.osi_message.specs.Meanings.{Meaning, DT, MIA, RS, AA};
 ghost use Rattle.osi_session.specs.Numbers.{lower};
@@ -34,13 +34,14 @@ ghost use Rattle.osi_session.specs.Parts.{Act, part_comes, act_in_words, act_in_
 ghost use Rattle.osi_session.specs.Units.{is_profile};
 ghost use Rattle.osi_spdu.specs.Fields.{unit_bits};
 ghost use Rattle.osi_session.specs.Whole.{listening, standing_of, in_words, is_apart, joins};
+ghost use Rattle.osi_message.specs.Parting.{is_whole, tsdus_of, tsdus_sent, in_one, AreFull};
 ghost use Rattle.osi_message.specs.Written.{written};
 ghost use Rattle.osi_session.specs.Respond.{nothing, bad, becomes, respond_unit, respond_all, respond, respond_fault, lost, stands, drops, verdict, enacted, fine, IsGood, has_no_effect, is_token_item, is_resynchronize, and_then};
 ghost use Rattle.osi_session.specs.Restarts.{HasAsked, AreCrossed, after_restart};
 ghost use Rattle.osi_session.specs.Runs.{HasNumbers, HasNumbersInWords, IsFresh};
 ghost use Rattle.osi_session.specs.Sessions.{awaiting, asking, Planned, IsPlanOf};
 ghost use Rattle.osi_session.specs.Shown.{MinorConfirmed};
-ghost use Rattle.osi_session.specs.Sizes.{answered, smaller_sizes, answered_sizes, limit_of, is_bounded};
+ghost use Rattle.osi_session.specs.Sizes.{answered, smaller_sizes, answered_sizes, limit_of, is_data, is_bounded};
 ghost use Rattle.osi_session.specs.Sound.{IsSound};
 ghost use Rattle.osi_message.specs.Tokens.{Token, has, is_disjoint, token_octet};
 ghost use Rattle.osi_session.specs.Openings.{asked_for};
@@ -190,6 +191,22 @@ pub fn what_sizes_are_agreed()
         length (written x.sent) ≤ limit_of s }
 {}
 
+/// What an accepted call sends is one TSDU, but for data of which the TSDU is longer than the size of its
+/// direction: this leaves in several, of which all but the last have as many octets as that size, and the
+/// last no more. None has more than 1,048,576 octets.
+pub fn what_a_call_sends()
+    ensures alone { (s : State) (c : Call) (x : Step) → allowed s c ≡ Ok x → is_data c ≡ false →
+        tsdus_of (limit_of s) x.sent ≡ in_one x.sent }
+    ensures whole { (s : State) (octets : List ℕ) (x : Step) → allowed s (Data octets) ≡ Ok x → is_whole (limit_of s) octets ≡ true →
+        tsdus_of (limit_of s) x.sent ≡ in_one x.sent }
+    ensures full { (s : State) (octets : List ℕ) (x : Step) → IsSound s → allowed s (Data octets) ≡ Ok x → 0 < limit_of s →
+        AreFull (limit_of s) (tsdus_of (limit_of s) x.sent) }
+    ensures short { (s : State) (octets : List ℕ) (x : Step) → IsSound s → allowed s (Data octets) ≡ Ok x →
+        AllByRecursion (λ tsdu. length tsdu ≤ 1048576) (tsdus_of (limit_of s) x.sent) }
+{
+    osi_message::laws::what_leaves_in_parts();
+}
+
 /// The numbers in a call, and in the units of a TSDU, are those that a point may have, and the sizes
 /// of a call those that a user may give.
 pub fn what_happens_has_numbers()
@@ -257,7 +274,7 @@ pub fn a_plan_is_its_call()
     ensures step { (l : Listener) (call : Call) (plan : Planned) → IsPlanOf call plan → plan.was ≡ l.state →
         in_state l plan.next ≡ after_input l (called call) }
     ensures sent { (l : Listener) (call : Call) (plan : Planned) → IsPlanOf call plan → plan.was ≡ l.state →
-        option_map written (react l (called call)).reply ≡ Some plan.sent }
+        plan.sent ≡ tsdus_sent (limit_of l.state) (react l (called call)).reply }
     ensures live { (call : Call) (plan : Planned) → IsPlanOf call plan → is_over plan.was.phase ≡ false }
 {}
 

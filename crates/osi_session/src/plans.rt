@@ -6,7 +6,7 @@ use crate::state::State;
 use osi_message::Sent;
 use std::marker::Model;
 
-/// What a call would do: the state in which it was planned, the state after it, and the TSDU that it
+/// What a call would do: the state in which it was planned, the state after it, and the TSDUs that it
 /// sends. It is made by `Session::plan` and done by `Session::commit`.
 #[derive(Drop)]
 pub struct Plan {
@@ -29,10 +29,10 @@ impl Model for Plan {
 }
 
 impl Plan {
-    /// The octets of the TSDU that is to be sent.
-    pub fn octets(&self) -> &[u8]
+    /// What is to be sent.
+    pub fn sent(&self) -> &Sent
         ensures { result.now ≡ self.now.sent }
     {
-        self.sent.as_slice()
+        &self.sent
     }
 }

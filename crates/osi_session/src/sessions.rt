@@ -6,7 +6,9 @@ ghost use Rattle.osi_session.specs.Openings.{asked_for};
 ghost use Rattle.osi_session.specs.Sessions.{unit_in};
 ghost use Rattle.osi_session.specs.Steps.{reply_of};
 ghost use Rattle.osi_message.specs.Meanings.{meant_by};
-ghost use Rattle.osi_message.specs.Written.{written, user_data_of};
+ghost use Rattle.osi_message.specs.Parting.{in_one, tsdus_sent};
+ghost use Rattle.osi_message.specs.Written.{user_data_of};
+ghost use Rattle.osi_session.specs.Sizes.{limit_of};
 
 use crate::calling::{MOST_USER_DATA, allow_data, allow_minor, allow_minor_confirm, decide};
 use crate::faults::CallError;
@@ -20,6 +22,7 @@ use crate::plans::Plan;
 use crate::reactions::{Reaction, Reply};
 use crate::requests::Request;
 use crate::selected::is_profile;
+use crate::sizes::limit_of;
 use crate::state::State;
 use crate::taken::Taken;
 use osi_message::{Message, Octets, Place, PlainUnit, Sent, laws};
@@ -43,7 +46,7 @@ pub struct Session {
 impl Model for Session {
     ghost use Rattle.std.specs.Prelude.{◌≡◌, ◌≤◌, true, length, IsSome, option_map};
     ghost use Rattle.std.specs.Option.{option_and_then};
-    ghost use Rattle.osi_message.specs.Written.{written};
+    ghost use Rattle.osi_message.specs.Parting.{in_one};
     ghost use Rattle.osi_session.specs.Joining.{joined_octets, kept_in};
     ghost use Rattle.osi_session.specs.Listening.{Listener};
     ghost use Rattle.osi_session.specs.Phases.{is_wait_transport};
@@ -55,7 +58,7 @@ impl Model for Session {
     ghost view = { λ s. record { state = s.state; waiting = option_and_then unit_in s.waiting; joined = s.joined } };
 
     ghost invariant = { λ s. IsSound s.state × (is_wait_transport s.state.phase ≡ true → IsSome s.waiting)
-        × (option_map written (option_and_then unit_in s.waiting) ≡ s.waiting)
+        × (option_map in_one (option_and_then unit_in s.waiting) ≡ s.waiting)
         × (kept_in s.state.phase s.joined ≡ s.joined)
         × (length (joined_octets s.joined) ≤ 1048572) };
 }
@@ -63,7 +66,7 @@ impl Model for Session {
 /// The octets of an answer, if there is one. Want of memory comes only where there is.
 #[inline(never)]
 fn written_reply(alloc: Global, reply: Option<Reply>) -> Result<Option<Sent>, AllocError>
-    ensures ok { IfOk result (λ s. s ≡ option_map written (option_map reply_of reply)) }
+    ensures ok { IfOk result (λ s. s ≡ option_map in_one (option_map reply_of reply)) }
     ensures err { OnErr result (is_none (option_map reply_of reply) ≡ false) }
 {
     let Some(reply) = reply else {
@@ -73,10 +76,10 @@ fn written_reply(alloc: Global, reply: Option<Reply>) -> Result<Option<Sent>, Al
     Ok(Some(sent))
 }
 
-/// The octets in which a message is sent.
+/// The octets in which a message is sent, in one TSDU.
 fn written_message(alloc: Global, message: &Message<'_>) -> Result<Sent, AllocError>
     requires { length (user_data_of (meant_by message.now)) < 65000 }
-    ensures { IfOk result (λ s. s ≡ written (meant_by message.now)) }
+    ensures { IfOk result (λ s. s ≡ in_one (meant_by message.now)) }
 {
     Sent::of(alloc, message)
 }
@@ -84,7 +87,7 @@ fn written_message(alloc: Global, message: &Message<'_>) -> Result<Sent, AllocEr
 /// The CN of a caller, which is read as it.
 fn written_connect(alloc: Global, opening: &Opening) -> Result<Sent, AllocError>
     requires { length opening.now.user_data.now < 65000 }
-    ensures octets { IfOk result (λ s. s ≡ written (asked_for opening.now)) }
+    ensures octets { IfOk result (λ s. s ≡ in_one (asked_for opening.now)) }
     ensures read { IfOk result (λ s. unit_in s ≡ Some (asked_for opening.now)) }
 {
     laws::what_is_sent_is_read();
@@ -169,7 +172,7 @@ impl Session {
     #[tactic(auto, unfolding(crate::specs::Listening::react))]
     pub fn opened(&mut self) -> Option<Sent>
         ensures state { self.new ≡ (react self.old opened).next }
-        ensures sent { result ≡ option_map written (react self.old opened).reply }
+        ensures sent { result ≡ option_map in_one (react self.old opened).reply }
     {
         if !self.state.phase.is_wait_transport() {
             return None;
@@ -196,14 +199,15 @@ impl Session {
     #[tactic(auto, using(crate::proofs::CallLaws::refused, crate::proofs::CallLaws::wanting, crate::proofs::MoveLaws::call_next, crate::proofs::MoveLaws::call_sends))]
     pub fn plan(&self, request: Request) -> Result<Plan, CallError>
         ensures state { IfOk result (λ p. (react self.now (called (called_by request.entry))).next ≡ in_state self.now p.next) }
-        ensures sent { IfOk result (λ p. option_map written (react self.now (called (called_by request.entry))).reply ≡ Some p.sent) }
+        ensures sent { IfOk result (λ p. p.sent ≡ tsdus_sent (limit_of self.now.state) (react self.now (called (called_by request.entry))).reply) }
         ensures planned { IfOk result (λ p. IsPlanOf (called_by request.entry) p) }
         ensures was { IfOk result (λ p. p.was ≡ self.now.state) }
+        ensures accepted { OnOk result ((react self.now (called (called_by request.entry))).error ≡ None) }
         ensures sendable { OnOk result (CanBeSent (react self.now (called (called_by request.entry))).reply) }
         ensures refused { IfErr result (λ e. Refused e (react self.now (called (called_by request.entry))).error) }
     {
         let step = decide(&self.state, &request)?;
-        match written_message(self.alloc, &step.sent) {
+        match Sent::within(self.alloc, limit_of(&self.state), &step.sent) {
             Ok(sent) => Ok(Plan {
                 was: self.state,
                 next: step.next,
@@ -235,7 +239,8 @@ impl Session {
     /// error does.
     pub fn call(&mut self, request: Request) -> Result<Sent, CallError>
         ensures state { OnOk result (self.new ≡ (react self.old (called (called_by request.entry))).next) }
-        ensures sent { IfOk result (λ s. option_map written (react self.old (called (called_by request.entry))).reply ≡ Some s) }
+        ensures sent { IfOk result (λ s. s ≡ tsdus_sent (limit_of self.old.state) (react self.old (called (called_by request.entry))).reply) }
+        ensures accepted { OnOk result ((react self.old (called (called_by request.entry))).error ≡ None) }
         ensures sendable { OnOk result (CanBeSent (react self.old (called (called_by request.entry))).reply) }
         ensures refused { IfErr result (λ e. Refused e (react self.old (called (called_by request.entry))).error) }
         ensures err { OnErr result (self.new ≡ self.old) }
@@ -254,12 +259,13 @@ impl Session {
     #[tactic(auto, using(crate::proofs::CallLaws::refused, crate::proofs::CallLaws::wanting), unfolding(osi_message::specs::Written::user_data_of))]
     pub fn call_data(&self, user_data: &[u8]) -> Result<Sent, CallError>
         ensures state { OnOk result (self.now ≡ (react self.now (called (Data user_data.now))).next) }
-        ensures sent { IfOk result (λ s. option_map written (react self.now (called (Data user_data.now))).reply ≡ Some s) }
+        ensures sent { IfOk result (λ s. s ≡ tsdus_sent (limit_of self.now.state) (react self.now (called (Data user_data.now))).reply) }
+        ensures accepted { OnOk result ((react self.now (called (Data user_data.now))).error ≡ None) }
         ensures sendable { OnOk result (CanBeSent (react self.now (called (Data user_data.now))).reply) }
         ensures refused { IfErr result (λ e. Refused e (react self.now (called (Data user_data.now))).error) }
     {
         allow_data(&self.state, user_data)?;
-        match written_message(self.alloc, &Message::Data { user_data }) {
+        match Sent::data(self.alloc, limit_of(&self.state), user_data) {
             Ok(sent) => Ok(sent),
             Err(_) => Err(CallError::OutOfMemory),
         }
@@ -270,7 +276,8 @@ impl Session {
     #[tactic(auto, using(crate::proofs::CallLaws::refused, crate::proofs::CallLaws::wanting))]
     fn call_minor(&mut self, confirm: bool, user_data: &[u8]) -> Result<Sent, CallError>
         ensures state { OnOk result (self.new ≡ (react self.old (called (Minor confirm user_data.now))).next) }
-        ensures sent { IfOk result (λ s. option_map written (react self.old (called (Minor confirm user_data.now))).reply ≡ Some s) }
+        ensures sent { IfOk result (λ s. s ≡ tsdus_sent (limit_of self.old.state) (react self.old (called (Minor confirm user_data.now))).reply) }
+        ensures accepted { OnOk result ((react self.old (called (Minor confirm user_data.now))).error ≡ None) }
         ensures sendable { OnOk result (CanBeSent (react self.old (called (Minor confirm user_data.now))).reply) }
         ensures refused { IfErr result (λ e. Refused e (react self.old (called (Minor confirm user_data.now))).error) }
         ensures err { OnErr result (self.new ≡ self.old) }
@@ -295,7 +302,8 @@ impl Session {
     #[tactic(auto, using(crate::proofs::CallLaws::refused, crate::proofs::CallLaws::wanting))]
     fn call_minor_confirm(&mut self, number: u32, user_data: &[u8]) -> Result<Sent, CallError>
         ensures state { OnOk result (self.new ≡ (react self.old (called (MinorConfirm number user_data.now))).next) }
-        ensures sent { IfOk result (λ s. option_map written (react self.old (called (MinorConfirm number user_data.now))).reply ≡ Some s) }
+        ensures sent { IfOk result (λ s. s ≡ tsdus_sent (limit_of self.old.state) (react self.old (called (MinorConfirm number user_data.now))).reply) }
+        ensures accepted { OnOk result ((react self.old (called (MinorConfirm number user_data.now))).error ≡ None) }
         ensures sendable { OnOk result (CanBeSent (react self.old (called (MinorConfirm number user_data.now))).reply) }
         ensures refused { IfErr result (λ e. Refused e (react self.old (called (MinorConfirm number user_data.now))).error) }
         ensures err { OnErr result (self.new ≡ self.old) }
@@ -320,13 +328,14 @@ impl Session {
     #[tactic(auto, using(crate::proofs::CallLaws::refused, crate::proofs::CallLaws::wanting, crate::proofs::MoveLaws::call_leaves, crate::proofs::MoveLaws::call_sends))]
     fn call_other(&mut self, request: Request) -> Result<Sent, CallError>
         ensures state { OnOk result (self.new ≡ (react self.old (called (called_by request.entry))).next) }
-        ensures sent { IfOk result (λ s. option_map written (react self.old (called (called_by request.entry))).reply ≡ Some s) }
+        ensures sent { IfOk result (λ s. s ≡ tsdus_sent (limit_of self.old.state) (react self.old (called (called_by request.entry))).reply) }
+        ensures accepted { OnOk result ((react self.old (called (called_by request.entry))).error ≡ None) }
         ensures sendable { OnOk result (CanBeSent (react self.old (called (called_by request.entry))).reply) }
         ensures refused { IfErr result (λ e. Refused e (react self.old (called (called_by request.entry))).error) }
         ensures err { OnErr result (self.new ≡ self.old) }
     {
         let step = decide(&self.state, &request)?;
-        match written_message(self.alloc, &step.sent) {
+        match Sent::within(self.alloc, limit_of(&self.state), &step.sent) {
             Ok(sent) => {
                 self.go(step.next);
                 Ok(sent)
@@ -343,7 +352,7 @@ impl Session {
         ensures shown { IfOk result (λ t. shown_in t ≡ (react self.old (taken (said_by_units (units_of group.now)))).shown) }
         // the first indication stands in the first place
         ensures first { IfOk result (λ t. t.first ≡ None → t.more.items ≡ []) }
-        ensures reply { IfOk result (λ t. t.reply ≡ option_map written (react self.old (taken (said_by_units (units_of group.now)))).reply) }
+        ensures reply { IfOk result (λ t. t.reply ≡ option_map in_one (react self.old (taken (said_by_units (units_of group.now)))).reply) }
         ensures closes { IfOk result (λ t. t.closes ≡ (react self.old (taken (said_by_units (units_of group.now)))).closes) }
         ensures err { OnErr result (self.new ≡ self.old) }
         ensures memory { OnErr result (takes_memory self.old (react self.old (taken (said_by_units (units_of group.now)))) ≡ true) }
@@ -361,7 +370,7 @@ impl Session {
         ensures state { OnOk result (self.new ≡ (react self.old (came tsdu.now)).next) }
         ensures shown { IfOk result (λ t. shown_in t ≡ (react self.old (came tsdu.now)).shown) }
         ensures first { IfOk result (λ t. t.first ≡ None → t.more.items ≡ []) }
-        ensures reply { IfOk result (λ t. t.reply ≡ option_map written (react self.old (came tsdu.now)).reply) }
+        ensures reply { IfOk result (λ t. t.reply ≡ option_map in_one (react self.old (came tsdu.now)).reply) }
         ensures closes { IfOk result (λ t. t.closes ≡ (react self.old (came tsdu.now)).closes) }
         ensures err { OnErr result (self.new ≡ self.old) }
         ensures memory { OnErr result (takes_memory self.old (react self.old (came tsdu.now)) ≡ true) }
@@ -460,7 +469,7 @@ impl Session {
         ensures state { OnOk result (self.new ≡ (react self.old (unread fault)).next) }
         ensures shown { IfOk result (λ t. shown_in t ≡ (react self.old (unread fault)).shown) }
         ensures first { IfOk result (λ t. t.first ≡ None → t.more.items ≡ []) }
-        ensures reply { IfOk result (λ t. t.reply ≡ option_map written (react self.old (unread fault)).reply) }
+        ensures reply { IfOk result (λ t. t.reply ≡ option_map in_one (react self.old (unread fault)).reply) }
         ensures closes { IfOk result (λ t. t.closes ≡ (react self.old (unread fault)).closes) }
         ensures err { OnErr result (self.new ≡ self.old) }
         ensures memory { OnErr result (takes_memory self.old (react self.old (unread fault)) ≡ true) }

@@ -74,7 +74,7 @@ pub(crate) fn answered_sizes(asked: TsduMaximumSize, given: TsduMaximumSize) -> 
 
 /// The most octets that a TSDU of this end has, 0 for no limit: once the CN is answered, the size of
 /// its direction.
-fn limit_of(state: &State) -> u16
+pub(crate) fn limit_of(state: &State) -> u16
     ensures { result ≡ limit_of state.now }
 {
     if !state.phase.is_settled() {

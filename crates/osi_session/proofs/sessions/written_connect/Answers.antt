@@ -1,5 +1,5 @@
 use Rattle.std.proofs.Common.{◌≡◌, ◌<◌, ◌∙◌, ℕ, List, Some, length, ap, sym, subst}
-use Rattle.osi_message.specs.Written.{written}
+use Rattle.osi_message.specs.Parting.{in_one}
 use Rattle.osi_session.specs.Openings.{asked_for}
 use Rattle.osi_session.specs.Sessions.{unit_in}
 use Rattle.osi_session.proofs.SendableLaws.{asked_sendable}
@@ -10,11 +10,11 @@ pub written_message-requires : goal.written_message-requires
 written_message-requires c = subst (λ (octets : List ℕ). length octets < 65000) (sym c.message.ensures.data) c.requires
 
 pub returns-clause-octets : goal.returns-clause-octets
-returns-clause-octets c = c.in_ok-sent.ensures ∙ ap written c.message.ensures.meaning
+returns-clause-octets c = c.in_ok-sent.ensures ∙ ap in_one c.message.ensures.meaning
 
 pub returns-clause-read : goal.returns-clause-read
 returns-clause-read c =
     let o = c.args.opening.now in
     let h = asked_sendable o c.requires in
-    subst (λ (octets : List ℕ). unit_in octets ≡ Some (asked_for o)) (sym (c.in_ok-sent.ensures ∙ ap written c.message.ensures.meaning))
+    subst (λ (sent : List (List ℕ)). unit_in sent ≡ Some (asked_for o)) (sym (c.in_ok-sent.ensures ∙ ap in_one c.message.ensures.meaning))
     (read_again (asked_for o) (asked_alone o) (c.what_is_sent_is_read.ensures.read (asked_for o) h) (c.what_is_sent_is_read.ensures.said (asked_for o) h))

@@ -1,7 +1,8 @@
-use Rattle.std.proofs.Common.{◌≡◌, ◌∙◌, ap, subst, sym, Some, None, option_map}
+use Rattle.std.proofs.Common.{◌≡◌, ◌∙◌, ap, subst, None}
 use Rattle.std.specs.Option.{option_and_then}
 use Rattle.osi_message.specs.Meanings.{MIA}
-use Rattle.osi_message.specs.Written.{written}
+use Rattle.osi_message.specs.Parting.{words_sent, tsdus_sent}
+use Rattle.osi_session.specs.Sizes.{limit_of}
 use Rattle.osi_session.specs.Allowed.{Step}
 use Rattle.osi_session.specs.Calls.{Call, MinorConfirm}
 use Rattle.osi_session.specs.Listening.{called, Listener, react}
@@ -21,11 +22,12 @@ written_message-requires c =
     sent_short c.self.inside.state k x c.in_ok-point.ensures.ok
 
 pub returns-in-Ok-clause-sent : goal.returns-in-Ok-clause-sent
+unfolding words_sent
 returns-in-Ok-clause-sent c =
     let v : Listener = record { state = c.self.inside.state; waiting = option_and_then unit_in c.self.inside.waiting; joined = c.self.inside.joined } in
     let k : Call = MinorConfirm c.args.number c.args.user_data.now in
     let x : Step = record { next = record c.self.inside.state { numbers = c.in_ok-point.point.numbers }; sent = MIA c.in_ok-point.point.number.number c.args.user_data.now } in
-    ap (λ (s : Listener). option_map written (react s (called k)).reply) (sym c.self.view_is) ∙ call_sends v k x c.in_ok-point.ensures.ok ∙ ap Some (sym c.in-Ok.ensures)
+    c.in-Ok.ensures ∙ call_sends v k x c.in_ok-point.ensures.ok ∙ ap (λ (s : Listener). tsdus_sent (limit_of s.state) (react s (called k)).reply) c.self.view_is
 
 pub returns-in-Ok-clause-sendable : goal.returns-in-Ok-clause-sendable
 returns-in-Ok-clause-sendable c =
@@ -33,6 +35,13 @@ returns-in-Ok-clause-sendable c =
     let k : Call = MinorConfirm c.args.number c.args.user_data.now in
     let x : Step = record { next = record c.self.inside.state { numbers = c.in_ok-point.point.numbers }; sent = MIA c.in_ok-point.point.number.number c.args.user_data.now } in
     subst (λ (s : Listener). CanBeSent (react s (called k)).reply) c.self.view_is (call_sendable v k x c.self.invariant.0 tt c.in_ok-point.ensures.ok)
+
+pub returns-in-Ok-clause-accepted : goal.returns-in-Ok-clause-accepted
+returns-in-Ok-clause-accepted c =
+    let v : Listener = record { state = c.self.inside.state; waiting = option_and_then unit_in c.self.inside.waiting; joined = c.self.inside.joined } in
+    let k : Call = MinorConfirm c.args.number c.args.user_data.now in
+    let x : Step = record { next = record c.self.inside.state { numbers = c.in_ok-point.point.numbers }; sent = MIA c.in_ok-point.point.number.number c.args.user_data.now } in
+    subst (λ (s : Listener). (react s (called k)).error ≡ None) c.self.view_is (call_passes v k x c.in_ok-point.ensures.ok)
 
 pub returns-in-Err-clause-refused : goal.returns-in-Err-clause-refused
 returns-in-Err-clause-refused c =
