@@ -1,5 +1,6 @@
 -- What is seen of two ends that came to the same.
-use Rattle.std.proofs.Common.{◌≡◌, ℕ, ◌+◌, ◌==◌, Bool, true, false, not, List, [], ◌∷◌, length, Option, Some, None, is_some, refl, sym, ap, ◌∙◌, if◌then◌else◌}
+use Rattle.std.proofs.Common.{◌≡◌, ℕ, ◌==◌, Bool, true, false, not, List, [], ◌∷◌, length, Option, Some, None, is_some, refl, sym, ap, ◌∙◌, if◌then◌else◌}
+use Rattle.osi_session.specs.Sizes.{limit_of}
 use Rattle.std.specs.List.{flat_map}
 use Rattle.osi_carrier.specs.Calls.{kept_in}
 use Rattle.osi_carrier.specs.Rows.{Rows, value_at}
@@ -33,13 +34,13 @@ phase_hushed r e = ap (λ (o : Option Listener). if has_given r e.carrier then S
 
 -- ---- the answer to a call
 
-reply_apart : (o : List ℕ) (r : ℕ) (reply : Option Meaning) (c : Carrier) → reply_refusal r reply (runs.put_back [] o c) ≡ reply_refusal r reply c
-reply_apart o r None c = refl
-reply_apart o r (Some unit) c = refl
+reply_apart : (o : List ℕ) (r limit : ℕ) (reply : Option Meaning) (c : Carrier) → reply_refusal r limit reply (runs.put_back [] o c) ≡ reply_refusal r limit reply c
+reply_apart o r limit None c = refl
+reply_apart o r limit (Some unit) c = refl
 
 refusal_apart : (o : List ℕ) (r : ℕ) (session : Option Listener) (call : SessionCall) (c : Carrier) → session_refusal r session call (runs.put_back [] o c) ≡ session_refusal r session call c
 refusal_apart o r None call c = refl
-refusal_apart o r (Some session) call c = ap (or_else (react session (called call)).error) (reply_apart o r (react session (called call)).reply c)
+refusal_apart o r (Some session) call c = ap (or_else (react session (called call)).error) (reply_apart o r (limit_of session.state) (react session (called call)).reply c)
 
 pub call_apart : (o : List ℕ) (r : ℕ) (call : SessionCall) (e : End) → call_error r call (put_back o e) ≡ call_error r call e
 call_apart o r call e = ap (λ (x : Option CallError). if not (has_given r e.carrier) then Some NoSuchConnection else x) (refusal_apart o r (session_at r e) call e.carrier)

@@ -1,21 +1,19 @@
 -- What a call is answered is what the table of its session says.
-use Rattle.std.proofs.Common.{◌≡◌, ℕ, ◌≤◌, Bool, true, false, not, ◌||◌, List, length, nat_lt, Option, Some, None, is_some, Ok, Err, refl, sym, ap, subst, ◌∙◌, inl, inr, arith, if◌then◌else◌}
-use Rattle.std.proofs.lemmas.Bool.Decides.{nat_tests}
+use Rattle.std.proofs.Common.{◌≡◌, ℕ, Bool, true, false, not, ◌||◌, List, Option, Some, None, is_some, Ok, Err, refl, sym, ap, subst, ◌∙◌, inl, inr, if◌then◌else◌}
 use Rattle.std.specs.List.{AllByRecursion}
 use Rattle.std.specs.Prelude.{IfSome}
-use Rattle.osi_carrier.specs.Calls.{open_link, send_error}
+use Rattle.osi_carrier.specs.Calls.{open_link, send_all_error}
 use Rattle.osi_carrier.specs.Rows.{value_at}
-use Rattle.osi_carrier.specs.declared.faults.SendError.{SendError}
-use Rattle.osi_carrier.specs.declared.faults.SendError.TheVariants.{TooLong}
 use Rattle.osi_class.specs.Link.{Standing as Link}
 use Rattle.osi_message.specs.Sendable.{IsSendable}
-use Rattle.osi_message.specs.Written.{written}
+use Rattle.osi_message.specs.Parting.{tsdus_of}
 use Rattle.osi_session.specs.Allowed.{Step, Answer, allowed, Passed}
 use Rattle.osi_session.specs.Calls.{Call, HasSerial}
 use Rattle.osi_session.specs.Listening.{Input, Listener, Move, called, answered, react, after_inputs}
 use Rattle.osi_session.specs.Phases.{is_wait_cn, may_abort}
 use Rattle.osi_session.specs.Runs.{HasNumbersInWords, IsFresh}
 use Rattle.osi_session.specs.Sessions.{awaiting, asking}
+use Rattle.osi_session.specs.Sizes.{limit_of}
 use Rattle.osi_session.specs.Sound.{IsSound as IsSoundState}
 use Rattle.osi_session.specs.declared.faults.CallError.{CallError}
 use Rattle.osi_session.specs.declared.faults.CallError.TheVariants as error
@@ -24,11 +22,12 @@ use Rattle.osi_session.specs.declared.state.State.{State}
 use Rattle.osi_stack.specs.Calls.{opening_of, has_given, send_refusal, move_refusal, session_refusal, session_error, call_error, table_error}
 use Rattle.osi_stack.specs.Folds.{CameAbout, AllCameAbout}
 use Rattle.osi_stack.specs.Links.{needs_link, Soundness}
-use Rattle.osi_stack.specs.Messages.{kept_at}
+use Rattle.osi_stack.specs.Messages.{AreShort, kept_at}
 use Rattle.osi_stack.specs.State.{End, session_in, session_at}
 use Rattle.osi_stack.proofs.Folds.{at_line}
 use Rattle.osi_stack.proofs.Moves.{line_of}
-use Rattle.osi_stack.proofs.Shortness.{SpduLaws, call_short}
+use Rattle.osi_stack.proofs.Handing.{lengths_fit}
+use Rattle.osi_stack.proofs.Shortness.{SpduLaws, tsdus_short}
 
 -- what the crates below say
 pub record Below : Type 0 where
@@ -53,29 +52,27 @@ sound_session law s h = subst (λ (x : Listener). IsSoundState x.state) h.is (la
 
 -- ---- the carrier takes what a call sends
 
-open_by : (o : Option (ℕ × Link)) (tsdu : List ℕ) → is_some o ≡ true → length tsdu ≤ 1048576 → send_refusal (send_error tsdu o) ≡ None
-open_by None tsdu h short = cc
-open_by (Some link) tsdu h short =
-    let fits : nat_lt 1048576 (length tsdu) ≡ false = grind (arith, nat_tests) in
-    ap (λ (b : Bool). send_refusal (if◌then◌else◌ {A = Option SendError} b (Some TooLong) None)) fits
+open_by : (o : Option (ℕ × Link)) (tsdus : List (List ℕ)) → is_some o ≡ true → AreShort tsdus → send_refusal (send_all_error tsdus o) ≡ None
+open_by None tsdus h short = cc
+open_by (Some link) tsdus h short = ap send_refusal (lengths_fit tsdus short)
 
 or_right : (a b : Bool) → b ≡ true → (a || b) ≡ true
 or_right true b h = refl
 or_right false b h = h
 
 answer_by : Below → (r : ℕ) (call : Call) (e : End) (s : Listener) (a : Answer) → allowed s.state call ≡ a → HasSerial call → e.carrier.ended ≡ None → Soundness e →
-    kept_at r e.lines ≡ Some s → CameAbout s → move_refusal r (react s (called call)) e.carrier ≡ (react s (called call)).error
+    kept_at r e.lines ≡ Some s → CameAbout s → move_refusal r (limit_of s.state) (react s (called call)) e.carrier ≡ (react s (called call)).error
 unfolding react
 answer_by law r call e s (Err err) allows serial lasts sound here came =
     let is : react s (called call) ≡ answered s (Err err) = ap (answered s) allows in
-    ap (λ (m : Move). move_refusal r m e.carrier) is ∙ sym (ap (λ (m : Move). m.error) is)
+    ap (λ (m : Move). move_refusal r (limit_of s.state) m e.carrier) is ∙ sym (ap (λ (m : Move). m.error) is)
 answer_by law r call e s (Ok x) allows serial lasts sound here came =
     let is : react s (called call) ≡ answered s (Ok x) = ap (answered s) allows in
     let state = sound_session law s came in
-    let short = call_short law.spdu s.state call x (law.passed s.state call x allows) (law.sendable s.state call x state serial allows) in
+    let short = tsdus_short law.spdu s.state call x state allows (law.passed s.state call x allows) (law.sendable s.state call x state serial allows) in
     let needs : needs_link s.state.phase ≡ true = or_right (is_wait_cn s.state.phase) (may_abort s.state.phase) (law.phase s.state call x allows) in
     let opened = sound.links lasts r s here needs in
-    ap (λ (m : Move). move_refusal r m e.carrier) is ∙ open_by (open_link r e.carrier) (written x.sent) opened short ∙ sym (ap (λ (m : Move). m.error) is)
+    ap (λ (m : Move). move_refusal r (limit_of s.state) m e.carrier) is ∙ open_by (open_link r e.carrier) (tsdus_of (limit_of s.state) x.sent) opened short ∙ sym (ap (λ (m : Move). m.error) is)
 
 answered_at : Below → (r : ℕ) (call : Call) (e : End) (o : Option Listener) → session_at r e ≡ o → HasSerial call → e.carrier.ended ≡ None → Soundness e → AllCameAbout e.lines →
     session_refusal r o call e.carrier ≡ session_error o call

@@ -1,81 +1,87 @@
 -- What a call sends, and what it does not do.
-use Rattle.std.proofs.Common.{◌≡◌, ℕ, Bool, false, List, [], ◌++◌, Option, Some, None, option_map, Result, Ok, Err, OnOk, IfErr, refl, sym, ap, subst, ◌∙◌}
+use Rattle.std.proofs.Common.{◌≡◌, ℕ, Bool, false, List, [], ◌++◌, Option, Some, None, is_none, Result, Ok, Err, OnOk, IfErr, refl, sym, ap, subst, ◌∙◌}
 use Rattle.std.proofs.lemmas.List.{append-nil}
 use Rattle.osi_carrier.specs.Packets.{Carrying}
-use Rattle.osi_carrier.specs.Calls.{send_error, open_link}
+use Rattle.osi_carrier.specs.Calls.{send_all_error, open_link}
 use Rattle.osi_carrier.specs.State.{State as Carrier}
 use Rattle.osi_message.specs.Meanings.{Meaning}
-use Rattle.osi_message.specs.Written.{written}
+use Rattle.osi_message.specs.Parting.{tsdus_sent}
 use Rattle.osi_session.specs.Allowed.{Answer, allowed}
 use Rattle.osi_session.specs.Calls.{Call}
 use Rattle.osi_session.specs.declared.faults.CallError.{CallError}
 use Rattle.osi_session.specs.Listening.{Listener, Move, called, answered, react}
 use Rattle.osi_session.specs.Shown.{Shown}
+use Rattle.osi_session.specs.Sizes.{limit_of}
 use Rattle.osi_stack.specs.Calls.{send_refusal, reply_refusal, move_refusal, or_else, Refuses}
 use Rattle.osi_stack.specs.Moving.{answers, line_by, carrier_by}
 use Rattle.osi_stack.specs.State.{Line}
-use Rattle.osi_stack.specs.Transport.{hands, hands_some, answers_by}
+use Rattle.osi_stack.specs.Transport.{hands, answers_by}
 
--- a call shows nothing and closes nothing, and one that sends something is accepted
+-- a call shows nothing and closes nothing, and one that is accepted sends something
 pub record IsCall (move : Move) : Type 0 where
   pub shown : move.shown ≡ []
   pub closes : move.closes ≡ false
-  pub accepted : (octets : List ℕ) → option_map written move.reply ≡ Some octets → move.error ≡ None
+  pub sends : move.error ≡ None → is_none move.reply ≡ false
 
 call_by : (s : Listener) (a : Answer) → IsCall (answered s a)
-call_by s (Ok step) = record { shown = refl; closes = refl; accepted = λ octets e. refl }
-call_by s (Err e) = record { shown = refl; closes = refl; accepted = λ octets h. cc }
+call_by s (Ok step) = record { shown = refl; closes = refl; sends = λ e. refl }
+call_by s (Err e) = record { shown = refl; closes = refl; sends = λ h. cc }
 
 pub call_is : (s : Listener) (call : Call) → IsCall (react s (called call))
 unfolding react
 call_is s call = call_by s (allowed s.state call)
 
 -- what is sent decides what the carrier answers
-reply_by : (r : ℕ) (reply : Option Meaning) (octets : List ℕ) (c : Carrier) → option_map written reply ≡ Some octets →
-    reply_refusal r reply c ≡ send_refusal (send_error octets (open_link r c))
-reply_by r None octets c e = cc
-reply_by r (Some unit) octets c e =
-    let same : written unit ≡ octets = cc in
-    ap (λ (l : List ℕ). send_refusal (send_error l (open_link r c))) same
+reply_by : (r limit : ℕ) (reply : Option Meaning) (c : Carrier) → is_none reply ≡ false →
+    reply_refusal r limit reply c ≡ send_refusal (send_all_error (tsdus_sent limit reply) (open_link r c))
+reply_by r limit None c e = cc
+reply_by r limit (Some unit) c e = refl
 
-pub record IsSent (r : ℕ) (move : Move) (octets : List ℕ) (c : Carrier) : Type 0 where
-  pub refusal : move_refusal r move c ≡ send_refusal (send_error octets (open_link r c))
-  pub handed : answers r move c ≡ hands r octets c
+pub record IsSent (r limit : ℕ) (move : Move) (sent : List (List ℕ)) (c : Carrier) : Type 0 where
+  pub refusal : move_refusal r limit move c ≡ send_refusal (send_all_error sent (open_link r c))
+  pub handed : answers r limit move c ≡ hands r sent c
 
-pub call_sends : (s : Listener) (call : Call) (octets : List ℕ) (r : ℕ) (c : Carrier) → option_map written (react s (called call)).reply ≡ Some octets →
-    IsSent r (react s (called call)) octets c
-call_sends s call octets r c e = record {
-  refusal = ap (λ o. or_else o (reply_refusal r (react s (called call)).reply c)) ((call_is s call).accepted octets e)
-      ∙ reply_by r (react s (called call)).reply octets c e;
-  handed = ap (λ (b : Bool). answers_by b r (option_map written (react s (called call)).reply) c) (call_is s call).closes ∙ ap (λ o. hands_some r o c) e;
+pub call_sends : (s : Listener) (call : Call) (sent : List (List ℕ)) (r limit : ℕ) (c : Carrier) → (react s (called call)).error ≡ None →
+    sent ≡ tsdus_sent limit (react s (called call)).reply → IsSent r limit (react s (called call)) sent c
+call_sends s call sent r limit c none e = record {
+  refusal = ap (λ o. or_else o (reply_refusal r limit (react s (called call)).reply c)) none
+      ∙ reply_by r limit (react s (called call)).reply c ((call_is s call).sends none)
+      ∙ ap (λ (l : List (List ℕ)). send_refusal (send_all_error l (open_link r c))) (sym e);
+  handed = ap (λ (b : Bool). answers_by b r (tsdus_sent limit (react s (called call)).reply) c) (call_is s call).closes ∙ ap (λ (l : List (List ℕ)). hands r l c) (sym e);
 }
 
 -- ---- what the carrier answers to what a call sends
 
-pub call_handed : {A E : Type 0} (result : Result A E) (s : Listener) (call : Call) (octets tsdu : List ℕ) (r : ℕ) (c d : Carrying) → option_map written (react s (called call)).reply ≡ Some octets → tsdu ≡ octets →
-    OnOk result (d ≡ record c { state = hands r tsdu c.state }) → OnOk result (d ≡ record c { state = answers r (react s (called call)) c.state })
-call_handed (Err f) s call octets tsdu r c d e same h = tt
-call_handed (Ok a) s call octets tsdu r c d e same h =
-    h ∙ ap (λ (l : List ℕ). record c { state = hands r l c.state }) same ∙ ap (λ (x : Carrier). record c { state = x }) (sym (call_sends s call octets r c.state e).handed)
+pub call_handed : {A E : Type 0} (result : Result A E) (s : Listener) (call : Call) (sent tsdus : List (List ℕ)) (r limit : ℕ) (c d : Carrying) → (react s (called call)).error ≡ None →
+    sent ≡ tsdus_sent limit (react s (called call)).reply → tsdus ≡ sent →
+    OnOk result (d ≡ record c { state = hands r tsdus c.state }) → OnOk result (d ≡ record c { state = answers r limit (react s (called call)) c.state })
+call_handed (Err f) s call sent tsdus r limit c d none e same h = tt
+call_handed (Ok a) s call sent tsdus r limit c d none e same h =
+    h ∙ ap (λ (l : List (List ℕ)). record c { state = hands r l c.state }) same
+    ∙ ap (λ (x : Carrier). record c { state = x }) (sym (call_sends s call sent r limit c.state none e).handed)
 
-refusal_is : (s : Listener) (call : Call) (octets tsdu : List ℕ) (r : ℕ) (c : Carrier) → option_map written (react s (called call)).reply ≡ Some octets → tsdu ≡ octets →
-    send_refusal (send_error tsdu (open_link r c)) ≡ move_refusal r (react s (called call)) c
-refusal_is s call octets tsdu r c e same = ap (λ (l : List ℕ). send_refusal (send_error l (open_link r c))) same ∙ sym (call_sends s call octets r c e).refusal
+refusal_is : (s : Listener) (call : Call) (sent tsdus : List (List ℕ)) (r limit : ℕ) (c : Carrier) → (react s (called call)).error ≡ None →
+    sent ≡ tsdus_sent limit (react s (called call)).reply → tsdus ≡ sent → send_refusal (send_all_error tsdus (open_link r c)) ≡ move_refusal r limit (react s (called call)) c
+refusal_is s call sent tsdus r limit c none e same =
+    ap (λ (l : List (List ℕ)). send_refusal (send_all_error l (open_link r c))) same ∙ sym (call_sends s call sent r limit c none e).refusal
 
-pub call_allowed : {A E : Type 0} (result : Result A E) (s : Listener) (call : Call) (octets tsdu : List ℕ) (r : ℕ) (c : Carrier) → option_map written (react s (called call)).reply ≡ Some octets → tsdu ≡ octets →
-    OnOk result (send_refusal (send_error tsdu (open_link r c)) ≡ None) → OnOk result (move_refusal r (react s (called call)) c ≡ None)
-call_allowed result s call octets tsdu r c e same h = subst (λ (o : Option CallError). OnOk result (o ≡ None)) (refusal_is s call octets tsdu r c e same) h
+pub call_allowed : {A E : Type 0} (result : Result A E) (s : Listener) (call : Call) (sent tsdus : List (List ℕ)) (r limit : ℕ) (c : Carrier) → (react s (called call)).error ≡ None →
+    sent ≡ tsdus_sent limit (react s (called call)).reply → tsdus ≡ sent →
+    OnOk result (send_refusal (send_all_error tsdus (open_link r c)) ≡ None) → OnOk result (move_refusal r limit (react s (called call)) c ≡ None)
+call_allowed result s call sent tsdus r limit c none e same h =
+    subst (λ (o : Option CallError). OnOk result (o ≡ None)) (refusal_is s call sent tsdus r limit c none e same) h
 
 refuses_is : (e : CallError) (first all other : Option CallError) → first ≡ None → other ≡ all → Refuses e None other → Refuses e first all
 refuses_is e first all other none same h =
     subst (λ (o : Option CallError). Refuses e o all) (sym none) (subst (λ (o : Option CallError). Refuses e None o) same h)
 
-pub call_refused : {A : Type 0} (result : Result A CallError) (s : Listener) (call : Call) (octets tsdu : List ℕ) (r : ℕ) (c : Carrier) → option_map written (react s (called call)).reply ≡ Some octets →
-    tsdu ≡ octets → IfErr result (λ e. Refuses e None (send_refusal (send_error tsdu (open_link r c)))) →
-    IfErr result (λ e. Refuses e (react s (called call)).error (move_refusal r (react s (called call)) c))
-call_refused (Ok a) s call octets tsdu r c e same h = tt
-call_refused (Err f) s call octets tsdu r c e same h =
-    refuses_is f _ _ _ ((call_is s call).accepted octets e) (refusal_is s call octets tsdu r c e same) h
+pub call_refused : {A : Type 0} (result : Result A CallError) (s : Listener) (call : Call) (sent tsdus : List (List ℕ)) (r limit : ℕ) (c : Carrier) → (react s (called call)).error ≡ None →
+    sent ≡ tsdus_sent limit (react s (called call)).reply → tsdus ≡ sent →
+    IfErr result (λ e. Refuses e None (send_refusal (send_all_error tsdus (open_link r c)))) →
+    IfErr result (λ e. Refuses e (react s (called call)).error (move_refusal r limit (react s (called call)) c))
+call_refused (Ok a) s call sent tsdus r limit c none e same h = tt
+call_refused (Err f) s call sent tsdus r limit c none e same h =
+    refuses_is f _ _ _ none (refusal_is s call sent tsdus r limit c none e same) h
 
 -- ---- the line and the carrier after a call
 
@@ -90,7 +96,7 @@ called_line (Ok a) r l v s t call is here h =
     (ap (λ (x : Line). (r, x)) (done ∙ ap (λ o. line_by l o (called call)) (sym here)))
 
 pub called_carrier : {A E : Type 0} (result : Result A E) (r : ℕ) (l : Line) (v : ℕ × Line) (s : Listener) (c d : Carrying) (call : Call) → (r, l) ≡ v → l.session ≡ Some s →
-    OnOk result (d ≡ record c { state = answers r (react s (called call)) c.state }) → OnOk result (d ≡ record c { state = carrier_by v.0 v.1.session (called call) c.state })
+    OnOk result (d ≡ record c { state = answers r (limit_of s.state) (react s (called call)) c.state }) → OnOk result (d ≡ record c { state = carrier_by v.0 v.1.session (called call) c.state })
 called_carrier (Err f) r l v s c d call is here h = tt
 called_carrier (Ok a) r l v s c d call is here h =
     subst (λ (x : ℕ × Line). d ≡ record c { state = carrier_by x.0 x.1.session (called call) c.state }) is

@@ -1,5 +1,5 @@
 -- The events that wait, heard one after the other.
-use Rattle.std.proofs.Common.{◌≡◌, ℕ, ◌+◌, ◌==◌, zero, suc, Bool, true, false, not, List, [], ◌∷◌, length, Option, Some, None, is_some, refl, sym, ap, subst, ◌∙◌, arith, if◌then◌else◌}
+use Rattle.std.proofs.Common.{◌≡◌, ℕ, ◌+◌, ◌<◌, ◌==◌, zero, suc, Bool, true, false, not, List, [], ◌∷◌, length, Option, Some, None, is_some, refl, sym, ap, subst, ◌∙◌, arith, if◌then◌else◌}
 use Rattle.std.proofs.lemmas.Bool.{eqb-true}
 use Rattle.osi_carrier.specs.Calls.{ended_by}
 use Rattle.osi_carrier.specs.Happenings.{Happening}
@@ -61,6 +61,14 @@ heard_next old now event mid new so_far h is held =
       left = omega arith;
       held = held ∙ so_far.held;
     }
+
+-- fewer events are left
+pub heard_left_over : (now new : Holding) (event : Happening) (mid : Carrier) → now.end.carrier ≡ record mid { events = event ∷ mid.events } →
+    new.end ≡ hears event (with_carrier mid now.end) → length new.end.carrier.events < length now.end.carrier.events
+heard_left_over now new event mid h is =
+    let fewer = heard_fewer now.end event mid h in
+    let same = ap (λ (e : End). length e.carrier.events) is in
+    omega arith
 
 pub heard_all : (old now : Holding) → HasHeard old now → now.end.carrier.events ≡ [] → now.end ≡ hears_all old.end
 heard_all old now so_far none =

@@ -25,7 +25,7 @@ use Rattle.osi_session.specs.Shown.{Shown}
 use Rattle.osi_stack.specs.Calls.{calls_with, connects, breaks, without_first, rest_by}
 use Rattle.osi_stack.specs.Feeding.{TakesPackets, Goes, Feeds}
 use Rattle.osi_stack.specs.Folds.{CameAbout, IsProfiled, OfSessions, AllCameAbout}
-use Rattle.osi_stack.specs.Hearing.{opens, hears, hears_first, hears_next, hears_times, hears_all, with_events, with_carrier, attends, after_packet, ends, starves, all_lost, Starves}
+use Rattle.osi_stack.specs.Hearing.{opens, hears, hears_first, hears_next, hears_times, hears_all, with_events, with_carrier, attends, after_packet, ends, all_lost, Starves}
 use Rattle.osi_stack.specs.Moving.{line_by, by_line, to_session}
 use Rattle.osi_stack.specs.State.{Line, End, Holding, waits, is_used, used_lines}
 use Rattle.osi_stack.specs.declared.connecting.Connect.{Connect}

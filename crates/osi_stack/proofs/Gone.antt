@@ -1,10 +1,12 @@
 -- Once the carrier has ended no session is left.
-use Rattle.std.proofs.Common.{◌≡◌, ℕ, zero, suc, ◌||◌, Bool, true, false, List, [], ◌∷◌, Option, Some, None, is_some, IsSome, option_map, refl, sym, ap, subst, ◌∙◌, inl, inr, ◌⊎◌, if◌then◌else◌}
+use Rattle.std.proofs.Common.{◌≡◌, ℕ, ◌||◌, Bool, true, false, List, [], ◌∷◌, Option, Some, None, is_some, IsSome, refl, sym, ap, subst, ◌∙◌, inl, inr, ◌⊎◌, if◌then◌else◌}
+use Rattle.osi_message.specs.Parting.{tsdus_sent}
+use Rattle.osi_session.specs.Sizes.{limit_of}
 use Rattle.osi_tpkt.specs.Stream.{ArePackets}
 use Rattle.osi_tpkt.specs.declared.cutting.Fed.{Fed}
-use Rattle.osi_carrier.specs.Calls.{send_error, open_link, sent, sent_on, may_connect}
+use Rattle.osi_carrier.specs.Calls.{open_link, sent, sent_on, may_connect, sent_all, send_all_error}
 use Rattle.osi_carrier.specs.Packets as carriers
-use Rattle.osi_carrier.specs.Rows.{Rows, value_at, put}
+use Rattle.osi_carrier.specs.Rows.{value_at, put}
 use Rattle.osi_carrier.specs.State.{State as Carrier}
 use Rattle.osi_carrier.specs.declared.ends.EndReason.{EndReason}
 use Rattle.osi_carrier.specs.declared.ends.EndReason.TheVariants.{Broken, NoMemory}
@@ -12,12 +14,11 @@ use Rattle.osi_carrier.specs.declared.faults.SendError.{SendError}
 use Rattle.osi_carrier.proofs.Effects.{free_of}
 use Rattle.osi_carrier.proofs.Places.{put_same}
 use Rattle.osi_class.specs.Link.{Standing as Link}
-use Rattle.osi_message.specs.Written.{written}
 use Rattle.osi_session.specs.Calls.{Call}
 use Rattle.osi_session.specs.Listening.{Input, Listener, called, react}
 use Rattle.osi_stack.specs.Calls.{connects, connect_error, terms_error, breaks, without_first}
 use Rattle.osi_stack.specs.Feeding.{TakesPackets, Goes, Feeds}
-use Rattle.osi_stack.specs.Hearing.{with_events, with_carrier, hears_all, hears_times, concludes, attends, after_packet, ends, starves, all_lost, Starves}
+use Rattle.osi_stack.specs.Hearing.{with_events, with_carrier, hears_all, hears_times, concludes, attends, after_packet, ends, all_lost, Starves}
 use Rattle.osi_stack.specs.Messages.{kept_at}
 use Rattle.osi_stack.specs.Moving.{line_by, carrier_by, by_line, to_session}
 use Rattle.osi_stack.specs.Settled.{IsGone}
@@ -49,20 +50,23 @@ sent_lasts_by : (r : ℕ) (tsdu : List ℕ) (o : Option (ℕ × Link)) (c : Carr
 sent_lasts_by r tsdu None c = refl
 sent_lasts_by r tsdu (Some (peer, link)) c = refl
 
-hands_lasts : (o : Option SendError) (r : ℕ) (tsdu : List ℕ) (c : Carrier) → (sent_unless o r tsdu c).ended ≡ c.ended
-hands_lasts None r tsdu c = sent_lasts_by r tsdu (open_link r c) c
-hands_lasts (Some error) r tsdu c = refl
+all_last : (r : ℕ) (tsdus : List (List ℕ)) (c : Carrier) → (sent_all r tsdus c).ended ≡ c.ended
+all_last r [] c = refl
+all_last r (tsdu ∷ tsdus) c = all_last r tsdus (sent r tsdu c) ∙ sent_lasts_by r tsdu (open_link r c) c
+
+hands_lasts : (o : Option SendError) (r : ℕ) (tsdus : List (List ℕ)) (c : Carrier) → (sent_unless o r tsdus c).ended ≡ c.ended
+hands_lasts None r tsdus c = all_last r tsdus c
+hands_lasts (Some error) r tsdus c = refl
 
 -- what a call sends does not end the carrier
-answers_last : (closes : Bool) (r : ℕ) (tsdu : Option (List ℕ)) (c : Carrier) → closes ≡ false → (answers_by closes r tsdu c).ended ≡ c.ended
-answers_last true r tsdu c still = cc
-answers_last false r None c still = refl
-answers_last false r (Some tsdu) c still = hands_lasts (send_error tsdu (open_link r c)) r tsdu c
+answers_last : (closes : Bool) (r : ℕ) (tsdus : List (List ℕ)) (c : Carrier) → closes ≡ false → (answers_by closes r tsdus c).ended ≡ c.ended
+answers_last true r tsdus c still = cc
+answers_last false r tsdus c still = hands_lasts (send_all_error tsdus (open_link r c)) r tsdus c
 
 carrier_lasts : ((s : Listener) (call : Call) → (react s (called call)).closes ≡ false) → (r : ℕ) (o : Option Listener) (call : Call) (c : Carrier) →
     (carrier_by r o (called call) c).ended ≡ c.ended
 carrier_lasts law r None call c = refl
-carrier_lasts law r (Some s) call c = answers_last (react s (called call)).closes r (option_map written (react s (called call)).reply) c (law s call)
+carrier_lasts law r (Some s) call c = answers_last (react s (called call)).closes r (tsdus_sent (limit_of s.state) (react s (called call)).reply) c (law s call)
 
 line_gone : (r : ℕ) (input : Input) (e : End) (line : Line) (o : Option Listener) → value_at r e.lines ≡ Some line → line.session ≡ o → kept_at r e.lines ≡ None →
     put r (line_by line o input) e.lines ≡ e.lines

@@ -2,7 +2,7 @@
 -- these.
 use Rattle.std.proofs.Common.{◌≡◌, ℕ, zero, suc, Bool, true, false, List, [], ◌∷◌, length, Option, Some, None, is_some, refl, sym, ap, ◌∙◌, if◌then◌else◌}
 use Rattle.osi_carrier.proofs.InFront.{apart_all}
-use Rattle.osi_carrier.specs.Calls.{send_error, open_link, sent, closed_with}
+use Rattle.osi_carrier.specs.Calls.{open_link, sent, closed_with, sent_all, send_all_error}
 use Rattle.osi_carrier.specs.Happenings.{Happening}
 use Rattle.osi_carrier.specs.Happenings as told
 use Rattle.osi_carrier.specs.Packets as carriers
@@ -17,7 +17,7 @@ use Rattle.osi_stack.specs.Hearing.{opens, hears, hears_first, hears_next, hears
 use Rattle.osi_stack.specs.Moving.{line_by, carrier_by, by_line, to_session}
 use Rattle.osi_stack.specs.Runs.{put_back}
 use Rattle.osi_stack.specs.State.{Line, End}
-use Rattle.osi_stack.specs.Transport.{sent_unless, hands_some, answers_by}
+use Rattle.osi_stack.specs.Transport.{sent_unless, answers_by}
 use Rattle.osi_stack.proofs.Lifting.{packet_is}
 
 -- these octets stand in front
@@ -33,17 +33,17 @@ module _ (o : List ℕ) where
   apart_closed : (r reason : ℕ) (c : Carrier) → closed_with r reason (behind c) ≡ behind (closed_with r reason c)
   apart_closed r reason c = apart_all [] o (user (closes r reason) ∷ []) c
 
-  apart_unless : (e : Option SendError) (r : ℕ) (tsdu : List ℕ) (c : Carrier) → sent_unless e r tsdu (behind c) ≡ behind (sent_unless e r tsdu c)
-  apart_unless None r tsdu c = apart_sent r tsdu c
-  apart_unless (Some e) r tsdu c = refl
+  apart_sends : (r : ℕ) (tsdus : List (List ℕ)) (c : Carrier) → sent_all r tsdus (behind c) ≡ behind (sent_all r tsdus c)
+  apart_sends r [] c = refl
+  apart_sends r (tsdu ∷ tsdus) c = ap (sent_all r tsdus) (apart_sent r tsdu c) ∙ apart_sends r tsdus (sent r tsdu c)
 
-  apart_some : (r : ℕ) (tsdu : Option (List ℕ)) (c : Carrier) → hands_some r tsdu (behind c) ≡ behind (hands_some r tsdu c)
-  apart_some r None c = refl
-  apart_some r (Some tsdu) c = apart_unless (send_error tsdu (open_link r c)) r tsdu c
+  apart_unless : (e : Option SendError) (r : ℕ) (tsdus : List (List ℕ)) (c : Carrier) → sent_unless e r tsdus (behind c) ≡ behind (sent_unless e r tsdus c)
+  apart_unless None r tsdus c = apart_sends r tsdus c
+  apart_unless (Some e) r tsdus c = refl
 
-  apart_answers : (closing : Bool) (r : ℕ) (tsdu : Option (List ℕ)) (c : Carrier) → answers_by closing r tsdu (behind c) ≡ behind (answers_by closing r tsdu c)
-  apart_answers true r tsdu c = apart_closed r 128 c
-  apart_answers false r tsdu c = apart_some r tsdu c
+  apart_answers : (closing : Bool) (r : ℕ) (tsdus : List (List ℕ)) (c : Carrier) → answers_by closing r tsdus (behind c) ≡ behind (answers_by closing r tsdus c)
+  apart_answers true r tsdus c = apart_closed r 128 c
+  apart_answers false r tsdus c = apart_unless (send_all_error tsdus (open_link r c)) r tsdus c
 
   apart_carrier : (r : ℕ) (session : Option Listener) (input : Input) (c : Carrier) → carrier_by r session input (behind c) ≡ behind (carrier_by r session input c)
   apart_carrier r None input c = refl

@@ -1,6 +1,6 @@
 -- What sessions leave of the carrier as it was: the events that wait, and how it ended.
-use Rattle.std.proofs.Common.{◌≡◌, ℕ, Bool, true, false, List, Option, Some, None, is_some, refl, sym, ap, if◌then◌else◌}
-use Rattle.osi_carrier.specs.Calls.{send_error, open_link, link_of, sent_on, closes, closed_on}
+use Rattle.std.proofs.Common.{◌≡◌, ℕ, Bool, true, false, List, Option, Some, None, is_some, refl, sym, ap, if◌then◌else◌, ◌∙◌, [], ◌∷◌}
+use Rattle.osi_carrier.specs.Calls.{open_link, link_of, sent_on, closes, closed_on, sent, sent_all, send_all_error}
 use Rattle.osi_carrier.specs.Happenings.{Happening}
 use Rattle.osi_carrier.specs.Happenings as told
 use Rattle.osi_carrier.specs.Packets.{is_spoilt}
@@ -15,7 +15,7 @@ use Rattle.osi_session.specs.Listening.{Input, Listener, opened, react}
 use Rattle.osi_stack.specs.Hearing.{opens, hears}
 use Rattle.osi_stack.specs.Moving.{carrier_by, by_line, to_session}
 use Rattle.osi_stack.specs.State.{Line, End}
-use Rattle.osi_stack.specs.Transport.{sent_unless, hands_some, answers_by}
+use Rattle.osi_stack.specs.Transport.{sent_unless, answers_by}
 
 pub record Keeps (old new : Carrier) : Type 0 where
   pub events : new.events ≡ old.events
@@ -29,13 +29,16 @@ sent_keeps_by : (r : ℕ) (tsdu : List ℕ) (o : Option (ℕ × Link)) (c : Carr
 sent_keeps_by r tsdu None c = same c
 sent_keeps_by r tsdu (Some link) c = record { events = refl; spoilt = refl; lasts = λ h. h }
 
-unless_keeps : (o : Option SendError) (r : ℕ) (tsdu : List ℕ) (c : Carrier) → Keeps c (sent_unless o r tsdu c)
-unless_keeps None r tsdu c = sent_keeps_by r tsdu (open_link r c) c
-unless_keeps (Some e) r tsdu c = same c
+then_keeps : (a b c : Carrier) → Keeps a b → Keeps b c → Keeps a c
+then_keeps a b c h k = record { events = k.events ∙ h.events; spoilt = k.spoilt ∙ h.spoilt; lasts = λ e. h.lasts (k.lasts e) }
 
-some_keeps : (r : ℕ) (tsdu : Option (List ℕ)) (c : Carrier) → Keeps c (hands_some r tsdu c)
-some_keeps r None c = same c
-some_keeps r (Some tsdu) c = unless_keeps (send_error tsdu (open_link r c)) r tsdu c
+all_keep : (r : ℕ) (tsdus : List (List ℕ)) (c : Carrier) → Keeps c (sent_all r tsdus c)
+all_keep r [] c = same c
+all_keep r (tsdu ∷ tsdus) c = then_keeps c (sent r tsdu c) (sent_all r tsdus (sent r tsdu c)) (sent_keeps_by r tsdu (open_link r c) c) (all_keep r tsdus (sent r tsdu c))
+
+unless_keeps : (o : Option SendError) (r : ℕ) (tsdus : List (List ℕ)) (c : Carrier) → Keeps c (sent_unless o r tsdus c)
+unless_keeps None r tsdus c = all_keep r tsdus c
+unless_keeps (Some e) r tsdus c = same c
 
 -- an open connection has a carrier that lasts
 lasting : (ended : Option EndReason) (o : Option (ℕ × Link)) (link : ℕ × Link) → (if is_some ended then None else o) ≡ Some link → ended ≡ None
@@ -51,9 +54,9 @@ closed_keeps_by : (r reason : ℕ) (o : Option (ℕ × Link)) (c : Carrier) → 
 closed_keeps_by r reason None c e = same c
 closed_keeps_by r reason (Some link) c e = closes_keeps r link.0 reason c.class c (lasting c.ended (link_of (value_at r c.live)) link e)
 
-answers_keep_by : (closing : Bool) (r : ℕ) (tsdu : Option (List ℕ)) (c : Carrier) → Keeps c (answers_by closing r tsdu c)
-answers_keep_by true r tsdu c = closed_keeps_by r 128 (open_link r c) c refl
-answers_keep_by false r tsdu c = some_keeps r tsdu c
+answers_keep_by : (closing : Bool) (r : ℕ) (tsdus : List (List ℕ)) (c : Carrier) → Keeps c (answers_by closing r tsdus c)
+answers_keep_by true r tsdus c = closed_keeps_by r 128 (open_link r c) c refl
+answers_keep_by false r tsdus c = unless_keeps (send_all_error tsdus (open_link r c)) r tsdus c
 
 carrier_keeps : (r : ℕ) (o : Option Listener) (input : Input) (c : Carrier) → Keeps c (carrier_by r o input c)
 carrier_keeps r None input c = same c

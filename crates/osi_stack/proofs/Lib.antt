@@ -28,6 +28,7 @@ pub mod InFront
 pub mod Keeps
 pub mod Parted
 pub mod Gone
+pub mod Handing
 pub mod Joinings
 pub mod Accounts
 pub mod Overs

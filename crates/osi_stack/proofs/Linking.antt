@@ -1,7 +1,7 @@
 -- Sessions keep transport connections that are open, whatever is heard.
 use Rattle.std.proofs.Common.{◌≡◌, ◌≢◌, ℕ, zero, suc, ◌==◌, Bool, true, false, not, ◌&&◌, ◌||◌, List, [], ◌∷◌, ◌++◌, length, Option, Some, None, is_some, IsSome, option_map, Result, Ok, Err, refl, sym, ap, subst, ◌∙◌, inl, inr, ◌⊎◌, if◌then◌else◌}
 use Rattle.std.proofs.lemmas.Bool.{eqb-true, eq-eqb}
-use Rattle.osi_carrier.specs.Calls.{send_error, open_link, link_of, sent, sent_on, closes, closed_on, closed_with}
+use Rattle.osi_carrier.specs.Calls.{open_link, link_of, sent, sent_on, closes, closed_on, closed_with, sent_all, send_all_error}
 use Rattle.osi_carrier.specs.Happenings.{Happening}
 use Rattle.osi_carrier.specs.Happenings as told
 use Rattle.osi_carrier.specs.Rows.{Rows, value_at, put}
@@ -12,7 +12,6 @@ use Rattle.osi_carrier.proofs.Apart.{put_here, push_here}
 use Rattle.osi_carrier.proofs.AtReferences.{put_other, push_other, put_none}
 use Rattle.osi_carrier.proofs.Places.{put_same}
 use Rattle.osi_carrier.specs.Orderly.{told_of}
-use Rattle.osi_message.specs.Written.{written}
 use Rattle.osi_carrier.proofs.ToldOpen.{sent_opens, closed_opens}
 use Rattle.osi_class.specs.Link.{Standing as Link}
 use Rattle.osi_class.specs.declared.terms.Class.{Class}
@@ -27,7 +26,8 @@ use Rattle.osi_session.specs.declared.phases.Phase.{Phase}
 use Rattle.osi_stack.specs.Hearing.{opens, hears, hears_first, hears_next, hears_times, with_events, loses, all_lost}
 use Rattle.osi_stack.specs.Links.{needs_link, AreApart}
 use Rattle.osi_stack.specs.Messages.{kept_at}
-use Rattle.osi_stack.specs.Moving.{line_by, carrier_by, by_line, to_session}
+use Rattle.osi_message.specs.Parting.{tsdus_sent}
+use Rattle.osi_stack.specs.Moving.{limit_for, line_by, carrier_by, by_line, to_session}
 use Rattle.osi_stack.specs.State.{Line, End, session_in, line_waits, is_used, used_lines, joins}
 use Rattle.osi_stack.specs.Transport.{sent_unless, answers_by}
 use Rattle.osi_stack.proofs.Keeping.{hears_keep}
@@ -72,17 +72,25 @@ sent_stays_by : (q : ℕ) (tsdu : List ℕ) (o : Option (ℕ × Link)) (c : Carr
 sent_stays_by q tsdu None c r some = some
 sent_stays_by q tsdu (Some (peer, link)) c r some = put_some r q _ c.live some
 
-sent_answered : (q : ℕ) (tsdu : List ℕ) (c : Carrier) → Answered q false c (sent q tsdu c)
-sent_answered q tsdu c = record {
-  others = λ over r ne. sent_opens q r tsdu c;
-  stays = λ over r some. sent_stays_by q tsdu (open_link q c) c r some;
-  here = λ e. sent_opens q q tsdu c;
+all_open : (q r : ℕ) (tsdus : List (List ℕ)) (c : Carrier) → is_open r (sent_all q tsdus c) ≡ is_open r c
+all_open q r [] c = refl
+all_open q r (tsdu ∷ tsdus) c = all_open q r tsdus (sent q tsdu c) ∙ sent_opens q r tsdu c
+
+all_stay : (q r : ℕ) (tsdus : List (List ℕ)) (c : Carrier) → IsSome (value_at r c.live) → IsSome (value_at r (sent_all q tsdus c).live)
+all_stay q r [] c some = some
+all_stay q r (tsdu ∷ tsdus) c some = all_stay q r tsdus (sent q tsdu c) (sent_stays_by q tsdu (open_link q c) c r some)
+
+all_answered : (q : ℕ) (tsdus : List (List ℕ)) (c : Carrier) → Answered q false c (sent_all q tsdus c)
+all_answered q tsdus c = record {
+  others = λ over r ne. all_open q r tsdus c;
+  stays = λ over r some. all_stay q r tsdus c some;
+  here = λ e. all_open q q tsdus c;
   closing_here = λ e over. cc;
 }
 
-hands_by : (q : ℕ) (tsdu : List ℕ) (c : Carrier) (o : Option SendError) → Answered q false c (sent_unless o q tsdu c)
-hands_by q tsdu c None = sent_answered q tsdu c
-hands_by q tsdu c (Some e) = unanswered q false c
+hands_by : (q : ℕ) (tsdus : List (List ℕ)) (c : Carrier) (o : Option SendError) → Answered q false c (sent_unless o q tsdus c)
+hands_by q tsdus c None = all_answered q tsdus c
+hands_by q tsdus c (Some e) = unanswered q false c
 
 live_of_link : (over : Bool) (o : Option Connection) (link : ℕ × Link) → (if over then None else link_of o) ≡ Some link → IsSome o
 live_of_link true o link e = cc
@@ -124,10 +132,9 @@ closed_answered q c = record {
   closing_here = λ e over. closing_by q (open_link q c) c refl over;
 }
 
-answered_by : (q : ℕ) (closes : Bool) (tsdu : Option (List ℕ)) (c : Carrier) → Answered q closes c (answers_by closes q tsdu c)
-answered_by q true tsdu c = closed_answered q c
-answered_by q false None c = unanswered q false c
-answered_by q false (Some tsdu) c = hands_by q tsdu c (send_error tsdu (open_link q c))
+answered_by : (q : ℕ) (closes : Bool) (tsdus : List (List ℕ)) (c : Carrier) → Answered q closes c (answers_by closes q tsdus c)
+answered_by q true tsdus c = closed_answered q c
+answered_by q false tsdus c = hands_by q tsdus c (send_all_error tsdus (open_link q c))
 
 -- ---- the events that are still to be heard
 
@@ -266,7 +273,7 @@ line_hears q input e line (Some s) here is =
       is = ap session_in (put_here q after line e.lines here) ∙ ap (λ (x : Option Listener). (line_by line x input).session) is;
       others = λ r ne. ap session_in (put_other r q after e.lines ne);
       answered = subst (λ (x : Option Listener). Answered q (react s input).closes e.carrier (carrier_by q x input e.carrier)) (sym is)
-          (answered_by q (react s input).closes (option_map written (react s input).reply) e.carrier);
+          (answered_by q (react s input).closes (tsdus_sent (limit_for s input) (react s input).reply) e.carrier);
     })
 
 session_hears_by : (q : ℕ) (input : Input) (e : End) (o : Option Line) → value_at q e.lines ≡ o → Hearing q input e (by_line q o input e)

@@ -2,16 +2,15 @@
 use Rattle.std.proofs.Common.{◌≡◌, ℕ, suc, ◌≤◌, ◌==◌, Bool, true, false, not, ◌||◌, List, [], ◌∷◌, ◌++◌, length, nat_lt, Option, Some, None, is_some, IsSome, option_map, Result, Ok, Err, refl, sym, ap, subst, ◌∙◌, arith, if◌then◌else◌}
 use Rattle.std.proofs.lemmas.Bool.{eqb-true}
 use Rattle.std.proofs.lemmas.Bool.Decides.{nat_tests}
+use Rattle.std.specs.List.{list_any}
 use Rattle.osi_tpdu.specs.Value.{Value}
-use Rattle.osi_carrier.specs.Calls.{send_error, open_link, length_error, sent, sent_on}
+use Rattle.osi_carrier.specs.Calls.{send_all_error, open_link}
 use Rattle.osi_carrier.specs.Course.{Place, never, was_given}
 use Rattle.osi_carrier.specs.Happenings.{Happening}
 use Rattle.osi_carrier.specs.Happenings as told
 use Rattle.osi_carrier.specs.React as carriers
 use Rattle.osi_carrier.specs.Rows.{Rows, value_at, put}
 use Rattle.osi_carrier.specs.State.{Connection, asked, linked, closing, State as Carrier}
-use Rattle.osi_carrier.specs.declared.faults.SendError.{SendError}
-use Rattle.osi_carrier.specs.declared.faults.SendError.TheVariants.{TooLong}
 use Rattle.osi_carrier.proofs.Apart.{put_here}
 use Rattle.osi_carrier.proofs.AtReferences.{put_other}
 use Rattle.osi_class.specs.Link.{Standing as Link}
@@ -20,20 +19,24 @@ use Rattle.osi_message.specs.Reading.{said_by_units, said_at, said_if_read}
 use Rattle.osi_spdu.specs.Known.{Units}
 use Rattle.osi_spdu.specs.declared.faults.SpduFault.{SpduFault}
 use Rattle.osi_message.specs.Sendable.{words_of, IsSendable}
-use Rattle.osi_message.specs.Words.{Words, part_octets}
+use Rattle.osi_message.specs.Parting.{words_sent, tsdus_of, tsdus_sent, behind_no_token}
+use Rattle.osi_message.specs.Words.{part_octets}
+use Rattle.osi_message.specs.Words as words
 use Rattle.osi_message.specs.Written.{written, spelled}
 use Rattle.osi_message.specs.declared.places.Place.{Place as PartPlace}
 use Rattle.osi_spdu.specs.Reading.{tsdu_at}
 use Rattle.osi_session.specs.Listening.{Input, Listener, Move, called, opened, refused, broken, taken, came, came_as, answered, react}
 use Rattle.osi_session.specs.Sessions.{awaits}
+use Rattle.osi_session.specs.Sizes.{limit_of}
 use Rattle.osi_session.specs.Shown.{Shown}
 use Rattle.osi_stack.specs.Calls.{first_shown, first_by, without_first, rest_by, has_given, send_refusal, move_refusal, session_refusal, call_error}
 use Rattle.osi_stack.specs.Coming.{carries_out, after_unit}
 use Rattle.osi_stack.specs.Hearing.{opens, hears, hears_times, hears_first, hears_all, with_events, concludes, attends, shown_at_loss, loses, all_lost}
-use Rattle.osi_stack.specs.Messages.{Message, unit, part, ask, agree, deny, bye, over, IsWhole, put_by, puts, Acts, Effect, begins, happens, rests, effect_at, told_at, words_in_part, HasSession, IsShort, CanHear, Hears, told_all, Arrives, kept_at, waiting_of, Becomes, IsGranted, Says, AreLost, shown_of, all_waiting, IsFirstOf}
-use Rattle.osi_stack.specs.Moving.{line_after, line_by, carrier_by, by_line, to_session}
+use Rattle.osi_stack.specs.Messages.{Message, unit, part, ask, agree, deny, bye, over, IsWhole, put_by, puts, Acts, Effect, begins, happens, rests, effect_at, told_at, HasSession, AreShort, IsShort, CanHear, Hears, told_all, Arrives, kept_at, waiting_of, Becomes, IsGranted, Says, AreLost, shown_of, all_waiting, IsFirstOf}
+use Rattle.osi_stack.specs.Moving.{limit_for, line_after, line_by, carrier_by, by_line, to_session}
 use Rattle.osi_stack.specs.State.{Line, End, session_in, session_at, line_waits, waits, is_used, used_lines, joins}
-use Rattle.osi_stack.specs.Transport.{sent_unless, hands, answers_by}
+use Rattle.osi_stack.specs.Transport.{answers_by}
+use Rattle.osi_stack.proofs.Handing.{hands_none, handed, puts_words}
 use Rattle.osi_stack.proofs.Events.{all_quiet}
 use Rattle.osi_stack.proofs.Lifting.{or_first, or_second}
 use Rattle.osi_session.specs.Allowed.{Answer, allowed}
@@ -43,26 +46,15 @@ use Rattle.osi_session.specs.declared.faults.CallError.TheVariants as error
 
 -- ---- what a session puts
 
--- what is short is sent on an open connection, and on another nothing is
-handed_by : (r : ℕ) (tsdu : List ℕ) (c : Carrier) (o : Option (ℕ × Link)) → open_link r c ≡ o → length tsdu ≤ 1048576 → hands r tsdu c ≡ sent r tsdu c
-handed_by r tsdu c None e short =
-    ap (λ x. sent_unless (send_error tsdu x) r tsdu c) e ∙ sym (ap (λ x. sent_on r tsdu x c) e)
-handed_by r tsdu c (Some link) e short =
-    let fits : nat_lt 1048576 (length tsdu) ≡ false = grind (arith, nat_tests) in
-    let none : length_error tsdu ≡ None = ap (λ (b : Bool). if◌then◌else◌ {A = Option SendError} b (Some TooLong) None) fits in
-    ap (λ x. sent_unless (send_error tsdu x) r tsdu c) e ∙ ap (λ x. sent_unless x r tsdu c) none
-
-pub handed : (r : ℕ) (tsdu : List ℕ) (c : Carrier) → length tsdu ≤ 1048576 → hands r tsdu c ≡ sent r tsdu c
-handed r tsdu c short = handed_by r tsdu c (open_link r c) refl short
-
-answers_put : (r : ℕ) (closes : Bool) (reply : Option Meaning) (c : Carrier) → IsShort reply → answers_by closes r (option_map written reply) c ≡ puts r (put_by closes reply) c
-answers_put r true reply c short = refl
-answers_put r false None c short = refl
-answers_put r false (Some m) c short = handed r (written m) c short
+answers_put : (r : ℕ) (closes : Bool) (limit : ℕ) (reply : Option Meaning) (c : Carrier) → IsShort limit reply →
+    answers_by closes r (tsdus_sent limit reply) c ≡ puts r (put_by closes limit reply) c
+answers_put r true limit reply c short = refl
+answers_put r false limit None c short = hands_none r c
+answers_put r false limit (Some m) c short = handed r (tsdus_of limit m) c short ∙ puts_words r (words_sent limit m) c
 
 -- ---- a move
 
-by_acts : (r : ℕ) (input : Input) (e : End) (line : Line) (s : Listener) → value_at r e.lines ≡ Some line → line.session ≡ Some s → IsShort (react s input).reply →
+by_acts : (r : ℕ) (input : Input) (e : End) (line : Line) (s : Listener) → value_at r e.lines ≡ Some line → line.session ≡ Some s → IsShort (limit_for s input) (react s input).reply →
     Acts r input e (to_session r input e)
 by_acts r input e line s here is short =
     let at : to_session r input e ≡ by_line r (Some line) input e = ap (λ o. by_line r o input e) here in
@@ -73,10 +65,10 @@ by_acts r input e line s here is short =
       is = is;
       lines = ap (λ (x : End). x.lines) at ∙ ap (λ o. put r (line_by line o input) e.lines) is;
       carrier = ap (λ (x : End). x.carrier) at ∙ ap (λ o. carrier_by r o input e.carrier) is
-          ∙ answers_put r (react s input).closes (react s input).reply e.carrier short;
+          ∙ answers_put r (react s input).closes (limit_for s input) (react s input).reply e.carrier short;
     }
 
-pub acts_is : (r : ℕ) (input : Input) (e : End) (s : HasSession r e.lines) → IsShort (react s.session input).reply → Acts r input e (to_session r input e)
+pub acts_is : (r : ℕ) (input : Input) (e : End) (s : HasSession r e.lines) → IsShort (limit_for s.session input) (react s.session input).reply → Acts r input e (to_session r input e)
 acts_is r input e s short = by_acts r input e s.line s.session s.here s.is short
 
 pub acts_becomes : (r : ℕ) (input : Input) (old new : End) (a : Acts r input old new) →
@@ -122,17 +114,18 @@ opens_to : (r : ℕ) (e : End) (line : Line) → value_at r e.lines ≡ Some lin
 opens_to r e line here = ap (λ o. opens r o e) here
 
 pub record Readings : Type 0 where
+  pub parts : (place : PartPlace) (octets : List ℕ) → said_at (part_octets place octets) ≡ Ok (behind_no_token (words.part place octets))
   pub read : (m : Meaning) → IsSendable m → tsdu_at (written m) ≡ Ok (spelled m)
   pub said : (m : Meaning) → IsSendable m → said_by_units (spelled m) ≡ words_of m
-  pub parts : (place : PartPlace) (octets : List ℕ) → said_at (part_octets place octets) ≡ Ok (words_in_part place octets)
 
 -- what is sent comes as what it says
 pub came_is : Readings → (m : Meaning) → IsSendable m → came (written m) ≡ taken (words_of m)
 unfolding said_at
 came_is law m sendable = ap (λ (r : Result Units SpduFault). came_as (said_if_read r)) (law.read m sendable) ∙ ap taken (law.said m sendable)
 
-part_came : Readings → (place : PartPlace) (octets : List ℕ) → came (part_octets place octets) ≡ taken (words_in_part place octets)
-part_came law place octets = ap came_as (law.parts place octets)
+-- and so does a part
+part_is : Readings → (place : PartPlace) (octets : List ℕ) → came (part_octets place octets) ≡ taken (behind_no_token (words.part place octets))
+part_is law place octets = ap came_as (law.parts place octets)
 
 pub arrives : Readings → (r : ℕ) (place : Place) (m : Message) (v : Value) (e : End) → IsWhole m → (carriers.react v e.carrier).events ≡ told_at r place m →
     CanHear r (effect_at place m) e.lines → Arrives r (effect_at place m) v e (after_unit e v)
@@ -155,8 +148,8 @@ arrives law r (was_given (Some asked)) over v e whole h can = rests_by r v e h
 arrives law r (was_given (Some (linked peer link))) (unit m) v e whole h can =
     happens_by r (taken (words_of m)) (told.tsdu r (written m)) v e h (ap (λ i. to_session r i (told_all v e)) (came_is law m whole)) can
 arrives law r (was_given (Some (linked peer link))) (part place octets) v e whole h can =
-    happens_by r (taken (words_in_part place octets)) (told.tsdu r (part_octets place octets)) v e h
-    (ap (λ i. to_session r i (told_all v e)) (part_came law place octets)) can
+    happens_by r (taken (behind_no_token (words.part place octets))) (told.tsdu r (part_octets place octets)) v e h
+    (ap (λ i. to_session r i (told_all v e)) (part_is law place octets)) can
 arrives law r (was_given (Some (linked peer link))) ask v e whole h can = rests_by r v e h
 arrives law r (was_given (Some (linked peer link))) agree v e whole h can = rests_by r v e h
 arrives law r (was_given (Some (linked peer link))) (deny reason) v e whole h can = rests_by r v e h
@@ -228,28 +221,38 @@ none_waiting ((r, line) ∷ lines) h =
 
 -- ---- a call
 
-pub record HasLink (o : Option (ℕ × Link)) (tsdu : List ℕ) : Type 0 where
+pub record HasLink (o : Option (ℕ × Link)) (tsdus : List (List ℕ)) : Type 0 where
   pub opened : IsSome o
-  pub short : length tsdu ≤ 1048576
+  pub short : AreShort tsdus
 
-unsent_link : (o : Option (ℕ × Link)) (tsdu : List ℕ) → send_refusal (send_error tsdu o) ≡ None → HasLink o tsdu
-unsent_link None tsdu h = cc
-unsent_link (Some link) tsdu h = short_by (nat_lt 1048576 (length tsdu)) refl
+short_if : (b : Bool) (tsdu : List ℕ) (tsdus : List (List ℕ)) → nat_lt 1048576 (length tsdu) ≡ b →
+    (list_any (λ (t : List ℕ). nat_lt 1048576 (length t)) tsdus ≡ false → AreShort tsdus) →
+    (b || list_any (λ (t : List ℕ). nat_lt 1048576 (length t)) tsdus) ≡ false → AreShort (tsdu ∷ tsdus)
+short_if true tsdu tsdus e more h = absurd (cc)
+short_if false tsdu tsdus e more h = (let few : length tsdu ≤ 1048576 = grind (arith, nat_tests) in few, more h)
+
+all_short : (tsdus : List (List ℕ)) → list_any (λ (t : List ℕ). nat_lt 1048576 (length t)) tsdus ≡ false → AreShort tsdus
+all_short [] h = tt
+all_short (tsdu ∷ tsdus) h = short_if (nat_lt 1048576 (length tsdu)) tsdu tsdus refl (all_short tsdus) h
+
+unsent_link : (o : Option (ℕ × Link)) (tsdus : List (List ℕ)) → send_refusal (send_all_error tsdus o) ≡ None → HasLink o tsdus
+unsent_link None tsdus h = cc
+unsent_link (Some link) tsdus h = short_by (list_any (λ (t : List ℕ). nat_lt 1048576 (length t)) tsdus) refl
   where
-    short_by : (b : Bool) → nat_lt 1048576 (length tsdu) ≡ b → HasLink (Some link) tsdu
+    short_by : (b : Bool) → list_any (λ (t : List ℕ). nat_lt 1048576 (length t)) tsdus ≡ b → HasLink (Some link) tsdus
     short_by true e = let no = rw e at h in cc
-    short_by false e = record { opened = refl; short = grind (arith, nat_tests) }
+    short_by false e = record { opened = refl; short = all_short tsdus e }
 
-granted_by : (r : ℕ) (call : Call) (s : Listener) (c : Carrier) (a : Answer) → allowed s.state call ≡ a → move_refusal r (react s (called call)) c ≡ None → IsGranted r call s c
+granted_by : (r : ℕ) (call : Call) (s : Listener) (c : Carrier) (a : Answer) → allowed s.state call ≡ a → move_refusal r (limit_of s.state) (react s (called call)) c ≡ None → IsGranted r call s c
 unfolding react
 granted_by r call s c (Err error) e h =
     let is : react s (called call) ≡ answered s (Err error) = ap (answered s) e in
-    let no : Some error ≡ None = sym (ap (λ (m : Move). move_refusal r m c) is) ∙ h in
+    let no : Some error ≡ None = sym (ap (λ (m : Move). move_refusal r (limit_of s.state) m c) is) ∙ h in
     cc
 granted_by r call s c (Ok step) e h =
     let is : react s (called call) ≡ answered s (Ok step) = ap (answered s) e in
-    let sends : send_refusal (send_error (written step.sent) (open_link r c)) ≡ None = sym (ap (λ (m : Move). move_refusal r m c) is) ∙ h in
-    let link = unsent_link (open_link r c) (written step.sent) sends in
+    let sends : send_refusal (send_all_error (tsdus_of (limit_of s.state) step.sent) (open_link r c)) ≡ None = sym (ap (λ (m : Move). move_refusal r (limit_of s.state) m c) is) ∙ h in
+    let link = unsent_link (open_link r c) (tsdus_of (limit_of s.state) step.sent) sends in
     record {
       step = step;
       accepted = e;
@@ -272,7 +275,7 @@ says_at r call e None at h = let no : Some error.Ended ≡ None = h in cc
 says_at r call e (Some s) at h =
     let there = line_of (is_some (value_at r e.carrier.live)) (value_at r e.lines) s at in
     let g = granted_by r call s e.carrier (allowed s.state call) refl h in
-    let short : IsShort (react s (called call)).reply = subst IsShort (sym g.reply) g.short in
+    let short : IsShort (limit_of s.state) (react s (called call)).reply = subst (IsShort (limit_of s.state)) (sym g.reply) g.short in
     record {
       acts = by_acts r (called call) e there.0 s there.1 there.2 short;
       granted = g;

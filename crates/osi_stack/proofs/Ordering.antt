@@ -10,7 +10,7 @@ use Rattle.osi_class.specs.Link.{Standing as Link}
 use Rattle.osi_class.specs.declared.terms.Class.{Class}
 use Rattle.osi_class.specs.declared.terms.Class.TheVariants.{Zero, Two}
 use Rattle.osi_class.specs.declared.terms.Local.{Local}
-use Rattle.osi_carrier.specs.Calls.{send_error, open_link, may_connect, sent_on, closes, closed_on}
+use Rattle.osi_carrier.specs.Calls.{open_link, may_connect, sent_on, closes, closed_on, sent, sent_all, send_all_error}
 use Rattle.osi_carrier.specs.Happenings.{Happening, opened, refused, tsdu, closed, faulted}
 use Rattle.osi_carrier.specs.Orderly.{RiseFrom, AreUpTo, IsOrderly}
 use Rattle.osi_carrier.specs.Packets as carriers
@@ -36,7 +36,7 @@ use Rattle.osi_stack.specs.Links.{AreApart, Soundness, IsSound}
 use Rattle.osi_stack.specs.Moving.{carrier_by, line_by, by_line, to_session}
 use Rattle.osi_stack.specs.Ordered.{IsOrdered}
 use Rattle.osi_stack.specs.State.{Line, End, Holding, IsAttended, fresh_end, waits, is_used, used_lines}
-use Rattle.osi_stack.specs.Transport.{sent_unless, hands_some, answers_by}
+use Rattle.osi_stack.specs.Transport.{sent_unless, answers_by}
 use Rattle.osi_stack.specs.declared.connecting.Connect.{Connect}
 use Rattle.osi_stack.proofs.Comings.{attended_then, attended_along}
 use Rattle.osi_stack.proofs.Events.{times_quiet}
@@ -59,13 +59,16 @@ sent_leaves : (r : ℕ) (octets : List ℕ) (o : Option (ℕ × Link)) (c : Carr
 sent_leaves r octets None c = left c
 sent_leaves r octets (Some (peer, link)) c = record { side = refl; awaited = awaited_put r _ c.live (linked_not_asked _ _) }
 
-unless_leaves : (o : Option SendError) (r : ℕ) (octets : List ℕ) (c : Carrier) → Leaves c (sent_unless o r octets c)
-unless_leaves None r octets c = sent_leaves r octets (open_link r c) c
-unless_leaves (Some e) r octets c = left c
+then_leaves : (a b c : Carrier) → Leaves a b → Leaves b c → Leaves a c
+then_leaves a b c h k = record { side = k.side ∙ h.side; awaited = λ q e. h.awaited q (k.awaited q e) }
 
-some_leaves : (r : ℕ) (octets : Option (List ℕ)) (c : Carrier) → Leaves c (hands_some r octets c)
-some_leaves r None c = left c
-some_leaves r (Some octets) c = unless_leaves (send_error octets (open_link r c)) r octets c
+all_leave : (r : ℕ) (tsdus : List (List ℕ)) (c : Carrier) → Leaves c (sent_all r tsdus c)
+all_leave r [] c = left c
+all_leave r (octets ∷ tsdus) c = then_leaves c (sent r octets c) (sent_all r tsdus (sent r octets c)) (sent_leaves r octets (open_link r c) c) (all_leave r tsdus (sent r octets c))
+
+unless_leaves : (o : Option SendError) (r : ℕ) (tsdus : List (List ℕ)) (c : Carrier) → Leaves c (sent_unless o r tsdus c)
+unless_leaves None r tsdus c = all_leave r tsdus c
+unless_leaves (Some e) r tsdus c = left c
 
 closes_leaves : (r peer reason : ℕ) (class : Option Class) (c : Carrier) → Leaves c (closes r peer reason class c)
 closes_leaves r peer reason None c = record { side = refl; awaited = awaited_put r (closing peer) c.live (closing_not_asked peer) }
@@ -76,9 +79,9 @@ closed_leaves : (r reason : ℕ) (o : Option (ℕ × Link)) (c : Carrier) → Le
 closed_leaves r reason None c = left c
 closed_leaves r reason (Some (peer, link)) c = closes_leaves r peer reason c.class c
 
-answers_leave : (closing : Bool) (r : ℕ) (octets : Option (List ℕ)) (c : Carrier) → Leaves c (answers_by closing r octets c)
-answers_leave true r octets c = closed_leaves r 128 (open_link r c) c
-answers_leave false r octets c = some_leaves r octets c
+answers_leave : (closing : Bool) (r : ℕ) (tsdus : List (List ℕ)) (c : Carrier) → Leaves c (answers_by closing r tsdus c)
+answers_leave true r tsdus c = closed_leaves r 128 (open_link r c) c
+answers_leave false r tsdus c = unless_leaves (send_all_error tsdus (open_link r c)) r tsdus c
 
 carrier_leaves : (r : ℕ) (o : Option Listener) (input : Input) (c : Carrier) → Leaves c (carrier_by r o input c)
 carrier_leaves r None input c = left c

@@ -1,6 +1,6 @@
 -- Once the carrier has ended no session changes it, and it stays ended for the same reason.
 use Rattle.std.proofs.Common.{◌≡◌, ℕ, zero, suc, Bool, true, false, List, [], ◌∷◌, length, Option, Some, None, is_some, refl, sym, ap, ◌∙◌, ◌⊎◌, inl, inr, if◌then◌else◌}
-use Rattle.osi_carrier.specs.Calls.{send_error, open_link, link_of, closed_on}
+use Rattle.osi_carrier.specs.Calls.{open_link, link_of, closed_on, send_all_error}
 use Rattle.osi_carrier.specs.Happenings.{Happening}
 use Rattle.osi_carrier.specs.Happenings as told
 use Rattle.osi_carrier.specs.Packets as carriers
@@ -26,10 +26,9 @@ use Rattle.osi_stack.proofs.Linking.{rest_is, times_last}
 none_open : (r : ℕ) (c : Carrier) → is_some c.ended ≡ true → open_link r c ≡ None
 none_open r c over = ap (λ (b : Bool). if b then None else link_of (value_at r c.live)) over
 
-answers_over : (closing : Bool) (r : ℕ) (tsdu : Option (List ℕ)) (c : Carrier) → is_some c.ended ≡ true → answers_by closing r tsdu c ≡ c
-answers_over true r tsdu c over = ap (λ (o : Option (ℕ × Link)). closed_on r 128 o c) (none_open r c over)
-answers_over false r None c over = refl
-answers_over false r (Some tsdu) c over = ap (λ (o : Option (ℕ × Link)). sent_unless (send_error tsdu o) r tsdu c) (none_open r c over)
+answers_over : (closing : Bool) (r : ℕ) (tsdus : List (List ℕ)) (c : Carrier) → is_some c.ended ≡ true → answers_by closing r tsdus c ≡ c
+answers_over true r tsdus c over = ap (λ (o : Option (ℕ × Link)). closed_on r 128 o c) (none_open r c over)
+answers_over false r tsdus c over = ap (λ (o : Option (ℕ × Link)). sent_unless (send_all_error tsdus o) r tsdus c) (none_open r c over)
 
 carrier_over : (r : ℕ) (session : Option Listener) (input : Input) (c : Carrier) → is_some c.ended ≡ true → carrier_by r session input c ≡ c
 carrier_over r None input c over = refl

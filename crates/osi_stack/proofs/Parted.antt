@@ -1,5 +1,5 @@
 -- The parts of one Data do to an end what the whole does, whatever calls come between.
-use Rattle.std.proofs.Common.{◌≡◌, ℕ, ◌==◌, Bool, true, false, List, [], ◌∷◌, ◌++◌, map, Option, Some, None, option_map, refl, sym, ap, ◌∙◌}
+use Rattle.std.proofs.Common.{◌≡◌, ℕ, ◌==◌, Bool, true, false, List, [], ◌∷◌, ◌++◌, map, Option, Some, None, refl, sym, ap, ◌∙◌}
 use Rattle.std.proofs.lemmas.List.{append-nil}
 use Rattle.osi_carrier.specs.Rows.{Rows, value_at, put}
 use Rattle.osi_carrier.specs.State.{State as Carrier}
@@ -7,15 +7,17 @@ use Rattle.osi_carrier.proofs.Apart.{put_here}
 use Rattle.osi_carrier.proofs.Places.{put_same}
 use Rattle.osi_message.specs.Meanings.{Meaning}
 use Rattle.osi_message.specs.Words.{part_octets}
-use Rattle.osi_message.specs.Written.{written}
+use Rattle.osi_message.specs.Parting.{tsdus_sent}
 use Rattle.osi_session.specs.Listening.{Input, Listener, Move, called, came, react, after_inputs}
 use Rattle.osi_session.specs.Parts.{Act, comes, calls, act_in_octets, calls_in, IsSilent, AreAlike, AreSilent}
 use Rattle.osi_session.specs.Shown.{Shown}
+use Rattle.osi_session.specs.Sizes.{limit_of}
 use Rattle.osi_stack.specs.Messages.{kept_at}
-use Rattle.osi_stack.specs.Moving.{answers, line_after, line_by, carrier_by, by_line, to_session}
+use Rattle.osi_stack.specs.Moving.{limit_for, answers, line_after, by_line, to_session}
 use Rattle.osi_stack.specs.Parted.{to_session_along}
 use Rattle.osi_stack.specs.State.{Line, End, session_in}
 use Rattle.osi_stack.specs.Transport.{answers_by}
+use Rattle.osi_stack.proofs.Handing.{hands_none}
 
 -- ---- the end where a session stands at a reference
 
@@ -38,29 +40,30 @@ record HasLine (r : ℕ) (rows : Rows Line) : Type 0 where
   here : value_at r rows ≡ Some line
 
 moves_at : (r : ℕ) (input : Input) (c : Carrier) (l : Listener) (waiting : List Shown) (rows : Rows Line) → HasLine r rows →
-    to_session r input (at r c l waiting rows) ≡ at r (answers r (react l input) c) (react l input).next (waiting ++ (react l input).shown) rows
+    to_session r input (at r c l waiting rows) ≡ at r (answers r (limit_for l input) (react l input) c) (react l input).next (waiting ++ (react l input).shown) rows
 moves_at r input c l waiting rows h =
     let line : Line = record { session = Some l; waiting = waiting } in
     let there = put_here r line h.line rows h.here in
     ap (λ (o : Option Line). by_line r o input (at r c l waiting rows)) there
-    ∙ ap (λ (x : Rows Line). record { carrier = answers r (react l input) c; lines = x }) (put_twice r (line_after line (react l input)) line rows)
+    ∙ ap (λ (x : Rows Line). record { carrier = answers r (limit_for l input) (react l input) c; lines = x }) (put_twice r (line_after line (react l input)) line rows)
 
 -- ---- a part before the last, and a call
 
-quiet_answers : (r : ℕ) (move : Move) (c : Carrier) → IsSilent move → answers r move c ≡ c
-quiet_answers r move c s =
-    ap (λ (b : Bool). answers_by b r (option_map written move.reply) c) s.closes ∙ ap (λ (o : Option Meaning). answers_by false r (option_map written o) c) s.reply
+quiet_answers : (r limit : ℕ) (move : Move) (c : Carrier) → IsSilent move → answers r limit move c ≡ c
+quiet_answers r limit move c s =
+    ap (λ (b : Bool). answers_by b r (tsdus_sent limit move.reply) c) s.closes ∙ ap (λ (o : Option Meaning). answers_by false r (tsdus_sent limit o) c) s.reply ∙ hands_none r c
 
 silent_at : (r : ℕ) (input : Input) (c : Carrier) (l : Listener) (waiting : List Shown) (rows : Rows Line) → HasLine r rows → IsSilent (react l input) →
     to_session r input (at r c l waiting rows) ≡ at r c (react l input).next waiting rows
 silent_at r input c l waiting rows h s =
     moves_at r input c l waiting rows h
-    ∙ ap (λ (d : Carrier). at r d (react l input).next (waiting ++ (react l input).shown) rows) (quiet_answers r (react l input) c s)
+    ∙ ap (λ (d : Carrier). at r d (react l input).next (waiting ++ (react l input).shown) rows) (quiet_answers r (limit_for l input) (react l input) c s)
     ∙ ap (λ (w : List Shown). at r c (react l input).next w rows) (ap (λ (w : List Shown). waiting ++ w) s.shown ∙ append-nil waiting)
 
-alike_answers : (r : ℕ) (a b : Move) (c : Carrier) → AreAlike a b → answers r a c ≡ answers r b c
-alike_answers r a b c same =
-    ap (λ (x : Bool). answers_by x r (option_map written a.reply) c) same.closes ∙ ap (λ (o : Option Meaning). answers_by b.closes r (option_map written o) c) same.reply
+alike_answers : (r m n : ℕ) (a b : Move) (c : Carrier) → m ≡ n → AreAlike a b → answers r m a c ≡ answers r n b c
+alike_answers r m n a b c sizes same =
+    ap (λ (x : Bool). answers_by x r (tsdus_sent m a.reply) c) same.closes ∙ ap (λ (o : Option Meaning). answers_by b.closes r (tsdus_sent m o) c) same.reply
+    ∙ ap (λ (l : ℕ). answers_by b.closes r (tsdus_sent l b.reply) c) sizes
 
 -- ---- both runs
 
@@ -87,10 +90,10 @@ runs r rows c waiting l m (comes place o ∷ acts) h silent =
 runs r rows c waiting l m (calls call ∷ acts) h silent =
     let one = react l (called call) in
     let two = react m (called call) in
-    let more = runs r rows (answers r one c) (waiting ++ one.shown) one.next two.next acts h silent.1 in
-    let same : at r (answers r two c) two.next (waiting ++ two.shown) rows ≡ at r (answers r one c) two.next (waiting ++ one.shown) rows =
-    ap (λ (d : Carrier). at r d two.next (waiting ++ two.shown) rows) (sym (alike_answers r one two c silent.0))
-    ∙ ap (λ (w : List Shown). at r (answers r one c) two.next (waiting ++ w) rows) (sym silent.0.shown) in
+    let more = runs r rows (answers r (limit_of l.state) one c) (waiting ++ one.shown) one.next two.next acts h silent.1 in
+    let same : at r (answers r (limit_of m.state) two c) two.next (waiting ++ two.shown) rows ≡ at r (answers r (limit_of l.state) one c) two.next (waiting ++ one.shown) rows =
+    ap (λ (d : Carrier). at r d two.next (waiting ++ two.shown) rows) (sym (alike_answers r (limit_of l.state) (limit_of m.state) one two c silent.0.0 silent.0.1))
+    ∙ ap (λ (w : List Shown). at r (answers r (limit_of l.state) one c) two.next (waiting ++ w) rows) (sym silent.0.1.shown) in
     record {
       carrier = more.carrier;
       waiting = more.waiting;
@@ -111,8 +114,11 @@ stands_at r session e line here is =
 
 pub parts_as_whole : (r : ℕ) (session : Listener) (acts : List Act) (last whole : Input) (e : End) → kept_at r e.lines ≡ Some session → AreSilent session session acts →
     react (after_inputs session (map act_in_octets acts)) last ≡ react (after_inputs session (calls_in acts)) whole →
+    limit_for (after_inputs session (map act_in_octets acts)) last ≡ limit_for (after_inputs session (calls_in acts)) whole →
     to_session r last (to_session_along r (map act_in_octets acts) e) ≡ to_session r whole (to_session_along r (calls_in acts) e)
-parts_as_whole r session acts last whole e kept silent same =
+parts_as_whole r session acts last whole e kept silent same sizes =
+    let parted = after_inputs session (map act_in_octets acts) in
+    let alone = after_inputs session (calls_in acts) in
     let there = line_of (value_at r e.lines) session kept in
     let h : HasLine r e.lines = record { line = there.0; here = there.1 } in
     let begun = stands_at r session e there.0 there.1 there.2 in
@@ -120,7 +126,8 @@ parts_as_whole r session acts last whole e kept silent same =
     ap (λ (x : End). to_session r last (to_session_along r (map act_in_octets acts) x)) begun
     ∙ ap (to_session r last) both.parts
     ∙ moves_at r last both.carrier (after_inputs session (map act_in_octets acts)) both.waiting e.lines h
-    ∙ ap (λ (m : Move). at r (answers r m both.carrier) m.next (both.waiting ++ m.shown) e.lines) same
+    ∙ ap (λ (m : Move). at r (answers r (limit_for parted last) m both.carrier) m.next (both.waiting ++ m.shown) e.lines) same
+    ∙ ap (λ (n : ℕ). at r (answers r n (react alone whole) both.carrier) (react alone whole).next (both.waiting ++ (react alone whole).shown) e.lines) sizes
     ∙ sym (moves_at r whole both.carrier (after_inputs session (calls_in acts)) both.waiting e.lines h)
     ∙ sym (ap (to_session r whole) both.whole)
     ∙ sym (ap (λ (x : End). to_session r whole (to_session_along r (calls_in acts) x)) begun)

@@ -1,7 +1,7 @@
 -- What happens to a session beside calls and TSDUs.
 use Rattle.std.proofs.Common.{◌≡◌, ℕ, Bool, true, false, [], ◌++◌, map, Option, None, option_map, Result, Ok, refl, sym, ap, subst, ◌∙◌, if◌then◌else◌}
 use Rattle.std.proofs.lemmas.List.{append-nil}
-use Rattle.osi_message.specs.Written.{written}
+use Rattle.osi_message.specs.Parting.{in_one}
 use Rattle.osi_session.specs.Listening.{Input, Listener, Move, opened, refused, broken, react}
 use Rattle.osi_session.specs.Phases.{is_wait_transport}
 use Rattle.osi_session.specs.Sessions.{Takes}
@@ -44,7 +44,7 @@ broken_is_quiet s = record { reply = refl; closes = refl }
 
 -- one thing is shown at most, with this answer
 pub quiet_takes : {E : Type 0} (t : Taken) (shown : Option Indication) (move : Move) (old new : Listener) → t.first ≡ shown → t.more.items ≡ [] →
-    t.reply ≡ option_map written move.reply → t.closes ≡ move.closes → new ≡ move.next → shown_list shown ≡ move.shown → Takes {E = E} (Ok t) move old new
+    t.reply ≡ option_map in_one move.reply → t.closes ≡ move.closes → new ≡ move.next → shown_list shown ≡ move.shown → Takes {E = E} (Ok t) move old new
 quiet_takes t shown move old new first more reply closes next is = record {
   state = next;
   shown = ap (λ l. shown_list t.first ++ map shown_by l) more ∙ append-nil (shown_list t.first) ∙ ap shown_list first ∙ is;

@@ -1,5 +1,5 @@
 -- What a session sends is no longer than a TSDU may be.
-use Rattle.std.proofs.Common.{◌≡◌, ℕ, ◌+◌, ◌<◌, ◌≤◌, Bool, true, false, List, [], ◌∷◌, ◌++◌, length, nat_le, nat_lt, refl, sym, ap, subst, arith, length-append, if◌then◌else◌}
+use Rattle.std.proofs.Common.{◌≡◌, ℕ, ◌+◌, ◌<◌, ◌≤◌, Bool, true, false, List, [], ◌∷◌, ◌++◌, length, nat_le, nat_lt, Ok, refl, sym, ap, subst, arith, length-append, if◌then◌else◌}
 use Rattle.std.proofs.lemmas.Bool.Decides.{nat_tests}
 use Rattle.osi_spdu.specs.Known.{Contents, Units}
 use Rattle.osi_spdu.specs.Kinds.{si_of}
@@ -13,7 +13,13 @@ use Rattle.osi_message.specs.Written.{unit_with, unit_of, is_second, alone_units
 use Rattle.osi_message.proofs.FittingLaws.{HaveRoom, spelled_fits}
 use Rattle.osi_message.proofs.PlainLaws.{data_written}
 use Rattle.osi_message.proofs.SendingLaws.{HaveDigits}
-use Rattle.osi_session.specs.Allowed.{Step, octets_of, most_of, sends, Passed}
+use Rattle.osi_message.specs.Parting.{tsdus_of}
+use Rattle.osi_message.proofs.SentLaws.{sent_alone, sent_short as parts_short}
+use Rattle.osi_session.specs.Sizes.{limit_of, is_data}
+use Rattle.osi_session.specs.Sound.{IsSound}
+use Rattle.osi_session.proofs.SentLaws.{sent_alone as call_alone, data_short as data_all_short}
+use Rattle.osi_stack.specs.Messages.{AreShort}
+use Rattle.osi_session.specs.Allowed.{allowed, Step, octets_of, most_of, sends, Passed}
 use Rattle.osi_session.specs.Calls.{Call, Accept, Refuse, Data, Give, Please, Minor, MinorConfirm, Major, MajorConfirm, Restart, RestartConfirm, Release, ReleaseAccept, ReleaseRefuse, Abort}
 use Rattle.osi_session.specs.declared.state.State.{State}
 
@@ -108,3 +114,24 @@ pub call_short : SpduLaws → (s : State) (c : Call) (x : Step) → Passed s c x
 call_short law s c x passed sendable =
     let is : x.sent ≡ sends s c = ap (λ (y : Step). y.sent) passed.gives in
     subst (λ (m : Meaning). length (written m) ≤ 1048576) (sym is) (call_by law s c passed.size (subst IsSendable is sendable))
+
+whole_short : SpduLaws → (s : State) (c : Call) (x : Step) → is_data c ≡ false → allowed s c ≡ Ok x → Passed s c x → IsSendable x.sent → AreShort (tsdus_of (limit_of s) x.sent)
+whole_short law s c x other h passed sendable = subst AreShort (sym (call_alone sent_alone s c x h other)) (call_short law s c x passed sendable, tt)
+
+-- each TSDU that it sends
+pub tsdus_short : SpduLaws → (s : State) (c : Call) (x : Step) → IsSound s → allowed s c ≡ Ok x → Passed s c x → IsSendable x.sent → AreShort (tsdus_of (limit_of s) x.sent)
+tsdus_short law s (Data octets) x sound h passed sendable = data_all_short parts_short s octets x sound h
+tsdus_short law s (Accept requirements serial sides sizes octets) x sound h passed sendable = whole_short law s (Accept requirements serial sides sizes octets) x refl h passed sendable
+tsdus_short law s (Refuse octets) x sound h passed sendable = whole_short law s (Refuse octets) x refl h passed sendable
+tsdus_short law s (Give tokens) x sound h passed sendable = whole_short law s (Give tokens) x refl h passed sendable
+tsdus_short law s (Please tokens octets) x sound h passed sendable = whole_short law s (Please tokens octets) x refl h passed sendable
+tsdus_short law s (Minor confirm octets) x sound h passed sendable = whole_short law s (Minor confirm octets) x refl h passed sendable
+tsdus_short law s (MinorConfirm n octets) x sound h passed sendable = whole_short law s (MinorConfirm n octets) x refl h passed sendable
+tsdus_short law s (Major octets) x sound h passed sendable = whole_short law s (Major octets) x refl h passed sendable
+tsdus_short law s (MajorConfirm octets) x sound h passed sendable = whole_short law s (MajorConfirm octets) x refl h passed sendable
+tsdus_short law s (Restart n wishes octets) x sound h passed sendable = whole_short law s (Restart n wishes octets) x refl h passed sendable
+tsdus_short law s (RestartConfirm sides octets) x sound h passed sendable = whole_short law s (RestartConfirm sides octets) x refl h passed sendable
+tsdus_short law s (Release octets) x sound h passed sendable = whole_short law s (Release octets) x refl h passed sendable
+tsdus_short law s (ReleaseAccept octets) x sound h passed sendable = whole_short law s (ReleaseAccept octets) x refl h passed sendable
+tsdus_short law s (ReleaseRefuse octets) x sound h passed sendable = whole_short law s (ReleaseRefuse octets) x refl h passed sendable
+tsdus_short law s (Abort octets) x sound h passed sendable = whole_short law s (Abort octets) x refl h passed sendable

@@ -8,7 +8,7 @@ use Rattle.osi_tpdu.specs.declared.faults.TpduFault.{TpduFault}
 use Rattle.osi_class.specs.Link.{Standing as Link}
 use Rattle.osi_class.specs.declared.terms.Class.{Class}
 use Rattle.osi_class.specs.declared.terms.Class.TheVariants.{Zero, Two}
-use Rattle.osi_carrier.specs.Calls.{send_error, open_link, may_connect, asks, sent_on, closes, closed_on}
+use Rattle.osi_carrier.specs.Calls.{open_link, may_connect, asks, sent_on, closes, closed_on, sent, sent_all, send_all_error}
 use Rattle.osi_carrier.specs.Happenings.{Happening}
 use Rattle.osi_carrier.specs.Happenings as told
 use Rattle.osi_carrier.specs.Orderly.{AreUpTo, IsOrderly, connection_of}
@@ -120,9 +120,17 @@ sent_given : (r : ℕ) (tsdu : List ℕ) (o : Option (ℕ × Link)) (c : Carrier
 sent_given r tsdu None c = refl
 sent_given r tsdu (Some link) c = refl
 
-unless_leaves : (o : Option SendError) (r : ℕ) (tsdu : List ℕ) (c : Carrier) → Leaves c (sent_unless o r tsdu c)
-unless_leaves None r tsdu c = record { orderly = orderly_sent r tsdu c; given = sent_given r tsdu (open_link r c) c }
-unless_leaves (Some e) r tsdu c = leaves_same c
+then_leaves : (a b c : Carrier) → Leaves a b → Leaves b c → Leaves a c
+then_leaves a b c h k = record { orderly = λ e. k.orderly (h.orderly e); given = k.given ∙ h.given }
+
+all_leave : (r : ℕ) (tsdus : List (List ℕ)) (c : Carrier) → Leaves c (sent_all r tsdus c)
+all_leave r [] c = leaves_same c
+all_leave r (tsdu ∷ tsdus) c =
+    then_leaves c (sent r tsdu c) (sent_all r tsdus (sent r tsdu c)) (record { orderly = orderly_sent r tsdu c; given = sent_given r tsdu (open_link r c) c }) (all_leave r tsdus (sent r tsdu c))
+
+unless_leaves : (o : Option SendError) (r : ℕ) (tsdus : List (List ℕ)) (c : Carrier) → Leaves c (sent_unless o r tsdus c)
+unless_leaves None r tsdus c = all_leave r tsdus c
+unless_leaves (Some e) r tsdus c = leaves_same c
 
 closes_given : (r peer reason : ℕ) (class : Option Class) (c : Carrier) → (closes r peer reason class c).given ≡ c.given
 closes_given r peer reason None c = refl
@@ -133,10 +141,9 @@ closed_given : (r reason : ℕ) (o : Option (ℕ × Link)) (c : Carrier) → (cl
 closed_given r reason None c = refl
 closed_given r reason (Some (peer, link)) c = closes_given r peer reason c.class c
 
-answers_leave : (closing : Bool) (r : ℕ) (tsdu : Option (List ℕ)) (c : Carrier) → Leaves c (answers_by closing r tsdu c)
-answers_leave true r tsdu c = record { orderly = orderly_closed r 128 c; given = closed_given r 128 (open_link r c) c }
-answers_leave false r None c = leaves_same c
-answers_leave false r (Some tsdu) c = unless_leaves (send_error tsdu (open_link r c)) r tsdu c
+answers_leave : (closing : Bool) (r : ℕ) (tsdus : List (List ℕ)) (c : Carrier) → Leaves c (answers_by closing r tsdus c)
+answers_leave true r tsdus c = record { orderly = orderly_closed r 128 c; given = closed_given r 128 (open_link r c) c }
+answers_leave false r tsdus c = unless_leaves (send_all_error tsdus (open_link r c)) r tsdus c
 
 pub carrier_leaves : (r : ℕ) (o : Option Listener) (input : Input) (c : Carrier) → Leaves c (carrier_by r o input c)
 carrier_leaves r None input c = leaves_same c

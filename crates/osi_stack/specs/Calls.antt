@@ -1,7 +1,7 @@
 -- What the calls of a user of one end answer and do.
 use Rattle.std.specs.Prelude.{◌≡◌, ℕ, ◌+◌, Bool, true, false, not, ◌&&◌, ◌||◌, List, [], ◌∷◌, length, drop, nat_le, nat_lt, Option, Some, None, is_some, option_map, if◌then◌else◌}
 use Rattle.osi_tpdu.specs.Limits.{tsap_octets}
-use Rattle.osi_carrier.specs.Calls.{may_connect, asks, send_error, open_link}
+use Rattle.osi_carrier.specs.Calls.{may_connect, asks, send_all_error, open_link}
 use Rattle.osi_carrier.specs.Rows.{Rows}
 use Rattle.osi_carrier.specs.State.{State as Carrier}
 use Rattle.osi_carrier.specs.declared.ends.EndReason.TheVariants.{Broken}
@@ -11,7 +11,7 @@ use Rattle.osi_carrier.specs.declared.faults.SendError.{SendError}
 use Rattle.osi_carrier.specs.declared.faults.SendError.TheVariants as sending
 use Rattle.osi_message.specs.Meanings.{Meaning, CN}
 use Rattle.osi_message.specs.Tokens.{no_token}
-use Rattle.osi_message.specs.Written.{written}
+use Rattle.osi_message.specs.Parting.{tsdus_of}
 use Rattle.osi_message.specs.declared.tokens.Tokens.{Tokens}
 use Rattle.osi_spdu.specs.Fields.{unit_bits}
 use Rattle.osi_spdu.specs.Sizes.{named_by}
@@ -22,6 +22,7 @@ use Rattle.osi_session.specs.Numbers.{from_base}
 use Rattle.osi_session.specs.Sessions.{asking, is_memory}
 use Rattle.osi_session.specs.Shown.{Shown}
 use Rattle.osi_session.specs.Sides.{offered}
+use Rattle.osi_session.specs.Sizes.{limit_of}
 use Rattle.osi_session.specs.Units.{functional_units, is_profile}
 use Rattle.osi_session.specs.declared.faults.CallError.{CallError}
 use Rattle.osi_session.specs.declared.faults.CallError.TheVariants as error
@@ -108,16 +109,16 @@ send_refusal (Some sending.TooLong) = Some error.TooLong
 send_refusal (Some sending.OutOfMemory) = Some error.OutOfMemory
 
 -- where the carrier does not take what a call sends
-abbrev pub reply_refusal : ℕ → Option Meaning → Carrier → Option CallError
-reply_refusal r None c = None
-reply_refusal r (Some unit) c = send_refusal (send_error (written unit) (open_link r c))
+abbrev pub reply_refusal : (r limit : ℕ) → Option Meaning → Carrier → Option CallError
+reply_refusal r limit None c = None
+reply_refusal r limit (Some unit) c = send_refusal (send_all_error (tsdus_of limit unit) (open_link r c))
 
 abbrev pub or_else : Option CallError → Option CallError → Option CallError
 or_else None other = other
 or_else (Some e) other = Some e
 
-abbrev pub move_refusal : ℕ → Move → Carrier → Option CallError
-move_refusal r move c = or_else move.error (reply_refusal r move.reply c)
+abbrev pub move_refusal : (r limit : ℕ) → Move → Carrier → Option CallError
+move_refusal r limit move c = or_else move.error (reply_refusal r limit move.reply c)
 
 -- the error of the session, and where it has none that of the carrier
 abbrev pub session_error : Option Listener → Call → Option CallError
@@ -126,7 +127,7 @@ session_error (Some session) call = (react session (called call)).error
 
 abbrev pub session_refusal : ℕ → Option Listener → Call → Carrier → Option CallError
 session_refusal r None call c = Some error.Ended
-session_refusal r (Some session) call c = move_refusal r (react session (called call)) c
+session_refusal r (Some session) call c = move_refusal r (limit_of session.state) (react session (called call)) c
 
 abbrev pub RefusesBy : Bool → CallError → Option CallError → Option CallError → Type 0
 RefusesBy true e first all = first ≡ None

@@ -1,9 +1,10 @@
--- What an end takes, shows and puts for a connection, in whole messages.
-use Rattle.std.specs.Prelude.{◌≡◌, ◌≢◌, ◌≤◌, ℕ, Bool, true, false, List, [], ◌∷◌, ◌++◌, length, Option, Some, None, IsSome, Ok}
-use Rattle.osi_message.specs.Meanings.{Meaning, GT}
+-- What an end takes, shows and puts for a connection, in messages.
+use Rattle.std.specs.Prelude.{◌≡◌, ◌≢◌, ◌≤◌, ℕ, Bool, true, false, List, [], ◌∷◌, ◌++◌, length, map, Option, Some, None, IsSome, Ok}
+use Rattle.std.specs.List.{AllByRecursion}
+use Rattle.osi_message.specs.Meanings.{Meaning}
 use Rattle.osi_message.specs.Sendable.{words_of, IsSendable}
-use Rattle.osi_message.specs.Tokens.{no_token}
-use Rattle.osi_message.specs.Words.{Words, part_octets}
+use Rattle.osi_message.specs.Parting.{words_sent, tsdus_of, tsdus_sent, behind_no_token}
+use Rattle.osi_message.specs.Words.{Word, says, part_octets}
 use Rattle.osi_message.specs.Words as words
 use Rattle.osi_message.specs.Written.{written}
 use Rattle.osi_message.specs.declared.places.Place.{Place as PartPlace}
@@ -19,24 +20,25 @@ use Rattle.osi_session.specs.Allowed.{Step, allowed}
 use Rattle.osi_session.specs.Calls.{Call}
 use Rattle.osi_session.specs.Listening.{Input, Listener, called, opened, refused, broken, taken, in_state, react}
 use Rattle.osi_session.specs.Sessions.{awaits}
+use Rattle.osi_session.specs.Sizes.{limit_of}
 use Rattle.osi_session.specs.Shown.{Shown}
 use Rattle.osi_stack.specs.Coming.{carries_out}
 use Rattle.osi_stack.specs.Hearing.{with_events, concludes, shown_at_loss}
-use Rattle.osi_stack.specs.Moving.{line_after}
+use Rattle.osi_stack.specs.Moving.{limit_for, line_after}
 use Rattle.osi_stack.specs.State.{Line, End, session_in, session_at, joins}
 
 -- a session unit, or a part of one Data; and of a transport connection that it is asked for, agreed to,
 -- denied, or closed, and that a close is answered
 pub data Message : Type 0 where
   unit : Meaning → Message
-  part : PartPlace → (octets : List ℕ) → Message
+  part : (place : PartPlace) (octets : List ℕ) → Message
   ask : Message
   agree : Message
   deny : (reason : ℕ) → Message
   bye : (reason : ℕ) → Message
   over : Message
 
--- a message between the carriers: a unit, or a part, is a TSDU
+-- a message between the carriers: a unit is a TSDU, and so is a part
 abbrev pub carried : Message → between.Message
 carried (unit m) = between.message (written m)
 carried (part place octets) = between.message (part_octets place octets)
@@ -46,7 +48,7 @@ carried (deny reason) = between.deny reason
 carried (bye reason) = between.bye reason
 carried over = between.over
 
--- a unit is one that can be sent, so that its octets are read as it; those of a part always are
+-- a unit is one that can be sent, so that its octets are read as it
 abbrev pub IsWhole : Message → Type 0
 IsWhole (unit m) = IsSendable m
 IsWhole (part place octets) = Unit {0}
@@ -58,11 +60,16 @@ IsWhole over = Unit {0}
 
 -- ---- what a session puts
 
--- that its transport connection is closed, or a unit, or nothing: what closes a connection is not answered
-abbrev pub put_by : Bool → Option Meaning → List Message
-put_by true reply = bye 128 ∷ []
-put_by false None = []
-put_by false (Some m) = unit m ∷ []
+abbrev pub message_of : Word → Message
+message_of (says m) = unit m
+message_of (words.part place octets) = part place octets
+
+-- that its transport connection is closed, or a unit or the parts of one Data, or nothing: what closes a
+-- connection is not answered
+abbrev pub put_by : Bool → (limit : ℕ) → Option Meaning → List Message
+put_by true limit reply = bye 128 ∷ []
+put_by false limit None = []
+put_by false limit (Some m) = map message_of (words_sent limit m)
 
 -- what a session puts its carrier does; all else the carrier puts itself
 abbrev pub does : ℕ → Message → Carrier → Carrier
@@ -88,7 +95,7 @@ pub record Acts (r : ℕ) (input : Input) (old new : End) : Type 0 where
   pub here : value_at r old.lines ≡ Some line
   pub is : line.session ≡ Some session
   pub lines : new.lines ≡ put r (line_after line (react session input)) old.lines
-  pub carrier : new.carrier ≡ puts r (put_by (react session input).closes (react session input).reply) old.carrier
+  pub carrier : new.carrier ≡ puts r (put_by (react session input).closes (limit_for session input) (react session input).reply) old.carrier
 
 -- ---- a message that arrives
 
@@ -98,17 +105,13 @@ pub data Effect : Type 0 where
   happens : Input → Effect
   rests : Effect
 
--- a part comes behind a GT that names no token
-abbrev pub words_in_part : PartPlace → List ℕ → Words
-words_in_part place octets = words.says (GT no_token) ∷ words.part place octets ∷ []
-
 -- by where the connection stands
 abbrev pub effect_at : Place → Message → Effect
 effect_at never ask = begins
 effect_at (was_given (Some asked)) agree = happens opened
 effect_at (was_given (Some asked)) (deny reason) = happens (refused reason)
 effect_at (was_given (Some (linked peer link))) (unit m) = happens (taken (words_of m))
-effect_at (was_given (Some (linked peer link))) (part place octets) = happens (taken (words_in_part place octets))
+effect_at (was_given (Some (linked peer link))) (part place octets) = happens (taken (behind_no_token (words.part place octets)))
 effect_at (was_given (Some (linked peer link))) (bye reason) = happens broken
 effect_at place m = rests
 
@@ -129,15 +132,18 @@ pub record HasSession (r : ℕ) (lines : Rows Line) : Type 0 where
   pub here : value_at r lines ≡ Some line
   pub is : line.session ≡ Some session
 
--- what a session answers is no longer than a TSDU may be
-abbrev pub IsShort : Option Meaning → Type 0
-IsShort None = Unit {0}
-IsShort (Some m) = length (written m) ≤ 1048576
+-- TSDUs are no longer than a TSDU may be
+abbrev pub AreShort : List (List ℕ) → Type 0
+AreShort tsdus = AllByRecursion (λ tsdu. length tsdu ≤ 1048576) tsdus
+
+-- what a session sends is no longer
+abbrev pub IsShort : (limit : ℕ) → Option Meaning → Type 0
+IsShort limit reply = AreShort (tsdus_sent limit reply)
 
 -- a new session stands where there is none, and other things happen to one that is there
 abbrev pub CanHear : ℕ → Effect → Rows Line → Type 0
 CanHear r begins lines = value_at r lines ≡ None
-CanHear r (happens input) lines = (s : HasSession r lines) × IsShort (react s.session input).reply
+CanHear r (happens input) lines = (s : HasSession r lines) × IsShort (limit_for s.session input) (react s.session input).reply
 CanHear r rests lines = Unit {0}
 
 abbrev pub Hears : ℕ → Effect → End → End → Type 0
@@ -158,18 +164,18 @@ pub record Arrives (r : ℕ) (effect : Effect) (tpdu : Value) (old new : End) : 
 
 -- ---- a call
 
--- A call that the table of calls allows, on an open connection: it sends one unit.
+-- A call that the table of calls allows, on an open connection: it sends one unit, or one Data in parts.
 pub record IsGranted (r : ℕ) (call : Call) (s : Listener) (c : Carrier) : Type 0 where
   pub step : Step
   pub accepted : allowed s.state call ≡ Ok step
   pub opened : IsSome (open_link r c)
-  pub short : length (written step.sent) ≤ 1048576
+  pub short : AreShort (tsdus_of (limit_of s.state) step.sent)
   pub reply : (react s (called call)).reply ≡ Some step.sent
   pub closes : (react s (called call)).closes ≡ false
   pub shown : (react s (called call)).shown ≡ []
   pub next : (react s (called call)).next ≡ in_state s step.next
 
--- An accepted call is a move of the session of a live connection, which sends one unit.
+-- An accepted call is a move of the session of a live connection, which sends one unit, or one Data in parts.
 pub record Says (r : ℕ) (call : Call) (old new : End) : Type 0 where
   pub acts : Acts r (called call) old new
   pub granted : IsGranted r call acts.session old.carrier

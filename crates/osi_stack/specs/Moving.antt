@@ -1,15 +1,22 @@
 -- What the move of a session does to the end that it belongs to.
-use Rattle.std.specs.Prelude.{ℕ, ◌++◌, Option, Some, None, option_map}
+use Rattle.std.specs.Prelude.{ℕ, ◌++◌, Option, Some, None}
 use Rattle.osi_carrier.specs.Rows.{value_at, put}
 use Rattle.osi_carrier.specs.State.{State as Carrier}
-use Rattle.osi_message.specs.Written.{written}
-use Rattle.osi_session.specs.Listening.{Input, Listener, Move, react}
+use Rattle.osi_message.specs.Parting.{tsdus_sent}
+use Rattle.osi_session.specs.Listening.{Input, called, Listener, Move, react}
+use Rattle.osi_session.specs.Sizes.{limit_of}
 use Rattle.osi_stack.specs.State.{Line, End}
 use Rattle.osi_stack.specs.Transport.{answers_by}
 
--- what a move does to the carrier: the unit that it sends is handed over, or the connection is closed
-abbrev pub answers : ℕ → Move → Carrier → Carrier
-answers r move c = answers_by move.closes r (option_map written move.reply) c
+-- the most octets of a TSDU, 0 for no limit: a call sends within the size of its session, and what a
+-- session sends by itself is one TSDU
+abbrev pub limit_for : Listener → Input → ℕ
+limit_for session (called call) = limit_of session.state
+limit_for session input = 0
+
+-- what a move does to the carrier: the TSDUs that it sends are handed over, or the connection is closed
+abbrev pub answers : (r limit : ℕ) → Move → Carrier → Carrier
+answers r limit move c = answers_by move.closes r (tsdus_sent limit move.reply) c
 
 -- what a move does to a line: what the session shows waits for its user
 abbrev pub line_after : Line → Move → Line
@@ -22,7 +29,7 @@ line_by line (Some session) input = line_after line (react session input)
 
 abbrev pub carrier_by : ℕ → Option Listener → Input → Carrier → Carrier
 carrier_by r None input c = c
-carrier_by r (Some session) input c = answers r (react session input) c
+carrier_by r (Some session) input c = answers r (limit_for session input) (react session input) c
 
 abbrev pub by_line : ℕ → Option Line → Input → End → End
 by_line r None input e = e

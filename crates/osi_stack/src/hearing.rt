@@ -8,7 +8,7 @@ ghost use Rattle.osi_session.specs.Phases.{shows_loss};
 ghost use Rattle.osi_session.specs.Sessions.{Takes};
 ghost use Rattle.osi_session.specs.Shown.{shown_by};
 ghost use Rattle.osi_session.specs.Steps.{all_shown};
-ghost use Rattle.osi_stack.specs.Moving.{answers};
+ghost use Rattle.osi_stack.specs.Moving.{limit_for, answers};
 ghost use Rattle.osi_stack.specs.Telling.{told_input};
 
 use crate::told::Told;
@@ -83,7 +83,7 @@ pub fn hear(
     ensures session { OnOk result (session.new ≡ (react session.old (told_input told.entry)).next) }
     ensures shown { OnOk result (map shown_by waiting.new.items ≡ map shown_by waiting.old.items ++ (react session.old (told_input told.entry)).shown) }
     ensures room { OnOk result (deque_len waiting.new < deque_capacity waiting.new) }
-    ensures carrier { OnOk result (carrier.new ≡ record carrier.old { state = answers reference (react session.old (told_input told.entry)) carrier.old.state }) }
+    ensures carrier { OnOk result (carrier.new ≡ record carrier.old { state = answers reference (limit_for session.old (told_input told.entry)) (react session.old (told_input told.entry)) carrier.old.state }) }
     ensures kept { OnErr result (waiting.new.items ≡ waiting.old.items) }
     ensures len { OnErr result (deque_len waiting.new ≡ deque_len waiting.old) }
     ensures capacity { OnErr result (deque_capacity waiting.old ≤ deque_capacity waiting.new) }

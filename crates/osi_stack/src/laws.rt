@@ -76,8 +76,8 @@ pub fn what_a_message_does()
     what_a_part_says();
 }
 
-/// A call that is accepted is one of the session's table, on an open connection: one unit is sent, and
-/// nothing is shown.
+/// A call that is accepted is one of the session's table, on an open connection: one unit is sent, or one
+/// Data in parts, and nothing is shown.
 pub fn what_a_call_says()
     ensures { (r : ℕ) (call : Call) (e : End) → call_error r call e ≡ None → Says r call e (to_session r (called call) e) }
 {}

@@ -7,6 +7,7 @@ ghost use Rattle.osi_carrier.specs.Rows.{value_at, place_of};
 ghost use Rattle.osi_session.specs.Calls.{Data, called_by};
 ghost use Rattle.osi_session.specs.Listening.{called, react};
 ghost use Rattle.osi_session.specs.Shown.{Lost, shown_by};
+ghost use Rattle.osi_session.specs.Sizes.{limit_of};
 ghost use Rattle.osi_stack.specs.Calls.{move_refusal, session_refusal, session_error, Refuses, first_shown, without_first, TellsOf};
 ghost use Rattle.osi_stack.specs.Hearing.{loses, all_lost};
 ghost use Rattle.osi_stack.specs.Moving.{answers, line_by, carrier_by, to_session};
@@ -74,9 +75,9 @@ fn make_data_call(
     user_data: &[u8],
 ) -> Result<(), CallError>
     ensures session { OnOk result (session.now ≡ (react session.now (called (Data user_data.now))).next) }
-    ensures carrier { OnOk result (carrier.new ≡ record carrier.old { state = answers reference (react session.now (called (Data user_data.now))) carrier.old.state }) }
-    ensures allowed { OnOk result (move_refusal reference (react session.now (called (Data user_data.now))) carrier.old.state ≡ None) }
-    ensures refused { IfErr result (λ e. Refuses e (react session.now (called (Data user_data.now))).error (move_refusal reference (react session.now (called (Data user_data.now))) carrier.old.state)) }
+    ensures carrier { OnOk result (carrier.new ≡ record carrier.old { state = answers reference (limit_of session.now.state) (react session.now (called (Data user_data.now))) carrier.old.state }) }
+    ensures allowed { OnOk result (move_refusal reference (limit_of session.now.state) (react session.now (called (Data user_data.now))) carrier.old.state ≡ None) }
+    ensures refused { IfErr result (λ e. Refuses e (react session.now (called (Data user_data.now))).error (move_refusal reference (limit_of session.now.state) (react session.now (called (Data user_data.now))) carrier.old.state)) }
     ensures err { OnErr result (carrier.new ≡ carrier.old) }
 {
     let sent = session.call_data(user_data)?;
@@ -93,13 +94,13 @@ fn make_planned_call(
     request: Request,
 ) -> Result<(), CallError>
     ensures session { OnOk result (session.new ≡ (react session.old (called (called_by request.entry))).next) }
-    ensures carrier { OnOk result (carrier.new ≡ record carrier.old { state = answers reference (react session.old (called (called_by request.entry))) carrier.old.state }) }
-    ensures allowed { OnOk result (move_refusal reference (react session.old (called (called_by request.entry))) carrier.old.state ≡ None) }
-    ensures refused { IfErr result (λ e. Refuses e (react session.old (called (called_by request.entry))).error (move_refusal reference (react session.old (called (called_by request.entry))) carrier.old.state)) }
+    ensures carrier { OnOk result (carrier.new ≡ record carrier.old { state = answers reference (limit_of session.old.state) (react session.old (called (called_by request.entry))) carrier.old.state }) }
+    ensures allowed { OnOk result (move_refusal reference (limit_of session.old.state) (react session.old (called (called_by request.entry))) carrier.old.state ≡ None) }
+    ensures refused { IfErr result (λ e. Refuses e (react session.old (called (called_by request.entry))).error (move_refusal reference (limit_of session.old.state) (react session.old (called (called_by request.entry))) carrier.old.state)) }
     ensures err { OnErr result ((session.new ≡ session.old) × (carrier.new ≡ carrier.old)) }
 {
     let plan = session.plan(request)?;
-    match send_call(carrier, reference, plan.octets()) {
+    match send_call(carrier, reference, plan.sent()) {
         Ok(()) => {}
         Err(error) => return Err(error),
     }
@@ -117,9 +118,9 @@ fn make_call(
     request: Request,
 ) -> Result<(), CallError>
     ensures session { OnOk result (session.new ≡ (react session.old (called (called_by request.entry))).next) }
-    ensures carrier { OnOk result (carrier.new ≡ record carrier.old { state = answers reference (react session.old (called (called_by request.entry))) carrier.old.state }) }
-    ensures allowed { OnOk result (move_refusal reference (react session.old (called (called_by request.entry))) carrier.old.state ≡ None) }
-    ensures refused { IfErr result (λ e. Refuses e (react session.old (called (called_by request.entry))).error (move_refusal reference (react session.old (called (called_by request.entry))) carrier.old.state)) }
+    ensures carrier { OnOk result (carrier.new ≡ record carrier.old { state = answers reference (limit_of session.old.state) (react session.old (called (called_by request.entry))) carrier.old.state }) }
+    ensures allowed { OnOk result (move_refusal reference (limit_of session.old.state) (react session.old (called (called_by request.entry))) carrier.old.state ≡ None) }
+    ensures refused { IfErr result (λ e. Refuses e (react session.old (called (called_by request.entry))).error (move_refusal reference (limit_of session.old.state) (react session.old (called (called_by request.entry))) carrier.old.state)) }
     ensures err { OnErr result ((session.new ≡ session.old) × (carrier.new ≡ carrier.old)) }
 {
     match request {

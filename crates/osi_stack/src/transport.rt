@@ -1,9 +1,9 @@
 //! What sessions hand to the carrier.
 
-ghost use Rattle.std.specs.Prelude.{◌≡◌, None, IfErr, OnOk, OnErr};
-ghost use Rattle.osi_carrier.specs.Calls.{closed_with, send_error, open_link, call_error as sending_error};
+ghost use Rattle.std.specs.Prelude.{◌≡◌, [], ◌∷◌, map, None, unwrap_or, IfErr, OnOk, OnErr};
+ghost use Rattle.osi_carrier.specs.Calls.{closed_with, sent_all, send_all_error, open_link, call_error as sending_error};
 ghost use Rattle.osi_stack.specs.Calls.{send_refusal, Refuses};
-ghost use Rattle.osi_stack.specs.Transport.{hands, hands_some, answers_by};
+ghost use Rattle.osi_stack.specs.Transport.{hands, answers_by};
 
 use osi_carrier::{Carrier, Ref, SendError};
 use osi_message::Sent;
@@ -14,12 +14,27 @@ use std::alloc::AllocError;
 /// (X.224 section 13.5.3).
 const NORMAL: u8 = 128;
 
-/// Sends a TSDU where the carrier takes it: on an open connection. Want of memory changes nothing.
-fn hand(carrier: &mut Carrier, reference: u16, tsdu: &[u8]) -> Result<(), AllocError>
-    ensures ok { OnOk result (carrier.new ≡ record carrier.old { state = hands reference tsdu.now carrier.old.state }) }
+/// Sends TSDUs together. Each error changes nothing.
+#[tactic(auto, using(crate::proofs::Handing::one_error))]
+fn send(carrier: &mut Carrier, reference: u16, tsdus: &[Vec<u8>]) -> Result<(), SendError>
+    ensures ok { OnOk result (carrier.new ≡ record carrier.old { state = sent_all reference (map (λ v. v.items) tsdus.now) carrier.old.state }) }
+    ensures allowed { OnOk result (send_all_error (map (λ v. v.items) tsdus.now) (open_link reference carrier.old.state) ≡ None) }
+    ensures refused { IfErr result (λ e. sending_error e ≡ send_all_error (map (λ v. v.items) tsdus.now) (open_link reference carrier.old.state)) }
     ensures err { OnErr result (carrier.new ≡ carrier.old) }
 {
-    match carrier.send(Ref(reference), tsdu) {
+    match tsdus {
+        [tsdu] => carrier.send(Ref(reference), tsdu.as_slice()),
+        _ => carrier.send_all(Ref(reference), tsdus),
+    }
+}
+
+/// Sends what a session sends, where the carrier takes it: on an open connection. Want of memory changes
+/// nothing.
+fn hand(carrier: &mut Carrier, reference: u16, sent: &Sent) -> Result<(), AllocError>
+    ensures ok { OnOk result (carrier.new ≡ record carrier.old { state = hands reference sent.now carrier.old.state }) }
+    ensures err { OnErr result (carrier.new ≡ carrier.old) }
+{
+    match send(carrier, reference, sent.tsdus()) {
         Ok(()) => Ok(()),
         Err(SendError::NotOpen) => Ok(()),
         Err(SendError::TooLong) => Ok(()),
@@ -28,13 +43,14 @@ fn hand(carrier: &mut Carrier, reference: u16, tsdu: &[u8]) -> Result<(), AllocE
 }
 
 /// Sends what a session sends, if it does.
-fn hand_some(carrier: &mut Carrier, reference: u16, tsdu: Option<Sent>) -> Result<(), AllocError>
-    ensures ok { OnOk result (carrier.new ≡ record carrier.old { state = hands_some reference tsdu carrier.old.state }) }
+#[tactic(auto, using(crate::proofs::Handing::hands_none))]
+fn hand_some(carrier: &mut Carrier, reference: u16, sent: Option<Sent>) -> Result<(), AllocError>
+    ensures ok { OnOk result (carrier.new ≡ record carrier.old { state = hands reference (unwrap_or sent []) carrier.old.state }) }
     ensures err { OnErr result (carrier.new ≡ carrier.old) }
 {
-    match tsdu {
+    match sent {
         None => Ok(()),
-        Some(sent) => hand(carrier, reference, sent.as_slice()),
+        Some(sent) => hand(carrier, reference, &sent),
     }
 }
 
@@ -56,19 +72,19 @@ fn close(carrier: &mut Carrier, reference: u16) -> Result<(), AllocError>
 pub fn answer(
     carrier: &mut Carrier,
     reference: u16,
-    tsdu: Option<Sent>,
+    sent: Option<Sent>,
     closes: bool,
 ) -> Result<(), AllocError>
-    ensures ok { OnOk result (carrier.new ≡ record carrier.old { state = answers_by closes reference tsdu carrier.old.state }) }
+    ensures ok { OnOk result (carrier.new ≡ record carrier.old { state = answers_by closes reference (unwrap_or sent []) carrier.old.state }) }
     ensures err { OnErr result (carrier.new ≡ carrier.old) }
 {
     if closes {
         return close(carrier, reference);
     }
-    hand_some(carrier, reference, tsdu)
+    hand_some(carrier, reference, sent)
 }
 
-/// What a call of the user is answered where the carrier does not take its TSDU.
+/// What a call of the user is answered where the carrier does not take what it sends.
 fn call_error(error: SendError) -> CallError
     ensures { Refuses result None (send_refusal (sending_error error)) }
 {
@@ -79,28 +95,57 @@ fn call_error(error: SendError) -> CallError
     }
 }
 
-/// Sends the TSDU of a call of the user. Each error changes nothing.
-pub fn send_call(carrier: &mut Carrier, reference: u16, tsdu: &[u8]) -> Result<(), CallError>
-    ensures ok { OnOk result (carrier.new ≡ record carrier.old { state = hands reference tsdu.now carrier.old.state }) }
-    ensures allowed { OnOk result (send_refusal (send_error tsdu.now (open_link reference carrier.old.state)) ≡ None) }
-    ensures refused { IfErr result (λ e. Refuses e None (send_refusal (send_error tsdu.now (open_link reference carrier.old.state)))) }
+/// Sends what a call of the user sends. Each error changes nothing.
+pub fn send_call(carrier: &mut Carrier, reference: u16, sent: &Sent) -> Result<(), CallError>
+    ensures ok { OnOk result (carrier.new ≡ record carrier.old { state = hands reference sent.now carrier.old.state }) }
+    ensures allowed { OnOk result (send_refusal (send_all_error sent.now (open_link reference carrier.old.state)) ≡ None) }
+    ensures refused { IfErr result (λ e. Refuses e None (send_refusal (send_all_error sent.now (open_link reference carrier.old.state)))) }
     ensures err { OnErr result (carrier.new ≡ carrier.old) }
 {
-    match carrier.send(Ref(reference), tsdu) {
+    match send(carrier, reference, sent.tsdus()) {
         Ok(()) => Ok(()),
         Err(error) => Err(call_error(error)),
     }
 }
 
-/// The same of a TSDU that is given away: what of it may not go yet is not copied.
-pub fn send_owned_call(carrier: &mut Carrier, reference: u16, tsdu: Sent) -> Result<(), CallError>
-    ensures ok { OnOk result (carrier.new ≡ record carrier.old { state = hands reference tsdu carrier.old.state }) }
-    ensures allowed { OnOk result (send_refusal (send_error tsdu (open_link reference carrier.old.state)) ≡ None) }
-    ensures refused { IfErr result (λ e. Refuses e None (send_refusal (send_error tsdu (open_link reference carrier.old.state)))) }
+/// Sends a TSDU that is given away: what of it may not go yet is not copied.
+#[tactic(auto, using(crate::proofs::Handing::one_error))]
+fn send_one(carrier: &mut Carrier, reference: u16, tsdu: Vec<u8>) -> Result<(), CallError>
+    ensures ok { OnOk result (carrier.new ≡ record carrier.old { state = hands reference (tsdu.items ∷ []) carrier.old.state }) }
+    ensures allowed { OnOk result (send_refusal (send_all_error (tsdu.items ∷ []) (open_link reference carrier.old.state)) ≡ None) }
+    ensures refused { IfErr result (λ e. Refuses e None (send_refusal (send_all_error (tsdu.items ∷ []) (open_link reference carrier.old.state)))) }
     ensures err { OnErr result (carrier.new ≡ carrier.old) }
 {
-    match carrier.send_owned(Ref(reference), tsdu.into_vec()) {
+    match carrier.send_owned(Ref(reference), tsdu) {
         Ok(()) => Ok(()),
         Err(error) => Err(call_error(error)),
+    }
+}
+
+/// Sends the parts of one Data, all of them or none. It stands out of line: else they would be dropped on
+/// the way of data that is whole, too.
+#[inline(never)]
+fn send_parts(carrier: &mut Carrier, reference: u16, tsdus: Vec<Vec<u8>>) -> Result<(), CallError>
+    ensures ok { OnOk result (carrier.new ≡ record carrier.old { state = hands reference (map (λ v. v.items) tsdus.items) carrier.old.state }) }
+    ensures allowed { OnOk result (send_refusal (send_all_error (map (λ v. v.items) tsdus.items) (open_link reference carrier.old.state)) ≡ None) }
+    ensures refused { IfErr result (λ e. Refuses e None (send_refusal (send_all_error (map (λ v. v.items) tsdus.items) (open_link reference carrier.old.state)))) }
+    ensures err { OnErr result (carrier.new ≡ carrier.old) }
+{
+    match carrier.send_all(Ref(reference), tsdus.as_slice()) {
+        Ok(()) => Ok(()),
+        Err(error) => Err(call_error(error)),
+    }
+}
+
+/// The same as [`send_call`] of what is given away.
+pub fn send_owned_call(carrier: &mut Carrier, reference: u16, sent: Sent) -> Result<(), CallError>
+    ensures ok { OnOk result (carrier.new ≡ record carrier.old { state = hands reference sent carrier.old.state }) }
+    ensures allowed { OnOk result (send_refusal (send_all_error sent (open_link reference carrier.old.state)) ≡ None) }
+    ensures refused { IfErr result (λ e. Refuses e None (send_refusal (send_all_error sent (open_link reference carrier.old.state)))) }
+    ensures err { OnErr result (carrier.new ≡ carrier.old) }
+{
+    match sent.into_one() {
+        Ok(tsdu) => send_one(carrier, reference, tsdu),
+        Err(tsdus) => send_parts(carrier, reference, tsdus),
     }
 }

@@ -2,7 +2,7 @@ use Rattle.std.proofs.Common.{None, sym, ap, ◌∙◌}
 use Rattle.osi_session.specs.Listening.{opened, refused, broken, react}
 use Rattle.osi_stack.specs.Telling.{told_input}
 use Rattle.osi_stack.proofs.Sessions.{opened_is_unseen, refused_is_quiet, broken_is_quiet, quiet_takes, takes_if}
-use Rattle.osi_message.specs.Written.{written}
+use Rattle.osi_message.specs.Parting.{in_one}
 use Rattle.std.proofs.Common.{option_map}
 use Rattle.osi_stack.proofs.hearing.listen.Goals as goal
 
@@ -20,7 +20,7 @@ returns-in-Refused c =
     let quiet = refused_is_quiet s c.in-Refused.reason in
     takes_if _ s (refused c.in-Refused.reason) (told_input c.args.told) s c.refused.new.self (ap told_input c.in-Refused.is)
     (quiet_takes _ c.refused.result (react s (refused c.in-Refused.reason)) s c.refused.new.self c.quiet-in-Refused.ensures.first c.quiet-in-Refused.ensures.more
-    (c.quiet-in-Refused.ensures.reply ∙ ap (option_map written) (sym quiet.reply)) (c.quiet-in-Refused.ensures.closes ∙ sym quiet.closes)
+    (c.quiet-in-Refused.ensures.reply ∙ ap (option_map in_one) (sym quiet.reply)) (c.quiet-in-Refused.ensures.closes ∙ sym quiet.closes)
     c.refused.ensures.state c.refused.ensures.shown)
 
 pub returns-in-Lost : goal.returns-in-Lost
@@ -29,5 +29,5 @@ returns-in-Lost c =
     let quiet = broken_is_quiet s in
     takes_if _ s broken (told_input c.args.told) s c.broken.new.self (ap told_input c.in-Lost.is)
     (quiet_takes _ c.broken.result (react s broken) s c.broken.new.self c.quiet-in-Lost.ensures.first c.quiet-in-Lost.ensures.more
-    (c.quiet-in-Lost.ensures.reply ∙ ap (option_map written) (sym quiet.reply)) (c.quiet-in-Lost.ensures.closes ∙ sym quiet.closes)
+    (c.quiet-in-Lost.ensures.reply ∙ ap (option_map in_one) (sym quiet.reply)) (c.quiet-in-Lost.ensures.closes ∙ sym quiet.closes)
     c.broken.ensures.state c.broken.ensures.shown)

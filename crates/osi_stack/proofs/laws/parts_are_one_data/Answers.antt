@@ -1,9 +1,11 @@
-use Rattle.std.proofs.Common.{◌++◌}
+use Rattle.std.proofs.Common.{◌∙◌, ◌++◌, sym, map}
 use Rattle.osi_message.specs.Meanings.{DT}
 use Rattle.osi_message.specs.Words.{part_octets}
 use Rattle.osi_message.specs.Written.{written}
 use Rattle.osi_message.specs.declared.places.Place.TheVariants.{Last}
-use Rattle.osi_session.specs.Listening.{came}
+use Rattle.osi_session.specs.Listening.{came, after_inputs}
+use Rattle.osi_session.specs.Parts.{act_in_octets, calls_in}
+use Rattle.osi_stack.proofs.Handing.{came_unbounded}
 use Rattle.osi_stack.proofs.Parted.{parts_as_whole}
 use Rattle.osi_stack.proofs.laws.parts_are_one_data.Goals as goal
 
@@ -12,3 +14,5 @@ returns c = λ r session acts front last e kept none profile fits short parts.
     parts_as_whole r session acts (came (part_octets Last last)) (came (written (DT (front ++ last)))) e kept
     (c.parts_are_the_whole.ensures.before session acts front last none profile fits short parts)
     (c.parts_are_the_whole.ensures.octets session acts front last none profile fits short parts)
+    (came_unbounded (after_inputs session (map act_in_octets acts)) (part_octets Last last)
+    ∙ sym (came_unbounded (after_inputs session (calls_in acts)) (written (DT (front ++ last)))))

@@ -1,6 +1,6 @@
-use Rattle.std.proofs.Common.{◌≡◌, ◌*◌, ◌≤◌, ℕ, Bool, true, false, take, cond, length, is_some, arith}
+use Rattle.std.proofs.Common.{take, is_some, arith}
 use Rattle.osi_carrier.specs.Rows.{value_at}
-use Rattle.osi_stack.proofs.Keeps.{live_in, live_few, one_at_most}
+use Rattle.osi_stack.proofs.Keeps.{live_few, one_at_most}
 use Rattle.osi_stack.proofs.Rising.{rise_take}
 use Rattle.osi_stack.proofs.lines.count_joined.Goals as goal
 

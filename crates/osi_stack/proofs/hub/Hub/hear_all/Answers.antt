@@ -4,7 +4,7 @@ use Rattle.osi_stack.specs.Fetching.{Interrupted}
 use Rattle.osi_stack.specs.Hearing.{hears, with_carrier}
 use Rattle.osi_stack.specs.State.{Holding}
 use Rattle.std.proofs.Common.{subst}
-use Rattle.osi_stack.proofs.Events.{heard_next, heard_left}
+use Rattle.osi_stack.proofs.Events.{heard_next, heard_left, heard_left_over}
 use Rattle.osi_stack.proofs.hub.Hub.hear_all.Goals as goal
 
 pub events-preserved : goal.events-preserved
@@ -23,3 +23,11 @@ returns-in_default-hear-clause-err c =
     heard_left c.args.self.now c.events.self event mid c.hear.new.self.end c.events.invariant
     (ap (λ (x : Holding). x.end.carrier) (sym c.self.view_is) ∙ c.in-Some.ensures.told)
     (subst (λ (x : Holding). Interrupted (with_carrier mid x.end) c.hear.new.self.end) c.self.view_is c.in_default-hear.ensures.err)
+
+pub events-smaller : goal.events-smaller
+events-smaller c =
+    let mid = c.next_event.new.self.state in
+    let event = happening c.in-Some.event in
+    heard_left_over c.events.self c.hear.new.self event mid
+    (ap (λ (x : Holding). x.end.carrier) (sym c.self.view_is) ∙ c.in-Some.ensures.told)
+    (c.in-Ok.ensures.ok ∙ ap (λ (x : Holding). hears event (with_carrier mid x.end)) c.self.view_is)

@@ -1,0 +1,16 @@
+use Rattle.std.proofs.Common.{◌≡◌, ◌∙◌, ap, option_map, rules}
+use Rattle.osi_carrier.specs.State.{State as Carrier}
+use Rattle.osi_message.specs.Parting.{in_one}
+use Rattle.osi_session.specs.Listening.{react}
+use Rattle.osi_stack.specs.Telling.{told_input}
+use Rattle.osi_stack.proofs.Handing.{answer_heard}
+use Rattle.osi_stack.proofs.hearing.hear.Goals as goal
+
+pub returns-clause-carrier : goal.returns-clause-carrier
+returns-clause-carrier c =
+    let move = react c.args.session.now (told_input c.args.told) in
+    let reply : c.in_ok-first.field-0.reply ≡ option_map in_one move.reply = search rules in
+    let closes : c.in_ok-first.field-0.closes ≡ move.closes = search rules in
+    c.in_ok-answer.ensures.ok
+    ∙ ap (λ (x : Carrier). record c.args.carrier.now { state = x })
+    (answer_heard c.args.session.now c.args.told c.args.reference c.in_ok-first.field-0.reply c.in_ok-first.field-0.closes move c.args.carrier.now.state reply closes)
