@@ -1,5 +1,5 @@
 -- What one session took is how what the other sent begins; and it is all of it where nothing is under way.
-use Rattle.std.proofs.Common.{◌≡◌, refl, sym, ◌∙◌, ap, subst, ℕ, ◌+◌, ◌<◌, ◌≤◌, Bool, true, false, List, [], ◌∷◌, ◌++◌, length, map, Option, Some, None, option_map, is_some, inl, inr, ◌⊎◌, arith}
+use Rattle.std.proofs.Common.{◌≡◌, refl, sym, ◌∙◌, ap, subst, ℕ, ◌<◌, ◌≤◌, Bool, true, false, List, [], ◌∷◌, ◌++◌, length, map, Option, Some, None, option_map, is_some, inl, inr, ◌⊎◌, arith, if◌then◌else◌}
 use Rattle.std.proofs.lemmas.List.{append-nil}
 use Rattle.std.specs.List.{AllByRecursion}
 use Rattle.osi_tpkt.proofs.Fronts.{completed_partial, partial_not_whole}
@@ -7,9 +7,9 @@ use Rattle.osi_tpkt.specs.Packet.{IsPartial, packet_of}
 use Rattle.osi_tpdu.specs.Value.{Value}
 use Rattle.osi_tpdu.specs.Writing.{written}
 use Rattle.osi_carrier.proofs.Coming.{unit_packet}
-use Rattle.osi_carrier.specs.Between.{Both, Between, AreBetween, IsOnTheWay, AreJoinedBy, arriving, reach_of, within_reach, last_of, lost_from, units_from, under_way, IsStill, IsAllThere}
+use Rattle.osi_carrier.specs.Between.{Both, Between, AreBetween, IsOnTheWay, AreJoinedBy, arriving, reach_of, within_reach, last_of, lost_from, units_from, under_way, IsStill, IsAllThere, is_cut}
 use Rattle.osi_carrier.specs.Coming.{IsSendable}
-use Rattle.osi_carrier.specs.Calls.{begun_by, kept_in}
+use Rattle.osi_carrier.specs.Calls.{begun_by, kept_in, link_of}
 use Rattle.osi_carrier.specs.Course.{was_given, place_at, progress_of}
 use Rattle.osi_carrier.specs.Messages as carrier
 use Rattle.osi_carrier.specs.Progress.{Progress}
@@ -21,26 +21,36 @@ use Rattle.osi_machine.specs.Core as machine
 use Rattle.osi_machine.specs.Floor.{Meaning}
 use Rattle.osi_machine.specs.Machine.{Step}
 use Rattle.osi_machine.specs.Sayings.{units_in, is_parting, IsHeardAsSaid}
-use Rattle.osi_machine.specs.Tables.{Seat, side_of, turned}
+use Rattle.osi_machine.specs.Tables.{side_of, turned}
 use Rattle.osi_machine.specs.Worlds.{Message}
 use Rattle.osi_machine.specs.Worlds as worlds
 use Rattle.osi_session.specs.Listening.{Listener}
-use Rattle.osi_session.specs.Whole.{listening}
 use Rattle.osi_stack.specs.Messages.{kept_at}
-use Rattle.osi_stack.specs.State.{Holding, session_at, joined_of, joined_in}
+use Rattle.osi_stack.specs.State.{session_at, joined_of, joined_in, End}
 use Rattle.osi_pair.specs.Ends.{TwoEnds, end_at}
 use Rattle.osi_pair.specs.Promises.{sent_by, taken_by, AreTakenInOrder, AreAtRest, IsOpenAt, kept_at as kept_by, begun_of, kept_of, IsAllTaken}
 use Rattle.osi_pair.specs.Reached.{HoldLess}
 use Rattle.osi_pair.specs.Sides.{other}
-use Rattle.osi_pair.specs.Standing.{terms_in, is_caller, transport_in, message_in, carriers_of, AreAlike, IsSeated, HasLine, StandsAt}
+use Rattle.osi_pair.specs.Standing.{terms_in, is_caller, transport_in, carriers_of, AreAlike, HasLine, StandsAt, AreUnderWay, word_in, HasJoined, IsInOrder}
 use Rattle.osi_pair.specs.declared.reach.Reach.{Reach}
 use Rattle.osi_pair.specs.declared.sides.Side.{Side}
 use Rattle.osi_pair.specs.declared.sides.Side.TheVariants.{Left, Right}
-use Rattle.osi_pair.proofs.NothingKept.{open_there, open_here, none_begun, none_joined}
+use Rattle.osi_pair.proofs.NothingKept.{open_there, open_here, none_begun, none_joined as all_none_joined}
 use Rattle.osi_pair.proofs.StandingActed.{live_place}
 use Rattle.osi_pair.proofs.StandingFinish.{order_of}
-use Rattle.osi_pair.proofs.StandingPromises.{tables_at, line_at, outside_by, outside, within}
+use Rattle.osi_pair.proofs.StandingPromises.{tables_at, line_at, outside_by, within}
 use Rattle.osi_pair.proofs.StandingSeats.{live_session}
+use Rattle.osi_pair.proofs.StandingCut.{cut_none}
+use Rattle.osi_carrier.specs.declared.ends.EndReason.{EndReason}
+use Rattle.osi_pair.specs.Words.{Word, joins, left_of}
+use Rattle.osi_pair.proofs.StandingListens.{none_joined, kept_of as session_kept}
+use Rattle.osi_session.specs.Kept.{IsJoinedAs}
+use Rattle.osi_session.specs.Joining.{joined_octets}
+use Rattle.osi_session.specs.Phases.{may_hold}
+use Rattle.osi_session.proofs.JoinedLaws.{joined_holds}
+use Rattle.osi_session.proofs.PhaseLaws.{implied}
+use Rattle.osi_stack.specs.Links.{needs_link}
+use Rattle.osi_carrier.specs.Told.{is_open}
 
 -- two ends at rest, each of which holds less than a packet
 record Resting (p : TwoEnds) : Type 0 where
@@ -67,9 +77,22 @@ in_order heard p steps h r =
 
 -- ---- a connection that is open at both ends
 
-no_messages : (ms : List Message) → map message_in ms ≡ [] → ms ≡ []
-no_messages [] e = refl
-no_messages (m ∷ ms) e = absurd (cc)
+no_words : (words : List Word) → map word_in words ≡ [] → words ≡ []
+no_words [] e = refl
+no_words (w ∷ words) e = absurd (cc)
+
+-- nothing is under way, and nothing of it was cut off
+no_messages : (o : Option EndReason) (g : Progress) (c : Bool) (H : Option (List ℕ) → Type 0) (ms : List Message) (sent : List carrier.Message) → (w : AreUnderWay o g c H ms sent) → c ≡ false → map word_in w.words ≡ [] → ms ≡ []
+no_messages o g c H ms sent w uncut none =
+    sym w.joined ∙ ap (λ (l : List Word). joins w.begun (l ++ w.lost)) (no_words w.words none) ∙ ap (joins w.begun) (w.kept uncut)
+
+-- and nothing has begun
+none_begun_by : (o : Option EndReason) (g : Progress) (c : Bool) (H : Option (List ℕ) → Type 0) (ms : List Message) (sent : List carrier.Message) → (w : AreUnderWay o g c H ms sent) → c ≡ false → map word_in w.words ≡ [] → w.begun ≡ None
+none_begun_by o g c H ms sent w uncut none =
+    sym (ap (λ (l : List Word). left_of w.begun (l ++ w.lost)) (no_words w.words none) ∙ ap (left_of w.begun) (w.kept uncut)) ∙ w.finished
+
+uncut_at : (side : Side) (p : TwoEnds) → Resting p → is_cut (is_caller side) (carriers_of p) ≡ false
+uncut_at side p rest = cut_none side p (is_some p.reach) refl (rest.lasts side) (ap is_some rest.unbroken)
 
 open_place : (side : Side) (r : ℕ) (p : TwoEnds) (steps : List Step) (h : StandsAt p steps) → (end_at side p).end.carrier.ended ≡ None → (o : IsOpenAt r (end_at side p).end)
     → place_at r (end_at side p).end.carrier ≡ was_given (Some (linked o.peer o.link))
@@ -143,6 +166,29 @@ open_given r p steps h o = by (within r p.left.end.carrier.given)
 none_left : (heard said : List Meaning) (ms : List Message) → ms ≡ [] → heard ++ units_in ms ≡ said → heard ≡ said
 none_left heard said ms e h = sym (append-nil heard) ∙ ap (λ (us : List Meaning). heard ++ us) (sym (ap units_in e)) ∙ h
 
+-- and nothing is joined
+joined_none : Empties → (p : TwoEnds) (steps : List Step) (r : ℕ) → (h : StandsAt p steps) → Resting p → IsOpenAt r p.left.end → IsOpenAt r p.right.end → (side : Side) → HasJoined r (end_at side p) None
+joined_none empties p steps r h rest left right Right =
+    let given = open_given r p steps h left in
+    let here = line_at r p steps h given.0 given.1 in
+    let there = empties (terms_of p.left.end.carrier.local p.right.end.carrier.local) (carriers_of p) h.now r left.peer right.peer left.link right.link h.stands.between (at_rest p steps h rest) left.live right.live in
+    let w = here.is.rightward in
+    subst (HasJoined r p.right)
+    (none_begun_by _ _ _ (HasJoined r p.right) here.line.own.channel (under_way true r (carriers_of p) h.now) w (uncut_at Left p rest)
+    (open_alike Right r p steps h (rest.lasts Right) right (map word_in w.words) (under_way true r (carriers_of p) h.now) (w.alike (rest.lasts Right)) ∙ there.there)) w.held
+joined_none empties p steps r h rest left right Left =
+    let given = open_given r p steps h left in
+    let here = line_at r p steps h given.0 given.1 in
+    let there = empties (terms_of p.left.end.carrier.local p.right.end.carrier.local) (carriers_of p) h.now r left.peer right.peer left.link right.link h.stands.between (at_rest p steps h rest) left.live right.live in
+    let w = here.is.leftward in
+    subst (HasJoined r p.left)
+    (none_begun_by _ _ _ (HasJoined r p.left) here.line.peer.channel (under_way false r (carriers_of p) h.now) w (uncut_at Right p rest)
+    (open_alike Left r p steps h (rest.lasts Left) left (map word_in w.words) (under_way false r (carriers_of p) h.now) (w.alike (rest.lasts Left)) ∙ there.back)) w.held
+
+none_of : (r : ℕ) (e : End) (l : Listener) → is_some (value_at r e.carrier.live) ≡ true → session_at r e ≡ Some l → ((y : Listener) → kept_at r e.lines ≡ Some y → IsJoinedAs y.state y.joined None) → joined_of (session_at r e) ≡ 0
+none_of r e l lives is held =
+    ap joined_of is ∙ ap (λ (j : Option (List ℕ)). length (joined_octets j)) (none_joined l.state l.joined (held l (sym (live_session r e lives) ∙ is)))
+
 all_there : Heard → Empties → (p : TwoEnds) (steps : List Step) (r : ℕ) → StandsAt p steps → Resting p → IsOpenAt r p.left.end → IsOpenAt r p.right.end → IsAllTaken r p steps
 all_there heard empties p steps r h rest left right =
     let terms = terms_in (terms_of p.left.end.carrier.local p.right.end.carrier.local) in
@@ -152,10 +198,10 @@ all_there heard empties p steps r h rest left right =
     let own : here.line.own.transport ≡ worlds.linked = here.is.left.transport ∙ ap transport_in (open_place Left r p steps h (rest.lasts Left) left) in
     let peer : here.line.peer.transport ≡ worlds.linked = here.is.right.transport ∙ ap transport_in (open_place Right r p steps h (rest.lasts Right) right) in
     let whole : (tables_at p steps).broken ≡ false = h.stands.broken ∙ ap is_some rest.unbroken in
-    let out = no_messages here.line.own.channel
-    (open_alike Right r p steps h (rest.lasts Right) right (map message_in here.line.own.channel) (under_way true r (carriers_of p) h.now) (here.is.rightward (rest.lasts Right)) ∙ there.there) in
-    let back = no_messages here.line.peer.channel
-    (open_alike Left r p steps h (rest.lasts Left) left (map message_in here.line.peer.channel) (under_way false r (carriers_of p) h.now) (here.is.leftward (rest.lasts Left)) ∙ there.back) in
+    let out = no_messages _ _ _ (HasJoined r p.right) here.line.own.channel (under_way true r (carriers_of p) h.now) here.is.rightward (uncut_at Left p rest)
+    (open_alike Right r p steps h (rest.lasts Right) right (map word_in here.is.rightward.words) (under_way true r (carriers_of p) h.now) (here.is.rightward.alike (rest.lasts Right)) ∙ there.there) in
+    let back = no_messages _ _ _ (HasJoined r p.left) here.line.peer.channel (under_way false r (carriers_of p) h.now) here.is.leftward (uncut_at Right p rest)
+    (open_alike Left r p steps h (rest.lasts Left) left (map word_in here.is.leftward.words) (under_way false r (carriers_of p) h.now) (here.is.leftward.alike (rest.lasts Left)) ∙ there.back) in
     record {
       rightward = none_left (taken_by Right r p steps) (sent_by Left r p steps) here.line.own.channel out
           ((heard machine.Right r terms steps).whole (turned here.line) (ap (side_of machine.Right) here.found) (ap is_parting peer) (ap is_parting own) whole);
@@ -167,11 +213,11 @@ all_there heard empties p steps r h rest left right =
     kept : HasLine r p h.now (tables_at p steps) → IsAllThere r (carriers_of p) h.now left.link right.link → (side : Side) → kept_of r (end_at side p).end ≡ 0
     kept here there Left =
         let begun : begun_of (value_at r p.left.end.carrier.live) ≡ 0 = ap begun_of left.live ∙ ap length there.links.begun in
-        let joined : joined_of (session_at r p.left.end) ≡ 0 = ap joined_of (here.is.left.live (ap is_some left.live)) in
+        let joined : joined_of (session_at r p.left.end) ≡ 0 = none_of r p.left.end _ (ap is_some left.live) (here.is.left.live (ap is_some left.live)) (joined_none empties p steps r h rest left right Left) in
         omega arith
     kept here there Right =
         let begun : begun_of (value_at r p.right.end.carrier.live) ≡ 0 = ap begun_of right.live ∙ ap length there.links.begun_there in
-        let joined : joined_of (session_at r p.right.end) ≡ 0 = ap joined_of (here.is.right.live (ap is_some right.live)) in
+        let joined : joined_of (session_at r p.right.end) ≡ 0 = none_of r p.right.end _ (ap is_some right.live) (here.is.right.live (ap is_some right.live)) (joined_none empties p steps r h rest left right Right) in
         omega arith
 
 pub all_taken : Heard → Empties → (p : TwoEnds) (steps : List Step) (r : ℕ) → StandsAt p steps → HoldLess p → AreAtRest p → IsOpenAt r p.left.end → IsOpenAt r p.right.end →
@@ -203,22 +249,45 @@ none_begun_at empties Right p steps h rest r (linked peer link) at =
     let here = open_here terms p.left.end.carrier p.right.end.carrier r peer link (joined_at_rest p steps h rest) at in
     ap length (empties terms (carriers_of p) h.now r here.peer peer here.link link h.stands.between (at_rest p steps h rest) here.live at).links.begun_there
 
--- a live session has joined nothing
-seated_none : (n : ℕ) (h : Holding) (seat : Seat) (l : Listener) → IsSeated n h seat → is_some (value_at n h.end.carrier.live) ≡ true → kept_at n h.end.lines ≡ Some l → l.joined ≡ None
-seated_none n h seat l s lives at =
-    let same : l ≡ listening seat.session = s.kept l at in
-    ap (λ (x : Listener). x.joined) same
+-- a session that has joined something is at an open connection
+linked_of : (n : ℕ) (e : End) (o : Option Connection) → value_at n e.carrier.live ≡ o → is_some (link_of o) ≡ true → IsOpenAt n e
+linked_of n e None at h = absurd cc
+linked_of n e (Some asked) at h = absurd cc
+linked_of n e (Some (linked peer link)) at h = record { peer = peer; link = link; live = at }
+linked_of n e (Some (closing peer)) at h = absurd cc
 
-none_joined_at : (side : Side) (p : TwoEnds) (steps : List Step) (h : StandsAt p steps) (r : ℕ) (l : Listener) → is_some (value_at r (end_at side p).end.carrier.live) ≡ true → kept_at r (end_at side p).end.lines ≡ Some l → l.joined ≡ None
-none_joined_at side p steps h r l lives at = by side (within r p.left.end.carrier.given) lives at
+open_linked : (n : ℕ) (e : End) → e.carrier.ended ≡ None → is_open n e.carrier ≡ true → IsOpenAt n e
+open_linked n e lasts h =
+    linked_of n e (value_at n e.carrier.live) refl
+    (sym (ap (λ (x : Option EndReason). is_some (if◌then◌else◌ {A = Option (ℕ × Standing)} (is_some x) None (link_of (value_at n e.carrier.live)))) lasts) ∙ h)
+
+joined_open : (n : ℕ) (e : End) (l : Listener) → IsInOrder e → e.carrier.ended ≡ None → kept_at n e.lines ≡ Some l → is_some l.joined ≡ true → IsOpenAt n e
+joined_open n e l order lasts at some =
+    let keeps = session_kept n l e order at in
+    open_linked n e lasts (order.sound.links lasts n l at (implied may_hold needs_link refl l.state.phase (joined_holds l keeps some)))
+
+there_open : (side : Side) (p : TwoEnds) (steps : List Step) (h : StandsAt p steps) → Resting p → (r : ℕ) → IsOpenAt r (end_at side p).end → IsOpenAt r (end_at (other side) p).end
+there_open Left p steps h rest r o =
+    let x = open_there (terms_of p.left.end.carrier.local p.right.end.carrier.local) p.left.end.carrier p.right.end.carrier r o.peer o.link (joined_at_rest p steps h rest) o.live in
+    record { peer = x.peer; link = x.link; live = x.live }
+there_open Right p steps h rest r o =
+    let x = open_here (terms_of p.left.end.carrier.local p.right.end.carrier.local) p.left.end.carrier p.right.end.carrier r o.peer o.link (joined_at_rest p steps h rest) o.live in
+    record { peer = x.peer; link = x.link; live = x.live }
+
+joined_at : Empties → (side : Side) (p : TwoEnds) (steps : List Step) (h : StandsAt p steps) → Resting p → (r : ℕ) → IsOpenAt r (end_at side p).end → HasJoined r (end_at side p) None
+joined_at empties Left p steps h rest r o = joined_none empties p steps r h rest o (there_open Left p steps h rest r o) Left
+joined_at empties Right p steps h rest r o = joined_none empties p steps r h rest (there_open Right p steps h rest r o) o Right
+
+none_joined_at : Empties → (side : Side) (p : TwoEnds) (steps : List Step) (h : StandsAt p steps) → Resting p → (r : ℕ) (l : Listener) → is_some (value_at r (end_at side p).end.carrier.live) ≡ true →
+    kept_at r (end_at side p).end.lines ≡ Some l → l.joined ≡ None
+none_joined_at empties side p steps h rest r l lives at = by l.joined refl
   where
-    by : (side : Side) → ((r ≡ 0) ⊎ (p.left.end.carrier.given < r)) ⊎ ((0 < r) × (r ≤ p.left.end.carrier.given)) → is_some (value_at r (end_at side p).end.carrier.live) ≡ true →
-        kept_at r (end_at side p).end.lines ≡ Some l → l.joined ≡ None
-    by side (inl out) lives at =
-        let none : None ≡ Some l = sym (outside side r p steps h out) ∙ live_session r (end_at side p).end lives ∙ at in
-        absurd (cc)
-    by Left (inr given) lives at = let line = line_at r p steps h given.0 given.1 in seated_none r p.left line.line.own l line.is.left lives at
-    by Right (inr given) lives at = let line = line_at r p steps h given.0 given.1 in seated_none r p.right line.line.peer l line.is.right lives at
+    by : (o : Option (List ℕ)) → l.joined ≡ o → l.joined ≡ None
+    by None e = e
+    by (Some octets) e =
+        let e0 = (end_at side p).end in
+        let o = joined_open r e0 l (order_of side p h.now (tables_at p steps) h.stands (rest.lasts side)) (rest.lasts side) at (ap is_some e) in
+        none_joined l.state l.joined (joined_at empties side p steps h rest r o l at)
 
 none_kept : Empties → (p : TwoEnds) (steps : List Step) → StandsAt p steps → Resting p → (side : Side) → kept_by side p ≡ 0
 none_kept empties p steps h rest side =
@@ -226,7 +295,7 @@ none_kept empties p steps h rest side =
     let begun : kept_in (end_at side p).end.carrier.live ≡ 0 =
     none_begun 0 (end_at side p).end.carrier.live (order_of side p h.now (tables_at p steps) h.stands (rest.lasts side)).sound.orderly.rise (none_begun_at empties side p steps h rest) in
     let joined : joined_in (end_at side p).end.carrier.live (end_at side p).end.lines ≡ 0 =
-    none_joined 0 (end_at side p).end.carrier.live (end_at side p).end.lines (order_of side p h.now (tables_at p steps) h.stands (rest.lasts side)).rising (none_joined_at side p steps h) in
+    all_none_joined 0 (end_at side p).end.carrier.live (end_at side p).end.lines (order_of side p h.now (tables_at p steps) h.stands (rest.lasts side)).rising (none_joined_at empties side p steps h rest) in
     omega arith
 
 pub nothing_kept : Empties → (p : TwoEnds) (steps : List Step) → StandsAt p steps → HoldLess p → AreAtRest p → (side : Side) → kept_by side p ≡ 0

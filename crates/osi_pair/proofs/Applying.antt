@@ -1,5 +1,5 @@
 -- What an event that is applied or refused leaves.
-use Rattle.std.proofs.Common.{◌≡◌, ℕ, List, Result, Ok, Err, OnOk, OnErr, IfOk, None, sym, subst}
+use Rattle.std.proofs.Common.{◌≡◌, List, Result, Ok, Err, OnOk, OnErr, IfOk, None, sym, subst}
 use Rattle.osi_machine.specs.Machine.{Step}
 use Rattle.osi_pair.specs.Advancing.{CanHappen, StandsAfter}
 use Rattle.osi_pair.specs.Ends.{TwoEnds}

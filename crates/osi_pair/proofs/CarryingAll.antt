@@ -1,5 +1,5 @@
 -- At two ends that stand at a list of steps no indication waits, and so nothing holds up a carry.
-use Rattle.std.proofs.Common.{◌≡◌, ◌∙◌, ℕ, Bool, true, false, not, ◌||◌, ◌==◌, List, [], ◌∷◌, ◌++◌, map, length, min, refl, ap, subst}
+use Rattle.std.proofs.Common.{◌≡◌, ◌∙◌, ℕ, Bool, false, not, ◌||◌, ◌==◌, List, [], ◌∷◌, ◌++◌, map, length, min, refl, ap, subst}
 use Rattle.osi_carrier.specs.Rows.{Rows}
 use Rattle.osi_session.specs.Shown.{Shown}
 use Rattle.osi_stack.specs.State.{Line, waits}

@@ -9,8 +9,11 @@ pub mod Applying
 pub mod HoldingLess
 pub mod StandingArriving
 pub mod StandingRows
+pub mod WordLaws
+mod WordsSent
 pub mod StandingWays
 pub mod StandingArrived
+pub mod StandingCut
 pub mod StandingTurned
 pub mod StandingSeats
 pub mod StandingListens
@@ -34,6 +37,7 @@ pub mod StandingSends
 pub mod StandingCloses
 pub mod StandingAnswers
 pub mod StandingAnswering
+pub mod StandingParts
 pub mod StandingTelling
 pub mod StandingLeaves
 pub mod StandingPacket
@@ -63,4 +67,3 @@ pub mod StandingRefusal
 pub mod StandingConnect
 pub mod StandingEvent
 pub mod Reaching
-mod WordLaws

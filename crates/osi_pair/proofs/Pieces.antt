@@ -3,7 +3,7 @@ use Rattle.std.proofs.Common.{◌≡◌, ◌∙◌, ℕ, ◌+◌, ◌-◌, Bool,
 use Rattle.std.proofs.Math.Nat.{add_comm}
 use Rattle.std.proofs.lemmas.List.Sums.{sum_by-cons}
 use Rattle.osi_stack.specs.State.{Holding}
-use Rattle.osi_pair.specs.Carrying.{Crossing, CarriesPiece, CarriesPieces, Carries}
+use Rattle.osi_pair.specs.Carrying.{Crossing, CarriesPiece, Carries}
 use Rattle.osi_pair.specs.Entries.{entry_by}
 use Rattle.osi_pair.specs.declared.entries.Entry.{Entry}
 use Rattle.osi_pair.specs.declared.sides.Side.{Side}

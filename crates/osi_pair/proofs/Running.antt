@@ -1,5 +1,5 @@
 -- Events that happen one after the other, and their steps of the machine.
-use Rattle.std.proofs.Common.{◌≡◌, ℕ, List, [], ◌∷◌, ◌++◌, Option, Some, None, refl, sym, subst}
+use Rattle.std.proofs.Common.{List, [], ◌∷◌, ◌++◌, Option, Some, None, refl, sym, subst}
 use Rattle.std.proofs.lemmas.List.{append_assoc, append-nil}
 use Rattle.osi_carrier.specs.declared.ends.EndReason.{EndReason}
 use Rattle.osi_machine.specs.Machine.{Step, connects, calls, breaks, ends, told_of_break}
@@ -7,7 +7,7 @@ use Rattle.osi_session.specs.Calls.{called_by}
 use Rattle.osi_pair.specs.Advancing.{StandsAfter}
 use Rattle.osi_pair.specs.Asked.{asked_of}
 use Rattle.osi_pair.specs.Ends.{TwoEnds, end_at}
-use Rattle.osi_pair.specs.Running.{Happens, HappenAll, AreStepsOf, AreStepsOfAll, StandsBehind, RunsThrough}
+use Rattle.osi_pair.specs.Running.{Happens, HappenAll, AreStepsOf, StandsBehind, RunsThrough}
 use Rattle.osi_pair.specs.Standing.{side_in, offer_in, StandsAt, StandsAtTold}
 use Rattle.osi_pair.specs.declared.events.Event.{Event}
 use Rattle.osi_pair.specs.declared.events.Event.TheVariants.{Connect, Call, Carry, Break, Told}

@@ -1,9 +1,9 @@
 -- The carrier of an end acts for a connection that is open there: nothing is taken, and its session makes no
 -- move. How two ends stand then.
-use Rattle.std.proofs.Common.{◌≡◌, ◌≢◌, ℕ, ◌<◌, ◌≤◌, Bool, true, false, nat_lt, if◌then◌else◌, List, [], ◌++◌, length, map, Option, Some, None, option_map, refl, sym, ap, subst, ◌∙◌, arith}
+use Rattle.std.proofs.Common.{◌≡◌, ◌≢◌, ℕ, ◌<◌, ◌≤◌, Bool, true, false, nat_lt, if◌then◌else◌, List, [], ◌++◌, length, Option, Some, None, option_map, refl, sym, ap, subst, ◌∙◌, arith}
 use Rattle.std.proofs.lemmas.Bool.Decides.{nat_tests}
 use Rattle.std.proofs.lemmas.List.{append-nil}
-use Rattle.osi_carrier.specs.Between.{Between, AreBetween, Carries, last_of, under_way, put_in}
+use Rattle.osi_carrier.specs.Between.{Between, AreBetween, Carries, last_of, under_way, put_in, is_cut}
 use Rattle.osi_carrier.specs.Course.{Place, never, was_given, place_at, connection_in, progress_of}
 use Rattle.osi_carrier.specs.Messages.{AreLike}
 use Rattle.osi_carrier.specs.Messages as carrier
@@ -22,14 +22,15 @@ use Rattle.osi_stack.specs.State.{End, Holding}
 use Rattle.osi_pair.specs.Ends.{TwoEnds, end_at}
 use Rattle.osi_pair.specs.Entries.{Entry}
 use Rattle.osi_pair.specs.Sides.{other}
-use Rattle.osi_pair.specs.Standing.{side_in, is_caller, class_in, carriers_of, message_in, AreAlike, IsSeated, IsInOrder, Stands}
+use Rattle.osi_pair.specs.Standing.{side_in, is_caller, class_in, carriers_of, IsSeated, IsInOrder, Stands, Goes, HasJoined}
 use Rattle.osi_pair.specs.declared.sides.Side.{Side}
 use Rattle.osi_pair.specs.declared.sides.Side.TheVariants.{Left, Right}
 use Rattle.osi_pair.proofs.StandingActs.{StandsOn, there}
 use Rattle.osi_pair.proofs.StandingFinish.{terms_at, order_of}
 use Rattle.osi_pair.proofs.StandingSeats.{transport_by, HasSession, place_by, session_of_seat, seat_of_session}
-use Rattle.osi_pair.proofs.StandingTurned.{IsSeen, seen, seen_twice, with_holding, holding_here, holding_there, Others, LinesAfter, Turned, turned_pair, turned_stands}
-use Rattle.osi_pair.proofs.StandingWays.{back_stays, shuts}
+use Rattle.osi_pair.proofs.StandingTurned.{IsSeen, seen, seen_twice, with_holding, holding_here, holding_there, Others, LinesAfter, Turned, turned_pair, turned_stands, out_there, back_here, GoesTo}
+use Rattle.osi_pair.proofs.StandingWays.{shuts, back_waits}
+use Rattle.osi_pair.proofs.StandingCut.{end_back}
 
 -- ---- the carrier
 
@@ -163,10 +164,9 @@ acted_line g channel l = record {
   peer = l.peer;
 }
 
--- what is under way from the end that acted, while the other lasts
+-- what is under way from the end that acted
 abbrev pub OutNow : Side → ℕ → TwoEnds → Between → TwoEnds → Between → List Message → Type 0
-OutNow s n p b new c channel = (end_at (other s) p).end.carrier.ended ≡ None →
-    AreAlike (progress_of (place_at n (last_of (is_caller (other s)) b))) (map message_in channel) (under_way (is_caller s) n (carriers_of new) c)
+OutNow s n p b new c channel = GoesTo s (end_at (other s) p) n new c (progress_of (place_at n (last_of (is_caller (other s)) b))) channel
 
 in_use_lasts : (g : Progress) → g ≡ in_use → shuts g ≡ true → (h : Bool) → h ≡ true
 in_use_lasts g e f h = let no_way : false ≡ true = sym (ap shuts e) ∙ f in cc
@@ -182,11 +182,13 @@ seen_acts s p b t n g c put channel l old alive a order i x out =
       here = subst (λ (y : Holding). IsSeated n y (acted_line g channel l).own) (sym (holding_here s e h p))
           (seat_of_session n e h g l.own.session channel order.sound.orderly (here_now s p b n g c put a order) x);
       there = subst (λ (y : Holding). IsSeated n y l.peer) (sym (holding_there s e h p)) i.there;
-      out = λ lives. subst (λ (y : State). AreAlike (progress_of (place_at n y)) (map message_in channel) (under_way (is_caller s) n (carriers_of (pair_with s c p)) a.now)) (sym a.ways.there)
-          (out (ap (λ (y : Holding). y.end.carrier.ended) (sym (holding_there s e h p)) ∙ lives));
-      back = λ lives. back_stays (progress_of (place_at n (last_of (is_caller s) b))) (place_at n (last_of (is_caller s) a.now)) (map message_in l.peer.channel)
-          (under_way (is_caller (other s)) n (carriers_of p) b) (under_way (is_caller (other s)) n (carriers_of (pair_with s c p)) a.now)
-          (λ f. in_use_lasts (progress_of (place_at n (last_of (is_caller s) b))) stood f (shuts (progress_of (place_at n (last_of (is_caller s) a.now))))) (i.back alive) a.ways.came;
+      out = subst (λ (y : State). Goes s (other s) n (pair_with s c p) a.now (progress_of (place_at n y)) channel) (sym a.ways.there)
+          (out_there s p a.now e h n (progress_of (place_at n (last_of (is_caller (other s)) b))) channel out);
+      back = back_here s p a.now e h n (progress_of (place_at n (last_of (is_caller s) a.now))) l.peer.channel
+          (back_waits (end_at s p).end.carrier.ended e.carrier.ended (progress_of (place_at n (last_of (is_caller s) b))) (place_at n (last_of (is_caller s) a.now)) (is_cut (is_caller (other s)) (carriers_of p))
+          (is_cut (is_caller (other s)) (carriers_of (pair_with s c p))) (HasJoined n (end_at s p)) (HasJoined n (record { end = e; held = h })) l.peer.channel (under_way (is_caller (other s)) n (carriers_of p) b) (under_way (is_caller (other s)) n (carriers_of (pair_with s c p)) a.now)
+          (λ f. in_use_lasts (progress_of (place_at n (last_of (is_caller s) b))) stood f (shuts (progress_of (place_at n (last_of (is_caller s) a.now))))) i.back alive
+          (end_back s (record { end = e; held = h }) p) (λ x held. held) a.ways.came);
     }
 
 -- ---- two ends

@@ -4,7 +4,7 @@ use Rattle.std.proofs.lemmas.Bool.{lt-ltb, leb-true, leb-false}
 use Rattle.std.proofs.lemmas.Bool.Decides.{nat_tests}
 use Rattle.std.proofs.lemmas.List.{map-append}
 use Rattle.std.specs.List.{AllByRecursion}
-use Rattle.osi_carrier.specs.Between.{Between, Carries, last_of, under_way, put_in}
+use Rattle.osi_carrier.specs.Between.{Between, Carries, last_of, under_way, put_in, is_cut}
 use Rattle.osi_carrier.specs.Course.{Place, never, was_given, place_at, progress_of}
 use Rattle.osi_carrier.specs.Messages as carrier
 use Rattle.osi_carrier.specs.Progress.{Progress}
@@ -19,12 +19,18 @@ use Rattle.osi_stack.specs.State.{Holding}
 use Rattle.osi_pair.specs.Ends.{TwoEnds, end_at, noted}
 use Rattle.osi_pair.specs.Entries.{Entry}
 use Rattle.osi_pair.specs.Sides.{other}
-use Rattle.osi_pair.specs.Standing.{is_caller, terms_in, carriers_of, message_in, entry_in, AreAlike, IsUnderWay, IsInOrder, IsLine, Stands, StandsAt}
+use Rattle.osi_pair.specs.Standing.{is_caller, terms_in, carriers_of, entry_in, AreAlike, IsUnderWay, IsInOrder, IsLine, Stands, StandsAt, Goes, word_in, HasJoined}
 use Rattle.osi_pair.specs.Telling.{waiting_in}
+use Rattle.osi_pair.specs.Words.{Word}
 use Rattle.osi_pair.specs.declared.reach.Reach.{Reach}
 use Rattle.osi_pair.specs.declared.sides.Side.{Side}
 use Rattle.osi_pair.specs.declared.sides.Side.TheVariants.{Left, Right}
-use Rattle.osi_pair.proofs.StandingSides.{alike_trans, alike_same, alike_at, like_alike, alike_put}
+use Rattle.osi_pair.proofs.StandingSides.{alike_trans, alike_same, alike_at, like_alike}
+use Rattle.osi_pair.proofs.StandingCut.{cut_none, cut_out, cut_back}
+use Rattle.osi_pair.proofs.StandingRests.{unless_broken, put_unless, words_put, are_put, put_same, put_spare}
+use Rattle.osi_pair.proofs.StandingWays.{as_now, out_puts}
+use Rattle.osi_pair.proofs.StandingTurned.{GoesTo}
+use Rattle.osi_pair.proofs.WordLaws.{AreWords}
 
 -- ---- what is under way from the end that acted
 
@@ -35,29 +41,27 @@ reach_in p broken e = mapped p.reach ∙ sym e
     mapped None = refl
     mapped (Some r) = refl
 
-put_now : (p : TwoEnds) (broken : Bool) (ms : List carrier.Message) → broken ≡ is_some p.reach → put_in (carriers_of p) ms ≡ (if broken then [] else ms)
-put_now p broken ms e = ap (λ (b : Bool). if◌then◌else◌ {A = List carrier.Message} b [] ms) (reach_in p broken e)
-
-pub out_way : (terms : Terms) (side : Side) (r : ℕ) (p new : TwoEnds) (b c : Between) (more channel : List Message) (broken : Bool) (seat : Seat) →
-    (k : Carries terms (is_caller side) r (carriers_of p) (carriers_of new) b c [] (map message_in more)) → broken ≡ is_some p.reach → k.gone ≡ [] →
-    end_at (other side) new ≡ end_at (other side) p →
-    ((end_at (other side) p).end.carrier.ended ≡ None →
-    AreAlike (progress_of (place_at r (last_of (is_caller (other side)) b))) (map message_in channel) (under_way (is_caller side) r (carriers_of p) b)) →
+pub out_way : (terms : Terms) (side : Side) (r : ℕ) (p new : TwoEnds) (b c : Between) (words : List Word) (more channel : List Message) (broken : Bool) (seat : Seat) → AreWords words more →
+    (k : Carries terms (is_caller side) r (carriers_of p) (carriers_of new) b c [] (map word_in words)) → broken ≡ is_some p.reach → k.gone ≡ [] →
+    end_at (other side) new ≡ end_at (other side) p → (end_at side p).end.carrier.ended ≡ None → new.reach ≡ p.reach →
+    Goes side (other side) r p b (progress_of (place_at r (last_of (is_caller (other side)) b))) channel →
     seat.channel ≡ put broken more channel → IsUnderWay side (other side) r new c seat
-out_way terms Left r p new b c more channel broken seat k reach none there was is = λ e.
-    alike_at (progress_of (place_at r b.called)) (progress_of (place_at r c.called)) _ _ (ap (λ (s : Carrier). progress_of (place_at r s)) (sym k.there))
-    (alike_trans (progress_of (place_at r b.called)) _ _ _ (alike_same (progress_of (place_at r b.called)) _ _ (ap (map message_in) is))
-    (alike_put (progress_of (place_at r b.called)) broken channel more (under_way true r (carriers_of p) b) (under_way true r (carriers_of new) c) k.stays k.gone
-    (was (ap (λ (x : Holding). x.end.carrier.ended) (sym there) ∙ e)) (like_alike (place_at r b.called) _ _ k.before) none
-    (alike_trans (progress_of (place_at r b.called)) _ _ _ (like_alike (place_at r b.called) _ _ k.after)
-    (alike_same (progress_of (place_at r b.called)) _ _ (ap (λ (l : List carrier.Message). k.stays ++ l) (put_now p broken (map message_in more) reach))))))
-out_way terms Right r p new b c more channel broken seat k reach none there was is = λ e.
-    alike_at (progress_of (place_at r b.caller)) (progress_of (place_at r c.caller)) _ _ (ap (λ (s : Carrier). progress_of (place_at r s)) (sym k.there))
-    (alike_trans (progress_of (place_at r b.caller)) _ _ _ (alike_same (progress_of (place_at r b.caller)) _ _ (ap (map message_in) is))
-    (alike_put (progress_of (place_at r b.caller)) broken channel more (under_way false r (carriers_of p) b) (under_way false r (carriers_of new) c) k.stays k.gone
-    (was (ap (λ (x : Holding). x.end.carrier.ended) (sym there) ∙ e)) (like_alike (place_at r b.caller) _ _ k.before) none
-    (alike_trans (progress_of (place_at r b.caller)) _ _ _ (like_alike (place_at r b.caller) _ _ k.after)
-    (alike_same (progress_of (place_at r b.caller)) _ _ (ap (λ (l : List carrier.Message). k.stays ++ l) (put_now p broken (map message_in more) reach))))))
+out_way terms Left r p new b c words more channel broken seat are k reach none there alive same was is =
+    let lasts = p.right.end.carrier.ended in
+    subst (λ (x : Holding). GoesTo Left x r new c (progress_of (place_at r c.called)) seat.channel) (sym there)
+    (subst (λ (s : Carrier). GoesTo Left p.right r new c (progress_of (place_at r s)) seat.channel) (sym k.there)
+    (subst (λ (ms : List Message). GoesTo Left p.right r new c (progress_of (place_at r b.called)) ms) (sym (is ∙ put_unless broken more channel))
+    (out_puts lasts (place_at r b.called) (is_cut true (carriers_of p)) (is_cut true (carriers_of new)) (HasJoined r p.right) channel (unless_broken broken more) (words_put broken words) (under_way true r (carriers_of p) b)
+    (under_way true r (carriers_of new) c) k.stays k.gone (put_in (carriers_of p) (map word_in words)) was (are_put broken words more are) (put_spare broken (is_cut true (carriers_of p)) words (cut_none Left p broken reach alive))
+    (cut_out Left p new same alive) k.before k.after none (put_same broken (is_some (carriers_of p).reach) words (sym (reach_in p broken reach))))))
+out_way terms Right r p new b c words more channel broken seat are k reach none there alive same was is =
+    let lasts = p.left.end.carrier.ended in
+    subst (λ (x : Holding). GoesTo Right x r new c (progress_of (place_at r c.caller)) seat.channel) (sym there)
+    (subst (λ (s : Carrier). GoesTo Right p.left r new c (progress_of (place_at r s)) seat.channel) (sym k.there)
+    (subst (λ (ms : List Message). GoesTo Right p.left r new c (progress_of (place_at r b.caller)) ms) (sym (is ∙ put_unless broken more channel))
+    (out_puts lasts (place_at r b.caller) (is_cut false (carriers_of p)) (is_cut false (carriers_of new)) (HasJoined r p.left) channel (unless_broken broken more) (words_put broken words) (under_way false r (carriers_of p) b)
+    (under_way false r (carriers_of new) c) k.stays k.gone (put_in (carriers_of p) (map word_in words)) was (are_put broken words more are) (put_spare broken (is_cut false (carriers_of p)) words (cut_none Right p broken reach alive))
+    (cut_out Right p new same alive) k.before k.after none (put_same broken (is_some (carriers_of p).reach) words (sym (reach_in p broken reach))))))
 
 -- ---- what is under way to it
 
@@ -68,15 +72,18 @@ came_same g h ch old now arrived e none was came =
 
 pub back_way : (terms : Terms) (side : Side) (r : ℕ) (p new : TwoEnds) (b c : Between) (messages : List carrier.Message) (seat : Seat) →
     (k : Carries terms (is_caller side) r (carriers_of p) (carriers_of new) b c [] messages) →
-    progress_of (place_at r (last_of (is_caller side) b)) ≡ progress_of (place_at r (last_of (is_caller side) c)) →
-    AreAlike (progress_of (place_at r (last_of (is_caller side) b))) (map message_in seat.channel) (under_way (is_caller (other side)) r (carriers_of p) b) →
-    IsUnderWay (other side) side r new c seat
-back_way terms Left r p new b c messages seat k same was = λ e.
-    came_same (progress_of (place_at r b.caller)) (progress_of (place_at r c.caller)) (map message_in seat.channel) (under_way false r (carriers_of p) b) (under_way false r (carriers_of new) c) k.arrived
-    same k.brings.is was (like_alike (place_at r c.caller) _ _ k.came)
-back_way terms Right r p new b c messages seat k same was = λ e.
-    came_same (progress_of (place_at r b.called)) (progress_of (place_at r c.called)) (map message_in seat.channel) (under_way true r (carriers_of p) b) (under_way true r (carriers_of new) c) k.arrived
-    same k.brings.is was (like_alike (place_at r c.called) _ _ k.came)
+    progress_of (place_at r (last_of (is_caller side) b)) ≡ progress_of (place_at r (last_of (is_caller side) c)) → end_at (other side) new ≡ end_at (other side) p → (end_at side p).end.carrier.ended ≡ None →
+    new.reach ≡ p.reach → ((x : Option (List ℕ)) → HasJoined r (end_at side p) x → HasJoined r (end_at side new) x) → IsUnderWay (other side) side r p b seat → IsUnderWay (other side) side r new c seat
+back_way terms Left r p new b c messages seat k same there alive reach holds was =
+    as_now p.left.end.carrier.ended new.left.end.carrier.ended (progress_of (place_at r b.caller)) (progress_of (place_at r c.caller)) (is_cut false (carriers_of p)) (is_cut false (carriers_of new)) (HasJoined r p.left) (HasJoined r new.left) seat.channel
+    (under_way false r (carriers_of p) b) (under_way false r (carriers_of new) c) was (cut_back Left p new reach there) holds
+    (λ e. came_same (progress_of (place_at r b.caller)) (progress_of (place_at r c.caller)) (map word_in was.words) (under_way false r (carriers_of p) b) (under_way false r (carriers_of new) c) k.arrived
+    same k.brings.is (was.alike alive) (like_alike (place_at r c.caller) _ _ k.came))
+back_way terms Right r p new b c messages seat k same there alive reach holds was =
+    as_now p.right.end.carrier.ended new.right.end.carrier.ended (progress_of (place_at r b.called)) (progress_of (place_at r c.called)) (is_cut true (carriers_of p)) (is_cut true (carriers_of new)) (HasJoined r p.right) (HasJoined r new.right) seat.channel
+    (under_way true r (carriers_of p) b) (under_way true r (carriers_of new) c) was (cut_back Right p new reach there) holds
+    (λ e. came_same (progress_of (place_at r b.called)) (progress_of (place_at r c.called)) (map word_in was.words) (under_way true r (carriers_of p) b) (under_way true r (carriers_of new) c) k.arrived
+    same k.brings.is (was.alike alive) (like_alike (place_at r c.called) _ _ k.came))
 
 -- ---- places
 

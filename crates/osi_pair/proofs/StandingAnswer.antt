@@ -13,7 +13,6 @@ use Rattle.osi_machine.specs.Worlds.{gone, not_yet}
 use Rattle.osi_session.specs.Allowed.{Answer, may_call, octets_of, most_of, sends, met, sized, allowed}
 use Rattle.osi_session.specs.Calls.{Call, HasSerial}
 use Rattle.osi_session.specs.Listening.{Listener}
-use Rattle.osi_session.specs.Listening as words
 use Rattle.osi_session.specs.Moves.{Standing, called, answered, react}
 use Rattle.osi_session.specs.Phases.{is_ended, is_over}
 use Rattle.osi_session.specs.Sizes.{fits_limit}
@@ -29,7 +28,7 @@ use Rattle.osi_pair.specs.Ends.{TwoEnds, end_at}
 use Rattle.osi_pair.specs.Standing.{side_in, transport_in, is_parting, IsSeated, Stands}
 use Rattle.osi_pair.specs.declared.sides.Side.{Side}
 use Rattle.osi_pair.proofs.StandingActs.{OfEnd, of_end, there, NoneBeyond, place_given, place_ahead}
-use Rattle.osi_pair.proofs.StandingListens.{moves_so}
+use Rattle.osi_pair.proofs.StandingListens.{calls_so}
 use Rattle.osi_pair.proofs.StandingSides.{seen}
 
 -- what the machine answers, by the line of the reference
@@ -93,7 +92,7 @@ seat_by r h seat call (Some x) some within at s =
     let place : place_at r h.end.carrier ≡ was_given (Some x) = place_given r h.end.carrier within ∙ ap was_given at in
     let given : is_given seat.transport ≡ true = ap is_given (s.transport ∙ ap transport_in place) ∙ live_given x in
     by_given r call h.end true (was_there r h.end.carrier some within) ∙ ap (λ (o : Option Listener). session_error o call) (s.live (ap is_some at))
-    ∙ ap (λ (m : words.Move). m.error) (moves_so seat.session (called call))
+    ∙ (calls_so s.joined seat.session call).2
     ∙ sym (ap (λ (b : Bool). if◌then◌else◌ {A = Option CallError} b (react seat.session (called call)).error (Some error.NoSuchConnection)) given)
 
 seat_at : (r : ℕ) (h : Holding) (seat : Seat) (call : Call) (given : Bool) → 0 < r → nat_le r h.end.carrier.given ≡ given → IsSeated r h seat → table_error r call h.end ≡ seat_error seat call

@@ -1,6 +1,6 @@
 -- A session moved, and sends a unit, or closes its connection of class 2: how two ends stand when that was done,
 -- and its user was shown what the move shows.
-use Rattle.std.proofs.Common.{◌≡◌, ℕ, zero, suc, Bool, true, false, if◌then◌else◌, List, [], ◌∷◌, ◌++◌, map, Option, Some, None, option_map, refl, sym, ap, subst, ◌∙◌, ◌⊎◌, inl, inr}
+use Rattle.std.proofs.Common.{◌≡◌, ℕ, ◌≤◌, zero, suc, Bool, true, false, if◌then◌else◌, List, [], ◌∷◌, ◌++◌, length, map, Option, Some, None, refl, sym, ap, subst, ◌∙◌, ◌⊎◌, inl, inr}
 use Rattle.std.proofs.lemmas.List.{append-nil}
 use Rattle.osi_tpkt.specs.Held.{Held}
 use Rattle.osi_carrier.specs.Calls.{open_link, sent, sent_on, closes, closed_on, closed_with}
@@ -20,6 +20,7 @@ use Rattle.osi_machine.specs.Tables.{Line as TableLine, Turn, Tables, seen_from,
 use Rattle.osi_machine.specs.Worlds.{Message, unit, put, replied}
 use Rattle.osi_machine.specs.Worlds as worlds
 use Rattle.osi_message.specs.Meanings.{Meaning}
+use Rattle.osi_message.specs.Parting.{tsdus_sent}
 use Rattle.osi_message.specs.Written.{written}
 use Rattle.osi_session.specs.Phases.{is_ended}
 use Rattle.osi_session.specs.Shown.{Shown}
@@ -29,7 +30,7 @@ use Rattle.osi_stack.specs.Messages.{kept_at}
 use Rattle.osi_stack.specs.Moving.{answers}
 use Rattle.osi_stack.specs.State.{Line, End, Holding}
 use Rattle.osi_stack.specs.Transport.{answers_by}
-use Rattle.osi_stack.proofs.Moves.{handed}
+use Rattle.osi_stack.proofs.Handing.{hands_none, handed, sent_by_itself}
 use Rattle.osi_pair.specs.Ends.{TwoEnds, end_at}
 use Rattle.osi_pair.specs.Entries.{Entry}
 use Rattle.osi_pair.specs.Standing.{side_in, IsInOrder, Stands}
@@ -49,7 +50,8 @@ use Rattle.osi_pair.proofs.StandingPacket.{terms_then}
 use Rattle.osi_pair.proofs.StandingQuiet.{quiet_kept}
 use Rattle.osi_pair.proofs.StandingRests.{open_by}
 use Rattle.osi_pair.proofs.StandingRows.{Row, quiet, still, begins, refuses, agrees, denies, tells, leaves, ignores, ends, after}
-use Rattle.osi_pair.proofs.StandingSends.{open_is, sent_acts, sends_from}
+use Rattle.osi_pair.proofs.StandingCall.{open_is}
+use Rattle.osi_pair.proofs.StandingSends.{sent_acts, sends_from}
 use Rattle.osi_pair.proofs.StandingShown.{StandsShown, shown_pair}
 use Rattle.osi_pair.proofs.StandingTurned.{with_holding, turned_pair}
 
@@ -205,6 +207,10 @@ finish_shown s p t packet h v c keep u same lasts local is on =
           (subst (λ (q : TwoEnds). Stands q on.now u) (shown_is s p e h n (move_of v.m).shown c lines lasts v.waits) on.stands);
     })
 
+-- what a session sends by itself is one TSDU
+sent_alone : (n : ℕ) (x : Meaning) (c : Carrier) → length (written x) ≤ 1048576 → answers_by false n (tsdus_sent 0 (Some x)) c ≡ sent n (written x) c
+sent_alone n x c short = ap (λ (l : List (List ℕ)). answers_by false n l c) (sym (sent_by_itself (Some x))) ∙ handed n (written x ∷ []) c (short, tt)
+
 -- the session sends a unit, and closes nothing
 pub answered_shown : CarrierLaws → (s : Side) (p : TwoEnds) (t : Tables) (packet : List ℕ) (h : Held) (v : HasMoved s p t packet h) (x : Meaning) → IsSound (after_packet (end_at s p).end packet) →
     (move_of v.m).closes ≡ false → (move_of v.m).reply ≡ Some x → StandsShown s p t (after_packet (end_at s p).end packet) h
@@ -218,9 +224,9 @@ answered_shown laws s p t packet h v x sound open_still reply =
     let go = v.sends x reply in
     let linked_now = linked_sends s p t packet h v x reply (move_ends v.m.row v.row) in
     let a = sent_acts n (written x) e.carrier linked_now.peer linked_now.link v.lasts linked_now.at in
-    let acts : answers n (as_made (move_of v.m)) e.carrier ≡ c =
-    ap (λ (b : Bool). answers_by b n (option_map written (move_of v.m).reply) e.carrier) open_still ∙ ap (λ (o : Option Meaning). answers_by false n (option_map written o) e.carrier) reply
-    ∙ handed n (written x) e.carrier go.short in
+    let acts : answers n 0 (as_made (move_of v.m)) e.carrier ≡ c =
+    ap (λ (b : Bool). answers_by b n (tsdus_sent 0 (move_of v.m).reply) e.carrier) open_still ∙ ap (λ (o : Option Meaning). answers_by false n (tsdus_sent 0 o) e.carrier) reply
+    ∙ sent_alone n x e.carrier go.short in
     let same : after_packet (end_at s p).end packet ≡ answered_end c lines =
     v.does ∙ ap (λ (k : Carrier). concludes (answered_end k lines)) acts ∙ lasting (answered_end c lines) a.lasts in
     let events = sent_events n (written x) e.carrier linked_now.peer linked_now.link (open_is n e.carrier linked_now.peer linked_now.link v.lasts linked_now.at) in
@@ -242,7 +248,7 @@ closed_shown laws s p t packet h v sound two known closing reply over =
     let linked_now = linked_closes s p t packet h v closing (move_ends v.m.row v.row) in
     let two_now : terms_at p1 ≡ by_two = terms_then s p e h v.local ∙ two in
     let a = close_is laws s p1 v.now t1 n linked_now.peer linked_now.link (record { end = e; held = h }) here v.stands two_now v.lasts linked_now.at in
-    let acts : answers n (as_made (move_of v.m)) e.carrier ≡ c = ap (λ (b : Bool). answers_by b n (option_map written (move_of v.m).reply) e.carrier) closing in
+    let acts : answers n 0 (as_made (move_of v.m)) e.carrier ≡ c = ap (λ (b : Bool). answers_by b n (tsdus_sent 0 (move_of v.m).reply) e.carrier) closing in
     let same : after_packet (end_at s p).end packet ≡ answered_end c lines =
     v.does ∙ ap (λ (k : Carrier). concludes (answered_end k lines)) acts ∙ lasting (answered_end c lines) a.lasts in
     let events = closed_events n 128 e.carrier linked_now.peer linked_now.link (open_is n e.carrier linked_now.peer linked_now.link v.lasts linked_now.at) in
@@ -274,8 +280,9 @@ silent_shown s p t packet h v open_still reply =
     let lines = loud_lines s p v.m in
     let p1 = turned_pair s e h n (move_of v.m).shown p in
     let t1 = moved_tables s t v.m in
-    let acts : answers n (as_made (move_of v.m)) e.carrier ≡ e.carrier =
-    ap (λ (b : Bool). answers_by b n (option_map written (move_of v.m).reply) e.carrier) open_still ∙ ap (λ (o : Option Meaning). answers_by false n (option_map written o) e.carrier) reply in
+    let acts : answers n 0 (as_made (move_of v.m)) e.carrier ≡ e.carrier =
+    ap (λ (b : Bool). answers_by b n (tsdus_sent 0 (move_of v.m).reply) e.carrier) open_still ∙ ap (λ (o : Option Meaning). answers_by false n (tsdus_sent 0 o) e.carrier) reply
+    ∙ hands_none n e.carrier in
     let same : after_packet (end_at s p).end packet ≡ answered_end e.carrier lines =
     v.does ∙ ap (λ (k : Carrier). concludes (answered_end k lines)) acts ∙ lasting (answered_end e.carrier lines) v.lasts in
     finish_shown s p t packet h v e.carrier (λ r. 0) t1 same v.lasts refl (silent_step s p t packet h v (λ r. 0) open_still reply)

@@ -30,7 +30,7 @@ use Rattle.osi_pair.specs.declared.sides.Side.{Side}
 use Rattle.osi_pair.proofs.StandingArrived.{PacketActs}
 use Rattle.osi_pair.proofs.StandingFinish.{terms_at, DidAt, TablesAfter, line_then, is_agree, last_is, order_of, finish, known_then}
 use Rattle.osi_pair.proofs.StandingRests.{step_opens, tables_delivered, is_awaited, learns_row, rests, turn_rests, sends_then}
-use Rattle.osi_pair.proofs.StandingResting.{acted_end, line_at, EndThen, NextFor, was_at, transport_before, out_row, back_one}
+use Rattle.osi_pair.proofs.StandingResting.{acted_end, line_at, EndThen, NextFor, was_at, transport_before, out_row, back_alone, back_then}
 use Rattle.osi_pair.proofs.StandingRows.{Row, begins, before, after, arrived_in}
 use Rattle.osi_pair.proofs.StandingSeats.{transport_by, lives_in, live_there, HasSession}
 
@@ -123,11 +123,11 @@ begins_unit s p b t packet h old alive lasting pa d row behind new =
     let at = line_at s n p b t old pa.first.named pa.first.given in
     let l = at.line in
     let one : arrived_in d.row ≡ carrier.ask ∷ [] = ap arrived_in row in
-    let sp = back_one s p b e h n l carrier.ask d at.is alive one in
+    let sp = back_alone s p b e h n l carrier.ask d at.is alive one refl in
     let tr = transport_before s p b t e h n l old alive d at.is in
     let line = line_then d.row l.own.session (sends_then d.row t.broken l.own.channel) sp.others l in
     let known = learns t.terms l.own.transport sp.first t.known in
-    let turn = turn_rests (terms_at p) t.terms t.broken 0 d.row l sp.first sp.others carrier.ask old.terms tr d.is (ap rests row) one sp.is in
+    let turn = turn_rests (terms_at p) t.terms t.broken 0 d.row l sp.first sp.others carrier.ask old.terms tr d.is (ap rests row) one sp.kind in
     let is = step_opens t (side_in s) n (λ r. 0) l sp.first sp.others (unseen line) lasting at.found sp.parts turn refl in
     let session : l.own.session ≡ tables.awaits = at.is.here.awaiting (tr ∙ ap (λ (r : Row). transport_by (before r)) row) in
     finish s p b t (step t (delivers (side_in s) n (λ r. 0))) e h n [] l l.own.session (sends_then d.row t.broken l.own.channel) sp.others old alive d new.lasts new.local new.role pa.first.given behind new.order new.waits
@@ -138,12 +138,17 @@ begins_unit s p b t packet h old alive lasting pa d row behind new =
     (subst (λ (x : Standing). HasSession n e.lines (after d.row) x) (sym session) (subst (λ (r : Row). HasSession n e.lines (after r) tables.awaits) (sym row)
     (let k = begun_here n live was.lines none lives in
     record {
+      joined = None;
       live = λ x. k;
       kept = λ y given. (let two : Some awaits ≡ Some y = sym k ∙ given in let same : awaits ≡ y = cc in sym same);
       over_now = λ x. cc;
       awaiting = λ x. refl;
       octets = tt;
     }))) at.is
-    (record { out = λ lives. out_row s p b t e h n l old d at.is (ap (λ (r : Row). leaves_use (before r) (after r)) row) lives; back = sp.stays })
+    (record {
+      out = out_row s p b t e h n l old d at.is (ap (λ (r : Row). leaves_use (before r) (after r)) row) alive;
+      back = back_then s p d.now e h n (after d.row) None sp.others sp.stays
+          (λ y kept. (let two : Some awaits ≡ Some y = sym (begun_here n live was.lines none lives) ∙ kept in let same : awaits ≡ y = cc in inl (ap (λ (z : Listener). z.joined) (sym same))));
+    })
     (subst (λ (u : Tables). TablesAfter s n t u [] line) (sym is) (tables_delivered s n (seen_from (side_in s) l) t known (unseen line) at.found))
     (ap (λ (u : Tables). u.known) is ∙ learns_row d.row l.own.transport t.terms sp.first t.known tr (ap is_awaited row) ∙ known_then s p b t e h n old alive d new.lasts pa.first.given (ap is_agree row))

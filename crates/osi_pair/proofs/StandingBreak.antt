@@ -1,24 +1,24 @@
 -- A break is a break of the machine.
-use Rattle.std.proofs.Common.{◌≡◌, refl, sym, ◌∙◌, ap, subst, ℕ, zero, suc, ◌+◌, ◌≤◌, Bool, true, false, if◌then◌else◌, List, [], ◌∷◌, ◌++◌, length, map, take, min, Option, Some, None, option_map, is_some, arith}
+use Rattle.std.proofs.Common.{◌≡◌, refl, sym, ◌∙◌, ap, subst, ℕ, zero, suc, ◌+◌, ◌≤◌, Bool, true, false, if◌then◌else◌, List, [], ◌∷◌, ◌++◌, length, map, take, min, Option, Some, None, option_map, is_some, arith, ◌<◌, inl, inr}
 use Rattle.std.specs.List.{AllByRecursion, slice_get}
-use Rattle.std.proofs.Math.Seq.{take-append_seam}
-use Rattle.std.proofs.lemmas.List.{length-map, map-append}
 use Rattle.osi_class.specs.declared.terms.Local.{Local}
-use Rattle.osi_carrier.specs.Between.{Between, Both, AreBetween, Lost, under_way, broken_at, fresh_both, fresh_between}
-use Rattle.osi_carrier.specs.Course.{progress_of}
+use Rattle.osi_carrier.specs.Between.{Between, Both, AreBetween, Lost, under_way, broken_at, fresh_both, fresh_between, is_cut}
+use Rattle.osi_carrier.specs.Course.{progress_of, place_at}
 use Rattle.osi_carrier.specs.Messages.{kind_of}
 use Rattle.osi_carrier.specs.Messages as carrier
-use Rattle.osi_carrier.specs.Progress.{Progress, not_yet, awaiting, in_use, shutting}
-use Rattle.osi_carrier.specs.Progress as progress
+use Rattle.osi_carrier.specs.Progress.{Progress}
 use Rattle.osi_carrier.specs.Terms.{Terms, terms_of}
 use Rattle.osi_machine.specs.Machine.{connection_at, Step, breaks, HasNumber}
 use Rattle.osi_machine.specs.Tables.{Seat, Line, Tables, cut_channels, step, run, start}
 use Rattle.osi_machine.specs.Worlds.{Message}
 use Rattle.osi_pair.specs.Ends.{TwoEnds, sent_by, after_break, fresh_ends}
-use Rattle.osi_pair.specs.Standing.{terms_in, carriers_of, AreAlike, message_in, IsSeated, IsLine, IsInOrder, Stands, StandsAt, StandsAtBreak}
+use Rattle.osi_pair.specs.Standing.{terms_in, carriers_of, AreAlike, IsSeated, IsLine, IsInOrder, Stands, StandsAt, StandsAtBreak, AreUnderWay, word_in, HasLine, HasJoined}
 use Rattle.osi_stack.specs.Links.{IsSound}
 use Rattle.osi_stack.specs.State.{Holding, fresh_end}
 use Rattle.osi_pair.specs.declared.sides.Side.TheVariants.{Left, Right}
+use Rattle.osi_pair.proofs.StandingWays.{Front, front_at, map_take, alike_take}
+use Rattle.osi_pair.proofs.StandingCut.{IsWithin, outside_not, within_or}
+use Rattle.osi_carrier.specs.declared.ends.EndReason.{EndReason}
 
 -- what is proved of two carriers
 pub record BreakLaws : Type 0 where
@@ -53,52 +53,61 @@ cut_count : (left right : ℕ → ℕ) (k : ℕ) (ls : List Line) → length (cu
 cut_count left right k [] = refl
 cut_count left right k (l ∷ ls) = ap suc (cut_count left right (k + 1) ls)
 
--- ---- the first messages
-
-map_take : {A B : Type 0} (f : A → B) (k : ℕ) (xs : List A) → map f (take k xs) ≡ take k (map f xs)
-map_take f zero xs = refl
-map_take f (suc k) [] = refl
-map_take f (suc k) (x ∷ xs) = ap (λ r. f x ∷ r) (map_take f k xs)
-
-kinds_take : (xs ys gone : List carrier.Message) → map kind_of xs ≡ map kind_of (ys ++ gone) → map kind_of (take (length ys) xs) ≡ map kind_of ys
-kinds_take xs ys gone h =
-    map_take kind_of (length ys) xs ∙ ap (take (length ys)) (h ∙ map-append kind_of ys gone)
-    ∙ ap (λ (k : ℕ). take k (map kind_of ys ++ map kind_of gone)) (sym (length-map ys kind_of)) ∙ take-append_seam (map kind_of ys) (map kind_of gone)
-
-like_take : (g : Progress) (xs ys gone : List carrier.Message) → AreAlike g xs (ys ++ gone) → AreAlike g (take (length ys) xs) ys
-like_take not_yet xs ys gone h = ap (take (length ys)) h ∙ take-append_seam ys gone
-like_take awaiting xs ys gone h = ap (take (length ys)) h ∙ take-append_seam ys gone
-like_take in_use xs ys gone h = ap (take (length ys)) h ∙ take-append_seam ys gone
-like_take shutting xs ys gone h = kinds_take xs ys gone h
-like_take progress.gone xs ys gone h = kinds_take xs ys gone h
-
 -- ---- one connection
 
 pub still_seated : (n : ℕ) (h : Holding) (seat : Seat) (ms : List Message) → IsSeated n h seat → IsSeated n h (record seat { channel = ms })
-still_seated n h seat ms s = record { transport = s.transport; live = s.live; kept = s.kept; over_now = s.over_now; awaiting = s.awaiting; octets = s.octets }
+still_seated n h seat ms s = record { joined = s.joined; transport = s.transport; live = s.live; kept = s.kept; over_now = s.over_now; awaiting = s.awaiting; octets = s.octets }
 
--- what is left of what is under way
-pub left_over : (c d : Progress) (ms : List Message) (before after gone : List carrier.Message) → before ≡ after ++ gone → d ≡ c → AreAlike c (map message_in ms) before
-    → AreAlike d (map message_in (take (length after) ms)) after
-left_over c d ms before after gone e q h =
-    subst (λ (x : Progress). AreAlike x (map message_in (take (length after) ms)) after) (sym q)
-    (subst (λ (xs : List carrier.Message). AreAlike c xs after) (sym (map_take message_in (length after) ms))
-    (like_take c (map message_in ms) after gone (subst (AreAlike c (map message_in ms)) e h)))
+-- what is left of a line
+record HasCut (n k l : ℕ) (p : TwoEnds) (c : Between) (left right : ℕ) (lines : List Line) : Type 0 where
+  line : Line
+  found : connection_at n lines ≡ Some line
+  is : IsLine n (after_break k l p) c (cut_line left right line)
 
--- how many messages a break leaves
-abbrev left_from : Bool → ℕ → TwoEnds → Between → ℕ
-left_from end n p b = length (under_way end n (carriers_of p) b)
+-- so much is left of it each way
+record Breaks (n k l : ℕ) (p : TwoEnds) (b : Between) (most : ℕ) (c : Between) (lines : List Line) : Type 0 where
+  left : ℕ
+  right : ℕ
+  is : 0 < n → n ≤ most → HasCut n k l p c left right lines
 
-break_line : (n k l : ℕ) (p : TwoEnds) (b : Between) (line : Line) (lost : Lost (terms_of p.left.end.carrier.local p.right.end.carrier.local) (carriers_of p) (carriers_of (after_break k l p)) b)
-    → IsLine n p b line → IsLine n (after_break k l p) lost.now (cut_line (left_from true n (after_break k l p) lost.now) (left_from false n (after_break k l p) lost.now) line)
-break_line n k l p b line lost h = record {
-  left = still_seated n p.left line.own (take (left_from true n (after_break k l p) lost.now) line.own.channel) h.left;
-  right = still_seated n p.right line.peer (take (left_from false n (after_break k l p) lost.now) line.peer.channel) h.right;
-  rightward = λ e. left_over _ _ line.own.channel _ (under_way true n (carriers_of (after_break k l p)) lost.now) (lost.loses true n).gone (lost.loses true n).all
-      (ap progress_of (lost.stays false n)) (h.rightward e);
-  leftward = λ e. left_over _ _ line.peer.channel _ (under_way false n (carriers_of (after_break k l p)) lost.now) (lost.loses false n).gone (lost.loses false n).all
-      (ap progress_of (lost.stays true n)) (h.leftward e);
-}
+left_over : (end : Bool) (n : ℕ) (o : Option EndReason) (g h : Progress) (c : Bool) (H : Option (List ℕ) → Type 0) (ms : List Message) (old new : Both) (b now : Between) (gone : List carrier.Message) →
+    under_way end n old b ≡ under_way end n new now ++ gone → h ≡ g → AreUnderWay o g c H ms (under_way end n old b) → Front o h true H ms (under_way end n new now)
+left_over end n o g h c H ms old new b now gone all same w =
+    let first = under_way end n new now in
+    front_at o o g h c true H ms (length first) (under_way end n old b) first w refl
+    (λ e. subst (λ (x : Progress). AreAlike x (map word_in (take (length first) w.words)) first) (sym same)
+    (subst (λ (l : List carrier.Message). AreAlike g l first) (sym (map_take word_in (length first) w.words))
+    (alike_take g (map word_in w.words) first gone (subst (AreAlike g (map word_in w.words)) all (w.alike e)))))
+
+break_line : (n k l : ℕ) (p : TwoEnds) (b : Between) (lost : Lost (terms_of p.left.end.carrier.local p.right.end.carrier.local) (carriers_of p) (carriers_of (after_break k l p)) b) (t : Tables) →
+    HasLine n p b t → Breaks n k l p b (length t.lines) lost.now t.lines
+break_line n k l p b lost t h =
+    let old = carriers_of p in
+    let new = carriers_of (after_break k l p) in
+    let out = left_over true n p.right.end.carrier.ended (progress_of (place_at n b.called)) (progress_of (place_at n lost.now.called)) (is_cut true old) (HasJoined n p.right) h.line.own.channel old new b lost.now
+    (lost.loses true n).gone (lost.loses true n).all (ap progress_of (lost.stays false n)) h.is.rightward in
+    let back = left_over false n p.left.end.carrier.ended (progress_of (place_at n b.caller)) (progress_of (place_at n lost.now.caller)) (is_cut false old) (HasJoined n p.left) h.line.peer.channel old new b lost.now
+    (lost.loses false n).gone (lost.loses false n).all (ap progress_of (lost.stays true n)) h.is.leftward in
+    record {
+      left = out.keep;
+      right = back.keep;
+      is = λ some few. record {
+        line = h.line;
+        found = h.found;
+        is = record {
+          left = still_seated n p.left h.line.own (take out.keep h.line.own.channel) h.is.left;
+          right = still_seated n p.right h.line.peer (take back.keep h.line.peer.channel) h.is.right;
+          rightward = out.way;
+          leftward = back.way;
+        };
+      };
+    }
+
+-- what becomes of each reference, also where none was given
+breaks_at : (n k l : ℕ) (p : TwoEnds) (b : Between) (lost : Lost (terms_of p.left.end.carrier.local p.right.end.carrier.local) (carriers_of p) (carriers_of (after_break k l p)) b) (t : Tables) → Stands p b t →
+    IsWithin n (length t.lines) → Breaks n k l p b (length t.lines) lost.now t.lines
+breaks_at n k l p b lost t s (inl out) = record { left = 0; right = 0; is = λ some few. absurd (outside_not n (length t.lines) out some few) }
+breaks_at n k l p b lost t s (inr given) = break_line n k l p b lost t (s.lines n given.0 given.1)
 
 -- ---- a break
 
@@ -119,8 +128,9 @@ break_stands : BreakLaws → (p : TwoEnds) (b : Between) (t : Tables) (k l : ℕ
 break_stands laws p b t k l s none =
     let lost = laws.broken (terms_of p.left.end.carrier.local p.right.end.carrier.local) (carriers_of p) b (min k (sent_by Left p)) (min l (sent_by Right p)) s.between
     (ap (option_map (λ r. (r.left, r.right))) none) (least k (sent_by Left p)) (least l (sent_by Right p)) in
-    let left : ℕ → ℕ = λ n. left_from true n (after_break k l p) lost.now in
-    let right : ℕ → ℕ = λ n. left_from false n (after_break k l p) lost.now in
+    let at : (n : ℕ) → Breaks n k l p b (length t.lines) lost.now t.lines = λ n. breaks_at n k l p b lost t s (within_or n (length t.lines)) in
+    let left : ℕ → ℕ = λ n. (at n).left in
+    let right : ℕ → ℕ = λ n. (at n).right in
     record {
       keep_left = left;
       keep_right = right;
@@ -144,12 +154,8 @@ break_stands laws p b t k l s none =
         order_left = s.order_left;
         order_right = s.order_right;
         lines = λ n a c.
-            let h = s.lines n a (subst (λ (m : ℕ). n ≤ m) (cut_count left right 1 t.lines) c) in
-            record {
-              line = cut_line (left n) (right n) h.line;
-              found = cut_there left right n t.lines h.line h.found;
-              is = break_line n k l p b h.line lost h.is;
-            };
+            let h = (at n).is a (subst (λ (m : ℕ). n ≤ m) (cut_count left right 1 t.lines) c) in
+            record { line = cut_line (left n) (right n) h.line; found = cut_there left right n t.lines h.line h.found; is = h.is };
         quiet_left = s.quiet_left;
         quiet_right = s.quiet_right;
       });

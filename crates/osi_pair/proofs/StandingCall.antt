@@ -2,12 +2,13 @@
 use Rattle.std.proofs.Common.{◌≡◌, ◌≢◌, refl, sym, ◌∙◌, ap, subst, ℕ, zero, suc, ◌<◌, ◌≤◌, ◌==◌, Bool, true, false, nat_lt, if◌then◌else◌, List, [], ◌∷◌, ◌++◌, length, map, Option, Some, None, is_some, IsSome, IfSome, Ok, Err}
 use Rattle.std.proofs.lemmas.Bool.{eqb-true, eq-eqb}
 use Rattle.std.proofs.lemmas.List.{append-nil}
+use Rattle.std.specs.List.{AllByRecursion}
 use Rattle.osi_tpkt.specs.Octets.{IsOctets}
 use Rattle.osi_class.specs.Between.{IsShortTsdu}
 use Rattle.osi_class.specs.Link.{Standing as Link}
 use Rattle.osi_carrier.specs.Between.{Both, Between, AreBetween, Acted, Carries, becomes, last_of}
 use Rattle.osi_carrier.specs.Between as two
-use Rattle.osi_carrier.specs.Calls.{open_link, link_of, sent, sent_on}
+use Rattle.osi_carrier.specs.Calls.{open_link, link_of, sent, sent_on, sent_all}
 use Rattle.osi_carrier.specs.Course.{Place, never, was_given, place_at, progress_of}
 use Rattle.osi_carrier.specs.Messages as carrier
 use Rattle.osi_carrier.specs.Orderly.{RiseFrom}
@@ -28,48 +29,57 @@ use Rattle.osi_machine.specs.Worlds as worlds
 use Rattle.osi_message.specs.InOctets.{IsInOctets}
 use Rattle.osi_message.specs.Meanings.{Meaning}
 use Rattle.osi_message.specs.Sendable.{IsSendable}
-use Rattle.osi_message.specs.Written.{written}
-use Rattle.osi_session.specs.Allowed.{Step, Answer, allowed, octets_of}
+use Rattle.osi_message.specs.Parting.{words_sent, tsdus_of}
+use Rattle.osi_session.specs.Allowed.{Step, Answer, allowed, octets_of, Passed}
 use Rattle.osi_session.specs.Calls.{Call, HasSerial}
 use Rattle.osi_session.specs.Listening.{Listener}
 use Rattle.osi_session.specs.Listening as words
 use Rattle.osi_session.specs.Moves.{called, answered, react}
 use Rattle.osi_session.specs.Shown.{Shown}
-use Rattle.osi_session.specs.Whole.{listening}
+use Rattle.osi_session.specs.Sizes.{limit_of}
 use Rattle.osi_session.specs.Sound.{IsSound as IsSoundState}
 use Rattle.osi_session.specs.declared.faults.CallError.{CallError}
 use Rattle.osi_session.specs.declared.state.State.{State}
 use Rattle.osi_stack.specs.Calls.{call_error}
 use Rattle.osi_stack.specs.Folds.{AllCameAbout}
 use Rattle.osi_stack.specs.Links.{IsSound}
-use Rattle.osi_stack.specs.Messages.{puts, put_by, Says}
+use Rattle.osi_stack.specs.Messages.{puts, put_by, Says, kept_at}
 use Rattle.osi_stack.specs.Moving.{line_after, to_session}
 use Rattle.osi_stack.specs.State.{End, Holding, session_in, session_at, IsAttended}
 use Rattle.osi_stack.specs.State as stack
+use Rattle.osi_stack.proofs.Handing.{puts_words}
 use Rattle.osi_pair.specs.Ends.{TwoEnds, end_at, with_end, noted, called_by_error}
 use Rattle.osi_pair.specs.Entries.{calls}
 use Rattle.osi_pair.specs.Sides.{other}
-use Rattle.osi_pair.specs.Standing.{side_in, is_caller, carriers_of, transport_in, is_parting, IsSeated, IsLine, HasLine, IsInOrder, Stands}
+use Rattle.osi_pair.specs.Standing.{side_in, is_caller, carriers_of, transport_in, is_parting, IsSeated, IsLine, HasLine, IsInOrder, Stands, HasJoined, joining, word_in}
 use Rattle.osi_pair.specs.Telling.{waiting_in}
+use Rattle.osi_pair.specs.Words.{Word}
 use Rattle.osi_pair.specs.declared.sides.Side.{Side}
 use Rattle.osi_pair.specs.declared.sides.Side.TheVariants.{Left, Right}
 use Rattle.osi_pair.proofs.StandingActs.{out_way, back_way, place_given, OfEnd, of_end, NoneBeyond, more_said, StandsOn}
 use Rattle.osi_pair.proofs.StandingAnswer.{line_error, Answered}
-use Rattle.osi_pair.proofs.StandingListens.{moves_so}
+use Rattle.osi_pair.proofs.StandingListens.{calls_so, calls_keep}
 use Rattle.osi_pair.proofs.StandingSides.{SeenLine, seen, as_line, seen_twice, IsLeft, other_line, same_place}
+use Rattle.osi_pair.proofs.StandingCut.{reach_same}
+use Rattle.osi_pair.proofs.StandingSeats.{live_session}
+use Rattle.osi_pair.proofs.WordLaws.{AreWords}
+use Rattle.osi_pair.proofs.WordsSent.{PartLaws, word_of, carried_words}
+use Rattle.osi_session.specs.Kept.{IsJoinedAs}
 
 -- what the crates below say
 pub record CallLaws : Type 0 where
-  pub handed_in : (terms : Terms) (end : Bool) (both : Both) (b : Between) (n peer : ℕ) (link : Link) (tsdu : List ℕ) → AreBetween terms both b →
-      (two.side end both).state.ended ≡ None → value_at n (two.side end both).state.live ≡ Some (linked peer link) → IsShortTsdu tsdu → IsOctets tsdu →
-      Acted terms end n both (becomes end (sent n tsdu (two.side end both).state) (two.side end both).held both) b [] (carrier.message tsdu ∷ [])
+  pub handed_in_all : (terms : Terms) (end : Bool) (both : Both) (b : Between) (n : ℕ) (tsdus : List (List ℕ)) → AreBetween terms both b →
+      (two.side end both).state.ended ≡ None → progress_of (place_at n (last_of end b)) ≡ in_use → AllByRecursion IsShortTsdu tsdus → AllByRecursion IsOctets tsdus →
+      Acted terms end n both (becomes end (sent_all n tsdus (two.side end both).state) (two.side end both).held both) b [] (map carrier.message tsdus)
   pub says : (r : ℕ) (call : Call) (e : End) → call_error r call e ≡ None → Says r call e (to_session r (words.called call) e)
   pub answers : Answered
   pub sound : (r : ℕ) (call : Call) (e : End) → IsSound e → IsSound (to_session r (words.called call) e)
   pub attended : (r : ℕ) (call : Call) (e : End) → IsAttended e → IsAttended (to_session r (words.called call) e)
   pub rising : (r : ℕ) (call : Call) (e : End) → RiseFrom 0 e.lines → RiseFrom 0 (to_session r (words.called call) e).lines
   pub came : (r : ℕ) (call : Call) (e : End) → HasSerial call → AllCameAbout e.lines → AllCameAbout (to_session r (words.called call) e).lines
-  pub octets : (m : Meaning) → IsSendable m → IsInOctets m → IsOctets (written m)
+  pub parts : PartLaws
+  pub octets : (limit : ℕ) (m : Meaning) → IsSendable m → IsInOctets m → AllByRecursion IsOctets (tsdus_of limit m)
+  pub passed : (s : State) (c : Call) (x : Step) → allowed s c ≡ Ok x → Passed s c x
   pub sendable : (s : State) (c : Call) (x : Step) → IsSoundState s → HasSerial c → allowed s c ≡ Ok x → IsSendable x.sent
   pub says_octets : (s : State) (c : Call) (x : Step) → allowed s c ≡ Ok x → IsSendable x.sent → IsOctets (octets_of c) → IsInOctets x.sent
   pub sound_lines : (t : Tables) → IsTableRun t → AreSoundLines t
@@ -173,6 +183,39 @@ sent_is r tsdu c peer link is =
     subst (λ (o : Option (ℕ × Link)). SentOn r c (sent_on r tsdu o c)) (sym is)
     (record { is_caller = refl; local = refl; class = refl; given = refl; ended = refl; peer = peer; link = _; live = refl })
 
+pub open_is : (n : ℕ) (c : Carrier) (peer : ℕ) (link : Link) → c.ended ≡ None → value_at n c.live ≡ Some (linked peer link) → open_link n c ≡ Some (peer, link)
+open_is n c peer link alive at =
+    ap (λ (x : Option EndReason). if◌then◌else◌ {A = Option (ℕ × Link)} (is_some x) None (link_of (value_at n c.live))) alive ∙ ap link_of at
+
+-- TSDUs that are sent together leave it so
+pub record StaysOpen (r : ℕ) (c new : Carrier) : Type 0 where
+  pub is_caller : new.is_caller ≡ c.is_caller
+  pub local : new.local ≡ c.local
+  pub class : new.class ≡ c.class
+  pub given : new.given ≡ c.given
+  pub ended : new.ended ≡ c.ended
+  pub peer : ℕ
+  pub link : Link
+  pub at : value_at r new.live ≡ Some (linked peer link)
+  pub others : (q : ℕ) → q ≢ r → value_at q new.live ≡ value_at q c.live
+
+all_sent : (r : ℕ) (tsdus : List (List ℕ)) (c : Carrier) (peer : ℕ) (link : Link) → c.ended ≡ None → value_at r c.live ≡ Some (linked peer link) → StaysOpen r c (sent_all r tsdus c)
+all_sent r [] c peer link lasts at = record { is_caller = refl; local = refl; class = refl; given = refl; ended = refl; peer = peer; link = link; at = at; others = λ q apart. refl }
+all_sent r (tsdu ∷ tsdus) c peer link lasts at =
+    let k = sent_is r tsdu c peer link (open_is r c peer link lasts at) in
+    let more = all_sent r tsdus (sent r tsdu c) k.peer k.link (k.ended ∙ lasts) (ap (value_at r) k.live ∙ put_here r (linked k.peer k.link) (linked peer link) c.live at) in
+    record {
+      is_caller = more.is_caller ∙ k.is_caller;
+      local = more.local ∙ k.local;
+      class = more.class ∙ k.class;
+      given = more.given ∙ k.given;
+      ended = more.ended ∙ k.ended;
+      peer = more.peer;
+      link = more.link;
+      at = more.at;
+      others = λ q apart. more.others q apart ∙ ap (value_at q) k.live ∙ put_other q r (linked k.peer k.link) c.live apart;
+    }
+
 -- ---- the end of an accepted call
 
 abbrev pub now_of : ℕ → Call → Holding → Holding
@@ -186,10 +229,10 @@ pub record Called (r : ℕ) (call : Call) (h : Holding) : Type 0 where
   pub accepted : allowed session.state call ≡ Ok granted
   pub reply : (words.react session (words.called call)).reply ≡ Some granted.sent
   pub waits : (words.react session (words.called call)).next.waiting ≡ session.waiting
-  pub short : length (written granted.sent) ≤ 1048576
+  pub short : AllByRecursion IsShortTsdu (tsdus_of (limit_of session.state) granted.sent)
   pub opened : OpenAt r h.end.carrier
-  pub is : (now_of r call h).end.carrier ≡ sent r (written granted.sent) h.end.carrier
-  pub kept : SentOn r h.end.carrier (now_of r call h).end.carrier
+  pub is : (now_of r call h).end.carrier ≡ sent_all r (tsdus_of (limit_of session.state) granted.sent) h.end.carrier
+  pub kept : StaysOpen r h.end.carrier (now_of r call h).end.carrier
   pub line : stack.Line
   pub found : value_at r h.end.lines ≡ Some line
   pub line_now : stack.Line
@@ -203,9 +246,11 @@ called_is laws r call h none =
     let g = s.granted in
     let session = s.acts.session in
     let open_now : OpenAt r h.end.carrier = open_by r h.end.carrier h.end.carrier.ended (value_at r h.end.carrier.live) refl refl g.opened in
-    let is : (now_of r call h).end.carrier ≡ sent r (written g.step.sent) h.end.carrier =
-    s.acts.carrier ∙ ap (λ (b : Bool). puts r (put_by b (words.react session (words.called call)).reply) h.end.carrier) g.closes
-    ∙ ap (λ (o : Option Meaning). puts r (put_by false o) h.end.carrier) g.reply in
+    let limit = limit_of session.state in
+    let is : (now_of r call h).end.carrier ≡ sent_all r (tsdus_of limit g.step.sent) h.end.carrier =
+    s.acts.carrier ∙ ap (λ (b : Bool). puts r (put_by b limit (words.react session (words.called call)).reply) h.end.carrier) g.closes
+    ∙ ap (λ (o : Option Meaning). puts r (put_by false limit o) h.end.carrier) g.reply
+    ∙ sym (puts_words r (words_sent limit g.step.sent) h.end.carrier) in
     record {
       session = session;
       was = s.live;
@@ -216,7 +261,7 @@ called_is laws r call h none =
       short = g.short;
       opened = open_now;
       is = is;
-      kept = subst (SentOn r h.end.carrier) (sym is) (sent_is r (written g.step.sent) h.end.carrier open_now.peer open_now.link open_now.is);
+      kept = subst (StaysOpen r h.end.carrier) (sym is) (all_sent r (tsdus_of limit g.step.sent) h.end.carrier open_now.peer open_now.link open_now.lasts open_now.at);
       line = s.acts.line;
       found = s.acts.here;
       line_now = line_after s.acts.line (words.react session (words.called call));
@@ -226,7 +271,7 @@ called_is laws r call h none =
     }
 
 value_now : (r : ℕ) (call : Call) (h : Holding) (c : Called r call h) → value_at r (now_of r call h).end.carrier.live ≡ Some (linked c.kept.peer c.kept.link)
-value_now r call h c = ap (value_at r) c.kept.live ∙ put_here r (linked c.kept.peer c.kept.link) (linked c.opened.peer c.opened.link) h.end.carrier.live c.opened.at
+value_now r call h c = c.kept.at
 
 place_now : (r : ℕ) (call : Call) (h : Holding) (c : Called r call h) → r ≤ h.end.carrier.given → place_at r (now_of r call h).end.carrier ≡ was_given (Some (linked c.kept.peer c.kept.link))
 place_now r call h c within =
@@ -243,26 +288,30 @@ session_now_is r e x l live at =
     ap (λ (o : Option Connection). if◌then◌else◌ {A = Option Listener} (is_some o) (session_in (value_at r e.lines)) None) live ∙ ap session_in at
 
 -- the session of the seat is the one that was called
-pub seat_session : (r : ℕ) (call : Call) (h : Holding) (seat : Seat) (c : Called r call h) → IsSeated r h seat → listening seat.session ≡ c.session
-seat_session r call h seat c s = let e : Some (listening seat.session) ≡ Some c.session = sym (s.live (ap is_some c.opened.at)) ∙ c.was in cc
+pub seat_session : (r : ℕ) (call : Call) (h : Holding) (seat : Seat) (c : Called r call h) → (s : IsSeated r h seat) → joining s.joined seat.session ≡ c.session
+seat_session r call h seat c s = let e : Some (joining s.joined seat.session) ≡ Some c.session = sym (s.live (ap is_some c.opened.at)) ∙ c.was in cc
 
 -- and it makes the move that the seat's makes
-next_so : (r : ℕ) (call : Call) (h : Holding) (seat : Seat) (c : Called r call h) → IsSeated r h seat → (words.react c.session (words.called call)).next ≡ listening (react seat.session (called call)).next
+next_so : (r : ℕ) (call : Call) (h : Holding) (seat : Seat) (c : Called r call h) → IsSeated r h seat →
+    (words.react c.session (words.called call)).next ≡ joining (words.react c.session (words.called call)).next.joined (react seat.session (called call)).next
 next_so r call h seat c s =
-    ap (λ (y : Listener). (words.react y (words.called call)).next) (sym (seat_session r call h seat c s)) ∙ ap (λ (m : words.Move). m.next) (moves_so seat.session (called call))
+    subst (λ (y : Listener). (words.react y (words.called call)).next ≡ joining (words.react y (words.called call)).next.joined (react seat.session (called call)).next) (seat_session r call h seat c s)
+    (calls_so s.joined seat.session call).0
 
 reply_so : (r : ℕ) (call : Call) (h : Holding) (seat : Seat) (c : Called r call h) → IsSeated r h seat → (react seat.session (called call)).reply ≡ Some c.granted.sent
 reply_so r call h seat c s =
-    sym (ap (λ (m : words.Move). m.reply) (moves_so seat.session (called call))) ∙ ap (λ (y : Listener). (words.react y (words.called call)).reply) (seat_session r call h seat c s) ∙ c.reply
+    sym (calls_so s.joined seat.session call).1 ∙ ap (λ (y : Listener). (words.react y (words.called call)).reply) (seat_session r call h seat c s) ∙ c.reply
 
 seat_now : (r : ℕ) (call : Call) (h : Holding) (broken : Bool) (x : Line) (c : Called r call h) → r ≤ h.end.carrier.given → IsSeated r h x.own → IsSeated r (now_of r call h) (after_call broken call x).own
 seat_now r call h broken x c within s =
-    let same : listening x.own.session ≡ c.session = seat_session r call h x.own c s in
+    let same : joining s.joined x.own.session ≡ c.session = seat_session r call h x.own c s in
     let next = next_so r call h x.own c s in
     let transport : x.own.transport ≡ worlds.linked = s.transport ∙ ap transport_in (place_then r call h c within) in
-    let session : Option Listener = Some (listening (react x.own.session (called call)).next) in
+    let joined = (words.react c.session (words.called call)).next.joined in
+    let session : Option Listener = Some (joining joined (react x.own.session (called call)).next) in
     let now : c.line_now.session ≡ session = c.session_now ∙ ap Some next in
     record {
+      joined = joined;
       transport = transport ∙ ap transport_in (sym (place_now r call h c within));
       live = λ e. session_now_is r (now_of r call h).end (linked c.kept.peer c.kept.link) c.line_now (value_now r call h c) (line_found r call h c) ∙ now;
       kept = λ y e. let is : Some y ≡ session = sym e ∙ ap session_in (line_found r call h c) ∙ now in cc;
@@ -275,7 +324,7 @@ seat_now r call h broken x c within s =
 left_alone : (q r : ℕ) (call : Call) (h : Holding) → Called r call h → q ≢ r → IsLeft q h (now_of r call h)
 left_alone q r call h c apart =
     let g : Holding = now_of r call h in
-    let live : value_at q g.end.carrier.live ≡ value_at q h.end.carrier.live = ap (value_at q) c.kept.live ∙ put_other q r (linked c.kept.peer c.kept.link) h.end.carrier.live apart in
+    let live : value_at q g.end.carrier.live ≡ value_at q h.end.carrier.live = c.kept.others q apart in
     let line : value_at q g.end.lines ≡ value_at q h.end.lines = ap (value_at q) c.lines ∙ put_other q r c.line_now h.end.lines apart in
     record {
       place = ap (λ (n : ℕ). if◌then◌else◌ {A = Place} (nat_lt n q) never (was_given (value_at q g.end.carrier.live))) c.kept.given
@@ -301,40 +350,69 @@ other_is Right r call p = refl
 abbrev pub terms_now : TwoEnds → Terms
 terms_now p = terms_of p.left.end.carrier.local p.right.end.carrier.local
 
-abbrev pub MayAct : Side → ℕ → Call → TwoEnds → Between → Meaning → Type 0
-MayAct side r call p b m = Acted (terms_now p) (is_caller side) r (carriers_of p) (carriers_of (new_of side r call p)) b [] (carrier.message (written m) ∷ [])
+progress_then : (side : Side) (r : ℕ) (call : Call) (p : TwoEnds) (b : Between) (t : Tables) (c : Called r call (end_at side p)) → OfEnd side p b t → r ≤ (end_at side p).end.carrier.given →
+    progress_of (place_at r (last_of (is_caller side) b)) ≡ in_use
+progress_then side r call p b t c o within = ap (λ (s : Carrier). progress_of (place_at r s)) (sym (o.lives c.opened.lasts)) ∙ ap progress_of (place_then r call (end_at side p) c within)
 
-pub acted_at : CallLaws → (side : Side) (r : ℕ) (call : Call) (p : TwoEnds) (b : Between) (t : Tables) (c : Called r call (end_at side p)) → Stands p b t → IsOctets (written c.granted.sent) →
-    MayAct side r call p b c.granted.sent
-acted_at laws Left r call p b t c s octets =
-    subst (λ (x : Carrier). Acted (terms_now p) true r (carriers_of p) (becomes true x p.left.held.octets (carriers_of p)) b [] (carrier.message (written c.granted.sent) ∷ [])) (sym c.is)
-    (laws.handed_in (terms_now p) true (carriers_of p) b r c.opened.peer c.opened.link (written c.granted.sent) s.between c.opened.lasts c.opened.at c.short octets)
-acted_at laws Right r call p b t c s octets =
-    subst (λ (x : Carrier). Acted (terms_now p) false r (carriers_of p) (becomes false x p.right.held.octets (carriers_of p)) b [] (carrier.message (written c.granted.sent) ∷ [])) (sym c.is)
-    (laws.handed_in (terms_now p) false (carriers_of p) b r c.opened.peer c.opened.link (written c.granted.sent) s.between c.opened.lasts c.opened.at c.short octets)
+-- the words in which it leaves
+abbrev pub sent_words : (r : ℕ) (call : Call) (h : Holding) → Called r call h → List Word
+sent_words r call h c = map word_of (words_sent (limit_of c.session.state) c.granted.sent)
+
+-- all of them are handed to the carrier, and are what the session sends
+pub record MayAct (side : Side) (r : ℕ) (call : Call) (p : TwoEnds) (b : Between) (words : List Word) (m : Meaning) : Type 0 where
+  pub now : Between
+  pub between : AreBetween (terms_now p) (carriers_of (new_of side r call p)) now
+  pub carries : Carries (terms_now p) (is_caller side) r (carriers_of p) (carriers_of (new_of side r call p)) b now [] (map word_in words)
+  pub are : AreWords words (unit m ∷ [])
+
+abbrev HandsIn : Side → ℕ → Call → TwoEnds → Between → List carrier.Message → Type 0
+HandsIn side r call p b messages = Acted (terms_now p) (is_caller side) r (carriers_of p) (carriers_of (new_of side r call p)) b [] messages
+
+hands_in : CallLaws → (side : Side) (r : ℕ) (call : Call) (p : TwoEnds) (b : Between) (c : Called r call (end_at side p)) → AreBetween (terms_now p) (carriers_of p) b → progress_of (place_at r (last_of (is_caller side) b)) ≡ in_use →
+    AllByRecursion IsOctets (tsdus_of (limit_of c.session.state) c.granted.sent) → HandsIn side r call p b (map carrier.message (tsdus_of (limit_of c.session.state) c.granted.sent))
+hands_in laws Left r call p b c between open_now octets =
+    let tsdus = tsdus_of (limit_of c.session.state) c.granted.sent in
+    subst (λ (x : Carrier). Acted (terms_now p) true r (carriers_of p) (becomes true x p.left.held.octets (carriers_of p)) b [] (map carrier.message tsdus)) (sym c.is)
+    (laws.handed_in_all (terms_now p) true (carriers_of p) b r tsdus between c.opened.lasts open_now c.short octets)
+hands_in laws Right r call p b c between open_now octets =
+    let tsdus = tsdus_of (limit_of c.session.state) c.granted.sent in
+    subst (λ (x : Carrier). Acted (terms_now p) false r (carriers_of p) (becomes false x p.right.held.octets (carriers_of p)) b [] (map carrier.message tsdus)) (sym c.is)
+    (laws.handed_in_all (terms_now p) false (carriers_of p) b r tsdus between c.opened.lasts open_now c.short octets)
+
+pub acted_at : CallLaws → (side : Side) (r : ℕ) (call : Call) (p : TwoEnds) (b : Between) (t : Tables) (c : Called r call (end_at side p)) → Stands p b t → r ≤ (end_at side p).end.carrier.given →
+    AllByRecursion IsOctets (tsdus_of (limit_of c.session.state) c.granted.sent) → AreWords (sent_words r call (end_at side p) c) (unit c.granted.sent ∷ []) →
+    MayAct side r call p b (sent_words r call (end_at side p) c) c.granted.sent
+acted_at laws side r call p b t c s within octets are =
+    let a = subst (HandsIn side r call p b) (carried_words (words_sent (limit_of c.session.state) c.granted.sent))
+    (hands_in laws side r call p b c s.between (progress_then side r call p b t c (of_end side p b t s) within) octets) in
+    record { now = a.now; between = a.between; carries = a.carries; are = are }
 
 pub lasts_now : (r : ℕ) (call : Call) (h : Holding) → Called r call h → (now_of r call h).end.carrier.ended ≡ None
 lasts_now r call h c = c.kept.ended ∙ c.opened.lasts
 
 -- the end that acted is as it last was
-pub lives_now : (side : Side) (r : ℕ) (call : Call) (p : TwoEnds) (b : Between) (m : Meaning) (a : MayAct side r call p b m) → (now_of r call (end_at side p)).end.carrier.ended ≡ None →
+pub lives_now : (side : Side) (r : ℕ) (call : Call) (p : TwoEnds) (b : Between) (words : List Word) (m : Meaning) (a : MayAct side r call p b words m) → (now_of r call (end_at side p)).end.carrier.ended ≡ None →
     (now_of r call (end_at side p)).end.carrier ≡ last_of (is_caller side) a.now
-lives_now Left r call p b m a e = a.between.lives true e
-lives_now Right r call p b m a e = a.between.lives false e
+lives_now Left r call p b words m a e = a.between.lives true e
+lives_now Right r call p b words m a e = a.between.lives false e
 
-progress_then : (side : Side) (r : ℕ) (call : Call) (p : TwoEnds) (b : Between) (t : Tables) (c : Called r call (end_at side p)) → OfEnd side p b t → r ≤ (end_at side p).end.carrier.given →
-    progress_of (place_at r (last_of (is_caller side) b)) ≡ in_use
-progress_then side r call p b t c o within = ap (λ (s : Carrier). progress_of (place_at r s)) (sym (o.lives c.opened.lasts)) ∙ ap progress_of (place_then r call (end_at side p) c within)
-
-progress_now : (side : Side) (r : ℕ) (call : Call) (p : TwoEnds) (b : Between) (c : Called r call (end_at side p)) (a : MayAct side r call p b c.granted.sent) → r ≤ (end_at side p).end.carrier.given →
+progress_now : (side : Side) (r : ℕ) (call : Call) (p : TwoEnds) (b : Between) (c : Called r call (end_at side p)) (a : MayAct side r call p b (sent_words r call (end_at side p) c) c.granted.sent) → r ≤ (end_at side p).end.carrier.given →
     progress_of (place_at r (last_of (is_caller side) a.now)) ≡ in_use
 progress_now side r call p b c a within =
-    ap (λ (s : Carrier). progress_of (place_at r s)) (sym (lives_now side r call p b c.granted.sent a (lasts_now r call (end_at side p) c))) ∙ ap progress_of (place_now r call (end_at side p) c within)
+    ap (λ (s : Carrier). progress_of (place_at r s)) (sym (lives_now side r call p b (sent_words r call (end_at side p) c) c.granted.sent a (lasts_now r call (end_at side p) c))) ∙ ap progress_of (place_now r call (end_at side p) c within)
 
 none_gone : (g h : Progress) (gone : List carrier.Message) → g ≡ in_use → h ≡ in_use → (leaves_use g h ≡ false → gone ≡ []) → gone ≡ []
 none_gone g h gone a b keeps = keeps (ap (λ (x : Progress). leaves_use x h) a ∙ ap (λ (x : Progress). leaves_use in_use x) b)
 
-line_acts : (side : Side) (r : ℕ) (call : Call) (p : TwoEnds) (b : Between) (t : Tables) (x : Line) (c : Called r call (end_at side p)) (a : MayAct side r call p b c.granted.sent) → OfEnd side p b t →
+-- what has begun is joined behind the call as it was before
+keeps_joined : (r : ℕ) (call : Call) (h : Holding) (c : Called r call h) (begun : Option (List ℕ)) → HasJoined r h begun → HasJoined r (now_of r call h) begun
+keeps_joined r call h c begun held y at =
+    let was : kept_at r h.end.lines ≡ Some c.session = sym (live_session r h.end (ap is_some c.opened.at)) ∙ c.was in
+    let now : Some y ≡ Some (words.react c.session (words.called call)).next = sym at ∙ ap session_in (line_found r call h c) ∙ c.session_now in
+    let same : y ≡ (words.react c.session (words.called call)).next = cc in
+    subst (λ (z : Listener). IsJoinedAs z.state z.joined begun) (sym same) (calls_keep c.session call begun (held c.session was))
+
+line_acts : (side : Side) (r : ℕ) (call : Call) (p : TwoEnds) (b : Between) (t : Tables) (x : Line) (c : Called r call (end_at side p)) (a : MayAct side r call p b (sent_words r call (end_at side p) c) c.granted.sent) → OfEnd side p b t →
     t.broken ≡ is_some p.reach → r ≤ (end_at side p).end.carrier.given → SeenLine side r p b x → SeenLine side r (new_of side r call p) a.now (after_call t.broken call x)
 line_acts side r call p b t x c a o broken within h =
     let sends : (react x.own.session (called call)).reply ≡ Some c.granted.sent = reply_so r call (end_at side p) x.own c h.own in
@@ -343,9 +421,11 @@ line_acts side r call p b t x c a o broken within h =
     record {
       own = subst (λ (y : Holding). IsSeated r y (after_call t.broken call x).own) (sym (end_is side r call p)) (seat_now r call (end_at side p) t.broken x c within h.own);
       peer = subst (λ (y : Holding). IsSeated r y x.peer) (sym (other_is side r call p)) h.peer;
-      out = out_way (terms_now p) side r p (new_of side r call p) b a.now (unit c.granted.sent ∷ []) x.own.channel t.broken (after_call t.broken call x).own a.carries broken
-          (none_gone _ _ a.carries.gone before after a.carries.keeps) (other_is side r call p) h.out (ap (λ (y : Option Meaning). worlds.put t.broken (replied y) x.own.channel) sends);
-      back = back_way (terms_now p) side r p (new_of side r call p) b a.now (carrier.message (written c.granted.sent) ∷ []) x.peer a.carries (before ∙ sym after) (h.back c.opened.lasts);
+      out = out_way (terms_now p) side r p (new_of side r call p) b a.now (sent_words r call (end_at side p) c) (unit c.granted.sent ∷ []) x.own.channel t.broken (after_call t.broken call x).own a.are a.carries broken
+          (none_gone _ _ a.carries.gone before after a.carries.keeps) (other_is side r call p) c.opened.lasts (reach_same side (now_of r call (end_at side p)) p) h.out (ap (λ (y : Option Meaning). worlds.put t.broken (replied y) x.own.channel) sends);
+      back = back_way (terms_now p) side r p (new_of side r call p) b a.now (map word_in (sent_words r call (end_at side p) c)) x.peer a.carries (before ∙ sym after)
+          (other_is side r call p) c.opened.lasts (reach_same side (now_of r call (end_at side p)) p)
+          (λ begun held. subst (λ (y : Holding). HasJoined r y begun) (sym (end_is side r call p)) (keeps_joined r call (end_at side p) c begun held)) h.back;
     }
 
 -- ---- each line
@@ -353,7 +433,7 @@ line_acts side r call p b t x c a o broken within h =
 abbrev pub tables_now : Tables → Side → ℕ → Call → Line → Tables
 tables_now t side r call l = stays t (side_in side) r (after_call t.broken call (seen_from (side_in side) l))
 
-pub line_by : (here : Bool) (laws : CallLaws) (side : Side) (r n : ℕ) (call : Call) (p : TwoEnds) (b : Between) (t : Tables) (l : Line) (c : Called r call (end_at side p)) (a : MayAct side r call p b c.granted.sent) →
+pub line_by : (here : Bool) (laws : CallLaws) (side : Side) (r n : ℕ) (call : Call) (p : TwoEnds) (b : Between) (t : Tables) (l : Line) (c : Called r call (end_at side p)) (a : MayAct side r call p b (sent_words r call (end_at side p) c) c.granted.sent) →
     (n == r) ≡ here → Stands p b t → connection_at r t.lines ≡ Some l → IsLine r p b l → r ≤ (end_at side p).end.carrier.given → 0 < n → n ≤ length t.lines →
     HasLine n (new_of side r call p) a.now (tables_now t side r call l)
 line_by true laws side r n call p b t l c a e s at is within some few =
@@ -375,8 +455,8 @@ line_by false laws side r n call p b t l c a e s at is within some few =
       found = laws.apart n r t.lines _ apart ∙ h.found;
       is = subst (IsLine n (new_of side r call p) a.now) (seen_twice side h.line)
           (as_line side n (new_of side r call p) a.now (seen_from (side_in side) h.line)
-          (other_line (terms_now p) side n r p (new_of side r call p) b a.now [] (carrier.message (written c.granted.sent) ∷ []) (seen_from (side_in side) h.line) a.carries apart
-          (other_is side r call p) c.opened.lasts left (seen side n p b h.line h.is)));
+          (other_line (terms_now p) side n r p (new_of side r call p) b a.now [] (map word_in (sent_words r call (end_at side p) c)) (seen_from (side_in side) h.line) a.carries apart
+          (other_is side r call p) c.opened.lasts (reach_same side (now_of r call (end_at side p)) p) left (seen side n p b h.line h.is)));
     }
 
 -- ---- what waits

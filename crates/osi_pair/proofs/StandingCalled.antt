@@ -1,6 +1,7 @@
 -- Two ends stand after a call as the tables do after theirs.
-use Rattle.std.proofs.Common.{◌≡◌, refl, sym, ◌∙◌, ap, subst, ℕ, ◌≤◌, ◌==◌, ◌&&◌, Bool, true, false, not, nat_le, nat_lt, if◌then◌else◌, List, [], ◌∷◌, ◌++◌, length, Option, Some, None, option_map, IsSome}
+use Rattle.std.proofs.Common.{◌≡◌, refl, sym, ◌∙◌, ap, subst, ℕ, ◌≤◌, ◌==◌, ◌&&◌, Bool, true, false, not, nat_le, nat_lt, if◌then◌else◌, List, [], ◌∷◌, ◌++◌, length, Option, Some, None, Ok, option_map, IsSome}
 use Rattle.std.proofs.lemmas.Bool.{leb-true}
+use Rattle.std.specs.List.{AllByRecursion}
 use Rattle.osi_tpkt.specs.Octets.{IsOctets}
 use Rattle.osi_class.specs.declared.terms.Local.{Local}
 use Rattle.osi_carrier.specs.Between.{Between, AreBetween}
@@ -12,14 +13,17 @@ use Rattle.osi_machine.specs.Machine.{connection_at, with_connection, call_answe
 use Rattle.osi_machine.specs.Machine as entries
 use Rattle.osi_machine.specs.Tables.{Seat, Line, Tables, seen_from, side_of, after_call, call_in, step, run}
 use Rattle.osi_machine.specs.Tables as tables
+use Rattle.osi_machine.specs.Worlds.{unit}
 use Rattle.osi_message.specs.Sendable.{IsSendable}
-use Rattle.osi_message.specs.Written.{written}
-use Rattle.osi_session.specs.Allowed.{octets_of}
-use Rattle.osi_session.specs.Calls.{Call, HasSerial}
+use Rattle.osi_message.specs.Parting.{tsdus_of}
+use Rattle.osi_session.specs.Allowed.{Step as Granted, allowed, octets_of, most_of, sends}
+use Rattle.osi_session.specs.Calls.{Call, Data, HasSerial}
 use Rattle.osi_session.specs.Listening.{Listener}
 use Rattle.osi_session.specs.Moves.{called, react}
+use Rattle.osi_session.specs.Sizes.{limit_of}
 use Rattle.osi_session.specs.Sound.{IsSound as IsSoundState}
-use Rattle.osi_session.specs.Whole.{listening}
+use Rattle.osi_session.specs.declared.state.State.{State}
+use Rattle.osi_session.proofs.SentLaws.{limit_sized}
 use Rattle.osi_session.specs.declared.faults.CallError.{CallError}
 use Rattle.osi_session.specs.declared.faults.CallError.TheVariants as error
 use Rattle.osi_stack.specs.Calls.{has_given, session_refusal, call_error}
@@ -29,12 +33,15 @@ use Rattle.osi_pair.specs.Ends.{TwoEnds, end_at}
 use Rattle.osi_pair.specs.Ends as ends
 use Rattle.osi_pair.specs.Entries.{calls}
 use Rattle.osi_pair.specs.Standing.{side_in, terms_in, class_in, ending_in, carriers_of, Stands, StandsAt}
+use Rattle.osi_pair.specs.Words.{most_data}
 use Rattle.osi_pair.specs.declared.sides.Side.{Side}
 use Rattle.osi_pair.specs.declared.sides.Side.TheVariants.{Left, Right}
 use Rattle.osi_pair.proofs.StandingActs.{There, there, more_said, StandsOn, begun_with, one_step}
 use Rattle.osi_pair.proofs.StandingAnswer.{line_error, answer_same}
-use Rattle.osi_pair.proofs.StandingCall.{CallLaws, refused_stands, after_by, now_of, new_of, tables_now, Called, called_is, seat_session, MayAct, acted_at, lasts_now, lives_now, line_by, quiet_now, order_now, over_now}
+use Rattle.osi_pair.proofs.StandingCall.{CallLaws, refused_stands, after_by, now_of, new_of, tables_now, Called, called_is, seat_session, sent_words, MayAct, acted_at, lasts_now, lives_now, line_by, quiet_now, order_now, over_now}
 use Rattle.osi_pair.proofs.StandingSides.{seen}
+use Rattle.osi_pair.proofs.WordLaws.{AreWords}
+use Rattle.osi_pair.proofs.WordsSent.{IsBounded, words_of_message}
 
 -- ---- at the left end, and at the right
 
@@ -42,12 +49,12 @@ use Rattle.osi_pair.proofs.StandingSides.{seen}
 lost_now : (r : ℕ) (call : Call) (h : Holding) → Called r call h → IsSome (now_of r call h).end.carrier.ended → (n : ℕ) → kept_at n (now_of r call h).end.lines ≡ None
 lost_now r call h c e n = let no : IsSome {T = EndReason} None = subst (λ (o : Option EndReason). IsSome o) (lasts_now r call h c) e in absurd cc
 
-stand_left : (laws : CallLaws) (r : ℕ) (call : Call) (p : TwoEnds) (b : Between) (t : Tables) (l : Line) (c : Called r call p.left) (a : MayAct Left r call p b c.granted.sent) → HasSerial call → Stands p b t →
+stand_left : (laws : CallLaws) (r : ℕ) (call : Call) (p : TwoEnds) (b : Between) (t : Tables) (l : Line) (c : Called r call p.left) (a : MayAct Left r call p b (sent_words r call p.left c) c.granted.sent) → HasSerial call → Stands p b t →
     connection_at r t.lines ≡ Some l → There r p b t l → r ≤ p.left.end.carrier.given → Stands (new_of Left r call p) a.now (tables_now t Left r call l)
 stand_left laws r call p b t l c a serial s at th within =
     let g : Holding = now_of r call p.left in
     let lasts = lasts_now r call p.left c in
-    let lives : g.end.carrier ≡ a.now.caller = lives_now Left r call p b c.granted.sent a lasts in
+    let lives : g.end.carrier ≡ a.now.caller = lives_now Left r call p b (sent_words r call p.left c) c.granted.sent a lasts in
     let count = laws.count r t.lines (seen_from (side_in Left) (after_call t.broken call (seen_from (side_in Left) l))) in
     record {
       between = subst (λ (x : Local). AreBetween (terms_of x p.right.end.carrier.local) (carriers_of (new_of Left r call p)) a.now) (sym c.kept.local) a.between;
@@ -72,7 +79,7 @@ stand_left laws r call p b t l c a serial s at th within =
       quiet_right = s.quiet_right;
     }
 
-stand_right : (laws : CallLaws) (r : ℕ) (call : Call) (p : TwoEnds) (b : Between) (t : Tables) (l : Line) (c : Called r call p.right) (a : MayAct Right r call p b c.granted.sent) → HasSerial call → Stands p b t →
+stand_right : (laws : CallLaws) (r : ℕ) (call : Call) (p : TwoEnds) (b : Between) (t : Tables) (l : Line) (c : Called r call p.right) (a : MayAct Right r call p b (sent_words r call p.right c) c.granted.sent) → HasSerial call → Stands p b t →
     connection_at r t.lines ≡ Some l → There r p b t l → r ≤ p.right.end.carrier.given → Stands (new_of Right r call p) a.now (tables_now t Right r call l)
 stand_right laws r call p b t l c a serial s at th within =
     let g : Holding = now_of r call p.right in
@@ -100,7 +107,7 @@ stand_right laws r call p b t l c a serial s at th within =
       quiet_right = quiet_now r call p.right c s.quiet_right;
     }
 
-stand_at : (laws : CallLaws) (side : Side) (r : ℕ) (call : Call) (p : TwoEnds) (b : Between) (t : Tables) (l : Line) (c : Called r call (end_at side p)) (a : MayAct side r call p b c.granted.sent) → HasSerial call →
+stand_at : (laws : CallLaws) (side : Side) (r : ℕ) (call : Call) (p : TwoEnds) (b : Between) (t : Tables) (l : Line) (c : Called r call (end_at side p)) (a : MayAct side r call p b (sent_words r call (end_at side p) c) c.granted.sent) → HasSerial call →
     Stands p b t → connection_at r t.lines ≡ Some l → There r p b t l → r ≤ (end_at side p).end.carrier.given → Stands (new_of side r call p) a.now (tables_now t side r call l)
 stand_at laws Left r call p b t l c a serial s at th within = stand_left laws r call p b t l c a serial s at th within
 stand_at laws Right r call p b t l c a serial s at th within = stand_right laws r call p b t l c a serial s at th within
@@ -133,14 +140,31 @@ sound_seat : (side : Side) (l : Line) → IsSoundLine l → IsSoundSeat (seen_fr
 sound_seat Left l h = h.own
 sound_seat Right l h = h.peer
 
-sent_octets : (laws : CallLaws) (side : Side) (r : ℕ) (call : Call) (p : TwoEnds) (b : Between) (t : Tables) (l : Line) (c : Called r call (end_at side p)) → IsTableRun t → HasSerial call →
-    IsOctets (octets_of call) → connection_at r t.lines ≡ Some l → There r p b t l → IsOctets (written c.granted.sent)
-sent_octets laws side r call p b t l c tabled serial octets at th =
+-- what it sends can be sent
+record CanSend (r : ℕ) (call : Call) (h : Holding) (c : Called r call h) : Type 0 where
+  octets : AllByRecursion IsOctets (tsdus_of (limit_of c.session.state) c.granted.sent)
+  are : AreWords (sent_words r call h c) (unit c.granted.sent ∷ [])
+
+bounded_by : (s : State) (call : Call) → nat_le (length (octets_of call)) (most_of call) ≡ true → IsBounded (sends s call)
+bounded_by s (Data octets) short = leb-true (length octets) most_data short
+bounded_by s _ short = tt
+
+-- data is no longer than a Data may be
+is_bounded : (laws : CallLaws) (s : State) (call : Call) (x : Granted) → allowed s call ≡ Ok x → IsBounded x.sent
+is_bounded laws s call x accepted = let q = laws.passed s call x accepted in subst (λ (y : Granted). IsBounded y.sent) (sym q.gives) (bounded_by s call q.size)
+
+can_send : (laws : CallLaws) (side : Side) (r : ℕ) (call : Call) (p : TwoEnds) (b : Between) (t : Tables) (l : Line) (c : Called r call (end_at side p)) → IsTableRun t → HasSerial call →
+    IsOctets (octets_of call) → connection_at r t.lines ≡ Some l → There r p b t l → CanSend r call (end_at side p) c
+can_send laws side r call p b t l c tabled serial octets at th =
     let x : Line = seen_from (side_in side) l in
-    let same : listening x.own.session ≡ c.session = seat_session r call (end_at side p) x.own c (seen side r p b l th.is).own in
+    let same = seat_session r call (end_at side p) x.own c (seen side r p b l th.is).own in
     let sound : IsSoundState c.session.state = subst (λ (y : Listener). IsSoundState y.state) same (sound_seat side l (laws.sound_lines t tabled r l at)).sound in
     let sendable : IsSendable c.granted.sent = laws.sendable c.session.state call c.granted sound serial c.accepted in
-    laws.octets c.granted.sent sendable (laws.says_octets c.session.state call c.granted c.accepted sendable octets)
+    let limit = limit_of c.session.state in
+    record {
+      octets = laws.octets limit c.granted.sent sendable (laws.says_octets c.session.state call c.granted c.accepted sendable octets);
+      are = words_of_message laws.parts limit c.granted.sent (limit_sized c.session.state limit refl sound) (is_bounded laws c.session.state call c.granted c.accepted);
+    }
 
 -- ---- a reference that was given
 
@@ -165,8 +189,10 @@ accepted_stands laws side r call p b t tabled serial octets s none fine =
     let c = called_is laws r call (end_at side p) none in
     let d = accepted_step t side r call (connection_at r t.lines) fine in
     let th = there laws.none r p b t d.line s d.found in
-    let a = acted_at laws side r call p b t c s (sent_octets laws side r call p b t d.line c tabled serial octets d.found th) in
-    let on = stand_at laws side r call p b t d.line c a serial s d.found th (within_given r call (end_at side p) none) in
+    let within = within_given r call (end_at side p) none in
+    let can = can_send laws side r call p b t d.line c tabled serial octets d.found th in
+    let a = acted_at laws side r call p b t c s within can.octets can.are in
+    let on = stand_at laws side r call p b t d.line c a serial s d.found th within in
     record {
       now = a.now;
       stands = subst (Stands (after_by None side r call p) a.now) (sym d.is)

@@ -1,10 +1,10 @@
 -- An end closes an open connection of class 2: the tables put that, and of what was under way from it they keep
 -- what was written.
-use Rattle.std.proofs.Common.{◌≡◌, ℕ, Bool, true, false, List, [], ◌∷◌, length, map, take, Option, Some, None, is_some, refl, sym, subst, arith}
+use Rattle.std.proofs.Common.{◌≡◌, ℕ, Bool, true, false, List, [], ◌∷◌, take, Option, Some, None, is_some, refl, sym, subst, arith}
 use Rattle.osi_class.specs.Link.{Standing as Link}
 use Rattle.osi_class.specs.declared.terms.Class.{Class}
 use Rattle.osi_class.specs.declared.terms.Class.TheVariants.{Zero, Two}
-use Rattle.osi_carrier.specs.Between.{Between, AreBetween, Acted, last_of, under_way, put_in}
+use Rattle.osi_carrier.specs.Between.{Between, AreBetween, Acted, last_of, under_way, put_in, is_cut}
 use Rattle.osi_carrier.specs.Calls.{closes, closed_on, closed_with}
 use Rattle.osi_carrier.specs.Course.{place_at, progress_of}
 use Rattle.osi_carrier.specs.Messages as carrier
@@ -22,19 +22,20 @@ use Rattle.osi_stack.specs.State.{Holding, Line as StackLine}
 use Rattle.osi_carrier.specs.Rows.{Rows}
 use Rattle.osi_pair.specs.Ends.{TwoEnds, end_at}
 use Rattle.osi_pair.specs.Sides.{other}
-use Rattle.osi_pair.specs.Standing.{side_in, is_caller, carriers_of, message_in, AreAlike, IsInOrder, Stands}
+use Rattle.osi_pair.specs.Standing.{side_in, is_caller, carriers_of, IsInOrder, Stands, HasJoined}
 use Rattle.osi_pair.specs.declared.sides.Side.{Side}
 use Rattle.osi_pair.specs.declared.sides.Side.TheVariants.{Left, Right}
-use Rattle.osi_pair.proofs.StandingActed.{ActsOn, CarrierActs, end_with, pair_with, ways_at, acted_stands, seen_at, session_in_use}
+use Rattle.osi_pair.proofs.StandingActed.{ActsOn, CarrierActs, end_with, pair_with, ways_at, acted_stands, seen_at, session_in_use, OutNow}
 use Rattle.osi_pair.proofs.StandingActs.{StandsOn}
 use Rattle.osi_pair.proofs.StandingArrived.{CarrierLaws}
 use Rattle.osi_pair.proofs.StandingFinish.{terms_at}
-use Rattle.osi_pair.proofs.StandingRests.{unless_broken, put_unless, unless_same}
+use Rattle.osi_pair.proofs.StandingRests.{unless_broken, put_unless, unless_same, leave_by}
 use Rattle.osi_pair.proofs.StandingResting.{broken_is}
 use Rattle.osi_pair.proofs.StandingSeats.{HasSession}
-use Rattle.osi_pair.proofs.StandingSends.{open_is}
-use Rattle.osi_pair.proofs.StandingTurned.{IsSeen, with_holding}
+use Rattle.osi_pair.proofs.StandingCall.{open_is}
+use Rattle.osi_pair.proofs.StandingTurned.{IsSeen, with_holding, GoesTo}
 use Rattle.osi_pair.proofs.StandingWays.{out_cuts}
+use Rattle.osi_pair.proofs.StandingCut.{cut_broken, reach_same}
 
 -- ---- the carrier
 
@@ -88,21 +89,32 @@ close_acts laws Right p b t n peer link old alive two at =
 
 -- ---- what is under way from it
 
-out_closes : (s : Side) (p : TwoEnds) (b : Between) (t : Tables) (n : ℕ) (l : Line) → Stands p b t → (a : CloseActs s p b n) → IsSeen s n p b l → (end_at (other s) p).end.carrier.ended ≡ None →
-    AreAlike (progress_of (place_at n (last_of (is_caller (other s)) b))) (map message_in (put t.broken (bye 128 ∷ []) (take (length a.ways.stays) l.own.channel)))
-    (under_way (is_caller s) n (carriers_of (pair_with s (closed_with n 128 (end_at s p).end.carrier) p)) a.now)
-out_closes s p b t n l old a i lives =
+-- so much of it is left, and the close is put behind
+record OutCloses (s : Side) (p : TwoEnds) (b : Between) (t : Tables) (n : ℕ) (l : Line) (a : CloseActs s p b n) : Type 0 where
+  keep : ℕ
+  way : OutNow s n p b (pair_with s (closed_with n 128 (end_at s p).end.carrier) p) a.now (put t.broken (bye 128 ∷ []) (take keep l.own.channel))
+
+out_closes : (s : Side) (p : TwoEnds) (b : Between) (t : Tables) (n : ℕ) (l : Line) → Stands p b t → (a : CloseActs s p b n) → IsSeen s n p b l → OutCloses s p b t n l a
+out_closes s p b t n l old a i =
     let place = place_at n (last_of (is_caller (other s)) b) in
-    let new = under_way (is_caller s) n (carriers_of (pair_with s (closed_with n 128 (end_at s p).end.carrier) p)) a.now in
+    let lasts = (end_at (other s) p).end.carrier.ended in
+    let two = pair_with s (closed_with n 128 (end_at s p).end.carrier) p in
+    let new = under_way (is_caller s) n (carriers_of two) a.now in
     let left = carrier.bye 128 ∷ [] in
-    subst (λ (ms : List Message). AreAlike (progress_of place) (map message_in ms) new) (sym (put_unless t.broken (bye 128 ∷ []) (take (length a.ways.stays) l.own.channel)))
-    (out_cuts place l.own.channel (unless_broken t.broken (bye 128 ∷ [])) (under_way (is_caller s) n (carriers_of p) b) new a.ways.stays a.ways.gone (put_in (carriers_of p) left)
-    (i.out lives) a.ways.before a.ways.after (unless_same t.broken (is_some (carriers_of p).reach) (bye 128 ∷ []) left (broken_is p b t old) refl))
+    let cut = is_cut (is_caller s) (carriers_of two) in
+    let h : Holding = record { end = end_with s (closed_with n 128 (end_at s p).end.carrier) p; held = (end_at s p).held } in
+    let x = out_cuts lasts place (is_cut (is_caller s) (carriers_of p)) cut (HasJoined n (end_at (other s) p)) l.own.channel (unless_broken t.broken (bye 128 ∷ [])) (under_way (is_caller s) n (carriers_of p) b) new a.ways.stays a.ways.gone
+    (put_in (carriers_of p) left) i.out (leave_by t.broken cut (bye 128) (λ begun. tt) (cut_broken s p two t.broken old.broken (reach_same s h p))) a.ways.before a.ways.after
+    (unless_same t.broken (is_some (carriers_of p).reach) (bye 128 ∷ []) left (broken_is p b t old) refl) in
+    record {
+      keep = x.keep;
+      way = subst (λ (ms : List Message). GoesTo s (end_at (other s) p) n two a.now (progress_of place) ms) (sym (put_unless t.broken (bye 128 ∷ []) (take x.keep l.own.channel))) x.way;
+    }
 
 -- ---- two ends
 
 session_shuts : (n : ℕ) (lines : Rows StackLine) (x : Standing) → is_ended x.state.phase ≡ true → HasSession n lines in_use x → HasSession n lines shutting x
-session_shuts n lines x ended h = record { live = λ e. h.live refl; kept = h.kept; over_now = λ e. ended; awaiting = λ e. cc; octets = h.octets }
+session_shuts n lines x ended h = record { joined = h.joined; live = λ e. h.live refl; kept = h.kept; over_now = λ e. ended; awaiting = λ e. cc; octets = h.octets }
 
 -- behind a close of the end of a side, which is this, they stand, where so much is kept of what was under way
 pub record ClosesOn (s : Side) (p : TwoEnds) (t : Tables) (n : ℕ) (l : Line) (y : Holding) : Type 0 where
@@ -118,9 +130,10 @@ closes_stand laws s p b t n peer link l old alive two at found ended order =
     let a = close_acts laws s p b t n peer link old alive two at in
     let i = seen_at s p b t n l old found in
     let x = session_shuts n (end_at s p).end.lines l.own.session ended (session_in_use s p b t n (linked peer link) l old alive at refl i) in
+    let out = out_closes s p b t n l old a i in
     record {
-      keep = length a.ways.stays;
-      on = acted_stands s p b t n shutting c (carrier.bye 128 ∷ []) (put t.broken (bye 128 ∷ []) (take (length a.ways.stays) l.own.channel)) l old alive a order found x (out_closes s p b t n l old a i);
+      keep = out.keep;
+      on = acted_stands s p b t n shutting c (carrier.bye 128 ∷ []) (put t.broken (bye 128 ∷ []) (take out.keep l.own.channel)) l old alive a order found x out.way;
     }
 
 -- the end of the side is this

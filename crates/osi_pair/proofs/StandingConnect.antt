@@ -1,9 +1,9 @@
 -- Who asks for a connection asks the machine.
-use Rattle.std.proofs.Common.{◌≡◌, ◌≢◌, refl, sym, ◌∙◌, ap, subst, ℕ, suc, ◌+◌, ◌<◌, ◌≤◌, ◌==◌, Bool, true, false, not, if◌then◌else◌, List, [], ◌∷◌, ◌++◌, length, length-append, map, Option, Some, None, option_map, is_some, IsSome, Ok, Err, arith}
+use Rattle.std.proofs.Common.{◌≡◌, ◌≢◌, refl, sym, ◌∙◌, ap, subst, ℕ, suc, ◌+◌, ◌<◌, ◌≤◌, ◌==◌, Bool, true, false, not, if◌then◌else◌, List, [], ◌∷◌, ◌++◌, length, length-append, map, Option, Some, None, option_map, is_some, IsSome, Ok, Err, arith, inl}
 use Rattle.std.proofs.lemmas.Bool.{eqb-true, eq-eqb}
 use Rattle.std.proofs.lemmas.Bool.Decides.{nat_tests}
 use Rattle.osi_tpdu.specs.Limits.{tsap_octets}
-use Rattle.osi_carrier.specs.Between.{Both, Between, AreBetween, Acted, becomes, under_way}
+use Rattle.osi_carrier.specs.Between.{Both, Between, AreBetween, Acted, becomes, under_way, is_cut}
 use Rattle.osi_carrier.specs.Calls.{may_connect, asks}
 use Rattle.osi_carrier.specs.Course.{was_given, place_at, progress_of, IsTsap}
 use Rattle.osi_carrier.specs.Messages as carrier
@@ -42,7 +42,9 @@ use Rattle.osi_stack.proofs.Rising.{rise_push}
 use Rattle.osi_pair.specs.Asked.{asked_of, CanBeAsked}
 use Rattle.osi_pair.specs.Ends.{TwoEnds, noted, connected_by, answer_with, after_connect}
 use Rattle.osi_pair.specs.Entries.{asks as asked_entry}
-use Rattle.osi_pair.specs.Standing.{carriers_of, transport_in, offer_in, answer_in, refusal_in, IsSeated, IsLine, HasLine, IsInOrder, Stands, StandsAt}
+use Rattle.osi_pair.specs.Standing.{carriers_of, transport_in, offer_in, answer_in, refusal_in, IsSeated, IsLine, HasLine, IsInOrder, Stands, StandsAt, HasJoined}
+use Rattle.osi_pair.specs.Words.{whole}
+use Rattle.osi_pair.proofs.WordLaws.{wholes}
 use Rattle.osi_pair.specs.Telling.{waiting_in}
 use Rattle.osi_pair.specs.declared.sides.Side.TheVariants.{Left}
 use Rattle.osi_pair.proofs.StandingActs.{out_way, place_given, place_ahead, more_said, StandsOn, begun_with, one_step}
@@ -50,6 +52,7 @@ use Rattle.osi_pair.proofs.StandingCall.{session_now_is}
 use Rattle.osi_pair.proofs.StandingOctets.{profile_small, asker_small, answerer_small}
 use Rattle.osi_pair.proofs.StandingRefusal.{Awaits, refusal_same}
 use Rattle.osi_pair.proofs.StandingSides.{seen, as_line, alike_trans, alike_same, like_alike, IsLeft, other_line}
+use Rattle.osi_pair.proofs.StandingWays.{none_under_way}
 
 -- what the crates below say
 pub record ConnectLaws : Type 0 where
@@ -174,6 +177,7 @@ left_alone q c h o apart within =
 
 own_new : (broken : Bool) (c : Connect) (h : Holding) → Soundness h.end → MayAsk c h → CanBeAsked c → IsSeated (next_of h) (asked_end c h) (asked_with broken (offer_in (asked_of c))).own
 own_new broken c h o may can = record {
+  joined = None;
   transport = ap transport_in (sym (place_new c h o));
   live = λ e. session_now_is (next_of h) (asked_end c h).end asked (line_of c) (value_new c h o) (line_new c h o);
   kept = λ s e. let is : Some s ≡ Some (calls_with c) = sym e ∙ ap session_in (line_new c h o) in cc;
@@ -198,6 +202,7 @@ unaware n p b t (Some reason) is s above =
 
 peer_new : (n : ℕ) (broken : Bool) (c : Connect) (p : TwoEnds) → p.right.end.carrier.given < n → IsUnaware n p.right → IsSeated n p.right (asked_with broken (offer_in (asked_of c))).peer
 peer_new n broken c p above u = record {
+  joined = None;
   transport = ap transport_in (sym (place_ahead n p.right.end.carrier above));
   live = λ e. let no : false ≡ true = sym (ap is_some u.live) ∙ e in cc;
   kept = λ s e. let no : None ≡ Some s = sym u.kept ∙ e in cc;
@@ -236,11 +241,16 @@ line_asks laws c p b t a s may can =
     as_line Left n new a.now (asked_with t.broken (offer_in (asked_of c))) (record {
       own = own_new t.broken c p.left o.sound may can;
       peer = peer_new n t.broken c p above (unaware n p b t p.right.end.carrier.ended refl s above);
-      out = out_way (terms_now p) Left n p new b a.now (ask ∷ []) [] t.broken (asked_with t.broken (offer_in (asked_of c))).own a.carries s.broken
-          (none_gone _ _ a.carries.gone earlier now a.carries.keeps) refl (λ e. alike_same (progress_of (place_at n b.called)) _ _ (sym none_out)) refl;
-      back = λ e. alike_trans g [] (under_way false n (carriers_of p) b) (under_way false n (carriers_of new) a.now) (alike_same g _ _ (sym none_back))
+      out = out_way (terms_now p) Left n p new b a.now (whole ask ∷ []) (ask ∷ []) [] t.broken (asked_with t.broken (offer_in (asked_of c))).own (wholes (ask ∷ [])) a.carries s.broken
+          (none_gone _ _ a.carries.gone earlier now a.carries.keeps) refl may.lasts refl
+          (none_under_way p.right.end.carrier.ended (progress_of (place_at n b.called)) (is_cut true (carriers_of p)) (HasJoined n p.right) (under_way true n (carriers_of p) b)
+          (λ y at. (let none = (unaware n p b t p.right.end.carrier.ended refl s above).kept in let no : None ≡ Some y = sym none ∙ at in absurd cc))
+          (λ e. alike_same (progress_of (place_at n b.called)) _ _ (sym none_out))) refl;
+      back = none_under_way new.left.end.carrier.ended g (is_cut false (carriers_of new)) (HasJoined n new.left) (under_way false n (carriers_of new) a.now)
+          (λ y at. (let is : Some y ≡ Some (calls_with c) = sym at ∙ ap session_in (line_new c p.left o.sound) in let same : y ≡ calls_with c = cc in inl (ap (λ (z : Listener). z.joined) same)))
+          (λ e. alike_trans g [] (under_way false n (carriers_of p) b) (under_way false n (carriers_of new) a.now) (alike_same g _ _ (sym none_back))
           (alike_trans g _ (a.carries.arrived ++ under_way false n (carriers_of new) a.now) _ (like_alike (place_at n a.now.caller) _ _ a.carries.came)
-          (alike_same g _ _ (ap (λ (l : List carrier.Message). l ++ under_way false n (carriers_of new) a.now) a.carries.brings.is)));
+          (alike_same g _ _ (ap (λ (l : List carrier.Message). l ++ under_way false n (carriers_of new) a.now) a.carries.brings.is))));
     })
 
 abbrev with_line : Tables → Connect → Tables
@@ -265,7 +275,7 @@ line_by false laws m c p b t a e s may can some few =
       line = h.line;
       found = laws.before m t.lines h.line (asked_with t.broken (offer_in (asked_of c))) h.found;
       is = as_line Left m (new_two c p) a.now h.line
-          (other_line (terms_now p) Left m (next_of p.left) p (new_two c p) b a.now [] (carrier.ask ∷ []) h.line a.carries apart refl may.lasts
+          (other_line (terms_now p) Left m (next_of p.left) p (new_two c p) b a.now [] (carrier.ask ∷ []) h.line a.carries apart refl may.lasts refl
           (left_alone m c p.left (s.order_left may.lasts) apart low) (seen Left m p b h.line h.is));
     }
 

@@ -1,11 +1,10 @@
 -- An end that comes is an end of the machine, whatever its reason.
-use Rattle.std.proofs.Common.{◌≡◌, refl, sym, ◌∙◌, ap, subst, ℕ, ◌+◌, ◌<◌, ◌≤◌, Bool, true, false, not, List, [], ◌∷◌, ◌++◌, length, map, nat_lt, Option, Some, None, option_map, inl, arith}
+use Rattle.std.proofs.Common.{◌≡◌, refl, sym, ◌∙◌, ap, subst, ℕ, ◌<◌, ◌≤◌, Bool, true, false, not, List, [], ◌∷◌, ◌++◌, length, map, nat_lt, Some, None, option_map, inl, arith, inr}
 use Rattle.std.specs.Prelude.{IfSome}
 use Rattle.std.proofs.lemmas.List.{append-nil}
 use Rattle.osi_tpkt.specs.Held.{Held}
-use Rattle.osi_carrier.specs.Between.{Between, Both, AreBetween, IsOnTheWay, under_way, side, last_of, units_from, lost_from, arriving, reach_of}
+use Rattle.osi_carrier.specs.Between.{Between, Both, AreBetween, IsOnTheWay, under_way, side, last_of, units_from, lost_from, arriving, reach_of, is_cut}
 use Rattle.osi_carrier.specs.Course.{place_at, connection_in, progress_of}
-use Rattle.osi_carrier.specs.Messages as between
 use Rattle.osi_carrier.specs.Rows.{Rows}
 use Rattle.osi_carrier.specs.State.{State}
 use Rattle.osi_carrier.specs.State as carriers
@@ -16,7 +15,7 @@ use Rattle.osi_machine.specs.Core as machine
 use Rattle.osi_machine.specs.Machine.{Ending, connection_at, is_given}
 use Rattle.osi_machine.specs.Machine as entries
 use Rattle.osi_machine.specs.Tables.{Seat, Line, Tables, turned, seen_from, shown_in_order, after_end}
-use Rattle.osi_machine.specs.Worlds.{Message, waiting}
+use Rattle.osi_machine.specs.Worlds.{Message}
 use Rattle.osi_session.specs.Shown.{Shown}
 use Rattle.osi_stack.specs.Hearing.{all_lost}
 use Rattle.osi_stack.specs.Hearing as hearing
@@ -27,7 +26,7 @@ use Rattle.osi_stack.proofs.Lifting.{both}
 use Rattle.osi_pair.specs.Ends.{TwoEnds, end_at}
 use Rattle.osi_pair.specs.Entries.{Entry, ends}
 use Rattle.osi_pair.specs.Sides.{other}
-use Rattle.osi_pair.specs.Standing.{side_in, is_caller, ending_in, terms_in, class_in, entry_in, carriers_of, IsSeated, IsUnderWay, IsLine, Stands}
+use Rattle.osi_pair.specs.Standing.{side_in, ending_in, terms_in, class_in, entry_in, carriers_of, IsSeated, IsUnderWay, IsLine, Stands, AreUnderWay, HasJoined}
 use Rattle.osi_pair.specs.Telling.{waiting_in, quieted, shown_entries}
 use Rattle.osi_pair.specs.declared.sides.Side.{Side}
 use Rattle.osi_pair.specs.declared.sides.Side.TheVariants.{Left, Right}
@@ -37,6 +36,8 @@ use Rattle.osi_pair.proofs.StandingFinish.{terms_at}
 use Rattle.osi_pair.proofs.StandingShown.{shown_pair}
 use Rattle.osi_pair.proofs.StandingTurned.{IsSeen, seen, with_holding}
 use Rattle.osi_pair.proofs.StandingEnding.{ended_line, IsPlaced, placed_seat, seat_ends, ended_at_line, ended_count, way_cut, never_given, not_of, way_none, way_ended, cut_by_end}
+use Rattle.osi_pair.proofs.StandingWays.{over_way}
+use Rattle.osi_pair.proofs.StandingCut.{IsWithin, outside_not, within_or}
 
 -- ---- two ends of which one has ended
 
@@ -47,14 +48,6 @@ ended_holding reason a lines held = record { end = record { carrier = carriers.e
 abbrev pub ended_pair : Side → EndReason → State → Rows stack.Line → Held → List Entry → TwoEnds → TwoEnds
 ended_pair Left reason a lines held journal p = record { left = ended_holding reason a lines held; right = p.right; reach = p.reach; journal = journal }
 ended_pair Right reason a lines held journal p = record { left = p.left; right = ended_holding reason a lines held; reach = p.reach; journal = journal }
-
--- how much of each channel is left, where the other end lasts
-abbrev pub unless_over : Option EndReason → ℕ → ℕ
-unless_over None k = k
-unless_over (Some reason) k = 0
-
-abbrev pub left_at_end : Side → TwoEnds → Between → ℕ → ℕ
-left_at_end s p b n = unless_over (end_at (other s) p).end.carrier.ended (length (under_way (is_caller s) n (carriers_of p) b))
 
 -- a connection of an end that is going to end, seen from it
 pub record EndingLine (s : Side) (p : TwoEnds) (u : Tables) (e : End) (h : Held) (c : Between) (n : ℕ) : Type 0 where
@@ -144,110 +137,155 @@ none_there : (n : ℕ) (a last : State) (seat : Seat) → a ≡ last → IsPlace
 none_there n a last seat same i given =
     ap (λ (x : State). connection_in (place_at n x)) (sym same) ∙ never_given n a (not_of (nat_lt a.given n) false (sym given ∙ i.given))
 
-left_line : (p : TwoEnds) (u : Tables) (e : End) (h : Held) (c : Between) (reason : EndReason) (lines : Rows stack.Line) (held : Held) (journal : List Entry) (n : ℕ) →
-    e.carrier ≡ last_of true c → ((q : ℕ) → kept_at q lines ≡ None) → (l : EndingLine Left p u e h c n) →
-    IsLine n (ended_pair Left reason e.carrier lines held journal p) c (ended_line (left_at_end Left (ended_pair Left reason e.carrier lines held journal p) c n) l.line)
-left_line p u e h c reason lines held journal n last none l =
+-- what becomes of a line
+record HasEnds (s : Side) (p : TwoEnds) (u : Tables) (c : Between) (keep n : ℕ) : Type 0 where
+  line : Line
+  found : connection_at n u.lines ≡ Some (seen_from (side_in s) line)
+  is : IsLine n p c (seen_from (side_in s) (ended_line keep line))
+
+-- so much is left of what is under way from it
+record Ends (s : Side) (p : TwoEnds) (u : Tables) (c : Between) (most : ℕ) (n : ℕ) : Type 0 where
+  keep : ℕ
+  is : 0 < n → n ≤ most → HasEnds s p u c keep n
+
+left_line : (p : TwoEnds) (u : Tables) (e : End) (h : Held) (c : Between) (reason : EndReason) (lines : Rows stack.Line) (held : Held) (journal : List Entry) (most n : ℕ) →
+    e.carrier ≡ last_of true c → ((q : ℕ) → kept_at q lines ≡ None) → EndingLine Left p u e h c n → Ends Left (ended_pair Left reason e.carrier lines held journal p) u c most n
+left_line p u e h c reason lines held journal most n last none l =
     let q = ended_pair Left reason e.carrier lines held journal p in
     let mid = with_holding Left e h p in
+    let out = way_ended p.right.end.carrier.ended (progress_of (place_at n (last_of false c))) (is_cut true (carriers_of mid)) (HasJoined n p.right) (is_given l.line.own.transport) l.line.own l.kept l.more
+    (under_way true n (carriers_of mid) c) (under_way true n (carriers_of q) c) l.parts l.whole (way_cut true n (carriers_of mid) (carriers_of q) c (cut_by_end true (carriers_of q) refl))
+    (λ given. way_none true n (carriers_of mid) (carriers_of q) c (none_there n e.carrier (last_of true c) l.line.own last l.here given)) l.out in
     record {
-      left = seat_ends n e.carrier q.left l.line.own (left_at_end Left q c n) (record { given = refl; live = refl; none = none }) l.here;
-      right = l.there;
-      rightward = λ x. way_ended (progress_of (place_at n (last_of false c))) (is_given l.line.own.transport) l.line.own l.kept l.more (under_way true n (carriers_of mid) c) (under_way true n (carriers_of q) c)
-          (left_at_end Left q c n) (ap (λ (o : Option EndReason). unless_over o (length (under_way true n (carriers_of q) c))) x) l.parts l.whole
-          (way_cut true n (carriers_of mid) (carriers_of q) c (cut_by_end true (carriers_of q) refl))
-          (λ given. way_none true n (carriers_of mid) (carriers_of q) c (none_there n e.carrier (last_of true c) l.line.own last l.here given)) (l.out x);
-      leftward = λ x. cc;
+      keep = out.keep;
+      is = λ some few. record {
+        line = l.line;
+        found = l.found;
+        is = record {
+          left = seat_ends n e.carrier q.left l.line.own out.keep (record { given = refl; live = refl; none = none }) l.here;
+          right = l.there;
+          rightward = subst (λ (cut : Bool). AreUnderWay p.right.end.carrier.ended (progress_of (place_at n (last_of false c))) cut (HasJoined n p.right) (ended_line out.keep l.line).own.channel (under_way true n (carriers_of q) c))
+              (sym (cut_by_end true (carriers_of q) refl)) out.way;
+          leftward = over_way q.left.end.carrier.ended (progress_of (place_at n (last_of true c))) (is_cut false (carriers_of q)) (HasJoined n q.left) l.line.peer.channel (under_way false n (carriers_of q) c)
+              (λ y at. (let no : None ≡ Some y = sym (none n) ∙ at in absurd cc)) (λ x. cc);
+        };
+      };
     }
 
-right_line : (p : TwoEnds) (u : Tables) (e : End) (h : Held) (c : Between) (reason : EndReason) (lines : Rows stack.Line) (held : Held) (journal : List Entry) (n : ℕ) →
-    e.carrier ≡ last_of false c → ((q : ℕ) → kept_at q lines ≡ None) → (l : EndingLine Right p u e h c n) →
-    IsLine n (ended_pair Right reason e.carrier lines held journal p) c (turned (ended_line (left_at_end Right (ended_pair Right reason e.carrier lines held journal p) c n) l.line))
-right_line p u e h c reason lines held journal n last none l =
+right_line : (p : TwoEnds) (u : Tables) (e : End) (h : Held) (c : Between) (reason : EndReason) (lines : Rows stack.Line) (held : Held) (journal : List Entry) (most n : ℕ) →
+    e.carrier ≡ last_of false c → ((q : ℕ) → kept_at q lines ≡ None) → EndingLine Right p u e h c n → Ends Right (ended_pair Right reason e.carrier lines held journal p) u c most n
+right_line p u e h c reason lines held journal most n last none l =
     let q = ended_pair Right reason e.carrier lines held journal p in
     let mid = with_holding Right e h p in
+    let out = way_ended p.left.end.carrier.ended (progress_of (place_at n (last_of true c))) (is_cut false (carriers_of mid)) (HasJoined n p.left) (is_given l.line.own.transport) l.line.own l.kept l.more
+    (under_way false n (carriers_of mid) c) (under_way false n (carriers_of q) c) l.parts l.whole (way_cut false n (carriers_of mid) (carriers_of q) c (cut_by_end false (carriers_of q) refl))
+    (λ given. way_none false n (carriers_of mid) (carriers_of q) c (none_there n e.carrier (last_of false c) l.line.own last l.here given)) l.out in
     record {
-      left = l.there;
-      right = seat_ends n e.carrier q.right l.line.own (left_at_end Right q c n) (record { given = refl; live = refl; none = none }) l.here;
-      rightward = λ x. cc;
-      leftward = λ x. way_ended (progress_of (place_at n (last_of true c))) (is_given l.line.own.transport) l.line.own l.kept l.more (under_way false n (carriers_of mid) c) (under_way false n (carriers_of q) c)
-          (left_at_end Right q c n) (ap (λ (o : Option EndReason). unless_over o (length (under_way false n (carriers_of q) c))) x) l.parts l.whole
-          (way_cut false n (carriers_of mid) (carriers_of q) c (cut_by_end false (carriers_of q) refl))
-          (λ given. way_none false n (carriers_of mid) (carriers_of q) c (none_there n e.carrier (last_of false c) l.line.own last l.here given)) (l.out x);
+      keep = out.keep;
+      is = λ some few. record {
+        line = l.line;
+        found = l.found;
+        is = record {
+          left = l.there;
+          right = seat_ends n e.carrier q.right l.line.own out.keep (record { given = refl; live = refl; none = none }) l.here;
+          rightward = over_way q.right.end.carrier.ended (progress_of (place_at n (last_of false c))) (is_cut true (carriers_of q)) (HasJoined n q.right) l.line.peer.channel (under_way true n (carriers_of q) c)
+              (λ y at. (let no : None ≡ Some y = sym (none n) ∙ at in absurd cc)) (λ x. cc);
+          leftward = subst (λ (cut : Bool). AreUnderWay p.left.end.carrier.ended (progress_of (place_at n (last_of true c))) cut (HasJoined n p.left) (ended_line out.keep l.line).own.channel (under_way false n (carriers_of q) c))
+              (sym (cut_by_end false (carriers_of q) refl)) out.way;
+        };
+      };
     }
+
+-- what becomes of each reference, also where none was given
+left_at : (p : TwoEnds) (u : Tables) (e : End) (h : Held) (c : Between) (reason : EndReason) (lines : Rows stack.Line) (held : Held) (journal : List Entry) (most n : ℕ) →
+    e.carrier ≡ last_of true c → ((q : ℕ) → kept_at q lines ≡ None) → ((m : ℕ) → 0 < m → m ≤ most → EndingLine Left p u e h c m) → IsWithin n most →
+    Ends Left (ended_pair Left reason e.carrier lines held journal p) u c most n
+left_at p u e h c reason lines held journal most n last none all (inl out) = record { keep = 0; is = λ some few. absurd (outside_not n most out some few) }
+left_at p u e h c reason lines held journal most n last none all (inr given) = left_line p u e h c reason lines held journal most n last none (all n given.0 given.1)
+
+right_at : (p : TwoEnds) (u : Tables) (e : End) (h : Held) (c : Between) (reason : EndReason) (lines : Rows stack.Line) (held : Held) (journal : List Entry) (most n : ℕ) →
+    e.carrier ≡ last_of false c → ((q : ℕ) → kept_at q lines ≡ None) → ((m : ℕ) → 0 < m → m ≤ most → EndingLine Right p u e h c m) → IsWithin n most →
+    Ends Right (ended_pair Right reason e.carrier lines held journal p) u c most n
+right_at p u e h c reason lines held journal most n last none all (inl out) = record { keep = 0; is = λ some few. absurd (outside_not n most out some few) }
+right_at p u e h c reason lines held journal most n last none all (inr given) = right_line p u e h c reason lines held journal most n last none (all n given.0 given.1)
+
+-- they stand to the tables in which the side ends, where so much is kept of what was under way from it
+pub record EndsOn (s : Side) (p : TwoEnds) (c : Between) (ending : Ending) (u : Tables) : Type 0 where
+  pub keep : ℕ → ℕ
+  pub stands : Stands p c (after_end (side_in s) ending keep u)
 
 -- An end comes: its users are shown what they have lost, and the journal says so.
 pub ended_stands : (s : Side) (p : TwoEnds) (b : Between) (t u : Tables) (e : End) (h : Held) (c : Between) (reason : EndReason) (ending : Ending) (lines : Rows stack.Line) (held : Held)
     (first : List (ℕ × Shown)) (journal : List Entry) → Stands p b t → MayEnd s p t u e h c → ending_in reason ≡ Some ending → ((n : ℕ) → kept_at n lines ≡ None) → SaysAll s lines first u →
     journal ≡ p.journal ++ (shown_entries s first ++ ends s reason ∷ []) →
-    Stands (ended_pair s reason e.carrier lines held journal p) c (after_end (side_in s) ending (left_at_end s (ended_pair s reason e.carrier lines held journal p) c) u)
+    EndsOn s (ended_pair s reason e.carrier lines held journal p) c ending u
 ended_stands Left p b t u e h c reason ending lines held first journal s m is none says said =
     let q = ended_pair Left reason e.carrier lines held journal p in
-    let keep = left_at_end Left q c in
+    let at : (n : ℕ) → Ends Left q u c (length t.lines) n = λ n. left_at p u e h c reason lines held journal (length t.lines) n (m.between.lives true m.lasts) none m.lines (within_or n (length t.lines)) in
+    let keep : ℕ → ℕ = λ n. (at n).keep in
     let count = ended_count machine.Left keep 1 u.lines ∙ m.count in
     record {
-      between = subst (λ (l : Local). AreBetween (terms_of l p.right.end.carrier.local) (carriers_of q) c) (sym m.local)
-          (left_between (terms_at p) reason held.octets (carriers_of (with_holding Left e h p)) c m.between);
-      terms = m.terms ∙ s.terms ∙ ap (λ (l : Local). terms_in (terms_of l p.right.end.carrier.local)) (sym m.local);
-      broken = m.broken ∙ s.broken;
-      left_end = ap Some (sym is);
-      right_end = ap (option_map Some) m.right_end ∙ s.right_end;
-      known = m.known;
-      journal = journal_on u.journal (shown_in_order machine.Left 1 u.lines) (entries.ended machine.Left ending) p.journal (shown_entries Left first) (ends Left reason)
-          (ap (map Some) m.journal ∙ s.journal) says.says (sym (ap (option_map (entries.ended machine.Left)) is)) ∙ ap (map entry_in) (sym said);
-      given = count ∙ s.given ∙ sym m.given;
-      caller = m.role ∙ s.caller;
-      given_then = m.given_then;
-      class_then = m.class_then;
-      given_back = subst (λ (k : ℕ). p.right.end.carrier.given ≤ k) (sym count) s.given_back;
-      lines = λ n a x.
-          let l = m.lines n a (subst (λ (k : ℕ). n ≤ k) count x) in
-          record {
-            line = ended_line (keep n) l.line;
-            found = ended_at_line machine.Left keep n u.lines l.line l.found;
-            is = left_line p u e h c reason lines held journal n (m.between.lives true m.lasts) none l;
-          };
-      over_left = λ x. refl;
-      over_right = s.over_right;
-      lost_right = s.lost_right;
-      order_left = λ x. cc;
-      order_right = s.order_right;
-      quiet_left = says.quiet;
-      quiet_right = s.quiet_right;
+      keep = keep;
+      stands = record {
+        between = subst (λ (l : Local). AreBetween (terms_of l p.right.end.carrier.local) (carriers_of q) c) (sym m.local)
+            (left_between (terms_at p) reason held.octets (carriers_of (with_holding Left e h p)) c m.between);
+        terms = m.terms ∙ s.terms ∙ ap (λ (l : Local). terms_in (terms_of l p.right.end.carrier.local)) (sym m.local);
+        broken = m.broken ∙ s.broken;
+        left_end = ap Some (sym is);
+        right_end = ap (option_map Some) m.right_end ∙ s.right_end;
+        known = m.known;
+        journal = journal_on u.journal (shown_in_order machine.Left 1 u.lines) (entries.ended machine.Left ending) p.journal (shown_entries Left first) (ends Left reason)
+            (ap (map Some) m.journal ∙ s.journal) says.says (sym (ap (option_map (entries.ended machine.Left)) is)) ∙ ap (map entry_in) (sym said);
+        given = count ∙ s.given ∙ sym m.given;
+        caller = m.role ∙ s.caller;
+        given_then = m.given_then;
+        class_then = m.class_then;
+        given_back = subst (λ (k : ℕ). p.right.end.carrier.given ≤ k) (sym count) s.given_back;
+        lines = λ n a x.
+            let l = (at n).is a (subst (λ (k : ℕ). n ≤ k) count x) in
+            record { line = ended_line (keep n) l.line; found = ended_at_line machine.Left keep n u.lines l.line l.found; is = l.is };
+        over_left = λ x. refl;
+        over_right = s.over_right;
+        lost_right = s.lost_right;
+        order_left = λ x. cc;
+        order_right = s.order_right;
+        quiet_left = says.quiet;
+        quiet_right = s.quiet_right;
+      };
     }
 ended_stands Right p b t u e h c reason ending lines held first journal s m is none says said =
     let q = ended_pair Right reason e.carrier lines held journal p in
-    let keep = left_at_end Right q c in
+    let at : (n : ℕ) → Ends Right q u c (length t.lines) n = λ n. right_at p u e h c reason lines held journal (length t.lines) n (m.between.lives false m.lasts) none m.lines (within_or n (length t.lines)) in
+    let keep : ℕ → ℕ = λ n. (at n).keep in
     let count = ended_count machine.Right keep 1 u.lines ∙ m.count in
     record {
-      between = subst (λ (l : Local). AreBetween (terms_of p.left.end.carrier.local l) (carriers_of q) c) (sym m.local)
-          (right_between (terms_at p) reason held.octets (carriers_of (with_holding Right e h p)) c m.between);
-      terms = m.terms ∙ s.terms ∙ ap (λ (l : Local). terms_in (terms_of p.left.end.carrier.local l)) (sym m.local);
-      broken = m.broken ∙ s.broken;
-      left_end = ap (option_map Some) m.left_end ∙ s.left_end;
-      right_end = ap Some (sym is);
-      known = m.known;
-      journal = journal_on u.journal (shown_in_order machine.Right 1 u.lines) (entries.ended machine.Right ending) p.journal (shown_entries Right first) (ends Right reason)
-          (ap (map Some) m.journal ∙ s.journal) says.says (sym (ap (option_map (entries.ended machine.Right)) is)) ∙ ap (map entry_in) (sym said);
-      given = count ∙ s.given;
-      caller = s.caller;
-      given_then = m.given_then;
-      class_then = m.class_then;
-      given_back = subst (λ (k : ℕ). e.carrier.given ≤ k) (sym count) m.given_back;
-      lines = λ n a x.
-          let l = m.lines n a (subst (λ (k : ℕ). n ≤ k) count x) in
-          record {
-            line = turned (ended_line (keep n) l.line);
-            found = ended_at_line machine.Right keep n u.lines (turned l.line) l.found;
-            is = right_line p u e h c reason lines held journal n (m.between.lives false m.lasts) none l;
-          };
-      over_left = s.over_left;
-      over_right = λ x. refl;
-      lost_right = λ x n. none n;
-      order_left = s.order_left;
-      order_right = λ x. cc;
-      quiet_left = s.quiet_left;
-      quiet_right = says.quiet;
+      keep = keep;
+      stands = record {
+        between = subst (λ (l : Local). AreBetween (terms_of p.left.end.carrier.local l) (carriers_of q) c) (sym m.local)
+            (right_between (terms_at p) reason held.octets (carriers_of (with_holding Right e h p)) c m.between);
+        terms = m.terms ∙ s.terms ∙ ap (λ (l : Local). terms_in (terms_of p.left.end.carrier.local l)) (sym m.local);
+        broken = m.broken ∙ s.broken;
+        left_end = ap (option_map Some) m.left_end ∙ s.left_end;
+        right_end = ap Some (sym is);
+        known = m.known;
+        journal = journal_on u.journal (shown_in_order machine.Right 1 u.lines) (entries.ended machine.Right ending) p.journal (shown_entries Right first) (ends Right reason)
+            (ap (map Some) m.journal ∙ s.journal) says.says (sym (ap (option_map (entries.ended machine.Right)) is)) ∙ ap (map entry_in) (sym said);
+        given = count ∙ s.given;
+        caller = s.caller;
+        given_then = m.given_then;
+        class_then = m.class_then;
+        given_back = subst (λ (k : ℕ). e.carrier.given ≤ k) (sym count) m.given_back;
+        lines = λ n a x.
+            let l = (at n).is a (subst (λ (k : ℕ). n ≤ k) count x) in
+            record { line = turned (ended_line (keep n) l.line); found = ended_at_line machine.Right keep n u.lines (turned l.line) l.found; is = l.is };
+        over_left = s.over_left;
+        over_right = λ x. refl;
+        lost_right = λ x n. none n;
+        order_left = s.order_left;
+        order_right = λ x. cc;
+        quiet_left = s.quiet_left;
+        quiet_right = says.quiet;
+      };
     }
 
 -- ---- an end at which nothing arrived
@@ -334,14 +372,10 @@ none_left n lines = none_kept n lines (quieted (all_lost lines)) (quiet_twice (a
 abbrev pub lost_end : EndReason → State → Rows stack.Line → End
 lost_end reason a lines = record { carrier = carriers.ends reason a; lines = all_lost lines }
 
--- how much of each channel is left then
-abbrev pub keep_then : Side → EndReason → State → Rows stack.Line → Held → TwoEnds → Between → ℕ → ℕ
-keep_then s reason a lines held p b = left_at_end s (shown_pair s (lost_end reason a lines) held p) b
-
 -- A carrier that may have acted ends, and the sessions are lost that are there; the tables say so.
 pub lost_stands : (s : Side) (p : TwoEnds) (b : Between) (t u : Tables) (e : End) (h : Held) (c : Between) (reason : EndReason) (ending : Ending) (lines : Rows stack.Line) (held : Held) → Stands p b t →
     MayEnd s p t u e h c → ending_in reason ≡ Some ending → SaysAll s (quieted (all_lost lines)) (waiting_in (all_lost lines)) u →
-    Stands (shown_pair s (lost_end reason e.carrier lines) held p) c (after_end (side_in s) ending (keep_then s reason e.carrier lines held p c) u)
+    EndsOn s (shown_pair s (lost_end reason e.carrier lines) held p) c ending u
 lost_stands Left p b t u e h c reason ending lines held s m is says =
     ended_stands Left p b t u e h c reason ending (quieted (all_lost lines)) held (waiting_in (all_lost lines))
     (p.journal ++ (shown_entries Left (waiting_in (all_lost lines)) ++ ends Left reason ∷ [])) s m is (λ n. none_left n lines) says refl
@@ -351,6 +385,6 @@ lost_stands Right p b t u e h c reason ending lines held s m is says =
 
 pub ends_stand : (s : Side) (p : TwoEnds) (b : Between) (t : Tables) (reason : EndReason) (ending : Ending) (held : Held) → Stands p b t → (end_at s p).end.carrier.ended ≡ None →
     ending_in reason ≡ Some ending →
-    Stands (shown_pair s (hearing.ends reason (end_at s p).end) held p) b (after_end (side_in s) ending (keep_then s reason (end_at s p).end.carrier (end_at s p).end.lines held p b) t)
+    EndsOn s (shown_pair s (hearing.ends reason (end_at s p).end) held p) b ending t
 ends_stand s p b t reason ending held old none is =
     lost_stands s p b t t (end_at s p).end (end_at s p).held b reason ending (end_at s p).end.lines held old (may_end s p b t old none) is (all_shown_then s p b t old none)

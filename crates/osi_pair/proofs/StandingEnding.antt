@@ -2,7 +2,7 @@
 use Rattle.std.proofs.Common.{◌≡◌, refl, sym, ◌∙◌, ap, subst, ℕ, zero, suc, ◌+◌, ◌≤◌, Bool, true, false, if◌then◌else◌, ◌||◌, not, List, [], ◌∷◌, ◌++◌, length, map, take, nat_lt, Option, Some, None, is_some, arith}
 use Rattle.std.specs.List.{slice_get}
 use Rattle.std.specs.Prelude.{IfSome}
-use Rattle.std.proofs.lemmas.List.{append-nil, length-map, length-append}
+use Rattle.std.proofs.lemmas.List.{append-nil}
 use Rattle.osi_tpdu.specs.Value.{Value}
 use Rattle.osi_carrier.specs.Addresses.{units_of}
 use Rattle.osi_carrier.specs.Between.{Between, Both, is_cut, to_come, under_way, side, last_of, units_from}
@@ -10,7 +10,6 @@ use Rattle.osi_carrier.specs.Course.{Place, never, was_given, place_at, connecti
 use Rattle.osi_carrier.specs.Messages.{kind_of, messages_after, begun_at}
 use Rattle.osi_carrier.specs.Messages as between
 use Rattle.osi_carrier.specs.Progress.{Progress}
-use Rattle.osi_carrier.specs.Progress as progress
 use Rattle.osi_carrier.specs.Rows.{Rows, value_at}
 use Rattle.osi_carrier.specs.State.{Connection, asked, linked, closing, State}
 use Rattle.osi_carrier.proofs.MessageLaws.{messages_front}
@@ -26,9 +25,10 @@ use Rattle.osi_session.specs.Moves.{Standing, broken as broken_off, react}
 use Rattle.osi_stack.specs.Messages.{kept_at}
 use Rattle.osi_stack.specs.State.{Holding}
 use Rattle.osi_stack.proofs.Lifting.{both}
-use Rattle.osi_pair.specs.Standing.{AreAlike, is_parting, transport_in, message_in, IsSeated}
-use Rattle.osi_pair.specs.declared.sides.Side.{Side}
-use Rattle.osi_pair.proofs.StandingBreak.{left_over}
+use Rattle.osi_pair.specs.Standing.{AreAlike, is_parting, transport_in, IsSeated, AreUnderWay, word_in}
+use Rattle.osi_pair.proofs.StandingWays.{as_now, map_take, alike_take}
+use Rattle.osi_pair.proofs.StandingWays as ways
+use Rattle.osi_carrier.specs.declared.ends.EndReason.{EndReason}
 use Rattle.osi_pair.proofs.StandingLost.{is_over}
 
 -- ---- a side that has ended
@@ -107,6 +107,7 @@ not_of false x e = ap not (sym e)
 
 seat_ends_by : (n : ℕ) (c : State) (new : Holding) (seat : Seat) (b : Bool) (keep : ℕ) → is_given seat.transport ≡ b → HasEnded c new → IsPlaced n c seat → IsSeated n new (ended_seat b keep seat)
 seat_ends_by n c new seat true keep e ended s = record {
+  joined = None;
   transport = ap transport_in (sym (place_ended n c new false ended (not_of (nat_lt c.given n) true (sym e ∙ s.given))));
   live = λ some. absurd (not_live n new.end.carrier.live ended.live some);
   kept = λ x is. absurd (not_kept n new x (ended.none n) is);
@@ -117,6 +118,7 @@ seat_ends_by n c new seat true keep e ended s = record {
 seat_ends_by n c new seat false keep e ended s =
     let t : seat.transport ≡ not_yet = ungiven seat.transport e in
     record {
+      joined = None;
       transport = t ∙ ap transport_in (sym (place_ended n c new true ended (not_of (nat_lt c.given n) false (sym e ∙ s.given))));
       live = λ some. absurd (not_live n new.end.carrier.live ended.live some);
       kept = λ x is. absurd (not_kept n new x (ended.none n) is);
@@ -195,25 +197,29 @@ take_front zero xs ys h = refl
 take_front (suc k) [] ys h = absurd (omega arith)
 take_front (suc k) (x ∷ xs) ys h = ap (λ (l : List Message). x ∷ l) (take_front k xs ys (omega arith))
 
-alike_length : (g : Progress) (xs ys : List between.Message) → AreAlike g xs ys → length xs ≡ length ys
-alike_length progress.not_yet xs ys h = ap length h
-alike_length progress.awaiting xs ys h = ap length h
-alike_length progress.in_use xs ys h = ap length h
-alike_length progress.shutting xs ys h = sym (length-map xs kind_of) ∙ ap length h ∙ length-map ys kind_of
-alike_length progress.gone xs ys h = sym (length-map xs kind_of) ∙ ap length h ∙ length-map ys kind_of
+-- so much of it is left
+pub record EndsWith (o : Option EndReason) (g : Progress) (H : Option (List ℕ) → Type 0) (given : Bool) (seat : Seat) (new : List between.Message) : Type 0 where
+  pub keep : ℕ
+  pub way : AreUnderWay o g true H (ended_seat given keep seat).channel new
 
-pub way_ended : (g : Progress) (given : Bool) (seat : Seat) (kept more : List Message) (old new : List between.Message) (keep : ℕ) → keep ≡ length new → seat.channel ≡ kept ++ more → (given ≡ false → more ≡ []) →
-    Front old new → (given ≡ false → old ≡ new) → AreAlike g (map message_in kept) old → AreAlike g (map message_in (ended_seat given keep seat).channel) new
-way_ended g true seat kept more old new keep e parts none f same h =
-    let long : length kept ≡ length old = sym (length-map kept message_in) ∙ alike_length g (map message_in kept) old h in
-    let all : length old ≡ length (new ++ f.gone) = ap length f.parts in
-    let two = length-append new f.gone in
-    let cut : take keep seat.channel ≡ take (length new) kept =
-    ap (λ (k : ℕ). take k seat.channel) e ∙ ap (take (length new)) parts ∙ take_front (length new) kept more (omega arith) in
-    subst (λ (l : List Message). AreAlike g (map message_in l) new) (sym cut) (left_over g g kept old new f.gone f.parts refl h)
-way_ended g false seat kept more old new keep e parts none f same h =
+-- what its end takes away was put behind what was under way
+pub way_ended : (o : Option EndReason) (g : Progress) (c : Bool) (H : Option (List ℕ) → Type 0) (given : Bool) (seat : Seat) (kept more : List Message) (old new : List between.Message) → seat.channel ≡ kept ++ more → (given ≡ false → more ≡ []) →
+    Front old new → (given ≡ false → old ≡ new) → AreUnderWay o g c H kept old → EndsWith o g H given seat new
+way_ended o g c H true seat kept more old new parts none f same w =
+    let k = length new in
+    let x = ways.front_at o o g g c true H kept k old new w refl
+    (λ e. subst (λ (l : List between.Message). AreAlike g l new) (sym (map_take word_in k w.words))
+    (alike_take g (map word_in w.words) new f.gone (subst (AreAlike g (map word_in w.words)) f.parts (w.alike e)))) in
+    record {
+      keep = x.keep;
+      way = subst (λ (l : List Message). AreUnderWay o g true H l new) (sym (ap (take x.keep) parts ∙ take_front x.keep kept more x.fits)) x.way;
+    }
+way_ended o g c H false seat kept more old new parts none f same w =
     let all : seat.channel ≡ kept = parts ∙ ap (λ (l : List Message). kept ++ l) (none refl) ∙ append-nil kept in
-    subst (λ (l : List Message). AreAlike g (map message_in l) new) (sym all) (subst (λ (l : List between.Message). AreAlike g (map message_in kept) l) (same refl) h)
+    record {
+      keep = 0;
+      way = subst (λ (l : List Message). AreUnderWay o g true H l new) (sym all) (as_now o o g g c true H H kept old new w (λ e. cc) (λ x held. held) (λ e. subst (λ (l : List between.Message). AreAlike g (map word_in w.words) l) (same refl) (w.alike e)));
+    }
 
 pub cut_by_end : (end : Bool) (both : Both) → is_some (side end both).state.ended ≡ true → is_cut end both ≡ true
 cut_by_end end both e = ap (λ b. is_some both.reach || b) e ∙ or_true (is_some both.reach)

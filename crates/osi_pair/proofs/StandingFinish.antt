@@ -3,7 +3,7 @@ use Rattle.std.proofs.Common.{◌≡◌, ◌≢◌, ℕ, ◌<◌, ◌≤◌, Boo
 use Rattle.std.proofs.lemmas.Bool.Decides.{nat_tests}
 use Rattle.osi_tpkt.specs.Held.{Held}
 use Rattle.osi_class.specs.declared.terms.Class.{Class}
-use Rattle.osi_carrier.specs.Between.{Between, last_of, under_way}
+use Rattle.osi_carrier.specs.Between.{Between, last_of}
 use Rattle.osi_carrier.specs.Course.{Place, never, was_given, place_at, progress_of}
 use Rattle.osi_carrier.specs.Messages.{bye, over}
 use Rattle.osi_carrier.specs.Messages as carrier
@@ -21,7 +21,7 @@ use Rattle.osi_stack.specs.Messages.{kept_at}
 use Rattle.osi_stack.specs.State.{End, Holding}
 use Rattle.osi_pair.specs.Ends.{TwoEnds, end_at}
 use Rattle.osi_pair.specs.Sides.{other}
-use Rattle.osi_pair.specs.Standing.{side_in, is_caller, class_in, carriers_of, message_in, AreAlike, IsSeated, IsInOrder, Stands}
+use Rattle.osi_pair.specs.Standing.{side_in, is_caller, class_in, carriers_of, Goes, IsSeated, IsInOrder, Stands}
 use Rattle.osi_pair.specs.Telling.{waiting_in}
 use Rattle.osi_pair.specs.declared.sides.Side.{Side}
 use Rattle.osi_pair.specs.declared.sides.Side.TheVariants.{Left, Right}
@@ -178,9 +178,8 @@ others_then s p b t e h n old alive d lasts order o =
 
 -- what is under way then, each way
 pub record WaysThen (s : Side) (p : TwoEnds) (b : Between) (e : End) (h : Held) (n : ℕ) (d : DidAt s p b e h n) (sends comes : List Message) : Type 0 where
-  pub out : (end_at (other s) p).end.carrier.ended ≡ None →
-      AreAlike (progress_of (place_at n (last_of (is_caller (other s)) d.now))) (map message_in sends) (under_way (is_caller s) n (carriers_of (with_holding s e h p)) d.now)
-  pub back : AreAlike (after d.row) (map message_in comes) (under_way (is_caller (other s)) n (carriers_of (with_holding s e h p)) d.now)
+  pub out : Goes s (other s) n (with_holding s e h p) d.now (progress_of (place_at n (last_of (is_caller (other s)) d.now))) sends
+  pub back : Goes (other s) s n (with_holding s e h p) d.now (after d.row) comes
 
 seen_then : (s : Side) (p : TwoEnds) (b : Between) (t : Tables) (e : End) (h : Held) (n : ℕ) (l : Line) (x : Standing) (channel back : List Message) → (d : DidAt s p b e h n) → e.carrier.ended ≡ None → IsInOrder e →
     HasSession n e.lines (after d.row) x → IsSeen s n p b l → WaysThen s p b e h n d channel back → IsSeen s n (with_holding s e h p) d.now (line_then d.row x channel back l)
@@ -188,9 +187,9 @@ seen_then s p b t e h n l x channel back d lasts order hs i w = record {
   here = subst (λ (y : Holding). IsSeated n y (line_then d.row x channel back l).own) (sym (holding_here s e h p))
       (seat_of_session n e h (after d.row) x channel order.sound.orderly (ap (λ (c : State). progress_of (place_at n c)) (sym (last_is s p b e h n d lasts)) ∙ d.stands) hs);
   there = subst (λ (y : Holding). IsSeated n y (line_then d.row x channel back l).peer) (sym (holding_there s e h p))
-      (record { transport = i.there.transport; live = i.there.live; kept = i.there.kept; over_now = i.there.over_now; awaiting = i.there.awaiting; octets = i.there.octets });
-  out = λ alive. w.out (ap (λ (y : Holding). y.end.carrier.ended) (sym (holding_there s e h p)) ∙ alive);
-  back = λ alive. subst (λ (g : Progress). AreAlike g (map message_in back) (under_way (is_caller (other s)) n (carriers_of (with_holding s e h p)) d.now)) (sym d.stands) w.back;
+      (record { joined = i.there.joined; transport = i.there.transport; live = i.there.live; kept = i.there.kept; over_now = i.there.over_now; awaiting = i.there.awaiting; octets = i.there.octets });
+  out = w.out;
+  back = subst (λ (g : Progress). Goes (other s) s n (with_holding s e h p) d.now g back) (sym d.stands) w.back;
 }
 
 -- of an end that took a unit all that is said of one that acted

@@ -1,8 +1,8 @@
 -- Octets of a side are handed over to the other: no step of the machine.
-use Rattle.std.proofs.Common.{◌≡◌, ℕ, ◌≤◌, Bool, true, false, not, List, ◌++◌, length, take, Option, Some, None, is_some, option_map, IfSome, refl, sym, ap, subst, ◌∙◌, arith}
+use Rattle.std.proofs.Common.{◌≡◌, ℕ, ◌≤◌, Bool, true, false, not, List, ◌++◌, length, take, Option, Some, None, is_some, option_map, IfSome, refl, sym, ap, subst, ◌∙◌, arith, ◌||◌}
 use Rattle.std.proofs.lemmas.List.{length-take}
 use Rattle.osi_tpkt.specs.Held.{Held}
-use Rattle.osi_carrier.specs.Between.{Between, Both, AreBetween, IsOnTheWay, Same, side, with_side, last_of, units_from, lost_from, arriving, reach_of, within_reach, reach_less, under_way, handed_over}
+use Rattle.osi_carrier.specs.Between.{Between, Both, AreBetween, IsOnTheWay, Same, side, with_side, last_of, units_from, lost_from, arriving, reach_of, within_reach, reach_less, under_way, handed_over, is_cut}
 use Rattle.osi_carrier.specs.Course.{progress_of}
 use Rattle.osi_carrier.specs.Terms.{Terms}
 use Rattle.osi_machine.specs.Machine.{Step}
@@ -12,12 +12,13 @@ use Rattle.osi_stack.specs.State.{End, Holding}
 use Rattle.osi_pair.specs.Ends.{TwoEnds, end_at, with_end, reachable}
 use Rattle.osi_pair.specs.Reaching.{within, reach_after}
 use Rattle.osi_pair.specs.Sides.{other}
-use Rattle.osi_pair.specs.Standing.{is_caller, carriers_of, IsSeated, IsInOrder, terms_in, Stands, StandsAt}
+use Rattle.osi_pair.specs.Standing.{is_caller, carriers_of, IsSeated, IsInOrder, terms_in, Stands, StandsAt, HasJoined}
 use Rattle.osi_pair.specs.declared.reach.Reach.{Reach}
 use Rattle.osi_pair.specs.declared.sides.Side.{Side}
 use Rattle.osi_pair.specs.declared.sides.Side.TheVariants.{Left, Right}
 use Rattle.osi_pair.proofs.StandingFinish.{terms_at}
-use Rattle.osi_pair.proofs.StandingTurned.{way_same}
+use Rattle.osi_pair.proofs.StandingWays.{way_same}
+use Rattle.osi_carrier.specs.declared.ends.EndReason.{EndReason}
 
 -- ---- what an end holds
 
@@ -89,10 +90,10 @@ abbrev reach_in : Option Reach → Option (ℕ × ℕ)
 reach_in o = option_map (λ (r : Reach). (r.left, r.right)) o
 
 seat_sent : (n k : ℕ) (h : Holding) (seat : Seat) → IsSeated n h seat → IsSeated n (record h { end = carried k h.end }) seat
-seat_sent n k h seat i = record { transport = i.transport; live = i.live; kept = i.kept; over_now = i.over_now; awaiting = i.awaiting; octets = i.octets }
+seat_sent n k h seat i = record { joined = i.joined; transport = i.transport; live = i.live; kept = i.kept; over_now = i.over_now; awaiting = i.awaiting; octets = i.octets }
 
 seat_held : (n : ℕ) (h : Holding) (held : Held) (seat : Seat) → IsSeated n h seat → IsSeated n (record h { held = held }) seat
-seat_held n h held seat i = record { transport = i.transport; live = i.live; kept = i.kept; over_now = i.over_now; awaiting = i.awaiting; octets = i.octets }
+seat_held n h held seat i = record { joined = i.joined; transport = i.transport; live = i.live; kept = i.kept; over_now = i.over_now; awaiting = i.awaiting; octets = i.octets }
 
 order_sent : (k : ℕ) (e : End) → IsInOrder e → IsInOrder (carried k e)
 order_sent k e o = record {
@@ -133,6 +134,19 @@ less_right k (Some r) = refl
 still_reach : (f : Side) (k : ℕ) (o : Option Reach) → is_some (reach_after f k o) ≡ is_some o
 still_reach f k None = refl
 still_reach f k (Some r) = refl
+
+-- nothing is cut by it
+cut_so : (o o2 : Option Reach) (ended : Option EndReason) → is_some o2 ≡ is_some o → (is_some (reach_in o2) || is_some ended) ≡ false → (is_some (reach_in o) || is_some ended) ≡ false
+cut_so None None ended same e = e
+cut_so None (Some r) ended same e = cc
+cut_so (Some r) None ended same e = cc
+cut_so (Some r) (Some q) ended same e = cc
+
+handed_cut : (f s : Side) (k : ℕ) (h : Held) (p : TwoEnds) → is_cut (is_caller s) (carriers_of (handed f k h p)) ≡ false → is_cut (is_caller s) (carriers_of p) ≡ false
+handed_cut Left Left k h p e = cut_so p.reach (reach_after Left k p.reach) p.left.end.carrier.ended (still_reach Left k p.reach) e
+handed_cut Left Right k h p e = cut_so p.reach (reach_after Left k p.reach) p.right.end.carrier.ended (still_reach Left k p.reach) e
+handed_cut Right Left k h p e = cut_so p.reach (reach_after Right k p.reach) p.left.end.carrier.ended (still_reach Right k p.reach) e
+handed_cut Right Right k h p e = cut_so p.reach (reach_after Right k p.reach) p.right.end.carrier.ended (still_reach Right k p.reach) e
 
 -- ---- two ends
 
@@ -175,8 +189,8 @@ handed_left law p b t k h old le more =
               is = record {
                 left = seat_sent n k p.left was.line.own was.is.left;
                 right = seat_held n p.right h was.line.peer was.is.right;
-                rightward = λ e. way_same _ _ _ _ _ (ap progress_of (same.stays false n)) (going n) (was.is.rightward e);
-                leftward = λ e. way_same _ _ _ _ _ (ap progress_of (same.stays true n)) (coming n) (was.is.leftward e);
+                rightward = way_same _ _ _ _ _ _ (HasJoined n p.right) (HasJoined n new.right) _ _ _ (λ e. e) (ap progress_of (same.stays false n)) (handed_cut Left Left k h p) (λ x held. held) (going n) was.is.rightward;
+                leftward = way_same _ _ _ _ _ _ (HasJoined n p.left) (HasJoined n new.left) _ _ _ (λ e. e) (ap progress_of (same.stays true n)) (handed_cut Left Right k h p) (λ x held. held) (coming n) was.is.leftward;
               };
             };
         over_left = old.over_left;
@@ -224,8 +238,8 @@ handed_right law p b t k h old le more =
               is = record {
                 left = seat_held n p.left h was.line.own was.is.left;
                 right = seat_sent n k p.right was.line.peer was.is.right;
-                rightward = λ e. way_same _ _ _ _ _ (ap progress_of (same.stays false n)) (going n) (was.is.rightward e);
-                leftward = λ e. way_same _ _ _ _ _ (ap progress_of (same.stays true n)) (coming n) (was.is.leftward e);
+                rightward = way_same _ _ _ _ _ _ (HasJoined n p.right) (HasJoined n new.right) _ _ _ (λ e. e) (ap progress_of (same.stays false n)) (handed_cut Right Left k h p) (λ x held. held) (going n) was.is.rightward;
+                leftward = way_same _ _ _ _ _ _ (HasJoined n p.left) (HasJoined n new.left) _ _ _ (λ e. e) (ap progress_of (same.stays true n)) (handed_cut Right Right k h p) (λ x held. held) (coming n) was.is.leftward;
               };
             };
         over_left = old.over_left;

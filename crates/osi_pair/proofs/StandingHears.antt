@@ -1,5 +1,5 @@
 -- A message arrives of which a session hears: what the carrier tells, and what happens to the session, row by row.
-use Rattle.std.proofs.Common.{◌≡◌, ℕ, true, false, List, [], ◌∷◌, Option, Some, None, IfSome, refl, sym, ap, subst, ◌∙◌, ◌⊎◌, inl, inr}
+use Rattle.std.proofs.Common.{◌≡◌, ℕ, true, false, List, [], ◌∷◌, Option, Some, None, IfSome, refl, sym, ap, subst, ◌∙◌, ◌⊎◌, inl, inr, ◌++◌}
 use Rattle.osi_spdu.specs.Known.{Units}
 use Rattle.osi_carrier.specs.Happenings.{Happening, opened, refused, tsdu, closed}
 use Rattle.osi_carrier.specs.Messages as carrier
@@ -10,9 +10,9 @@ use Rattle.osi_machine.specs.Tables.{Seat, awaits}
 use Rattle.osi_machine.specs.Worlds.{Message, unit, ask, agree, deny, bye, over}
 use Rattle.osi_machine.specs.Worlds as worlds
 use Rattle.osi_message.specs.InOctets.{IsInOctets}
-use Rattle.osi_message.specs.Meanings.{Meaning}
+use Rattle.osi_message.specs.Meanings.{Meaning, DT}
 use Rattle.osi_message.specs.Reading.{said_by_units}
-use Rattle.osi_message.specs.Sendable.{words_of, IsSendable}
+use Rattle.osi_message.specs.Sendable.{words_of, IsSendable, said_of}
 use Rattle.osi_message.specs.Written.{written}
 use Rattle.osi_session.specs.Listening.{came}
 use Rattle.osi_session.specs.Listening as words
@@ -21,21 +21,29 @@ use Rattle.osi_session.specs.Moves as session
 use Rattle.osi_session.specs.Phases.{is_ended}
 use Rattle.osi_session.specs.Runs.{HasNumbersInWords}
 use Rattle.osi_session.specs.Sessions.{CanBeSent}
-use Rattle.osi_session.specs.Whole.{in_words}
 use Rattle.osi_session.proofs.PhaseLaws.{excluded}
 use Rattle.osi_stack.specs.Hearing.{hears, opens}
 use Rattle.osi_stack.specs.Links.{needs_link}
-use Rattle.osi_stack.specs.Moving.{to_session}
+use Rattle.osi_stack.specs.Moving.{limit_for, to_session}
 use Rattle.osi_stack.specs.State.{Line, End}
 use Rattle.osi_stack.proofs.Folds.{came_numbers}
 use Rattle.osi_stack.proofs.Moves.{Readings, came_is}
-use Rattle.osi_pair.specs.Standing.{message_in, is_parting, AreAlike}
+use Rattle.osi_pair.specs.Standing.{message_in, is_parting, joining}
 use Rattle.osi_pair.proofs.StandingMoves.{heard_by, is_move}
 use Rattle.osi_pair.proofs.StandingPacket.{is_heard}
 use Rattle.osi_pair.proofs.StandingReplies.{CanGo, ReplyLaws, GoesBy, goes_taken, goes_opened, goes_refused, silent_refused, ended_refused, goes_broken, silent_broken, ended_broken, offer_goes}
 use Rattle.osi_pair.proofs.StandingRows.{Row, quiet, still, begins, refuses, agrees, denies, tells, leaves, ignores, ends, before, after, arrived_in, told_for}
 use Rattle.osi_pair.proofs.StandingSeats.{transport_by, lives_in}
 use Rattle.osi_pair.proofs.StandingWaiting.{IsCalling}
+use Rattle.osi_pair.proofs.StandingListens.{as_made, moves_so, moves_apart}
+use Rattle.osi_session.specs.Joining.{kept_in}
+use Rattle.osi_session.specs.Kept.{IsKeptIn}
+use Rattle.osi_session.specs.Listening.{Listener}
+use Rattle.osi_session.proofs.WordLaws.{kept_none}
+use Rattle.osi_pair.proofs.StandingWays.{is_tsdu}
+use Rattle.osi_message.specs.Words.{part_octets}
+use Rattle.osi_message.specs.declared.places.Place.TheVariants.{Last}
+use Rattle.osi_session.specs.Parts.{part_comes}
 
 -- ---- which row it is
 
@@ -100,13 +108,21 @@ one_in row heard = one_by row (as_heard row heard)
 
 -- ---- what is so of a row
 
+-- what a session has joined its phase keeps
+abbrev pub IsTaker : Standing → Option (List ℕ) → Type 0
+IsTaker x joined = IsKeptIn x.state.phase joined
+
 -- The carrier tells one thing, which happens to the session; what the session sends goes. Where the connection is
 -- gone then, the session has ended, and sends and closes nothing.
-pub record HearsBy (n : ℕ) (row : Row) (m : Message) (x : Standing) : Type 0 where
+pub record HearsBy (n : ℕ) (row : Row) (m : Message) (joined : Option (List ℕ)) (x : Standing) : Type 0 where
   pub event : Happening
   pub told : told_for n row ≡ event ∷ []
-  pub hears : (e : End) (line : Line) → value_at n e.lines ≡ Some line → hears event e ≡ to_session n (in_words (heard_by row m)) e
-  pub numbered : HasNumbersInWords (in_words (heard_by row m))
+  pub heard : words.Input
+  pub hears : (e : End) (line : Line) → value_at n e.lines ≡ Some line → hears event e ≡ to_session n heard e
+  pub moves : words.react (joining joined x) heard ≡ as_made (react x (heard_by row m))
+  -- what it sends is one TSDU
+  pub alone : (l : Listener) → limit_for l heard ≡ 0
+  pub numbered : HasNumbersInWords heard
   pub goes : GoesBy x (heard_by row m)
   pub lives : lives_in (before row) ≡ true
   pub ended : is_parting (transport_by (after row)) ≡ true → is_ended (react x (heard_by row m)).next.state.phase ≡ true
@@ -114,11 +130,15 @@ pub record HearsBy (n : ℕ) (row : Row) (m : Message) (x : Standing) : Type 0 w
   pub silent : after row ≡ gone → ((react x (heard_by row m)).reply ≡ None) × ((react x (heard_by row m)).closes ≡ false)
   pub needs : needs_link (react x (heard_by row m)).next.state.phase ≡ true → after row ≡ in_use
 
-hears_agrees : (n : ℕ) (m : Message) (x : Standing) → ((y : Meaning) → x.waiting ≡ Some y → CanGo y) → IfSome x.waiting IsInOctets → HearsBy n agrees m x
-hears_agrees n m x goes octets = record {
+hears_agrees : (n : ℕ) (m : Message) (joined : Option (List ℕ)) (x : Standing) → IsTaker x joined → joined ≡ None → ((y : Meaning) → x.waiting ≡ Some y → CanGo y) → IfSome x.waiting IsInOctets →
+    HearsBy n agrees m joined x
+hears_agrees n m joined x kept none goes octets = record {
   event = opened n;
   told = refl;
+  heard = words.opened;
   hears = λ e line here. ap (λ (o : Option Line). opens n o e) here;
+  moves = moves_apart joined x session.opened kept refl (ap (kept_in (react x session.opened).next.state.phase) none ∙ kept_none (react x session.opened).next.state.phase);
+  alone = λ l. refl;
   numbered = tt;
   goes = goes_opened x goes octets;
   lives = refl;
@@ -131,11 +151,14 @@ hears_agrees n m x goes octets = record {
 needs_none : (x : Standing) → is_ended x.state.phase ≡ true → needs_link x.state.phase ≡ true → in_use ≡ gone
 needs_none x ended needs = let none : needs_link x.state.phase ≡ false = excluded is_ended needs_link refl x.state.phase ended in absurd (no_move (sym none ∙ needs))
 
-hears_denies : (n reason : ℕ) (m : Message) (x : Standing) → is_ended (react x (session.refused reason)).next.state.phase ≡ true → IfSome x.waiting IsInOctets → HearsBy n (denies reason) m x
-hears_denies n reason m x past octets = record {
+hears_denies : (n reason : ℕ) (m : Message) (joined : Option (List ℕ)) (x : Standing) → IsTaker x joined → joined ≡ None → is_ended (react x (session.refused reason)).next.state.phase ≡ true → IfSome x.waiting IsInOctets → HearsBy n (denies reason) m joined x
+hears_denies n reason m joined x kept none past octets = record {
   event = refused n reason;
   told = refl;
+  heard = words.refused reason;
   hears = λ e line here. refl;
+  moves = moves_apart joined x (session.refused reason) kept refl (ap (kept_in (react x (session.refused reason)).next.state.phase) none ∙ kept_none (react x (session.refused reason)).next.state.phase);
+  alone = λ l. refl;
   numbered = tt;
   goes = goes_refused x reason octets;
   lives = refl;
@@ -145,11 +168,19 @@ hears_denies n reason m x past octets = record {
   needs = λ e. sym (needs_none (react x (session.refused reason)).next past e);
 }
 
-hears_leaves : (n reason : ℕ) (m : Message) (x : Standing) → IfSome x.waiting IsInOctets → HearsBy n (leaves reason) m x
-hears_leaves n reason m x octets = record {
+-- a session that is lost keeps nothing of what it has joined
+lost_keeps : (joined : Option (List ℕ)) (x : Standing) → kept_in (react x session.broken).next.state.phase joined ≡ None
+unfolding react
+lost_keeps joined x = refl
+
+hears_leaves : (n reason : ℕ) (m : Message) (joined : Option (List ℕ)) (x : Standing) → IsTaker x joined → IfSome x.waiting IsInOctets → HearsBy n (leaves reason) m joined x
+hears_leaves n reason m joined x kept octets = record {
   event = closed n reason;
   told = refl;
+  heard = words.broken;
   hears = λ e line here. refl;
+  moves = moves_apart joined x session.broken kept refl (lost_keeps joined x);
+  alone = λ l. refl;
   numbered = tt;
   goes = goes_broken x octets;
   lives = refl;
@@ -162,14 +193,17 @@ hears_leaves n reason m x octets = record {
 came_said : Readings → (octets : List ℕ) (u : Meaning) → octets ≡ written u → IsSendable u → came octets ≡ words.taken (words_of u)
 came_said readings octets u e sendable = ap came e ∙ came_is readings u sendable
 
-hears_tells : ReplyLaws → Readings → ((units : Units) → HasNumbersInWords (words.taken (said_by_units units))) → (n : ℕ) (octets : List ℕ) (u : Meaning) (x : Standing) → octets ≡ written u → IsSendable u →
-    IfSome x.waiting IsInOctets → HearsBy n (tells octets) (unit u) x
-hears_tells laws readings units n octets u x is sendable waits =
+hears_tells : ReplyLaws → Readings → ((units : Units) → HasNumbersInWords (words.taken (said_by_units units))) → (n : ℕ) (octets : List ℕ) (u : Meaning) (joined : Option (List ℕ)) (x : Standing) → octets ≡ written u → IsSendable u →
+    joined ≡ None → IfSome x.waiting IsInOctets → HearsBy n (tells octets) (unit u) joined x
+hears_tells laws readings units n octets u joined x is sendable none waits =
     let same : came octets ≡ words.taken (words_of u) = came_said readings octets u is sendable in
     record {
       event = tsdu n octets;
       told = refl;
+      heard = words.taken (words_of u);
+      moves = ap (λ (j : Option (List ℕ)). words.react (joining j x) (words.taken (words_of u))) none ∙ moves_so x (taken (said_of u));
       hears = λ e line here. ap (λ (i : words.Input). to_session n i e) same;
+      alone = λ l. refl;
       numbered = subst HasNumbersInWords same (came_numbers units octets);
       goes = goes_taken laws x u waits;
       lives = refl;
@@ -202,29 +236,53 @@ waiting_goes laws seat c w h y e =
     let same : offer_sent c.offer ≡ y = cc in
     subst CanGo same go
 
-tells_by : HearLaws → (n : ℕ) (octets : List ℕ) (m : Message) (x : Standing) → message_in m ∷ [] ≡ carrier.message octets ∷ [] → IsWhole m → IfSome x.waiting IsInOctets → HearsBy n (tells octets) m x
-tells_by laws n octets (unit u) x e whole waits = hears_tells laws.replies laws.readings laws.units n octets u x (let same : octets ≡ written u = cc in same) whole waits
-tells_by laws n octets ask x e whole waits = absurd cc
-tells_by laws n octets agree x e whole waits = absurd cc
-tells_by laws n octets (deny reason) x e whole waits = absurd cc
-tells_by laws n octets (bye reason) x e whole waits = absurd cc
-tells_by laws n octets over x e whole waits = absurd cc
+pub tells_by : HearLaws → (n : ℕ) (octets : List ℕ) (m : Message) (joined : Option (List ℕ)) (x : Standing) → joined ≡ None → message_in m ∷ [] ≡ carrier.message octets ∷ [] → IsWhole m → IfSome x.waiting IsInOctets →
+    HearsBy n (tells octets) m joined x
+tells_by laws n octets (unit u) joined x none e whole waits = hears_tells laws.replies laws.readings laws.units n octets u joined x (let same : octets ≡ written u = cc in same) whole none waits
+tells_by laws n octets ask joined x none e whole waits = absurd cc
+tells_by laws n octets agree joined x none e whole waits = absurd cc
+tells_by laws n octets (deny reason) joined x none e whole waits = absurd cc
+tells_by laws n octets (bye reason) joined x none e whole waits = absurd cc
+tells_by laws n octets over joined x none e whole waits = absurd cc
 
-hears_as : HearLaws → (n : ℕ) (row : Row) (m : Message) (seat : Seat) → AsHeard row → seat.transport ≡ transport_by (before row) → AreAlike (before row) (message_in m ∷ []) (got_in row ∷ []) → IsWhole m →
-    (seat.transport ≡ worlds.waiting → IsCalling seat) → CanBeSent seat.session.waiting → IfSome seat.session.waiting IsInOctets → HearsBy n row m seat.session
-hears_as laws n row m seat (inl (inl is)) tr alike whole calls sendable octets =
-    subst (λ (r : Row). HearsBy n r m seat.session) (sym is)
-    (hears_agrees n m seat.session (waiting_goes laws.replies seat (calls (tr ∙ ap (λ (r : Row). transport_by (before r)) is)) sendable octets) octets)
-hears_as laws n row m seat (inl (inr (inl is))) tr alike whole calls sendable octets =
+-- the last part of one Data
+pub tells_last : HearLaws → (n : ℕ) (octets front last : List ℕ) (joined : Option (List ℕ)) (x : Standing) → octets ≡ part_octets Last last →
+    words.react (joining joined x) (part_comes Last last) ≡ as_made (react x (taken (said_of (DT (front ++ last))))) → IfSome x.waiting IsInOctets → HearsBy n (tells octets) (unit (DT (front ++ last))) joined x
+tells_last laws n octets front last joined x is moves waits =
+    let same : came octets ≡ part_comes Last last = ap came is ∙ ap words.came_as (laws.readings.parts Last last) in
+    record {
+      event = tsdu n octets;
+      told = refl;
+      heard = part_comes Last last;
+      moves = moves;
+      hears = λ e line here. ap (λ (i : words.Input). to_session n i e) same;
+      alone = λ l. refl;
+      numbered = subst HasNumbersInWords same (came_numbers laws.units octets);
+      goes = goes_taken laws.replies x (DT (front ++ last)) waits;
+      lives = refl;
+      ended = λ e. absurd (no_move e);
+      waits = λ e. (let no : worlds.linked ≡ worlds.not_yet = e in cc);
+      silent = λ e. (let no : in_use ≡ gone = e in cc);
+      needs = λ e. refl;
+    }
+
+hears_as : HearLaws → (n : ℕ) (row : Row) (m : Message) (joined : Option (List ℕ)) (seat : Seat) → IsTaker seat.session joined → (is_move row ≡ true → is_tsdu (got_in row) ≡ false → joined ≡ None) →
+    ((octets : List ℕ) → row ≡ tells octets → HearsBy n (tells octets) m joined seat.session) → AsHeard row → seat.transport ≡ transport_by (before row) →
+    (seat.transport ≡ worlds.waiting → IsCalling seat) → CanBeSent seat.session.waiting → IfSome seat.session.waiting IsInOctets → HearsBy n row m joined seat.session
+hears_as laws n row m joined seat kept none tsdus (inl (inl is)) tr calls sendable octets =
+    subst (λ (r : Row). HearsBy n r m joined seat.session) (sym is)
+    (hears_agrees n m joined seat.session kept (none (ap is_move is) (ap (λ (r : Row). is_tsdu (got_in r)) is))
+    (waiting_goes laws.replies seat (calls (tr ∙ ap (λ (r : Row). transport_by (before r)) is)) sendable octets) octets)
+hears_as laws n row m joined seat kept none tsdus (inl (inr (inl is))) tr calls sendable octets =
     let c = calls (tr ∙ ap (λ (r : Row). transport_by (before r)) is.1) in
-    subst (λ (r : Row). HearsBy n r m seat.session) (sym is.1) (hears_denies n is.0 m seat.session (ended_refused seat.session is.0 c.phase) octets)
-hears_as laws n row m seat (inl (inr (inr is))) tr alike whole calls sendable octets =
-    let same : message_in m ∷ [] ≡ carrier.message is.0 ∷ [] = subst (λ (r : Row). AreAlike (before r) (message_in m ∷ []) (got_in r ∷ [])) is.1 alike in
-    subst (λ (r : Row). HearsBy n r m seat.session) (sym is.1) (tells_by laws n is.0 m seat.session same whole octets)
-hears_as laws n row m seat (inr is) tr alike whole calls sendable octets =
-    subst (λ (r : Row). HearsBy n r m seat.session) (sym is.1) (hears_leaves n is.0 m seat.session octets)
+    subst (λ (r : Row). HearsBy n r m joined seat.session) (sym is.1)
+    (hears_denies n is.0 m joined seat.session kept (none (ap is_move is.1) (ap (λ (r : Row). is_tsdu (got_in r)) is.1)) (ended_refused seat.session is.0 c.phase) octets)
+hears_as laws n row m joined seat kept none tsdus (inl (inr (inr is))) tr calls sendable octets = subst (λ (r : Row). HearsBy n r m joined seat.session) (sym is.1) (tsdus is.0 is.1)
+hears_as laws n row m joined seat kept none tsdus (inr is) tr calls sendable octets =
+    subst (λ (r : Row). HearsBy n r m joined seat.session) (sym is.1) (hears_leaves n is.0 m joined seat.session kept octets)
 
 -- what happens to the session at a side
-pub hears_row : HearLaws → (n : ℕ) (row : Row) (m : Message) (seat : Seat) → is_heard row ≡ true → seat.transport ≡ transport_by (before row) → AreAlike (before row) (message_in m ∷ []) (got_in row ∷ []) → IsWhole m →
-    (seat.transport ≡ worlds.waiting → IsCalling seat) → CanBeSent seat.session.waiting → IfSome seat.session.waiting IsInOctets → HearsBy n row m seat.session
-hears_row laws n row m seat heard tr alike whole calls sendable octets = hears_as laws n row m seat (as_heard row heard) tr alike whole calls sendable octets
+pub hears_row : HearLaws → (n : ℕ) (row : Row) (m : Message) (joined : Option (List ℕ)) (seat : Seat) → IsTaker seat.session joined → (is_move row ≡ true → is_tsdu (got_in row) ≡ false → joined ≡ None) →
+    ((octets : List ℕ) → row ≡ tells octets → HearsBy n (tells octets) m joined seat.session) → is_heard row ≡ true → seat.transport ≡ transport_by (before row) →
+    (seat.transport ≡ worlds.waiting → IsCalling seat) → CanBeSent seat.session.waiting → IfSome seat.session.waiting IsInOctets → HearsBy n row m joined seat.session
+hears_row laws n row m joined seat kept none tsdus heard tr calls sendable octets = hears_as laws n row m joined seat kept none tsdus (as_heard row heard) tr calls sendable octets

@@ -16,7 +16,7 @@ use Rattle.osi_machine.specs.Worlds.{Message, unit, ask, agree, deny, bye, over,
 use Rattle.osi_machine.specs.Worlds as worlds
 use Rattle.osi_stack.specs.State.{End}
 use Rattle.osi_pair.specs.Ends.{TwoEnds, end_at}
-use Rattle.osi_pair.specs.Standing.{is_caller, class_in, terms_in, message_in, AreAlike, Stands}
+use Rattle.osi_pair.specs.Standing.{is_caller, class_in, terms_in, message_in, Stands}
 use Rattle.osi_pair.specs.declared.sides.Side.{Side}
 use Rattle.osi_pair.specs.declared.sides.Side.TheVariants.{Left, Right}
 use Rattle.osi_pair.proofs.StandingArriving.{is_linked, is_asked, IsFirstFor}
@@ -26,6 +26,7 @@ use Rattle.osi_pair.proofs.StandingRests.{is_awaited, learns_row}
 use Rattle.osi_pair.proofs.StandingRows.{Row, agrees, denies, before, after, arrived_in, is_row}
 use Rattle.osi_pair.proofs.StandingSeats.{transport_by}
 use Rattle.osi_pair.proofs.StandingTurned.{with_holding}
+use Rattle.osi_carrier.specs.Messages.{kind_of}
 
 -- ---- places
 
@@ -58,7 +59,7 @@ class_agreed Left p b e h n d lasts same caller =
     ∙ agreed_class (terms_at p) b.caller.class (subst (λ (r : Row). is_row (terms_at p) r) same d.is)
 class_agreed Right p b e h n d lasts same caller = absurd (let no : false ≡ true = caller in cc)
 
-learned_by : (terms : Terms) (m : Message) (known : Option worlds.Class) → is_row terms agrees → message_in m ∷ [] ≡ carrier.agree ∷ [] → learns (terms_in terms) worlds.waiting m known ≡ option_map class_in (class_of terms)
+learned_by : (terms : Terms) (m : Message) (known : Option worlds.Class) → is_row terms agrees → kind_of (message_in m) ≡ carrier.agree → learns (terms_in terms) worlds.waiting m known ≡ option_map class_in (class_of terms)
 learned_by by_two agree known is e = refl
 learned_by by_zero agree known is e = refl
 learned_by (refusing reason) m known is e = absurd is
@@ -69,7 +70,7 @@ learned_by terms (bye reason) known is e = absurd cc
 learned_by terms over known is e = absurd cc
 
 -- and the tables learn it
-learned : (t : Tables) (l : Line) (m : Message) (terms : Terms) → t.terms ≡ terms_in terms → l.own.transport ≡ worlds.waiting → is_row terms agrees → message_in m ∷ [] ≡ carrier.agree ∷ [] →
+learned : (t : Tables) (l : Line) (m : Message) (terms : Terms) → t.terms ≡ terms_in terms → l.own.transport ≡ worlds.waiting → is_row terms agrees → kind_of (message_in m) ≡ carrier.agree →
     learns t.terms l.own.transport m t.known ≡ option_map class_in (class_of terms)
 learned t l m terms e tr is alike =
     ap (λ (x : worlds.Terms). learns x l.own.transport m t.known) e ∙ ap (λ (x : Transport). learns (terms_in terms) x m t.known) tr ∙ learned_by terms m t.known is alike
@@ -86,12 +87,12 @@ denied_by (refusing why) reason tr m known is = refl
 -- what the tables have then is what the caller has
 pub moved_known : (s : Side) (p : TwoEnds) (b : Between) (t : Tables) (e : End) (h : Held) (n : ℕ) (l : Line) (m : Message) (u : Value) (row : Row) → Stands p b t → (end_at s p).end.carrier.ended ≡ None →
     (d : DidAt s p b e h n) → e.carrier.ended ≡ None → IsFirstFor (terms_at p) (is_caller s) b.caller (place_at n (last_of (is_caller s) b)) u → n ≤ b.caller.given → d.row ≡ row → AsMove row →
-    l.own.transport ≡ transport_by (before row) → AreAlike (before row) (message_in m ∷ []) (got_in row ∷ []) →
+    l.own.transport ≡ transport_by (before row) → kind_of (message_in m) ≡ kind_of (got_in row) →
     learns t.terms l.own.transport m t.known ≡ option_map class_in (with_holding s e h p).left.end.carrier.class
 moved_known s p b t e h n l m u row old alive d lasts first given same (inl is) tr alike =
     let one : d.row ≡ agrees = same ∙ is in
     let row_is : is_row (terms_at p) agrees = subst (λ (r : Row). is_row (terms_at p) r) one d.is in
-    let alike_is : message_in m ∷ [] ≡ carrier.agree ∷ [] = subst (λ (r : Row). AreAlike (before r) (message_in m ∷ []) (got_in r ∷ [])) is alike in
+    let alike_is : kind_of (message_in m) ≡ carrier.agree = subst (λ (r : Row). kind_of (message_in m) ≡ kind_of (got_in r)) is alike in
     let caller : is_caller s ≡ true = first.waits (asked_place (place_at n (last_of (is_caller s) b)) (d.stood ∙ ap before one)) in
     learned t l m (terms_at p) old.terms (tr ∙ ap (λ (r : Row). transport_by (before r)) is) row_is alike_is
     ∙ ap (option_map class_in) (sym (class_agreed s p b e h n d lasts one caller))
@@ -106,11 +107,11 @@ moved_known s p b t e h n l m u row old alive d lasts first given same (inr (inr
 -- where the connection is open then, it is the class on which the two agree
 pub moved_class : (s : Side) (p : TwoEnds) (b : Between) (t : Tables) (e : End) (h : Held) (n : ℕ) (l : Line) (m : Message) (u : Value) (row : Row) → Stands p b t →
     (d : DidAt s p b e h n) → IsFirstFor (terms_at p) (is_caller s) b.caller (place_at n (last_of (is_caller s) b)) u → d.row ≡ row → AsMove row →
-    l.own.transport ≡ transport_by (before row) → AreAlike (before row) (message_in m ∷ []) (got_in row ∷ []) → after row ≡ in_use →
+    l.own.transport ≡ transport_by (before row) → kind_of (message_in m) ≡ kind_of (got_in row) → after row ≡ in_use →
     learns t.terms l.own.transport m t.known ≡ option_map class_in (class_of (terms_at p))
 moved_class s p b t e h n l m u row old d first same (inl is) tr alike open_now =
     let row_is : is_row (terms_at p) agrees = subst (λ (r : Row). is_row (terms_at p) r) (same ∙ is) d.is in
-    learned t l m (terms_at p) old.terms (tr ∙ ap (λ (r : Row). transport_by (before r)) is) row_is (subst (λ (r : Row). AreAlike (before r) (message_in m ∷ []) (got_in r ∷ [])) is alike)
+    learned t l m (terms_at p) old.terms (tr ∙ ap (λ (r : Row). transport_by (before r)) is) row_is (subst (λ (r : Row). kind_of (message_in m) ≡ kind_of (got_in r)) is alike)
 moved_class s p b t e h n l m u row old d first same (inr (inl is)) tr alike open_now =
     let no : progress.gone ≡ in_use = sym (ap after is.1) ∙ open_now in absurd cc
 moved_class s p b t e h n l m u row old d first same (inr (inr is)) tr alike open_now =

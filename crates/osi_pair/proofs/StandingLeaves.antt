@@ -1,9 +1,9 @@
 -- A DR arrives at an open connection, which is answered by a DC: its session is lost, and the last of what was under
 -- way from it may be.
-use Rattle.std.proofs.Common.{◌≡◌, ℕ, Bool, true, false, List, [], ◌∷◌, ◌++◌, length, map, take, Option, None, is_some, option_map, refl, sym, ap, subst, ◌∙◌}
+use Rattle.std.proofs.Common.{◌≡◌, ℕ, Bool, true, false, List, [], ◌∷◌, map, take, Option, None, is_some, refl, sym, ap, subst, ◌∙◌}
 use Rattle.osi_tpkt.specs.Held.{Held}
 use Rattle.osi_carrier.specs.Addresses.{reference_of}
-use Rattle.osi_carrier.specs.Between.{Between, last_of, under_way, put_in}
+use Rattle.osi_carrier.specs.Between.{Between, last_of, under_way, put_in, is_cut}
 use Rattle.osi_carrier.specs.Course.{Place, place_at, progress_of}
 use Rattle.osi_carrier.specs.Messages as carrier
 use Rattle.osi_carrier.specs.State.{State as Carrier}
@@ -13,16 +13,17 @@ use Rattle.osi_machine.specs.Tables.{Seat, Line as TableLine, Turn, Tables, seen
 use Rattle.osi_machine.specs.Worlds.{Message, unit, ask, agree, deny, bye, over, Transport, put, replied}
 use Rattle.osi_machine.specs.Worlds as worlds
 use Rattle.osi_message.specs.Meanings.{Meaning}
-use Rattle.osi_message.specs.Written.{written}
+use Rattle.osi_message.specs.Parting.{tsdus_sent}
 use Rattle.osi_session.specs.Moves.{broken as broken_off, Standing, Move, react}
 use Rattle.osi_session.specs.Shown.{Shown}
 use Rattle.osi_stack.specs.Hearing.{after_packet, concludes}
 use Rattle.osi_stack.specs.Moving.{answers}
 use Rattle.osi_stack.specs.State.{End}
 use Rattle.osi_stack.specs.Transport.{answers_by}
+use Rattle.osi_stack.proofs.Handing.{hands_none}
 use Rattle.osi_pair.specs.Ends.{TwoEnds, end_at}
 use Rattle.osi_pair.specs.Sides.{other}
-use Rattle.osi_pair.specs.Standing.{side_in, is_caller, carriers_of, message_in, AreAlike, Stands}
+use Rattle.osi_pair.specs.Standing.{side_in, is_caller, carriers_of, message_in, Stands, Goes, HasJoined}
 use Rattle.osi_pair.specs.Telling.{quieted}
 use Rattle.osi_pair.specs.declared.sides.Side.{Side}
 use Rattle.osi_pair.specs.declared.sides.Side.TheVariants.{Left, Right}
@@ -33,18 +34,20 @@ use Rattle.osi_pair.proofs.StandingFinish.{terms_at, DidAt, TablesAfter, is_agre
 use Rattle.osi_pair.proofs.StandingHeard.{session_then, lasting}
 use Rattle.osi_pair.proofs.StandingHears.{got_in}
 use Rattle.osi_pair.proofs.StandingListens.{as_made}
-use Rattle.osi_pair.proofs.StandingMoved.{move_of, loud_lines, MovingLaws, Arriving, PacketAt, arriving, moving, EndOf, DidThen, moved_then, rest_then, does_then}
+use Rattle.osi_pair.proofs.StandingMoved.{move_of, loud_lines, MovingLaws, Arriving, PacketAt, moving, EndOf, DidThen, moved_then, rest_then, does_then, ArrivesAt}
 use Rattle.osi_pair.proofs.StandingMoves.{heard_by, moved_others}
 use Rattle.osi_pair.proofs.StandingPacket.{ActsAt, acts_at, is_heard, lasting_in, quiet_of}
 use Rattle.osi_pair.proofs.StandingQuiet.{put_waits}
 use Rattle.osi_pair.proofs.StandingReplies.{silent_broken}
-use Rattle.osi_pair.proofs.StandingRests.{step_opens, delivered, tables_delivered, is_awaited, learns_row, answer_for, unless_broken, put_unless, answers_same, seat_now}
+use Rattle.osi_pair.proofs.StandingRests.{step_opens, delivered, tables_delivered, is_awaited, learns_row, answer_for, unless_broken, put_unless, answers_same, seat_now, leave_by}
 use Rattle.osi_pair.proofs.StandingResting.{did_at, same_row, broken_is}
 use Rattle.osi_pair.proofs.StandingRows.{Row, leaves, before, after, put_for}
 use Rattle.osi_pair.proofs.StandingSeats.{transport_by, HasSession}
 use Rattle.osi_pair.proofs.StandingShown.{StandsShown, shown_pair}
-use Rattle.osi_pair.proofs.StandingTurned.{IsSeen, with_holding, turned_pair, Turned, turned_stands}
+use Rattle.osi_pair.proofs.StandingTurned.{IsSeen, with_holding, turned_pair, Turned, turned_stands, out_there, GoesTo}
 use Rattle.osi_pair.proofs.StandingWays.{out_cuts}
+use Rattle.osi_pair.proofs.StandingCut.{cut_broken, reach_same}
+use Rattle.osi_carrier.specs.Messages.{kind_of}
 
 -- ---- the turn of the tables
 
@@ -76,7 +79,7 @@ lost_silent broken keep reason x channel peer =
       closes = false;
     }) (put_nothing broken (take keep channel))
 
-turn_leaves : (broken : Bool) (terms : worlds.Terms) (keep reason : ℕ) (x : Standing) (channel : List Message) (peer : Seat) (m : Message) → message_in m ∷ [] ≡ carrier.bye reason ∷ [] →
+turn_leaves : (broken : Bool) (terms : worlds.Terms) (keep reason : ℕ) (x : Standing) (channel : List Message) (peer : Seat) (m : Message) → kind_of (message_in m) ≡ carrier.bye reason →
     message_taken broken terms keep worlds.linked (record { own = seat_now worlds.linked x channel; peer = peer }) m ≡ lost_turn broken keep (react x broken_off).reply x channel peer
 turn_leaves broken terms keep reason x channel peer (bye why) e = refl
 turn_leaves broken terms keep reason x channel peer (unit u) e = absurd cc
@@ -85,7 +88,7 @@ turn_leaves broken terms keep reason x channel peer agree e = absurd cc
 turn_leaves broken terms keep reason x channel peer (deny why) e = absurd cc
 turn_leaves broken terms keep reason x channel peer over e = absurd cc
 
-taken_leaves : (broken : Bool) (terms : worlds.Terms) (keep reason : ℕ) (l : TableLine) (m : Message) (xs : List Message) → l.own.transport ≡ worlds.linked → message_in m ∷ [] ≡ carrier.bye reason ∷ [] →
+taken_leaves : (broken : Bool) (terms : worlds.Terms) (keep reason : ℕ) (l : TableLine) (m : Message) (xs : List Message) → l.own.transport ≡ worlds.linked → kind_of (message_in m) ≡ carrier.bye reason →
     message_taken broken terms keep l.own.transport (without_first l xs) m ≡ left_turn broken keep (leaves reason) (react l.own.session broken_off) xs l
 taken_leaves broken terms keep reason l m xs tr e =
     ap (λ (t : Transport). message_taken broken terms keep t (record { own = seat_now t l.own.session l.own.channel; peer = record l.peer { channel = xs } }) m) tr
@@ -94,20 +97,29 @@ taken_leaves broken terms keep reason l m xs tr e =
 
 -- ---- what is under way from it
 
-out_leaves : (s : Side) (p : TwoEnds) (b : Between) (t : Tables) (e : End) (h : Held) (n reason : ℕ) (l : TableLine) → Stands p b t → (d : DidAt s p b e h n) → d.row ≡ leaves reason → IsSeen s n p b l →
-    (end_at (other s) p).end.carrier.ended ≡ None →
-    AreAlike (progress_of (place_at n (last_of (is_caller (other s)) d.now))) (map message_in (left_channel t.broken (length d.stays) l.own.channel)) (under_way (is_caller s) n (carriers_of (with_holding s e h p)) d.now)
-out_leaves s p b t e h n reason l old d same i alive =
+-- so much of it is left, and the answer is put behind
+pub record OutLeaves (s : Side) (p : TwoEnds) (b : Between) (t : Tables) (e : End) (h : Held) (n : ℕ) (l : TableLine) (d : DidAt s p b e h n) : Type 0 where
+  pub keep : ℕ
+  pub way : Goes s (other s) n (with_holding s e h p) d.now (progress_of (place_at n (last_of (is_caller (other s)) d.now))) (left_channel t.broken keep l.own.channel)
+
+pub out_leaves : (s : Side) (p : TwoEnds) (b : Between) (t : Tables) (e : End) (h : Held) (n reason : ℕ) (l : TableLine) → Stands p b t → (d : DidAt s p b e h n) → d.row ≡ leaves reason → IsSeen s n p b l →
+    OutLeaves s p b t e h n l d
+out_leaves s p b t e h n reason l old d same i =
     let there = place_at n (last_of (is_caller (other s)) b) in
-    let new = under_way (is_caller s) n (carriers_of (with_holding s e h p)) d.now in
-    let cut = take (length d.stays) l.own.channel in
-    let all : AreAlike (progress_of there) (map message_in (cut ++ unless_broken t.broken (answer_for d.row))) new =
-    out_cuts there l.own.channel (unless_broken t.broken (answer_for d.row)) (under_way (is_caller s) n (carriers_of p) b) new d.stays d.gone (put_in (carriers_of p) (put_for d.row)) (i.out alive) d.out_before d.out_after
-    (answers_same t.broken (is_some (carriers_of p).reach) d.row (broken_is p b t old)) in
-    let puts : cut ++ unless_broken t.broken (answer_for d.row) ≡ left_channel t.broken (length d.stays) l.own.channel =
-    ap (λ (r : Row). cut ++ unless_broken t.broken (answer_for r)) same ∙ sym (put_unless t.broken (over ∷ []) cut) in
-    subst (λ (q : Place). AreAlike (progress_of q) (map message_in (left_channel t.broken (length d.stays) l.own.channel)) new) (sym (d.there n))
-    (subst (λ (ms : List Message). AreAlike (progress_of there) (map message_in ms) new) puts all)
+    let lasts = (end_at (other s) p).end.carrier.ended in
+    let two = with_holding s e h p in
+    let cut = is_cut (is_caller s) (carriers_of two) in
+    let puts : unless_broken t.broken (answer_for d.row) ≡ unless_broken t.broken (over ∷ []) = ap (λ (r : Row). unless_broken t.broken (answer_for r)) same in
+    let x = out_cuts lasts there (is_cut (is_caller s) (carriers_of p)) cut (HasJoined n (end_at (other s) p)) l.own.channel (unless_broken t.broken (over ∷ [])) (under_way (is_caller s) n (carriers_of p) b)
+    (under_way (is_caller s) n (carriers_of two) d.now) d.stays d.gone (put_in (carriers_of p) (put_for d.row)) i.out
+    (leave_by t.broken cut over (λ begun. tt) (cut_broken s p two t.broken old.broken (reach_same s (record { end = e; held = h }) p))) d.out_before d.out_after
+    (ap (map message_in) (sym puts) ∙ answers_same t.broken (is_some (carriers_of p).reach) d.row (broken_is p b t old)) in
+    record {
+      keep = x.keep;
+      way = out_there s p d.now e h n (progress_of (place_at n (last_of (is_caller (other s)) d.now))) (left_channel t.broken x.keep l.own.channel)
+          (subst (λ (q : Place). GoesTo s (end_at (other s) p) n two d.now (progress_of q) (left_channel t.broken x.keep l.own.channel)) (sym (d.there n))
+          (subst (λ (ms : List Message). GoesTo s (end_at (other s) p) n two d.now (progress_of there) ms) (sym (put_unless t.broken (over ∷ []) (take x.keep l.own.channel))) x.way));
+    }
 
 -- ---- two ends
 
@@ -118,15 +130,16 @@ LeftTables s p b t n keep row a =
 
 left_unit : MovingLaws → (s : Side) (p : TwoEnds) (b : Between) (t : Tables) (packet : List ℕ) (h : Held) (reason : ℕ) → Stands p b t → (end_at s p).end.carrier.ended ≡ None → (pa : PacketAt s p b packet h) →
     is_heard pa.did.row ≡ true → pa.did.row ≡ leaves reason → (a : Arriving s p b t (reference_of pa.unit) pa.did.row) → (d : DidThen s p b t packet h pa a) → d.row ≡ pa.did.row →
-    (f : ActsAt s p packet pa.unit (reference_of pa.unit) pa.did.row) →
-    Turned s p b t (EndOf s p b t packet h pa a) h d.now (LeftTables s p b t (reference_of pa.unit) (length d.stays) pa.did.row a) (reference_of pa.unit) (move_of (moving s p b t (reference_of pa.unit) pa.did.row a)).shown
-left_unit laws s p b t packet h reason old alive pa heard is a d same f =
+    (f : ActsAt s p packet pa.unit (reference_of pa.unit) pa.did.row) → (out : OutLeaves s p b t (EndOf s p b t packet h pa a) h (reference_of pa.unit) a.seen d) →
+    Goes (other s) s (reference_of pa.unit) (with_holding s (EndOf s p b t packet h pa a) h p) d.now (after pa.did.row) a.rest →
+    Turned s p b t (EndOf s p b t packet h pa a) h d.now (LeftTables s p b t (reference_of pa.unit) out.keep pa.did.row a) (reference_of pa.unit) (move_of (moving s p b t (reference_of pa.unit) pa.did.row a)).shown
+left_unit laws s p b t packet h reason old alive pa heard is a d same f out back =
     let n = reference_of pa.unit in
     let row = pa.did.row in
     let m = moving s p b t n row a in
     let x = a.seen.own.session in
     let e = EndOf s p b t packet h pa a in
-    let keep = length d.stays in
+    let keep = out.keep in
     let move = move_of m in
     let channel = left_channel t.broken keep a.seen.own.channel in
     let turn = left_turn t.broken keep row move a.rest a.seen in
@@ -136,10 +149,10 @@ left_unit laws s p b t packet h reason old alive pa heard is a d same f =
     finish s p b t u e h n move.shown a.seen move.next channel a.rest old alive d new.lasts new.local new.role pa.first.given (laws.packet.behind _ _ d.now d.between) new.order new.waits
     (moved_others s p e n a.kept.line x m.input refl)
     (subst (λ (r : Row). HasSession n e.lines (after r) move.next) (sym same)
-    (session_then n a.kept.line x m.input (end_at s p).end.lines (after row) a.kept.here a.kept.is a.hears.ended a.hears.waits a.hears.goes.octets)) a.stands
+    (session_then n a.kept.line x m.input (end_at s p).end.lines (after row) a.kept.here a.hears.ended a.hears.waits a.hears.goes.octets)) a.stands
     (record {
-      out = λ lives. out_leaves s p b t e h n reason a.seen old d (same ∙ is) a.stands lives;
-      back = subst (λ (r : Row). AreAlike (after r) (map message_in a.rest) (under_way (is_caller (other s)) n (carriers_of (with_holding s e h p)) d.now)) (sym same) (rest_then s p b t packet h alive pa heard a d same);
+      out = out.way;
+      back = subst (λ (r : Row). Goes (other s) s n (with_holding s e h p) d.now (after r) a.rest) (sym same) back;
     })
     (subst (λ (r : Row). TablesAfter s n t u move.shown (line_then r move.next channel a.rest a.seen)) (sym same)
     (tables_delivered s n (seen_from (side_in s) a.seen) t known turn a.found))
@@ -150,7 +163,7 @@ left_step : (s : Side) (p : TwoEnds) (b : Between) (t : Tables) (n keep reason :
     step t (delivers (side_in s) n (λ r. keep)) ≡ LeftTables s p b t n keep row a
 left_step s p b t n keep reason row old alive is a =
     let tr : a.seen.own.transport ≡ worlds.linked = a.transport ∙ ap (λ (r : Row). transport_by (before r)) is in
-    let same : message_in a.first ∷ [] ≡ carrier.bye reason ∷ [] = subst (λ (r : Row). AreAlike (before r) (message_in a.first ∷ []) (got_in r ∷ [])) is a.alike in
+    let same : kind_of (message_in a.first) ≡ carrier.bye reason = subst (λ (r : Row). kind_of (message_in a.first) ≡ kind_of (got_in r)) is a.kind in
     let taken : message_taken t.broken t.terms keep a.seen.own.transport (without_first a.seen a.rest) a.first ≡ left_turn t.broken keep row (react a.seen.own.session (heard_by row a.first)) a.rest a.seen =
     taken_leaves t.broken t.terms keep reason a.seen a.first a.rest tr same
     ∙ ap (λ (r : Row). left_turn t.broken keep r (react a.seen.own.session (heard_by r a.first)) a.rest a.seen) (sym is) in
@@ -162,27 +175,29 @@ same_holding Right e h n p shown = refl
 
 -- a packet that closes an open connection
 pub leaving_packet : MovingLaws → (s : Side) (p : TwoEnds) (b : Between) (t : Tables) (packet : List ℕ) (h : Held) (reason : ℕ) → Stands p b t → IsTableRun t → (end_at s p).end.carrier.ended ≡ None →
-    (pa : PacketActs (terms_at p) (is_caller s) (carriers_of p) b packet h.octets) → pa.did.row ≡ leaves reason → StandsShown s p t (after_packet (end_at s p).end packet) h
-leaving_packet laws s p b t packet h reason old run alive pa is =
+    (pa : PacketActs (terms_at p) (is_caller s) (carriers_of p) b packet h.octets) → ArrivesAt s p b t packet h pa → pa.did.row ≡ leaves reason → StandsShown s p t (after_packet (end_at s p).end packet) h
+leaving_packet laws s p b t packet h reason old run alive pa v is =
     let n = reference_of pa.unit in
     let row = pa.did.row in
     let heard : is_heard row ≡ true = ap is_heard is in
-    let a = arriving laws s p b t packet h old run alive pa heard in
+    let a = v.a in
     let m = moving s p b t n row a in
     let e = EndOf s p b t packet h pa a in
     let lines = loud_lines s p m in
     let d = did_at s p b packet h (quieted lines) pa in
     let same = same_row s p b packet h (quieted lines) pa in
     let f = acts_at s p b packet h pa in
-    let keep = length d.stays in
+    let out = out_leaves s p b t e h n reason a.seen old d (same ∙ is) a.stands in
+    let keep = out.keep in
     let silent = a.hears.silent (ap after is) in
-    let acts : answers n (as_made (move_of m)) e.carrier ≡ e.carrier =
-    ap (λ (b : Bool). answers_by b n (option_map written (move_of m).reply) e.carrier) silent.1 ∙ ap (λ (o : Option Meaning). answers_by false n (option_map written o) e.carrier) silent.0 in
+    let acts : answers n 0 (as_made (move_of m)) e.carrier ≡ e.carrier =
+    ap (λ (b : Bool). answers_by b n (tsdus_sent 0 (move_of m).reply) e.carrier) silent.1 ∙ ap (λ (o : Option Meaning). answers_by false n (tsdus_sent 0 o) e.carrier) silent.0
+    ∙ hands_none n e.carrier in
     let then : after_packet (end_at s p).end packet ≡ answered_end e.carrier lines =
     does_then s p b t packet h pa a f ∙ ap (λ (c : Carrier). concludes (answered_end c lines)) acts ∙ lasting (answered_end e.carrier lines) f.lasts in
     let waits = put_waits n a.kept.line (as_made (move_of m)) (end_at s p).end.lines (quiet_of s p b t old) a.kept.here in
     let stands : Stands (turned_pair s e h n (move_of m).shown p) d.now (LeftTables s p b t n keep row a) =
-    turned_stands s p b t e h d.now (LeftTables s p b t n keep row a) n (move_of m).shown old alive (left_unit laws s p b t packet h reason old alive pa heard is a d same f) in
+    turned_stands s p b t e h d.now (LeftTables s p b t n keep row a) n (move_of m).shown old alive (left_unit laws s p b t packet h reason old alive pa heard is a d same f out (rest_then s p b t packet h pa v)) in
     subst (λ (x : End). StandsShown s p t x h) (sym then)
     (record {
       more = delivers (side_in s) n (λ r. keep) ∷ [];

@@ -20,7 +20,6 @@ use Rattle.osi_session.specs.Listening as words
 use Rattle.osi_session.specs.Moves.{Standing, broken as broken_off, react}
 use Rattle.osi_session.specs.Phases.{is_ended, shows_loss}
 use Rattle.osi_session.specs.Shown.{Shown, Lost}
-use Rattle.osi_session.specs.Whole.{listening}
 use Rattle.osi_session.specs.declared.phases.Phase.{Phase}
 use Rattle.osi_session.proofs.PhaseLaws.{excluded}
 use Rattle.osi_stack.specs.Hearing.{shown_at_loss, all_lost}
@@ -30,7 +29,7 @@ use Rattle.osi_stack.specs.State as stack
 use Rattle.osi_stack.proofs.Lifting.{both}
 use Rattle.osi_stack.proofs.Moves.{are_lost}
 use Rattle.osi_pair.specs.Entries.{Entry}
-use Rattle.osi_pair.specs.Standing.{entry_in, side_in, is_parting, transport_in, IsSeated, IsInOrder}
+use Rattle.osi_pair.specs.Standing.{entry_in, side_in, is_parting, transport_in, IsSeated, IsInOrder, joining}
 use Rattle.osi_pair.specs.Telling.{waiting_in, quieted, shown_entries}
 use Rattle.osi_pair.specs.declared.sides.Side.{Side}
 
@@ -64,9 +63,9 @@ pub shows_one : (l : Listener) → length (words.react l words.broken).shown ≤
 unfolding words.react
 shows_one l = few (shows_loss l.state.phase)
 
-lost_so : (s : Standing) → (react s broken_off).shown ≡ shown_at_loss (Some (listening s))
+lost_so : (joined : Option (List ℕ)) (s : Standing) → (react s broken_off).shown ≡ shown_at_loss (Some (joining joined s))
 unfolding react words.react
-lost_so s = refl
+lost_so joined s = refl
 
 pub is_over : (s : Standing) → is_ended (react s broken_off).next.state.phase ≡ true
 unfolding react
@@ -243,10 +242,10 @@ ordered side m (l ∷ ls) ((r, line) ∷ lines) rise up all = ordered_by side m 
 -- ---- the sides
 
 -- what a side shows that is lost, is what the session shows that is kept of it
-kept_shows : (o : Option Listener) (seat : Seat) → ((s : Listener) → o ≡ Some s → s ≡ listening seat.session) → is_ended seat.session.state.phase ≡ true →
+kept_shows : (o : Option Listener) (joined : Option (List ℕ)) (seat : Seat) → ((s : Listener) → o ≡ Some s → s ≡ joining joined seat.session) → is_ended seat.session.state.phase ≡ true →
     (react seat.session broken_off).shown ≡ shown_at_loss o
-kept_shows None seat kept over = ended_shows seat.session over
-kept_shows (Some s) seat kept over = lost_so seat.session ∙ ap (λ (x : Listener). shown_at_loss (Some x)) (sym (kept s refl))
+kept_shows None joined seat kept over = ended_shows seat.session over
+kept_shows (Some s) joined seat kept over = lost_so joined seat.session ∙ ap (λ (x : Listener). shown_at_loss (Some x)) (sym (kept s refl))
 
 seat_shows_by : (n : ℕ) (h : Holding) (seat : Seat) (never_given : Bool) (o : Option Connection) → nat_lt h.end.carrier.given n ≡ never_given → value_at n h.end.carrier.live ≡ o →
     AreUpTo h.end.carrier.given h.end.lines → IsSeated n h seat → (react seat.session broken_off).shown ≡ shown_at_loss (kept_at n h.end.lines)
@@ -258,11 +257,11 @@ seat_shows_by n h seat true o e at up s =
 seat_shows_by n h seat false None e at up s =
     let place : place_at n h.end.carrier ≡ was_given None =
     ap (λ (b : Bool). if b then never else was_given (value_at n h.end.carrier.live)) e ∙ ap was_given at in
-    kept_shows (kept_at n h.end.lines) seat s.kept (s.over_now (ap is_parting (s.transport ∙ ap transport_in place)))
+    kept_shows (kept_at n h.end.lines) s.joined seat s.kept (s.over_now (ap is_parting (s.transport ∙ ap transport_in place)))
 seat_shows_by n h seat false (Some c) e at up s =
     let here : session_at n h.end ≡ kept_at n h.end.lines =
     ap (λ (x : Option Connection). if is_some x then session_in (value_at n h.end.lines) else None) at in
-    lost_so seat.session ∙ ap shown_at_loss (sym (s.live (ap is_some at)) ∙ here)
+    lost_so s.joined seat.session ∙ ap shown_at_loss (sym (s.live (ap is_some at)) ∙ here)
 
 seat_shows : (n : ℕ) (h : Holding) (seat : Seat) → AreUpTo h.end.carrier.given h.end.lines → IsSeated n h seat →
     (react seat.session broken_off).shown ≡ shown_at_loss (kept_at n h.end.lines)

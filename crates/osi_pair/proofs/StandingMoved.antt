@@ -1,15 +1,15 @@
 -- A message arrived of which a session heard: how two ends stand when the session has made its move, and nothing
 -- of what it sends was handed to the carrier, and nothing was closed.
-use Rattle.std.proofs.Common.{◌≡◌, ◌≢◌, ℕ, ◌<◌, ◌≤◌, Bool, true, false, nat_lt, if◌then◌else◌, List, [], ◌∷◌, length, map, Option, Some, None, is_some, option_map, refl, sym, ap, subst, ◌∙◌, arith}
+use Rattle.std.proofs.Common.{◌≡◌, ◌≢◌, ℕ, ◌<◌, ◌≤◌, Bool, true, false, nat_lt, if◌then◌else◌, List, [], ◌∷◌, length, map, Option, Some, None, is_some, option_map, refl, sym, ap, subst, ◌∙◌, arith, ◌⊎◌, inl, inr, IfSome, ◌++◌}
 use Rattle.osi_tpkt.specs.Held.{Held}
 use Rattle.osi_tpdu.specs.Value.{Value}
 use Rattle.osi_class.specs.Link.{Standing as Link}
 use Rattle.osi_carrier.specs.Addresses.{reference_of}
-use Rattle.osi_carrier.specs.Between.{Between, under_way}
+use Rattle.osi_carrier.specs.Between.{Between, under_way, is_cut, last_of}
 use Rattle.osi_carrier.specs.Calls.{link_of}
 use Rattle.osi_carrier.specs.Course.{Place, never, was_given, place_at, progress_of}
 use Rattle.osi_carrier.specs.Orderly.{IsOrderly}
-use Rattle.osi_carrier.specs.Progress.{not_yet, in_use, gone}
+use Rattle.osi_carrier.specs.Progress.{not_yet, in_use, gone, Progress, awaiting}
 use Rattle.osi_carrier.specs.React.{react as carrier_react}
 use Rattle.osi_carrier.specs.Rows.{Rows, value_at}
 use Rattle.osi_carrier.specs.State.{Connection, State as Carrier, asked, linked, closing}
@@ -17,14 +17,14 @@ use Rattle.osi_carrier.specs.Terms.{class_of}
 use Rattle.osi_carrier.specs.Told.{is_open}
 use Rattle.osi_carrier.specs.declared.ends.EndReason.{EndReason}
 use Rattle.osi_carrier.proofs.Effects.{orderly_unit, orderly_same}
-use Rattle.osi_machine.specs.AsTables.{IsTableRun, AreSoundLines, IsSoundLine, AreSendable}
+use Rattle.osi_machine.specs.AsTables.{IsTableRun, AreSoundLines, IsSoundLine, AreSendable, AtEachSide, IsNoFaultNext, IsOverWhenLeft, is_leaving}
 use Rattle.osi_machine.specs.Core as machine
 use Rattle.osi_machine.specs.Machine.{connection_at, delivers, learns}
 use Rattle.osi_machine.specs.Tables.{Line as TableLine, Turn, Tables, seen_from, after_turn, step}
 use Rattle.osi_machine.specs.Worlds.{Message, unit, ask, agree, deny, bye, over, put, replied}
 use Rattle.osi_machine.specs.Worlds as worlds
 use Rattle.osi_machine.proofs.CoreLaws.{SessionLaws}
-use Rattle.osi_message.specs.Meanings.{Meaning}
+use Rattle.osi_message.specs.Meanings.{Meaning, DT}
 use Rattle.osi_session.specs.Moves.{Input, Standing, Move, react}
 use Rattle.osi_session.specs.Whole.{listening}
 use Rattle.osi_stack.specs.Hearing.{after_packet, concludes}
@@ -34,26 +34,39 @@ use Rattle.osi_stack.specs.State.{Line, End, session_in}
 use Rattle.osi_stack.proofs.Soundness.{packet_rises}
 use Rattle.osi_pair.specs.Ends.{TwoEnds, end_at}
 use Rattle.osi_pair.specs.Sides.{other}
-use Rattle.osi_pair.specs.Standing.{side_in, is_caller, class_in, carriers_of, message_in, AreAlike, IsInOrder, Stands}
+use Rattle.osi_pair.specs.Standing.{side_in, is_caller, class_in, carriers_of, message_in, AreAlike, IsInOrder, Stands, Goes, joining, HasJoined}
 use Rattle.osi_pair.specs.Telling.{waiting_in, quieted}
 use Rattle.osi_pair.specs.declared.sides.Side.{Side}
 use Rattle.osi_pair.proofs.StandingArrived.{PacketActs}
 use Rattle.osi_pair.proofs.StandingFinish.{terms_at, DidAt, line_then, last_is, order_of}
 use Rattle.osi_pair.proofs.StandingHeard.{lines_then, kept_then, one_told}
-use Rattle.osi_pair.proofs.StandingHears.{as_move, move_heard, got_in, one_in, HearsBy, HearLaws, IsWhole, hears_row}
+use Rattle.osi_pair.proofs.StandingHears.{as_move, move_heard, got_in, one_in, HearsBy, HearLaws, IsWhole, hears_row, IsTaker, tells_by, tells_last}
 use Rattle.osi_pair.proofs.StandingKnown.{moved_known, moved_class}
-use Rattle.osi_pair.proofs.StandingListens.{as_made}
+use Rattle.osi_pair.proofs.StandingListens.{as_made, none_joined, kept_of, PartJoins, first_joins, middle_joins, last_moves, over_fine}
 use Rattle.osi_pair.proofs.StandingMoves.{is_move, heard_by, MovesBy, step_moves, move_unit}
 use Rattle.osi_pair.proofs.StandingOrder.{session_acts, acted_order}
 use Rattle.osi_pair.proofs.StandingPacket.{PacketLaws, ActsAt, acts_at, same_role, is_heard, lasting_in, quiet_of}
 use Rattle.osi_pair.proofs.StandingQuiet.{quiet_order, quiet_waits, put_waits}
 use Rattle.osi_pair.proofs.StandingReplies.{CanGo}
 use Rattle.osi_pair.proofs.StandingRests.{delivered, tables_delivered}
-use Rattle.osi_pair.proofs.StandingResting.{acted_end, did_at, same_row, line_at, EndThen, was_at, session_before, transport_before, back_one}
-use Rattle.osi_pair.proofs.StandingRows.{Row, before, after, arrived_in}
-use Rattle.osi_pair.proofs.StandingSeats.{transport_by, value_same, HasSession}
+use Rattle.osi_pair.proofs.StandingResting.{acted_end, did_at, same_row, line_at, EndThen, was_at, back_one, FoundLine, back_then, other_lines}
+use Rattle.osi_pair.proofs.StandingRows.{Row, before, after, arrived_in, quiet, still, begins, refuses, agrees, denies, tells, leaves, ignores, ends}
+use Rattle.osi_pair.proofs.StandingSeats.{transport_by, value_same, HasSession, lives_in, session_of_seat, transport_at}
 use Rattle.osi_pair.proofs.StandingTurned.{IsSeen, with_holding, turned_pair, turned_stands}
 use Rattle.osi_pair.proofs.StandingWaiting.{is_calling}
+use Rattle.osi_session.specs.Kept.{IsNoFault, IsJoinedAs}
+use Rattle.osi_session.specs.Listening.{Listener}
+use Rattle.osi_message.specs.declared.places.Place.{Place as PartPlace}
+use Rattle.osi_carrier.specs.Messages as carrier
+use Rattle.osi_pair.proofs.StandingWays.{Comes, BehindFirst, IsAlone, IsLast, Begins, GoesOn, is_tsdu, no_part}
+use Rattle.osi_carrier.specs.Messages.{kind_of}
+use Rattle.osi_message.specs.InOctets.{IsInOctets}
+use Rattle.osi_message.specs.Words.{part_octets}
+use Rattle.osi_message.specs.declared.places.Place.TheVariants.{First, Middle, Last}
+use Rattle.osi_session.specs.Allowed.{most_data}
+use Rattle.osi_session.specs.Phases.{is_over}
+use Rattle.std.specs.List.{list_any}
+use Rattle.osi_pair.specs.declared.sides.Side.TheVariants.{Left, Right}
 
 -- ---- a move
 
@@ -119,11 +132,10 @@ pub record HasMoved (s : Side) (p : TwoEnds) (t : Tables) (packet : List ℕ) (h
   pub given : m.n ≤ length t.lines
   -- how it stood
   pub here : value_at m.n (end_at s p).end.lines ≡ Some m.line
-  pub is : m.line.session ≡ Some (listening m.seen.own.session)
   pub found : connection_at m.n t.lines ≡ Some (seen_from (side_in s) m.seen)
   pub first : m.seen.peer.channel ≡ m.first ∷ m.rest
   -- what the packet does to the end, and the delivery to the tables
-  pub does : after_packet (end_at s p).end packet ≡ concludes (record { carrier = answers m.n (as_made (move_of m)) (moved_end s p unit m).carrier; lines = loud_lines s p m })
+  pub does : after_packet (end_at s p).end packet ≡ concludes (record { carrier = answers m.n 0 (as_made (move_of m)) (moved_end s p unit m).carrier; lines = loud_lines s p m })
   pub waits : waiting_in (loud_lines s p m) ≡ map (λ x. (m.n, x)) (move_of m).shown
   pub steps : (keep : ℕ → ℕ) → step t (delivers (side_in s) m.n keep) ≡ after_turn (record t { known = known_by t m }) (side_in s) m.n keep (turn_of t.broken m)
   -- how all stands before anything is sent or closed
@@ -148,6 +160,8 @@ pub record MovingLaws : Type 0 where
   pub hear : HearLaws
   pub tables : SessionLaws
   pub sound_lines : (t : Tables) → IsTableRun t → AreSoundLines t
+  pub next : (t : Tables) → IsTableRun t → AtEachSide IsNoFaultNext t
+  pub left : (t : Tables) → IsTableRun t → AtEachSide IsOverWhenLeft t
 
 seen_sound : (s : machine.Side) (l : TableLine) → IsSoundLine (seen_from s l) → IsSoundLine l
 seen_sound machine.Left l h = h
@@ -161,14 +175,30 @@ first_whole (deny reason) ms h = tt
 first_whole (bye reason) ms h = tt
 first_whole over ms h = tt
 
-pub record KeptLine (n : ℕ) (lines : Rows Line) (x : Standing) : Type 0 where
+pub record KeptLine (n : ℕ) (lines : Rows Line) (joined : Option (List ℕ)) (x : Standing) : Type 0 where
   pub line : Line
   pub here : value_at n lines ≡ Some line
-  pub is : line.session ≡ Some (listening x)
+  pub is : line.session ≡ Some (joining joined x)
 
-line_by : (n : ℕ) (lines : Rows Line) (x : Standing) (o : Option Line) → value_at n lines ≡ o → session_in o ≡ Some (listening x) → KeptLine n lines x
-line_by n lines x None e h = absurd cc
-line_by n lines x (Some line) e h = record { line = line; here = e; is = h }
+line_by : (n : ℕ) (lines : Rows Line) (joined : Option (List ℕ)) (x : Standing) (o : Option Line) → value_at n lines ≡ o → session_in o ≡ Some (joining joined x) → KeptLine n lines joined x
+line_by n lines joined x None e h = absurd cc
+line_by n lines joined x (Some line) e h = record { line = line; here = e; is = h }
+
+no_way : false ≡ true → ⊥
+no_way e = cc
+
+-- a message of which a session hears comes to one that lives
+heard_lives : (row : Row) → is_heard row ≡ true → lives_in (before row) ≡ true
+heard_lives agrees e = refl
+heard_lives (denies reason) e = refl
+heard_lives (tells octets) e = refl
+heard_lives (leaves reason) e = refl
+heard_lives quiet e = absurd (no_way e)
+heard_lives still e = absurd (no_way e)
+heard_lives begins e = absurd (no_way e)
+heard_lives (refuses reason) e = absurd (no_way e)
+heard_lives (ignores octets) e = absurd (no_way e)
+heard_lives (ends m) e = absurd (no_way e)
 
 -- what stands at its reference, and what happens to its session
 pub record Arriving (s : Side) (p : TwoEnds) (b : Between) (t : Tables) (n : ℕ) (row : Row) : Type 0 where
@@ -179,43 +209,251 @@ pub record Arriving (s : Side) (p : TwoEnds) (b : Between) (t : Tables) (n : ℕ
   pub first : Message
   pub rest : List Message
   pub parts : seen.peer.channel ≡ first ∷ rest
-  pub alike : AreAlike (before row) (message_in first ∷ []) (got_in row ∷ [])
-  pub kept : KeptLine n (end_at s p).end.lines seen.own.session
-  pub hears : HearsBy n row first seen.own.session
+  pub kind : kind_of (message_in first) ≡ kind_of (got_in row)
+  pub joined : Option (List ℕ)
+  pub kept : KeptLine n (end_at s p).end.lines joined seen.own.session
+  pub hears : HearsBy n row first joined seen.own.session
 
 abbrev pub PacketAt : Side → TwoEnds → Between → List ℕ → Held → Type 0
 PacketAt s p b packet h = PacketActs (terms_at p) (is_caller s) (carriers_of p) b packet h.octets
 
-pub arriving : MovingLaws → (s : Side) (p : TwoEnds) (b : Between) (t : Tables) (packet : List ℕ) (h : Held) → Stands p b t → IsTableRun t → (end_at s p).end.carrier.ended ≡ None → (pa : PacketAt s p b packet h) →
-    is_heard pa.did.row ≡ true → Arriving s p b t (reference_of pa.unit) pa.did.row
-arriving laws s p b t packet h old run alive pa heard =
+-- what comes to it, and what is under way behind it
+abbrev pub Behind : (s : Side) (p : TwoEnds) (b : Between) (packet : List ℕ) (h : Held) (pa : PacketActs (terms_at p) (is_caller s) (carriers_of p) b packet h.octets) → Option (List ℕ) → List Message → Type 0
+Behind s p b packet h pa begun ms =
+    BehindFirst (after pa.did.row) (is_cut (is_caller (other s)) (carriers_of (with_holding s (acted_end pa.unit (end_at s p).end.lines (end_at s p).end) h p))) begun ms
+    (under_way (is_caller (other s)) (reference_of pa.unit) (carriers_of (with_holding s (acted_end pa.unit (end_at s p).end.lines (end_at s p).end) h p)) (did_at s p b packet h (end_at s p).end.lines pa).now)
+
+abbrev pub ComesAt : (s : Side) (p : TwoEnds) (b : Between) (packet : List ℕ) (h : Held) (pa : PacketActs (terms_at p) (is_caller s) (carriers_of p) b packet h.octets) → List Message → carrier.Message → Type 0
+ComesAt s p b packet h pa ms got =
+    Comes (before pa.did.row) (after pa.did.row) (is_cut (is_caller (other s)) (carriers_of (with_holding s (acted_end pa.unit (end_at s p).end.lines (end_at s p).end) h p))) (HasJoined (reference_of pa.unit) (end_at s p)) ms got
+    (under_way (is_caller (other s)) (reference_of pa.unit) (carriers_of (with_holding s (acted_end pa.unit (end_at s p).end.lines (end_at s p).end) h p)) (did_at s p b packet h (end_at s p).end.lines pa).now)
+
+pub comes_at : (s : Side) (p : TwoEnds) (b : Between) (t : Tables) (packet : List ℕ) (h : Held) → (end_at s p).end.carrier.ended ≡ None → (pa : PacketActs (terms_at p) (is_caller s) (carriers_of p) b packet h.octets) →
+    (got : carrier.Message) → (at : FoundLine s (reference_of pa.unit) p b t) → arrived_in pa.did.row ≡ got ∷ [] → ComesAt s p b packet h pa at.line.peer.channel got
+comes_at s p b t packet h alive pa got at one =
     let n = reference_of pa.unit in
     let lines = (end_at s p).end.lines in
     let e = acted_end pa.unit lines (end_at s p).end in
     let d = did_at s p b packet h lines pa in
     let same = same_row s p b packet h lines pa in
-    let at = line_at s n p b t old pa.first.named pa.first.given in
+    subst (λ (r : Row). Comes (before r) (after r) (is_cut (is_caller (other s)) (carriers_of (with_holding s e h p))) (HasJoined n (end_at s p)) at.line.peer.channel got
+    (under_way (is_caller (other s)) n (carriers_of (with_holding s e h p)) d.now)) same (back_one s p b e h n at.line got d at.is alive (ap arrived_in same ∙ one))
+
+-- where its connection stood
+pub pa_stood : (s : Side) (p : TwoEnds) (b : Between) (packet : List ℕ) (h : Held) → (pa : PacketActs (terms_at p) (is_caller s) (carriers_of p) b packet h.octets) →
+    progress_of (place_at (reference_of pa.unit) (last_of (is_caller s) b)) ≡ before pa.did.row
+pa_stood Left p b packet h pa = pa.did.stood
+pa_stood Right p b packet h pa = pa.did.stood
+
+pub seat_progress : (s : Side) (p : TwoEnds) (b : Between) (t : Tables) (n : ℕ) (row : Row) → Stands p b t → (end_at s p).end.carrier.ended ≡ None → progress_of (place_at n (last_of (is_caller s) b)) ≡ before row →
+    progress_of (place_at n (end_at s p).end.carrier) ≡ before row
+seat_progress s p b t n row old alive stood = ap (λ (c : Carrier). progress_of (place_at n c)) (sym (was_at s p b t old alive)) ∙ stood
+
+pub seat_transport : (s : Side) (p : TwoEnds) (b : Between) (t : Tables) (n : ℕ) (row : Row) (l : TableLine) → Stands p b t → (end_at s p).end.carrier.ended ≡ None → progress_of (place_at n (last_of (is_caller s) b)) ≡ before row →
+    IsSeen s n p b l → l.own.transport ≡ transport_by (before row)
+seat_transport s p b t n row l old alive stood i =
+    i.here.transport ∙ transport_at (place_at n (end_at s p).end.carrier) (before row) (seat_progress s p b t n row old alive stood)
+
+-- ---- data that comes is no fault
+
+own_seen : (s : machine.Side) (l : TableLine) → seen_from s (seen_from s l) ≡ l
+own_seen machine.Left l = refl
+own_seen machine.Right l = refl
+
+next_at : MovingLaws → (s : Side) (t : Tables) (n : ℕ) (l : TableLine) → IsTableRun t → connection_at n t.lines ≡ Some (seen_from (side_in s) l) → (octets : List ℕ) (ms : List Message) →
+    l.peer.channel ≡ unit (DT octets) ∷ ms → IsNoFault l.own.session.state octets
+next_at laws s t n l run found octets ms e =
+    subst (λ (x : TableLine). IsNoFaultNext x.own.session.state x.peer.channel) (own_seen (side_in s) l) (laws.next t run (side_in s) n (seen_from (side_in s) l) found) octets ms e
+
+left_at : MovingLaws → (s : Side) (t : Tables) (n : ℕ) (l : TableLine) → IsTableRun t → connection_at n t.lines ≡ Some (seen_from (side_in s) l) → list_any is_leaving l.peer.channel ≡ true → is_over l.own.session.state.phase ≡ true
+left_at laws s t n l run found e =
+    subst (λ (x : TableLine). IsOverWhenLeft x.own.session.state x.peer.channel) (own_seen (side_in s) l) (laws.left t run (side_in s) n (seen_from (side_in s) l) found) e
+
+-- the Data of which a part comes
+record FineData (s : Standing) : Type 0 where
+  all : List ℕ
+  fine : IsNoFault s.state all
+
+part_fine : MovingLaws → (s : Side) (t : Tables) (n : ℕ) (l : TableLine) → IsTableRun t → connection_at n t.lines ≡ Some (seen_from (side_in s) l) → (now : List ℕ) →
+    ((more : List ℕ) × ((ns : List Message) × (l.peer.channel ≡ unit (DT (now ++ more)) ∷ ns))) ⊎ (list_any is_leaving l.peer.channel ≡ true) → FineData l.own.session
+part_fine laws s t n l run found now (inl more) = record { all = now ++ more.0; fine = next_at laws s t n l run found (now ++ more.0) more.1.0 more.1.1 }
+part_fine laws s t n l run found now (inr left) = record { all = []; fine = over_fine l.own.session.state [] (left_at laws s t n l run found left) }
+
+part_joins : (joined : Option (List ℕ)) (x : Standing) (place : PartPlace) (octets now : List ℕ) (H : Option (List ℕ) → Type 0) → ((begun : Option (List ℕ)) → H begun → IsJoinedAs x.state joined begun) → length now ≤ most_data →
+    IsTaker x joined → FineData x → (Begins H place octets now ⊎ GoesOn H place octets now) → PartJoins joined x place octets (Some now)
+part_joins joined x place octets now H holds short kept f (inl a) =
+    subst (λ (q : PartPlace). PartJoins joined x q octets (Some now)) (sym a.place_is)
+    (subst (λ (o : List ℕ). PartJoins joined x First octets (Some o)) (sym a.now_is)
+    (first_joins joined x octets f.all (subst (λ (o : List ℕ). length o ≤ most_data) a.now_is short) kept f.fine (holds None a.held)))
+part_joins joined x place octets now H holds short kept f (inr a) =
+    subst (λ (q : PartPlace). PartJoins joined x q octets (Some now)) (sym a.place_is)
+    (subst (λ (o : List ℕ). PartJoins joined x Middle octets (Some o)) (sym a.now_is)
+    (middle_joins joined x a.front octets f.all (subst (λ (o : List ℕ). length o ≤ most_data) a.now_is short) kept f.fine (holds (Some a.front) a.held)))
+
+-- a part comes as a TSDU
+no_tsdu : (g : Progress) (octets : List ℕ) (m : carrier.Message) → is_tsdu m ≡ false → AreAlike g (carrier.message octets ∷ []) (m ∷ []) → ⊥
+no_tsdu g octets m e is = no_part g octets m e is
+
+alone_is : (x y : List ℕ) → carrier.message x ∷ [] ≡ carrier.message y ∷ [] → y ≡ x
+alone_is x y e = let same : x ≡ y = cc in sym same
+
+part_tells : (row : Row) (place : PartPlace) (octets : List ℕ) → is_heard row ≡ true → AreAlike (before row) (carrier.message (part_octets place octets) ∷ []) (got_in row ∷ []) → row ≡ tells (part_octets place octets)
+part_tells (tells o) place octets heard is = ap tells (alone_is (part_octets place octets) o is)
+part_tells agrees place octets heard is = absurd (no_tsdu awaiting (part_octets place octets) carrier.agree refl is)
+part_tells (denies reason) place octets heard is = absurd (no_tsdu awaiting (part_octets place octets) (carrier.deny reason) refl is)
+part_tells (leaves reason) place octets heard is = absurd (no_tsdu in_use (part_octets place octets) (carrier.bye reason) refl is)
+part_tells quiet place octets heard is = absurd (no_way heard)
+part_tells still place octets heard is = absurd (no_way heard)
+part_tells begins place octets heard is = absurd (no_way heard)
+part_tells (refuses reason) place octets heard is = absurd (no_way heard)
+part_tells (ignores o) place octets heard is = absurd (no_way heard)
+part_tells (ends m) place octets heard is = absurd (no_way heard)
+
+-- a message arrives, of which a session hears, and what is under way behind it
+pub record ArrivesAt (s : Side) (p : TwoEnds) (b : Between) (t : Tables) (packet : List ℕ) (h : Held) (pa : PacketActs (terms_at p) (is_caller s) (carriers_of p) b packet h.octets) : Type 0 where
+  pub a : Arriving s p b t (reference_of pa.unit) pa.did.row
+  pub stays : Behind s p b packet h pa None a.rest
+
+-- or a part of one Data that is not the last
+pub record PartArrives (s : Side) (p : TwoEnds) (b : Between) (t : Tables) (packet : List ℕ) (h : Held) (pa : PacketActs (terms_at p) (is_caller s) (carriers_of p) b packet h.octets) : Type 0 where
+  pub seen : TableLine
+  pub found : connection_at (reference_of pa.unit) t.lines ≡ Some (seen_from (side_in s) seen)
+  pub stands : IsSeen s (reference_of pa.unit) p b seen
+  pub joined : Option (List ℕ)
+  pub kept : KeptLine (reference_of pa.unit) (end_at s p).end.lines joined seen.own.session
+  pub had : HasSession (reference_of pa.unit) (end_at s p).end.lines (before pa.did.row) seen.own.session
+  pub place : PartPlace
+  pub octets : List ℕ
+  pub is : pa.did.row ≡ tells (part_octets place octets)
+  pub now : List ℕ
+  pub joins : PartJoins joined seen.own.session place octets (Some now)
+  pub stays : Behind s p b packet h pa (Some now) seen.peer.channel
+
+-- a message that does not leave comes to a session that has joined nothing
+abbrev pub got_leaves : carrier.Message → Bool
+got_leaves (carrier.bye r) = true
+got_leaves carrier.over = true
+got_leaves m = false
+
+stays_kind : (m : Message) (got : carrier.Message) → kind_of (message_in m) ≡ kind_of got → got_leaves got ≡ false → is_leaving m ≡ false
+stays_kind (unit u) got k e = refl
+stays_kind ask got k e = refl
+stays_kind agree got k e = refl
+stays_kind (deny r) got k e = refl
+stays_kind (bye r) (carrier.bye q) k e = cc
+stays_kind (bye r) carrier.over k e = cc
+stays_kind (bye r) carrier.ask k e = cc
+stays_kind (bye r) carrier.agree k e = cc
+stays_kind (bye r) (carrier.deny q) k e = cc
+stays_kind (bye r) (carrier.message o) k e = cc
+stays_kind over (carrier.bye q) k e = cc
+stays_kind over carrier.over k e = cc
+stays_kind over carrier.ask k e = cc
+stays_kind over carrier.agree k e = cc
+stays_kind over (carrier.deny q) k e = cc
+stays_kind over (carrier.message o) k e = cc
+
+move_stays : (row : Row) → is_move row ≡ true → got_leaves (got_in row) ≡ false
+move_stays agrees e = refl
+move_stays (denies reason) e = refl
+move_stays (tells octets) e = refl
+move_stays quiet e = absurd (no_way e)
+move_stays still e = absurd (no_way e)
+move_stays begins e = absurd (no_way e)
+move_stays (refuses reason) e = absurd (no_way e)
+move_stays (leaves reason) e = absurd (no_way e)
+move_stays (ignores octets) e = absurd (no_way e)
+move_stays (ends m) e = absurd (no_way e)
+
+-- what a session hears of a TSDU that is a message, whole or by its last part
+hears_tsdu : MovingLaws → (s : Side) (p : TwoEnds) (b : Between) (t : Tables) (n : ℕ) (row : Row) (octets : List ℕ) (l : TableLine) (joined : Option (List ℕ)) (first : Message) (rest : List Message) → IsTableRun t →
+    connection_at n t.lines ≡ Some (seen_from (side_in s) l) → l.peer.channel ≡ first ∷ rest → IsWhole first → kept_at n (end_at s p).end.lines ≡ Some (joining joined l.own.session) →
+    IsTaker l.own.session joined → IfSome l.own.session.waiting IsInOctets → row ≡ tells octets → kind_of (message_in first) ≡ kind_of (got_in row) →
+    IsAlone (before row) (HasJoined n (end_at s p)) first (got_in row) ⊎ IsLast (before row) (HasJoined n (end_at s p)) first (got_in row) → HearsBy n (tells octets) first joined l.own.session
+hears_tsdu laws s p b t n row octets l joined first rest run found parts whole live kept waits is kind (inl a) =
+    let x = l.own.session in
+    let same : message_in first ∷ [] ≡ carrier.message octets ∷ [] = subst (λ (r : Row). AreAlike (before r) (message_in first ∷ []) (got_in r ∷ [])) is a.is in
+    let stays : is_leaving first ≡ false = stays_kind first (got_in row) kind (ap (λ (r : Row). got_leaves (got_in r)) is) in
+    tells_by laws.hear n octets first joined x (none_joined x.state joined (a.held stays (joining joined x) live)) same whole waits
+hears_tsdu laws s p b t n row octets l joined first rest run found parts whole live kept waits is kind (inr q) =
+    let x = l.own.session in
+    let same : carrier.message (part_octets Last q.last) ∷ [] ≡ carrier.message octets ∷ [] =
+    subst (λ (r : Row). AreAlike (before r) (carrier.message (part_octets Last q.last) ∷ []) (got_in r ∷ [])) is q.is in
+    let fine : IsNoFault x.state (q.front ++ q.last) = next_at laws s t n l run found (q.front ++ q.last) rest (parts ∙ ap (λ (m : Message). m ∷ rest) q.first_is) in
+    subst (λ (m : Message). HearsBy n (tells octets) m joined x) (sym q.first_is)
+    (tells_last laws.hear n octets q.front q.last joined x (alone_is _ _ same) (last_moves joined x q.front q.last q.short kept fine (q.held (joining joined x) live)) waits)
+
+arriving_as : MovingLaws → (s : Side) (p : TwoEnds) (b : Between) (t : Tables) (packet : List ℕ) (h : Held) → Stands p b t → IsTableRun t → (end_at s p).end.carrier.ended ≡ None → (pa : PacketAt s p b packet h) →
+    is_heard pa.did.row ≡ true → (at : FoundLine s (reference_of pa.unit) p b t) → (was : HasSession (reference_of pa.unit) (end_at s p).end.lines (before pa.did.row) at.line.own.session) →
+    ComesAt s p b packet h pa at.line.peer.channel (got_in pa.did.row) → ArrivesAt s p b t packet h pa ⊎ PartArrives s p b t packet h pa
+arriving_as laws s p b t packet h old run alive pa heard at was (inl sp) =
+    let n = reference_of pa.unit in
+    let row = pa.did.row in
+    let lines = (end_at s p).end.lines in
     let l = at.line in
-    let tr = transport_before s p b t e h n l old alive d at.is ∙ ap (λ (r : Row). transport_by (before r)) same in
-    let sp = back_one s p b e h n l (got_in pa.did.row) d at.is alive (ap arrived_in same ∙ one_in pa.did.row heard) in
-    let alike = subst (λ (r : Row). AreAlike (before r) (message_in sp.first ∷ []) (got_in pa.did.row ∷ [])) same sp.is in
+    let x = l.own.session in
+    let tr = seat_transport s p b t n row l old alive (pa_stood s p b packet h pa) at.is in
     let sound = seen_sound (side_in s) l (laws.sound_lines t run n (seen_from (side_in s) l) at.found) in
     let whole = first_whole sp.first sp.others (subst AreSendable sp.parts sound.peer.under_way) in
-    let hears = hears_row laws.hear n pa.did.row sp.first l.own heard tr alike whole
-    (λ w. is_calling laws.tables laws.hear.replies.says (side_in s) n l t run at.found w) sound.own.waits at.is.here.octets in
-    let was : HasSession n lines (before pa.did.row) l.own.session = subst (λ (r : Row). HasSession n lines (before r) l.own.session) same (session_before s p b t e h n l old alive d at.is) in
-    record {
+    let joined = was.joined in
+    let live : kept_at n lines ≡ Some (joining joined x) = was.live (heard_lives row heard) in
+    let keeps = kept_of n (joining joined x) (end_at s p).end (order_of s p b t old alive) live in
+    let hears = hears_row laws.hear n row sp.first joined l.own keeps.phase
+    (λ move other_kind. elim sp.how [
+      | inl a ↦ none_joined x.state joined (a.held (stays_kind sp.first (got_in row) sp.kind (move_stays row move)) (joining joined x) live)
+      | inr q ↦ absurd (no_tsdu (before row) (part_octets Last q.last) (got_in row) other_kind q.is)
+    ])
+    (λ octets is. hears_tsdu laws s p b t n row octets l joined sp.first sp.others run at.found sp.parts whole live keeps.phase at.is.here.octets is sp.kind sp.how)
+    heard tr (λ w. is_calling laws.tables laws.hear.replies.says (side_in s) n l t run at.found w) sound.own.waits at.is.here.octets in
+    inl (record {
+      a = record {
+        seen = l;
+        found = at.found;
+        stands = at.is;
+        transport = tr;
+        first = sp.first;
+        rest = sp.others;
+        parts = sp.parts;
+        kind = sp.kind;
+        joined = joined;
+        kept = line_by n lines joined x (value_at n lines) refl live;
+        hears = hears;
+      };
+      stays = sp.stays;
+    })
+arriving_as laws s p b t packet h old run alive pa heard at was (inr sp) =
+    let n = reference_of pa.unit in
+    let row = pa.did.row in
+    let lines = (end_at s p).end.lines in
+    let l = at.line in
+    let x = l.own.session in
+    let joined = was.joined in
+    let live : kept_at n lines ≡ Some (joining joined x) = was.live (heard_lives row heard) in
+    let keeps = kept_of n (joining joined x) (end_at s p).end (order_of s p b t old alive) live in
+    let tells_it = part_tells row sp.place sp.octets heard sp.is in
+    let fine = part_fine laws s t n l run at.found sp.now sp.next in
+    inr (record {
       seen = l;
       found = at.found;
       stands = at.is;
-      transport = tr;
-      first = sp.first;
-      rest = sp.others;
-      parts = sp.parts;
-      alike = alike;
-      kept = line_by n lines l.own.session (value_at n lines) refl (was.live hears.lives);
-      hears = hears;
-    }
+      joined = joined;
+      kept = line_by n lines joined x (value_at n lines) refl live;
+      had = was;
+      place = sp.place;
+      octets = sp.octets;
+      is = tells_it;
+      now = sp.now;
+      joins = part_joins joined x sp.place sp.octets sp.now (HasJoined n (end_at s p)) (λ begun held. held (joining joined x) live) sp.short keeps.phase fine sp.how;
+      stays = sp.stays;
+    })
+
+pub arriving : MovingLaws → (s : Side) (p : TwoEnds) (b : Between) (t : Tables) (packet : List ℕ) (h : Held) → Stands p b t → IsTableRun t → (end_at s p).end.carrier.ended ≡ None → (pa : PacketAt s p b packet h) →
+    is_heard pa.did.row ≡ true → ArrivesAt s p b t packet h pa ⊎ PartArrives s p b t packet h pa
+arriving laws s p b t packet h old run alive pa heard =
+    let n = reference_of pa.unit in
+    let at = line_at s n p b t old pa.first.named pa.first.given in
+    let was = session_of_seat n (end_at s p) at.line.own (before pa.did.row) (seat_progress s p b t n pa.did.row old alive (pa_stood s p b packet h pa)) at.is.here in
+    arriving_as laws s p b t packet h old run alive pa heard at was (comes_at s p b t packet h alive pa (got_in pa.did.row) at (one_in pa.did.row heard))
 
 -- the move
 abbrev pub moving : (s : Side) (p : TwoEnds) (b : Between) (t : Tables) (n : ℕ) (row : Row) → Arriving s p b t n row → Moving
@@ -225,7 +463,6 @@ abbrev pub moves_by : (s : Side) (p : TwoEnds) (b : Between) (t : Tables) (n : �
 moves_by s p b t n row a = record {
   line = a.kept.line;
   here = a.kept.here;
-  is = a.kept.is;
   ended = a.hears.ended;
   waits = a.hears.waits;
   octets = a.hears.goes.octets;
@@ -243,7 +480,7 @@ linked_by : (n : ℕ) (c : Carrier) (b : Bool) → nat_lt c.given n ≡ b → pr
 linked_by n c true e h = let no : not_yet ≡ in_use = sym (ap (λ (b : Bool). progress_of (if◌then◌else◌ {A = Place} b never (was_given (value_at n c.live)))) e) ∙ h in absurd cc
 linked_by n c false e h = linked_value n c (value_at n c.live) refl (sym (ap (λ (b : Bool). progress_of (if◌then◌else◌ {A = Place} b never (was_given (value_at n c.live)))) e) ∙ h)
 
-open_at : (n : ℕ) (c : Carrier) → c.ended ≡ None → IsLinkedAt n c → is_open n c ≡ true
+pub open_at : (n : ℕ) (c : Carrier) → c.ended ≡ None → IsLinkedAt n c → is_open n c ≡ true
 open_at n c lasts l =
     ap (λ (x : Option EndReason). is_some (if◌then◌else◌ {A = Option (ℕ × Link)} (is_some x) None (link_of (value_at n c.live)))) lasts
     ∙ ap (λ (o : Option Connection). is_some (link_of o)) l.at
@@ -255,13 +492,13 @@ EndOf s p b t packet h pa a = moved_end s p pa.unit (moving s p b t (reference_o
 abbrev pub DidThen : (s : Side) (p : TwoEnds) (b : Between) (t : Tables) (packet : List ℕ) (h : Held) (pa : PacketAt s p b packet h) → Arriving s p b t (reference_of pa.unit) pa.did.row → Type 0
 DidThen s p b t packet h pa a = DidAt s p b (EndOf s p b t packet h pa a) h (reference_of pa.unit)
 
-opened_then : (s : Side) (p : TwoEnds) (b : Between) (e : End) (h : Held) (n : ℕ) (row : Row) → (d : DidAt s p b e h n) → e.carrier.ended ≡ None → d.row ≡ row → after row ≡ in_use → IsLinkedAt n e.carrier
+pub opened_then : (s : Side) (p : TwoEnds) (b : Between) (e : End) (h : Held) (n : ℕ) (row : Row) → (d : DidAt s p b e h n) → e.carrier.ended ≡ None → d.row ≡ row → after row ≡ in_use → IsLinkedAt n e.carrier
 opened_then s p b e h n row d lasts same open_now =
     linked_by n e.carrier (nat_lt e.carrier.given n) refl
     (ap (λ (c : Carrier). progress_of (place_at n c)) (sym (last_is s p b e h n d lasts)) ∙ d.stands ∙ ap after same ∙ open_now)
 
 -- its connections but this one are as they were
-lives_then : (s : Side) (p : TwoEnds) (b : Between) (t : Tables) (e : End) (h : Held) (n : ℕ) → Stands p b t → (end_at s p).end.carrier.ended ≡ None → (d : DidAt s p b e h n) → e.carrier.ended ≡ None → IsOrderly e.carrier →
+pub lives_then : (s : Side) (p : TwoEnds) (b : Between) (t : Tables) (e : End) (h : Held) (n : ℕ) → Stands p b t → (end_at s p).end.carrier.ended ≡ None → (d : DidAt s p b e h n) → e.carrier.ended ≡ None → IsOrderly e.carrier →
     (q : ℕ) → q ≢ n → value_at q e.carrier.live ≡ value_at q (end_at s p).end.carrier.live
 lives_then s p b t e h n old alive d lasts orderly q apart =
     value_same q e.carrier (end_at s p).end.carrier orderly (order_of s p b t old alive).sound.orderly
@@ -277,8 +514,8 @@ loud_order s p b t packet h old alive pa a d same f =
     let order = order_of s p b t old alive in
     let orderly : IsOrderly e.carrier = orderly_same (carrier_react pa.unit was.carrier) _ [] (orderly_unit pa.unit was.carrier order.sound.orderly) in
     let more : was.carrier.given ≤ e.carrier.given = subst (λ (c : Carrier). was.carrier.given ≤ c.given) f.acts (packet_rises packet was.carrier) in
-    acted_order was e.carrier n a.kept.line a.seen.own.session (heard_by pa.did.row a.first) order alive orderly refl f.lasts more
-    (lives_then s p b t e h n old alive d f.lasts orderly) a.kept.here a.kept.is a.hears.numbered
+    acted_order was e.carrier n a.kept.line (joining a.joined a.seen.own.session) a.seen.own.session a.hears.heard (heard_by pa.did.row a.first) order alive orderly refl f.lasts more
+    (lives_then s p b t e h n old alive d f.lasts orderly) a.kept.here a.kept.is a.hears.moves a.hears.numbered
     (λ needs. open_at n e.carrier f.lasts (opened_then s p b e h n pa.did.row d f.lasts same (a.hears.needs needs)))
 
 pub moved_then : MovingLaws → (s : Side) (p : TwoEnds) (b : Between) (t : Tables) (packet : List ℕ) (h : Held) → Stands p b t → (end_at s p).end.carrier.ended ≡ None → (pa : PacketAt s p b packet h) →
@@ -297,35 +534,38 @@ moved_then laws s p b t packet h old alive pa a d same f =
 -- ---- two ends then
 
 -- what is still under way to it
-pub rest_then : (s : Side) (p : TwoEnds) (b : Between) (t : Tables) (packet : List ℕ) (h : Held) → (end_at s p).end.carrier.ended ≡ None → (pa : PacketAt s p b packet h) → is_heard pa.did.row ≡ true →
-    (a : Arriving s p b t (reference_of pa.unit) pa.did.row) → (d : DidThen s p b t packet h pa a) → d.row ≡ pa.did.row →
-    AreAlike (after pa.did.row) (map message_in a.rest) (under_way (is_caller (other s)) (reference_of pa.unit) (carriers_of (with_holding s (EndOf s p b t packet h pa a) h p)) d.now)
-rest_then s p b t packet h alive pa heard a d same =
+pub rest_then : (s : Side) (p : TwoEnds) (b : Between) (t : Tables) (packet : List ℕ) (h : Held) → (pa : PacketAt s p b packet h) → (v : ArrivesAt s p b t packet h pa) →
+    Goes (other s) s (reference_of pa.unit) (with_holding s (EndOf s p b t packet h pa v.a) h p)
+    (did_at s p b packet h (quieted (loud_lines s p (moving s p b t (reference_of pa.unit) pa.did.row v.a))) pa).now (after pa.did.row) v.a.rest
+rest_then s p b t packet h pa v =
     let n = reference_of pa.unit in
-    let e = EndOf s p b t packet h pa a in
-    let sp = back_one s p b e h n a.seen (got_in pa.did.row) d a.stands alive (ap arrived_in same ∙ one_in pa.did.row heard) in
-    let two : sp.first ∷ sp.others ≡ a.first ∷ a.rest = sym sp.parts ∙ a.parts in
-    let rest : sp.others ≡ a.rest = cc in
-    subst (λ (r : Row). AreAlike (after r) (map message_in a.rest) (under_way (is_caller (other s)) n (carriers_of (with_holding s e h p)) d.now)) same
-    (subst (λ (ms : List Message). AreAlike (after d.row) (map message_in ms) (under_way (is_caller (other s)) n (carriers_of (with_holding s e h p)) d.now)) rest sp.stays)
+    let m = moving s p b t n pa.did.row v.a in
+    let e = EndOf s p b t packet h pa v.a in
+    let lines = quieted (loud_lines s p m) in
+    let now : kept_at n e.lines ≡ Some (listening (move_of m).next) = kept_then n v.a.kept.line v.a.seen.own.session (heard_by pa.did.row v.a.first) (end_at s p).end.lines v.a.kept.here in
+    let held : HasJoined n (record { end = e; held = h }) None = λ y at. (let two : Some (listening (move_of m).next) ≡ Some y = sym now ∙ at in
+    let is : listening (move_of m).next ≡ y = cc in
+    inl (ap (λ (z : Listener). z.joined) (sym is))) in
+    back_then s p (did_at s p b packet h lines pa).now e h n (after pa.did.row) None v.a.rest (other_lines s p b packet h n (end_at s p).end.lines lines pa (after pa.did.row) None v.a.rest v.stays) held
 
 stands_then : MovingLaws → (s : Side) (p : TwoEnds) (b : Between) (t : Tables) (packet : List ℕ) (h : Held) → Stands p b t → (end_at s p).end.carrier.ended ≡ None → (pa : PacketAt s p b packet h) → is_move pa.did.row ≡ true →
     (a : Arriving s p b t (reference_of pa.unit) pa.did.row) → (d : DidThen s p b t packet h pa a) → d.row ≡ pa.did.row → (f : ActsAt s p packet pa.unit (reference_of pa.unit) pa.did.row) →
+    Goes (other s) s (reference_of pa.unit) (with_holding s (EndOf s p b t packet h pa a) h p) d.now (after pa.did.row) a.rest →
     Stands (turned_pair s (EndOf s p b t packet h pa a) h (reference_of pa.unit) (move_of (moving s p b t (reference_of pa.unit) pa.did.row a)).shown p) d.now (moved_tables s t (moving s p b t (reference_of pa.unit) pa.did.row a))
-stands_then laws s p b t packet h old alive pa move a d same f =
+stands_then laws s p b t packet h old alive pa move a d same f back =
     let n = reference_of pa.unit in
     let m = moving s p b t n pa.did.row a in
     let e = EndOf s p b t packet h pa a in
     turned_stands s p b t e h d.now (moved_tables s t m) n (move_of m).shown old alive
     (move_unit s p b t packet h a.seen a.first a.rest pa.did.row (heard_by pa.did.row a.first) old alive pa a.found a.stands (moves_by s p b t n pa.did.row a) d same move
-    (rest_then s p b t packet h alive pa (move_heard pa.did.row move) a d same) (laws.packet.behind _ _ d.now d.between) (moved_then laws s p b t packet h old alive pa a d same f)
-    (moved_known s p b t e h n a.seen a.first pa.unit pa.did.row old alive d f.lasts pa.first pa.first.given same (as_move pa.did.row move) a.transport a.alike))
+    back (laws.packet.behind _ _ d.now d.between) (moved_then laws s p b t packet h old alive pa a d same f)
+    (moved_known s p b t e h n a.seen a.first pa.unit pa.did.row old alive d f.lasts pa.first pa.first.given same (as_move pa.did.row move) a.transport a.kind))
 
 -- what the packet does to the end
 pub does_then : (s : Side) (p : TwoEnds) (b : Between) (t : Tables) (packet : List ℕ) (h : Held) → (pa : PacketAt s p b packet h) →
     (a : Arriving s p b t (reference_of pa.unit) pa.did.row) → (f : ActsAt s p packet pa.unit (reference_of pa.unit) pa.did.row) →
     after_packet (end_at s p).end packet ≡ concludes (record {
-      carrier = answers (reference_of pa.unit) (as_made (move_of (moving s p b t (reference_of pa.unit) pa.did.row a))) (EndOf s p b t packet h pa a).carrier;
+      carrier = answers (reference_of pa.unit) 0 (as_made (move_of (moving s p b t (reference_of pa.unit) pa.did.row a))) (EndOf s p b t packet h pa a).carrier;
       lines = loud_lines s p (moving s p b t (reference_of pa.unit) pa.did.row a);
     })
 does_then s p b t packet h pa a f =
@@ -333,7 +573,7 @@ does_then s p b t packet h pa a f =
     let was = (end_at s p).end in
     one_told was packet pa.unit a.hears.event f.acts (f.events ∙ a.hears.told)
     ∙ ap concludes (a.hears.hears (told_all pa.unit was) a.kept.line a.kept.here
-    ∙ session_acts n (heard_by pa.did.row a.first) (told_all pa.unit was) a.kept.line a.seen.own.session a.kept.here a.kept.is)
+    ∙ session_acts n a.hears.heard (heard_by pa.did.row a.first) (told_all pa.unit was) a.kept.line (joining a.joined a.seen.own.session) a.seen.own.session a.kept.here a.kept.is a.hears.moves (a.hears.alone (joining a.joined a.seen.own.session)))
 
 -- it is the move of the row that the packet is
 pub record MovedBy (s : Side) (p : TwoEnds) (b : Between) (t : Tables) (packet : List ℕ) (h : Held) (pa : PacketActs (terms_at p) (is_caller s) (carriers_of p) b packet h.octets) : Type 0 where
@@ -344,12 +584,12 @@ pub record MovedBy (s : Side) (p : TwoEnds) (b : Between) (t : Tables) (packet :
 
 -- a packet of which a session hears, at an end that has not ended
 pub has_moved : MovingLaws → (s : Side) (p : TwoEnds) (b : Between) (t : Tables) (packet : List ℕ) (h : Held) → Stands p b t → IsTableRun t → (end_at s p).end.carrier.ended ≡ None →
-    (pa : PacketActs (terms_at p) (is_caller s) (carriers_of p) b packet h.octets) → is_move pa.did.row ≡ true → MovedBy s p b t packet h pa
-has_moved laws s p b t packet h old run alive pa move =
+    (pa : PacketActs (terms_at p) (is_caller s) (carriers_of p) b packet h.octets) → ArrivesAt s p b t packet h pa → is_move pa.did.row ≡ true → MovedBy s p b t packet h pa
+has_moved laws s p b t packet h old run alive pa v move =
     let n = reference_of pa.unit in
     let row = pa.did.row in
     let heard = move_heard row move in
-    let a = arriving laws s p b t packet h old run alive pa heard in
+    let a = v.a in
     let m = moving s p b t n row a in
     let e = moved_end s p pa.unit m in
     let d = did_at s p b packet h (quieted (loud_lines s p m)) pa in
@@ -366,20 +606,19 @@ has_moved laws s p b t packet h old run alive pa move =
         some = pa.first.named;
         given = omega arith;
         here = a.kept.here;
-        is = a.kept.is;
         found = a.found;
         first = a.parts;
         does = does_then s p b t packet h pa a f;
         waits = put_waits n a.kept.line (as_made (move_of m)) (end_at s p).end.lines (quiet_of s p b t old) a.kept.here;
-        steps = λ keep. step_moves t s n keep row a.seen a.first a.rest (got_in row) (lasting_in s p b t old alive) a.found a.parts a.transport move (one_in row heard) a.alike;
+        steps = λ keep. step_moves t s n keep row a.seen a.first a.rest (got_in row) (lasting_in s p b t old alive) a.found a.parts a.transport move (one_in row heard) a.kind;
         lasts = f.lasts;
         local = f.local;
-        kept = kept_then n a.kept.line a.seen.own.session (heard_by row a.first) (end_at s p).end.lines a.kept.here a.kept.is;
+        kept = kept_then n a.kept.line a.seen.own.session (heard_by row a.first) (end_at s p).end.lines a.kept.here;
         now = d.now;
-        stands = stands_then laws s p b t packet h old alive pa move a d same f;
+        stands = stands_then laws s p b t packet h old alive pa move a d same f (rest_then s p b t packet h pa v);
         found_now = (tables_delivered s n (seen_from (side_in s) a.seen) t (known_by t m) (record { line = moved_line m; shown = (move_of m).shown; closes = false }) a.found).lines.found;
         opened = λ open_now. opened_then s p b e h n row d f.lasts same open_now;
-        agreed = λ open_now. moved_class s p b t e h n a.seen a.first pa.unit row old d pa.first same (as_move row move) a.transport a.alike open_now;
+        agreed = λ open_now. moved_class s p b t e h n a.seen a.first pa.unit row old d pa.first same (as_move row move) a.transport a.kind open_now;
         silent = a.hears.silent;
         sends = a.hears.goes.sends;
       };

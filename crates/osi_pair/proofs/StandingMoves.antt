@@ -1,8 +1,8 @@
 -- A message arrives, and a session makes its move: what it sends is not handed over yet, and nothing is closed yet.
-use Rattle.std.proofs.Common.{◌≡◌, ◌≢◌, ℕ, ◌≤◌, Bool, true, false, List, [], ◌∷◌, map, Option, Some, None, IfSome, option_map, refl, sym, ap, subst, ◌∙◌}
+use Rattle.std.proofs.Common.{◌≡◌, ◌≢◌, ℕ, ◌≤◌, Bool, true, false, List, [], ◌∷◌, Option, Some, None, IfSome, option_map, refl, sym, ap, subst, ◌∙◌}
 use Rattle.osi_tpkt.specs.Held.{Held}
 use Rattle.osi_carrier.specs.Addresses.{reference_of}
-use Rattle.osi_carrier.specs.Between.{Between, last_of, under_way}
+use Rattle.osi_carrier.specs.Between.{Between, last_of}
 use Rattle.osi_carrier.specs.Course.{place_at, progress_of}
 use Rattle.osi_carrier.specs.Messages as carrier
 use Rattle.osi_carrier.specs.Progress.{leaves_use}
@@ -16,12 +16,11 @@ use Rattle.osi_message.specs.Sendable.{said_of}
 use Rattle.osi_message.specs.Meanings.{Meaning}
 use Rattle.osi_session.specs.Moves.{Input, taken, opened, refused, broken as broken_off, Standing, Move, react}
 use Rattle.osi_session.specs.Phases.{is_ended}
-use Rattle.osi_session.specs.Whole.{listening}
 use Rattle.osi_stack.specs.Messages.{kept_at}
 use Rattle.osi_stack.specs.State.{Line, End}
 use Rattle.osi_pair.specs.Ends.{TwoEnds, end_at}
 use Rattle.osi_pair.specs.Sides.{other}
-use Rattle.osi_pair.specs.Standing.{side_in, is_caller, class_in, carriers_of, message_in, AreAlike, is_parting, Stands}
+use Rattle.osi_pair.specs.Standing.{side_in, is_caller, class_in, carriers_of, message_in, is_parting, Stands, Goes}
 use Rattle.osi_pair.specs.Telling.{quieted}
 use Rattle.osi_pair.specs.declared.sides.Side.{Side}
 use Rattle.osi_pair.proofs.StandingArrived.{PacketActs}
@@ -32,6 +31,7 @@ use Rattle.osi_pair.proofs.StandingResting.{acted_end, EndThen, NextFor, out_row
 use Rattle.osi_pair.proofs.StandingRows.{Row, quiet, still, begins, refuses, agrees, denies, tells, leaves, ignores, ends, before, after, arrived_in}
 use Rattle.osi_pair.proofs.StandingSeats.{transport_by, HasSession}
 use Rattle.osi_pair.proofs.StandingTurned.{IsSeen, with_holding}
+use Rattle.osi_carrier.specs.Messages.{kind_of}
 
 -- ---- the turn of the tables
 
@@ -52,7 +52,7 @@ is_move row = false
 alone_is : (x y : carrier.Message) → x ∷ [] ≡ y ∷ [] → x ≡ y
 alone_is x y e = cc
 
-turn_agrees : (broken : Bool) (terms : worlds.Terms) (keep : ℕ) (x : Standing) (channel : List Message) (peer : Seat) (m : Message) → message_in m ≡ carrier.agree →
+turn_agrees : (broken : Bool) (terms : worlds.Terms) (keep : ℕ) (x : Standing) (channel : List Message) (peer : Seat) (m : Message) → kind_of (message_in m) ≡ carrier.agree →
     message_taken broken terms keep worlds.waiting (record { own = seat_now worlds.waiting x channel; peer = peer }) m ≡ hears broken worlds.linked opened (record { own = seat_now worlds.waiting x channel; peer = peer })
 turn_agrees broken terms keep x channel peer agree e = refl
 turn_agrees broken terms keep x channel peer ask e = cc
@@ -61,7 +61,7 @@ turn_agrees broken terms keep x channel peer (deny why) e = cc
 turn_agrees broken terms keep x channel peer (bye why) e = cc
 turn_agrees broken terms keep x channel peer over e = cc
 
-turn_denies : (broken : Bool) (terms : worlds.Terms) (keep : ℕ) (x : Standing) (channel : List Message) (peer : Seat) (reason : ℕ) (m : Message) → message_in m ≡ carrier.deny reason →
+turn_denies : (broken : Bool) (terms : worlds.Terms) (keep : ℕ) (x : Standing) (channel : List Message) (peer : Seat) (reason : ℕ) (m : Message) → kind_of (message_in m) ≡ carrier.deny reason →
     message_taken broken terms keep worlds.waiting (record { own = seat_now worlds.waiting x channel; peer = peer }) m ≡ hears broken worlds.gone (refused reason) (record { own = seat_now worlds.waiting x channel; peer = peer })
 turn_denies broken terms keep x channel peer reason (deny why) e =
     let same : why ≡ reason = cc in
@@ -72,7 +72,7 @@ turn_denies broken terms keep x channel peer reason agree e = cc
 turn_denies broken terms keep x channel peer reason (bye why) e = cc
 turn_denies broken terms keep x channel peer reason over e = cc
 
-turn_tells : (broken : Bool) (terms : worlds.Terms) (keep : ℕ) (x : Standing) (channel : List Message) (peer : Seat) (octets : List ℕ) (m : Message) → message_in m ≡ carrier.message octets →
+turn_tells : (broken : Bool) (terms : worlds.Terms) (keep : ℕ) (x : Standing) (channel : List Message) (peer : Seat) (octets : List ℕ) (m : Message) → kind_of (message_in m) ≡ carrier.message [] →
     message_taken broken terms keep worlds.linked (record { own = seat_now worlds.linked x channel; peer = peer }) m ≡ hears broken worlds.linked (heard_by (tells octets) m) (record { own = seat_now worlds.linked x channel; peer = peer })
 turn_tells broken terms keep x channel peer octets (unit u) e = refl
 turn_tells broken terms keep x channel peer octets ask e = cc
@@ -82,12 +82,12 @@ turn_tells broken terms keep x channel peer octets (bye why) e = cc
 turn_tells broken terms keep x channel peer octets over e = cc
 
 turn_by : (broken : Bool) (terms : worlds.Terms) (keep : ℕ) (row : Row) (x : Standing) (channel : List Message) (peer : Seat) (m : Message) (got : carrier.Message) → is_move row ≡ true →
-    arrived_in row ≡ got ∷ [] → AreAlike (before row) (message_in m ∷ []) (got ∷ []) →
+    arrived_in row ≡ got ∷ [] → kind_of (message_in m) ≡ kind_of got →
     message_taken broken terms keep (transport_by (before row)) (record { own = seat_now (transport_by (before row)) x channel; peer = peer }) m ≡
     hears broken (transport_by (after row)) (heard_by row m) (record { own = seat_now (transport_by (before row)) x channel; peer = peer })
-turn_by broken terms keep agrees x channel peer m got is e a = turn_agrees broken terms keep x channel peer m (alone_is _ _ (a ∙ sym e))
-turn_by broken terms keep (denies reason) x channel peer m got is e a = turn_denies broken terms keep x channel peer reason m (alone_is _ _ (a ∙ sym e))
-turn_by broken terms keep (tells octets) x channel peer m got is e a = turn_tells broken terms keep x channel peer octets m (alone_is _ _ (a ∙ sym e))
+turn_by broken terms keep agrees x channel peer m got is e a = turn_agrees broken terms keep x channel peer m (a ∙ ap kind_of (sym (alone_is _ got e)))
+turn_by broken terms keep (denies reason) x channel peer m got is e a = turn_denies broken terms keep x channel peer reason m (a ∙ ap kind_of (sym (alone_is _ got e)))
+turn_by broken terms keep (tells octets) x channel peer m got is e a = turn_tells broken terms keep x channel peer octets m (a ∙ ap kind_of (sym (alone_is _ got e)))
 turn_by broken terms keep quiet x channel peer m got is e a = cc
 turn_by broken terms keep still x channel peer m got is e a = cc
 turn_by broken terms keep begins x channel peer m got is e a = cc
@@ -105,7 +105,7 @@ turn_then row input broken reply x channel back l = record {
 }
 
 pub turn_moves : (broken : Bool) (terms : worlds.Terms) (keep : ℕ) (row : Row) (l : TableLine) (m : Message) (xs : List Message) (got : carrier.Message) → l.own.transport ≡ transport_by (before row) → is_move row ≡ true →
-    arrived_in row ≡ got ∷ [] → AreAlike (before row) (message_in m ∷ []) (got ∷ []) →
+    arrived_in row ≡ got ∷ [] → kind_of (message_in m) ≡ kind_of got →
     message_taken broken terms keep l.own.transport (without_first l xs) m ≡ turn_then row (heard_by row m) broken (react l.own.session (heard_by row m)).reply l.own.session l.own.channel xs l
 turn_moves broken terms keep row l m xs got f is e a =
     ap (λ (tr : worlds.Transport). message_taken broken terms keep tr (record { own = seat_now tr l.own.session l.own.channel; peer = record l.peer { channel = xs } }) m) f
@@ -138,7 +138,7 @@ sends_none (ends m) broken channel e = cc
 -- the step of the tables
 pub step_moves : (t : Tables) (s : Side) (n : ℕ) (keep : ℕ → ℕ) (row : Row) (l : TableLine) (m : Message) (xs : List Message) (got : carrier.Message) → end_of (side_in s) t ≡ None →
     connection_at n t.lines ≡ Some (seen_from (side_in s) l) → l.peer.channel ≡ m ∷ xs → l.own.transport ≡ transport_by (before row) → is_move row ≡ true → arrived_in row ≡ got ∷ [] →
-    AreAlike (before row) (message_in m ∷ []) (got ∷ []) →
+    kind_of (message_in m) ≡ kind_of got →
     step t (delivers (side_in s) n keep) ≡ after_turn (record t { known = learns t.terms l.own.transport m t.known }) (side_in s) n keep
     (turn_then row (heard_by row m) t.broken (react l.own.session (heard_by row m)).reply l.own.session l.own.channel xs l)
 step_moves t s n keep row l m xs got lasting found first tr move one alike =
@@ -159,7 +159,6 @@ moved_others s p e n line x input is =
 pub record MovesBy (s : Side) (p : TwoEnds) (n : ℕ) (x : Standing) (row : Row) (input : Input) : Type 0 where
   pub line : Line
   pub here : value_at n (end_at s p).end.lines ≡ Some line
-  pub is : line.session ≡ Some (listening x)
   pub ended : is_parting (transport_by (after row)) ≡ true → is_ended (react x input).next.state.phase ≡ true
   pub waits : transport_by (after row) ≡ worlds.not_yet → (react x input).next ≡ awaits
   pub octets : IfSome (react x input).next.waiting IsInOctets
@@ -178,7 +177,7 @@ pub move_unit : (s : Side) (p : TwoEnds) (b : Between) (t : Tables) (packet : Li
     connection_at (reference_of pa.unit) t.lines ≡ Some (seen_from (side_in s) l) → IsSeen s (reference_of pa.unit) p b l →
     (k : MovesBy s p (reference_of pa.unit) l.own.session row input) →
     (d : DidAt s p b (acted_end pa.unit (moved_lines s p (reference_of pa.unit) l.own.session row input k) (end_at s p).end) h (reference_of pa.unit)) → d.row ≡ row → is_move row ≡ true →
-    AreAlike (after row) (map message_in xs) (under_way (is_caller (other s)) (reference_of pa.unit) (carriers_of (with_holding s (acted_end pa.unit (moved_lines s p (reference_of pa.unit) l.own.session row input k) (end_at s p).end) h p)) d.now) →
+    Goes (other s) s (reference_of pa.unit) (with_holding s (acted_end pa.unit (moved_lines s p (reference_of pa.unit) l.own.session row input k) (end_at s p).end) h p) d.now (after row) xs →
     d.now.called.given ≤ d.now.caller.given → EndThen s p (acted_end pa.unit (moved_lines s p (reference_of pa.unit) l.own.session row input k) (end_at s p).end) →
     learns t.terms l.own.transport m t.known ≡ option_map class_in (with_holding s (acted_end pa.unit (moved_lines s p (reference_of pa.unit) l.own.session row input k) (end_at s p).end) h p).left.end.carrier.class →
     NextFor s p b t pa.unit h (moved_lines s p (reference_of pa.unit) l.own.session row input k) (reference_of pa.unit) (react l.own.session input).shown
@@ -192,11 +191,11 @@ move_unit s p b t packet h l m xs row input old alive pa found seen k d same mov
     let steady : leaves_use (before d.row) (after d.row) ≡ false = ap (λ (r : Row). leaves_use (before r) (after r)) same ∙ stays_in_use row move in
     finish s p b t u e h n (react x input).shown l (react x input).next l.own.channel xs old alive d new.lasts new.local new.role pa.first.given behind new.order new.waits
     (moved_others s p e n k.line x input refl)
-    (subst (λ (r : Row). HasSession n e.lines (after r) (react x input).next) (sym same) (session_then n k.line x input (end_at s p).end.lines (after row) k.here k.is k.ended k.waits k.octets)) seen
+    (subst (λ (r : Row). HasSession n e.lines (after r) (react x input).next) (sym same) (session_then n k.line x input (end_at s p).end.lines (after row) k.here k.ended k.waits k.octets)) seen
     (record {
-      out = λ lives. subst (λ (ms : List Message). AreAlike (progress_of (place_at n (last_of (is_caller (other s)) d.now))) (map message_in ms) (under_way (is_caller s) n (carriers_of (with_holding s e h p)) d.now))
-          (ap (λ (r : Row). sends_then r t.broken l.own.channel) same ∙ sends_none row t.broken l.own.channel move) (out_row s p b t e h n l old d seen steady lives);
-      back = subst (λ (r : Row). AreAlike (after r) (map message_in xs) (under_way (is_caller (other s)) n (carriers_of (with_holding s e h p)) d.now)) (sym same) back;
+      out = subst (λ (ms : List Message). Goes s (other s) n (with_holding s e h p) d.now (progress_of (place_at n (last_of (is_caller (other s)) d.now))) ms)
+          (ap (λ (r : Row). sends_then r t.broken l.own.channel) same ∙ sends_none row t.broken l.own.channel move) (out_row s p b t e h n l old d seen steady alive);
+      back = subst (λ (r : Row). Goes (other s) s n (with_holding s e h p) d.now (after r) xs) (sym same) back;
     })
     (subst (λ (r : Row). TablesAfter s n t u (react x input).shown (line_then r (react x input).next l.own.channel xs l)) (sym same)
     (tables_delivered s n (seen_from (side_in s) l) t (learns t.terms l.own.transport m t.known) turn found))

@@ -1,55 +1,58 @@
 -- A packet is taken at an end with which no session acts, or one begins: it is no step of the tables, or one
 -- delivery.
-use Rattle.std.proofs.Common.{◌≡◌, ◌≢◌, ℕ, ◌<◌, ◌≤◌, Bool, true, false, not, List, [], ◌∷◌, ◌++◌, map, Option, Some, None, is_some, option_map, refl, sym, ap, subst, ◌∙◌, ◌⊎◌, inl, inr}
+use Rattle.std.proofs.Common.{◌≡◌, ℕ, ◌≤◌, Bool, true, false, List, [], ◌∷◌, ◌++◌, Option, Some, None, option_map, refl, sym, ap, subst, ◌∙◌, ◌⊎◌, inl, inr}
 use Rattle.std.specs.List.{AllByRecursion}
 use Rattle.std.proofs.lemmas.List.{append-nil}
 use Rattle.osi_tpkt.specs.Held.{Held}
 use Rattle.osi_tpkt.specs.Packet.{IsPacket}
 use Rattle.osi_tpdu.specs.Value.{Value}
 use Rattle.osi_carrier.specs.Addresses.{reference_of}
-use Rattle.osi_carrier.specs.Between.{Both, side, Between, last_of, AreBetween}
+use Rattle.osi_carrier.specs.Between.{Both, side, Between, last_of, AreBetween, is_cut, under_way}
 use Rattle.osi_carrier.specs.Coming.{IsSendable}
 use Rattle.osi_carrier.specs.Course.{place_at, progress_of}
 use Rattle.osi_carrier.specs.Happenings.{opened}
 use Rattle.osi_carrier.specs.Packets as carriers
 use Rattle.osi_carrier.specs.Messages as carrier
 use Rattle.osi_carrier.specs.Orderly.{RiseFrom}
-use Rattle.osi_carrier.specs.Progress.{leaves_use, not_yet}
+use Rattle.osi_carrier.specs.Progress.{leaves_use, not_yet, shutting}
 use Rattle.osi_carrier.specs.React.{react as carrier_react}
 use Rattle.osi_carrier.specs.Rows.{Rows, value_at}
 use Rattle.osi_carrier.specs.State.{State}
-use Rattle.osi_carrier.specs.Terms.{Terms, terms_of}
+use Rattle.osi_carrier.specs.Terms.{Terms, terms_of, by_two, by_zero, refusing}
 use Rattle.osi_class.specs.declared.terms.Local.{Local}
 use Rattle.osi_carrier.proofs.Apart.{beyond}
 use Rattle.osi_machine.specs.Core as machine
 use Rattle.osi_machine.specs.Machine.{Ending, Step, connects, calls, delivers, breaks, HasNumber}
 use Rattle.osi_machine.specs.Machine.{ends as ends_side}
-use Rattle.osi_machine.specs.Tables.{Tables, end_of, step, run, start}
-use Rattle.osi_machine.specs.Worlds.{Message}
+use Rattle.osi_machine.specs.Tables.{Line as TableLine, Tables, end_of, step, run, start}
+use Rattle.osi_machine.specs.Worlds.{Message, unit, ask, agree, deny, bye, over}
 use Rattle.osi_session.specs.Sessions.{awaits}
-use Rattle.osi_session.specs.Shown.{Shown}
 use Rattle.osi_stack.specs.Coming.{after_unit, carries_out}
 use Rattle.osi_stack.specs.Folds.{AllCameAbout}
 use Rattle.osi_stack.specs.Hearing.{after_packet, attends, concludes, opens}
 use Rattle.osi_stack.specs.Links.{IsSound}
 use Rattle.osi_stack.specs.Messages.{told_all}
-use Rattle.osi_stack.specs.State.{Line, End, Holding, IsAttended, joins}
+use Rattle.osi_stack.specs.State.{Line, End, IsAttended, joins}
 use Rattle.osi_stack.proofs.Rising.{rise_joins}
 use Rattle.osi_pair.specs.Ends.{TwoEnds, end_at}
 use Rattle.osi_pair.specs.Entries.{Entry}
-use Rattle.osi_pair.specs.Standing.{side_in, is_caller, terms_in, ending_in, carriers_of, packet_taken, AreDeliveries, StandsAtDeliveries, IsInOrder, Stands, StandsAt}
-use Rattle.osi_pair.specs.Telling.{waiting_in, quieted}
+use Rattle.osi_pair.specs.Standing.{side_in, is_caller, terms_in, ending_in, carriers_of, packet_taken, AreDeliveries, StandsAtDeliveries, IsInOrder, Stands, StandsAt, Goes, HasJoined, message_in}
+use Rattle.osi_pair.specs.Telling.{waiting_in}
 use Rattle.osi_pair.specs.declared.sides.Side.{Side}
 use Rattle.osi_pair.specs.declared.sides.Side.TheVariants.{Left, Right}
 use Rattle.osi_pair.proofs.StandingArrived.{CarrierLaws, PacketActs, packet_acts}
 use Rattle.osi_pair.proofs.StandingBegins.{begun_lines, begun_waits, begins_unit, new_at}
 use Rattle.osi_pair.proofs.StandingFinish.{terms_at, DidAt, is_agree, last_is, order_of}
 use Rattle.osi_pair.proofs.StandingHeard.{carried_out, nothing_heard, one_told, lasting}
-use Rattle.osi_pair.proofs.StandingQuiet.{quiet_same}
 use Rattle.osi_pair.proofs.StandingRests.{is_awaited, rests, sends_then}
-use Rattle.osi_pair.proofs.StandingResting.{acted_end, did_at, same_row, was_at, is_rest, EndThen, quiet_unit, rest_unit}
-use Rattle.osi_pair.proofs.StandingRows.{Row, quiet, still, begins, refuses, agrees, denies, tells, leaves, ignores, ends, before, after, arrived_in, told_for}
-use Rattle.osi_pair.proofs.StandingTurned.{with_holding, turned_pair, turned_stands}
+use Rattle.osi_pair.proofs.StandingResting.{acted_end, did_at, same_row, was_at, is_rest, EndThen, quiet_unit, rest_unit, FoundLine, line_at, back_none, back_one, back_alone, back_then, over_holds}
+use Rattle.osi_pair.proofs.StandingRows.{Row, quiet, still, begins, refuses, agrees, denies, tells, leaves, ignores, ends, before, after, arrived_in, told_for, is_row}
+use Rattle.osi_pair.proofs.StandingTurned.{with_holding, turned_pair, turned_stands, IsSeen}
+use Rattle.osi_pair.proofs.StandingWays.{Alone, is_tsdu}
+use Rattle.osi_pair.proofs.StandingSeats.{session_of_seat}
+use Rattle.osi_machine.specs.AsTables.{is_leaving}
+use Rattle.osi_pair.specs.Sides.{other}
+use Rattle.osi_carrier.specs.Messages.{kind_of as message_kind}
 
 -- what is proved of two carriers and of one end
 pub record PacketLaws : Type 0 where
@@ -185,7 +188,9 @@ quiet_packet laws s p b t packet h old alive pa q =
     let new = rest_end laws s p b t packet h old alive pa same heard f.lasts f.local in
     let d = did_at s p b packet h was.lines pa in
     let row = same_row s p b packet h was.lines pa in
-    let x = quiet_unit s p b t packet h old alive pa d (ap arrived_in row ∙ q.none) (ap before row ∙ q.same ∙ sym (ap after row)) (ap is_rest row ∙ q.rest) (ap is_agree row ∙ q.agree)
+    let at = line_at s n p b t old pa.first.named pa.first.given in
+    let same_place = ap before row ∙ q.same ∙ sym (ap after row) in
+    let x = quiet_unit s p b t packet h old alive pa d at (back_none s p b e h n at.line d at.is alive (ap arrived_in row ∙ q.none) same_place (λ y kept. kept)) same_place (ap is_rest row ∙ q.rest) (ap is_agree row ∙ q.agree)
     (ap (λ (r : Row). leaves_use (before r) (after r)) row ∙ q.stays) (λ broken channel. ap (λ (r : Row). sends_then r broken channel) row ∙ q.sends broken channel) (laws.behind _ _ d.now d.between) new in
     record {
       more = [];
@@ -200,9 +205,16 @@ quiet_packet laws s p b t packet h old alive pa q =
       stands = turned_stands s p b t e h d.now t n [] old alive x;
     }
 
+-- the message that came is the first of those that the tables have under way
+abbrev BackThen : (s : Side) (p : TwoEnds) (b : Between) (packet : List ℕ) (h : Held) → (pa : PacketActs (terms_at p) (is_caller s) (carriers_of p) b packet h.octets) → List Message → Type 0
+BackThen s p b packet h pa ms =
+    Goes (other s) s (reference_of pa.unit) (with_holding s (acted_end pa.unit (end_at s p).end.lines (end_at s p).end) h p) (did_at s p b packet h (end_at s p).end.lines pa).now
+    (after (did_at s p b packet h (end_at s p).end.lines pa).row) ms
+
 rest_packet : PacketLaws → (s : Side) (p : TwoEnds) (b : Between) (t : Tables) (packet : List ℕ) (h : Held) → Stands p b t → (end_at s p).end.carrier.ended ≡ None →
-    (pa : PacketActs (terms_at p) (is_caller s) (carriers_of p) b packet h.octets) → IsRestRow pa.did.row (reference_of pa.unit) → StandsBehind s p t packet h
-rest_packet laws s p b t packet h old alive pa q =
+    (pa : PacketActs (terms_at p) (is_caller s) (carriers_of p) b packet h.octets) → (q : IsRestRow pa.did.row (reference_of pa.unit)) → (at : FoundLine s (reference_of pa.unit) p b t) (first : Message) (others : List Message) →
+    at.line.peer.channel ≡ first ∷ others → message_kind (message_in first) ≡ message_kind q.got → BackThen s p b packet h pa others → StandsBehind s p t packet h
+rest_packet laws s p b t packet h old alive pa q at first others parts kind back =
     let n = reference_of pa.unit in
     let was = (end_at s p).end in
     let e = acted_end pa.unit was.lines was in
@@ -212,8 +224,8 @@ rest_packet laws s p b t packet h old alive pa q =
     let new = rest_end laws s p b t packet h old alive pa same heard f.lasts f.local in
     let d = did_at s p b packet h was.lines pa in
     let row = same_row s p b packet h was.lines pa in
-    let x = rest_unit s p b t packet h q.got old alive (lasting_in s p b t old alive) pa d (ap arrived_in row ∙ q.one) (ap is_rest row ∙ q.rest) (ap rests row ∙ q.resting) (ap is_agree row ∙ q.agree)
-    (ap is_awaited row ∙ q.awaited) (ap (λ (r : Row). leaves_use (before r) (after r)) row ∙ q.stays) (laws.behind _ _ d.now d.between) new in
+    let x = rest_unit s p b t packet h q.got old alive (lasting_in s p b t old alive) pa d at first others parts kind back (ap arrived_in row ∙ q.one) (ap is_rest row ∙ q.rest) (ap rests row ∙ q.resting)
+    (ap is_agree row ∙ q.agree) (ap is_awaited row ∙ q.awaited) (ap (λ (r : Row). leaves_use (before r) (after r)) row ∙ q.stays) (laws.behind _ _ d.now d.between) new in
     record {
       more = delivers (side_in s) n (λ r. 0) ∷ [];
       are = (refl, tt);
@@ -226,6 +238,64 @@ rest_packet laws s p b t packet h old alive pa q =
       local = f.local;
       stands = turned_stands s p b t e h d.now (step t (delivers (side_in s) n (λ r. 0))) n [] old alive x;
     }
+
+-- a part of one Data came to an end that ignores it: the tables have it under way until its last part comes
+ignored_packet : PacketLaws → (s : Side) (p : TwoEnds) (b : Between) (t : Tables) (packet : List ℕ) (h : Held) → Stands p b t → (end_at s p).end.carrier.ended ≡ None →
+    (pa : PacketActs (terms_at p) (is_caller s) (carriers_of p) b packet h.octets) → (octets : List ℕ) → pa.did.row ≡ ignores octets → (at : FoundLine s (reference_of pa.unit) p b t) → BackThen s p b packet h pa at.line.peer.channel →
+    StandsBehind s p t packet h
+ignored_packet laws s p b t packet h old alive pa octets is at back =
+    let n = reference_of pa.unit in
+    let was = (end_at s p).end in
+    let e = acted_end pa.unit was.lines was in
+    let f = acts_at s p b packet h pa in
+    let same = nothing_heard was packet pa.unit f.acts (f.events ∙ ap (told_for n) is) f.lasts in
+    let heard = sym (carried_out was packet pa.unit f.acts) ∙ same in
+    let new = rest_end laws s p b t packet h old alive pa same heard f.lasts f.local in
+    let d = did_at s p b packet h was.lines pa in
+    let row : d.row ≡ ignores octets = same_row s p b packet h was.lines pa ∙ is in
+    let x = quiet_unit s p b t packet h old alive pa d at back (ap before row ∙ sym (ap after row)) (ap is_rest row) (ap is_agree row) (ap (λ (r : Row). leaves_use (before r) (after r)) row)
+    (λ broken channel. ap (λ (r : Row). sends_then r broken channel) row) (laws.behind _ _ d.now d.between) new in
+    record {
+      more = [];
+      are = tt;
+      now = d.now;
+      end = e;
+      n = n;
+      same = same;
+      lasts = f.lasts;
+      waits = new.waits;
+      local = f.local;
+      stands = turned_stands s p b t e h d.now t n [] old alive x;
+    }
+
+got_is : (row : Row) (n : ℕ) (q : IsRestRow row n) (m : carrier.Message) → arrived_in row ≡ m ∷ [] → q.got ≡ m
+got_is row n q m e = let two : q.got ∷ [] ≡ m ∷ [] = sym q.one ∙ e in cc
+
+row_of_pa : (s : Side) (p : TwoEnds) (b : Between) (packet : List ℕ) (h : Held) → (pa : PacketActs (terms_at p) (is_caller s) (carriers_of p) b packet h.octets) → is_row (terms_at p) pa.did.row
+row_of_pa Left p b packet h pa = pa.did.is
+row_of_pa Right p b packet h pa = pa.did.is
+
+-- of a message that is no TSDU
+came_alone : (s : Side) (p : TwoEnds) (b : Between) (t : Tables) (packet : List ℕ) (h : Held) → (end_at s p).end.carrier.ended ≡ None → (pa : PacketActs (terms_at p) (is_caller s) (carriers_of p) b packet h.octets) →
+    (q : IsRestRow pa.did.row (reference_of pa.unit)) → (at : FoundLine s (reference_of pa.unit) p b t) → is_tsdu q.got ≡ false →
+    Alone (before (did_at s p b packet h (end_at s p).end.lines pa).row) (after (did_at s p b packet h (end_at s p).end.lines pa).row)
+    (is_cut (is_caller (other s)) (carriers_of (with_holding s (acted_end pa.unit (end_at s p).end.lines (end_at s p).end) h p))) (HasJoined (reference_of pa.unit) (end_at s p)) at.line.peer.channel q.got
+    (under_way (is_caller (other s)) (reference_of pa.unit) (carriers_of (with_holding s (acted_end pa.unit (end_at s p).end.lines (end_at s p).end) h p)) (did_at s p b packet h (end_at s p).end.lines pa).now)
+came_alone s p b t packet h alive pa q at other_kind =
+    let lines = (end_at s p).end.lines in
+    back_alone s p b (acted_end pa.unit lines (end_at s p).end) h (reference_of pa.unit) at.line q.got (did_at s p b packet h lines pa) at.is alive (ap arrived_in (same_row s p b packet h lines pa) ∙ q.one) other_kind
+
+-- what is joined then, row by row
+held_then : (s : Side) (p : TwoEnds) (b : Between) (t : Tables) (n : ℕ) (row : Row) (l : TableLine) (begun : Option (List ℕ)) → Stands p b t → (end_at s p).end.carrier.ended ≡ None →
+    progress_of (place_at n (last_of (is_caller s) b)) ≡ before row → IsSeen s n p b l → before row ≡ shutting → HasJoined n (end_at s p) begun
+held_then s p b t n row l begun old alive stood i shuts =
+    let now : progress_of (place_at n (end_at s p).end.carrier) ≡ shutting = ap (λ (c : State). progress_of (place_at n c)) (sym (was_at s p b t old alive)) ∙ stood ∙ shuts in
+    over_holds s p n shutting l.own.session begun (order_of s p b t old alive) (session_of_seat n (end_at s p) l.own shutting now i.here) refl
+
+stood_at : (s : Side) (p : TwoEnds) (b : Between) (packet : List ℕ) (h : Held) → (pa : PacketActs (terms_at p) (is_caller s) (carriers_of p) b packet h.octets) →
+    progress_of (place_at (reference_of pa.unit) (last_of (is_caller s) b)) ≡ before pa.did.row
+stood_at Left p b packet h pa = pa.did.stood
+stood_at Right p b packet h pa = pa.did.stood
 
 -- a session begins
 opens_new : (n : ℕ) (lines : Rows Line) (e : End) → value_at n lines ≡ None → opens n (value_at n lines) e ≡ joins n awaits e
@@ -293,8 +363,11 @@ quiet_told n (ignores octets) e = refl
 quiet_told n (ends m) e = refl
 
 -- which of the three a row is, of which no session hears
+abbrev RestsAt : Row → ℕ → Type 0
+RestsAt row n = ((reason : ℕ) × (row ≡ refuses reason)) ⊎ (((m : carrier.Message) × (row ≡ ends m)) ⊎ ((octets : List ℕ) × (row ≡ ignores octets)))
+
 abbrev Kind : Row → ℕ → Type 0
-Kind row n = IsQuietRow row n ⊎ (IsRestRow row n ⊎ (row ≡ begins))
+Kind row n = IsQuietRow row n ⊎ (RestsAt row n ⊎ (row ≡ begins))
 
 not_heard : true ≡ false → ⊥
 not_heard e = cc
@@ -303,18 +376,81 @@ kind_of : (n : ℕ) (row : Row) → is_heard row ≡ false → Kind row n
 kind_of n quiet e = inl (quiet_row n)
 kind_of n still e = inl (still_row n)
 kind_of n begins e = inr (inr refl)
-kind_of n (refuses reason) e = inr (inl (refuses_row n reason))
-kind_of n (ignores octets) e = inr (inl (ignores_row n octets))
-kind_of n (ends m) e = inr (inl (ends_row n m))
+kind_of n (refuses reason) e = inr (inl (inl (reason, refl)))
+kind_of n (ignores octets) e = inr (inl (inr (inr (octets, refl))))
+kind_of n (ends m) e = inr (inl (inr (inl (m, refl))))
 kind_of n agrees e = absurd (not_heard e)
 kind_of n (denies reason) e = absurd (not_heard e)
 kind_of n (tells octets) e = absurd (not_heard e)
 kind_of n (leaves reason) e = absurd (not_heard e)
 
+-- what ends a connection that is closing is no TSDU
+ends_kind : (terms : Terms) (m : carrier.Message) → is_row terms (ends m) → is_tsdu m ≡ false
+ends_kind by_two (carrier.bye reason) is = refl
+ends_kind by_two carrier.over is = refl
+ends_kind by_two carrier.ask is = absurd is
+ends_kind by_two carrier.agree is = absurd is
+ends_kind by_two (carrier.deny why) is = absurd is
+ends_kind by_two (carrier.message octets) is = absurd is
+ends_kind by_zero (carrier.bye reason) is = refl
+ends_kind by_zero carrier.over is = refl
+ends_kind by_zero carrier.ask is = absurd is
+ends_kind by_zero carrier.agree is = absurd is
+ends_kind by_zero (carrier.deny why) is = absurd is
+ends_kind by_zero (carrier.message octets) is = absurd is
+ends_kind (refusing reason) m is = absurd is
+
+asks_stays : (m : Message) → message_kind (message_in m) ≡ carrier.ask → is_leaving m ≡ false
+asks_stays (unit u) k = refl
+asks_stays ask k = refl
+asks_stays agree k = refl
+asks_stays (deny r) k = refl
+asks_stays (bye r) k = cc
+asks_stays over k = cc
+
+resting_packet : PacketLaws → (s : Side) (p : TwoEnds) (b : Between) (t : Tables) (packet : List ℕ) (h : Held) → Stands p b t → (end_at s p).end.carrier.ended ≡ None →
+    (pa : PacketActs (terms_at p) (is_caller s) (carriers_of p) b packet h.octets) → RestsAt pa.did.row (reference_of pa.unit) → StandsBehind s p t packet h
+resting_packet laws s p b t packet h old alive pa (inl is) =
+    let n = reference_of pa.unit in
+    let lines = (end_at s p).end.lines in
+    let e = acted_end pa.unit lines (end_at s p).end in
+    let at = line_at s n p b t old pa.first.named pa.first.given in
+    let q : IsRestRow pa.did.row n = subst (λ (r : Row). IsRestRow r n) (sym is.1) (refuses_row n is.0) in
+    let kind : q.got ≡ carrier.ask = got_is pa.did.row n q carrier.ask (ap arrived_in is.1) in
+    let sp = came_alone s p b t packet h alive pa q at (ap is_tsdu kind) in
+    rest_packet laws s p b t packet h old alive pa q at sp.first sp.others sp.parts sp.kind
+    (back_then s p (did_at s p b packet h lines pa).now e h n (after (did_at s p b packet h lines pa).row) None sp.others sp.stays (sp.alone.held (asks_stays sp.first (sp.kind ∙ ap message_kind kind))))
+resting_packet laws s p b t packet h old alive pa (inr (inl is)) =
+    let n = reference_of pa.unit in
+    let lines = (end_at s p).end.lines in
+    let e = acted_end pa.unit lines (end_at s p).end in
+    let at = line_at s n p b t old pa.first.named pa.first.given in
+    let q : IsRestRow pa.did.row n = subst (λ (r : Row). IsRestRow r n) (sym is.1) (ends_row n is.0) in
+    let kind : q.got ≡ is.0 = got_is pa.did.row n q is.0 (ap arrived_in is.1) in
+    let sp = came_alone s p b t packet h alive pa q at (ap is_tsdu kind ∙ ends_kind (terms_at p) is.0 (subst (is_row (terms_at p)) is.1 (row_of_pa s p b packet h pa))) in
+    rest_packet laws s p b t packet h old alive pa q at sp.first sp.others sp.parts sp.kind
+    (back_then s p (did_at s p b packet h lines pa).now e h n (after (did_at s p b packet h lines pa).row) None sp.others sp.stays
+    (held_then s p b t n pa.did.row at.line None old alive (stood_at s p b packet h pa) at.is (ap before is.1)))
+resting_packet laws s p b t packet h old alive pa (inr (inr is)) =
+    let n = reference_of pa.unit in
+    let lines = (end_at s p).end.lines in
+    let e = acted_end pa.unit lines (end_at s p).end in
+    let d = did_at s p b packet h lines pa in
+    let at = line_at s n p b t old pa.first.named pa.first.given in
+    let one : arrived_in d.row ≡ carrier.message is.0 ∷ [] = ap arrived_in (same_row s p b packet h lines pa ∙ is.1) in
+    let held : (begun : Option (List ℕ)) → HasJoined n (end_at s p) begun = λ begun. held_then s p b t n pa.did.row at.line begun old alive (stood_at s p b packet h pa) at.is (ap before is.1) in
+    elim (back_one s p b e h n at.line (carrier.message is.0) d at.is alive one) [
+      | inl sp ↦
+          let q : IsRestRow pa.did.row n = subst (λ (r : Row). IsRestRow r n) (sym is.1) (ignores_row n is.0) in
+          rest_packet laws s p b t packet h old alive pa q at sp.first sp.others sp.parts (sp.kind ∙ ap message_kind (sym (got_is pa.did.row n q (carrier.message is.0) (ap arrived_in is.1))))
+          (back_then s p d.now e h n (after d.row) None sp.others sp.stays (held None))
+      | inr sp ↦ ignored_packet laws s p b t packet h old alive pa is.0 is.1 at (back_then s p d.now e h n (after d.row) (Some sp.now) at.line.peer.channel sp.stays (held (Some sp.now)))
+    ]
+
 by_kind : PacketLaws → (s : Side) (p : TwoEnds) (b : Between) (t : Tables) (packet : List ℕ) (h : Held) → Stands p b t → (end_at s p).end.carrier.ended ≡ None →
     (pa : PacketActs (terms_at p) (is_caller s) (carriers_of p) b packet h.octets) → Kind pa.did.row (reference_of pa.unit) → StandsBehind s p t packet h
 by_kind laws s p b t packet h old alive pa (inl q) = quiet_packet laws s p b t packet h old alive pa q
-by_kind laws s p b t packet h old alive pa (inr (inl q)) = rest_packet laws s p b t packet h old alive pa q
+by_kind laws s p b t packet h old alive pa (inr (inl q)) = resting_packet laws s p b t packet h old alive pa q
 by_kind laws s p b t packet h old alive pa (inr (inr e)) = begins_packet laws s p b t packet h old alive pa e
 
 -- a packet of which no session that is there hears

@@ -19,14 +19,13 @@ use Rattle.osi_machine.specs.Tables.{Tables, run, start}
 use Rattle.osi_machine.specs.Views.{Told, told_of}
 use Rattle.osi_session.specs.Listening.{Listener}
 use Rattle.osi_session.specs.Moves.{Standing}
-use Rattle.osi_session.specs.Whole.{listening}
 use Rattle.osi_session.specs.Shown.{Shown, PeerAbort, BadUnit}
 use Rattle.osi_stack.specs.Calls.{held_by, numbers_of}
 use Rattle.osi_stack.specs.State.{Holding, session_at, session_in}
 use Rattle.osi_pair.specs.Ends.{TwoEnds, end_at}
 use Rattle.osi_pair.specs.Entries.{Entry, asks, calls, shows, ends}
 use Rattle.osi_pair.specs.Promises.{with_word, journal_in, IsLegalJournal, AllWereAskedFor, OfEachConnection, HaveOneHolder, AgreeUnlessDuplex, IsShownAsAsked, IsSeenThere, confirmed_at, ConfirmedIsSeen, is_fault, HasNoFault, EndsForFewReasons, ending_of, LoseAsTheyEnd}
-use Rattle.osi_pair.specs.Standing.{side_in, entry_in, ending_in, terms_in, HasLine, IsInOrder, StandsAt}
+use Rattle.osi_pair.specs.Standing.{side_in, entry_in, ending_in, terms_in, HasLine, IsInOrder, StandsAt, joining}
 use Rattle.osi_pair.specs.declared.sides.Side.{Side}
 use Rattle.osi_pair.specs.declared.sides.Side.TheVariants.{Left, Right}
 
@@ -165,12 +164,12 @@ outside Right r p steps h out = no_session r p.right
 -- what an end says is what the tables have, or nothing
 data Says (n : ℕ) (h : Holding) (s : Standing) : Type 0 where
   of_none : session_at n h.end ≡ None → Says n h s
-  of_some : session_at n h.end ≡ Some (listening s) → Says n h s
+  of_some : (joined : Option (List ℕ)) → session_at n h.end ≡ Some (joining joined s) → Says n h s
 
-says_by : (n : ℕ) (h : Holding) (s : Standing) (live : Bool) → is_some (value_at n h.end.carrier.live) ≡ live →
-    (is_some (value_at n h.end.carrier.live) ≡ true → session_at n h.end ≡ Some (listening s)) → Says n h s
-says_by n h s true e seated = of_some (seated e)
-says_by n h s false e seated = of_none (ap (λ (b : Bool). if b then session_in (value_at n h.end.lines) else None) e)
+says_by : (n : ℕ) (h : Holding) (s : Standing) (joined : Option (List ℕ)) (live : Bool) → is_some (value_at n h.end.carrier.live) ≡ live →
+    (is_some (value_at n h.end.carrier.live) ≡ true → session_at n h.end ≡ Some (joining joined s)) → Says n h s
+says_by n h s joined true e seated = of_some joined (seated e)
+says_by n h s joined false e seated = of_none (ap (λ (b : Bool). if b then session_in (value_at n h.end.lines) else None) e)
 
 -- ---- tokens
 
@@ -190,10 +189,10 @@ other_holds_none o other t e = ap (λ (x : Option Listener). has (held_by o) t &
 one_holds : (n : ℕ) (left right : Holding) (s q : Standing) (t : Token) → Says n left s → Says n right q → (has s.state.held t && has q.state.held t) ≡ false →
     (has (held_by (session_at n left.end)) t && has (held_by (session_at n right.end)) t) ≡ false
 one_holds n left right s q t (of_none e) other none = none_holds (session_at n left.end) (session_at n right.end) t e
-one_holds n left right s q t (of_some e) (of_none f) none = other_holds_none (session_at n left.end) (session_at n right.end) t f
-one_holds n left right s q t (of_some e) (of_some f) none =
+one_holds n left right s q t (of_some j e) (of_none f) none = other_holds_none (session_at n left.end) (session_at n right.end) t f
+one_holds n left right s q t (of_some j e) (of_some k f) none =
     ap (λ (x : Option Listener). has (held_by x) t && has (held_by (session_at n right.end)) t) e
-    ∙ ap (λ (x : Option Listener). has (held_by (Some (listening s))) t && has (held_by x) t) f ∙ none
+    ∙ ap (λ (x : Option Listener). has (held_by (Some (joining j s))) t && has (held_by x) t) f ∙ none
 
 -- a reference that was given, or none
 pub within : (r most : ℕ) → ((r ≡ 0) ⊎ (most < r)) ⊎ ((0 < r) × (r ≤ most))
@@ -215,8 +214,8 @@ one_holder holder offered p steps h r t = by (within r p.left.end.carrier.given)
         let line = line_at r p steps h given.0 given.1 in
         let offer = offered (tables_at p steps) (is_run p steps h) r line.line line.found in
         one_holds r p.left p.right line.line.own.session line.line.peer.session t
-        (says_by r p.left line.line.own.session (is_some (value_at r p.left.end.carrier.live)) refl line.is.left.live)
-        (says_by r p.right line.line.peer.session (is_some (value_at r p.right.end.carrier.live)) refl line.is.right.live)
+        (says_by r p.left line.line.own.session line.is.left.joined (is_some (value_at r p.left.end.carrier.live)) refl line.is.left.live)
+        (says_by r p.right line.line.peer.session line.is.right.joined (is_some (value_at r p.right.end.carrier.live)) refl line.is.right.live)
         (holder (tables_at p steps) (is_run p steps h) r line.line offer.offer line.found offer.found t)
 
 -- ---- confirmed points
@@ -224,7 +223,7 @@ one_holder holder offered p steps h r t = by (within r p.left.end.carrier.given)
 -- V(A) as an end says it is that of the tables, or 0
 no_more : (n : ℕ) (h : Holding) (s : Standing) → Says n h s → (numbers_of (session_at n h.end)).confirmed ≤ s.state.numbers.confirmed
 no_more n h s (of_none e) = let zero_then : (numbers_of (session_at n h.end)).confirmed ≡ 0 = ap (λ (o : Option Listener). (numbers_of o).confirmed) e in omega arith
-no_more n h s (of_some e) =
+no_more n h s (of_some j e) =
     let same : (numbers_of (session_at n h.end)).confirmed ≡ s.state.numbers.confirmed = ap (λ (o : Option Listener). (numbers_of o).confirmed) e in omega arith
 
 fewer_seen : (low high : ℕ) (own other : Told) → low ≤ high → IsSeenThere high own other → IsSeenThere low own other
@@ -238,9 +237,9 @@ confirmed_is_seen all p steps h = of_each IsSeenInBoth (ConfirmedIsSeen p) p ste
         IsSeenInBoth line.line.own.session.state line.line.peer.session.state left right → ConfirmedIsSeen p r left right
     follows r line left right seen =
         let own = no_more r p.left line.line.own.session
-        (says_by r p.left line.line.own.session (is_some (value_at r p.left.end.carrier.live)) refl line.is.left.live) in
+        (says_by r p.left line.line.own.session line.is.left.joined (is_some (value_at r p.left.end.carrier.live)) refl line.is.left.live) in
         let peer = no_more r p.right line.line.peer.session
-        (says_by r p.right line.line.peer.session (is_some (value_at r p.right.end.carrier.live)) refl line.is.right.live) in (
+        (says_by r p.right line.line.peer.session line.is.right.joined (is_some (value_at r p.right.end.carrier.live)) refl line.is.right.live) in (
           fewer_seen (confirmed_at Left r p) line.line.own.session.state.numbers.confirmed left right own seen.0,
           fewer_seen (confirmed_at Right r p) line.line.peer.session.state.numbers.confirmed right left peer seen.1,
         )

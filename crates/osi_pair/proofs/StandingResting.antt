@@ -1,12 +1,12 @@
 -- Two ends stand as they should behind a unit with which no session acts.
-use Rattle.std.proofs.Common.{◌≡◌, ℕ, ◌<◌, ◌≤◌, Bool, true, false, List, [], ◌∷◌, ◌++◌, map, Option, Some, None, is_some, option_map, refl, sym, ap, subst, ◌∙◌, arith}
+use Rattle.std.proofs.Common.{◌≡◌, ℕ, ◌<◌, ◌≤◌, Bool, true, false, List, [], ◌∷◌, ◌++◌, Option, Some, None, is_some, option_map, refl, sym, ap, subst, ◌∙◌, arith, inr}
 use Rattle.std.proofs.lemmas.List.{append-nil}
 use Rattle.osi_tpkt.specs.Held.{Held}
 use Rattle.osi_tpdu.specs.Value.{Value}
 use Rattle.osi_carrier.specs.Addresses.{reference_of}
-use Rattle.osi_carrier.specs.Between.{Between, last_of, under_way, put_in}
+use Rattle.osi_carrier.specs.Between.{Between, last_of, under_way, put_in, is_cut}
 use Rattle.osi_carrier.specs.Course.{Place, place_at, connection_in, progress_of}
-use Rattle.osi_carrier.specs.Messages.{AreLike}
+use Rattle.osi_carrier.specs.Messages.{AreLike, kind_of}
 use Rattle.osi_carrier.specs.Messages as carrier
 use Rattle.osi_carrier.specs.Progress.{Progress, leaves_use}
 use Rattle.osi_carrier.specs.Rows.{Rows}
@@ -16,22 +16,29 @@ use Rattle.osi_machine.specs.Tables.{Line as TableLine, Tables, seen_from, end_o
 use Rattle.osi_machine.specs.Worlds.{Message}
 use Rattle.osi_session.specs.Moves.{Standing}
 use Rattle.osi_session.specs.Shown.{Shown}
-use Rattle.osi_stack.specs.Messages.{told_all}
+use Rattle.osi_stack.specs.Messages.{told_all, kept_at}
 use Rattle.osi_stack.specs.State.{Line, End}
 use Rattle.osi_pair.specs.Ends.{TwoEnds, end_at}
 use Rattle.osi_pair.specs.Sides.{other}
-use Rattle.osi_pair.specs.Standing.{side_in, is_caller, carriers_of, message_in, AreAlike, IsInOrder, Stands}
+use Rattle.osi_pair.specs.Standing.{side_in, is_caller, carriers_of, IsInOrder, Stands, Goes, HasJoined, joining, is_parting, message_in}
 use Rattle.osi_pair.specs.Telling.{waiting_in}
 use Rattle.osi_pair.specs.declared.reach.Reach.{Reach}
 use Rattle.osi_pair.specs.declared.sides.Side.{Side}
 use Rattle.osi_pair.specs.declared.sides.Side.TheVariants.{Left, Right}
 use Rattle.osi_pair.proofs.StandingArrived.{PacketActs}
 use Rattle.osi_pair.proofs.StandingFinish.{terms_at, DidAt, TablesAfter, OtherSessions, is_agree, line_then, finish, known_then}
-use Rattle.osi_pair.proofs.StandingRests.{step_opens, tables_delivered, tables_rest, is_awaited, learns_row, turn_rests, answer_for, unless_broken, put_unless, answers_same, rests, sends_then}
+use Rattle.osi_pair.proofs.StandingRests.{step_opens, tables_delivered, tables_rest, is_awaited, learns_row, turn_rests, answer_for, unless_broken, put_unless, answers_same, rests, sends_then, spare_by}
 use Rattle.osi_pair.proofs.StandingRows.{Row, quiet, still, begins, refuses, agrees, denies, tells, leaves, ignores, ends, before, after, arrived_in, put_for}
 use Rattle.osi_pair.proofs.StandingSeats.{transport_by, transport_at, HasSession, session_of_seat}
-use Rattle.osi_pair.proofs.StandingTurned.{IsSeen, seen, seen_twice, with_holding, Turned}
-use Rattle.osi_pair.proofs.StandingWays.{shuts, out_keeps, back_stays, Split, back_comes}
+use Rattle.osi_pair.proofs.StandingTurned.{IsSeen, seen, seen_twice, with_holding, Turned, GoesTo, out_there, back_here}
+use Rattle.osi_pair.proofs.StandingWays.{shuts, out_keeps, back_comes, back_waits, Comes, Alone, alone_of, is_tsdu, BehindFirst, behind_first}
+use Rattle.osi_pair.proofs.StandingCut.{cut_none, end_out, end_back}
+use Rattle.osi_session.specs.Listening.{Listener}
+use Rattle.osi_pair.proofs.StandingListens.{kept_of, discards_over}
+use Rattle.osi_session.specs.Kept.{discards}
+use Rattle.osi_session.specs.Phases.{is_ended, is_over}
+use Rattle.osi_session.proofs.PhaseLaws.{implied}
+use Rattle.osi_session.proofs.KeptLaws.{gone_is}
 
 -- ---- the end that took the unit
 
@@ -72,7 +79,7 @@ line_at s n p b t old some le =
 -- ---- its session stays
 
 session_gone : (n : ℕ) (lines : Rows Line) (m : carrier.Message) (x : Standing) → HasSession n lines (before (ends m)) x → HasSession n lines (after (ends m)) x
-session_gone n lines m x h = record { live = λ e. cc; kept = h.kept; over_now = λ e. h.over_now refl; awaiting = λ e. cc; octets = h.octets }
+session_gone n lines m x h = record { joined = h.joined; live = λ e. cc; kept = h.kept; over_now = λ e. h.over_now refl; awaiting = λ e. cc; octets = h.octets }
 
 -- the rows in which a session does nothing, and none begins
 abbrev pub is_rest : Row → Bool
@@ -121,41 +128,88 @@ sends_is (ignores octets) broken channel e = none_sent broken channel
 sends_is (ends m) broken channel e = none_sent broken channel
 
 pub out_row : (s : Side) (p : TwoEnds) (b : Between) (t : Tables) (e : End) (h : Held) (n : ℕ) (l : TableLine) → Stands p b t → (d : DidAt s p b e h n) → IsSeen s n p b l → leaves_use (before d.row) (after d.row) ≡ false →
-    (end_at (other s) p).end.carrier.ended ≡ None →
-    AreAlike (progress_of (place_at n (last_of (is_caller (other s)) d.now))) (map message_in (sends_then d.row t.broken l.own.channel)) (under_way (is_caller s) n (carriers_of (with_holding s e h p)) d.now)
+    (end_at s p).end.carrier.ended ≡ None →
+    Goes s (other s) n (with_holding s e h p) d.now (progress_of (place_at n (last_of (is_caller (other s)) d.now))) (sends_then d.row t.broken l.own.channel)
 out_row s p b t e h n l old d i stays alive =
     let there = place_at n (last_of (is_caller (other s)) b) in
-    let new = under_way (is_caller s) n (carriers_of (with_holding s e h p)) d.now in
+    let lasts = (end_at (other s) p).end.carrier.ended in
+    let now = with_holding s e h p in
+    let new = under_way (is_caller s) n (carriers_of now) d.now in
     let puts = unless_broken t.broken (answer_for d.row) in
-    let all : AreAlike (progress_of there) (map message_in (l.own.channel ++ puts)) new =
-    out_keeps there l.own.channel puts (under_way (is_caller s) n (carriers_of p) b) new d.stays d.gone (put_in (carriers_of p) (put_for d.row)) (i.out alive) d.out_before d.out_after (d.keeps stays)
-    (answers_same t.broken (is_some (carriers_of p).reach) d.row (broken_is p b t old)) in
-    subst (λ (q : Place). AreAlike (progress_of q) (map message_in (sends_then d.row t.broken l.own.channel)) new) (sym (d.there n))
-    (subst (λ (ms : List Message). AreAlike (progress_of there) (map message_in ms) new) (sym (sends_is d.row t.broken l.own.channel stays)) all)
+    let free = cut_none s p t.broken old.broken alive in
+    let all : GoesTo s (end_at (other s) p) n now d.now (progress_of there) (l.own.channel ++ puts) =
+    out_keeps lasts there (is_cut (is_caller s) (carriers_of p)) (is_cut (is_caller s) (carriers_of now)) (HasJoined n (end_at (other s) p)) l.own.channel puts (under_way (is_caller s) n (carriers_of p) b) new d.stays d.gone
+    (put_in (carriers_of p) (put_for d.row)) i.out (spare_by t.broken (is_cut (is_caller s) (carriers_of p)) (answer_for d.row) free) (end_out s (record { end = e; held = h }) p alive)
+    d.out_before d.out_after (d.keeps stays) (answers_same t.broken (is_some (carriers_of p).reach) d.row (broken_is p b t old)) in
+    out_there s p d.now e h n (progress_of (place_at n (last_of (is_caller (other s)) d.now))) (sends_then d.row t.broken l.own.channel)
+    (subst (λ (q : Place). GoesTo s (end_at (other s) p) n now d.now (progress_of q) (sends_then d.row t.broken l.own.channel)) (sym (d.there n))
+    (subst (λ (ms : List Message). GoesTo s (end_at (other s) p) n now d.now (progress_of there) ms) (sym (sends_is d.row t.broken l.own.channel stays)) all))
 
 -- ---- what is under way to it
 
 -- no message arrived
 pub back_none : (s : Side) (p : TwoEnds) (b : Between) (e : End) (h : Held) (n : ℕ) (l : TableLine) → (d : DidAt s p b e h n) → IsSeen s n p b l → (end_at s p).end.carrier.ended ≡ None → arrived_in d.row ≡ [] →
-    before d.row ≡ after d.row → AreAlike (after d.row) (map message_in l.peer.channel) (under_way (is_caller (other s)) n (carriers_of (with_holding s e h p)) d.now)
-back_none s p b e h n l d i alive none same =
+    before d.row ≡ after d.row → ((y : Listener) → kept_at n e.lines ≡ Some y → kept_at n (end_at s p).end.lines ≡ Some y) → Goes (other s) s n (with_holding s e h p) d.now (after d.row) l.peer.channel
+back_none s p b e h n l d i alive none same kept =
     let now = place_at n (last_of (is_caller s) d.now) in
-    let new = under_way (is_caller (other s)) n (carriers_of (with_holding s e h p)) d.now in
-    subst (λ (g : Progress). AreAlike g (map message_in l.peer.channel) new) d.stands
-    (back_stays (progress_of (place_at n (last_of (is_caller s) b))) now (map message_in l.peer.channel) (under_way (is_caller (other s)) n (carriers_of p) b) new
-    (λ x. ap shuts (d.stands ∙ sym same ∙ sym d.stood) ∙ x) (i.back alive)
-    (subst (λ (ms : List carrier.Message). AreLike (connection_in now) (under_way (is_caller (other s)) n (carriers_of p) b) (ms ++ new)) none d.came))
+    let two = with_holding s e h p in
+    let new = under_way (is_caller (other s)) n (carriers_of two) d.now in
+    subst (λ (g : Progress). Goes (other s) s n two d.now g l.peer.channel) d.stands
+    (back_here s p d.now e h n (progress_of now) l.peer.channel
+    (back_waits (end_at s p).end.carrier.ended e.carrier.ended (progress_of (place_at n (last_of (is_caller s) b))) now (is_cut (is_caller (other s)) (carriers_of p)) (is_cut (is_caller (other s)) (carriers_of two))
+    (HasJoined n (end_at s p)) (HasJoined n (record { end = e; held = h })) l.peer.channel (under_way (is_caller (other s)) n (carriers_of p) b) new (λ x. ap shuts (d.stands ∙ sym same ∙ sym d.stood) ∙ x)
+    i.back alive (end_back s (record { end = e; held = h }) p) (λ x held y at. held y (kept y at))
+    (subst (λ (ms : List carrier.Message). AreLike (connection_in now) (under_way (is_caller (other s)) n (carriers_of p) b) (ms ++ new)) none d.came)))
 
 -- one did
 pub back_one : (s : Side) (p : TwoEnds) (b : Between) (e : End) (h : Held) (n : ℕ) (l : TableLine) (got : carrier.Message) → (d : DidAt s p b e h n) → IsSeen s n p b l → (end_at s p).end.carrier.ended ≡ None →
     arrived_in d.row ≡ got ∷ [] →
-    Split (before d.row) (after d.row) l.peer.channel got (under_way (is_caller (other s)) n (carriers_of (with_holding s e h p)) d.now)
+    Comes (before d.row) (after d.row) (is_cut (is_caller (other s)) (carriers_of (with_holding s e h p))) (HasJoined n (end_at s p)) l.peer.channel got (under_way (is_caller (other s)) n (carriers_of (with_holding s e h p)) d.now)
 back_one s p b e h n l got d i alive one =
-    let new = under_way (is_caller (other s)) n (carriers_of (with_holding s e h p)) d.now in
-    back_comes d.row (place_at n (last_of (is_caller s) b)) (place_at n (last_of (is_caller s) d.now)) l.peer.channel got (under_way (is_caller (other s)) n (carriers_of p) b) new d.stood d.stands (i.back alive)
+    let two = with_holding s e h p in
+    let new = under_way (is_caller (other s)) n (carriers_of two) d.now in
+    back_comes d.row (end_at s p).end.carrier.ended (place_at n (last_of (is_caller s) b)) (place_at n (last_of (is_caller s) d.now)) (is_cut (is_caller (other s)) (carriers_of p))
+    (is_cut (is_caller (other s)) (carriers_of two)) (HasJoined n (end_at s p)) l.peer.channel got (under_way (is_caller (other s)) n (carriers_of p) b) new d.stood d.stands i.back alive (end_back s (record { end = e; held = h }) p)
     (subst (λ (ms : List carrier.Message). AreLike (connection_in (place_at n (last_of (is_caller s) d.now))) (under_way (is_caller (other s)) n (carriers_of p) b) (ms ++ new)) one d.came)
 
+-- that is no TSDU
+pub back_alone : (s : Side) (p : TwoEnds) (b : Between) (e : End) (h : Held) (n : ℕ) (l : TableLine) (got : carrier.Message) → (d : DidAt s p b e h n) → IsSeen s n p b l → (end_at s p).end.carrier.ended ≡ None →
+    arrived_in d.row ≡ got ∷ [] → is_tsdu got ≡ false →
+    Alone (before d.row) (after d.row) (is_cut (is_caller (other s)) (carriers_of (with_holding s e h p))) (HasJoined n (end_at s p)) l.peer.channel got (under_way (is_caller (other s)) n (carriers_of (with_holding s e h p)) d.now)
+back_alone s p b e h n l got d i alive one other_kind =
+    alone_of (before d.row) (after d.row) (is_cut (is_caller (other s)) (carriers_of (with_holding s e h p))) (HasJoined n (end_at s p)) l.peer.channel got
+    (under_way (is_caller (other s)) n (carriers_of (with_holding s e h p)) d.now) other_kind (back_one s p b e h n l got d i alive one)
+
+-- what is under way to an end behind the first, where its lines are these
+pub back_then : (s : Side) (p : TwoEnds) (c : Between) (e : End) (h : Held) (n : ℕ) (g : Progress) (begun : Option (List ℕ)) (ms : List Message) →
+    BehindFirst g (is_cut (is_caller (other s)) (carriers_of (with_holding s e h p))) begun ms (under_way (is_caller (other s)) n (carriers_of (with_holding s e h p)) c) → HasJoined n (record { end = e; held = h }) begun →
+    Goes (other s) s n (with_holding s e h p) c g ms
+back_then s p c e h n g begun ms way held =
+    back_here s p c e h n g ms
+    (behind_first e.carrier.ended g (is_cut (is_caller (other s)) (carriers_of (with_holding s e h p))) (HasJoined n (record { end = e; held = h })) begun ms
+    (under_way (is_caller (other s)) n (carriers_of (with_holding s e h p)) c) way held)
+
+-- its lines make no difference to what is under way
+pub other_lines : (s : Side) (p : TwoEnds) (b : Between) (packet : List ℕ) (h : Held) (n : ℕ) (lines more : Rows Line) → (pa : PacketActs (terms_at p) (is_caller s) (carriers_of p) b packet h.octets) → (g : Progress)
+    (begun : Option (List ℕ)) (ms : List Message) →
+    BehindFirst g (is_cut (is_caller (other s)) (carriers_of (with_holding s (acted_end pa.unit lines (end_at s p).end) h p))) begun ms
+    (under_way (is_caller (other s)) n (carriers_of (with_holding s (acted_end pa.unit lines (end_at s p).end) h p)) (did_at s p b packet h lines pa).now) →
+    BehindFirst g (is_cut (is_caller (other s)) (carriers_of (with_holding s (acted_end pa.unit more (end_at s p).end) h p))) begun ms
+    (under_way (is_caller (other s)) n (carriers_of (with_holding s (acted_end pa.unit more (end_at s p).end) h p)) (did_at s p b packet h more pa).now)
+unfolding did_at
+other_lines Left p b packet h n lines more pa g begun ms way = way
+other_lines Right p b packet h n lines more pa g begun ms way = way
+
 -- ---- all of it
+
+-- a session that is closing, or gone, has joined nothing, and joins nothing
+pub over_holds : (s : Side) (p : TwoEnds) (n : ℕ) (g : Progress) (x : Standing) (begun : Option (List ℕ)) → IsInOrder (end_at s p).end → HasSession n (end_at s p).end.lines g x → is_parting (transport_by g) ≡ true →
+    HasJoined n (end_at s p) begun
+over_holds s p n g x begun order h parts y at =
+    let same : y ≡ joining h.joined x = h.kept y at in
+    let over : is_ended y.state.phase ≡ true = ap (λ (z : Listener). is_ended z.state.phase) same ∙ h.over_now parts in
+    let off : discards y.state.phase ≡ true = discards_over y.state.phase (implied is_ended is_over refl y.state.phase over) in
+    inr (gone_is y.state.phase y.joined off (kept_of n y (end_at s p).end order at).phase, off)
 
 -- what is said of the end that took it beside its connection
 pub record EndThen (s : Side) (p : TwoEnds) (e : End) : Type 0 where
@@ -183,31 +237,31 @@ pub transport_before : (s : Side) (p : TwoEnds) (b : Between) (t : Tables) (e : 
 transport_before s p b t e h n l old alive d i =
     i.here.transport ∙ transport_at (place_at n (end_at s p).end.carrier) (before d.row) (ap (λ (c : State). progress_of (place_at n c)) (sym (was_at s p b t old alive)) ∙ d.stood)
 
-line_same : (row : Row) (l : TableLine) → l.own.transport ≡ transport_by (after row) → line_then row l.own.session l.own.channel l.peer.channel l ≡ l
+pub line_same : (row : Row) (l : TableLine) → l.own.transport ≡ transport_by (after row) → line_then row l.own.session l.own.channel l.peer.channel l ≡ l
 line_same row l e = ap (λ tr. record { own = record { transport = tr; session = l.own.session; channel = l.own.channel }; peer = l.peer }) (sym e)
 
 abbrev pub NextFor : Side → TwoEnds → Between → Tables → Value → Held → Rows Line → ℕ → List Shown → Tables → Between → Type 0
 NextFor s p b t u h lines n shown new now = Turned s p b t (acted_end u lines (end_at s p).end) h now new n shown
 
--- no message arrived: the tables stay
+-- no message of the tables arrived: they stay
 pub quiet_unit : (s : Side) (p : TwoEnds) (b : Between) (t : Tables) (packet : List ℕ) (h : Held) → Stands p b t → (end_at s p).end.carrier.ended ≡ None →
     (pa : PacketActs (terms_at p) (is_caller s) (carriers_of p) b packet h.octets) → (d : DidAt s p b (acted_end pa.unit (end_at s p).end.lines (end_at s p).end) h (reference_of pa.unit)) →
-    arrived_in d.row ≡ [] → before d.row ≡ after d.row → is_rest d.row ≡ true → is_agree d.row ≡ false → leaves_use (before d.row) (after d.row) ≡ false →
+    (at : FoundLine s (reference_of pa.unit) p b t) → Goes (other s) s (reference_of pa.unit) (with_holding s (acted_end pa.unit (end_at s p).end.lines (end_at s p).end) h p) d.now (after d.row) at.line.peer.channel →
+    before d.row ≡ after d.row → is_rest d.row ≡ true → is_agree d.row ≡ false → leaves_use (before d.row) (after d.row) ≡ false →
     ((broken : Bool) (channel : List Message) → sends_then d.row broken channel ≡ channel) → d.now.called.given ≤ d.now.caller.given →
     EndThen s p (acted_end pa.unit (end_at s p).end.lines (end_at s p).end) →
     NextFor s p b t pa.unit h (end_at s p).end.lines (reference_of pa.unit) [] t d.now
-quiet_unit s p b t packet h old alive pa d none same rest agree stays sends behind new =
+quiet_unit s p b t packet h old alive pa d at back same rest agree stays sends behind new =
     let n = reference_of pa.unit in
     let e = acted_end pa.unit (end_at s p).end.lines (end_at s p).end in
-    let at = line_at s n p b t old pa.first.named pa.first.given in
     let l = at.line in
     let tr = transport_before s p b t e h n l old alive d at.is ∙ ap transport_by same in
     finish s p b t t e h n [] l l.own.session l.own.channel l.peer.channel old alive d new.lasts new.local new.role pa.first.given behind new.order new.waits (same_sessions s p pa.unit n)
     (session_rests n (end_at s p).end.lines d.row l.own.session rest (session_before s p b t e h n l old alive d at.is)) at.is
     (record {
-      out = λ lives. subst (λ (ms : List Message). AreAlike (progress_of (place_at n (last_of (is_caller (other s)) d.now))) (map message_in ms) (under_way (is_caller s) n (carriers_of (with_holding s e h p)) d.now))
-          (sends t.broken l.own.channel) (out_row s p b t e h n l old d at.is stays lives);
-      back = back_none s p b e h n l d at.is alive none same;
+      out = subst (λ (ms : List Message). Goes s (other s) n (with_holding s e h p) d.now (progress_of (place_at n (last_of (is_caller (other s)) d.now))) ms)
+          (sends t.broken l.own.channel) (out_row s p b t e h n l old d at.is stays alive);
+      back = back;
     })
     (subst (λ (m : TableLine). TablesAfter s n t t [] m) (sym (line_same d.row l tr)) (tables_rest s n l t at.found))
     (known_then s p b t e h n old alive d new.lasts pa.first.given agree)
@@ -215,22 +269,22 @@ quiet_unit s p b t packet h old alive pa d none same rest agree stays sends behi
 -- one arrived, and no session heard of it
 pub rest_unit : (s : Side) (p : TwoEnds) (b : Between) (t : Tables) (packet : List ℕ) (h : Held) (got : carrier.Message) → Stands p b t → (end_at s p).end.carrier.ended ≡ None → end_of (side_in s) t ≡ None →
     (pa : PacketActs (terms_at p) (is_caller s) (carriers_of p) b packet h.octets) → (d : DidAt s p b (acted_end pa.unit (end_at s p).end.lines (end_at s p).end) h (reference_of pa.unit)) →
+    (at : FoundLine s (reference_of pa.unit) p b t) (first : Message) (rest : List Message) → at.line.peer.channel ≡ first ∷ rest → kind_of (message_in first) ≡ kind_of got →
+    Goes (other s) s (reference_of pa.unit) (with_holding s (acted_end pa.unit (end_at s p).end.lines (end_at s p).end) h p) d.now (after d.row) rest →
     arrived_in d.row ≡ got ∷ [] → is_rest d.row ≡ true → rests d.row ≡ true → is_agree d.row ≡ false → is_awaited d.row ≡ false → leaves_use (before d.row) (after d.row) ≡ false → d.now.called.given ≤ d.now.caller.given →
     EndThen s p (acted_end pa.unit (end_at s p).end.lines (end_at s p).end) →
     NextFor s p b t pa.unit h (end_at s p).end.lines (reference_of pa.unit) [] (step t (delivers (side_in s) (reference_of pa.unit) (λ r. 0))) d.now
-rest_unit s p b t packet h got old alive lasting pa d one rest resting agree awaited stays behind new =
+rest_unit s p b t packet h got old alive lasting pa d at first others parts kind back one rest resting agree awaited stays behind new =
     let n = reference_of pa.unit in
     let e = acted_end pa.unit (end_at s p).end.lines (end_at s p).end in
-    let at = line_at s n p b t old pa.first.named pa.first.given in
     let l = at.line in
-    let sp = back_one s p b e h n l got d at.is alive one in
     let tr = transport_before s p b t e h n l old alive d at.is in
-    let line = line_then d.row l.own.session (sends_then d.row t.broken l.own.channel) sp.others l in
-    let known = learns t.terms l.own.transport sp.first t.known in
-    let turn = turn_rests (terms_at p) t.terms t.broken 0 d.row l sp.first sp.others got old.terms tr d.is resting one sp.is in
-    let is = step_opens t (side_in s) n (λ r. 0) l sp.first sp.others (unseen line) lasting at.found sp.parts turn refl in
-    finish s p b t (step t (delivers (side_in s) n (λ r. 0))) e h n [] l l.own.session (sends_then d.row t.broken l.own.channel) sp.others old alive d new.lasts new.local new.role pa.first.given behind new.order new.waits
+    let line = line_then d.row l.own.session (sends_then d.row t.broken l.own.channel) others l in
+    let known = learns t.terms l.own.transport first t.known in
+    let turn = turn_rests (terms_at p) t.terms t.broken 0 d.row l first others got old.terms tr d.is resting one kind in
+    let is = step_opens t (side_in s) n (λ r. 0) l first others (unseen line) lasting at.found parts turn refl in
+    finish s p b t (step t (delivers (side_in s) n (λ r. 0))) e h n [] l l.own.session (sends_then d.row t.broken l.own.channel) others old alive d new.lasts new.local new.role pa.first.given behind new.order new.waits
     (same_sessions s p pa.unit n) (session_rests n (end_at s p).end.lines d.row l.own.session rest (session_before s p b t e h n l old alive d at.is)) at.is
-    (record { out = λ lives. out_row s p b t e h n l old d at.is stays lives; back = sp.stays })
+    (record { out = out_row s p b t e h n l old d at.is stays alive; back = back })
     (subst (λ (u : Tables). TablesAfter s n t u [] line) (sym is) (tables_delivered s n (seen_from (side_in s) l) t known (unseen line) at.found))
-    (ap (λ (u : Tables). u.known) is ∙ learns_row d.row l.own.transport t.terms sp.first t.known tr awaited ∙ known_then s p b t e h n old alive d new.lasts pa.first.given agree)
+    (ap (λ (u : Tables). u.known) is ∙ learns_row d.row l.own.transport t.terms first t.known tr awaited ∙ known_then s p b t e h n old alive d new.lasts pa.first.given agree)

@@ -1,11 +1,9 @@
 -- A unit with which no session acts: one that brings no message, one that an end which is closing drops, and
 -- a CR that is refused.
-use Rattle.std.proofs.Common.{◌≡◌, ℕ, Bool, true, false, if◌then◌else◌, List, [], ◌∷◌, ◌++◌, length, map, Option, Some, None, is_some, refl, sym, ap, subst, ◌∙◌}
+use Rattle.std.proofs.Common.{◌≡◌, ℕ, Bool, true, false, if◌then◌else◌, List, [], ◌∷◌, ◌++◌, length, map, Option, Some, None, is_some, refl, sym, ap, subst, ◌∙◌, ◌⊎◌, inl, inr}
 use Rattle.std.proofs.lemmas.List.{append-nil}
 use Rattle.osi_carrier.specs.Messages.{kind_of, AreLike}
 use Rattle.osi_carrier.specs.Messages as carrier
-use Rattle.osi_carrier.specs.Progress.{Progress, leaves_use}
-use Rattle.osi_carrier.specs.Progress as progress
 use Rattle.osi_carrier.specs.Terms.{Terms, by_two, by_zero, refusing}
 use Rattle.osi_machine.specs.Core as machine
 use Rattle.osi_machine.specs.Machine.{Ending, delivers, shown_at, connection_at, with_connection, learns}
@@ -14,13 +12,15 @@ use Rattle.osi_machine.specs.Worlds.{Message, Transport, unit, ask, agree, deny,
 use Rattle.osi_machine.specs.Worlds as worlds
 use Rattle.osi_machine.proofs.Places.{with_same, with_other, with_count}
 use Rattle.osi_session.specs.Moves.{Standing}
-use Rattle.osi_pair.specs.Standing.{side_in, message_in, terms_in, AreAlike}
+use Rattle.osi_pair.specs.Standing.{side_in, message_in, word_in, terms_in}
+use Rattle.osi_pair.specs.Words.{Word}
 use Rattle.osi_pair.specs.declared.sides.Side.{Side}
 use Rattle.osi_pair.proofs.StandingFinish.{TablesAfter, line_then}
 use Rattle.osi_pair.proofs.StandingRows.{Row, quiet, still, begins, refuses, agrees, denies, tells, leaves, ignores, ends, before, after, arrived_in, put_for, is_row}
 use Rattle.osi_pair.proofs.StandingSeats.{transport_by}
 use Rattle.osi_pair.proofs.StandingTurned.{seen_twice, LinesAfter}
-use Rattle.osi_pair.proofs.StandingWays.{Sent}
+use Rattle.osi_pair.proofs.StandingWays.{Sent, IsLeave}
+use Rattle.osi_pair.proofs.WordLaws.{MayLeave, AreWords, no_words}
 
 -- ---- a delivery of the tables
 
@@ -149,6 +149,34 @@ unless_same false true ms ys e h = cc
 pub answers_same : (broken whole : Bool) (row : Row) → broken ≡ whole → map message_in (unless_broken broken (answer_for row)) ≡ (if whole then [] else put_for row)
 answers_same broken whole row e = unless_same broken whole (answer_for row) (put_for row) e (answer_is row)
 
+-- nothing is put where something of what is under way was cut
+pub spare_by : (broken cut : Bool) (ms : List Message) → (broken ≡ false → cut ≡ false) → (cut ≡ false) ⊎ (unless_broken broken ms ≡ [])
+spare_by true cut ms free = inr refl
+spare_by false cut ms free = inl (free refl)
+
+-- the words of what is put
+abbrev pub words_put : Bool → List Word → List Word
+words_put broken words = if broken then [] else words
+
+pub are_put : (broken : Bool) (words : List Word) (ms : List Message) → AreWords words ms → AreWords (words_put broken words) (unless_broken broken ms)
+are_put true words ms are = no_words
+are_put false words ms are = are
+
+pub put_same : (broken whole : Bool) (words : List Word) → broken ≡ whole → map word_in (words_put broken words) ≡ (if whole then [] else map word_in words)
+put_same true true words e = refl
+put_same false false words e = refl
+put_same true false words e = cc
+put_same false true words e = cc
+
+pub put_spare : (broken cut : Bool) (words : List Word) → (broken ≡ false → cut ≡ false) → (cut ≡ false) ⊎ (words_put broken words ≡ [])
+put_spare true cut words free = inr refl
+put_spare false cut words free = inl (free refl)
+
+-- what is put where its sender leaves
+pub leave_by : (broken cut : Bool) (m : Message) → MayLeave m → (broken ≡ true → cut ≡ true) → IsLeave (unless_broken broken (m ∷ [])) ⊎ ((cut ≡ true) × (unless_broken broken (m ∷ []) ≡ []))
+leave_by true cut m may all = inr (all refl, refl)
+leave_by false cut m may all = inl (record { m = m; is = refl; leaves = may })
+
 -- ---- the turns of rows in which no session acts
 
 abbrev pub rests : Row → Bool
@@ -169,13 +197,6 @@ seat_then row broken x channel = record { transport = transport_by (after row); 
 
 abbrev pub seat_now : Transport → Standing → List Message → Seat
 seat_now tr x channel = record { transport = tr; session = x; channel = channel }
-
-one_alike : (g : Progress) (x : Message) (m : carrier.Message) → AreAlike g (message_in x ∷ []) (m ∷ []) → kind_of (message_in x) ≡ kind_of m
-one_alike progress.not_yet x m h = let e : message_in x ≡ m = cc in ap kind_of e
-one_alike progress.awaiting x m h = let e : message_in x ≡ m = cc in ap kind_of e
-one_alike progress.in_use x m h = let e : message_in x ≡ m = cc in ap kind_of e
-one_alike progress.shutting x m h = cc
-one_alike progress.gone x m h = cc
 
 -- at an end that is closing
 turn_ignored : (broken : Bool) (terms : worlds.Terms) (keep : ℕ) (x : Standing) (channel : List Message) (peer : Seat) (octets : List ℕ) (m : Message) → kind_of (message_in m) ≡ carrier.message [] →
@@ -225,25 +246,25 @@ turn_begun broken class keep x channel peer agree e = cc
 turn_begun broken class keep x channel peer (deny why) e = cc
 
 turn_by : (agreed : Terms) (broken : Bool) (keep : ℕ) (row : Row) (x : Standing) (channel : List Message) (peer : Seat) (m : Message) (got : carrier.Message) → is_row agreed row → rests row ≡ true →
-    arrived_in row ≡ got ∷ [] → AreAlike (before row) (message_in m ∷ []) (got ∷ []) →
+    arrived_in row ≡ got ∷ [] → kind_of (message_in m) ≡ kind_of got →
     message_taken broken (terms_in agreed) keep (transport_by (before row)) (record { own = seat_now (transport_by (before row)) x channel; peer = peer }) m ≡
     unseen (record { own = seat_then row broken x channel; peer = peer })
 turn_by agreed broken keep (ignores octets) x channel peer m got is r e a =
-    turn_ignored broken (terms_in agreed) keep x channel peer octets m (one_alike (before (ignores octets)) m got a ∙ (let f : carrier.message octets ≡ got = cc in ap kind_of (sym f)))
+    turn_ignored broken (terms_in agreed) keep x channel peer octets m (a ∙ (let f : carrier.message octets ≡ got = cc in ap kind_of (sym f)))
 turn_by by_two broken keep begins x channel peer m got is r e a =
-    turn_begun broken worlds.class_2 keep x channel peer m (one_alike (before begins) m got a ∙ (let f : carrier.ask ≡ got = cc in ap kind_of (sym f)))
+    turn_begun broken worlds.class_2 keep x channel peer m (a ∙ (let f : carrier.ask ≡ got = cc in ap kind_of (sym f)))
 turn_by by_zero broken keep begins x channel peer m got is r e a =
-    turn_begun broken worlds.class_0 keep x channel peer m (one_alike (before begins) m got a ∙ (let f : carrier.ask ≡ got = cc in ap kind_of (sym f)))
+    turn_begun broken worlds.class_0 keep x channel peer m (a ∙ (let f : carrier.ask ≡ got = cc in ap kind_of (sym f)))
 turn_by (refusing reason) broken keep begins x channel peer m got is r e a = absurd is
 turn_by by_two broken keep (refuses why) x channel peer m got is r e a = absurd is
 turn_by by_zero broken keep (refuses why) x channel peer m got is r e a = absurd is
 turn_by (refusing reason) broken keep (refuses why) x channel peer m got is r e a =
     subst (λ (k : ℕ). message_taken broken (worlds.denies k) keep worlds.not_yet (record { own = seat_now worlds.not_yet x channel; peer = peer }) m ≡ unseen (record { own = seat_then (refuses why) broken x channel; peer = peer })) is
-    (turn_refused broken keep why x channel peer m (one_alike (before (refuses why)) m got a ∙ (let f : carrier.ask ≡ got = cc in ap kind_of (sym f))))
+    (turn_refused broken keep why x channel peer m (a ∙ (let f : carrier.ask ≡ got = cc in ap kind_of (sym f))))
 turn_by agreed broken keep (ends (carrier.bye reason)) x channel peer m got is r e a =
-    turn_bye broken (terms_in agreed) keep x channel peer (carrier.bye reason) reason m (one_alike (before (ends (carrier.bye reason))) m got a ∙ (let f : carrier.bye reason ≡ got = cc in ap kind_of (sym f)))
+    turn_bye broken (terms_in agreed) keep x channel peer (carrier.bye reason) reason m (a ∙ (let f : carrier.bye reason ≡ got = cc in ap kind_of (sym f)))
 turn_by agreed broken keep (ends carrier.over) x channel peer m got is r e a =
-    turn_over broken (terms_in agreed) keep x channel peer carrier.over m (one_alike (before (ends carrier.over)) m got a ∙ (let f : carrier.over ≡ got = cc in ap kind_of (sym f)))
+    turn_over broken (terms_in agreed) keep x channel peer carrier.over m (a ∙ (let f : carrier.over ≡ got = cc in ap kind_of (sym f)))
 turn_by by_two broken keep (ends carrier.ask) x channel peer m got is r e a = absurd is
 turn_by by_two broken keep (ends carrier.agree) x channel peer m got is r e a = absurd is
 turn_by by_two broken keep (ends (carrier.deny why)) x channel peer m got is r e a = absurd is
@@ -264,7 +285,7 @@ turn_by agreed broken keep (tells octets) x channel peer m got is r e a = cc
 turn_by agreed broken keep (leaves why) x channel peer m got is r e a = cc
 
 pub turn_rests : (agreed : Terms) (terms : worlds.Terms) (broken : Bool) (keep : ℕ) (row : Row) (l : Line) (m : Message) (xs : List Message) (got : carrier.Message) → terms ≡ terms_in agreed →
-    l.own.transport ≡ transport_by (before row) → is_row agreed row → rests row ≡ true → arrived_in row ≡ got ∷ [] → AreAlike (before row) (message_in m ∷ []) (got ∷ []) →
+    l.own.transport ≡ transport_by (before row) → is_row agreed row → rests row ≡ true → arrived_in row ≡ got ∷ [] → kind_of (message_in m) ≡ kind_of got →
     message_taken broken terms keep l.own.transport (without_first l xs) m ≡ unseen (line_then row l.own.session (sends_then row broken l.own.channel) xs l)
 turn_rests agreed terms broken keep row l m xs got e f is r g a =
     ap (λ (ts : worlds.Terms). message_taken broken ts keep l.own.transport (without_first l xs) m) e

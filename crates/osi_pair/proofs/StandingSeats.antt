@@ -16,10 +16,9 @@ use Rattle.osi_message.specs.InOctets.{IsInOctets}
 use Rattle.osi_session.specs.Listening.{Listener}
 use Rattle.osi_session.specs.Moves.{Standing}
 use Rattle.osi_session.specs.Phases.{is_ended}
-use Rattle.osi_session.specs.Whole.{listening}
 use Rattle.osi_stack.specs.Messages.{kept_at}
 use Rattle.osi_stack.specs.State.{Line, End, Holding, session_in, session_at}
-use Rattle.osi_pair.specs.Standing.{transport_in, is_parting, IsSeated}
+use Rattle.osi_pair.specs.Standing.{transport_in, is_parting, IsSeated, joining}
 
 -- ---- by how far the connection is
 
@@ -91,8 +90,9 @@ value_same n s t o q h = value_by n s t (nat_lt s.given n) (nat_lt t.given n) re
 -- ---- the session
 
 pub record HasSession (n : ℕ) (lines : Rows Line) (g : Progress) (x : Standing) : Type 0 where
-  pub live : lives_in g ≡ true → kept_at n lines ≡ Some (listening x)
-  pub kept : (y : Listener) → kept_at n lines ≡ Some y → y ≡ listening x
+  pub joined : Option (List ℕ)
+  pub live : lives_in g ≡ true → kept_at n lines ≡ Some (joining joined x)
+  pub kept : (y : Listener) → kept_at n lines ≡ Some y → y ≡ joining joined x
   pub over_now : is_parting (transport_by g) ≡ true → is_ended x.state.phase ≡ true
   pub awaiting : transport_by g ≡ worlds.not_yet → x ≡ awaits
   pub octets : IfSome x.waiting IsInOctets
@@ -104,6 +104,7 @@ pub session_of_seat : (n : ℕ) (h : Holding) (seat : Seat) (g : Progress) → p
 session_of_seat n h seat g e i =
     let tr : seat.transport ≡ transport_by g = i.transport ∙ transport_at (place_at n h.end.carrier) g e in
     record {
+      joined = i.joined;
       live = λ l. (let is = live_there n h.end.carrier (ap lives_in e ∙ l) in sym (live_session n h.end is) ∙ i.live is);
       kept = i.kept;
       over_now = λ o. i.over_now (ap is_parting tr ∙ o);
@@ -114,6 +115,7 @@ session_of_seat n h seat g e i =
 pub seat_of_session : (n : ℕ) (e : End) (h : Held) (g : Progress) (x : Standing) (channel : List Message) → IsOrderly e.carrier → progress_of (place_at n e.carrier) ≡ g → HasSession n e.lines g x →
     IsSeated n (record { end = e; held = h }) (record { transport = transport_by g; session = x; channel = channel })
 seat_of_session n e h g x channel o p s = record {
+  joined = s.joined;
   transport = sym (transport_at (place_at n e.carrier) g p);
   live = λ is. live_session n e is ∙ s.live (ap lives_in (sym p) ∙ lives_there n e.carrier o is);
   kept = s.kept;

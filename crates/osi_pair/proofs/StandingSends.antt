@@ -1,16 +1,15 @@
 -- An end sends a unit on an open connection: the tables put it.
-use Rattle.std.proofs.Common.{◌≡◌, ℕ, Bool, true, false, if◌then◌else◌, List, [], ◌∷◌, map, Option, Some, None, is_some, refl, sym, ap, subst, ◌∙◌}
+use Rattle.std.proofs.Common.{◌≡◌, ℕ, Bool, true, false, List, [], ◌∷◌, Some, None, is_some, refl, sym, ap, subst, ◌∙◌}
 use Rattle.osi_tpkt.specs.Octets.{IsOctets}
 use Rattle.osi_class.specs.Between.{IsShortTsdu}
 use Rattle.osi_class.specs.Link.{Standing as Link}
-use Rattle.osi_carrier.specs.Between.{Between, last_of, under_way, put_in}
-use Rattle.osi_carrier.specs.Calls.{open_link, link_of, sent}
+use Rattle.osi_carrier.specs.Between.{Between, last_of, under_way, put_in, is_cut}
+use Rattle.osi_carrier.specs.Calls.{sent}
 use Rattle.osi_carrier.specs.Course.{place_at, progress_of}
 use Rattle.osi_carrier.specs.Messages as carrier
 use Rattle.osi_carrier.specs.Progress.{Progress, in_use, leaves_use}
 use Rattle.osi_carrier.specs.Rows.{value_at}
 use Rattle.osi_carrier.specs.State.{State, linked}
-use Rattle.osi_carrier.specs.declared.ends.EndReason.{EndReason}
 use Rattle.osi_machine.specs.Machine.{connection_at}
 use Rattle.osi_machine.specs.Tables.{Line, Tables, seen_from, stays, puts}
 use Rattle.osi_machine.specs.Worlds.{Message, Transport, unit, put}
@@ -21,25 +20,22 @@ use Rattle.osi_stack.specs.Hearing.{with_carrier}
 use Rattle.osi_stack.specs.State.{Holding}
 use Rattle.osi_pair.specs.Ends.{TwoEnds, end_at}
 use Rattle.osi_pair.specs.Sides.{other}
-use Rattle.osi_pair.specs.Standing.{side_in, is_caller, carriers_of, message_in, AreAlike, IsInOrder, Stands}
+use Rattle.osi_pair.specs.Standing.{side_in, is_caller, carriers_of, IsInOrder, Stands, HasJoined}
 use Rattle.osi_pair.specs.declared.sides.Side.{Side}
 use Rattle.osi_pair.specs.declared.sides.Side.TheVariants.{Left, Right}
-use Rattle.osi_pair.proofs.StandingActed.{ActsOn, CarrierActs, end_with, pair_with, ways_at, acted_line, acted_stands, seen_at, session_in_use, stood_in_use, stands_now, live_place}
+use Rattle.osi_pair.proofs.StandingActed.{ActsOn, CarrierActs, end_with, pair_with, ways_at, acted_line, acted_stands, seen_at, session_in_use, stood_in_use, stands_now, live_place, OutNow}
 use Rattle.osi_pair.proofs.StandingActs.{StandsOn}
 use Rattle.osi_pair.proofs.StandingArrived.{CarrierLaws}
-use Rattle.osi_pair.proofs.StandingCall.{sent_is}
+use Rattle.osi_pair.proofs.StandingCall.{open_is, sent_is}
 use Rattle.osi_pair.proofs.StandingFinish.{terms_at, order_of}
-use Rattle.osi_pair.proofs.StandingRests.{unless_broken, put_unless, unless_same}
+use Rattle.osi_pair.proofs.StandingRests.{unless_broken, put_unless, unless_same, spare_by}
 use Rattle.osi_pair.proofs.StandingResting.{broken_is}
 use Rattle.osi_pair.proofs.StandingSeats.{transport_at}
-use Rattle.osi_pair.proofs.StandingTurned.{IsSeen, with_holding}
+use Rattle.osi_pair.proofs.StandingTurned.{IsSeen, with_holding, GoesTo}
 use Rattle.osi_pair.proofs.StandingWays.{out_keeps}
+use Rattle.osi_pair.proofs.StandingCut.{cut_none, end_out}
 
 -- ---- the carrier
-
-pub open_is : (n : ℕ) (c : State) (peer : ℕ) (link : Link) → c.ended ≡ None → value_at n c.live ≡ Some (linked peer link) → open_link n c ≡ Some (peer, link)
-open_is n c peer link alive at =
-    ap (λ (x : Option EndReason). if◌then◌else◌ {A = Option (ℕ × Link)} (is_some x) None (link_of (value_at n c.live))) alive ∙ ap link_of at
 
 pub sent_acts : (n : ℕ) (tsdu : List ℕ) (c : State) (peer : ℕ) (link : Link) → c.ended ≡ None → value_at n c.live ≡ Some (linked peer link) → ActsOn n in_use c (sent n tsdu c)
 sent_acts n tsdu c peer link alive at =
@@ -89,18 +85,21 @@ stays_open : (g h : Progress) → g ≡ in_use → h ≡ in_use → leaves_use g
 stays_open g h e f = ap (λ (x : Progress). leaves_use x h) e ∙ ap (λ (x : Progress). leaves_use in_use x) f
 
 out_sends : (s : Side) (p : TwoEnds) (b : Between) (t : Tables) (n : ℕ) (m : Meaning) (l : Line) → Stands p b t → (end_at s p).end.carrier.ended ≡ None → (a : SendActs s p b n (written m)) →
-    IsInOrder (end_with s (sent n (written m) (end_at s p).end.carrier) p) → IsSeen s n p b l → (end_at (other s) p).end.carrier.ended ≡ None →
-    AreAlike (progress_of (place_at n (last_of (is_caller (other s)) b))) (map message_in (put t.broken (unit m ∷ []) l.own.channel))
-    (under_way (is_caller s) n (carriers_of (pair_with s (sent n (written m) (end_at s p).end.carrier) p)) a.now)
-out_sends s p b t n m l old alive a order i lives =
+    IsInOrder (end_with s (sent n (written m) (end_at s p).end.carrier) p) → IsSeen s n p b l →
+    OutNow s n p b (pair_with s (sent n (written m) (end_at s p).end.carrier) p) a.now (put t.broken (unit m ∷ []) l.own.channel)
+out_sends s p b t n m l old alive a order i =
     let c = sent n (written m) (end_at s p).end.carrier in
     let place = place_at n (last_of (is_caller (other s)) b) in
     let new = under_way (is_caller s) n (carriers_of (pair_with s c p)) a.now in
     let sends = carrier.message (written m) ∷ [] in
     let none = a.ways.keeps (stays_open _ _ (stood_in_use s p b t n in_use c sends old alive a) (stands_now s p b n in_use c sends a order)) in
-    subst (λ (ms : List Message). AreAlike (progress_of place) (map message_in ms) new) (sym (put_unless t.broken (unit m ∷ []) l.own.channel))
-    (out_keeps place l.own.channel (unless_broken t.broken (unit m ∷ [])) (under_way (is_caller s) n (carriers_of p) b) new a.ways.stays a.ways.gone (put_in (carriers_of p) sends)
-    (i.out lives) a.ways.before a.ways.after none (unless_same t.broken (is_some (carriers_of p).reach) (unit m ∷ []) sends (broken_is p b t old) refl))
+    let lasts = (end_at (other s) p).end.carrier.ended in
+    let two = pair_with s c p in
+    subst (λ (ms : List Message). GoesTo s (end_at (other s) p) n two a.now (progress_of place) ms) (sym (put_unless t.broken (unit m ∷ []) l.own.channel))
+    (out_keeps lasts place (is_cut (is_caller s) (carriers_of p)) (is_cut (is_caller s) (carriers_of two)) (HasJoined n (end_at (other s) p)) l.own.channel (unless_broken t.broken (unit m ∷ [])) (under_way (is_caller s) n (carriers_of p) b) new
+    a.ways.stays a.ways.gone (put_in (carriers_of p) sends) i.out (spare_by t.broken (is_cut (is_caller s) (carriers_of p)) (unit m ∷ []) (cut_none s p t.broken old.broken alive))
+    (end_out s (record { end = end_with s c p; held = (end_at s p).held }) p alive) a.ways.before a.ways.after none
+    (unless_same t.broken (is_some (carriers_of p).reach) (unit m ∷ []) sends (broken_is p b t old) refl))
 
 -- ---- two ends
 

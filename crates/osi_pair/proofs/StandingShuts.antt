@@ -1,6 +1,6 @@
 -- In class 0 a session closes: the end comes. There is one connection, so that what its session shows stands in
 -- the order of the tables.
-use Rattle.std.proofs.Common.{◌≡◌, ℕ, ◌<◌, ◌≤◌, Bool, true, false, List, [], ◌∷◌, ◌++◌, map, Option, Some, None, option_map, refl, sym, ap, subst, ◌∙◌, arith}
+use Rattle.std.proofs.Common.{◌≡◌, ℕ, ◌≤◌, Bool, true, false, List, [], ◌∷◌, ◌++◌, map, Option, Some, None, refl, sym, ap, subst, ◌∙◌, arith}
 use Rattle.std.proofs.lemmas.List.{append-nil, append_assoc, map-append}
 use Rattle.osi_tpkt.specs.Held.{Held}
 use Rattle.osi_class.specs.Link.{Standing as Link}
@@ -19,12 +19,12 @@ use Rattle.osi_machine.specs.Tables.{Tables, closes_by, noted as noted_in, stays
 use Rattle.osi_machine.specs.Worlds.{Message}
 use Rattle.osi_machine.specs.Worlds as worlds
 use Rattle.osi_message.specs.Meanings.{Meaning}
-use Rattle.osi_message.specs.Written.{written}
+use Rattle.osi_message.specs.Parting.{tsdus_sent}
 use Rattle.osi_session.specs.Moves.{Input, react}
 use Rattle.osi_session.specs.Shown.{Shown}
 use Rattle.osi_stack.specs.Hearing.{after_packet, concludes, all_lost, shown_at_loss}
 use Rattle.osi_stack.specs.Moving.{answers}
-use Rattle.osi_stack.specs.State.{Line, End, Holding}
+use Rattle.osi_stack.specs.State.{Line, End}
 use Rattle.osi_stack.specs.Transport.{answers_by}
 use Rattle.osi_pair.specs.Ends.{TwoEnds, end_at}
 use Rattle.osi_pair.specs.Entries.{Entry, ends}
@@ -36,11 +36,10 @@ use Rattle.osi_pair.proofs.StandingAnswering.{AnswerLaws, closes_alone, known_ze
 use Rattle.osi_pair.proofs.StandingAnswers.{answered_end, line_with, closing_by, move_ends, linked_closes, moved_order}
 use Rattle.osi_pair.proofs.StandingArrived.{CarrierLaws, PacketActs}
 use Rattle.osi_pair.proofs.StandingCall.{put_nothing}
-use Rattle.osi_pair.proofs.StandingEnded.{lost_end, keep_then, ended_stands, may_end, all_shown_then, none_left}
+use Rattle.osi_pair.proofs.StandingEnded.{lost_end, ended_stands, may_end, all_shown_then, none_left, EndsOn}
 use Rattle.osi_pair.proofs.StandingFinish.{terms_at, line_then}
-use Rattle.osi_pair.proofs.StandingLost.{SaysAll}
 use Rattle.osi_pair.proofs.StandingListens.{as_made}
-use Rattle.osi_pair.proofs.StandingMoved.{move_of, loud_lines, moved_end, known_by, moved_line, turn_of, moved_tables, HasMoved}
+use Rattle.osi_pair.proofs.StandingMoved.{move_of, loud_lines, moved_end, known_by, turn_of, moved_tables, HasMoved}
 use Rattle.osi_pair.proofs.StandingMoves.{heard_by}
 use Rattle.osi_pair.proofs.StandingPacket.{PacketLaws, terms_then}
 use Rattle.osi_pair.proofs.StandingQuiet.{quiet_waits}
@@ -96,7 +95,7 @@ says_so s before n shown lines last waits alone =
 
 zero_stands : (s : Side) (p : TwoEnds) (a : State) (lines : Rows Line) (h : Held) (n : ℕ) (shown : List Shown) (now : Between) (t : Tables) →
     Stands (turned_pair s (record { carrier = a; lines = quieted lines }) h n shown p) now t → a.ended ≡ None → waiting_in lines ≡ map (λ x. (n, x)) shown → IsAlone lines →
-    Stands (shown_pair s (lost_end Closed a lines) h p) now (after_end (side_in s) closed_here (keep_then s Closed a lines h p now) t)
+    EndsOn s (shown_pair s (lost_end Closed a lines) h p) now closed_here t
 zero_stands Left p a lines h n shown now t old lasts waits alone =
     let e : End = record { carrier = a; lines = quieted lines } in
     let p1 = turned_pair Left e h n shown p in
@@ -151,10 +150,11 @@ shut_shown laws s p t packet h v zero known closing reply =
     let order = moved_order s p t packet h v in
     let alone = alone_by e.carrier.given lines (given_of s p e h n shown v.now between v.lasts) order.rising order.sound.known in
     let open_now = linked_closes s p t packet h v closing (move_ends v.m.row v.row) in
-    let acts : answers n (as_made (move_of v.m)) e.carrier ≡ carriers.ends Closed e.carrier =
-    ap (λ (b : Bool). answers_by b n (option_map written (move_of v.m).reply) e.carrier) closing ∙ closes_carrier laws s p e h n shown v.now open_now.peer open_now.link between v.lasts open_now.at in
+    let acts : answers n 0 (as_made (move_of v.m)) e.carrier ≡ carriers.ends Closed e.carrier =
+    ap (λ (b : Bool). answers_by b n (tsdus_sent 0 (move_of v.m).reply) e.carrier) closing ∙ closes_carrier laws s p e h n shown v.now open_now.peer open_now.link between v.lasts open_now.at in
     let same : after_packet (end_at s p).end packet ≡ lost_end Closed e.carrier lines = v.does ∙ ap (λ (k : State). concludes (answered_end k lines)) acts in
-    let keep = keep_then s Closed e.carrier lines h p v.now in
+    let done = zero_stands s p e.carrier lines h n shown v.now (moved_tables s t v.m) v.stands v.lasts v.waits alone in
+    let keep = done.keep in
     subst (λ (x : End). StandsShown s p t x h) (sym same)
     (record {
       more = delivers (side_in s) n keep ∷ [];
@@ -162,7 +162,7 @@ shut_shown laws s p t packet h v zero known closing reply =
       now = v.now;
       local = v.local;
       stands = subst (λ (y : Tables). Stands (shown_pair s (lost_end Closed e.carrier lines) h p) v.now y) (sym (shut_step s p t packet h v keep known closing reply))
-          (zero_stands s p e.carrier lines h n shown v.now (moved_tables s t v.m) v.stands v.lasts v.waits alone);
+          done.stands;
     })
 
 -- in class 0 a session closes its connection

@@ -1,6 +1,5 @@
 -- One connection, seen from the end that acts.
-use Rattle.std.proofs.Common.{◌≡◌, ◌≢◌, refl, sym, ◌∙◌, ap, subst, ℕ, zero, suc, Bool, true, false, if◌then◌else◌, List, [], ◌∷◌, ◌++◌, map, Option, Some, None, is_some}
-use Rattle.std.proofs.lemmas.List.{map-append, append-nil}
+use Rattle.std.proofs.Common.{◌≡◌, ◌≢◌, refl, sym, ◌∙◌, ap, subst, ℕ, zero, suc, Bool, true, false, if◌then◌else◌, List, [], ◌∷◌, map, Option, Some, None, is_some}
 use Rattle.std.specs.List.{slice_get}
 use Rattle.osi_tpdu.specs.Value.{Value}
 use Rattle.osi_carrier.specs.Between.{Between, Carries}
@@ -14,15 +13,16 @@ use Rattle.osi_carrier.specs.State.{asked, linked, closing}
 use Rattle.osi_carrier.specs.Terms.{Terms}
 use Rattle.osi_machine.specs.Machine.{replaced}
 use Rattle.osi_machine.specs.Tables.{Seat, Line, seen_from}
-use Rattle.osi_machine.specs.Worlds.{Message, put}
 use Rattle.osi_session.specs.Listening.{Listener}
 use Rattle.osi_stack.specs.Messages.{kept_at}
 use Rattle.osi_stack.specs.State.{End, Holding, session_in, session_at}
 use Rattle.osi_pair.specs.Ends.{TwoEnds, end_at}
 use Rattle.osi_pair.specs.Sides.{other}
-use Rattle.osi_pair.specs.Standing.{side_in, is_caller, transport_in, carriers_of, message_in, AreAlike, IsSeated, IsUnderWay, IsLine}
+use Rattle.osi_pair.specs.Standing.{side_in, is_caller, transport_in, carriers_of, AreAlike, IsSeated, IsUnderWay, IsLine, HasJoined}
 use Rattle.osi_pair.specs.declared.sides.Side.{Side}
 use Rattle.osi_pair.specs.declared.sides.Side.TheVariants.{Left, Right}
+use Rattle.osi_pair.proofs.StandingCut.{cut_out, cut_back}
+use Rattle.osi_pair.proofs.StandingWays.{way_same}
 
 -- ---- one of its sides first
 
@@ -46,13 +46,6 @@ seen_twice Right l = refl
 
 -- ---- messages that are alike
 
-pub alike_sym : (g : Progress) (xs ys : List carrier.Message) → AreAlike g xs ys → AreAlike g ys xs
-alike_sym not_yet xs ys h = sym h
-alike_sym awaiting xs ys h = sym h
-alike_sym in_use xs ys h = sym h
-alike_sym shutting xs ys h = sym h
-alike_sym progress.gone xs ys h = sym h
-
 pub alike_trans : (g : Progress) (xs ys zs : List carrier.Message) → AreAlike g xs ys → AreAlike g ys zs → AreAlike g xs zs
 alike_trans not_yet xs ys zs h k = h ∙ k
 alike_trans awaiting xs ys zs h k = h ∙ k
@@ -66,16 +59,6 @@ alike_same awaiting xs ys e = e
 alike_same in_use xs ys e = e
 alike_same shutting xs ys e = ap (map kind_of) e
 alike_same progress.gone xs ys e = ap (map kind_of) e
-
-kinds_join : (xs ys zs : List carrier.Message) → map kind_of xs ≡ map kind_of ys → map kind_of (xs ++ zs) ≡ map kind_of (ys ++ zs)
-kinds_join xs ys zs h = map-append kind_of xs zs ∙ ap (λ (l : List carrier.Message). l ++ map kind_of zs) h ∙ sym (map-append kind_of ys zs)
-
-pub alike_join : (g : Progress) (xs ys zs : List carrier.Message) → AreAlike g xs ys → AreAlike g (xs ++ zs) (ys ++ zs)
-alike_join not_yet xs ys zs h = ap (λ (l : List carrier.Message). l ++ zs) h
-alike_join awaiting xs ys zs h = ap (λ (l : List carrier.Message). l ++ zs) h
-alike_join in_use xs ys zs h = ap (λ (l : List carrier.Message). l ++ zs) h
-alike_join shutting xs ys zs h = kinds_join xs ys zs h
-alike_join progress.gone xs ys zs h = kinds_join xs ys zs h
 
 -- messages that are like at a connection are alike there
 pub like_alike : (place : Place) (xs ys : List carrier.Message) → AreLike (connection_in place) xs ys → AreAlike (progress_of place) xs ys
@@ -102,6 +85,7 @@ session_of_live q e live = ap (λ (b : Bool). if◌then◌else◌ {A = Option Li
 
 pub seated_there : (q : ℕ) (h g : Holding) (seat : Seat) → IsLeft q h g → IsSeated q h seat → IsSeated q g seat
 seated_there q h g seat left s = record {
+  joined = s.joined;
   transport = s.transport ∙ ap transport_in (sym left.place);
   live = λ e.
       let was = sym (ap is_some left.live) ∙ e in
@@ -115,38 +99,21 @@ seated_there q h g seat left s = record {
 -- the line of another connection
 pub other_line : (terms : Terms) (side : Side) (q r : ℕ) (p new : TwoEnds) (b c : Between) (taken : List Value) (messages : List carrier.Message) (l : Line) →
     Carries terms (is_caller side) r (carriers_of p) (carriers_of new) b c taken messages → q ≢ r → end_at (other side) new ≡ end_at (other side) p →
-    (end_at side p).end.carrier.ended ≡ None → IsLeft q (end_at side p) (end_at side new) → SeenLine side q p b l → SeenLine side q new c l
-other_line terms Left q r p new b c taken messages l k apart there alive left h = record {
+    (end_at side p).end.carrier.ended ≡ None → new.reach ≡ p.reach → IsLeft q (end_at side p) (end_at side new) → SeenLine side q p b l → SeenLine side q new c l
+other_line terms Left q r p new b c taken messages l k apart there alive reach left h = record {
   own = seated_there q p.left new.left l.own left h.own;
   peer = subst (λ (x : Holding). IsSeated q x l.peer) (sym there) h.peer;
-  out = λ e. alike_at (progress_of (place_at q b.called)) (progress_of (place_at q c.called)) _ _ (ap (λ s. progress_of (place_at q s)) (sym k.there))
-      (alike_trans (progress_of (place_at q b.called)) _ _ _ (h.out (ap (λ (x : Holding). x.end.carrier.ended) (sym there) ∙ e)) (alike_same _ _ _ (k.others q apart true)));
-  back = λ e. alike_at (progress_of (place_at q b.caller)) (progress_of (place_at q c.caller)) _ _ (ap progress_of (sym (k.other_places q apart)))
-      (alike_trans (progress_of (place_at q b.caller)) _ _ _ (h.back alive) (alike_same _ _ _ (k.others q apart false)));
+  out = way_same _ _ _ _ _ _ (HasJoined q p.right) (HasJoined q new.right) _ _ _ (λ e. ap (λ (x : Holding). x.end.carrier.ended) (sym there) ∙ e) (ap (λ s. progress_of (place_at q s)) k.there) (cut_out Left p new reach alive)
+      (λ x held. subst (λ (y : Holding). HasJoined q y x) (sym there) held) (k.others q apart true) h.out;
+  back = way_same _ _ _ _ _ _ (HasJoined q p.left) (HasJoined q new.left) _ _ _ (λ e. alive) (ap progress_of (k.other_places q apart)) (cut_back Left p new reach there) (λ x held y at. held y (left.kept y at)) (k.others q apart false) h.back;
 }
-other_line terms Right q r p new b c taken messages l k apart there alive left h = record {
+other_line terms Right q r p new b c taken messages l k apart there alive reach left h = record {
   own = seated_there q p.right new.right l.own left h.own;
   peer = subst (λ (x : Holding). IsSeated q x l.peer) (sym there) h.peer;
-  out = λ e. alike_at (progress_of (place_at q b.caller)) (progress_of (place_at q c.caller)) _ _ (ap (λ s. progress_of (place_at q s)) (sym k.there))
-      (alike_trans (progress_of (place_at q b.caller)) _ _ _ (h.out (ap (λ (x : Holding). x.end.carrier.ended) (sym there) ∙ e)) (alike_same _ _ _ (k.others q apart false)));
-  back = λ e. alike_at (progress_of (place_at q b.called)) (progress_of (place_at q c.called)) _ _ (ap progress_of (sym (k.other_places q apart)))
-      (alike_trans (progress_of (place_at q b.called)) _ _ _ (h.back alive) (alike_same _ _ _ (k.others q apart true)));
+  out = way_same _ _ _ _ _ _ (HasJoined q p.left) (HasJoined q new.left) _ _ _ (λ e. ap (λ (x : Holding). x.end.carrier.ended) (sym there) ∙ e) (ap (λ s. progress_of (place_at q s)) k.there) (cut_out Right p new reach alive)
+      (λ x held. subst (λ (y : Holding). HasJoined q y x) (sym there) held) (k.others q apart false) h.out;
+  back = way_same _ _ _ _ _ _ (HasJoined q p.right) (HasJoined q new.right) _ _ _ (λ e. alive) (ap progress_of (k.other_places q apart)) (cut_back Right p new reach there) (λ x held y at. held y (left.kept y at)) (k.others q apart true) h.back;
 }
-
--- ---- what is put
-
-joined_in : (channel put : List Message) → map message_in (channel ++ put) ≡ map message_in channel ++ map message_in put
-joined_in channel put = map-append message_in channel put
-
--- behind what was under way comes what is put, unless the byte connection is broken
-pub alike_put : (g : Progress) (broken : Bool) (channel more : List Message) (old new stays gone : List carrier.Message) → AreAlike g (map message_in channel) old → AreAlike g old (stays ++ gone) →
-    gone ≡ [] → AreAlike g new (stays ++ (if broken then [] else map message_in more)) → AreAlike g (map message_in (put broken more channel)) new
-alike_put g true channel more old new stays gone h before none after =
-    alike_trans g _ _ _ h (alike_trans g _ _ _ before (alike_trans g _ _ _ (alike_same g _ _ (ap (λ (l : List carrier.Message). stays ++ l) none)) (alike_sym g _ _ after)))
-alike_put g false channel more old new stays gone h before none after =
-    let now : AreAlike g (map message_in channel) stays = alike_trans g _ _ _ h (alike_trans g _ _ _ before
-    (alike_same g (stays ++ gone) stays (ap (λ (l : List carrier.Message). stays ++ l) none ∙ append-nil stays))) in
-    alike_trans g _ _ _ (alike_same g _ _ (joined_in channel more)) (alike_trans g _ _ _ (alike_join g (map message_in channel) stays (map message_in more) now) (alike_sym g _ _ after))
 
 -- ---- lines
 

@@ -1,12 +1,12 @@
 -- Memory is wanted for what the carrier of an end told: how two ends stand then, by what arrived.
-use Rattle.std.proofs.Common.{◌≡◌, ℕ, Bool, true, false, not, ◌||◌, if◌then◌else◌, List, [], ◌∷◌, ◌++◌, length, map, take, Option, None, is_some, IfSome, refl, sym, ap, subst, ◌∙◌, ◌⊎◌, inl, inr}
+use Rattle.std.proofs.Common.{◌≡◌, ℕ, Bool, true, false, not, ◌||◌, if◌then◌else◌, List, [], ◌∷◌, ◌++◌, map, take, Option, None, IfSome, refl, sym, ap, subst, ◌∙◌, ◌⊎◌, inl, inr}
 use Rattle.std.specs.List.{list_any}
 use Rattle.std.proofs.lemmas.List.{append-nil}
 use Rattle.osi_tpkt.specs.Held.{Held}
 use Rattle.osi_tpkt.specs.Packet.{IsPacket}
 use Rattle.osi_carrier.specs.Addresses.{reference_of}
-use Rattle.osi_carrier.specs.Between.{Between, last_of, under_way, put_in}
-use Rattle.osi_carrier.specs.Course.{Place, place_at, progress_of}
+use Rattle.osi_carrier.specs.Between.{Between, last_of}
+use Rattle.osi_carrier.specs.Course.{place_at, progress_of}
 use Rattle.osi_carrier.specs.Happenings.{Happening}
 use Rattle.osi_carrier.specs.Messages as carrier
 use Rattle.osi_carrier.specs.Progress.{leaves_use}
@@ -29,10 +29,10 @@ use Rattle.osi_session.specs.declared.phases.Phase.{Phase}
 use Rattle.osi_session.proofs.PhaseLaws.{excluded}
 use Rattle.osi_stack.specs.Hearing.{Starves}
 use Rattle.osi_stack.specs.Messages.{told_all}
-use Rattle.osi_stack.specs.State.{End, Holding}
+use Rattle.osi_stack.specs.State.{End}
 use Rattle.osi_pair.specs.Ends.{TwoEnds, end_at}
 use Rattle.osi_pair.specs.Sides.{other}
-use Rattle.osi_pair.specs.Standing.{side_in, is_caller, carriers_of, message_in, AreAlike, Stands}
+use Rattle.osi_pair.specs.Standing.{side_in, is_caller, carriers_of, message_in, Stands, Goes}
 use Rattle.osi_pair.specs.declared.sides.Side.{Side}
 use Rattle.osi_pair.specs.declared.sides.Side.TheVariants.{Left, Right}
 use Rattle.osi_pair.proofs.StandingActs.{run_one, number_one}
@@ -42,24 +42,21 @@ use Rattle.osi_pair.proofs.StandingBreak.{still_seated}
 use Rattle.osi_pair.proofs.StandingCall.{put_nothing}
 use Rattle.osi_pair.proofs.StandingEnded.{EndingLine, lost_end, all_shown_then, whole_line}
 use Rattle.osi_pair.proofs.StandingEnding.{still_waiting}
-use Rattle.osi_pair.proofs.StandingFinish.{terms_at, DidAt, TablesAfter, line_then, is_agree, order_of, known_then}
+use Rattle.osi_pair.proofs.StandingFinish.{terms_at, TablesAfter, line_then, is_agree, order_of, known_then}
 use Rattle.osi_pair.proofs.StandingKnown.{moved_known}
 use Rattle.osi_pair.proofs.StandingLost.{ended_shows, quiet_shows, is_over}
 use Rattle.osi_pair.proofs.StandingMoves.{turn_then, turn_moves}
 use Rattle.osi_pair.proofs.StandingPacket.{PacketLaws, acts_at, both_carrier, both_held, lasting_in}
-use Rattle.osi_pair.proofs.StandingResting.{acted_end, did_at, same_row, line_at, transport_before, out_row, back_one, broken_is}
-use Rattle.osi_pair.proofs.StandingRests.{step_opens, delivered, tables_delivered, tables_rest, is_awaited, learns_row, turn_rests, rests, sends_then, answer_for, answers_same, unless_broken, put_unless}
-use Rattle.osi_pair.proofs.StandingRows.{Row, quiet, still, begins, refuses, agrees, denies, tells, leaves, ignores, ends, before, after, arrived_in, put_for, told_for}
+use Rattle.osi_pair.proofs.StandingResting.{acted_end, did_at, same_row, line_at, transport_before, out_row, back_alone}
+use Rattle.osi_pair.proofs.StandingRests.{step_opens, delivered, tables_delivered, tables_rest, is_awaited, learns_row, turn_rests, rests, sends_then, unless_broken, put_unless}
+use Rattle.osi_pair.proofs.StandingRows.{Row, quiet, still, begins, refuses, agrees, denies, tells, leaves, ignores, ends, before, after, arrived_in, told_for}
 use Rattle.osi_pair.proofs.StandingSeats.{transport_by}
 use Rattle.osi_pair.proofs.StandingShown.{StandsShown}
-use Rattle.osi_pair.proofs.StandingTurned.{IsSeen, with_holding, holding_there}
+use Rattle.osi_pair.proofs.StandingTurned.{with_holding}
 use Rattle.osi_pair.proofs.StandingUnheard.{placed_then, acted_may_end}
 use Rattle.osi_pair.proofs.StandingWant.{alone_shown, behind_shown, ended_shown, says_then, WantLaws, has_starved}
-use Rattle.osi_pair.proofs.StandingWays.{out_cuts}
-
--- the other end is as it was
-other_lasts : (s : Side) (e : End) (h : Held) (p : TwoEnds) → (end_at (other s) (with_holding s e h p)).end.carrier.ended ≡ None → (end_at (other s) p).end.carrier.ended ≡ None
-other_lasts s e h p x = ap (λ (y : Holding). y.end.carrier.ended) (sym (holding_there s e h p)) ∙ x
+use Rattle.osi_pair.proofs.StandingLeaves.{out_leaves}
+use Rattle.osi_carrier.specs.Messages.{kind_of}
 
 -- ---- the tables take nothing
 
@@ -88,8 +85,8 @@ lone_shown laws s p b t packet h held old alive pa lone =
     let l = at.line in
     let tr = transport_before s p b t e h n l old alive d at.is in
     let line = whole_line s p t e h d.now n l at.found (placed_then s p b e h n l.own d f.lasts (ap is_given tr ∙ q.given) at.is.here.awaiting at.is.here.octets) at.is.there
-    (λ x. subst (λ (ms : List Message). AreAlike (progress_of (place_at n (last_of (is_caller (other s)) d.now))) (map message_in ms) (under_way (is_caller s) n (carriers_of (with_holding s e h p)) d.now))
-    (q.sends t.broken l.own.channel) (out_row s p b t e h n l old d at.is q.stays (other_lasts s e h p x))) in
+    (subst (λ (ms : List Message). Goes s (other s) n (with_holding s e h p) d.now (progress_of (place_at n (last_of (is_caller (other s)) d.now))) ms)
+    (q.sends t.broken l.own.channel) (out_row s p b t e h n l old d at.is q.stays alive)) in
     let m = acted_may_end laws s p b t t packet h l old alive pa d (tables_rest s n l t at.found) line (known_then s p b t e h n old alive d f.lasts pa.first.given q.agree) in
     alone_shown s p b t e h d.now was.lines held old m (all_shown_then s p b t old alive) (lasting_in s p b t old alive)
 
@@ -108,17 +105,18 @@ begins_shown laws s p b t packet h held old alive pa begun =
     let at = line_at s n p b t old pa.first.named pa.first.given in
     let l = at.line in
     let one : arrived_in d.row ≡ carrier.ask ∷ [] = ap arrived_in row in
-    let sp = back_one s p b e h n l carrier.ask d at.is alive one in
+    let sp = back_alone s p b e h n l carrier.ask d at.is alive one refl in
     let tr = transport_before s p b t e h n l old alive d at.is in
     let line = line_then d.row l.own.session (sends_then d.row t.broken l.own.channel) sp.others l in
     let known = learns t.terms l.own.transport sp.first t.known in
     let u = delivered t (side_in s) n known (unseen line) in
-    let turn = turn_rests (terms_at p) t.terms t.broken 0 d.row l sp.first sp.others carrier.ask old.terms tr d.is (ap rests row) one sp.is in
+    let turn = turn_rests (terms_at p) t.terms t.broken 0 d.row l sp.first sp.others carrier.ask old.terms tr d.is (ap rests row) one sp.kind in
     let is : step t (delivers (side_in s) n (λ r. 0)) ≡ u = step_opens t (side_in s) n (λ r. 0) l sp.first sp.others (unseen line) lasting at.found sp.parts turn refl in
     let a : TablesAfter s n t u [] line = tables_delivered s n (seen_from (side_in s) l) t known (unseen line) at.found in
     let session : l.own.session ≡ awaits = at.is.here.awaiting (tr ∙ ap (λ (r : Row). transport_by (before r)) row) in
     let ending = whole_line s p u e h d.now n line a.lines.found (placed_then s p b e h n line.own d f.lasts refl (λ x. session) at.is.here.octets)
-    (still_seated n (end_at (other s) p) l.peer sp.others at.is.there) (λ x. out_row s p b t e h n l old d at.is (ap (λ (r : Row). leaves_use (before r) (after r)) row) (other_lasts s e h p x)) in
+    (still_seated n (end_at (other s) p) l.peer sp.others at.is.there)
+    (out_row s p b t e h n l old d at.is (ap (λ (r : Row). leaves_use (before r) (after r)) row) alive) in
     let m = acted_may_end laws s p b t u packet h line old alive pa d a ending
     (learns_row d.row l.own.transport t.terms sp.first t.known tr (ap is_awaited row) ∙ known_then s p b t e h n old alive d f.lasts pa.first.given (ap is_agree row)) in
     behind_shown s p b t u e h d.now was.lines held n (λ r. 0) old m (says_then s n line l t u _ _ a.lines at.found refl (all_shown_then s p b t old alive)) lasting is
@@ -171,9 +169,9 @@ agrees_shown laws s p b t packet h held old alive pa agreed =
     let l = at.line in
     let x = l.own.session in
     let one : arrived_in d.row ≡ carrier.agree ∷ [] = ap arrived_in row in
-    let sp = back_one s p b e h n l carrier.agree d at.is alive one in
+    let sp = back_alone s p b e h n l carrier.agree d at.is alive one refl in
     let tr : l.own.transport ≡ transport_by (before agrees) = transport_before s p b t e h n l old alive d at.is ∙ ap (λ (r : Row). transport_by (before r)) row in
-    let alike : AreAlike (before agrees) (message_in sp.first ∷ []) (carrier.agree ∷ []) = subst (λ (r : Row). AreAlike (before r) (message_in sp.first ∷ []) (carrier.agree ∷ [])) row sp.is in
+    let alike : kind_of (message_in sp.first) ≡ carrier.agree = sp.kind in
     let turn = turn_then agrees opened t.broken (react x opened).reply x l.own.channel sp.others l in
     let known = learns t.terms l.own.transport sp.first t.known in
     let u = delivered t (side_in s) n known turn in
@@ -189,8 +187,8 @@ agrees_shown laws s p b t packet h held old alive pa agreed =
       more = unless_broken t.broken (replied (react x opened).reply);
       parts = put_unless t.broken (replied (react x opened).reply) l.own.channel;
       whole = λ y. cc;
-      out = λ y. subst (λ (r : Row). AreAlike (progress_of (place_at n (last_of (is_caller (other s)) d.now))) (map message_in (sends_then r t.broken l.own.channel)) (under_way (is_caller s) n (carriers_of (with_holding s e h p)) d.now)) row
-          (out_row s p b t e h n l old d at.is (ap (λ (r : Row). leaves_use (before r) (after r)) row) (other_lasts s e h p y));
+      out = subst (λ (r : Row). Goes s (other s) n (with_holding s e h p) d.now (progress_of (place_at n (last_of (is_caller (other s)) d.now))) (sends_then r t.broken l.own.channel)) row
+          (out_row s p b t e h n l old d at.is (ap (λ (r : Row). leaves_use (before r) (after r)) row) alive);
     } in
     let m = acted_may_end laws s p b t u packet h turn.line old alive pa d a ending
     (moved_known s p b t e h n l sp.first pa.unit agrees old alive d f.lasts pa.first pa.first.given row (inl refl) tr alike) in
@@ -198,7 +196,7 @@ agrees_shown laws s p b t packet h held old alive pa agreed =
 
 -- ---- a DR that closes: a DC is put in answer
 
-bye_is : (m : Message) (reason : ℕ) → message_in m ∷ [] ≡ carrier.bye reason ∷ [] → m ≡ bye reason
+bye_is : (m : Message) (reason : ℕ) → kind_of (message_in m) ≡ carrier.bye reason → m ≡ bye reason
 bye_is (bye why) reason e = let same : why ≡ reason = cc in ap bye same
 bye_is ask reason e = absurd cc
 bye_is agree reason e = absurd cc
@@ -214,7 +212,7 @@ left_turn broken keep l = record {
   closes = false;
 }
 
-turn_leaves : (broken : Bool) (terms : worlds.Terms) (keep reason : ℕ) (tr : worlds.Transport) (l : Line) (m : Message) → tr ≡ worlds.linked → message_in m ∷ [] ≡ carrier.bye reason ∷ [] →
+turn_leaves : (broken : Bool) (terms : worlds.Terms) (keep reason : ℕ) (tr : worlds.Transport) (l : Line) (m : Message) → tr ≡ worlds.linked → kind_of (message_in m) ≡ carrier.bye reason →
     message_taken broken terms keep tr l m ≡ left_turn broken keep l
 turn_leaves broken terms keep reason tr l m e f =
     ap (λ (x : worlds.Transport). message_taken broken terms keep x l m) e ∙ ap (λ (x : Message). message_taken broken terms keep worlds.linked l x) (bye_is m reason f)
@@ -226,20 +224,6 @@ silent_loss x = refl
 channel_leaves : (broken : Bool) (r : Option Meaning) (channel : List Message) → r ≡ None → put broken (over ∷ []) (put broken (replied r) channel) ≡ channel ++ unless_broken broken (over ∷ [])
 channel_leaves broken r channel e =
     ap (λ (o : Option Meaning). put broken (over ∷ []) (put broken (replied o) channel)) e ∙ ap (put broken (over ∷ [])) (put_nothing broken channel) ∙ put_unless broken (over ∷ []) channel
-
--- what is under way from it
-out_leaves : (s : Side) (p : TwoEnds) (b : Between) (t : Tables) (e : End) (h : Held) (n reason : ℕ) (l : Line) → Stands p b t → (d : DidAt s p b e h n) → IsSeen s n p b l → d.row ≡ leaves reason →
-    (end_at (other s) p).end.carrier.ended ≡ None →
-    AreAlike (progress_of (place_at n (last_of (is_caller (other s)) d.now))) (map message_in (take (length d.stays) l.own.channel ++ unless_broken t.broken (over ∷ [])))
-    (under_way (is_caller s) n (carriers_of (with_holding s e h p)) d.now)
-out_leaves s p b t e h n reason l old d i row alive =
-    let there = place_at n (last_of (is_caller (other s)) b) in
-    let new = under_way (is_caller s) n (carriers_of (with_holding s e h p)) d.now in
-    let all : AreAlike (progress_of there) (map message_in (take (length d.stays) l.own.channel ++ unless_broken t.broken (answer_for d.row))) new =
-    out_cuts there l.own.channel (unless_broken t.broken (answer_for d.row)) (under_way (is_caller s) n (carriers_of p) b) new d.stays d.gone (put_in (carriers_of p) (put_for d.row)) (i.out alive) d.out_before d.out_after
-    (answers_same t.broken (is_some (carriers_of p).reach) d.row (broken_is p b t old)) in
-    subst (λ (q : Place). AreAlike (progress_of q) (map message_in (take (length d.stays) l.own.channel ++ unless_broken t.broken (over ∷ []))) new) (sym (d.there n))
-    (subst (λ (r : Row). AreAlike (progress_of there) (map message_in (take (length d.stays) l.own.channel ++ unless_broken t.broken (answer_for r))) new) row all)
 
 -- no loss was shown to a side that lasts
 abbrev pub LosesLate : Type 0
@@ -302,11 +286,12 @@ leaves_shown laws late s p b t packet h held old run alive pa reason left =
     let l = at.line in
     let x = l.own.session in
     let one : arrived_in d.row ≡ carrier.bye reason ∷ [] = ap arrived_in row in
-    let sp = back_one s p b e h n l (carrier.bye reason) d at.is alive one in
+    let sp = back_alone s p b e h n l (carrier.bye reason) d at.is alive one refl in
     let first = transport_before s p b t e h n l old alive d at.is in
     let tr : l.own.transport ≡ worlds.linked = first ∙ ap (λ (r : Row). transport_by (before r)) row in
-    let alike : message_in sp.first ∷ [] ≡ carrier.bye reason ∷ [] = subst (λ (r : Row). AreAlike (before r) (message_in sp.first ∷ []) (carrier.bye reason ∷ [])) row sp.is in
-    let k = length d.stays in
+    let alike : kind_of (message_in sp.first) ≡ carrier.bye reason = sp.kind in
+    let out = out_leaves s p b t e h n reason l old d row at.is in
+    let k = out.keep in
     let turn = left_turn t.broken k (without_first l sp.others) in
     let known = learns t.terms l.own.transport sp.first t.known in
     let u = delivered t (side_in s) n known turn in
@@ -316,7 +301,7 @@ leaves_shown laws late s p b t packet h held old run alive pa reason left =
     let none : (react x broken_off).shown ≡ [] =
     none_lost (side_in s) n x u t.journal (late u (run_more t u (side_in s) n (λ r. k) is run)) (end_after s t n known turn ∙ lasting) all.journal in
     let a : TablesAfter s n t u [] turn.line = subst (λ (shown : List Shown). TablesAfter s n t u shown turn.line) none all in
-    let kept = take k l.own.channel ++ unless_broken t.broken (over ∷ []) in
+    let kept = put t.broken (over ∷ []) (take k l.own.channel) in
     let ending : EndingLine s p u e h d.now n = record {
       line = turn.line;
       found = a.lines.found;
@@ -325,9 +310,9 @@ leaves_shown laws late s p b t packet h held old run alive pa reason left =
       there = still_seated n (end_at (other s) p) l.peer sp.others at.is.there;
       kept = kept;
       more = [];
-      parts = channel_leaves t.broken (react x broken_off).reply (take k l.own.channel) (silent_loss x) ∙ sym (append-nil kept);
+      parts = channel_leaves t.broken (react x broken_off).reply (take k l.own.channel) (silent_loss x) ∙ sym (put_unless t.broken (over ∷ []) (take k l.own.channel)) ∙ sym (append-nil kept);
       whole = λ y. refl;
-      out = λ y. out_leaves s p b t e h n reason l old d at.is row (other_lasts s e h p y);
+      out = out.way;
     } in
     let m = acted_may_end laws s p b t u packet h turn.line old alive pa d a ending
     (learns_row d.row l.own.transport t.terms sp.first t.known first (ap is_awaited row) ∙ known_then s p b t e h n old alive d f.lasts pa.first.given (ap is_agree row)) in

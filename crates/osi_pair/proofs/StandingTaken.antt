@@ -1,9 +1,8 @@
 -- A packet is taken: how two ends stand at a list of steps, when its users were shown what came of it.
-use Rattle.std.proofs.Common.{◌≡◌, ℕ, Bool, false, List, [], ◌∷◌, ◌++◌, Option, Some, None, refl, sym, ap, subst, ◌∙◌}
+use Rattle.std.proofs.Common.{◌≡◌, ℕ, false, List, [], ◌∷◌, ◌++◌, Option, None, refl, sym, ap, subst, ◌∙◌}
 use Rattle.std.specs.List.{AllByRecursion}
 use Rattle.osi_tpkt.specs.Held.{Held}
 use Rattle.osi_tpkt.specs.Packet.{IsPacket}
-use Rattle.osi_carrier.specs.Addresses.{reference_of}
 use Rattle.osi_carrier.specs.Between.{Between}
 use Rattle.osi_carrier.specs.Rows.{Rows}
 use Rattle.osi_carrier.specs.State.{State}

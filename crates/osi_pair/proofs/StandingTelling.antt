@@ -16,7 +16,7 @@ use Rattle.osi_pair.proofs.StandingAnswering.{AnswerLaws, moving_packet}
 use Rattle.osi_pair.proofs.StandingArrived.{PacketActs}
 use Rattle.osi_pair.proofs.StandingFinish.{terms_at}
 use Rattle.osi_pair.proofs.StandingLeaves.{leaving_packet}
-use Rattle.osi_pair.proofs.StandingMoved.{MovingLaws, has_moved}
+use Rattle.osi_pair.proofs.StandingMoved.{MovingLaws, has_moved, ArrivesAt, arriving}
 use Rattle.osi_pair.proofs.StandingMoves.{is_move}
 use Rattle.osi_pair.proofs.StandingPacket.{is_heard}
 use Rattle.osi_pair.proofs.StandingPackets.{PacketStands}
@@ -26,6 +26,7 @@ use Rattle.osi_pair.proofs.StandingShuts.{closes_zero}
 use Rattle.osi_pair.proofs.StandingStarved.{StarveLaws, starved_shown}
 use Rattle.osi_pair.proofs.StandingTaken.{unheard_shown, tables_at, is_run, arrivals_at, packet_at}
 use Rattle.osi_pair.proofs.StandingWant.{ended_shown}
+use Rattle.osi_pair.proofs.StandingParts.{part_shown}
 
 -- a session hears of it: it makes its move, or its connection is lost
 heard_kind : (row : Row) → is_heard row ≡ true → (is_move row ≡ true) ⊎ ((reason : ℕ) × (row ≡ leaves reason))
@@ -41,17 +42,20 @@ heard_kind (ignores octets) e = cc
 heard_kind (ends m) e = cc
 
 heard_shown : MovingLaws → AnswerLaws → (s : Side) (p : TwoEnds) (b : Between) (t : Tables) (packet : List ℕ) (h : Held) → Stands p b t → IsTableRun t → (end_at s p).end.carrier.ended ≡ None →
-    (pa : PacketActs (terms_at p) (is_caller s) (carriers_of p) b packet h.octets) → ((is_move pa.did.row ≡ true) ⊎ ((reason : ℕ) × (pa.did.row ≡ leaves reason))) →
+    (pa : PacketActs (terms_at p) (is_caller s) (carriers_of p) b packet h.octets) → ArrivesAt s p b t packet h pa → ((is_move pa.did.row ≡ true) ⊎ ((reason : ℕ) × (pa.did.row ≡ leaves reason))) →
     StandsShown s p t (after_packet (end_at s p).end packet) h
-heard_shown laws answers s p b t packet h old run alive pa (inl move) =
-    let v = has_moved laws s p b t packet h old run alive pa move in
+heard_shown laws answers s p b t packet h old run alive pa a (inl move) =
+    let v = has_moved laws s p b t packet h old run alive pa a move in
     moving_packet laws.packet answers s p b t packet h old alive pa v.moved v.row v.input (λ shut zero. closes_zero laws.packet answers s p b t packet h old alive pa v.moved v.row v.input shut zero)
-heard_shown laws answers s p b t packet h old run alive pa (inr left) = leaving_packet laws s p b t packet h left.0 old run alive pa left.1
+heard_shown laws answers s p b t packet h old run alive pa a (inr left) = leaving_packet laws s p b t packet h left.0 old run alive pa a left.1
 
 shown_by : MovingLaws → AnswerLaws → (s : Side) (p : TwoEnds) (b : Between) (t : Tables) (packet : List ℕ) (h : Held) → Stands p b t → IsTableRun t → (end_at s p).end.carrier.ended ≡ None →
     (pa : PacketActs (terms_at p) (is_caller s) (carriers_of p) b packet h.octets) → (heard : Bool) → is_heard pa.did.row ≡ heard → StandsShown s p t (after_packet (end_at s p).end packet) h
 shown_by laws answers s p b t packet h old run alive pa false e = unheard_shown laws.packet s p b t packet h old alive pa e
-shown_by laws answers s p b t packet h old run alive pa true e = heard_shown laws answers s p b t packet h old run alive pa (heard_kind pa.did.row e)
+shown_by laws answers s p b t packet h old run alive pa true e = elim (arriving laws s p b t packet h old run alive pa e) [
+  | inl a ↦ heard_shown laws answers s p b t packet h old run alive pa a (heard_kind pa.did.row e)
+  | inr v ↦ part_shown laws s p b t packet h old alive pa v
+]
 
 pub packet_shown : MovingLaws → AnswerLaws → (s : Side) (p : TwoEnds) (b : Between) (t : Tables) (packet : List ℕ) (h : Held) → Stands p b t → IsTableRun t → (end_at s p).end.carrier.ended ≡ None →
     PacketActs (terms_at p) (is_caller s) (carriers_of p) b packet h.octets → StandsShown s p t (after_packet (end_at s p).end packet) h

@@ -23,7 +23,7 @@ use Rattle.osi_pair.specs.declared.reach.Reach.{Reach}
 use Rattle.osi_pair.specs.declared.sides.Side.{Side}
 use Rattle.osi_pair.specs.declared.sides.Side.TheVariants.{Left, Right}
 use Rattle.osi_pair.proofs.StandingBreak.{run_behind}
-use Rattle.osi_pair.proofs.StandingEnded.{ended_holding, ended_pair, left_at_end, may_end, shown_then, ended_stands}
+use Rattle.osi_pair.proofs.StandingEnded.{ended_holding, ended_pair, may_end, shown_then, ended_stands}
 use Rattle.osi_pair.proofs.StandingLost.{none_kept, IsTold}
 
 -- ---- the step
@@ -58,9 +58,9 @@ left_at : (p : TwoEnds) (steps : List Step) (lines : Rows stack.Line) (first : L
 left_at p steps lines first journal s broken none told said =
     let begin : Tables = start (terms_in (terms_of p.left.end.carrier.local p.right.end.carrier.local)) in
     let t = run begin steps in
-    let keep = left_at_end Left (told_left p lines journal) s.now in
     let done = ended_stands Left p s.now t t p.left.end p.left.held s.now Broken told_of_break lines p.left.held first journal s.stands (may_end Left p s.now t s.stands none) refl
     (λ n. none_kept n p.left.end.lines lines told.same) (shown_then Left p s.now t lines first s.stands none told) said in
+    let keep = done.keep in
     let lasts : end_of machine.Left t ≡ None = none_of t.left_end (s.stands.left_end ∙ ap (option_map ending_in) none) in
     let is = one_end machine.Left t keep lasts (s.stands.broken ∙ broken) in
     record {
@@ -68,7 +68,7 @@ left_at p steps lines first journal s broken none told said =
       stands = record {
         numbered = numbered_told machine.Left keep steps s.numbered;
         now = s.now;
-        stands = subst (Stands (told_left p lines journal) s.now) (sym (run_behind begin steps (entries.ends machine.Left told_of_break keep ∷ []) ∙ is)) done;
+        stands = subst (Stands (told_left p lines journal) s.now) (sym (run_behind begin steps (entries.ends machine.Left told_of_break keep ∷ []) ∙ is)) done.stands;
       };
     }
 
@@ -78,9 +78,9 @@ right_at : (p : TwoEnds) (steps : List Step) (lines : Rows stack.Line) (first : 
 right_at p steps lines first journal s broken none told said =
     let begin : Tables = start (terms_in (terms_of p.left.end.carrier.local p.right.end.carrier.local)) in
     let t = run begin steps in
-    let keep = left_at_end Right (told_right p lines journal) s.now in
     let done = ended_stands Right p s.now t t p.right.end p.right.held s.now Broken told_of_break lines p.right.held first journal s.stands (may_end Right p s.now t s.stands none) refl
     (λ n. none_kept n p.right.end.lines lines told.same) (shown_then Right p s.now t lines first s.stands none told) said in
+    let keep = done.keep in
     let lasts : end_of machine.Right t ≡ None = none_of t.right_end (s.stands.right_end ∙ ap (option_map ending_in) none) in
     let is = one_end machine.Right t keep lasts (s.stands.broken ∙ broken) in
     record {
@@ -88,7 +88,7 @@ right_at p steps lines first journal s broken none told said =
       stands = record {
         numbered = numbered_told machine.Right keep steps s.numbered;
         now = s.now;
-        stands = subst (Stands (told_right p lines journal) s.now) (sym (run_behind begin steps (entries.ends machine.Right told_of_break keep ∷ []) ∙ is)) done;
+        stands = subst (Stands (told_right p lines journal) s.now) (sym (run_behind begin steps (entries.ends machine.Right told_of_break keep ∷ []) ∙ is)) done.stands;
       };
     }
 

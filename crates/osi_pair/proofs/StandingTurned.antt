@@ -3,10 +3,8 @@ use Rattle.std.proofs.Common.{◌≡◌, ◌≢◌, ℕ, ◌≤◌, ◌==◌, Bo
 use Rattle.std.proofs.lemmas.Bool.{eqb-true, eq-eqb}
 use Rattle.std.proofs.lemmas.List.{map-append}
 use Rattle.osi_tpkt.specs.Held.{Held}
-use Rattle.osi_carrier.specs.Between.{Between, AreBetween, last_of, under_way}
+use Rattle.osi_carrier.specs.Between.{Between, AreBetween, last_of, under_way, is_cut}
 use Rattle.osi_carrier.specs.Course.{place_at, progress_of}
-use Rattle.osi_carrier.specs.Messages as carrier
-use Rattle.osi_carrier.specs.Progress.{Progress}
 use Rattle.osi_carrier.specs.Rows.{value_at}
 use Rattle.osi_carrier.specs.Terms.{terms_of}
 use Rattle.osi_class.specs.declared.terms.Local.{Local}
@@ -21,10 +19,14 @@ use Rattle.osi_stack.specs.State.{End, Holding, session_at}
 use Rattle.osi_pair.specs.Ends.{TwoEnds, end_at, with_end, noted}
 use Rattle.osi_pair.specs.Entries.{Entry}
 use Rattle.osi_pair.specs.Sides.{other}
-use Rattle.osi_pair.specs.Standing.{side_in, is_caller, ending_in, terms_in, transport_in, class_in, entry_in, carriers_of, AreAlike, IsSeated, IsUnderWay, IsLine, HasLine, IsInOrder, Stands}
+use Rattle.osi_pair.specs.Standing.{side_in, is_caller, ending_in, terms_in, transport_in, class_in, entry_in, carriers_of, IsSeated, IsUnderWay, IsLine, HasLine, IsInOrder, Stands, HasJoined, AreUnderWay, Goes}
 use Rattle.osi_pair.specs.Telling.{waiting_in, shown_entries}
 use Rattle.osi_pair.specs.declared.sides.Side.{Side}
 use Rattle.osi_pair.specs.declared.sides.Side.TheVariants.{Left, Right}
+use Rattle.osi_pair.proofs.StandingCut.{end_out, end_back}
+use Rattle.osi_pair.proofs.StandingWays.{way_same}
+use Rattle.osi_carrier.specs.Progress.{Progress}
+use Rattle.osi_machine.specs.Worlds.{Message}
 
 -- ---- a connection, seen from one of its sides
 
@@ -59,6 +61,18 @@ pub holding_there : (s : Side) (e : End) (h : Held) (p : TwoEnds) → end_at (ot
 holding_there Left e h p = refl
 holding_there Right e h p = refl
 
+-- what is under way to the other end, and to this one
+abbrev pub GoesTo : Side → Holding → ℕ → TwoEnds → Between → Progress → List Message → Type 0
+GoesTo s taker n p b g ms = AreUnderWay taker.end.carrier.ended g (is_cut (is_caller s) (carriers_of p)) (HasJoined n taker) ms (under_way (is_caller s) n (carriers_of p) b)
+
+pub out_there : (s : Side) (p : TwoEnds) (c : Between) (e : End) (h : Held) (n : ℕ) (g : Progress) (ms : List Message) → GoesTo s (end_at (other s) p) n (with_holding s e h p) c g ms →
+    Goes s (other s) n (with_holding s e h p) c g ms
+out_there s p c e h n g ms way = subst (λ (y : Holding). GoesTo s y n (with_holding s e h p) c g ms) (sym (holding_there s e h p)) way
+
+pub back_here : (s : Side) (p : TwoEnds) (c : Between) (e : End) (h : Held) (n : ℕ) (g : Progress) (ms : List Message) → GoesTo (other s) (record { end = e; held = h }) n (with_holding s e h p) c g ms →
+    Goes (other s) s n (with_holding s e h p) c g ms
+back_here s p c e h n g ms way = subst (λ (y : Holding). GoesTo (other s) y n (with_holding s e h p) c g ms) (sym (holding_here s e h p)) way
+
 -- what stays of all other connections
 pub record Others (s : Side) (p : TwoEnds) (b : Between) (e : End) (h : Held) (c : Between) (n : ℕ) : Type 0 where
   pub places : (q : ℕ) → q ≢ n → place_at q e.carrier ≡ place_at q (end_at s p).end.carrier
@@ -75,6 +89,7 @@ live_session q e h = ap (λ (b : Bool). if◌then◌else◌ {A = Option Listener
 other_seated : (s : Side) (p : TwoEnds) (b : Between) (e : End) (h : Held) (c : Between) (n q : ℕ) (seat : Seat) → q ≢ n → Others s p b e h c n → IsSeated q (end_at s p) seat →
     IsSeated q (record { end = e; held = h }) seat
 other_seated s p b e h c n q seat apart o i = record {
+  joined = i.joined;
   transport = i.transport ∙ ap transport_in (sym (o.places q apart));
   live = λ is.
       let was : is_some (value_at q (end_at s p).end.carrier.live) ≡ true = ap is_some (sym (o.lives q apart)) ∙ is in
@@ -85,9 +100,6 @@ other_seated s p b e h c n q seat apart o i = record {
   octets = i.octets;
 }
 
-pub way_same : (g k : Progress) (ms xs ys : List carrier.Message) → k ≡ g → xs ≡ ys → AreAlike g ms xs → AreAlike k ms ys
-way_same g k ms xs ys e f h = subst (λ (x : Progress). AreAlike x ms ys) (sym e) (subst (λ (l : List carrier.Message). AreAlike g ms l) f h)
-
 other_seen : (s : Side) (p : TwoEnds) (b : Between) (e : End) (h : Held) (c : Between) (n q : ℕ) (l : Line) → q ≢ n → (end_at s p).end.carrier.ended ≡ None → Others s p b e h c n →
     IsSeen s q p b l → IsSeen s q (with_holding s e h p) c l
 other_seen s p b e h c n q l apart alive o i =
@@ -95,8 +107,14 @@ other_seen s p b e h c n q l apart alive o i =
     record {
       here = subst (λ (x : Holding). IsSeated q x l.own) (sym (holding_here s e h p)) (other_seated s p b e h c n q l.own apart o i.here);
       there = subst (λ (x : Holding). IsSeated q x l.peer) (sym (holding_there s e h p)) i.there;
-      out = λ x. way_same _ _ _ _ _ (ap progress_of (o.there q)) (o.ways q apart (is_caller s)) (i.out (ap (λ (y : Holding). y.end.carrier.ended) (sym (holding_there s e h p)) ∙ x));
-      back = λ x. way_same _ _ _ _ _ (ap progress_of (o.last q apart)) (o.ways q apart (is_caller (other s))) (i.back alive);
+      out = out_there s p c e h q (progress_of (place_at q (last_of (is_caller (other s)) c))) l.own.channel
+          (way_same (end_at (other s) p).end.carrier.ended (end_at (other s) p).end.carrier.ended _ _ (is_cut (is_caller s) (carriers_of p)) (is_cut (is_caller s) (carriers_of p2)) (HasJoined q (end_at (other s) p))
+          (HasJoined q (end_at (other s) p)) l.own.channel (under_way (is_caller s) q (carriers_of p) b) (under_way (is_caller s) q (carriers_of p2) c) (λ x. x) (ap progress_of (o.there q))
+          (end_out s (record { end = e; held = h }) p alive) (λ x held. held) (o.ways q apart (is_caller s)) i.out);
+      back = back_here s p c e h q (progress_of (place_at q (last_of (is_caller s) c))) l.peer.channel
+          (way_same (end_at s p).end.carrier.ended e.carrier.ended _ _ (is_cut (is_caller (other s)) (carriers_of p)) (is_cut (is_caller (other s)) (carriers_of p2)) (HasJoined q (end_at s p))
+          (HasJoined q (record { end = e; held = h })) l.peer.channel (under_way (is_caller (other s)) q (carriers_of p) b) (under_way (is_caller (other s)) q (carriers_of p2) c) (λ x. alive)
+          (ap progress_of (o.last q apart)) (end_back s (record { end = e; held = h }) p) (λ x held y at. held y (o.kept q apart y at)) (o.ways q apart (is_caller (other s))) i.back);
     }
 
 -- ---- the lines

@@ -4,7 +4,7 @@ use Rattle.std.proofs.lemmas.Bool.{eqb-true, eq-eqb}
 use Rattle.std.proofs.lemmas.List.{append-nil}
 use Rattle.osi_tpkt.specs.Held.{Held}
 use Rattle.osi_carrier.specs.Addresses.{reference_of}
-use Rattle.osi_carrier.specs.Between.{Between}
+use Rattle.osi_carrier.specs.Between.{Between, is_cut, under_way, last_of}
 use Rattle.osi_carrier.specs.Course.{place_at, progress_of}
 use Rattle.osi_carrier.specs.Progress.{not_yet}
 use Rattle.osi_carrier.specs.State.{State}
@@ -12,9 +12,9 @@ use Rattle.osi_machine.specs.Machine.{is_given}
 use Rattle.osi_machine.specs.Tables.{Seat, Line, Tables, awaits, seen_from}
 use Rattle.osi_machine.specs.Worlds as worlds
 use Rattle.osi_message.specs.InOctets.{IsInOctets}
-use Rattle.osi_stack.specs.State.{End, Holding}
+use Rattle.osi_stack.specs.State.{End}
 use Rattle.osi_pair.specs.Ends.{TwoEnds, end_at}
-use Rattle.osi_pair.specs.Standing.{side_in, is_caller, transport_in, class_in, carriers_of, HasLine, Stands}
+use Rattle.osi_pair.specs.Standing.{side_in, is_caller, transport_in, class_in, carriers_of, HasLine, Stands, HasJoined}
 use Rattle.osi_pair.specs.declared.sides.Side.{Side}
 use Rattle.osi_pair.specs.declared.sides.Side.TheVariants.{Left, Right}
 use Rattle.osi_pair.proofs.StandingArrived.{PacketActs}
@@ -25,7 +25,10 @@ use Rattle.osi_pair.proofs.StandingPacket.{PacketLaws, same_role, acts_at}
 use Rattle.osi_pair.proofs.StandingResting.{acted_end, was_at}
 use Rattle.osi_pair.proofs.StandingRows.{before, after}
 use Rattle.osi_pair.proofs.StandingSeats.{transport_by, transport_at}
-use Rattle.osi_pair.proofs.StandingTurned.{seen, seen_twice, with_holding, holding_there, LinesAfter, way_same}
+use Rattle.osi_pair.proofs.StandingCut.{end_out}
+use Rattle.osi_pair.proofs.StandingTurned.{seen, seen_twice, with_holding, LinesAfter, out_there}
+use Rattle.osi_pair.proofs.StandingWays.{way_same}
+use Rattle.osi_pair.specs.Sides.{other}
 
 -- ---- references and the class
 
@@ -86,7 +89,10 @@ other_ending s p b t u e h n q line old alive d lasts apart a has =
       awaiting = i.here.awaiting;
       octets = i.here.octets;
     }) i.there
-    (λ x. way_same _ _ _ _ _ (ap progress_of (d.there q)) (d.others q apart (is_caller s)) (i.out (ap (λ (y : Holding). y.end.carrier.ended) (sym (holding_there s e h p)) ∙ x)))
+    (out_there s p d.now e h q (progress_of (place_at q (last_of (is_caller (other s)) d.now))) l.own.channel
+    (way_same (end_at (other s) p).end.carrier.ended (end_at (other s) p).end.carrier.ended _ _ (is_cut (is_caller s) (carriers_of p)) (is_cut (is_caller s) (carriers_of (with_holding s e h p)))
+    (HasJoined q (end_at (other s) p)) (HasJoined q (end_at (other s) p)) l.own.channel (under_way (is_caller s) q (carriers_of p) b) (under_way (is_caller s) q (carriers_of (with_holding s e h p)) d.now)
+    (λ x. x) (ap progress_of (d.there q)) (end_out s (record { end = e; held = h }) p alive) (λ x held. held) (d.others q apart (is_caller s)) i.out))
 
 ending_by : (s : Side) (p : TwoEnds) (b : Between) (t u : Tables) (e : End) (h : Held) (n q : ℕ) (line : Line) (same : Bool) → (q == n) ≡ same → Stands p b t → (end_at s p).end.carrier.ended ≡ None →
     (d : DidAt s p b e h n) → e.carrier.ended ≡ None → LinesAfter s n line t u → EndingLine s p u e h d.now n → HasLine q p b t → EndingLine s p u e h d.now q

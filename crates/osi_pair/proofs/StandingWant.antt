@@ -36,7 +36,7 @@ use Rattle.osi_pair.specs.Telling.{waiting_in, quieted}
 use Rattle.osi_pair.specs.declared.sides.Side.{Side}
 use Rattle.osi_pair.specs.declared.sides.Side.TheVariants.{Left, Right}
 use Rattle.osi_pair.proofs.StandingArrived.{PacketActs}
-use Rattle.osi_pair.proofs.StandingEnded.{MayEnd, lost_end, keep_then, lost_stands, may_end, all_shown_then}
+use Rattle.osi_pair.proofs.StandingEnded.{MayEnd, lost_end, lost_stands, may_end, all_shown_then}
 use Rattle.osi_pair.proofs.StandingFinish.{terms_at, order_of}
 use Rattle.osi_pair.proofs.StandingLost.{SaysAll}
 use Rattle.osi_pair.proofs.StandingPacket.{acts_at, lasting_in}
@@ -58,21 +58,22 @@ same_end Right p t u e h c m = m.right_end
 pub alone_shown : (s : Side) (p : TwoEnds) (b : Between) (t : Tables) (e : End) (h : Held) (c : Between) (lines : Rows stack.Line) (held : Held) → Stands p b t → MayEnd s p t t e h c →
     SaysAll s (quieted (all_lost lines)) (waiting_in (all_lost lines)) t → end_of (side_in s) t ≡ None → StandsShown s p t (lost_end NoMemory e.carrier lines) held
 alone_shown s p b t e h c lines held old m says none =
-    let keep = keep_then s NoMemory e.carrier lines held p c in
+    let done = lost_stands s p b t t e h c NoMemory no_memory lines held old m refl says in
+    let keep = done.keep in
     record {
       more = entries.ends (side_in s) no_memory keep ∷ [];
       are = (refl, refl, refl);
       now = c;
       local = m.local;
-      stands = subst (λ (v : Tables). Stands (shown_pair s (lost_end NoMemory e.carrier lines) held p) c v) (sym (end_step (side_in s) t keep none))
-          (lost_stands s p b t t e h c NoMemory no_memory lines held old m refl says);
+      stands = subst (λ (v : Tables). Stands (shown_pair s (lost_end NoMemory e.carrier lines) held p) c v) (sym (end_step (side_in s) t keep none)) done.stands;
     }
 
 -- behind a delivery
 pub behind_shown : (s : Side) (p : TwoEnds) (b : Between) (t u : Tables) (e : End) (h : Held) (c : Between) (lines : Rows stack.Line) (held : Held) (n : ℕ) (cut : ℕ → ℕ) → Stands p b t → MayEnd s p t u e h c →
     SaysAll s (quieted (all_lost lines)) (waiting_in (all_lost lines)) u → end_of (side_in s) t ≡ None → step t (delivers (side_in s) n cut) ≡ u → StandsShown s p t (lost_end NoMemory e.carrier lines) held
 behind_shown s p b t u e h c lines held n cut old m says none is =
-    let keep = keep_then s NoMemory e.carrier lines held p c in
+    let done = lost_stands s p b t u e h c NoMemory no_memory lines held old m refl says in
+    let keep = done.keep in
     record {
       more = delivers (side_in s) n cut ∷ (entries.ends (side_in s) no_memory keep ∷ []);
       are = (refl, (refl, refl, refl));
@@ -80,7 +81,7 @@ behind_shown s p b t u e h c lines held n cut old m says none is =
       local = m.local;
       stands = subst (λ (v : Tables). Stands (shown_pair s (lost_end NoMemory e.carrier lines) held p) c v)
           (sym (ap (λ (v : Tables). step v (entries.ends (side_in s) no_memory keep)) is ∙ end_step (side_in s) u keep (same_end s p t u e h c m ∙ none)))
-          (lost_stands s p b t u e h c NoMemory no_memory lines held old m refl says);
+          done.stands;
     }
 
 -- nothing was done before

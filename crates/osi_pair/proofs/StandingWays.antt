@@ -1,16 +1,25 @@
 -- What is under way, as the messages of the tables and as those between two carriers, where one end acts.
-use Rattle.std.proofs.Common.{◌≡◌, ℕ, zero, suc, Bool, true, false, List, [], ◌∷◌, ◌++◌, length, map, take, Some, None, refl, sym, ap, subst, ◌∙◌}
+use Rattle.std.proofs.Common.{◌≡◌, ℕ, zero, suc, Bool, true, false, ◌≤◌, ◌⊎◌, inl, inr, List, [], ◌∷◌, ◌++◌, length, map, take, drop, Option, Some, None, refl, sym, ap, subst, ◌∙◌, append_assoc}
 use Rattle.std.proofs.Math.Seq.{take-append_seam}
-use Rattle.std.proofs.lemmas.List.{length-map, map-append, append-nil}
+use Rattle.std.proofs.lemmas.List.{length-map, map-append, append-nil, take-append-drop}
 use Rattle.osi_carrier.specs.Course.{Place, never, was_given, connection_in, progress_of}
 use Rattle.osi_carrier.specs.Messages.{kind_of, AreLike}
 use Rattle.osi_carrier.specs.Messages as carrier
 use Rattle.osi_carrier.specs.Progress.{Progress, not_yet, awaiting, in_use, shutting}
 use Rattle.osi_carrier.specs.Progress as progress
 use Rattle.osi_carrier.specs.State.{asked, linked, closing}
-use Rattle.osi_machine.specs.Worlds.{Message}
-use Rattle.osi_pair.specs.Standing.{AreAlike, message_in}
+use Rattle.osi_machine.specs.Worlds.{Message, unit, ask, agree, deny, bye, over}
+use Rattle.osi_carrier.specs.declared.ends.EndReason.{EndReason}
+use Rattle.osi_pair.specs.Standing.{AreAlike, message_in, word_in, AreUnderWay}
+use Rattle.osi_pair.specs.Words.{Word, whole, part, joins, left_of, AreInOrder, MayFollow, most_data}
+use Rattle.osi_pair.proofs.WordLaws.{cut_words, AreWords, wholes, put_words, MayLeave, leave_behind, joins_whole, whole_order, whole_left, next_is}
 use Rattle.osi_pair.proofs.StandingRows.{Row, quiet, still, begins, refuses, agrees, denies, tells, leaves, ignores, ends, before, after}
+use Rattle.osi_machine.specs.AsTables.{is_leaving}
+use Rattle.osi_message.specs.Meanings.{DT}
+use Rattle.osi_message.specs.Words.{part_octets}
+use Rattle.osi_message.specs.declared.places.Place.TheVariants.{First, Middle, Last}
+use Rattle.std.specs.List.{list_any}
+use Rattle.osi_message.specs.declared.places.Place.{Place as PartPlace}
 
 abbrev pub Sent : Type 0
 Sent = List carrier.Message
@@ -31,7 +40,7 @@ alike_append in_use xs ys zs h = ap (λ l. l ++ zs) h
 alike_append shutting xs ys zs h = map-append kind_of xs zs ∙ ap (λ l. l ++ map kind_of zs) h ∙ sym (map-append kind_of ys zs)
 alike_append progress.gone xs ys zs h = map-append kind_of xs zs ∙ ap (λ l. l ++ map kind_of zs) h ∙ sym (map-append kind_of ys zs)
 
-map_take : {A B : Type 0} (f : A → B) (k : ℕ) (xs : List A) → map f (take k xs) ≡ take k (map f xs)
+pub map_take : {A B : Type 0} (f : A → B) (k : ℕ) (xs : List A) → map f (take k xs) ≡ take k (map f xs)
 map_take f zero xs = refl
 map_take f (suc k) [] = refl
 map_take f (suc k) (x ∷ xs) = ap (λ r. f x ∷ r) (map_take f k xs)
@@ -41,7 +50,7 @@ kinds_take xs ys gone h =
     map_take kind_of (length ys) xs ∙ ap (take (length ys)) (h ∙ map-append kind_of ys gone)
     ∙ ap (λ (k : ℕ). take k (map kind_of ys ++ map kind_of gone)) (sym (length-map ys kind_of)) ∙ take-append_seam (map kind_of ys) (map kind_of gone)
 
-alike_take : (g : Progress) (xs ys gone : Sent) → AreAlike g xs (ys ++ gone) → AreAlike g (take (length ys) xs) ys
+pub alike_take : (g : Progress) (xs ys gone : Sent) → AreAlike g xs (ys ++ gone) → AreAlike g (take (length ys) xs) ys
 alike_take not_yet xs ys gone h = ap (take (length ys)) h ∙ take-append_seam ys gone
 alike_take awaiting xs ys gone h = ap (take (length ys)) h ∙ take-append_seam ys gone
 alike_take in_use xs ys gone h = ap (take (length ys)) h ∙ take-append_seam ys gone
@@ -64,29 +73,201 @@ alike_back (was_given (Some asked)) xs ys zs h k = h ∙ sym k
 alike_back (was_given (Some (linked peer link))) xs ys zs h k = h ∙ sym k
 alike_back (was_given (Some (closing peer))) xs ys zs h k = h ∙ sym k
 
+-- ---- the same words
+
+-- what is said of the taker by what has begun
+abbrev pub About : Type 1
+About = Option (List ℕ) → Type 0
+
+-- they are under way to a taker that is this far
+pub as_now : (o q : Option EndReason) (g h : Progress) (c d : Bool) (H K : About) (ms : List Message) (xs ys : Sent) → (w : AreUnderWay o g c H ms xs) → (d ≡ false → c ≡ false) →
+    ((x : Option (List ℕ)) → H x → K x) → (q ≡ None → AreAlike h (map word_in w.words) ys) → AreUnderWay q h d K ms ys
+as_now o q g h c d H K ms xs ys w cut holds alike = record {
+  words = w.words;
+  lost = w.lost;
+  begun = w.begun;
+  alike = alike;
+  joined = w.joined;
+  order = w.order;
+  finished = w.finished;
+  kept = λ e. w.kept (cut e);
+  held = holds w.begun w.held;
+}
+
+-- what is under way is the same
+pub way_same : (o q : Option EndReason) (g k : Progress) (c d : Bool) (H K : About) (ms : List Message) (xs ys : Sent) → (q ≡ None → o ≡ None) → k ≡ g → (d ≡ false → c ≡ false) →
+    ((x : Option (List ℕ)) → H x → K x) → xs ≡ ys → AreUnderWay o g c H ms xs → AreUnderWay q k d K ms ys
+way_same o q g k c d H K ms xs ys lasts e cut holds f w =
+    as_now o q g k c d H K ms xs ys w cut holds (λ x. subst (λ (y : Progress). AreAlike y (map word_in w.words) ys) (sym e) (subst (λ (l : Sent). AreAlike g (map word_in w.words) l) f (w.alike (lasts x))))
+
+-- nothing is
+pub none_under_way : (q : Option EndReason) (g : Progress) (c : Bool) (H : About) (xs : Sent) → H None → (q ≡ None → AreAlike g [] xs) → AreUnderWay q g c H [] xs
+none_under_way q g c H xs held alike =
+    record { words = []; lost = []; begun = None; alike = alike; joined = refl; order = tt; finished = refl; kept = λ e. refl; held = held }
+
+-- to a taker that has ended it matters no more in which words it goes
+pub over_way : (q : Option EndReason) (g : Progress) (c : Bool) (H : About) (ms : List Message) (xs : Sent) → H None → (q ≡ None → ⊥) → AreUnderWay q g c H ms xs
+over_way q g c H ms xs held shut =
+    let all : map whole ms ++ [] ≡ map whole ms = append-nil (map whole ms) in
+    record {
+      words = map whole ms;
+      lost = [];
+      begun = None;
+      alike = λ e. absurd (shut e);
+      joined = ap (joins None) all ∙ joins_whole ms;
+      order = subst (AreInOrder None) (sym all) (whole_order ms);
+      finished = ap (left_of None) all ∙ whole_left ms;
+      kept = λ e. refl;
+      held = held;
+    }
+
 -- ---- from the end that acts
 
--- some of it is lost, and something is put behind it
-pub out_cuts : (p : Place) (ms puts : List Message) (old new stays gone put : Sent) → AreAlike (progress_of p) (map message_in ms) old → AreLike (connection_in p) old (stays ++ gone) →
-    AreLike (connection_in p) new (stays ++ put) → map message_in puts ≡ put → AreAlike (progress_of p) (map message_in (take (length stays) ms ++ puts)) new
-out_cuts p ms puts old new stays gone put h before after same =
-    let first : AreAlike (progress_of p) (take (length stays) (map message_in ms)) stays =
-    alike_take (progress_of p) (map message_in ms) stays gone (alike_like p (map message_in ms) old (stays ++ gone) h before) in
-    let parts : map message_in (take (length stays) ms ++ puts) ≡ take (length stays) (map message_in ms) ++ put =
-    map-append message_in (take (length stays) ms) puts ∙ ap (λ (l : Sent). l ++ map message_in puts) (map_take message_in (length stays) ms)
-    ∙ ap (λ (l : Sent). take (length stays) (map message_in ms) ++ l) same in
-    subst (λ (l : Sent). AreAlike (progress_of p) l new) (sym parts)
-    (alike_back p (take (length stays) (map message_in ms) ++ put) new (stays ++ put) (alike_append (progress_of p) (take (length stays) (map message_in ms)) stays put first) after)
+words_of_puts : (puts : List Message) → map word_in (map whole puts) ≡ map message_in puts
+words_of_puts [] = refl
+words_of_puts (m ∷ puts) = ap (λ (l : Sent). message_in m ∷ l) (words_of_puts puts)
 
--- nothing of it is lost
-pub out_keeps : (p : Place) (ms puts : List Message) (old new stays gone put : Sent) → AreAlike (progress_of p) (map message_in ms) old → AreLike (connection_in p) old (stays ++ gone) →
-    AreLike (connection_in p) new (stays ++ put) → gone ≡ [] → map message_in puts ≡ put → AreAlike (progress_of p) (map message_in (ms ++ puts)) new
-out_keeps p ms puts old new stays gone put h before after none same =
-    let first : AreAlike (progress_of p) (map message_in ms) stays =
-    subst (λ (l : Sent). AreAlike (progress_of p) (map message_in ms) l) (ap (λ (l : Sent). stays ++ l) none ∙ append-nil stays) (alike_like p (map message_in ms) old (stays ++ gone) h before) in
-    let parts : map message_in (ms ++ puts) ≡ map message_in ms ++ put = map-append message_in ms puts ∙ ap (λ (l : Sent). map message_in ms ++ l) same in
+-- words behind words
+put_alike : (p : Place) (words more : List Word) (stays put new : Sent) → AreAlike (progress_of p) (map word_in words) stays → AreLike (connection_in p) new (stays ++ put) → map word_in more ≡ put →
+    AreAlike (progress_of p) (map word_in (words ++ more)) new
+put_alike p words more stays put new first after same =
+    let parts : map word_in (words ++ more) ≡ map word_in words ++ put = map-append word_in words more ∙ ap (λ (l : Sent). map word_in words ++ l) same in
     subst (λ (l : Sent). AreAlike (progress_of p) l new) (sym parts)
-    (alike_back p (map message_in ms ++ put) new (stays ++ put) (alike_append (progress_of p) (map message_in ms) stays put first) after)
+    (alike_back p (map word_in words ++ put) new (stays ++ put) (alike_append (progress_of p) (map word_in words) stays put first) after)
+
+keeps_whole : (o : Option EndReason) (p : Place) (c d : Bool) (H : About) (ms puts : List Message) (more : List Word) (old new stays put : Sent) → (w : AreUnderWay o (progress_of p) c H ms old) → w.lost ≡ [] → AreWords more puts →
+    (o ≡ None → AreAlike (progress_of p) (map word_in w.words) stays) → AreLike (connection_in p) new (stays ++ put) → map word_in more ≡ put → AreUnderWay o (progress_of p) d H (ms ++ puts) new
+keeps_whole o p c d H ms puts more old new stays put w none are first after same =
+    let all : w.words ++ w.lost ≡ w.words = ap (λ (l : List Word). w.words ++ l) none ∙ append-nil w.words in
+    let x = put_words w.begun w.words more puts (subst (AreInOrder w.begun) all w.order) (sym (ap (left_of w.begun) all) ∙ w.finished) are in
+    let now : (w.words ++ more) ++ [] ≡ w.words ++ more = append-nil (w.words ++ more) in
+    record {
+      words = w.words ++ more;
+      lost = [];
+      begun = w.begun;
+      alike = λ e. put_alike p w.words more stays put new (first e) after same;
+      joined = ap (joins w.begun) now ∙ x.0 ∙ ap (λ (l : List Message). l ++ puts) (sym (ap (joins w.begun) all) ∙ w.joined);
+      order = subst (AreInOrder w.begun) (sym now) x.2;
+      finished = ap (left_of w.begun) now ∙ x.1;
+      kept = λ e. refl;
+      held = w.held;
+    }
+
+keeps_same : (o : Option EndReason) (p : Place) (c d : Bool) (H : About) (ms puts : List Message) (more : List Word) (old new stays put : Sent) → (w : AreUnderWay o (progress_of p) c H ms old) → more ≡ [] → (d ≡ false → c ≡ false) → AreWords more puts →
+    (o ≡ None → AreAlike (progress_of p) (map word_in w.words) stays) → AreLike (connection_in p) new (stays ++ put) → map word_in more ≡ put → AreUnderWay o (progress_of p) d H (ms ++ puts) new
+keeps_same o p c d H ms puts more old new stays put w none cut are first after same =
+    let nothing : [] ≡ put = sym (ap (map word_in) none) ∙ same in
+    let left : stays ++ put ≡ stays = ap (λ (l : Sent). stays ++ l) (sym nothing) ∙ append-nil stays in
+    let no_message : puts ≡ [] = sym are.joined ∙ ap (joins None) none in
+    subst (λ (l : List Message). AreUnderWay o (progress_of p) d H l new) (sym (ap (λ (l : List Message). ms ++ l) no_message ∙ append-nil ms))
+    (as_now o o (progress_of p) (progress_of p) c d H H ms old new w cut (λ x held. held)
+    (λ e. alike_back p (map word_in w.words) new stays (first e) (subst (λ (l : Sent). AreLike (connection_in p) new l) left after)))
+
+-- nothing of it is lost, and something is put behind it, but nothing where what is under way was cut
+pub out_puts : (o : Option EndReason) (p : Place) (c d : Bool) (H : About) (ms puts : List Message) (more : List Word) (old new stays gone put : Sent) → AreUnderWay o (progress_of p) c H ms old → AreWords more puts → (c ≡ false) ⊎ (more ≡ []) →
+    (d ≡ false → c ≡ false) → AreLike (connection_in p) old (stays ++ gone) → AreLike (connection_in p) new (stays ++ put) → gone ≡ [] → map word_in more ≡ put → AreUnderWay o (progress_of p) d H (ms ++ puts) new
+out_puts o p c d H ms puts more old new stays gone put w are spare cut before after none same =
+    let first : o ≡ None → AreAlike (progress_of p) (map word_in w.words) stays =
+    λ e. subst (λ (l : Sent). AreAlike (progress_of p) (map word_in w.words) l) (ap (λ (l : Sent). stays ++ l) none ∙ append-nil stays) (alike_like p (map word_in w.words) old (stays ++ gone) (w.alike e) before) in
+    elim spare [
+      | inl uncut ↦ keeps_whole o p c d H ms puts more old new stays put w (w.kept uncut) are first after same
+      | inr nothing ↦ keeps_same o p c d H ms puts more old new stays put w nothing cut are first after same
+    ]
+
+spare_wholes : (c : Bool) (puts : List Message) → (c ≡ false) ⊎ (puts ≡ []) → (c ≡ false) ⊎ (map whole puts ≡ [])
+spare_wholes c puts (inl uncut) = inl uncut
+spare_wholes c puts (inr nothing) = inr (ap (map whole) nothing)
+
+-- messages that go by themselves
+pub out_keeps : (o : Option EndReason) (p : Place) (c d : Bool) (H : About) (ms puts : List Message) (old new stays gone put : Sent) → AreUnderWay o (progress_of p) c H ms old → (c ≡ false) ⊎ (puts ≡ []) → (d ≡ false → c ≡ false) →
+    AreLike (connection_in p) old (stays ++ gone) → AreLike (connection_in p) new (stays ++ put) → gone ≡ [] → map message_in puts ≡ put → AreUnderWay o (progress_of p) d H (ms ++ puts) new
+out_keeps o p c d H ms puts old new stays gone put w spare cut before after none same =
+    out_puts o p c d H ms puts (map whole puts) old new stays gone put w (wholes puts) (spare_wholes c puts spare) cut before after none (words_of_puts puts ∙ same)
+
+-- ---- the last of it is lost
+
+-- so many messages are left
+pub record Left (o : Option EndReason) (g : Progress) (d : Bool) (H : About) (ms puts : List Message) (new : Sent) : Type 0 where
+  pub keep : ℕ
+  pub way : AreUnderWay o g d H (take keep ms ++ puts) new
+
+pub record Front (o : Option EndReason) (g : Progress) (d : Bool) (H : About) (ms : List Message) (new : Sent) : Type 0 where
+  pub keep : ℕ
+  pub fits : keep ≤ length ms
+  pub way : AreUnderWay o g d H (take keep ms) new
+
+-- and will be cut
+pub front_at : (o q : Option EndReason) (g h : Progress) (c d : Bool) (H : About) (ms : List Message) (k : ℕ) (old new : Sent) → (w : AreUnderWay o g c H ms old) → d ≡ true →
+    (q ≡ None → AreAlike h (map word_in (take k w.words)) new) → Front q h d H ms new
+front_at o q g h c d H ms k old new w cut alike =
+    let parts : take k w.words ++ (drop k w.words ++ w.lost) ≡ w.words ++ w.lost = sym (append_assoc (take k w.words) (drop k w.words) w.lost) ∙ ap (λ (l : List Word). l ++ w.lost) (take-append-drop k w.words) in
+    let x = cut_words w.begun (take k w.words) (drop k w.words ++ w.lost) ms (subst (AreInOrder w.begun) (sym parts) w.order) (ap (left_of w.begun) parts ∙ w.finished) (ap (joins w.begun) parts ∙ w.joined) in
+    record {
+      keep = length (joins w.begun (take k w.words ++ x.lost));
+      fits = x.fits;
+      way = record {
+        words = take k w.words;
+        lost = x.lost;
+        begun = w.begun;
+        alike = alike;
+        joined = x.joined;
+        order = x.order;
+        finished = x.finished;
+        kept = λ e. (let no : true ≡ false = sym cut ∙ e in cc);
+        held = w.held;
+      };
+    }
+
+-- its sender leaves, which is put behind
+leave_at : (o : Option EndReason) (p : Place) (c d : Bool) (H : About) (ms : List Message) (m : Message) (k : ℕ) (old new stays put : Sent) → (w : AreUnderWay o (progress_of p) c H ms old) → MayLeave m →
+    (o ≡ None → AreAlike (progress_of p) (map word_in (take k w.words)) stays) → AreLike (connection_in p) new (stays ++ put) → message_in m ∷ [] ≡ put → Left o (progress_of p) d H ms (m ∷ []) new
+leave_at o p c d H ms m k old new stays put w goes first now_is same =
+    let kept = take k w.words in
+    let gone = drop k w.words ++ w.lost in
+    let parts : kept ++ gone ≡ w.words ++ w.lost = sym (append_assoc kept (drop k w.words) w.lost) ∙ ap (λ (l : List Word). l ++ w.lost) (take-append-drop k w.words) in
+    let x = leave_behind w.begun kept gone m (subst (AreInOrder w.begun) (sym parts) w.order) goes in
+    let now : (kept ++ whole m ∷ []) ++ [] ≡ kept ++ whole m ∷ [] = append-nil (kept ++ whole m ∷ []) in
+    record {
+      keep = length (joins w.begun kept);
+      way = record {
+        words = kept ++ whole m ∷ [];
+        lost = [];
+        begun = w.begun;
+        alike = λ e. put_alike p kept (whole m ∷ []) stays put new (first e) now_is same;
+        joined = ap (joins w.begun) now ∙ x.0 ∙ ap (λ (l : List Message). take (length (joins w.begun kept)) l ++ m ∷ []) (ap (joins w.begun) parts ∙ w.joined);
+        order = subst (AreInOrder w.begun) (sym now) x.2;
+        finished = ap (left_of w.begun) now ∙ x.1;
+        kept = λ e. refl;
+        held = w.held;
+      };
+    }
+
+-- what is put where the sender leaves: a message of that kind, or nothing where what is under way was cut
+pub record IsLeave (puts : List Message) : Type 0 where
+  pub m : Message
+  pub is : puts ≡ m ∷ []
+  pub leaves : MayLeave m
+
+pub out_cuts : (o : Option EndReason) (p : Place) (c d : Bool) (H : About) (ms puts : List Message) (old new stays gone put : Sent) → AreUnderWay o (progress_of p) c H ms old → IsLeave puts ⊎ ((d ≡ true) × (puts ≡ [])) →
+    AreLike (connection_in p) old (stays ++ gone) → AreLike (connection_in p) new (stays ++ put) → map message_in puts ≡ put → Left o (progress_of p) d H ms puts new
+out_cuts o p c d H ms puts old new stays gone put w which before after same =
+    let k = length stays in
+    let first : o ≡ None → AreAlike (progress_of p) (map word_in (take k w.words)) stays =
+    λ e. subst (λ (l : Sent). AreAlike (progress_of p) l stays) (sym (map_take word_in k w.words))
+    (alike_take (progress_of p) (map word_in w.words) stays gone (alike_like p (map word_in w.words) old (stays ++ gone) (w.alike e) before)) in
+    elim which [
+      | inl leave ↦ subst (λ (l : List Message). Left o (progress_of p) d H ms l new) (sym leave.is)
+          (leave_at o p c d H ms leave.m k old new stays put w leave.leaves first after (sym (ap (map message_in) leave.is) ∙ same))
+      | inr nothing ↦
+          let none : [] ≡ put = sym (ap (map message_in) nothing.1) ∙ same in
+          let left : stays ++ put ≡ stays = ap (λ (l : Sent). stays ++ l) (sym none) ∙ append-nil stays in
+          let x = front_at o o (progress_of p) (progress_of p) c d H ms k old new w nothing.0
+          (λ e. alike_back p (map word_in (take k w.words)) new stays (first e) (subst (λ (l : Sent). AreLike (connection_in p) new l) left after)) in
+          record {
+            keep = x.keep;
+            way = subst (λ (l : List Message). AreUnderWay o (progress_of p) d H l new) (sym (ap (λ (l : List Message). take x.keep ms ++ l) nothing.1 ∙ append-nil (take x.keep ms))) x.way;
+          }
+    ]
 
 -- ---- to the end that acts
 
@@ -96,7 +277,7 @@ shuts progress.gone = true
 shuts g = false
 
 -- nothing arrived
-pub back_stays : (g : Progress) (new : Place) (xs ys zs : Sent) → (shuts g ≡ true → shuts (progress_of new) ≡ true) → AreAlike g xs ys → AreLike (connection_in new) ys zs → AreAlike (progress_of new) xs zs
+back_stays : (g : Progress) (new : Place) (xs ys zs : Sent) → (shuts g ≡ true → shuts (progress_of new) ≡ true) → AreAlike g xs ys → AreLike (connection_in new) ys zs → AreAlike (progress_of new) xs zs
 back_stays not_yet never xs ys zs s h k = h ∙ k
 back_stays not_yet (was_given None) xs ys zs s h k = ap (map kind_of) (h ∙ k)
 back_stays not_yet (was_given (Some asked)) xs ys zs s h k = h ∙ k
@@ -124,34 +305,186 @@ back_stays progress.gone (was_given (Some asked)) xs ys zs s h k = let no_way = 
 back_stays progress.gone (was_given (Some (linked peer link))) xs ys zs s h k = let no_way = s refl in cc
 
 -- the first of them
-pub record Split (g h : Progress) (ms : List Message) (m : carrier.Message) (rest : Sent) : Type 0 where
-  pub first : Message
-  pub others : List Message
-  pub parts : ms ≡ first ∷ others
-  pub is : AreAlike g (message_in first ∷ []) (m ∷ [])
-  pub stays : AreAlike h (map message_in others) rest
+record SplitWords (g h : Progress) (words : List Word) (m : carrier.Message) (rest : Sent) : Type 0 where
+  first : Word
+  others : List Word
+  parts : words ≡ first ∷ others
+  is : AreAlike g (word_in first ∷ []) (m ∷ [])
+  stays : AreAlike h (map word_in others) rest
 
-split_same : (g : Progress) (ms : List Message) (m : carrier.Message) (rest : Sent) → ((xs ys : Sent) → xs ≡ ys → AreAlike g xs ys) → map message_in ms ≡ m ∷ rest → Split g g ms m rest
+split_same : (g : Progress) (ms : List Word) (m : carrier.Message) (rest : Sent) → ((xs ys : Sent) → xs ≡ ys → AreAlike g xs ys) → map word_in ms ≡ m ∷ rest → SplitWords g g ms m rest
 split_same g [] m rest f h = cc
 split_same g (x ∷ ms) m rest f h =
-    let one : message_in x ≡ m = cc in
-    let more : map message_in ms ≡ rest = cc in
-    record { first = x; others = ms; parts = refl; is = f (message_in x ∷ []) (m ∷ []) (ap (λ y. y ∷ []) one); stays = f (map message_in ms) rest more }
+    let one : word_in x ≡ m = cc in
+    let more : map word_in ms ≡ rest = cc in
+    record { first = x; others = ms; parts = refl; is = f (word_in x ∷ []) (m ∷ []) (ap (λ y. y ∷ []) one); stays = f (map word_in ms) rest more }
 
-split_kinds : (g : Progress) (ms : List Message) (m : carrier.Message) (rest : Sent) → ((xs ys : Sent) → map kind_of xs ≡ map kind_of ys → AreAlike g xs ys) →
-    map kind_of (map message_in ms) ≡ map kind_of (m ∷ rest) → Split g g ms m rest
+split_kinds : (g : Progress) (ms : List Word) (m : carrier.Message) (rest : Sent) → ((xs ys : Sent) → map kind_of xs ≡ map kind_of ys → AreAlike g xs ys) →
+    map kind_of (map word_in ms) ≡ map kind_of (m ∷ rest) → SplitWords g g ms m rest
 split_kinds g [] m rest f h = cc
 split_kinds g (x ∷ ms) m rest f h =
-    let one : kind_of (message_in x) ≡ kind_of m = cc in
-    let more : map kind_of (map message_in ms) ≡ map kind_of rest = cc in
-    record { first = x; others = ms; parts = refl; is = f (message_in x ∷ []) (m ∷ []) (ap (λ y. y ∷ []) one); stays = f (map message_in ms) rest more }
+    let one : kind_of (word_in x) ≡ kind_of m = cc in
+    let more : map kind_of (map word_in ms) ≡ map kind_of rest = cc in
+    record { first = x; others = ms; parts = refl; is = f (word_in x ∷ []) (m ∷ []) (ap (λ y. y ∷ []) one); stays = f (map word_in ms) rest more }
 
-pub split : (g : Progress) (ms : List Message) (m : carrier.Message) (rest : Sent) → AreAlike g (map message_in ms) (m ∷ rest) → Split g g ms m rest
+split : (g : Progress) (ms : List Word) (m : carrier.Message) (rest : Sent) → AreAlike g (map word_in ms) (m ∷ rest) → SplitWords g g ms m rest
 split not_yet ms m rest h = split_same not_yet ms m rest (λ xs ys e. e) h
 split awaiting ms m rest h = split_same awaiting ms m rest (λ xs ys e. e) h
 split in_use ms m rest h = split_same in_use ms m rest (λ xs ys e. e) h
 split shutting ms m rest h = split_kinds shutting ms m rest (λ xs ys e. e) h
 split progress.gone ms m rest h = split_kinds progress.gone ms m rest (λ xs ys e. e) h
+
+alike_kind : (g : Progress) (x y : carrier.Message) → AreAlike g (x ∷ []) (y ∷ []) → kind_of x ≡ kind_of y
+alike_kind not_yet x y h = let e : x ≡ y = cc in ap kind_of e
+alike_kind awaiting x y h = let e : x ≡ y = cc in ap kind_of e
+alike_kind in_use x y h = let e : x ≡ y = cc in ap kind_of e
+alike_kind shutting x y h = cc
+alike_kind progress.gone x y h = cc
+
+-- what becomes of the way where this has begun then
+abbrev pub BehindFirst : Progress → Bool → Option (List ℕ) → List Message → Sent → Type 0
+BehindFirst h d begun ms rest = AreUnderWay None h d (λ x. x ≡ begun) ms rest
+
+pub behind_first : (q : Option EndReason) (h : Progress) (d : Bool) (K : About) (begun : Option (List ℕ)) (ms : List Message) (rest : Sent) → BehindFirst h d begun ms rest → K begun → AreUnderWay q h d K ms rest
+behind_first q h d K begun ms rest w held = as_now None q h h d d (λ x. x ≡ begun) K ms rest rest w (λ e. e) (λ x e. subst K (sym e) held) (λ e. w.alike refl)
+
+-- a message comes by itself
+pub record IsAlone (g : Progress) (H : About) (first : Message) (m : carrier.Message) : Type 0 where
+  pub is : AreAlike g (message_in first ∷ []) (m ∷ [])
+  pub held : is_leaving first ≡ false → H None
+
+-- or its last part does
+pub record IsLast (g : Progress) (H : About) (first : Message) (m : carrier.Message) : Type 0 where
+  pub front : List ℕ
+  pub last : List ℕ
+  pub first_is : first ≡ unit (DT (front ++ last))
+  pub is : AreAlike g (carrier.message (part_octets Last last) ∷ []) (m ∷ [])
+  pub short : length (front ++ last) ≤ most_data
+  pub held : H (Some front)
+
+-- a message comes first
+pub record Split (g h : Progress) (d : Bool) (H : About) (ms : List Message) (m : carrier.Message) (rest : Sent) : Type 0 where
+  pub first : Message
+  pub others : List Message
+  pub parts : ms ≡ first ∷ others
+  pub kind : kind_of (message_in first) ≡ kind_of m
+  pub how : IsAlone g H first m ⊎ IsLast g H first m
+  pub stays : BehindFirst h d None others rest
+
+-- a part that begins a Data, or goes on with one
+pub record Begins (H : About) (place : PartPlace) (octets now : List ℕ) : Type 0 where
+  pub place_is : place ≡ First
+  pub now_is : now ≡ octets
+  pub held : H None
+
+pub record GoesOn (H : About) (place : PartPlace) (octets now : List ℕ) : Type 0 where
+  pub place_is : place ≡ Middle
+  pub front : List ℕ
+  pub now_is : now ≡ front ++ octets
+  pub held : H (Some front)
+
+-- or such a part does: the messages stay
+pub record PartFirst (g h : Progress) (d : Bool) (H : About) (ms : List Message) (m : carrier.Message) (rest : Sent) : Type 0 where
+  pub place : PartPlace
+  pub octets : List ℕ
+  pub is : AreAlike g (carrier.message (part_octets place octets) ∷ []) (m ∷ [])
+  pub now : List ℕ
+  pub short : length now ≤ most_data
+  pub how : Begins H place octets now ⊎ GoesOn H place octets now
+  pub stays : BehindFirst h d (Some now) ms rest
+  -- the rest of the Data is behind it, or its sender has left
+  pub next : ((more : List ℕ) × ((ns : List Message) × (ms ≡ unit (DT (now ++ more)) ∷ ns))) ⊎ (list_any is_leaving ms ≡ true)
+
+abbrev pub Comes : Progress → Progress → Bool → About → List Message → carrier.Message → Sent → Type 0
+Comes g h d H ms m rest = Split g h d H ms m rest ⊎ PartFirst g h d H ms m rest
+
+follows : (b : Option (List ℕ)) (x : Message) → MayFollow b x → is_leaving x ≡ false → b ≡ None
+follows b (unit u) h e = h
+follows b ask h e = h
+follows b agree h e = h
+follows b (deny r) h e = h
+follows b (bye r) h e = cc
+follows b over h e = cc
+
+part_next : (now : List ℕ) (words : List Word) (ms : List Message) → joins (Some now) words ≡ ms → AreInOrder (Some now) words → left_of (Some now) words ≡ None →
+    ((more : List ℕ) × ((ns : List Message) × (ms ≡ unit (DT (now ++ more)) ∷ ns))) ⊎ (list_any is_leaving ms ≡ true)
+part_next now words ms joined order finished = elim (next_is now words order finished) [
+  | inl more ↦ inl (more.0, (more.1.0, sym joined ∙ more.1.1))
+  | inr left ↦ inr (ap (list_any is_leaving) (sym joined) ∙ left)
+]
+
+split_way : (g h : Progress) (d : Bool) (H : About) (ms : List Message) (m : carrier.Message) (rest : Sent) (begun : Option (List ℕ)) (lost : List Word) (first : Word) (others : List Word) →
+    AreAlike g (word_in first ∷ []) (m ∷ []) → AreAlike h (map word_in others) rest → joins begun ((first ∷ others) ++ lost) ≡ ms → AreInOrder begun ((first ∷ others) ++ lost) →
+    left_of begun ((first ∷ others) ++ lost) ≡ None → (d ≡ false → lost ≡ []) → H begun → Comes g h d H ms m rest
+split_way g h d H ms m rest begun lost (whole x) others is stays joined order finished kept held = inl (record {
+  first = x;
+  others = joins None (others ++ lost);
+  parts = sym joined;
+  kind = alike_kind g (message_in x) m is;
+  how = inl (record { is = is; held = λ e. subst H (follows begun x order.0 e) held });
+  stays = record { words = others; lost = lost; begun = None; alike = λ e. stays; joined = refl; order = order.1; finished = finished; kept = kept; held = refl };
+})
+split_way g h d H ms m rest begun lost (part First o) others is stays joined order finished kept held = inr (record {
+  place = First;
+  octets = o;
+  is = is;
+  now = o;
+  short = order.1;
+  how = inl (record { place_is = refl; now_is = refl; held = subst H order.0 held });
+  stays = record { words = others; lost = lost; begun = Some o; alike = λ e. stays; joined = joined; order = order.2; finished = finished; kept = kept; held = refl };
+  next = part_next o (others ++ lost) ms joined order.2 finished;
+})
+split_way g h d H ms m rest None lost (part Middle o) others is stays joined order finished kept held = absurd order.0
+split_way g h d H ms m rest (Some b) lost (part Middle o) others is stays joined order finished kept held = inr (record {
+  place = Middle;
+  octets = o;
+  is = is;
+  now = b ++ o;
+  short = order.1;
+  how = inr (record { place_is = refl; front = b; now_is = refl; held = held });
+  stays = record { words = others; lost = lost; begun = Some (b ++ o); alike = λ e. stays; joined = joined; order = order.2; finished = finished; kept = kept; held = refl };
+  next = part_next (b ++ o) (others ++ lost) ms joined order.2 finished;
+})
+split_way g h d H ms m rest None lost (part Last o) others is stays joined order finished kept held = absurd order.0
+split_way g h d H ms m rest (Some b) lost (part Last o) others is stays joined order finished kept held = inl (record {
+  first = unit (DT (b ++ o));
+  others = joins None (others ++ lost);
+  parts = sym joined;
+  kind = alike_kind g (carrier.message (part_octets Last o)) m is;
+  how = inr (record { front = b; last = o; first_is = refl; is = is; short = order.1; held = held });
+  stays = record { words = others; lost = lost; begun = None; alike = λ e. stays; joined = refl; order = order.2; finished = finished; kept = kept; held = refl };
+})
+
+-- a message that is no TSDU comes by itself
+abbrev pub is_tsdu : carrier.Message → Bool
+is_tsdu (carrier.message octets) = true
+is_tsdu m = false
+
+pub no_part : (g : Progress) (octets : List ℕ) (m : carrier.Message) → is_tsdu m ≡ false → AreAlike g (carrier.message octets ∷ []) (m ∷ []) → ⊥
+no_part g octets m e is = no_kind m e (alike_kind g (carrier.message octets) m is)
+  where
+    no_kind : (m : carrier.Message) → is_tsdu m ≡ false → carrier.message [] ≡ kind_of m → ⊥
+    no_kind (carrier.message octets) e k = cc
+    no_kind carrier.ask e k = cc
+    no_kind carrier.agree e k = cc
+    no_kind (carrier.deny r) e k = cc
+    no_kind (carrier.bye r) e k = cc
+    no_kind carrier.over e k = cc
+
+pub record Alone (g h : Progress) (d : Bool) (H : About) (ms : List Message) (m : carrier.Message) (rest : Sent) : Type 0 where
+  pub first : Message
+  pub others : List Message
+  pub parts : ms ≡ first ∷ others
+  pub kind : kind_of (message_in first) ≡ kind_of m
+  pub alone : IsAlone g H first m
+  pub stays : BehindFirst h d None others rest
+
+pub alone_of : (g h : Progress) (d : Bool) (H : About) (ms : List Message) (m : carrier.Message) (rest : Sent) → is_tsdu m ≡ false → Comes g h d H ms m rest → Alone g h d H ms m rest
+alone_of g h d H ms m rest e (inl s) = elim s.how [
+  | inl a ↦ record { first = s.first; others = s.others; parts = s.parts; kind = s.kind; alone = a; stays = s.stays }
+  | inr l ↦ absurd (no_part g (part_octets Last l.last) m e l.is)
+]
+alone_of g h d H ms m rest e (inr q) = absurd (no_part g (part_octets q.place q.octets) m e q.is)
 
 -- by row
 same_then : (g : Progress) (xs ys zs : Sent) → AreAlike g xs ys → ys ≡ zs → AreAlike g xs zs
@@ -193,8 +526,22 @@ row_up (ignores octets) xs ys h = h
 row_up (ends m) xs ys h = h
 
 -- a message arrived
-pub back_comes : (row : Row) (old new : Place) (ms : List Message) (m : carrier.Message) (ys rest : Sent) → progress_of old ≡ before row → progress_of new ≡ after row →
-    AreAlike (progress_of old) (map message_in ms) ys → AreLike (connection_in new) ys (m ∷ rest) → Split (before row) (after row) ms m rest
-back_comes row old new ms m ys rest e f h k =
-    let s = split (before row) ms m rest (row_over row new (map message_in ms) ys (m ∷ rest) f (subst (λ (g : Progress). AreAlike g (map message_in ms) ys) e h) k) in
-    record { first = s.first; others = s.others; parts = s.parts; is = s.is; stays = row_up row (map message_in s.others) rest s.stays }
+comes_first : (row : Row) (old new : Place) (words : List Word) (m : carrier.Message) (ys rest : Sent) → progress_of old ≡ before row → progress_of new ≡ after row →
+    AreAlike (progress_of old) (map word_in words) ys → AreLike (connection_in new) ys (m ∷ rest) → SplitWords (before row) (after row) words m rest
+comes_first row old new ms m ys rest e f h k =
+    let s = split (before row) ms m rest (row_over row new (map word_in ms) ys (m ∷ rest) f (subst (λ (g : Progress). AreAlike g (map word_in ms) ys) e h) k) in
+    record { first = s.first; others = s.others; parts = s.parts; is = s.is; stays = row_up row (map word_in s.others) rest s.stays }
+
+pub back_comes : (row : Row) (o : Option EndReason) (old new : Place) (c d : Bool) (H : About) (ms : List Message) (m : carrier.Message) (ys rest : Sent) → progress_of old ≡ before row → progress_of new ≡ after row →
+    AreUnderWay o (progress_of old) c H ms ys → o ≡ None → (d ≡ false → c ≡ false) → AreLike (connection_in new) ys (m ∷ rest) → Comes (before row) (after row) d H ms m rest
+back_comes row o old new c d H ms m ys rest e f w lasts cut k =
+    let s = comes_first row old new w.words m ys rest e f (w.alike lasts) k in
+    let all : w.words ++ w.lost ≡ (s.first ∷ s.others) ++ w.lost = ap (λ (l : List Word). l ++ w.lost) s.parts in
+    split_way (before row) (after row) d H ms m rest w.begun w.lost s.first s.others s.is s.stays (sym (ap (joins w.begun) all) ∙ w.joined) (subst (AreInOrder w.begun) all w.order)
+    (sym (ap (left_of w.begun) all) ∙ w.finished) (λ x. w.kept (cut x)) w.held
+
+-- nothing did
+pub back_waits : (o q : Option EndReason) (g : Progress) (new : Place) (c d : Bool) (H K : About) (ms : List Message) (ys zs : Sent) → (shuts g ≡ true → shuts (progress_of new) ≡ true) →
+    AreUnderWay o g c H ms ys → o ≡ None → (d ≡ false → c ≡ false) → ((x : Option (List ℕ)) → H x → K x) → AreLike (connection_in new) ys zs → AreUnderWay q (progress_of new) d K ms zs
+back_waits o q g new c d H K ms ys zs shut w lasts cut holds k =
+    as_now o q g (progress_of new) c d H K ms ys zs w cut holds (λ e. back_stays g new (map word_in w.words) ys zs shut (w.alike lasts) k)

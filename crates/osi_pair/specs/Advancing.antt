@@ -1,5 +1,5 @@
 -- What an event is to two ends that stand at a list of steps of the machine.
-use Rattle.std.specs.Prelude.{ℕ, List, [], ◌∷◌, ◌++◌}
+use Rattle.std.specs.Prelude.{List, [], ◌∷◌, ◌++◌}
 use Rattle.osi_tpkt.specs.Octets.{IsOctets}
 use Rattle.osi_machine.specs.Machine.{Step, connects, calls}
 use Rattle.osi_session.specs.Allowed.{octets_of}

@@ -8,8 +8,8 @@ pub mod Carrying
 pub mod Events
 pub mod Running
 pub mod Memory
+pub mod Words
 pub mod Standing
 pub mod Promises
 pub mod Reached
 pub mod Advancing
-pub mod Words

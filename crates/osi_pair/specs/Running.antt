@@ -1,5 +1,5 @@
 -- Events one after the other.
-use Rattle.std.specs.Prelude.{◌≡◌, ◌<◌, ℕ, List, [], ◌∷◌, ◌++◌, take, length, None, IfSome, slice_get}
+use Rattle.std.specs.Prelude.{◌≡◌, ◌<◌, List, [], ◌∷◌, ◌++◌, take, length, None, IfSome, slice_get}
 use Rattle.osi_machine.specs.Core as machine
 use Rattle.osi_machine.specs.Machine.{Step, connects, calls, breaks, ends, told_of_break}
 use Rattle.osi_session.specs.Calls.{called_by}

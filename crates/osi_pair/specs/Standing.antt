@@ -3,7 +3,7 @@
 use Rattle.std.specs.Prelude.{◌≡◌, ℕ, ◌<◌, ◌≤◌, Bool, true, false, List, [], ◌∷◌, ◌++◌, map, length, Option, Some, None, option_map, is_some, IsSome, IfSome, Result, Ok, Err}
 use Rattle.std.specs.List.{AllByRecursion}
 use Rattle.osi_tpkt.specs.Held.{Held}
-use Rattle.osi_carrier.specs.Between.{Between, Both, AreBetween, last_of, under_way}
+use Rattle.osi_carrier.specs.Between.{Between, Both, AreBetween, last_of, is_cut, under_way}
 use Rattle.osi_carrier.specs.Course.{Place, never, was_given, place_at, progress_of}
 use Rattle.osi_carrier.specs.Messages.{kind_of}
 use Rattle.osi_carrier.specs.Messages as carrier
@@ -27,10 +27,10 @@ use Rattle.osi_machine.specs.Tables.{Seat, Line, Tables, awaits, run, start}
 use Rattle.osi_machine.specs.Worlds.{Message, unit, ask, agree, deny, bye, over, Transport, not_yet, waiting, gone, Terms, accepts, denies}
 use Rattle.osi_machine.specs.Worlds as worlds
 use Rattle.osi_message.specs.InOctets.{IsInOctets}
+use Rattle.osi_message.specs.Words.{part_octets}
 use Rattle.osi_message.specs.Written.{written}
 use Rattle.osi_session.specs.Listening.{Listener}
 use Rattle.osi_session.specs.Phases.{is_ended}
-use Rattle.osi_session.specs.Whole.{listening}
 use Rattle.osi_stack.specs.Folds.{AllCameAbout}
 use Rattle.osi_stack.specs.Hearing.{after_packet}
 use Rattle.osi_stack.specs.Links.{Soundness}
@@ -42,8 +42,11 @@ use Rattle.osi_pair.specs.Asked.{Asked}
 use Rattle.osi_pair.specs.Ends.{TwoEnds, end_at, with_end}
 use Rattle.osi_pair.specs.Entries.{Entry, asks, calls, shows, ends}
 use Rattle.osi_pair.specs.Telling.{waiting_in}
+use Rattle.osi_pair.specs.Words.{Word, whole, part, joins, left_of, AreInOrder}
 use Rattle.osi_pair.specs.declared.sides.Side.{Side}
 use Rattle.osi_pair.specs.declared.sides.Side.TheVariants.{Left, Right}
+use Rattle.osi_session.specs.Kept.{IsJoinedAs}
+use Rattle.osi_session.specs.Moves.{Standing}
 
 -- ---- the words of the one in those of the other
 
@@ -123,6 +126,11 @@ message_in (deny r) = carrier.deny r
 message_in (bye r) = carrier.bye r
 message_in over = carrier.over
 
+-- a part goes as the octets of a TSDU of its own
+abbrev pub word_in : Word → carrier.Message
+word_in (whole m) = message_in m
+word_in (part place octets) = carrier.message (part_octets place octets)
+
 -- ---- two ends as two carriers
 
 abbrev pub carriers_of : TwoEnds → Both
@@ -140,12 +148,17 @@ is_parting worlds.closing = true
 is_parting gone = true
 is_parting transport = false
 
--- a side of it: its transport connection; its session, which has joined nothing, while it is live, and also
+-- a session that has joined this of an unfinished Data
+abbrev pub joining : Option (List ℕ) → Standing → Listener
+joining joined s = record { state = s.state; waiting = s.waiting; joined = joined }
+
+-- a side of it: its transport connection; its session, and what that has joined, while it is live, and also
 -- as long as it is kept once it is gone; one that parts is over, and one that was never given awaits a CN
 pub record IsSeated (n : ℕ) (h : Holding) (seat : Seat) : Type 0 where
+  pub joined : Option (List ℕ)
   pub transport : seat.transport ≡ transport_in (place_at n h.end.carrier)
-  pub live : is_some (value_at n h.end.carrier.live) ≡ true → session_at n h.end ≡ Some (listening seat.session)
-  pub kept : (l : Listener) → kept_at n h.end.lines ≡ Some l → l ≡ listening seat.session
+  pub live : is_some (value_at n h.end.carrier.live) ≡ true → session_at n h.end ≡ Some (joining joined seat.session)
+  pub kept : (l : Listener) → kept_at n h.end.lines ≡ Some l → l ≡ joining joined seat.session
   pub over_now : is_parting seat.transport ≡ true → is_ended seat.session.state.phase ≡ true
   pub awaiting : seat.transport ≡ not_yet → seat.session ≡ awaits
   -- the CN that waits goes into octets
@@ -157,10 +170,33 @@ AreAlike shutting some others = map kind_of some ≡ map kind_of others
 AreAlike progress.gone some others = map kind_of some ≡ map kind_of others
 AreAlike taker some others = some ≡ others
 
--- what is under way from a side, while the other lasts
+-- What is under way to a taker, which may have ended: the messages of the tables, and those between two
+-- carriers, by the words in which they go. `lost`: the last of what is under way by the tables, which will
+-- never come; there is none of it where nothing was cut from what is under way.
+pub record AreUnderWay (reason : Option EndReason) (taker : Progress) (cut : Bool) (Holds : Option (List ℕ) → Type 0) (channel : List Message) (sent : List carrier.Message) : Type 0 where
+  pub words : List Word
+  pub lost : List Word
+  -- of an unfinished Data, what is not under way any more
+  pub begun : Option (List ℕ)
+  pub alike : reason ≡ None → AreAlike taker (map word_in words) sent
+  pub joined : joins begun (words ++ lost) ≡ channel
+  pub order : AreInOrder begun (words ++ lost)
+  pub finished : left_of begun (words ++ lost) ≡ None
+  pub kept : cut ≡ false → lost ≡ []
+  pub held : Holds begun
+
+-- the session that an end keeps has joined of an unfinished Data what has begun, unless it discards data
+abbrev pub HasJoined : ℕ → Holding → Option (List ℕ) → Type 0
+HasJoined n h begun = (l : Listener) → kept_at n h.end.lines ≡ Some l → IsJoinedAs l.state l.joined begun
+
+-- what is under way from a side to the other, whose connection is this far
+abbrev pub Goes : Side → Side → ℕ → TwoEnds → Between → Progress → List Message → Type 0
+Goes side other n p b taker channel =
+    AreUnderWay (end_at other p).end.carrier.ended taker (is_cut (is_caller side) (carriers_of p)) (HasJoined n (end_at other p)) channel (under_way (is_caller side) n (carriers_of p) b)
+
+-- what is under way from a side to the other
 abbrev pub IsUnderWay : Side → Side → ℕ → TwoEnds → Between → Seat → Type 0
-IsUnderWay side other n p b seat = (end_at other p).end.carrier.ended ≡ None →
-    AreAlike (progress_of (place_at n (last_of (is_caller other) b))) (map message_in seat.channel) (under_way (is_caller side) n (carriers_of p) b)
+IsUnderWay side other n p b seat = Goes side other n p b (progress_of (place_at n (last_of (is_caller other) b))) seat.channel
 
 pub record IsLine (n : ℕ) (p : TwoEnds) (b : Between) (l : Line) : Type 0 where
   pub left : IsSeated n p.left l.own

@@ -56,9 +56,3 @@ AreInOrder begun (part First octets ∷ words) = (begun ≡ None) × (length oct
 AreInOrder begun (part Middle octets ∷ words) =
     IsBegun begun × (length (begun_octets begun ++ octets) ≤ most_data) × AreInOrder (Some (begun_octets begun ++ octets)) words
 AreInOrder begun (part Last octets ∷ words) = IsBegun begun × (length (begun_octets begun ++ octets) ≤ most_data) × AreInOrder None words
-
--- words that are one message, whole
-pub record AreOne (words : List Word) (m : Message) : Type 0 where
-  pub joined : joins None words ≡ m ∷ []
-  pub left : left_of None words ≡ None
-  pub order : AreInOrder None words

@@ -20,9 +20,12 @@ use osi_carrier::two_carriers::{
     what_an_end_holds, what_two_carriers_have, whatever_becomes_of_two_carriers,
 };
 use osi_machine::laws::{
-    what_is_under_way_can_be_sent, what_stands_at_a_reference, what_two_tables_tell,
+    the_next_is_no_fault, what_is_under_way_can_be_sent, what_stands_at_a_reference,
+    what_two_tables_tell, who_is_left_is_over,
 };
-use osi_message::laws::{what_a_part_says, what_is_sent_is_octets, what_is_sent_is_read};
+use osi_message::laws::{
+    what_a_part_says, what_is_sent_is_octets, what_is_sent_is_read, what_leaves_in_parts,
+};
 use osi_session::laws::{
     an_empty_token_item_changes_nothing, numbers_stay_in_order, what_an_accepted_call_passed,
     what_becomes_of_a_unit, what_closes_sends_nothing, what_happens_has_numbers,
@@ -64,7 +67,7 @@ pub fn how_two_ends_are_called()
     a_session_is_what_its_inputs_made_it();
     all_that_is_told_is_heard();
     lines_rise_by_reference();
-    what_is_sent_is_octets();
+    what_leaves_in_parts();
     what_is_sent_can_be_sent();
     what_an_accepted_call_passed();
     what_is_under_way_can_be_sent();
@@ -98,5 +101,7 @@ pub fn how_two_ends_carry()
     what_an_accepted_call_passed();
     numbers_stay_in_order();
     what_is_under_way_can_be_sent();
+    the_next_is_no_fault();
+    who_is_left_is_over();
     what_two_tables_tell();
 }

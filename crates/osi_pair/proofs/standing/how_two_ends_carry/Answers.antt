@@ -41,6 +41,8 @@ returns c =
         passed = c.what_an_accepted_call_passed.ensures.passed;
       };
       sound_lines = c.what_is_under_way_can_be_sent.ensures;
+      next = c.the_next_is_no_fault.ensures;
+      left = c.who_is_left_is_over.ensures;
     } in
     let answers : AnswerLaws = record {
       says = c.an_empty_token_item_changes_nothing.ensures.said;

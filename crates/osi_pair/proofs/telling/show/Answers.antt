@@ -1,4 +1,4 @@
-use Rattle.std.proofs.Common.{◌≡◌, ◌∙◌, [], ◌∷◌, map, sym, ap, arith}
+use Rattle.std.proofs.Common.{◌∙◌, [], ◌∷◌, map, sym, ap, arith}
 use Rattle.std.proofs.lemmas.List.{map-append}
 use Rattle.osi_session.specs.Shown.{shown_by}
 use Rattle.osi_pair.specs.Entries.{entry_by}

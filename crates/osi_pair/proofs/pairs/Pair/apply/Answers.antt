@@ -1,4 +1,4 @@
-use Rattle.std.proofs.Common.{◌≡◌, List, OnOk, IfOk, sym, subst}
+use Rattle.std.proofs.Common.{List, OnOk, IfOk, subst}
 use Rattle.osi_machine.specs.Machine.{Step}
 use Rattle.osi_pair.specs.Advancing.{StandsAfter}
 use Rattle.osi_pair.specs.Ends.{TwoEnds}

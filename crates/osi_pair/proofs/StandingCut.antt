@@ -1,0 +1,85 @@
+-- Where something of what is under way was cut off.
+use Rattle.std.proofs.Common.{◌≡◌, refl, sym, ap, ◌∙◌, ℕ, zero, suc, ◌<◌, ◌≤◌, nat_le, ◌⊎◌, inl, inr, Bool, true, false, ◌||◌, Option, Some, None, option_map, is_some, arith}
+use Rattle.std.proofs.lemmas.Bool.{leb-true, leb-false}
+use Rattle.osi_carrier.specs.Between.{is_cut}
+use Rattle.osi_stack.specs.State.{Holding}
+use Rattle.osi_pair.specs.Ends.{TwoEnds, end_at, with_end}
+use Rattle.osi_pair.specs.Sides.{other}
+use Rattle.osi_pair.specs.Standing.{is_caller, carriers_of}
+use Rattle.osi_pair.specs.declared.reach.Reach.{Reach}
+use Rattle.osi_pair.specs.declared.sides.Side.{Side}
+use Rattle.osi_pair.specs.declared.sides.Side.TheVariants.{Left, Right}
+
+-- by what reaches, and by the end that sends
+cut_by : (s : Side) (p : TwoEnds) → is_cut (is_caller s) (carriers_of p) ≡ (is_some p.reach || is_some (end_at s p).end.carrier.ended)
+cut_by Left p = ap (λ (b : Bool). b || is_some p.left.end.carrier.ended) (mapped p.reach)
+  where
+    mapped : (o : Option Reach) → is_some {T = ℕ × ℕ} (option_map (λ r. (r.left, r.right)) o) ≡ is_some o
+    mapped None = refl
+    mapped (Some r) = refl
+cut_by Right p = ap (λ (b : Bool). b || is_some p.right.end.carrier.ended) (mapped p.reach)
+  where
+    mapped : (o : Option Reach) → is_some {T = ℕ × ℕ} (option_map (λ r. (r.left, r.right)) o) ≡ is_some o
+    mapped None = refl
+    mapped (Some r) = refl
+
+first_false : (a b : Bool) → (a || b) ≡ false → a ≡ false
+first_false true b e = e
+first_false false b e = refl
+
+none_false : (a b c : Bool) → c ≡ false → (a || b) ≡ false → (a || c) ≡ false
+none_false true b c e h = h
+none_false false b c e h = e
+
+-- where an end acts that lasts, nothing new is cut of what is under way from it
+pub cut_out : (s : Side) (p new : TwoEnds) → new.reach ≡ p.reach → (end_at s p).end.carrier.ended ≡ None → is_cut (is_caller s) (carriers_of new) ≡ false → is_cut (is_caller s) (carriers_of p) ≡ false
+cut_out s p new reach alive h =
+    let reached : is_some p.reach ≡ false = sym (ap is_some reach) ∙ first_false (is_some new.reach) (is_some (end_at s new).end.carrier.ended) (sym (cut_by s new) ∙ h) in
+    cut_by s p ∙ none_false (is_some p.reach) false (is_some (end_at s p).end.carrier.ended) (ap is_some alive) (ap (λ (b : Bool). b || false) reached)
+
+-- nor to it
+pub cut_back : (s : Side) (p new : TwoEnds) → new.reach ≡ p.reach → end_at (other s) new ≡ end_at (other s) p → is_cut (is_caller (other s)) (carriers_of new) ≡ false → is_cut (is_caller (other s)) (carriers_of p) ≡ false
+cut_back s p new reach there h =
+    cut_by (other s) p ∙ ap (λ (r : Option Reach). is_some r || is_some (end_at (other s) p).end.carrier.ended) (sym reach)
+    ∙ ap (λ (y : Holding). is_some new.reach || is_some y.end.carrier.ended) (sym there) ∙ sym (cut_by (other s) new) ∙ h
+
+-- where nothing is broken nothing is cut of what is under way from an end that lasts
+pub cut_none : (s : Side) (p : TwoEnds) (broken : Bool) → broken ≡ is_some p.reach → (end_at s p).end.carrier.ended ≡ None → broken ≡ false → is_cut (is_caller s) (carriers_of p) ≡ false
+cut_none s p broken is alive e =
+    cut_by s p ∙ none_false (is_some p.reach) false (is_some (end_at s p).end.carrier.ended) (ap is_some alive) (ap (λ (b : Bool). b || false) (sym is ∙ e))
+
+pub cut_broken : (s : Side) (p new : TwoEnds) (broken : Bool) → broken ≡ is_some p.reach → new.reach ≡ p.reach → broken ≡ true → is_cut (is_caller s) (carriers_of new) ≡ true
+cut_broken s p new broken is reach e = cut_by s new ∙ ap (λ (b : Bool). b || is_some (end_at s new).end.carrier.ended) (ap is_some reach ∙ sym is ∙ e)
+
+-- ---- an end is another
+
+pub reach_same : (s : Side) (h : Holding) (p : TwoEnds) → (with_end s h p).reach ≡ p.reach
+reach_same Left h p = refl
+reach_same Right h p = refl
+
+there_same : (s : Side) (h : Holding) (p : TwoEnds) → end_at (other s) (with_end s h p) ≡ end_at (other s) p
+there_same Left h p = refl
+there_same Right h p = refl
+
+pub end_out : (s : Side) (h : Holding) (p : TwoEnds) → (end_at s p).end.carrier.ended ≡ None → is_cut (is_caller s) (carriers_of (with_end s h p)) ≡ false → is_cut (is_caller s) (carriers_of p) ≡ false
+end_out s h p alive = cut_out s p (with_end s h p) (reach_same s h p) alive
+
+pub end_back : (s : Side) (h : Holding) (p : TwoEnds) → is_cut (is_caller (other s)) (carriers_of (with_end s h p)) ≡ false → is_cut (is_caller (other s)) (carriers_of p) ≡ false
+end_back s h p = cut_back s p (with_end s h p) (reach_same s h p) (there_same s h p)
+
+-- ---- references that were given, or not
+
+abbrev pub IsWithin : ℕ → ℕ → Type 0
+IsWithin n most = ((n ≡ 0) ⊎ (most < n)) ⊎ ((0 < n) × (n ≤ most))
+
+within_by : (n most : ℕ) (fits : Bool) → nat_le n most ≡ fits → IsWithin n most
+within_by zero most fits e = inl (inl refl)
+within_by (suc n) most true e = inr (omega arith, leb-true (suc n) most e)
+within_by (suc n) most false e = inl (inr (leb-false (suc n) most e))
+
+pub within_or : (n most : ℕ) → IsWithin n most
+within_or n most = within_by n most (nat_le n most) refl
+
+pub outside_not : (n most : ℕ) → ((n ≡ 0) ⊎ (most < n)) → 0 < n → n ≤ most → ⊥
+outside_not n most (inl none) some few = omega arith
+outside_not n most (inr more) some few = omega arith

@@ -1,0 +1,104 @@
+-- The words in which a message leaves are that message.
+use Rattle.std.proofs.Common.{◌≡◌, refl, sym, ap, subst, ◌∙◌, ℕ, ◌-◌, ◌≤◌, Bool, true, false, not, if◌then◌else◌, List, [], ◌∷◌, ◌++◌, length, map, Some, None, append_assoc, arith}
+use Rattle.std.proofs.lemmas.List.{append-nil, length-append}
+use Rattle.osi_carrier.specs.Messages as carrier
+use Rattle.osi_machine.specs.Worlds.{unit}
+use Rattle.osi_message.specs.Meanings.{Meaning, DT}
+use Rattle.osi_message.specs.Parting.{pieces, parts_of, is_whole, is_parted, words_sent, AreLater, AreParts, joined}
+use Rattle.osi_message.specs.Words.{Words, word_octets}
+use Rattle.osi_message.specs.Words as sent
+use Rattle.osi_message.specs.declared.places.Place.TheVariants.{First, Middle, Last}
+use Rattle.osi_spdu.specs.Values.{is_size}
+use Rattle.osi_pair.specs.Standing.{word_in}
+use Rattle.osi_pair.specs.Words.{Word, whole, part, joins, left_of, AreInOrder, most_data}
+use Rattle.osi_pair.proofs.WordLaws.{AreWords, wholes}
+
+-- a word of the sender, among those under way
+abbrev pub word_of : sent.Word → Word
+word_of (sent.says m) = whole (unit m)
+word_of (sent.part place octets) = part place octets
+
+-- each goes as a TSDU
+pub carried_words : (words : Words) → map carrier.message (map word_octets words) ≡ map word_in (map word_of words)
+carried_words [] = refl
+carried_words (sent.says m ∷ words) = ap (λ l. word_in (whole (unit m)) ∷ l) (carried_words words)
+carried_words (sent.part place octets ∷ words) = ap (λ l. word_in (part place octets) ∷ l) (carried_words words)
+
+-- ---- parts
+
+-- the rest of the parts, behind what has begun
+record AreRest (begun : List ℕ) (words : List Word) (all : List ℕ) : Type 0 where
+  joined : joins (Some begun) words ≡ unit (DT all) ∷ []
+  left : left_of (Some begun) words ≡ None
+  order : AreInOrder (Some begun) words
+
+rest_is : (begun : List ℕ) (words : Words) → AreLater words → length (begun ++ joined words) ≤ most_data → AreRest begun (map word_of words) (begun ++ joined words)
+rest_is begun [] later short = absurd later
+rest_is begun (sent.says m ∷ words) later short = absurd later
+rest_is begun (sent.part First octets ∷ words) later short = absurd later
+rest_is begun (sent.part Last octets ∷ next ∷ words) later short = absurd later
+rest_is begun (sent.part Last octets ∷ []) later short =
+    let alone : octets ++ [] ≡ octets = append-nil octets in
+    record {
+      joined = ap (λ (o : List ℕ). unit (DT (begun ++ o)) ∷ []) (sym alone);
+      left = refl;
+      order = (tt, subst (λ (o : List ℕ). length (begun ++ o) ≤ most_data) alone short, tt);
+    }
+rest_is begun (sent.part Middle octets ∷ words) later short =
+    let front : begun ++ (octets ++ joined words) ≡ (begun ++ octets) ++ joined words = sym (append_assoc begun octets (joined words)) in
+    let all = subst (λ (o : List ℕ). length o ≤ most_data) front short in
+    let more = rest_is (begun ++ octets) words later all in
+    let fits : length (begun ++ octets) ≤ most_data = omega (arith, all, length-append (begun ++ octets) (joined words)) in
+    record {
+      joined = more.joined ∙ ap (λ (o : List ℕ). unit (DT o) ∷ []) (sym front);
+      left = more.left;
+      order = (tt, fits, more.order);
+    }
+
+parts_are : (words : Words) → AreParts words → length (joined words) ≤ most_data → AreWords (map word_of words) (unit (DT (joined words)) ∷ [])
+parts_are [] parts short = absurd parts
+parts_are (sent.says m ∷ words) parts short = absurd parts
+parts_are (sent.part Middle octets ∷ words) parts short = absurd parts
+parts_are (sent.part Last octets ∷ words) parts short = absurd parts
+parts_are (sent.part First octets ∷ words) parts short =
+    let more = rest_is octets words parts short in
+    let fits : length octets ≤ most_data = omega (arith, short, length-append octets (joined words)) in
+    record { joined = more.joined; left = more.left; order = (refl, fits, more.order) }
+
+-- ---- a message
+
+alone_if : (b : Bool) (m : Meaning) (parts : Words) → not b ≡ false → (if b then sent.says m ∷ [] else parts) ≡ sent.says m ∷ []
+alone_if true m parts h = refl
+alone_if false m parts h = absurd cc
+
+word_alone : (limit : ℕ) (m : Meaning) → is_parted limit m ≡ false → words_sent limit m ≡ sent.says m ∷ []
+unfolding words_sent
+word_alone limit (DT octets) h = alone_if (is_whole limit octets) (DT octets) (parts_of (pieces (length octets) (limit - 7) octets)) h
+word_alone limit _ h = refl
+
+-- what the crate below says of parts
+pub record PartLaws : Type 0 where
+  pub parts : (limit : ℕ) (octets : List ℕ) → is_size limit ≡ true → is_parted limit (DT octets) ≡ true → AreParts (words_sent limit (DT octets))
+  pub joined : (limit : ℕ) (octets : List ℕ) → joined (words_sent limit (DT octets)) ≡ octets
+
+-- a Data has at most so many octets
+abbrev pub IsBounded : Meaning → Type 0
+IsBounded (DT octets) = length octets ≤ most_data
+IsBounded m = Unit {0}
+
+in_parts : PartLaws → (limit : ℕ) (octets : List ℕ) → is_size limit ≡ true → is_parted limit (DT octets) ≡ true → length octets ≤ most_data → AreWords (map word_of (words_sent limit (DT octets))) (unit (DT octets) ∷ [])
+in_parts laws limit octets size parted short =
+    let all = laws.joined limit octets in
+    subst (λ (o : List ℕ). AreWords (map word_of (words_sent limit (DT octets))) (unit (DT o) ∷ [])) all
+    (parts_are (words_sent limit (DT octets)) (laws.parts limit octets size parted) (subst (λ (o : List ℕ). length o ≤ most_data) (sym all) short))
+
+by_itself : (limit : ℕ) (m : Meaning) → is_parted limit m ≡ false → AreWords (map word_of (words_sent limit m)) (unit m ∷ [])
+by_itself limit m e = subst (λ (words : Words). AreWords (map word_of words) (unit m ∷ [])) (sym (word_alone limit m e)) (wholes (unit m ∷ []))
+
+data_words : PartLaws → (limit : ℕ) (octets : List ℕ) (parted : Bool) → is_parted limit (DT octets) ≡ parted → is_size limit ≡ true → length octets ≤ most_data → AreWords (map word_of (words_sent limit (DT octets))) (unit (DT octets) ∷ [])
+data_words laws limit octets true e size short = in_parts laws limit octets size e short
+data_words laws limit octets false e size short = by_itself limit (DT octets) e
+
+pub words_of_message : PartLaws → (limit : ℕ) (m : Meaning) → is_size limit ≡ true → IsBounded m → AreWords (map word_of (words_sent limit m)) (unit m ∷ [])
+words_of_message laws limit (DT octets) size short = data_words laws limit octets (is_parted limit (DT octets)) refl size short
+words_of_message laws limit m size short = by_itself limit m refl
