@@ -11,7 +11,7 @@
 
 /* A slice is passed as a pointer and a length; the allocator passes nothing. */
 uint64_t osi_bench_stacks(const uint8_t *data, size_t length, size_t rounds, uint16_t connections, bool class_two,
-                          bool points);
+                          bool points, uint16_t size);
 
 static osi_end caller = OSI_END, called = OSI_END;
 static uint64_t messages, octets_shown;
@@ -101,8 +101,9 @@ int main(int count, char **words)
     uint16_t connections = (uint16_t)atoi(words[3]);
     bool class_two = atoi(words[4]) == 2, points = atoi(words[5]) != 0;
     memset(data, 0x41, sizeof data);
-    uint64_t seen = (strcmp(words[1], "c") == 0 ? over_c : osi_bench_stacks)(data, length, rounds, connections,
-                                                                             class_two, points);
+    uint64_t seen = strcmp(words[1], "c") == 0
+        ? over_c(data, length, rounds, connections, class_two, points)
+        : osi_bench_stacks(data, length, rounds, connections, class_two, points, 0);
     printf("%zu operations\n", rounds);
     return seen == 0;
 }

@@ -1,12 +1,14 @@
 /* Data, minor points and their confirmations over a pair of stacks, whose octets go from one to the other: the proved
-   ones and the same by hand, a carrier and a session for each of its connections. */
+   ones and the same by hand, a carrier and a session for each of its connections. Data in parts goes over the proved ones
+   alone. */
 #include <stdio.h>
 #include "carrier.h"
 #include "session.h"
 #include "timer.h"
 
 /* A slice is passed as a pointer and a length; the allocator passes nothing. */
-uint64_t osi_bench_stacks(const uint8_t *data, size_t length, size_t rounds, uint16_t connections, bool class_two, bool points);
+uint64_t osi_bench_stacks(const uint8_t *data, size_t length, size_t rounds, uint16_t connections, bool class_two, bool points,
+                          uint16_t size);
 
 /* One indication that waits to be shown: what comes behind it is not read before. */
 struct stack {
@@ -169,13 +171,26 @@ static uint64_t stacks_by_hand(const uint8_t *octets, size_t length, size_t roun
     return answer;
 }
 
+/* No limit to the octets of a TSDU. */
+static uint64_t proved(const uint8_t *data, size_t length, size_t rounds, uint16_t connections, bool class_two, bool points)
+{
+    return osi_bench_stacks(data, length, rounds, connections, class_two, points, 0);
+}
+
+/* The largest limit: data of 100,000 octets leaves in two parts. */
+static uint64_t in_parts(const uint8_t *data, size_t length, size_t rounds, uint16_t connections, bool class_two, bool points)
+{
+    return osi_bench_stacks(data, length, rounds, connections, class_two, points, 65535);
+}
+
 typedef uint64_t job(const uint8_t *, size_t, size_t, uint16_t, bool, bool);
 
 #define JOBS 2
 #define RUNS 31
 #define LONGEST_DATA 100000
 
-static job *const jobs[JOBS] = {osi_bench_stacks, stacks_by_hand};
+/* Ours beside C, and data whole beside data in parts. */
+static job *const beside_c[JOBS] = {proved, stacks_by_hand}, *const beside_whole[JOBS] = {in_parts, proved};
 
 static uint64_t expected(size_t n, size_t rounds, bool points)
 {
@@ -183,8 +198,8 @@ static uint64_t expected(size_t n, size_t rounds, bool points)
 }
 
 /* The least time of many runs of each job, which take turns; false where an answer is wrong. */
-static bool timed(double best[JOBS], const uint8_t *data, size_t n, size_t rounds, uint16_t connections, bool class_two,
-                  bool points)
+static bool timed(job *const jobs[JOBS], double best[JOBS], const uint8_t *data, size_t n, size_t rounds,
+                  uint16_t connections, bool class_two, bool points)
 {
     bool good = true;
     best[0] = best[1] = 1e9;
@@ -205,8 +220,8 @@ static bool report(const uint8_t *data, size_t n, size_t rounds, uint16_t connec
                    double *first)
 {
     double all[JOBS], opening[JOBS], messages = (double)rounds * (points ? 3 : 1);
-    bool good = timed(opening, data, n, connections, connections, class_two, points)
-        && timed(all, data, n, connections + rounds, connections, class_two, points);
+    bool good = timed(beside_c, opening, data, n, connections, connections, class_two, points)
+        && timed(beside_c, all, data, n, connections + rounds, connections, class_two, points);
     for (int k = 0; k < JOBS; k++)
         all[k] -= opening[k];
     if (*first == 0)
@@ -218,13 +233,34 @@ static bool report(const uint8_t *data, size_t n, size_t rounds, uint16_t connec
     return good;
 }
 
-/* With the words `job class connections data|points octets rounds` one job runs once, to be counted; it says how many
+/* The same of data in parts, over one connection. The last column is our speed divided by that of data that goes whole. */
+static bool report_parts(const uint8_t *data, size_t n, size_t rounds, bool class_two)
+{
+    double all[JOBS], opening[JOBS];
+    bool good = timed(beside_whole, opening, data, n, 1, 1, class_two, false)
+        && timed(beside_whole, all, data, n, 1 + rounds, 1, class_two, false);
+    for (int k = 0; k < JOBS; k++)
+        all[k] -= opening[k];
+    printf("%5d %11u %6s %7zu %10.0f %7.0f %9.1f", class_two ? 2 : 0, 1u, "parts", n, (double)rounds / all[0],
+           (double)n * (double)rounds / all[0] / 1e6, all[0] / (double)rounds * 1e9);
+    printf(" %10s %7s %9s %8s %8.2f\n", "-", "-", "-", "-", all[1] / all[0]);
+    return good;
+}
+
+static job *job_of(char **words)
+{
+    if (strcmp(words[4], "parts") == 0)
+        return in_parts;
+    return strcmp(words[1], "proved") == 0 ? proved : stacks_by_hand;
+}
+
+/* With the words `job class connections data|points|parts octets rounds` one job runs once, to be counted; it says how many
    rounds that were. */
 static int once(char **words, const uint8_t *data)
 {
     size_t n = strtoul(words[5], NULL, 10), rounds = strtoul(words[6], NULL, 10);
-    bool points = words[4][0] == 'p';
-    job *run = jobs[strcmp(words[1], "proved") == 0 ? 0 : 1];
+    bool points = strcmp(words[4], "points") == 0;
+    job *run = job_of(words);
     printf("%zu operations\n", rounds);
     return run(data, n, rounds, (uint16_t)atoi(words[3]), words[2][0] == '2', points) == expected(n, rounds, points) ? 0 : 1;
 }
@@ -238,7 +274,8 @@ int main(int count, char **words)
         data[i] = (uint8_t)(i * 31);
     if (count == 7)
         return once(words, data);
-    say_how("Stacks, in messages a second, and our speed divided by that with one connection", RUNS);
+    say_how("Stacks, in messages a second, and our speed divided by that with one connection; of parts by that of whole data",
+            RUNS);
     printf("%5s %11s %6s %7s %10s %7s %9s %10s %7s %9s %8s %8s\n", "class", "connections", "round", "octets", "ours", "MB/s",
            "ns each", "C", "MB/s", "ns each", "ours / C", "/ with 1");
     for (int points = 0; points < 2; points++)
@@ -248,6 +285,8 @@ int main(int count, char **words)
                 && report(data, lengths[i], rounds[i], 1, true, points, &of_one)
                 && report(data, lengths[i], rounds[i], MOST_LIVE, true, points, &of_one);
         }
+    for (int class_two = 0; good && class_two < 2; class_two++)
+        good = report_parts(data, LONGEST_DATA, 256, class_two);
     if (!good)
         fprintf(stderr, "the answers differ\n");
     return good ? 0 : 1;

@@ -143,7 +143,7 @@ pub extern "C" fn osi_bench_carriers(
 
 /// Does so many rounds of data, and where points are made of a point and its confirmation, over a pair
 /// of stacks with so many connections, in class 2 or in class 0, and answers a number of what their
-/// users were shown.
+/// users were shown. A TSDU has at most so many octets, 0 for no limit: longer data leaves in parts.
 #[unsafe(no_mangle)]
 pub extern "C" fn osi_bench_stacks(
     alloc: Global,
@@ -152,8 +152,9 @@ pub extern "C" fn osi_bench_stacks(
     connections: u16,
     class_two: bool,
     points: bool,
+    size: u16,
 ) -> u64 {
-    match stacks::over_stacks(alloc, data, rounds, connections, class_two, points) {
+    match stacks::over_stacks(alloc, data, rounds, connections, class_two, points, size) {
         Some(number) => number,
         None => 0,
     }

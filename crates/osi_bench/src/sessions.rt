@@ -42,8 +42,10 @@ fn pass(tsdu: &[u8], to: &mut Session) -> bool {
 /// Makes a call at one side, and hands what it sends to the other: the octets of the TSDU.
 fn tell(from: &mut Session, request: Request, to: &mut Session) -> Option<usize> {
     let sent = from.call(request).ok()?;
-    let tsdu = sent.as_slice();
-    if !pass(tsdu, to) {
+    let [tsdu] = sent.tsdus() else {
+        return None;
+    };
+    if !pass(tsdu.as_slice(), to) {
         return None;
     }
     Some(tsdu.len())
@@ -52,13 +54,19 @@ fn tell(from: &mut Session, request: Request, to: &mut Session) -> Option<usize>
 /// Makes a call, and hands what it sends to nobody: the octets of the TSDU.
 fn send(from: &mut Session, request: Request) -> Option<usize> {
     let sent = from.call(request).ok()?;
-    Some(sent.as_slice().len())
+    match sent.tsdus() {
+        [tsdu] => Some(tsdu.len()),
+        _ => None,
+    }
 }
 
 /// Sends the CN, and accepts it.
 fn open(caller: &mut Session, called: &mut Session, serial: Serial) -> Option<usize> {
     let connect = caller.opened()?;
-    if !pass(connect.as_slice(), called) {
+    let [tsdu] = connect.tsdus() else {
+        return None;
+    };
+    if !pass(tsdu.as_slice(), called) {
         return None;
     }
     let accept = Request::Accept {

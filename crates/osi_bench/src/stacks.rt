@@ -6,7 +6,7 @@ use bitflags::Flags;
 use osi_carrier::Ref;
 use osi_class::Local;
 use osi_session::{Indication, Request, Sides};
-use osi_spdu::{Requirements, Serial, Side, TokenSetting, TsduSizes, Wish};
+use osi_spdu::{Requirements, Serial, Side, TokenSetting, TsduSize, TsduSizes, Wish};
 use osi_stack::{Connect, Stack};
 use osi_tpdu::{SizeCode, Window};
 use std::alloc::Global;
@@ -112,7 +112,7 @@ fn local(class_two: bool) -> Option<Local> {
 }
 
 /// A connection whose first point has number 0.
-fn asked<'a>(serial: Serial) -> Connect<'a> {
+fn asked<'a>(serial: Serial, sizes: TsduSizes) -> Connect<'a> {
     Connect {
         requirements: Requirements::from_bits_retain(UNITS),
         serial,
@@ -121,7 +121,7 @@ fn asked<'a>(serial: Serial) -> Connect<'a> {
         called_tsap: None,
         calling_selector: None,
         called_selector: None,
-        sizes: TsduSizes::NONE,
+        sizes,
         user_data: &[],
     }
 }
@@ -138,8 +138,8 @@ fn accepted<'a>(serial: Serial) -> Request<'a> {
 }
 
 /// Opens one more connection.
-fn open_one(ends: &mut Ends, serial: Serial) -> Option<()> {
-    let reference = ends.caller.connect(&asked(serial)).ok()?;
+fn open_one(ends: &mut Ends, serial: Serial, sizes: TsduSizes) -> Option<()> {
+    let reference = ends.caller.connect(&asked(serial, sizes)).ok()?;
     exchange(ends, 3);
     ends.called.call(reference, accepted(serial)).ok()?;
     exchange(ends, 3);
@@ -178,8 +178,13 @@ fn round(ends: &mut Ends, reference: Ref, user_data: &[u8], points: bool) -> Opt
     Some(())
 }
 
-/// Two ends with so many connections.
-fn connected(alloc: Global, connections: u16, class_two: bool) -> Option<Ends> {
+/// Two ends with so many connections, of which a TSDU has at most so many octets, 0 for no limit.
+fn connected(alloc: Global, connections: u16, class_two: bool, size: u16) -> Option<Ends> {
+    let size = TsduSize::new(size)?;
+    let sizes = TsduSizes {
+        from_asker: size,
+        from_answerer: size,
+    };
     let mut ends = Ends {
         caller: Stack::caller(alloc, local(class_two)?),
         called: Stack::called(alloc, local(class_two)?),
@@ -190,13 +195,13 @@ fn connected(alloc: Global, connections: u16, class_two: bool) -> Option<Ends> {
     };
     let serial = Serial::new(0)?;
     for _ in 0..connections {
-        open_one(&mut ends, serial)?;
+        open_one(&mut ends, serial, sizes)?;
     }
     Some(ends)
 }
 
-/// So many rounds over a pair of stacks with so many connections, at most 64, which take turns: a
-/// number of what their users were shown.
+/// So many rounds over a pair of stacks with so many connections, at most 64, which take turns, and of
+/// which a TSDU has at most so many octets, 0 for no limit: a number of what their users were shown.
 pub(crate) fn over_stacks(
     alloc: Global,
     user_data: &[u8],
@@ -204,8 +209,9 @@ pub(crate) fn over_stacks(
     connections: u16,
     class_two: bool,
     points: bool,
+    size: u16,
 ) -> Option<u64> {
-    let mut ends = connected(alloc, connections, class_two)?;
+    let mut ends = connected(alloc, connections, class_two, size)?;
     let mut reference = 0u16;
     for _ in 0..rounds {
         reference = if reference < connections {

@@ -10,8 +10,9 @@
 //! - `transport_units`, `session_units`: how units are written, sets, bounds, units that are made;
 //! - `links`, `whole_links`: credit, numbers that go round, the longest TSDU;
 //! - `carriers`: an end of neither class, all references, what is sent where nothing is open;
-//! - `sessions`: plans, the greatest length of data, sizes;
-//! - `stacks`: a selector that is too long, a called end that asks for a connection;
+//! - `sessions`: plans, the greatest length of data, sizes, how data leaves in parts;
+//! - `stacks`: a selector that is too long, a called end that asks for a connection, the longest data in
+//!   parts, and that for want of memory no part of it is sent;
 //! - `listings`: TSDUs of 1,048,576 octets and more;
 //!
 //! and in each of them one call at least of each public function that takes memory.

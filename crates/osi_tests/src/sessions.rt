@@ -1,6 +1,7 @@
 //! Sessions: the greatest length of data, sizes, plans, and that calls succeed where memory is ample.
 
 use bitflags::Flags;
+use osi_message::Sent;
 use osi_session::*;
 use osi_spdu::{
     Requirements, Serial, Side, TokenSet, TokenSetting, TsduSize, TsduSizes, Wish, read_tsdu,
@@ -14,7 +15,7 @@ pub(crate) const ASKER_WISHES: TokenSetting = TokenSetting {
     release: Wish::Asker,
 };
 
-const ASKER_SIDES: Sides = Sides {
+pub(crate) const ASKER_SIDES: Sides = Sides {
     data_token: Side::Asker,
     minor: Side::Asker,
     major: Side::Asker,
@@ -45,6 +46,14 @@ fn same(octets: &[u8], want: &[u8]) -> Result<(), Fail> {
         return Err(Fail::from("other octets"));
     }
     Ok(())
+}
+
+/// The octets of what is sent, where it is one TSDU.
+fn one(sent: &Sent) -> Result<&[u8], Fail> {
+    match sent.tsdus() {
+        [tsdu] => Ok(tsdu.as_slice()),
+        _ => Err(Fail::from("more than one TSDU")),
+    }
 }
 
 fn is_in(session: &Session, phase: Phase) -> Result<(), Fail> {
@@ -79,7 +88,7 @@ fn answered(
     };
     let mut left = Session::caller(rt.alloc(), &opening)?;
     match left.opened() {
-        Some(sent) => same(sent.as_slice(), connect)?,
+        Some(sent) => same(one(&sent)?, connect)?,
         None => return Err(Fail::from("no CN")),
     }
     let taken = left.take_tsdu(accept)?;
@@ -109,7 +118,7 @@ fn accepts(
         sizes,
         user_data: &[],
     })?;
-    same(sent.as_slice(), accept)?;
+    same(one(&sent)?, accept)?;
     Ok(right)
 }
 
@@ -127,7 +136,7 @@ fn a_unit_that_cannot_be_read_is_answered(rt: HostRuntime) -> Result<(), Fail> {
     };
     let taken = left.take_bad(fault)?;
     match &taken.reply {
-        Some(sent) => same(sent.as_slice(), &[0x19, 0x03, 0x11, 0x01, 0x05])?,
+        Some(sent) => same(one(sent)?, &[0x19, 0x03, 0x11, 0x01, 0x05])?,
         None => return Err(Fail::from("no answer")),
     }
     is_in(&left, Phase::Aborting)
@@ -154,7 +163,7 @@ fn lengths_go_on(left: &mut Session, octets: &[u8]) -> Result<(), Fail> {
         return Err(Fail::from("too few octets"));
     };
     let sent = left.call(Request::Data { user_data })?;
-    if sent.as_slice().len() != 1_048_576 {
+    if one(&sent)?.len() != 1_048_576 {
         return Err(Fail::from("another length"));
     }
     Ok(())
@@ -195,16 +204,16 @@ fn plan_goes_on(left: &mut Session) -> Result<(), Fail> {
     let plan = left.plan(Request::Give {
         tokens: TokenSet::from_bits_retain(0x01),
     })?;
-    same(plan.octets(), &[0x01, 0x03, 0x10, 0x01, 0x01])?;
+    same(one(plan.sent())?, &[0x01, 0x03, 0x10, 0x01, 0x01])?;
     holds(left, 0x55)?;
     let sent = left.commit(plan).ok_or("the session is as it was planned")?;
-    same(sent.as_slice(), &[0x01, 0x03, 0x10, 0x01, 0x01])?;
+    same(one(&sent)?, &[0x01, 0x03, 0x10, 0x01, 0x01])?;
     holds(left, 0x54)
 }
 
 fn data_goes_on(left: &Session) -> Result<(), Fail> {
     let sent = left.call_data(b"abc")?;
-    same(sent.as_slice(), &[0x01, 0x00, 0x01, 0x00, 0x61, 0x62, 0x63])
+    same(one(&sent)?, &[0x01, 0x00, 0x01, 0x00, 0x61, 0x62, 0x63])
 }
 
 #[test]
@@ -249,7 +258,7 @@ fn sized(si: u8, from_asker: u8, from_answerer: u8, version: u8) -> [u8; 26] {
     ]
 }
 
-fn sizes(from_asker: u16, from_answerer: u16) -> Result<TsduSizes, Fail> {
+pub(crate) fn sizes(from_asker: u16, from_answerer: u16) -> Result<TsduSizes, Fail> {
     Ok(TsduSizes {
         from_asker: TsduSize::new(from_asker).ok_or("a size")?,
         from_answerer: TsduSize::new(from_answerer).ok_or("a size")?,
@@ -274,7 +283,7 @@ fn is_refused(rt: &HostRuntime, connect: &[u8], reason: u8) -> Result<(), Fail> 
     }
     match &taken.reply {
         Some(sent) => same(
-            sent.as_slice(),
+            one(sent)?,
             &[0x0C, 0x06, 0x11, 0x01, 0x01, 0x32, 0x01, reason],
         )?,
         None => return Err(Fail::from("no answer")),
@@ -303,7 +312,7 @@ fn a_size_of_1_is_not_selected(rt: HostRuntime) -> Result<(), Fail> {
 
 fn has_length(left: &mut Session, request: Request, want: usize) -> Result<(), Fail> {
     let sent = left.call(request)?;
-    if sent.as_slice().len() != want {
+    if one(&sent)?.len() != want {
         return Err(Fail::from("another length"));
     }
     Ok(())
@@ -326,7 +335,6 @@ fn sizes_go_on(left: &mut Session, octets: &[u8]) -> Result<(), Fail> {
         return Err(Fail::from("too few octets"));
     };
     has_length(left, Request::Minor { confirm, user_data }, 64)?;
-    has_length(left, Request::Data { user_data: octets }, 304)?;
     let Some((user_data, _)) = octets.split_at_checked(57) else {
         return Err(Fail::from("too few octets"));
     };
@@ -342,6 +350,45 @@ fn a_call_is_within_the_agreed_size(rt: HostRuntime) -> Result<(), Fail> {
     let mut right = accepts(&rt, &connect, TsduSizes::NONE, &sized(0x0E, 64, 0, 2))?;
     let user_data = octets.as_slice();
     has_length(&mut right, Request::Abort { user_data }, 311)
+}
+
+/// What is sent is so many parts of these octets of data: all but the last have 64 octets, and the last
+/// has this length.
+fn leaves_in(left: &Session, user_data: &[u8], parts: usize, last: usize) -> Result<(), Fail> {
+    let sent = left.call_data(user_data)?;
+    let [first, .., end] = sent.tsdus() else {
+        return Err(Fail::from("one TSDU"));
+    };
+    if sent.tsdus().len() != parts || first.len() != 64 || end.len() != last {
+        return Err(Fail::from("other lengths"));
+    }
+    let (Some(front), Some(back)) = (first.as_slice().get(..7), end.as_slice().get(..7)) else {
+        return Err(Fail::from("no part"));
+    };
+    same(front, &[0x01, 0x00, 0x01, 0x03, 0x19, 0x01, 0x01])?;
+    same(back, &[0x01, 0x00, 0x01, 0x03, 0x19, 0x01, 0x02])
+}
+
+/// At 64 octets: 60 octets leave in one TSDU, more in parts of 57.
+fn parts_go_on(left: &Session, octets: &[u8]) -> Result<(), Fail> {
+    let (few, more) = (octets.split_at_checked(60), octets.split_at_checked(61));
+    let (Some((few, _)), Some((more, _))) = (few, more) else {
+        return Err(Fail::from("too few octets"));
+    };
+    let sent = left.call_data(few)?;
+    if one(&sent)?.len() != 64 {
+        return Err(Fail::from("another length"));
+    }
+    leaves_in(left, more, 2, 11)?;
+    leaves_in(left, octets, 18_396, 64)
+}
+
+#[test]
+fn data_leaves_in_parts(rt: HostRuntime) -> Result<(), Fail> {
+    let octets = vec![in rt.alloc(); 0u8; 1_048_572]?;
+    let connect = sized(0x0D, 64, 0, 2);
+    let (left, _) = answered(&rt, sizes(64, 0)?, &connect, &sized(0x0E, 64, 0, 2))?;
+    parts_go_on(&left, octets.as_slice())
 }
 
 /// The octets of a part of one Data: which part it is, by its enclosure, and how many octets it has.

@@ -1,9 +1,10 @@
 //! Whole ends: what no script of `osi_runs` can ask for, and that calls succeed where memory is ample.
 
-use crate::sessions::{ALL_UNITS, ASKER_WISHES, DATA};
+use crate::sessions::{ALL_UNITS, ASKER_SIDES, ASKER_WISHES, DATA, sizes};
 use bitflags::Flags;
 use osi_carrier::{EndReason, OpenError, Ref};
 use osi_class::Local;
+use osi_session::{CallError, Indication, Request};
 use osi_spdu::{Requirements, Serial, TsduSizes};
 use osi_stack::{Connect, ConnectError, Stack};
 use osi_tpdu::{SizeCode, Tsap, Window};
@@ -105,4 +106,102 @@ fn an_end_connects_and_sends_data(rt: HostRuntime) -> Result<(), Fail> {
     }
     left.call(Ref(1), DATA)?;
     Ok(())
+}
+
+/// Carries what one end has to send, up to an indication, which is answered with its octets of data.
+fn carry(from: &mut Stack, to: &mut Stack) -> Result<Option<usize>, Fail> {
+    let fed = to.feed(from.outgoing());
+    from.taken(fed.used);
+    if to.ended() == Some(EndReason::NoMemory) {
+        return Err(Fail::from("out of memory"));
+    }
+    match to.next_indication() {
+        Some((_, Indication::Data { user_data })) => Ok(Some(user_data.as_slice().len())),
+        Some(_) => Ok(Some(0)),
+        None => Ok(None),
+    }
+}
+
+/// Two ends.
+#[derive(Drop)]
+struct Ends {
+    left: Stack,
+    right: Stack,
+}
+
+/// A connection of class 0 whose TSDUs have at most 64 octets in both directions.
+fn opened_at_64(rt: &HostRuntime) -> Result<Ends, Fail> {
+    let mut left = Stack::caller(rt.alloc(), class_0()?);
+    let mut right = Stack::called(rt.alloc(), class_0()?);
+    let connect = Connect {
+        sizes: sizes(64, 64)?,
+        ..asking()?
+    };
+    left.connect(&connect)?;
+    carry(&mut left, &mut right)?;
+    carry(&mut right, &mut left)?;
+    carry(&mut left, &mut right)?;
+    let accept = Request::Accept {
+        requirements: Requirements::from_bits_retain(ALL_UNITS),
+        serial: Serial::new(1).ok_or("a serial number")?,
+        sides: ASKER_SIDES,
+        sizes: TsduSizes::NONE,
+        user_data: &[],
+    };
+    right.call(Ref(1), accept)?;
+    carry(&mut right, &mut left)?;
+    Ok(Ends { left, right })
+}
+
+/// Data is sent in so many octets; or for want of memory no part of it.
+fn sends(left: &mut Stack, user_data: &[u8], octets: usize) -> Result<(), Fail> {
+    let called = left.call(Ref(1), Request::Data { user_data });
+    let sent = left.outgoing().len();
+    match called {
+        Ok(()) if sent == octets => Ok(()),
+        Err(CallError::OutOfMemory) if sent == 0 => Err(Fail::from("out of memory")),
+        _ => Err(Fail::from("others are sent")),
+    }
+}
+
+/// A piece within the parts of one Data is fed, and nothing is shown; for want of memory the end is over.
+fn joins(right: &mut Stack, piece: &[u8]) -> Result<(), Fail> {
+    let fed = right.feed(piece);
+    match (right.ended(), right.next_indication()) {
+        (None, None) if fed.used == piece.len() => Ok(()),
+        (Some(EndReason::NoMemory), Some(_)) => Err(Fail::from("out of memory")),
+        _ => Err(Fail::from("another end")),
+    }
+}
+
+fn goes(ends: &mut Ends, user_data: &[u8], octets: usize) -> Result<(), Fail> {
+    sends(&mut ends.left, user_data, octets)?;
+    match carry(&mut ends.left, &mut ends.right)? {
+        Some(shown) if shown == user_data.len() => Ok(()),
+        _ => Err(Fail::from("another indication")),
+    }
+}
+
+#[test]
+fn data_goes_whole_or_in_parts(rt: HostRuntime) -> Result<(), Fail> {
+    let mut ends = opened_at_64(&rt)?;
+    let octets = vec![in rt.alloc(); 0x41; 1_048_572]?;
+    goes(&mut ends, &[0x41; 60], 71)?;
+    goes(&mut ends, &[0x41; 61], 89)?;
+    goes(&mut ends, octets.as_slice(), 1_306_116)
+}
+
+#[test]
+fn parts_come_one_by_one(rt: HostRuntime) -> Result<(), Fail> {
+    let mut ends = opened_at_64(&rt)?;
+    sends(&mut ends.left, &[0x41; 150], 192)?;
+    let Some((earlier, _)) = ends.left.outgoing().split_at_checked(142) else {
+        return Err(Fail::from("too few octets"));
+    };
+    joins(&mut ends.right, earlier)?;
+    ends.left.taken(142);
+    match carry(&mut ends.left, &mut ends.right)? {
+        Some(150) => Ok(()),
+        _ => Err(Fail::from("another indication")),
+    }
 }
