@@ -1,6 +1,7 @@
-/* A break at each octet: seven scripts, the first also with sizes of TSDUs, whose carries become single octets. Before each of these, and
- * behind the last, the connection breaks with four pairs of octets that can still be carried; then
- * both sides are carried all that there is and told, in both orders, and told again. After each event
+/* A break at each octet: eight scripts, the first also with sizes of TSDUs and the last only so, in which
+ * data leaves in parts. Their carries become single octets. Before each of these, and behind the last,
+ * the connection breaks with four pairs of octets that can still be carried; then both sides are
+ * carried all that there is and told, in both orders, and told again. After each event
  * the promises on two ends are computed from the journal. In half of the runs the users go on: what
  * the script still asks for is done behind the break, before the sides are told.
  *
@@ -182,8 +183,9 @@ int main(int count, char **words)
     }
     for (size_t i = 0; i < 10; i++)
         break_in_class(names[i / 2], i % 2 == 0 ? OSI_CLASS_0 : OSI_CLASS_2, 0);
-    break_in_class(names[0], OSI_CLASS_0, 64);
-    break_in_class(names[0], OSI_CLASS_2, 64);
+    static const char *const sized[] = {"calls_refused", "parts"};
+    for (size_t i = 0; i < 4; i++)
+        break_in_class(sized[i / 2], i % 2 == 0 ? OSI_CLASS_0 : OSI_CLASS_2, 64);
     static const char *const more[] = {"alternately", "duplex"};
     for (size_t i = 0; i < 2; i++) {
         uint64_t before = runs;
