@@ -257,7 +257,8 @@ uint32_t osi_connect(osi_end *end, const osi_opening *asked, uint16_t *reference
  * where the CN names one (where it names 0, there is no limit).
  *
  * A call that would send a TSDU above the size that was agreed upon for it is OSI_TOO_LONG, with two
- * exceptions: what answers OSI_CONNECT has any length, and so has data, which goes as one TSDU still. */
+ * exceptions: what answers OSI_CONNECT has any length, and data that is longer leaves in parts, of which
+ * the peer's user is shown one indication. */
 uint32_t osi_accept(osi_end *end, uint16_t reference, uint16_t requirements, uint32_t number,
                     const osi_sides *sides, const uint8_t *data, size_t length);
 uint32_t osi_accept_sized(osi_end *end, uint16_t reference, uint16_t requirements, uint32_t number,
