@@ -27,7 +27,7 @@ static bool carry_some(osi_end *from, osi_end *to)
     osi_feed(to, octets.at, octets.length, &fed);
     osi_taken(from, fed.used);
     if (fed.waits && osi_next(to, &shown)
-        && (shown.tag == OSI_DATA_SHOWN || shown.tag == OSI_MINOR || shown.tag == OSI_MINOR_CONFIRMED)) {
+        && (shown.tag == OSI_DATA || shown.tag == OSI_MINOR || shown.tag == OSI_MINOR_CONFIRMED)) {
         messages += 1;
         octets_shown += shown.user_data.length;
     }

@@ -3,7 +3,7 @@
  *
  *     struct osi_terms 3 1           its size and its alignment
  *     field osi_terms.size 1 1       where it begins, and its size
- *     value OSI_CLOSED 1
+ *     value OSI_SLOT_EMPTY 1
  */
 #include "osi.h"
 
@@ -90,7 +90,7 @@ static void indication(void)
 static void codes(void)
 {
     VALUE(OSI_OK);
-    VALUE(OSI_CLOSED);
+    VALUE(OSI_SLOT_EMPTY);
     VALUE(OSI_BAD_ARGUMENT);
     VALUE(OSI_NO_MEMORY);
     VALUE(OSI_IN_USE);
@@ -138,7 +138,7 @@ static void indications(void)
     VALUE(OSI_CONNECTED);
     VALUE(OSI_REFUSED_BY_TRANSPORT);
     VALUE(OSI_REFUSED_BY_SESSION);
-    VALUE(OSI_DATA_SHOWN);
+    VALUE(OSI_DATA);
     VALUE(OSI_GIVEN);
     VALUE(OSI_ASKED);
     VALUE(OSI_MINOR);

@@ -20,7 +20,7 @@ static void show(osi_end *end, const osi_indication *shown)
     case OSI_CONNECTED:
         printf("connected: %.*s\n", length, text);
         break;
-    case OSI_DATA_SHOWN:
+    case OSI_DATA:
         printf("data: %.*s\n", length, text);
         break;
     default:

@@ -3,9 +3,8 @@
  * X.224 in TPKT packets (RFC 1006), as a value that is fed octets and gives octets.
  *
  * Nothing here opens a socket, starts a thread, reads a clock or keeps a state of its own: all that
- * there is of an end is in its osi_end. What each function answers and does is proved (see
- * docs/EMBEDDING.md, which also has a longer guide): the functions below are what crates/osi_c
- * states of them.
+ * there is of an end is in its osi_end. What each function answers and does is proved: it is what
+ * crates/osi_c states of it. docs/EMBEDDING.md is a guide, from an empty folder to a gateway.
  *
  * An end in ten lines, the socket left out:
  *
@@ -24,17 +23,18 @@
  *                 osi_data(&end, shown.reference, (const uint8_t *)"hello", 5);
  *     }                                         // until osi_ended, and then osi_free(&end)
  *
- * A program is compiled with the header of the library that it is linked with. osi_opening and
- * osi_indication have grown since sizes of TSDUs can be asked for, so programs that were compiled
- * before are to be compiled anew; their text need not change.
+ * Of the structs below osi_opening and osi_indication may grow, at their ends. The functions that take
+ * them are told how large they are, so that a program goes on with a library of a later header, as long
+ * as the number in its soname is the same. No other struct changes.
  *
  * What the caller owes, and nothing checks:
- *   - An osi_end begins as OSI_END. It is never copied, and nobody but these functions reads or
- *     writes what is in it. One that is not freed leaks.
+ *   - An osi_end begins as OSI_END, and nobody but these functions reads or writes what is in it. It
+ *     may be moved by value, between two calls: what was left behind is no end any more, and is used
+ *     again only as OSI_END. One that is not freed leaks.
  *   - An end is used by one thread at a time. Different ends share nothing.
- *   - No pointer is null, not even that of octets of which there are none: OSI_NO_OCTETS is a
- *     pointer to none. What a pointer points to is there, is of its type, and is not the osi_end
- *     nor octets that this end has lent.
+ *   - What a pointer points to is there, is of its type, and is not the osi_end nor octets that this
+ *     end has lent. It is null only where it has no octets, with the length 0, and in osi_free(NULL),
+ *     which does nothing.
  *   - Octets that an end has lent (osi_outgoing, and user_data of an indication) are there until
  *     the next call with this end, and are not written to.
  *   - malloc, realloc and free are those of one allocator; no function is called from a signal
@@ -76,7 +76,7 @@ typedef struct osi_end {
  * Each function says which of these it answers. All but OSI_OK change nothing, unless it is said.
  */
 #define OSI_OK 0u                   /* done */
-#define OSI_CLOSED 1u               /* the slot holds no end */
+#define OSI_SLOT_EMPTY 1u           /* the slot holds no end */
 #define OSI_BAD_ARGUMENT 2u         /* a number or a length is outside its range */
 #define OSI_NO_MEMORY 3u            /* malloc or realloc gave none; call again when there is some */
 #define OSI_IN_USE 4u               /* the slot holds an end already: free it first */
@@ -99,7 +99,7 @@ typedef struct osi_end {
 
 /* ---- what is passed ------------------------------------------------------------------------ */
 
-/* Octets, and how many. The pointer is never null. */
+/* Octets, and how many. Where they are lent the pointer is never null. */
 typedef struct osi_octets {
     const uint8_t *at;
     size_t length;
@@ -107,11 +107,11 @@ typedef struct osi_octets {
 
 /* No octets, as an osi_octets, and as the two arguments of a call. */
 #ifdef __cplusplus
-#define OSI_NO_OCTETS { reinterpret_cast<const uint8_t *>(""), 0 }
-#define OSI_NO_DATA reinterpret_cast<const uint8_t *>(""), static_cast<size_t>(0)
+#define OSI_NO_OCTETS { nullptr, 0 }
+#define OSI_NO_DATA nullptr, 0
 #else
-#define OSI_NO_OCTETS { (const uint8_t *)"", 0 }
-#define OSI_NO_DATA ((const uint8_t *)""), ((size_t)0)
+#define OSI_NO_OCTETS { NULL, 0 }
+#define OSI_NO_DATA NULL, 0
 #endif
 
 /* The transport protocol of an end. */
@@ -152,7 +152,7 @@ typedef struct osi_sides {
 #define OSI_ANSWERER 1u /* the side that answers */
 #define OSI_CHOICE 2u   /* in a wish alone: whom the answer names */
 
-/* A connection that is asked for. Each pointer is to be set: begin with OSI_OPENING. */
+/* A connection that is asked for. Begin with OSI_OPENING. */
 typedef struct osi_opening {
     uint16_t requirements;       /* functional units */
     uint32_t serial;             /* the number of the first point, 0 to 999,999 */
@@ -178,7 +178,7 @@ typedef struct osi_opening {
 #define OSI_CONNECTED 2u             /* AC: requirements, number (if has_number), sides, user_data, sizes */
 #define OSI_REFUSED_BY_TRANSPORT 3u  /* DR: reason (X.224 section 13.5.3) */
 #define OSI_REFUSED_BY_SESSION 4u    /* RF: reason (0, 1 and 2 are of the called user), user_data */
-#define OSI_DATA_SHOWN 5u            /* DT: user_data, an octet at least */
+#define OSI_DATA 5u                  /* DT: user_data, an octet at least */
 #define OSI_GIVEN 6u                 /* GT: tokens */
 #define OSI_ASKED 7u                 /* PT: tokens, user_data */
 #define OSI_MINOR 8u                 /* MIP: number, confirm, user_data */
@@ -231,21 +231,27 @@ typedef struct osi_indication {
 uint32_t osi_caller(osi_end *end, const osi_terms *terms);
 uint32_t osi_called(osi_end *end, const osi_terms *terms);
 
-/* Frees the end, if the slot holds one, with all that it has lent. The slot can be used again. */
+/* Frees the end, if there is a slot and it holds one, with all that it has lent. The slot can be used
+ * again. */
 void osi_free(osi_end *end);
 
 /* ---- connections ------------------------------------------------------------------------------ */
 
 /* Asks for a connection: gives its reference, 1 to 65,535 and none twice, which is as it was on a
  * refusal. The answer is an indication: OSI_CONNECTED, OSI_REFUSED_BY_*, or why it is over.
- * OSI_OK, OSI_BAD_ARGUMENT (serial, wishes, sizes, a transport address of over 32 octets), OSI_CLOSED,
- * OSI_NOT_CALLER, OSI_ENDED, OSI_NEGOTIATING, OSI_ONE_CONNECTION, OSI_TOO_MANY,
- * OSI_REFERENCES_USED_UP, OSI_NOT_SELECTED, OSI_TOO_LONG, OSI_NO_MEMORY: the first that applies. */
-uint32_t osi_connect(osi_end *end, const osi_opening *asked, uint16_t *reference);
+ * OSI_OK, OSI_BAD_ARGUMENT (serial, wishes, sizes, a transport address of over 32 octets, a field that a
+ * library of an older header does not know), OSI_SLOT_EMPTY, OSI_NOT_CALLER, OSI_ENDED,
+ * OSI_NEGOTIATING, OSI_ONE_CONNECTION, OSI_TOO_MANY, OSI_REFERENCES_USED_UP, OSI_NOT_SELECTED,
+ * OSI_TOO_LONG, OSI_NO_MEMORY: the first that applies. */
+uint32_t osi_connect_with_size(osi_end *end, const osi_opening *asked, size_t size, uint16_t *reference);
+static inline uint32_t osi_connect(osi_end *end, const osi_opening *asked, uint16_t *reference)
+{
+    return osi_connect_with_size(end, asked, sizeof *asked, reference);
+}
 
 /* ---- calls of the user of a connection (X.215 section 10) ---------------------------------------
  * User data is at most 10,240 octets, unless it is said, and is copied. Each call answers the first
- * that applies of OSI_BAD_ARGUMENT (where a call has numbers with a range), OSI_CLOSED,
+ * that applies of OSI_BAD_ARGUMENT (where a call has numbers with a range), OSI_SLOT_EMPTY,
  * OSI_NO_SUCH_CONNECTION, OSI_ENDED, OSI_BAD_STATE, OSI_NOT_SELECTED, OSI_TOKEN_NOT_HELD,
  * OSI_TOKEN_ALREADY_HELD, OSI_BAD_NUMBER, OSI_SERIALS_USED_UP, OSI_EMPTY, OSI_TOO_LONG and
  * OSI_NO_MEMORY, or OSI_OK. What it sends stands in osi_outgoing then. */
@@ -308,19 +314,19 @@ typedef struct osi_fed {
  * behind a packet that gives an indication, and uses nothing while one waits: fetch them all, and
  * then feed the rest of the piece. Once the end has ended it uses all. Where it finds no memory the
  * end ends (OSI_END_NO_MEMORY). Of a slot without an end it uses nothing, and nothing waits. OSI_OK,
- * OSI_CLOSED. */
+ * OSI_SLOT_EMPTY. */
 uint32_t osi_feed(osi_end *end, const uint8_t *piece, size_t length, osi_fed *fed);
 
 /* Lends the octets that are to be carried to the peer, the first of them first; none of a slot that
  * holds no end. They are there until the next call with this end, which stays as it is. */
 void osi_outgoing(osi_end *end, osi_octets *octets);
 
-/* So many of them, the first, have been carried. OSI_OK, OSI_CLOSED, OSI_BAD_ARGUMENT (more than
+/* So many of them, the first, have been carried. OSI_OK, OSI_SLOT_EMPTY, OSI_BAD_ARGUMENT (more than
  * there are). */
 uint32_t osi_taken(osi_end *end, size_t octets);
 
 /* The byte connection is over: it broke, or the peer closed it. Each user that has not been told the
- * end of his connection is then shown OSI_LOST. Nothing where the end has ended. OSI_OK, OSI_CLOSED. */
+ * end of his connection is then shown OSI_LOST. Nothing where the end has ended. OSI_OK, OSI_SLOT_EMPTY. */
 uint32_t osi_broken(osi_end *end);
 
 /* Why the end has ended, and in detail what belongs to it, which is 0 where nothing is said of it
@@ -368,11 +374,15 @@ size_t osi_live(osi_end *end);
 /* ---- indications ----------------------------------------------------------------------------------- */
 
 /* Fetches the oldest indication of the connection with the lowest reference that has one. It takes no
- * memory. OSI_OK, OSI_NOTHING (none waits, and the last one is forgotten), OSI_CLOSED. */
+ * memory. OSI_OK, OSI_NOTHING (none waits, and the last one is forgotten), OSI_SLOT_EMPTY. */
 uint32_t osi_fetch(osi_end *end);
 
 /* Shows the indication that was fetched last; OSI_NONE where there is none. The end stays as it is. */
-void osi_last(osi_end *end, osi_indication *shown);
+void osi_last_with_size(osi_end *end, osi_indication *shown, size_t size);
+static inline void osi_last(osi_end *end, osi_indication *shown)
+{
+    osi_last_with_size(end, shown, sizeof *shown);
+}
 
 /* Both: whether there was one. */
 static inline bool osi_next(osi_end *end, osi_indication *shown)
@@ -410,6 +420,18 @@ uint8_t osi_held(osi_end *end, uint16_t reference);
 uint32_t osi_next_serial(osi_end *end, uint16_t reference);
 uint32_t osi_confirmed_below(osi_end *end, uint16_t reference);
 uint32_t osi_lowest_restart(osi_end *end, uint16_t reference);
+
+/* ---- names ------------------------------------------------------------------------------------------- */
+
+/* The version of the library, as OSI_VERSION is that of this header. */
+const char *osi_version(void);
+
+/* The name that this header gives to a number, as "OSI_BAD_STATE"; "unknown" where it has none. It is
+ * text that stays, and no end is asked. */
+const char *osi_code_name(uint32_t code);
+const char *osi_indication_name(uint32_t tag);
+const char *osi_phase_name(uint32_t phase);
+const char *osi_end_name(uint32_t why);
 
 #ifdef __cplusplus
 }

@@ -129,7 +129,7 @@ private:
 /* The answer of a call. All but ok change nothing, unless osi.h says so. */
 enum class [[nodiscard]] code : std::uint32_t {
     ok = OSI_OK,                                       /* done */
-    closed = OSI_CLOSED,                               /* the osi::end holds no end */
+    slot_empty = OSI_SLOT_EMPTY,                       /* the osi::end holds no end */
     bad_argument = OSI_BAD_ARGUMENT,                   /* a number or a length is outside its range */
     no_memory = OSI_NO_MEMORY,                         /* there is none; call again when there is some */
     in_use = OSI_IN_USE,                               /* a slot of osi.h holds an end already */
@@ -156,7 +156,7 @@ constexpr std::string_view text(code answer) noexcept
 {
     switch (answer) {
     case code::ok: return "done";
-    case code::closed: return "there is no end here";
+    case code::slot_empty: return "there is no end here";
     case code::bad_argument: return "a number or a length is outside its range";
     case code::no_memory: return "there is no memory";
     case code::in_use: return "there is an end here already";
@@ -263,11 +263,13 @@ constexpr bool has(T set, detail::if_set<T> part) noexcept
     return (set & part) == part;
 }
 
-/* The transport protocol of an end (X.224 section 6.5). */
+/* The transport protocol of an end (X.224 section 6.5). A caller offers both classes where its peer is
+ * known to have class 2: one that knows class 0 alone may leave a request that prefers class 2 without an
+ * answer. A called end with both takes what the caller prefers. */
 struct terms {
-    osi::classes classes = osi::classes::both; /* a caller with none takes class 0 */
-    std::uint8_t size = 13;                    /* the exponent of the largest TPDU: 7 (128 octets) to 13 (8,192) */
-    std::uint8_t window = 15;                  /* units of class 2 that the peer may send ahead: 1 to 15 */
+    osi::classes classes = osi::classes::class_0; /* a caller with none takes class 0 */
+    std::uint8_t size = 13;                       /* the exponent of the largest TPDU: 7 (128 octets) to 13 (8,192) */
+    std::uint8_t window = 15;                     /* units of class 2 that the peer may send ahead: 1 to 15 */
 };
 
 /* A side of a connection or a restart. */
@@ -319,7 +321,7 @@ enum class tag : std::uint32_t {
     connected = OSI_CONNECTED,                       /* requirements, perhaps number, sides, user_data, sizes */
     refused_by_transport = OSI_REFUSED_BY_TRANSPORT, /* reason (X.224 section 13.5.3) */
     refused_by_session = OSI_REFUSED_BY_SESSION,     /* reason (0, 1 and 2 are of the called user), user_data */
-    data = OSI_DATA_SHOWN,                           /* user_data, an octet at least */
+    data = OSI_DATA,                                 /* user_data, an octet at least */
     given = OSI_GIVEN,                               /* tokens */
     asked = OSI_ASKED,                               /* tokens, user_data */
     minor = OSI_MINOR,                               /* number, confirm, user_data */
@@ -527,6 +529,13 @@ constexpr std::string_view text(phase stands) noexcept
     return "a phase without a name";
 }
 
+/* The name of a number in osi.h, as "OSI_BAD_STATE", and the version of the library. */
+inline std::string_view name(code answer) noexcept { return osi_code_name(detail::bits(answer)); }
+inline std::string_view name(tag shown) noexcept { return osi_indication_name(detail::bits(shown)); }
+inline std::string_view name(phase stands) noexcept { return osi_phase_name(detail::bits(stands)); }
+inline std::string_view name(ending why) noexcept { return osi_end_name(detail::bits(why)); }
+inline std::string_view version() noexcept { return osi_version(); }
+
 /* What end::feed did. */
 struct fed {
     std::size_t used = 0; /* so many octets of the piece were used, at most all */
@@ -582,7 +591,7 @@ inline indication indication_of(const osi_indication &said) noexcept
 /* ---- an end ----------------------------------------------------------------------------------------- */
 
 /* One end of a byte connection, or none. It frees what it holds, can be moved, and is not copied. One
- * that was moved from, or never made, holds none: its calls answer code::closed, and it has nothing to
+ * that was moved from, or never made, holds none: its calls answer code::slot_empty, and it has nothing to
  * send and nothing to show.
  *
  * No function of it is const, also where it only looks: each is a call with the end, and ends what the
@@ -698,7 +707,7 @@ public:
     }
 
     /* Feeds all of a piece, and hands each indication to a function, which may call this end: also those
-     * that waited before. It is ok, or closed. */
+     * that waited before. It is ok, or slot_empty. */
     template <class Shown>
     code feed_all(octets piece, Shown &&shown) noexcept(noexcept(shown(std::declval<const indication &>())))
     {
@@ -706,7 +715,7 @@ public:
             while (const std::optional<indication> one = next())
                 shown(*one);
             if (piece.empty())
-                return slot_ ? code::ok : code::closed;
+                return slot_ ? code::ok : code::slot_empty;
             const result<fed> did = feed(piece);
             if (!did)
                 return did.code;
@@ -723,10 +732,10 @@ public:
         return lent;
     }
 
-    /* So many of them, the first, have been carried: ok, closed, bad_argument (more than there are). */
+    /* So many of them, the first, have been carried: ok, slot_empty, bad_argument (more than there are). */
     code taken(std::size_t count) noexcept { return call(osi_taken, count); }
 
-    /* The byte connection broke, or the peer closed it: ok, closed. Who has not been told the end of his
+    /* The byte connection broke, or the peer closed it: ok, slot_empty. Who has not been told the end of his
      * connection is then shown tag::lost. */
     code broken() noexcept { return call(osi_broken); }
 
@@ -812,7 +821,7 @@ private:
     template <class Function, class... Arguments>
     code call(Function function, Arguments... arguments) noexcept
     {
-        return slot_ ? static_cast<code>(function(slot_.get(), arguments...)) : code::closed;
+        return slot_ ? static_cast<code>(function(slot_.get(), arguments...)) : code::slot_empty;
     }
 
     code say(says function, osi::reference of, octets data) noexcept

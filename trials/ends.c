@@ -278,7 +278,7 @@ void text_shown(struct text *text, const osi_indication *i)
     };
     text_put(text, "%s", names[i->tag]);
     text_fields(text, i);
-    if (i->tag == OSI_DATA_SHOWN)
+    if (i->tag == OSI_DATA)
         text_data(text, "", i->user_data);
     else if (i->tag != OSI_REFUSED_BY_TRANSPORT && i->tag != OSI_GIVEN && i->tag < OSI_LOST)
         text_data(text, " data", i->user_data);

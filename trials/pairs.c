@@ -43,7 +43,7 @@ static void record_shown_by(struct pair *pair, int side, const osi_indication *i
         record->duplex = (i->requirements & OSI_DUPLEX) != 0;
         record->base = i->has_number ? i->number : pair->serials[i->reference - 1];
         break;
-    case OSI_DATA_SHOWN:
+    case OSI_DATA:
         record_shown(record, A_DATA, 0, octets, length);
         break;
     case OSI_MINOR:

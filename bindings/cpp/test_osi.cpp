@@ -177,18 +177,18 @@ static pair opened(osi::classes classes, const osi::opening &wanted = opening())
 
 /* ---- ends */
 
-static void an_empty_end_is_closed()
+static void an_empty_end_does_nothing()
 {
     osi::end none;
     bool was_shown = false;
     const auto shown = [&](const osi::indication &) { was_shown = true; };
     CHECK(!none && none.get() == nullptr);
-    CHECK(none.connect({}).code == code::closed && none.data(1, "x") == code::closed);
-    CHECK(none.accept(1, all_units) == code::closed && none.give(1, all_tokens) == code::closed);
-    CHECK(none.feed("x").code == code::closed && none.feed_all("x", shown) == code::closed);
-    CHECK(none.feed_all({}, shown) == code::closed && !was_shown);
+    CHECK(none.connect({}).code == code::slot_empty && none.data(1, "x") == code::slot_empty);
+    CHECK(none.accept(1, all_units) == code::slot_empty && none.give(1, all_tokens) == code::slot_empty);
+    CHECK(none.feed("x").code == code::slot_empty && none.feed_all("x", shown) == code::slot_empty);
+    CHECK(none.feed_all({}, shown) == code::slot_empty && !was_shown);
     CHECK(none.outgoing().empty() && none.outgoing().data() != nullptr);
-    CHECK(none.taken(0) == code::closed && none.broken() == code::closed);
+    CHECK(none.taken(0) == code::slot_empty && none.broken() == code::slot_empty);
     CHECK(!none.ended() && !none.next() && none.last().tag == tag::none && none.kept() == 0);
     CHECK(none.phase(1) == osi::phase::none && none.held(1) == osi::tokens::none && none.next_serial(1) == 0);
     CHECK(none.unsent(1) == 0 && none.backlog() == 0 && none.live() == 0);
@@ -201,7 +201,7 @@ static void moved_ends_are_the_ends_that_they_were()
     osi_end *const slot = both.caller.get();
     osi::end moved = std::move(both.caller);
     CHECK(moved.get() == slot && !both.caller);
-    CHECK(both.caller.data(both.of, "x") == code::closed);
+    CHECK(both.caller.data(both.of, "x") == code::slot_empty);
     CHECK(moved.phase(both.of) == osi::phase::ready && moved.data(both.of, "x") == code::ok);
     both.caller = std::move(moved);
     CHECK(!moved && both.caller.get() == slot);
@@ -215,7 +215,7 @@ static void moved_ends_are_the_ends_that_they_were()
     many.erase(many.begin());
     CHECK(many.size() == 8 && many.front() && many.back());
     many.front().reset();
-    CHECK(!many.front() && many.front().broken() == code::closed);
+    CHECK(!many.front() && many.front().broken() == code::slot_empty);
 }
 
 static void ends_are_freed_at_any_time()
@@ -294,7 +294,7 @@ static void refusals_are_shown()
     by_user.carry();
     CHECK(by_user.shown(by_user.by_caller, tag::refused_by_session).reason == 2 && by_user.said.back() == "not now");
     pair by_transport;
-    by_transport.caller = *osi::end::caller();
+    by_transport.caller = *osi::end::caller(of_class(osi::classes::both));
     by_transport.called = *osi::end::called(of_class(osi::classes::none));
     CHECK(by_transport.caller.connect(opening()).code == code::ok);
     by_transport.carry();
@@ -475,6 +475,13 @@ static void connections_are_told_apart()
 
 /* ---- codes */
 
+static void numbers_have_names()
+{
+    CHECK(osi::version() == OSI_VERSION && osi::name(code::bad_state) == "OSI_BAD_STATE");
+    CHECK(osi::name(tag::data) == "OSI_DATA" && osi::name(osi::phase::ready) == "OSI_PHASE_READY");
+    CHECK(osi::name(osi::ending::closed) == "OSI_END_CLOSED" && osi::name(static_cast<code>(6)) == "unknown");
+}
+
 static void terms_are_judged()
 {
     osi::terms small, wide, none;
@@ -553,7 +560,7 @@ int main()
 {
     octets_are_views();
     no_octets_are_no_null();
-    an_empty_end_is_closed();
+    an_empty_end_does_nothing();
     moved_ends_are_the_ends_that_they_were();
     ends_are_freed_at_any_time();
     opening_is_shown();
@@ -573,6 +580,7 @@ int main()
     connects_are_judged();
     calls_are_judged();
     codes_have_texts();
+    numbers_have_names();
     std::printf("%d passed, %d failed\n", passed, failed);
     return failed == 0 ? 0 : 1;
 }

@@ -78,7 +78,7 @@ NO_OCTETS = Octets(ctypes.addressof(EMPTY), 0)
 FUNCTIONS = {
     "osi_caller": ([POINTER(Terms)], c_uint32),
     "osi_free": ([], None),
-    "osi_connect": ([POINTER(Opening), POINTER(c_uint16)], c_uint32),
+    "osi_connect_with_size": ([POINTER(Opening), c_size_t, POINTER(c_uint16)], c_uint32),
     "osi_data": ([c_uint16, c_void_p, c_size_t], c_uint32),
     "osi_minor": ([c_uint16, c_uint8, c_void_p, c_size_t], c_uint32),
     "osi_give": ([c_uint16, c_uint8], c_uint32),
@@ -89,7 +89,7 @@ FUNCTIONS = {
     "osi_broken": ([], c_uint32),
     "osi_ended": ([POINTER(c_uint64)], c_uint32),
     "osi_fetch": ([], c_uint32),
-    "osi_last": ([POINTER(Indication)], None),
+    "osi_last_with_size": ([POINTER(Indication), c_size_t], None),
 }
 
 
@@ -161,7 +161,7 @@ class Client:
         self.user_data = ctypes.create_string_buffer(b"gateway", 7)
         asked = Opening(UNITS, 0, Sides(), NO_OCTETS, NO_OCTETS, NO_OCTETS, NO_OCTETS,
                         Octets(ctypes.addressof(self.user_data), 7))
-        code = self.osi.osi_connect(byref(self.end), byref(asked), byref(self.reference))
+        code = self.osi.osi_connect_with_size(byref(self.end), byref(asked), ctypes.sizeof(asked), byref(self.reference))
         answer = f"ok {self.reference.value}" if code == OK else f"refused {REFUSALS.get(code, code)}"
         print(f"left connect {answer}", file=self.log)
         return code == OK
@@ -190,7 +190,7 @@ class Client:
     def show_all(self):
         indication = Indication()
         while self.osi.osi_fetch(byref(self.end)) == OK:
-            self.osi.osi_last(byref(self.end), byref(indication))
+            self.osi.osi_last_with_size(byref(self.end), byref(indication), ctypes.sizeof(indication))
             self.shown(indication)
 
     def feed(self, piece):

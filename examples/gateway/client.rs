@@ -92,7 +92,7 @@ mod osi {
     extern "C" {
         pub fn osi_caller(end: *mut End, terms: *const Terms) -> u32;
         pub fn osi_free(end: *mut End);
-        pub fn osi_connect(end: *mut End, asked: *const Opening, reference: *mut u16) -> u32;
+        pub fn osi_connect_with_size(end: *mut End, asked: *const Opening, size: usize, reference: *mut u16) -> u32;
         pub fn osi_data(end: *mut End, reference: u16, data: *const u8, length: usize) -> u32;
         pub fn osi_minor(end: *mut End, reference: u16, confirm: u8, data: *const u8, length: usize) -> u32;
         pub fn osi_give(end: *mut End, reference: u16, tokens: u8) -> u32;
@@ -103,7 +103,7 @@ mod osi {
         pub fn osi_broken(end: *mut End) -> u32;
         pub fn osi_ended(end: *mut End, detail: *mut u64) -> u32;
         pub fn osi_fetch(end: *mut End) -> u32;
-        pub fn osi_last(end: *mut End, shown: *mut Indication);
+        pub fn osi_last_with_size(end: *mut End, shown: *mut Indication, size: usize);
     }
 }
 
@@ -141,7 +141,7 @@ impl Caller {
             size_from_answerer: 0,
         };
         let mut reference = 0;
-        match unsafe { osi::osi_connect(&mut *self.end, &asked, &mut reference) } {
+        match unsafe { osi::osi_connect_with_size(&mut *self.end, &asked, std::mem::size_of_val(&asked), &mut reference) } {
             osi::OK => Ok(reference),
             code => Err(code),
         }
@@ -197,7 +197,7 @@ impl Caller {
         }
         let mut said = std::mem::MaybeUninit::uninit();
         let said = unsafe {
-            osi::osi_last(&mut *self.end, said.as_mut_ptr());
+            osi::osi_last_with_size(&mut *self.end, said.as_mut_ptr(), std::mem::size_of::<osi::Indication>());
             said.assume_init()
         };
         let user_data = unsafe { std::slice::from_raw_parts(said.user_data.at, said.user_data.length) }.to_vec();

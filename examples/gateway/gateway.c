@@ -29,7 +29,7 @@ const char *code_name(uint32_t code)
     };
     if (code >= OSI_NO_SUCH_CONNECTION && code <= OSI_REFERENCES_USED_UP)
         return refusals[code - OSI_NO_SUCH_CONNECTION];
-    return code == OSI_NO_MEMORY ? "OutOfMemory" : code == OSI_CLOSED ? "Closed" : "BadArgument";
+    return code == OSI_NO_MEMORY ? "OutOfMemory" : code == OSI_SLOT_EMPTY ? "Closed" : "BadArgument";
 }
 
 static void write_octets(FILE *file, const uint8_t *at, size_t length)
@@ -95,7 +95,7 @@ static void write_shown(FILE *log, const osi_indication *i)
     };
     fputs(names[i->tag], log);
     write_fields(log, i);
-    if (i->tag == OSI_DATA_SHOWN)
+    if (i->tag == OSI_DATA)
         write_data(log, "", i->user_data);
     else if (i->tag < OSI_LOST && !is_one_of(i, OSI_REFUSED_BY_TRANSPORT, OSI_GIVEN))
         write_data(log, " data", i->user_data);

@@ -42,7 +42,7 @@ static void shown(struct gateway *g, const osi_indication *i)
     case OSI_CONNECT:
         gateway_did(g, r, "accept", osi_accept(&g->end, r, i->requirements & UNITS, 0, &asker, OSI_NO_DATA));
         break;
-    case OSI_DATA_SHOWN:
+    case OSI_DATA:
         seen->messages++;
         seen->octets += i->user_data.length;
         break;

@@ -48,7 +48,7 @@ class Server:
 class Lines(unittest.IsolatedAsyncioTestCase):
     async def asyncSetUp(self):
         self.server = Server()
-        self.listener = await aio.serve(self.server, "127.0.0.1", 0)
+        self.listener = await aio.serve(self.server, "127.0.0.1", 0, Terms(Classes.BOTH))
         self.port = self.listener.sockets[0].getsockname()[1]
 
     async def asyncTearDown(self):

@@ -42,11 +42,29 @@ def structs():
 
 
 def functions():
-    return set(re.findall(r"^(?:uint32_t|uint8_t|size_t|void) (osi_\w+)\(", header(), re.MULTILINE))
+    """The functions that the library has; those of the header itself are static."""
+    return set(re.findall(r"^(?:uint32_t|uint8_t|size_t|void|const char) \*?(osi_\w+)\(", header(), re.MULTILINE))
 
 
 def numbers():
     return set(re.findall(r"^#define (OSI_\w+) (?:\d|0x)", header(), re.MULTILINE))
+
+
+def sections():
+    """The numbers of the header by the function that names them, each with its name."""
+    found = {function: {} for function in _library.TEXTS if function != "osi_version"}
+    function = None
+    for line in header().splitlines():
+        number = re.match(r"#define (OSI_\w+) (\d+)u\b", line)
+        if not number:
+            continue
+        name, value = number.group(1), int(number.group(2))
+        begins = {"OSI_OK": "osi_code_name", "OSI_CLASS_0": None, "OSI_NONE": "osi_indication_name",
+                  "OSI_END_NONE": "osi_end_name", "OSI_PHASE_NONE": "osi_phase_name"}
+        function = begins.get(name, function)
+        if function:
+            found[function][value] = name
+    return found
 
 
 def capitals(name):
@@ -104,7 +122,6 @@ class Layout(unittest.TestCase):
             said = _library.IndicationOfC(tag=tag)
             said.fault.fault = 2
             name = "OSI_" + capitals(type(made(said, b"")).__name__)
-            name = "OSI_DATA_SHOWN" if name == "OSI_DATA" else name
             self.assertEqual(self.lines["value"][name], (tag,))
             names[name] = tag
         return names
@@ -119,17 +136,29 @@ class Names(unittest.TestCase):
             return set(re.findall(r"\w+", file.read()))
 
     def test_here(self):
-        self.assertEqual(functions(), set(_library.FUNCTIONS))
+        self.assertEqual(functions(), set(_library.FUNCTIONS) | set(_library.TEXTS))
 
     def test_in_the_library(self):
-        for name in _library.FUNCTIONS:
+        for name in (*_library.FUNCTIONS, *_library.TEXTS):
             self.assertTrue(hasattr(_library.library(), name), name)
 
+    def test_each_number_has_its_name(self):
+        for function, names in sections().items():
+            self.assertGreater(len(names), 10, function)
+            for number in (*range(300), 1 << 31, (1 << 32) - 1):
+                told = getattr(_library.library(), function)(number).decode()
+                self.assertEqual(told, names.get(number, "unknown"), f"{function}({number})")
+
+    def test_the_version(self):
+        self.assertEqual(osi_session.library_version(), osi_session.__version__)
+
     def test_in_osi_hpp(self):
-        self.assertEqual((functions() | numbers()) - self.words("include", "osi.hpp"), set())
+        wanted = {name.replace("_with_size", "") for name in functions()} | numbers()
+        self.assertEqual(wanted - self.words("include", "osi.hpp"), set())
 
     def test_in_the_crate(self):
-        self.assertEqual((functions() | set(structs())) - self.words("bindings", "rust", "src", "ffi.rs"), set())
+        wanted = (functions() | set(structs())) - {name for name in functions() if name.endswith("_name")}
+        self.assertEqual(wanted - self.words("bindings", "rust", "src", "ffi.rs"), set())
 
 
 if __name__ == "__main__":

@@ -5,7 +5,7 @@ use crate::ffi;
 use crate::indications::Indication;
 use crate::terms::{Opening, Phase, Reference, Sides, Sizes, Terms, Tokens, Units};
 use std::fmt;
-use std::mem::MaybeUninit;
+use std::mem::{size_of, size_of_val, MaybeUninit};
 use std::slice;
 
 /// What [`End::feed`] did.
@@ -114,7 +114,8 @@ impl End {
             size_from_answerer: asked.sizes.from_answerer,
         };
         let mut reference = 0;
-        answer(unsafe { ffi::osi_connect(self.at(), &passed, &mut reference) })?;
+        let size = size_of_val(&passed);
+        answer(unsafe { ffi::osi_connect_with_size(self.at(), &passed, size, &mut reference) })?;
         Ok(Reference(reference))
     }
 
@@ -424,7 +425,7 @@ impl End {
         // SAFETY, beside that of each call: an indication is filled in whole; its user data is lent
         // until the next call with this end, and the slice holds the borrow that a call needs.
         let (shown, user_data) = unsafe {
-            ffi::osi_last(self.at(), shown.as_mut_ptr());
+            ffi::osi_last_with_size(self.at(), shown.as_mut_ptr(), size_of::<ffi::osi_indication>());
             let shown = shown.assume_init();
             (shown, lent(shown.user_data))
         };

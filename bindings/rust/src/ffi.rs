@@ -1,7 +1,7 @@
 //! What `include/osi.h` declares, as it is laid out there. Its tests compare each struct
 //! and each number with what the C compiler says of them.
 
-use std::ffi::c_void;
+use std::ffi::{c_char, c_void};
 
 /// A slot that holds one end, or none.
 #[repr(C)]
@@ -99,7 +99,12 @@ extern "C" {
     pub fn osi_caller(end: *mut osi_end, terms: *const osi_terms) -> u32;
     pub fn osi_called(end: *mut osi_end, terms: *const osi_terms) -> u32;
     pub fn osi_free(end: *mut osi_end);
-    pub fn osi_connect(end: *mut osi_end, asked: *const osi_opening, reference: *mut u16) -> u32;
+    pub fn osi_connect_with_size(
+        end: *mut osi_end,
+        asked: *const osi_opening,
+        size: usize,
+        reference: *mut u16,
+    ) -> u32;
     pub fn osi_accept(
         end: *mut osi_end,
         reference: u16,
@@ -163,12 +168,13 @@ extern "C" {
     pub fn osi_backlog(end: *mut osi_end) -> usize;
     pub fn osi_live(end: *mut osi_end) -> usize;
     pub fn osi_fetch(end: *mut osi_end) -> u32;
-    pub fn osi_last(end: *mut osi_end, shown: *mut osi_indication);
+    pub fn osi_last_with_size(end: *mut osi_end, shown: *mut osi_indication, size: usize);
     pub fn osi_phase(end: *mut osi_end, reference: u16) -> u32;
     pub fn osi_held(end: *mut osi_end, reference: u16) -> u8;
     pub fn osi_next_serial(end: *mut osi_end, reference: u16) -> u32;
     pub fn osi_confirmed_below(end: *mut osi_end, reference: u16) -> u32;
     pub fn osi_lowest_restart(end: *mut osi_end, reference: u16) -> u32;
+    pub fn osi_version() -> *const c_char;
 }
 
 /// Octets as C takes them. The pointer of a slice is never null, also where the slice is empty.

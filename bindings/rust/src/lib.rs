@@ -84,6 +84,14 @@ mod ffi;
 mod indications;
 mod terms;
 
+/// The version of the library for C, as `CARGO_PKG_VERSION` is that of this crate.
+#[must_use]
+pub fn library_version() -> &'static str {
+    // SAFETY: a text of the library that stays, with a zero at its end.
+    let text = unsafe { std::ffi::CStr::from_ptr(ffi::osi_version()) };
+    text.to_str().unwrap_or("unknown")
+}
+
 pub use codes::{Ending, Error, Fault, Spelling};
 pub use end::{End, Fed};
 pub use indications::Indication;

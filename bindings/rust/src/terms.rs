@@ -135,8 +135,10 @@ impl Tokens {
 
 set!(Tokens, u8);
 
-/// The transport protocol of an end (X.224 section 6.5). The default is both classes, the largest size
-/// and the largest window.
+/// The transport protocol of an end (X.224 section 6.5). The default is class 0 alone, the largest size
+/// and the largest window: peers that know class 0 alone may leave a request that prefers class 2
+/// without an answer. A caller offers both where its peer is known to have class 2; a called end with
+/// both takes what the caller prefers.
 #[derive(Clone, Copy, Debug, PartialEq, Eq, Hash)]
 pub struct Terms {
     /// The classes that the end has.
@@ -149,7 +151,7 @@ pub struct Terms {
 
 impl Default for Terms {
     fn default() -> Terms {
-        Terms { classes: Classes::BOTH, size: 13, window: 15 }
+        Terms { classes: Classes::CLASS_0, size: 13, window: 15 }
     }
 }
 

@@ -215,7 +215,7 @@ fn refusals_are_shown() {
     let user_data = b"not now".to_vec();
     let (by_caller, _) = pair.carry();
     assert_eq!(by_caller[0].1, Indication::RefusedBySession { reason: 2, user_data });
-    let mut pair = Pair::new(Terms::default(), of_class(Classes::NONE));
+    let mut pair = Pair::new(of_class(Classes::BOTH), of_class(Classes::NONE));
     pair.caller.connect(&opening()).unwrap();
     assert_eq!(pair.by_caller(), Indication::RefusedByTransport { reason: 130 });
 }
@@ -400,6 +400,11 @@ fn terms_are_judged() {
         assert_eq!(End::caller(terms).unwrap_err(), Error::BadArgument);
         assert_eq!(End::called(terms).unwrap_err(), Error::BadArgument);
     }
+}
+
+#[test]
+fn the_library_is_of_this_version() {
+    assert_eq!(osi_session::library_version(), env!("CARGO_PKG_VERSION"));
 }
 
 #[test]

@@ -25,7 +25,7 @@ from ._codes import (
     Units,
 )
 from ._end import End
-from ._library import VERSION as __version__, LibraryNotFound
+from ._library import VERSION as __version__, LibraryNotFound, library_version
 from ._values import (
     Aborted,
     Asked,
@@ -100,4 +100,5 @@ __all__ = [
     "Terms",
     "Tokens",
     "Units",
+    "library_version",
 ]

@@ -8,8 +8,8 @@ class Code(IntEnum):
     """What a call answers. All but OK change nothing."""
 
     OK = 0
-    CLOSED = 1
-    """The end is closed."""
+    SLOT_EMPTY = 1
+    """The end was freed by ``End.close``."""
     BAD_ARGUMENT = 2
     """A number or a length is outside its range: a mistake in the program that calls."""
     NO_MEMORY = 3
@@ -51,7 +51,7 @@ class Code(IntEnum):
 
 
 _TEXTS = {
-    Code.CLOSED: "the end is closed",
+    Code.SLOT_EMPTY: "the end was freed",
     Code.BAD_ARGUMENT: "a number or a length is outside its range",
     Code.NO_MEMORY: "there is no memory",
     Code.IN_USE: "the slot holds an end already",

@@ -4,7 +4,7 @@ from __future__ import annotations
 import ctypes
 import threading
 import weakref
-from ctypes import byref, c_uint16, c_uint64
+from ctypes import byref, c_uint16, c_uint64, sizeof
 from typing import Any, Callable, Iterator, NoReturn, Optional, Tuple, Type, TypeVar
 
 from ._codes import Code, Phase, Reason, SessionError, Tokens, Units
@@ -83,7 +83,7 @@ class End:
         return cls(caller=False, terms=terms)
 
     def close(self) -> None:
-        """Frees the end. Each call then answers CLOSED."""
+        """Frees the end. Each call then answers SLOT_EMPTY."""
         with self._lock:
             self._free()
 
@@ -131,7 +131,7 @@ class End:
         """Asks for a connection, and gives its reference. The answer is an indication: ``Connected``, one
         of the two refusals, or why it is over.
 
-        BAD_ARGUMENT (the serial, a size of 1 to 63, a transport address of over 32 octets), CLOSED,
+        BAD_ARGUMENT (the serial, a size of 1 to 63, a transport address of over 32 octets), SLOT_EMPTY,
         NOT_CALLER, ENDED, NEGOTIATING, ONE_CONNECTION, TOO_MANY, REFERENCES_USED_UP, NOT_SELECTED, TOO_LONG, NO_MEMORY."""
         kept = [
             _octets(octets)
@@ -152,7 +152,7 @@ class End:
         )
         made = c_uint16()
         with self._lock:
-            code = self._osi.osi_connect(byref(self._slot), byref(passed), byref(made))
+            code = self._osi.osi_connect_with_size(byref(self._slot), byref(passed), sizeof(passed), byref(made))
         self._answer(code)
         if self.on_outgoing is not None:
             self.on_outgoing()
@@ -171,7 +171,7 @@ class End:
         duplex alone; the number is that of the first point, 0 to 999,999; the sides hold the tokens whose
         holder was this side's choice; the sizes are this side's own: where the CN names one, the smaller is
         agreed upon, and where it names 0, there is no limit. BAD_ARGUMENT, BAD_STATE, NOT_SELECTED,
-        TOO_LONG, and those of every call: CLOSED, NO_SUCH_CONNECTION, ENDED, NO_MEMORY."""
+        TOO_LONG, and those of every call: SLOT_EMPTY, NO_SUCH_CONNECTION, ENDED, NO_MEMORY."""
         data, passed = _octets(user_data), _sides(sides)
         units = _within("requirements", requirements, 16)
         first = _within("number", number, 32)
@@ -261,14 +261,14 @@ class End:
     def feed(self, piece: bytes) -> Fed:
         """Feeds octets that came from the peer, in the order in which they came, cut in any way. It stops
         behind a packet that gives an indication, and uses nothing while one waits; ``feed_all`` is the
-        loop that this asks for. Once the end has ended it uses all. CLOSED."""
+        loop that this asks for. Once the end has ended it uses all. SLOT_EMPTY."""
         octets = _octets(piece)
         return self._feed(_address(octets), len(octets))
 
     def feed_all(self, piece: bytes) -> Iterator[Indication]:
         """Feeds all of a piece, and gives each indication as it comes, those that waited first. The user
         may call the end between them. Go through to the end: what is not gone through is not fed.
-        CLOSED, where octets are left and the end was closed."""
+        SLOT_EMPTY, where octets are left and the end was closed."""
         octets = _octets(piece)
         at, used = _address(octets), 0
         while True:
@@ -297,7 +297,7 @@ class End:
         return octets.length
 
     def taken(self, octets: int) -> None:
-        """So many of them, the first, have been carried. CLOSED, BAD_ARGUMENT (more than there are)."""
+        """So many of them, the first, have been carried. SLOT_EMPTY, BAD_ARGUMENT (more than there are)."""
         passed = _within("octets", octets, 8 * ctypes.sizeof(ctypes.c_size_t))
         with self._lock:
             code = self._osi.osi_taken(byref(self._slot), passed)
@@ -305,7 +305,7 @@ class End:
 
     def broken(self) -> None:
         """The byte connection is over: it broke, or the peer closed it. Each user that has not been told
-        the end of his connection is then shown ``Lost``. Nothing where the end has ended. CLOSED."""
+        the end of his connection is then shown ``Lost``. Nothing where the end has ended. SLOT_EMPTY."""
         with self._lock:
             code = self._osi.osi_broken(byref(self._slot))
         self._answer(code)
@@ -346,7 +346,7 @@ class End:
         with self._lock:
             if self._osi.osi_fetch(byref(self._slot)) != Code.OK:
                 return None
-            self._osi.osi_last(byref(self._slot), byref(said))
+            self._osi.osi_last_with_size(byref(self._slot), byref(said), sizeof(said))
             user_data = ctypes.string_at(said.user_data.at, said.user_data.length)
         return KINDS[said.tag](said, user_data)
 

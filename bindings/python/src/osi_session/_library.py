@@ -5,7 +5,7 @@ import ctypes
 import os
 import shutil
 import subprocess
-from ctypes import POINTER, c_bool, c_size_t, c_uint8, c_uint16, c_uint32, c_uint64, c_void_p
+from ctypes import POINTER, c_bool, c_char_p, c_size_t, c_uint8, c_uint16, c_uint32, c_uint64, c_void_p
 from typing import Iterator, Optional
 
 VERSION = "0.1.0"
@@ -99,7 +99,7 @@ FUNCTIONS = {
     "osi_caller": ([POINTER(TermsOfC)], c_uint32),
     "osi_called": ([POINTER(TermsOfC)], c_uint32),
     "osi_free": ([], None),
-    "osi_connect": ([POINTER(OpeningOfC), POINTER(c_uint16)], c_uint32),
+    "osi_connect_with_size": ([POINTER(OpeningOfC), c_size_t, POINTER(c_uint16)], c_uint32),
     "osi_accept": ([c_uint16, c_uint16, c_uint32, POINTER(SidesOfC), *_DATA], c_uint32),
     "osi_accept_sized": (
         [c_uint16, c_uint16, c_uint32, POINTER(SidesOfC), c_uint16, c_uint16, *_DATA],
@@ -129,12 +129,20 @@ FUNCTIONS = {
     "osi_backlog": ([], c_size_t),
     "osi_live": ([], c_size_t),
     "osi_fetch": ([], c_uint32),
-    "osi_last": ([POINTER(IndicationOfC)], None),
+    "osi_last_with_size": ([POINTER(IndicationOfC), c_size_t], None),
     "osi_phase": ([c_uint16], c_uint32),
     "osi_held": ([c_uint16], c_uint8),
     "osi_next_serial": ([c_uint16], c_uint32),
     "osi_confirmed_below": ([c_uint16], c_uint32),
     "osi_lowest_restart": ([c_uint16], c_uint32),
+}
+# What those take that need no slot, and answer a text.
+TEXTS = {
+    "osi_version": [],
+    "osi_code_name": [c_uint32],
+    "osi_indication_name": [c_uint32],
+    "osi_phase_name": [c_uint32],
+    "osi_end_name": [c_uint32],
 }
 
 
@@ -184,6 +192,10 @@ def load() -> ctypes.CDLL:
             function = getattr(library, name)
             function.argtypes = [POINTER(Slot), *takes]
             function.restype = answers
+        for name, takes in TEXTS.items():
+            function = getattr(library, name)
+            function.argtypes = takes
+            function.restype = c_char_p
         return library
     raise LibraryNotFound(
         f"{NAME} is not found. Set OSI_SESSION_DIR to the folder that has it, or to the PREFIX of its"
@@ -192,6 +204,11 @@ def load() -> ctypes.CDLL:
 
 
 _loaded: Optional[ctypes.CDLL] = None
+
+
+def library_version() -> str:
+    """The version of the shared library, as ``osi_session.__version__`` is that of this package."""
+    return str(library().osi_version().decode())
 
 
 def library() -> ctypes.CDLL:

@@ -12,7 +12,10 @@ from ._library import IndicationOfC, SidesOfC
 class Terms:
     """The transport protocol of an end (X.224 section 6.5)."""
 
-    classes: Classes = Classes.BOTH
+    classes: Classes = Classes.CLASS_0
+    """Peers that know class 0 alone may leave a request that prefers class 2 without an answer. A caller
+    offers both where its peer is known to have class 2; a called end with both takes what the caller
+    prefers."""
     size: int = 13
     """The exponent of the largest TPDU in octets: 7 (128 octets) to 13 (8,192)."""
     window: int = 15

@@ -170,7 +170,7 @@ class EndProtocol(asyncio.Protocol):
                 self.indication_received(indication)
         except SessionError as error:
             # The user has closed the end, in the middle of the piece.
-            if error.code is not Code.CLOSED:
+            if error.code is not Code.SLOT_EMPTY:
                 raise
         self._news.set()
 

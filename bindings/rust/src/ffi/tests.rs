@@ -104,7 +104,7 @@ fn values(names: &BTreeMap<String, Vec<usize>>, prefix: &str) -> BTreeMap<String
 #[test]
 fn errors_are_the_codes_of_c() {
     let Some(of_c) = layout("errors") else { return };
-    let without = ["OSI_OK", "OSI_CLOSED", "OSI_IN_USE", "OSI_NOTHING"];
+    let without = ["OSI_OK", "OSI_SLOT_EMPTY", "OSI_IN_USE", "OSI_NOTHING"];
     let mut named = 0;
     for code in 0..100 {
         let error = Error::of(code);
@@ -170,11 +170,7 @@ fn indications_are_the_tags_of_c() {
     let mut known = 0;
     for tag in 0..100 {
         let Some(indication) = Indication::of(&shown(tag), &[]) else { continue };
-        let name = match c_name("OSI_", &variant(indication)) {
-            name if name == "OSI_DATA" => "OSI_DATA_SHOWN".to_string(),
-            name => name,
-        };
-        assert_eq!(of_c[&name], [tag as usize]);
+        assert_eq!(of_c[&c_name("OSI_", &variant(indication))], [tag as usize]);
         known += 1;
     }
     assert_eq!((known, &of_c["OSI_NONE"]), (20, &vec![0]));

@@ -1,0 +1,67 @@
+/*
+ * What stands between a program and what is proved in crates/osi_c, for the three functions of osi.h that take what no
+ * proof speaks of: a slot that is not there, a null pointer in a struct, and a struct of another header. It is tested
+ * (bindings/c/test_osi.c), and not proved. scripts/library puts it in front of the proved functions, which it calls by
+ * their names with proved_ before them.
+ */
+#include "osi.h"
+
+#include <string.h>
+
+void proved_osi_free(osi_end *end);
+uint32_t proved_osi_connect(osi_end *end, const osi_opening *asked, uint16_t *reference);
+void proved_osi_last(osi_end *end, osi_indication *shown);
+
+void osi_free(osi_end *end)
+{
+    if (end != NULL)
+        proved_osi_free(end);
+}
+
+/* Whether all octets are 0. */
+static bool is_zero(const char *at, size_t length)
+{
+    for (size_t i = 0; i < length; i++)
+        if (at[i] != 0)
+            return false;
+    return true;
+}
+
+/* A pointer to no octets becomes one that is not null. */
+static void point(osi_octets *octets)
+{
+    static const uint8_t none[1];
+    if (octets->length == 0)
+        octets->at = none;
+}
+
+/* A shorter opening is one of an older header: what it has not is as in OSI_OPENING. Of a longer one this library does not
+ * know the last fields, and takes it where they ask for nothing. */
+uint32_t osi_connect_with_size(osi_end *end, const osi_opening *asked, size_t size, uint16_t *reference)
+{
+    osi_opening whole = OSI_OPENING;
+    const size_t known = size < sizeof whole ? size : sizeof whole;
+    if (!is_zero((const char *)asked + known, size - known))
+        return OSI_BAD_ARGUMENT;
+    memcpy(&whole, asked, known);
+    point(&whole.calling_tsap);
+    point(&whole.called_tsap);
+    point(&whole.calling_selector);
+    point(&whole.called_selector);
+    point(&whole.user_data);
+    return proved_osi_connect(end, &whole, reference);
+}
+
+/* A shorter indication is given its own fields and no other octet; a longer one 0 for those that this library does not
+ * know. */
+void osi_last_with_size(osi_end *end, osi_indication *shown, size_t size)
+{
+    osi_indication whole;
+    if (size == sizeof whole) {
+        proved_osi_last(end, shown);
+        return;
+    }
+    proved_osi_last(end, &whole);
+    memset(shown, 0, size);
+    memcpy(shown, &whole, size < sizeof whole ? size : sizeof whole);
+}

@@ -1,0 +1,116 @@
+/* The names of the numbers of osi.h, as they stand there, and the version of this library. */
+#include "osi.h"
+
+#define NAME(number) case number: return #number
+
+static const char unknown[] = "unknown";
+
+const char *osi_version(void)
+{
+    return OSI_VERSION;
+}
+
+const char *osi_code_name(uint32_t code)
+{
+    switch (code) {
+        NAME(OSI_OK);
+        NAME(OSI_SLOT_EMPTY);
+        NAME(OSI_BAD_ARGUMENT);
+        NAME(OSI_NO_MEMORY);
+        NAME(OSI_IN_USE);
+        NAME(OSI_NOTHING);
+        NAME(OSI_NO_SUCH_CONNECTION);
+        NAME(OSI_ENDED);
+        NAME(OSI_BAD_STATE);
+        NAME(OSI_NOT_SELECTED);
+        NAME(OSI_TOKEN_NOT_HELD);
+        NAME(OSI_TOKEN_ALREADY_HELD);
+        NAME(OSI_BAD_NUMBER);
+        NAME(OSI_SERIALS_USED_UP);
+        NAME(OSI_EMPTY);
+        NAME(OSI_TOO_LONG);
+        NAME(OSI_NOT_CALLER);
+        NAME(OSI_NEGOTIATING);
+        NAME(OSI_ONE_CONNECTION);
+        NAME(OSI_TOO_MANY);
+        NAME(OSI_REFERENCES_USED_UP);
+    }
+    return unknown;
+}
+
+const char *osi_indication_name(uint32_t tag)
+{
+    switch (tag) {
+        NAME(OSI_NONE);
+        NAME(OSI_CONNECT);
+        NAME(OSI_CONNECTED);
+        NAME(OSI_REFUSED_BY_TRANSPORT);
+        NAME(OSI_REFUSED_BY_SESSION);
+        NAME(OSI_DATA);
+        NAME(OSI_GIVEN);
+        NAME(OSI_ASKED);
+        NAME(OSI_MINOR);
+        NAME(OSI_MINOR_CONFIRMED);
+        NAME(OSI_MAJOR);
+        NAME(OSI_MAJOR_CONFIRMED);
+        NAME(OSI_RESTART);
+        NAME(OSI_RESTARTED);
+        NAME(OSI_RELEASE);
+        NAME(OSI_RELEASED);
+        NAME(OSI_RELEASE_REFUSED);
+        NAME(OSI_ABORTED);
+        NAME(OSI_LOST);
+        NAME(OSI_PEER_ABORT);
+        NAME(OSI_BAD_UNIT);
+    }
+    return unknown;
+}
+
+const char *osi_phase_name(uint32_t phase)
+{
+    switch (phase) {
+        NAME(OSI_PHASE_NONE);
+        NAME(OSI_PHASE_WAIT_TRANSPORT);
+        NAME(OSI_PHASE_WAIT_CN);
+        NAME(OSI_PHASE_CONNECTING);
+        NAME(OSI_PHASE_ANSWERING);
+        NAME(OSI_PHASE_READY);
+        NAME(OSI_PHASE_MAJOR_ASKED);
+        NAME(OSI_PHASE_MAJOR_DUE);
+        NAME(OSI_PHASE_RELEASING);
+        NAME(OSI_PHASE_RELEASE_DUE);
+        NAME(OSI_PHASE_RESTARTING);
+        NAME(OSI_PHASE_RESTART_DUE);
+        NAME(OSI_PHASE_ABORTING);
+        NAME(OSI_PHASE_ENDED);
+    }
+    return unknown;
+}
+
+const char *osi_end_name(uint32_t why)
+{
+    switch (why) {
+        NAME(OSI_END_NONE);
+        NAME(OSI_END_BROKEN);
+        NAME(OSI_END_CLOSED);
+        NAME(OSI_END_PEER_CLOSED);
+        NAME(OSI_END_NO_MEMORY);
+        NAME(OSI_END_UNKNOWN_REFERENCE);
+        NAME(OSI_END_BAD_ANSWER);
+        NAME(OSI_END_UNEXPECTED_UNIT);
+        NAME(OSI_END_BAD_VERSION);
+        NAME(OSI_END_BAD_LENGTH);
+        NAME(OSI_END_NO_MEMORY_FOR_PACKET);
+        NAME(OSI_END_BAD_LI);
+        NAME(OSI_END_UNKNOWN_CODE);
+        NAME(OSI_END_BAD_PARAMETER_LENGTH);
+        NAME(OSI_END_BAD_PARAMETER_VALUE);
+        NAME(OSI_END_DUPLICATE_PARAMETER);
+        NAME(OSI_END_WRONG_FORM);
+        NAME(OSI_END_OUT_OF_SEQUENCE);
+        NAME(OSI_END_CREDIT_REDUCED);
+        NAME(OSI_END_TSDU_TOO_LONG);
+        NAME(OSI_END_NO_MEMORY_FOR_TSDU);
+    }
+    return unknown;
+}

@@ -1,0 +1,264 @@
+/*
+ * Tests of what osi.h says beside its functions: null pointers to no octets, slots that are empty or moved, structs of
+ * another header, and names. Two ends in one program; the last line is 'N passed, M failed'.
+ *
+ *   cc -std=c99 -Iinclude bindings/c/test_osi.c build/libosi-session.a -o build/test_osi_c
+ */
+#include "osi.h"
+
+#include <stdio.h>
+#include <stdlib.h>
+#include <string.h>
+
+static unsigned passed, failed;
+#define CHECK(holds) check(holds, #holds, __LINE__)
+
+static void check(bool holds, const char *what, int line)
+{
+    passed += holds;
+    failed += !holds;
+    if (!holds)
+        printf("FAILED: line %d: %s\n", line, what);
+}
+
+#define ALL_UNITS (OSI_HALF_DUPLEX | OSI_MINOR_SYNC | OSI_MAJOR_SYNC | OSI_RESYNCHRONIZE | OSI_NEGOTIATED_RELEASE)
+#define ALL_TOKENS (OSI_TOKEN_DATA | OSI_TOKEN_MINOR | OSI_TOKEN_MAJOR | OSI_TOKEN_RELEASE)
+static const osi_sides asker = {OSI_ASKER, OSI_ASKER, OSI_ASKER, OSI_ASKER};
+static const osi_terms both = {OSI_CLASS_0 | OSI_CLASS_2, 13, 15};
+
+struct pair {
+    osi_end caller, called;
+    uint16_t of;
+};
+
+/* Carries all that one end has to say, and gives the last indication that the other shows, OSI_NONE for none. */
+static osi_indication carry(osi_end *from, osi_end *to)
+{
+    osi_indication last = {0}, shown;
+    osi_octets lent;
+    osi_outgoing(from, &lent);
+    const size_t length = lent.length;
+    uint8_t *piece = malloc(length + 1);
+    if (piece == NULL)
+        abort();
+    memcpy(piece, lent.at, length);
+    osi_taken(from, length);
+    for (size_t used = 0; used < length;) {
+        osi_fed fed;
+        osi_feed(to, piece + used, length - used, &fed);
+        used += fed.used;
+        while (osi_next(to, &shown))
+            last = shown;
+    }
+    free(piece);
+    return last;
+}
+
+static struct pair asked(const osi_opening *opening)
+{
+    struct pair pair = {OSI_END, OSI_END, 0};
+    CHECK(osi_caller(&pair.caller, &both) == OSI_OK && osi_called(&pair.called, &both) == OSI_OK);
+    CHECK(osi_connect(&pair.caller, opening, &pair.of) == OSI_OK);
+    carry(&pair.caller, &pair.called);
+    carry(&pair.called, &pair.caller);
+    CHECK(carry(&pair.caller, &pair.called).tag == OSI_CONNECT);
+    return pair;
+}
+
+/* A connection whose caller holds all tokens. */
+static struct pair opened(void)
+{
+    osi_opening opening = OSI_OPENING;
+    opening.requirements = ALL_UNITS;
+    struct pair pair = asked(&opening);
+    CHECK(osi_accept(&pair.called, pair.of, ALL_UNITS, 0, &asker, NULL, 0) == OSI_OK);
+    CHECK(carry(&pair.called, &pair.caller).tag == OSI_CONNECTED);
+    return pair;
+}
+
+static void let_go(struct pair *pair)
+{
+    osi_free(&pair->caller);
+    osi_free(&pair->called);
+}
+
+/* ---- no octets, by a null pointer */
+
+static void none_at_opening(void)
+{
+    osi_opening opening = OSI_OPENING;
+    CHECK(opening.user_data.at == NULL && opening.called_tsap.at == NULL);
+    struct pair pair = asked(&opening);
+    CHECK(osi_refuse(&pair.called, pair.of, NULL, 0) == OSI_OK);
+    CHECK(carry(&pair.called, &pair.caller).tag == OSI_REFUSED_BY_SESSION);
+    let_go(&pair);
+    pair = asked(&opening);
+    CHECK(osi_accept_sized(&pair.called, pair.of, OSI_HALF_DUPLEX, 0, &asker, 0, 0, NULL, 0) == OSI_OK);
+    osi_indication shown = carry(&pair.called, &pair.caller);
+    CHECK(shown.tag == OSI_CONNECTED && shown.user_data.at != NULL && shown.user_data.length == 0);
+    let_go(&pair);
+}
+
+static void none_in_calls(void)
+{
+    struct pair p = opened();
+    CHECK(osi_data(&p.caller, p.of, NULL, 0) == OSI_EMPTY);
+    CHECK(osi_minor(&p.caller, p.of, 1, NULL, 0) == OSI_OK && carry(&p.caller, &p.called).tag == OSI_MINOR);
+    CHECK(osi_minor_confirm(&p.called, p.of, 0, NULL, 0) == OSI_OK && carry(&p.called, &p.caller).tag == OSI_MINOR_CONFIRMED);
+    CHECK(osi_please(&p.called, p.of, OSI_TOKEN_DATA, NULL, 0) == OSI_OK && carry(&p.called, &p.caller).tag == OSI_ASKED);
+    CHECK(osi_major(&p.caller, p.of, NULL, 0) == OSI_OK && carry(&p.caller, &p.called).tag == OSI_MAJOR);
+    CHECK(osi_major_confirm(&p.called, p.of, NULL, 0) == OSI_OK && carry(&p.called, &p.caller).tag == OSI_MAJOR_CONFIRMED);
+    CHECK(osi_restart(&p.caller, p.of, 2, &asker, NULL, 0) == OSI_OK && carry(&p.caller, &p.called).tag == OSI_RESTART);
+    CHECK(osi_restart_confirm(&p.called, p.of, &asker, NULL, 0) == OSI_OK && carry(&p.called, &p.caller).tag == OSI_RESTARTED);
+    CHECK(osi_release(&p.caller, p.of, NULL, 0) == OSI_OK && carry(&p.caller, &p.called).tag == OSI_RELEASE);
+    CHECK(osi_release_refuse(&p.called, p.of, NULL, 0) == OSI_OK && carry(&p.called, &p.caller).tag == OSI_RELEASE_REFUSED);
+    CHECK(osi_release(&p.caller, p.of, NULL, 0) == OSI_OK && carry(&p.caller, &p.called).tag == OSI_RELEASE);
+    CHECK(osi_release_accept(&p.called, p.of, NULL, 0) == OSI_OK && carry(&p.called, &p.caller).tag == OSI_RELEASED);
+    let_go(&p);
+    p = opened();
+    CHECK(osi_abort(&p.caller, p.of, NULL, 0) == OSI_OK && carry(&p.caller, &p.called).tag == OSI_ABORTED);
+    osi_fed fed = {1, true};
+    CHECK(osi_feed(&p.caller, NULL, 0, &fed) == OSI_OK && fed.used == 0 && !fed.waits);
+    let_go(&p);
+}
+
+/* ---- slots */
+
+static void no_slot_is_freed(void)
+{
+    osi_end empty = OSI_END;
+    osi_free(NULL);
+    osi_free(&empty);
+    osi_free(&empty);
+    CHECK(osi_data(&empty, 1, NULL, 0) == OSI_SLOT_EMPTY && osi_broken(&empty) == OSI_SLOT_EMPTY);
+}
+
+static void an_empty_slot_has_nothing(void)
+{
+    osi_end empty = OSI_END;
+    osi_opening opening = OSI_OPENING;
+    uint16_t reference = 7;
+    uint64_t detail = 7;
+    osi_indication shown;
+    osi_octets lent = OSI_NO_OCTETS;
+    CHECK(osi_connect(&empty, &opening, &reference) == OSI_SLOT_EMPTY && reference == 7);
+    CHECK(!osi_next(&empty, &shown) && shown.tag == OSI_NONE && shown.user_data.at != NULL);
+    CHECK(osi_ended(&empty, &detail) == OSI_END_NONE && detail == 0 && osi_phase(&empty, 1) == OSI_PHASE_NONE);
+    osi_outgoing(&empty, &lent);
+    CHECK(lent.at != NULL && lent.length == 0);
+    CHECK(osi_kept(&empty) + osi_unsent(&empty, 1) + osi_backlog(&empty) + osi_live(&empty) == 0);
+}
+
+/* Slots are moved as values are, also by realloc; what an end has lent stays where it is. */
+static void a_slot_is_moved(void)
+{
+    struct pair *pairs = malloc(sizeof *pairs);
+    if (pairs == NULL)
+        abort();
+    pairs[0] = opened();
+    CHECK(osi_data(&pairs[0].caller, pairs[0].of, (const uint8_t *)"moved", 5) == OSI_OK);
+    osi_octets before, after;
+    osi_outgoing(&pairs[0].caller, &before);
+    struct pair *more = realloc(pairs, 4096 * sizeof *pairs);
+    if (more == NULL)
+        abort();
+    memset(&more[1], 0xff, sizeof *more);
+    more[1].caller = more[0].caller;
+    memset(&more[0].caller, 0xff, sizeof more[0].caller);
+    more[0].caller = (osi_end)OSI_END;
+    osi_outgoing(&more[1].caller, &after);
+    CHECK(before.at == after.at && before.length == after.length);
+    osi_indication shown = carry(&more[1].caller, &more[0].called);
+    CHECK(shown.tag == OSI_DATA && shown.user_data.length == 5);
+    CHECK(osi_data(&more[0].caller, more[0].of, (const uint8_t *)"x", 1) == OSI_SLOT_EMPTY);
+    osi_free(&more[1].caller);
+    let_go(&more[0]);
+    free(more);
+}
+
+/* ---- structs of another header */
+
+/* The first fields of osi_opening and of osi_indication, as if the others had been added later, and all of them with one
+ * that this library does not know. */
+#define WITHOUT_SIZES offsetof(osi_opening, size_from_asker)
+#define WITHOUT_SIZES_SHOWN offsetof(osi_indication, size_from_asker)
+struct later_opening {
+    osi_opening known;
+    uint64_t unknown;
+};
+struct later_indication {
+    osi_indication known;
+    uint64_t unknown;
+};
+
+static void openings_of_other_headers(void)
+{
+    osi_end end = OSI_END;
+    uint16_t reference = 0;
+    struct later_opening later = {OSI_OPENING, 0};
+    later.known.size_from_asker = 1;
+    CHECK(osi_caller(&end, &both) == OSI_OK);
+    CHECK(osi_connect(&end, &later.known, &reference) == OSI_BAD_ARGUMENT);
+    CHECK(osi_connect_with_size(&end, &later.known, WITHOUT_SIZES, &reference) == OSI_OK && reference == 1);
+    osi_free(&end);
+    later.known.size_from_asker = 64;
+    later.unknown = 1;
+    CHECK(osi_caller(&end, &both) == OSI_OK);
+    CHECK(osi_connect_with_size(&end, &later.known, sizeof later, &reference) == OSI_BAD_ARGUMENT);
+    later.unknown = 0;
+    CHECK(osi_connect_with_size(&end, &later.known, sizeof later, &reference) == OSI_OK && reference == 1);
+    osi_free(&end);
+}
+
+static void indications_of_other_headers(void)
+{
+    osi_opening opening = OSI_OPENING;
+    opening.size_from_asker = 4660;
+    struct pair pair = asked(&opening);
+    struct later_indication shown;
+    memset(&shown, 0x55, sizeof shown);
+    osi_last_with_size(&pair.called, &shown.known, WITHOUT_SIZES_SHOWN);
+    CHECK(shown.known.tag == OSI_NONE && shown.known.user_data.length == 0 && shown.known.size_from_asker == 0x5555);
+    let_go(&pair);
+    pair = (struct pair){OSI_END, OSI_END, 0};
+    CHECK(osi_caller(&pair.caller, &both) == OSI_OK && osi_called(&pair.called, &both) == OSI_OK);
+    CHECK(osi_connect(&pair.caller, &opening, &pair.of) == OSI_OK);
+    carry(&pair.caller, &pair.called);
+    carry(&pair.called, &pair.caller);
+    osi_octets lent;
+    osi_fed fed;
+    osi_outgoing(&pair.caller, &lent);
+    CHECK(osi_feed(&pair.called, lent.at, lent.length, &fed) == OSI_OK && fed.waits && osi_fetch(&pair.called) == OSI_OK);
+    memset(&shown, 0x55, sizeof shown);
+    osi_last_with_size(&pair.called, &shown.known, WITHOUT_SIZES_SHOWN);
+    CHECK(shown.known.tag == OSI_CONNECT && shown.known.size_from_asker == 0x5555);
+    osi_last_with_size(&pair.called, &shown.known, sizeof shown);
+    CHECK(shown.known.tag == OSI_CONNECT && shown.known.size_from_asker == 4660 && shown.unknown == 0);
+    let_go(&pair);
+}
+
+/* ---- names */
+
+static void names(void)
+{
+    CHECK(strcmp(osi_version(), OSI_VERSION) == 0);
+    CHECK(strcmp(osi_code_name(OSI_TOKEN_NOT_HELD), "OSI_TOKEN_NOT_HELD") == 0);
+    CHECK(strcmp(osi_indication_name(OSI_PEER_ABORT), "OSI_PEER_ABORT") == 0);
+    CHECK(strcmp(osi_phase_name(OSI_PHASE_READY), "OSI_PHASE_READY") == 0);
+    CHECK(strcmp(osi_end_name(OSI_END_BAD_LI), "OSI_END_BAD_LI") == 0);
+    CHECK(strcmp(osi_code_name(6), "unknown") == 0 && strcmp(osi_end_name(8), "unknown") == 0);
+}
+
+int main(void)
+{
+    none_at_opening();
+    none_in_calls();
+    no_slot_is_freed();
+    an_empty_slot_has_nothing();
+    a_slot_is_moved();
+    openings_of_other_headers();
+    indications_of_other_headers();
+    names();
+    printf("%u passed, %u failed\n", passed, failed);
+    return failed != 0;
+}
