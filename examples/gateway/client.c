@@ -1,8 +1,8 @@
 /* The calling side: asks for a connection, sends messages with a minor point behind each, whose
  * confirmation it awaits, gives the tokens and accepts the release.
  *
- *   client [--port 4000] [--classes 0|2|20] [--messages 5] [--log FILE|-] [--capture NAME]
- *          [--bulk COUNT] [--size OCTETS]
+ *   client [--port 4000] [--classes 0|2|20] [--window 1..15] [--wait SECONDS] [--messages 5] [--log FILE|-]
+ *          [--capture NAME] [--bulk COUNT] [--size OCTETS]
  *
  * With --bulk it sends so many messages of one size, as fast as they go, and one point at the end, and
  * prints messages and megabytes a second. The status is 0 where the connection was released, and 3
@@ -20,8 +20,6 @@
 
 #define UNITS (OSI_HALF_DUPLEX | OSI_MINOR_SYNC | OSI_NEGOTIATED_RELEASE)
 #define TOKENS (OSI_TOKEN_DATA | OSI_TOKEN_MINOR | OSI_TOKEN_RELEASE)
-/* No more than so many octets are kept to be sent before the socket has taken them. */
-#define AHEAD 262144
 
 struct plan {
     unsigned long messages, bulk, said;
@@ -80,30 +78,23 @@ static void shown(struct gateway *g, const osi_indication *i)
     case OSI_PEER_ABORT:
     case OSI_BAD_UNIT:
         plan->lost = !plan->released;
-        g->done = true;
-        break;
-    case OSI_REFUSED_BY_TRANSPORT:
-    case OSI_REFUSED_BY_SESSION:
-        g->done = true;
         break;
     default:
         break;
     }
 }
 
-/* Hands messages over while few octets wait for the socket. */
+/* Hands messages over while few octets wait for the socket, and for the peer's credit. */
 static void send_bulk(struct gateway *g)
 {
     struct plan *plan = g->user;
-    osi_octets waiting;
-    osi_outgoing(&g->end, &waiting);
-    while (plan->ready && plan->said < plan->bulk && waiting.length < AHEAD) {
+    while (plan->ready && plan->said < plan->bulk && gateway_waiting(g) < MOST_WAITING) {
         if (osi_data(&g->end, plan->connection, plan->data, plan->size) != OSI_OK)
             return;
         if (++plan->said == plan->bulk)
             osi_minor(&g->end, plan->connection, 1, OSI_NO_DATA);
-        osi_outgoing(&g->end, &waiting);
     }
+    g->has_more = plan->ready && plan->said < plan->bulk;
     if (plan->said == plan->bulk)
         plan->messages = plan->said;
 }
@@ -149,8 +140,7 @@ int main(int count, char **words)
     plan.bulk = strtoul(option(count, words, "--bulk", "0"), NULL, 10);
     plan.size = strtoul(option(count, words, "--size", "1000"), NULL, 10);
     plan.data = calloc(plan.size + 1, 1);
-    if (plan.data == NULL || !gateway_open(&g, socket, true, option(count, words, "--classes", "20"),
-                      option(count, words, "--log", NULL), option(count, words, "--capture", NULL)))
+    if (plan.data == NULL || !gateway_open(&g, socket, true, count, words))
         return 2;
     bool asked = ask(&g);
     while (asked && gateway_turn(&g))

@@ -67,7 +67,7 @@ int main(int count, char **words)
         std::perror("client");
         return 2;
     }
-    auto made = osi::end::caller(terms_of(option(count, words, "--classes", "20")));
+    auto made = osi::end::caller(terms_of(option(count, words, "--classes", "0")));
     if (!made) {
         std::cerr << "client: " << osi::text(made.code) << '\n';
         return 2;

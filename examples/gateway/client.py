@@ -11,7 +11,7 @@ import socket
 import sys
 from ctypes import POINTER, byref, c_bool, c_size_t, c_uint8, c_uint16, c_uint32, c_uint64, c_void_p
 
-OK, ENDED_NONE = 0, 0
+OK = 0
 CONNECT, CONNECTED, REFUSED_BY_TRANSPORT, REFUSED_BY_SESSION, DATA, GIVEN = 1, 2, 3, 4, 5, 6
 ASKED, MINOR, MINOR_CONFIRMED, MAJOR, RESTART, RESTARTED, RELEASE = 7, 8, 9, 10, 12, 13, 14
 ABORTED, LOST, PEER_ABORT, BAD_UNIT = 17, 18, 19, 20
@@ -87,7 +87,7 @@ FUNCTIONS = {
     "osi_outgoing": ([POINTER(Octets)], None),
     "osi_taken": ([c_size_t], c_uint32),
     "osi_broken": ([], c_uint32),
-    "osi_ended": ([POINTER(c_uint64)], c_uint32),
+    "osi_live": ([], c_size_t),
     "osi_fetch": ([], c_uint32),
     "osi_last_with_size": ([POINTER(Indication), c_size_t], None),
 }
@@ -206,9 +206,10 @@ class Client:
         return of(octets)
 
     def turn(self, connection):
-        """Waits once, and carries what can be carried. False once the peer has closed."""
+        """Waits once, and carries what can be carried. False once the peer has closed, or this side is to:
+        all is sent, and the one connection that was asked for is gone."""
         waiting = self.outgoing()
-        if not waiting and self.osi.osi_ended(byref(self.end), byref(c_uint64())) != ENDED_NONE:
+        if not waiting and self.osi.osi_live(byref(self.end)) == 0:
             return False
         readable, writable, _ = select.select([connection], [connection] if waiting else [], [], 10)
         if writable:
@@ -233,7 +234,7 @@ def main():
     words = argparse.ArgumentParser(description=__doc__.splitlines()[0])
     words.add_argument("--library", required=True)
     words.add_argument("--port", type=int, default=4000)
-    words.add_argument("--classes", default="20")
+    words.add_argument("--classes", default="0")
     words.add_argument("--messages", type=int, default=5)
     words.add_argument("--log", type=argparse.FileType("w"), default=sys.stdout)
     words = words.parse_args()

@@ -101,7 +101,7 @@ mod osi {
         pub fn osi_outgoing(end: *mut End, octets: *mut Octets);
         pub fn osi_taken(end: *mut End, octets: usize) -> u32;
         pub fn osi_broken(end: *mut End) -> u32;
-        pub fn osi_ended(end: *mut End, detail: *mut u64) -> u32;
+        pub fn osi_live(end: *mut End) -> usize;
         pub fn osi_fetch(end: *mut End) -> u32;
         pub fn osi_last_with_size(end: *mut End, shown: *mut Indication, size: usize);
     }
@@ -187,8 +187,9 @@ impl Caller {
         unsafe { osi::osi_broken(&mut *self.end) };
     }
 
-    fn has_ended(&mut self) -> bool {
-        unsafe { osi::osi_ended(&mut *self.end, &mut 0) != 0 }
+    /// How many connections are not gone.
+    fn live(&mut self) -> usize {
+        unsafe { osi::osi_live(&mut *self.end) }
     }
 
     fn next(&mut self) -> Option<Shown> {
@@ -341,7 +342,7 @@ impl Client {
         let mut piece = [0; 65536];
         loop {
             self.transmit(stream)?;
-            if self.caller.has_ended() {
+            if self.caller.live() == 0 {
                 return stream.shutdown(Shutdown::Both);
             }
             match stream.read(&mut piece) {
@@ -360,7 +361,7 @@ fn option(name: &str, otherwise: &str) -> String {
 }
 
 fn main() -> io::Result<ExitCode> {
-    let classes = option("--classes", "20");
+    let classes = option("--classes", "0");
     let classes = u8::from(classes.contains('0')) | u8::from(classes.contains('2')) << 1;
     let log: Box<dyn Write> = match option("--log", "-").as_str() {
         "-" => Box::new(io::stdout()),

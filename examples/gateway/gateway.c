@@ -6,6 +6,7 @@
 #include <errno.h>
 #include <fcntl.h>
 #include <poll.h>
+#include <stdlib.h>
 #include <string.h>
 #include <sys/socket.h>
 #include <unistd.h>
@@ -113,11 +114,16 @@ bool gateway_did(struct gateway *g, unsigned reference, const char *call, uint32
 
 /* ---- the socket */
 
-static bool has_outgoing(struct gateway *g)
+static size_t outgoing_length(struct gateway *g)
 {
     osi_octets octets;
     osi_outgoing(&g->end, &octets);
-    return octets.length > 0;
+    return octets.length;
+}
+
+size_t gateway_waiting(struct gateway *g)
+{
+    return outgoing_length(g) + osi_backlog(&g->end);
 }
 
 /* Fetches all that waits. */
@@ -125,6 +131,7 @@ static void show_all(struct gateway *g)
 {
     osi_indication shown;
     while (osi_next(&g->end, &shown)) {
+        g->was_shown = true;
         if (g->log != NULL) {
             fprintf(g->log, "%s %u ", g->side, shown.reference);
             write_shown(g->log, &shown);
@@ -196,26 +203,49 @@ static void transmit(struct gateway *g)
     }
 }
 
-bool gateway_turn(struct gateway *g)
+/* ---- when it is over (docs/EMBEDDING.md, Who closes TCP) */
+
+/* Whether this side is to close: all is sent, and the end has ended, or its last connection is gone. */
+static bool has_said_all(struct gateway *g)
 {
     uint64_t detail;
-    if (g->socket >= 0 && osi_ended(&g->end, &detail) != OSI_END_NONE && !has_outgoing(g))
+    if (outgoing_length(g) > 0)
+        return false;
+    if (osi_live(&g->end) > 0)
+        g->was_live = true;
+    return osi_ended(&g->end, &detail) != OSI_END_NONE || (g->was_live && osi_live(&g->end) == 0);
+}
+
+/* Gives the peer up: it says nothing, or nothing that is ever shown. Then osi_phase tells what its connections wait for. */
+static void give_up(struct gateway *g, const char *why)
+{
+    FILE *log = g->log != NULL ? g->log : stderr;
+    fprintf(log, "%s gives up: %s\n", g->side, why);
+    for (uint16_t r = 1; !g->was_shown && osi_phase(&g->end, r) != OSI_PHASE_NONE; r++)
+        fprintf(log, "%s %u was never shown, %s\n", g->side, r, osi_phase_name(osi_phase(&g->end, r)));
+    is_over(g);
+}
+
+bool gateway_turn(struct gateway *g)
+{
+    if (outgoing_length(g) > 0)
+        transmit(g);
+    if (g->socket >= 0 && has_said_all(g))
         is_over(g);
     if (g->socket < 0)
         return false;
-    if (g->done && !g->shut && !has_outgoing(g))
-        g->shut = shutdown(g->socket, SHUT_WR) == 0;
-    struct pollfd waits = {g->socket, has_outgoing(g) ? POLLIN | POLLOUT : POLLIN, 0};
-    if (poll(&waits, 1, 10000) <= 0) {
-        fprintf(stderr, "%s: the peer is silent\n", g->side);
-        is_over(g);
-        return false;
-    }
-    if (waits.revents & POLLOUT)
-        transmit(g);
-    if (g->socket >= 0 && (waits.revents & (POLLIN | POLLERR | POLLHUP)))
+    const size_t left = outgoing_length(g);
+    struct pollfd waits = {g->socket, 0, 0};
+    waits.events = (short)((left <= MOST_WAITING ? POLLIN : 0) | (left > 0 ? POLLOUT : 0));
+    const bool goes_on = g->has_more && gateway_waiting(g) < MOST_WAITING;
+    const int came = poll(&waits, 1, goes_on ? 0 : (int)g->patience * 1000);
+    if (came <= 0 && !goes_on)
+        give_up(g, "the peer is silent");
+    else if (waits.revents & (POLLIN | POLLERR | POLLHUP))
         receive(g);
-    return true;
+    if (g->socket >= 0 && !g->was_shown && time(NULL) - g->began > g->patience)
+        give_up(g, "nothing was shown");
+    return g->socket >= 0;
 }
 
 /* ---- opening and closing */
@@ -229,16 +259,20 @@ static FILE *capture_file(const char *capture, const char *side)
     return fopen(name, "w");
 }
 
-bool gateway_open(struct gateway *g, int socket, bool calls, const char *classes, const char *log,
-                  const char *capture)
+bool gateway_open(struct gateway *g, int socket, bool calls, int count, char **words)
 {
-    osi_terms terms = {0, 13, 15};
+    /* A caller offers class 2 where its peer is known to have it; the called side takes what it is asked for. */
+    const char *classes = option(count, words, "--classes", calls ? "0" : "20");
+    const char *log = option(count, words, "--log", NULL), *capture = option(count, words, "--capture", NULL);
+    osi_terms terms = {0, 13, (uint8_t)atoi(option(count, words, "--window", "15"))};
     if (strchr(classes, '0') != NULL)
         terms.classes |= OSI_CLASS_0;
     if (strchr(classes, '2') != NULL)
         terms.classes |= OSI_CLASS_2;
     g->socket = socket;
     g->side = calls ? "left" : "right";
+    g->patience = atoi(option(count, words, "--wait", "10"));
+    g->began = time(NULL);
     g->log = log == NULL ? NULL : strcmp(log, "-") == 0 ? stdout : fopen(log, "w");
     g->sent = capture_file(capture, g->side);
     g->came = capture_file(capture, calls ? "right" : "left");

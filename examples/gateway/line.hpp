@@ -13,6 +13,7 @@
 
 #include <array>
 #include <cerrno>
+#include <chrono>
 #include <cstdio>
 #include <cstring>
 #include <fstream>
@@ -155,13 +156,15 @@ public:
         show({});
     }
 
+    /* No more is read while so many octets wait to be sent. */
+    static constexpr std::size_t most_waiting = 262144;
+
+    std::chrono::milliseconds patience{10000};
+
 protected:
     osi::end end;
 
     virtual void shown(const osi::indication &one) = 0;
-
-    /* This side has said all: once that is sent it closes its direction. */
-    void finish() noexcept { done_ = true; }
 
     std::ostream &log() { return (file_.is_open() ? file_ : std::cout) << side_ << ' '; }
 
@@ -177,25 +180,42 @@ private:
     void show(osi::octets piece)
     {
         (void)end.feed_all(piece, [this](const osi::indication &one) {
+            was_shown_ = true;
             log() << one.reference << ' ' << words(one) << '\n';
             shown(one);
         });
     }
 
-    /* Waits for the socket once, and carries what can be carried. False once it is closed. */
+    /* Whether this side is to close: all is sent, and the end has ended, or its last connection is gone. */
+    bool has_said_all()
+    {
+        was_live_ = was_live_ || end.live() > 0;
+        return end.outgoing().empty() && (end.ended() || (was_live_ && end.live() == 0));
+    }
+
+    /* Waits for the socket once, and carries what can be carried. False once it is to be closed: also where
+     * the peer is silent, or where nothing was shown for so long. */
     bool turn()
     {
-        const bool waits = !end.outgoing().empty();
-        if (!waits && end.ended())
+        if ((!end.outgoing().empty() && !transmit()) || has_said_all())
             return false;
-        if (!waits && std::exchange(done_, false))
-            shutdown(socket_.handle(), SHUT_WR);
-        pollfd ready = {socket_.handle(), static_cast<short>(waits ? POLLIN | POLLOUT : POLLIN), 0};
-        if (poll(&ready, 1, 10000) <= 0)
+        const std::size_t left = end.outgoing().size();
+        pollfd ready = {socket_.handle(), 0, 0};
+        ready.events = static_cast<short>((left <= most_waiting ? POLLIN : 0) | (left > 0 ? POLLOUT : 0));
+        if (poll(&ready, 1, static_cast<int>(patience.count())) <= 0)
+            return gives_up("the peer is silent");
+        if ((ready.revents & (POLLIN | POLLERR | POLLHUP)) != 0 && !receive())
             return false;
-        if ((ready.revents & POLLOUT) != 0 && !transmit())
-            return false;
-        return (ready.revents & (POLLIN | POLLERR | POLLHUP)) == 0 || receive();
+        return was_shown_ || std::chrono::steady_clock::now() - began_ <= patience || gives_up("nothing was shown");
+    }
+
+    /* False; and the log says of connections that were never shown where they stand. */
+    bool gives_up(const char *why)
+    {
+        log() << "gives up: " << why << '\n';
+        for (osi::reference of = 1; !was_shown_ && end.phase(of) != osi::phase::none; of++)
+            log() << of << " was never shown, " << osi::name(end.phase(of)) << '\n';
+        return false;
     }
 
     /* Writes what the socket takes, once. */
@@ -219,7 +239,8 @@ private:
 
     connection socket_;
     const char *side_;
-    bool done_ = false;
+    bool was_live_ = false, was_shown_ = false;
+    const std::chrono::steady_clock::time_point began_ = std::chrono::steady_clock::now();
     std::ofstream file_;
     std::array<std::uint8_t, 65536> piece_{};
 };

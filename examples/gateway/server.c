@@ -1,10 +1,12 @@
 /* The called side: takes one byte connection, accepts what is asked for, confirms each point, answers
  * when it is given the tokens, and releases the connection.
  *
- *   server [--port 4000] [--classes 0|2|20] [--log FILE|-] [--capture NAME] [--stall OCTETS]
+ *   server [--port 4000] [--classes 0|2|20] [--window 1..15] [--wait SECONDS] [--log FILE|-] [--capture NAME]
+ *          [--stall OCTETS]
  *
- * It prints the port that it listens on (0 takes a free one). With --stall it stops for good once it
- * has sent so many octets. */
+ * It prints the port that it listens on (0 takes a free one). A peer whose connection is not shown within
+ * --wait seconds, or that is silent for so long, is logged and given up. With --stall it stops for good once
+ * it has sent so many octets. */
 #define _POSIX_C_SOURCE 200809L
 #include "gateway.h"
 
@@ -53,9 +55,6 @@ static void shown(struct gateway *g, const osi_indication *i)
     case OSI_GIVEN:
         answer(g, r);
         break;
-    case OSI_RELEASED:
-        g->done = true;
-        break;
     default:
         break;
     }
@@ -92,8 +91,7 @@ int main(int count, char **words)
     setsockopt(socket, IPPROTO_TCP, TCP_NODELAY, &yes, sizeof yes);
     close(listener);
     g.stall_at = (size_t)atol(option(count, words, "--stall", "0"));
-    if (!gateway_open(&g, socket, false, option(count, words, "--classes", "20"),
-                      option(count, words, "--log", NULL), option(count, words, "--capture", NULL)))
+    if (!gateway_open(&g, socket, false, count, words))
         return 2;
     while (gateway_turn(&g))
         ;

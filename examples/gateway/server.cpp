@@ -1,9 +1,10 @@
 /* The called side of server.c, in C++: it takes one byte connection, accepts what is asked for, confirms
  * each point, answers when it is given the tokens, and releases the connection.
  *
- *   server [--port 4000] [--classes 0|2|20] [--log FILE|-]
+ *   server [--port 4000] [--classes 0|2|20] [--wait SECONDS] [--log FILE|-]
  *
- * It prints the port that it listens on (0 takes a free one). */
+ * It prints the port that it listens on (0 takes a free one). A peer whose connection is not shown within
+ * --wait seconds, or that is silent for so long, is logged and given up. */
 #include "line.hpp"
 
 class server final : public line {
@@ -35,7 +36,6 @@ private:
                 did(of, "minorconfirm", end.minor_confirm(of, *one.number));
             break;
         case osi::tag::given: answer(of); break;
-        case osi::tag::released: finish(); break;
         default: break;
         }
     }
@@ -69,6 +69,8 @@ int main(int count, char **words)
         std::cerr << "server: " << (made ? std::strerror(errno) : osi::text(made.code)) << '\n';
         return 2;
     }
-    server(std::move(*made), std::move(socket), option(count, words, "--log", "-")).run();
+    server one(std::move(*made), std::move(socket), option(count, words, "--log", "-"));
+    one.patience = std::chrono::seconds(std::stoi(option(count, words, "--wait", "10")));
+    one.run();
     return 0;
 }

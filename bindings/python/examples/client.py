@@ -122,7 +122,7 @@ class Client:
 async def main():
     options = argparse.ArgumentParser(description=__doc__.splitlines()[0])
     options.add_argument("--port", type=int, default=4000)
-    options.add_argument("--classes", default="20")
+    options.add_argument("--classes", default="0")
     options.add_argument("--messages", type=int, default=5)
     options.add_argument("--log", type=argparse.FileType("w"), default=sys.stdout)
     options = options.parse_args()

@@ -1,5 +1,6 @@
 """A caller and a called end over asyncio, on a loopback port."""
 import asyncio
+import socket
 import unittest
 
 from osi_session import (
@@ -95,6 +96,70 @@ class Lines(unittest.IsolatedAsyncioTestCase):
                 line.end.minor(of)
             numbers = [(await line.expect(MinorConfirmed)).number for _ in range(500)]
         self.assertEqual(numbers, list(range(500)))
+
+    async def test_a_line_closes_with_its_last_connection(self):
+        for classes in (Classes.CLASS_0, Classes.CLASS_2):
+            async with aio.dial("127.0.0.1", self.port, Terms(classes)) as line:
+                of = line.end.connect(Opening(UNITS))
+                await line.expect(Connected)
+                line.end.give(of, TOKENS)
+                await line.expect(Release)
+                line.end.release_accept(of)
+                self.assertIsNone(await asyncio.wait_for(line.next(), 5))
+            async with aio.dial("127.0.0.1", self.port, Terms(classes)) as line:
+                line.stays = True
+                of = line.end.connect(Opening(UNITS))
+                await line.expect(Connected)
+                line.end.abort(of)
+                if classes == Classes.CLASS_2:
+                    with self.assertRaises(asyncio.TimeoutError):
+                        await asyncio.wait_for(line.next(), 0.2)
+                    self.assertEqual(line.end.live(), 0)
+                    line.end.connect(Opening(UNITS))
+                    await line.expect(Connected)
+                else:
+                    self.assertIsNone(await asyncio.wait_for(line.next(), 5))
+
+    async def test_draining_waits_for_credit(self):
+        listener = await aio.serve(self.server, "127.0.0.1", 0, Terms(Classes.CLASS_2, window=1))
+        async with aio.dial("127.0.0.1", listener.sockets[0].getsockname()[1], Terms(Classes.CLASS_2)) as line:
+            of = line.end.connect(Opening(UNITS))
+            await line.expect(Connected)
+            most = 0
+            for _ in range(300):
+                line.end.data(of, bytes(8000))
+                most = max(most, line.end.backlog())
+                await line.drain()
+            self.assertLess(most, 100_000)
+        listener.close()
+
+    async def test_a_peer_that_does_not_read_is_not_read(self):
+        """The peer sends requests that are all answered, and reads no answer."""
+        lines = []
+
+        async def serve(line):
+            lines.append(line)
+            async for _ in line:
+                pass
+
+        listener = await aio.serve(serve, "127.0.0.1", 0, Terms(Classes.CLASS_2))
+        address = listener.sockets[0].getsockname()
+        with socket.socket() as peer:
+            peer.setsockopt(socket.SOL_SOCKET, socket.SO_RCVBUF, 4096)
+            peer.connect(address)
+            peer.setblocking(False)
+            refused = bytes.fromhex("0300000b06e00000000120")  # a CR, whose reference is live from then on
+            sent, still = 0, 0
+            while still < 20 and sent < 100_000_000:
+                try:
+                    sent += peer.send(refused * 5000)
+                    still = 0
+                except BlockingIOError:
+                    still += 1
+                await asyncio.sleep(0.01)
+            self.assertLess(sent, 100_000_000)
+            self.assertLess(lines[0].end.outgoing_length(), 1_000_000)
+        listener.close()
 
     async def test_a_loss_is_shown(self):
         async with aio.dial("127.0.0.1", self.port) as line:

@@ -143,12 +143,12 @@ impl Client {
         Ok(())
     }
 
-    /// Carries until either side closes.
+    /// Carries until either side closes: this one where the connection that it asked for is gone.
     fn run(&mut self, stream: &mut TcpStream) -> io::Result<()> {
         let mut piece = [0; 65536];
         loop {
             self.transmit(stream)?;
-            if self.end.ended().is_some() {
+            if self.end.live() == 0 {
                 return stream.shutdown(Shutdown::Both);
             }
             match stream.read(&mut piece) {
@@ -167,7 +167,7 @@ fn option(name: &str, otherwise: &str) -> String {
 }
 
 fn main() -> Result<ExitCode, Box<dyn error::Error>> {
-    let named = option("--classes", "20");
+    let named = option("--classes", "0");
     let class = |letter, class| if named.contains(letter) { class } else { Classes::NONE };
     let classes = class('0', Classes::CLASS_0) | class('2', Classes::CLASS_2);
     let log: Box<dyn Write> = match option("--log", "-").as_str() {

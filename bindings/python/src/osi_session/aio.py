@@ -19,7 +19,7 @@ from ._values import Indication, Shown, Terms
 
 S = TypeVar("S", bound=Shown)
 
-# So many octets are handed to the transport at once.
+# So many octets are handed to the transport at once; where more wait for it, no more is read.
 _PIECE = 65536
 # Where so many indications wait, no more is read until they are fetched.
 _MOST = 64
@@ -39,7 +39,13 @@ class EndProtocol(asyncio.Protocol):
     Calls go to ``end``; what they send is written at once, as fast as the peer takes it. Indications are
     fetched by ``next``, ``expect`` or ``async for``; who wants them as they come overrides
     ``indication_received``. One line is used in one event loop, and by its thread alone.
+
+    It closes the byte connection where the end has ended, and, unless ``stays`` is true, where its last
+    connection is gone. A line of ``dial`` does not stay: who asks for one connection after the other sets
+    ``stays``. A line of ``serve`` does: its peer may ask for more.
     """
+
+    stays: bool = False
 
     def __init__(self, end: End) -> None:
         self.end = end
@@ -50,6 +56,7 @@ class EndProtocol(asyncio.Protocol):
         self._closed = False
         self._paused = False
         self._reading = True
+        self._was_live = False
 
     # ---- what the user of a line calls
 
@@ -61,9 +68,7 @@ class EndProtocol(asyncio.Protocol):
             self._news.clear()
             await self._news.wait()
         indication = self._shown.popleft()
-        if not self._reading and len(self._shown) < _MOST and self._transport is not None:
-            self._reading = True
-            self._transport.resume_reading()
+        self._read_or_wait()
         return indication
 
     @overload
@@ -89,9 +94,9 @@ class EndProtocol(asyncio.Protocol):
         return indication
 
     async def drain(self) -> None:
-        """Waits until the transport has room again, and has all that is outgoing. Who sends much calls it
-        now and then: what is not written yet is kept."""
-        while not self._closed and self.end.outgoing_length() > 0:
+        """Waits until the transport has all that is outgoing, and the peer has given credit for all but a
+        little of the rest. Who sends much calls it now and then: what is not written yet is kept."""
+        while not self._closed and (self.end.outgoing_length() > 0 or self.end.backlog() > _PIECE):
             self._news.clear()
             await self._news.wait()
 
@@ -126,9 +131,7 @@ class EndProtocol(asyncio.Protocol):
     def data_received(self, data: bytes) -> None:
         self._show(data)
         self.flush()
-        if self._reading and len(self._shown) >= _MOST and self._transport is not None:
-            self._reading = False
-            self._transport.pause_reading()
+        self._read_or_wait()
 
     def connection_lost(self, error: Optional[Exception]) -> None:
         self._closed = True
@@ -143,11 +146,22 @@ class EndProtocol(asyncio.Protocol):
     def resume_writing(self) -> None:
         self._paused = False
         self.flush()
+        self._read_or_wait()
 
     # ---- octets
 
+    def _read_or_wait(self) -> None:
+        """Reads on, unless many indications wait to be fetched, or the peer does not read what is sent."""
+        transport = self._transport
+        if transport is None or self._closed or self.end.closed:
+            return
+        reads = len(self._shown) < _MOST and self.end.outgoing_length() <= _PIECE
+        if reads != self._reading:
+            self._reading = reads
+            (transport.resume_reading if reads else transport.pause_reading)()
+
     def flush(self) -> None:
-        """Writes what is outgoing, as long as the transport takes it; where the end has ended, closes."""
+        """Writes what is outgoing, as long as the transport takes it; where nothing is to come, closes."""
         transport = self._transport
         if transport is None or self._closed or self.end.closed:
             return
@@ -159,8 +173,14 @@ class EndProtocol(asyncio.Protocol):
             transport.write(octets)
         if self.end.outgoing_length() == 0:
             self._news.set()
-            if self.end.ended() is not None:
+            if self._is_over():
                 transport.close()
+
+    def _is_over(self) -> bool:
+        """Whether the end has ended, or its last connection is gone and no other is awaited."""
+        is_live = self.end.live() > 0
+        self._was_live = self._was_live or is_live
+        return self.end.ended() is not None or (self._was_live and not is_live and not self.stays)
 
     def _show(self, piece: bytes) -> None:
         if self.end.closed:
@@ -220,6 +240,8 @@ async def serve(
             line.end.close()
 
     class Accepted(EndProtocol):
+        stays = True
+
         def connection_made(self, transport: asyncio.BaseTransport) -> None:
             super().connection_made(transport)
             task = loop.create_task(handle(self))
