@@ -123,7 +123,19 @@ impl Carrier {
         ensures err { OnErr result (self.new ≡ self.old) }
         ensures nothing { tsdus.now ≡ [] → result ≢ Err SendError.OutOfMemory }
     {
-        self.switch.send_all(reference.0, tsdus)
+        self.switch.send_all(reference.0, CowSlice::Borrowed(tsdus))
+    }
+
+    /// Sends TSDUs together as [`Carrier::send_all`] does, with the room that their octets are in: none of
+    /// them is copied before it is written.
+    pub fn send_all_owned(&mut self, reference: Ref, tsdus: Vec<Vec<u8>>) -> Result<(), SendError>
+        ensures ok { OnOk result (self.new ≡ record self.old { state = sent_all reference.0 (map (λ v. v.items) tsdus.items) self.old.state }) }
+        ensures allowed { OnOk result (send_all_error (map (λ v. v.items) tsdus.items) (open_link reference.0 self.old.state) ≡ None) }
+        ensures refused { IfErr result (λ e. call_error e ≡ send_all_error (map (λ v. v.items) tsdus.items) (open_link reference.0 self.old.state)) }
+        ensures err { OnErr result (self.new ≡ self.old) }
+        ensures nothing { tsdus.items ≡ [] → result ≢ Err SendError.OutOfMemory }
+    {
+        self.switch.send_all(reference.0, CowSlice::Owned(tsdus))
     }
 
     /// Closes an open connection, with this reason: in class 2 a DR is written, and the connection is

@@ -5,7 +5,7 @@ ghost use Rattle.std.specs.Cow.{cow_slice_items, IsOwnedSlice};
 ghost use Rattle.osi_tpdu.specs.View.{value};
 ghost use Rattle.osi_class.specs.AnyLink.{any_standing};
 ghost use Rattle.osi_class.specs.Giving.{all_given, octets_in, one_by_one};
-ghost use Rattle.osi_class.specs.Link.{taken, next, with_tsdu};
+ghost use Rattle.osi_class.specs.Link.{taken, next, with_tsdu, with_tsdus};
 ghost use Rattle.osi_carrier.specs.Calls.{WaitsAlone};
 ghost use Rattle.osi_carrier.specs.Pump.{pumped, written_by, written_for};
 ghost use Rattle.osi_carrier.specs.React.{handed_out};
@@ -191,27 +191,40 @@ fn send_parts(
     Ok(())
 }
 
+/// Hands in TSDUs together that are kept by the link: owned ones as they are, and of borrowed ones copies.
+/// Want of memory changes nothing.
+fn keep_all(link: &mut AnyLink, tsdus: CowSlice<'_, Vec<u8>, Global>) -> Result<(), AllocError>
+    ensures ok { OnOk result (any_standing link.new ≡ with_tsdus (any_standing link.old) (map (λ v. v.items) (cow_slice_items tsdus.entry))) }
+    ensures err { OnErr result (link.new ≡ link.old) }
+{
+    match tsdus {
+        CowSlice::Borrowed(tsdus) => link.send_tsdus(tsdus),
+        CowSlice::Owned(tsdus) => link.send_owned_tsdus(tsdus),
+    }
+}
+
 /// Hands in TSDUs together at a link that gives nothing now, and writes all units that it gives then. Want of
 /// memory changes nothing: the room for the units is made first.
 pub fn send_all_on(
     link: &mut AnyLink,
     peer: u16,
-    tsdus: &[Vec<u8>],
+    tsdus: CowSlice<'_, Vec<u8>, Global>,
     out: &mut BytesMut,
 ) -> Result<(), AllocError>
     requires { next (any_standing link.old) ≡ None }
-    ensures link { OnOk result (any_standing link.new ≡ one_by_one (any_standing link.old) (map (λ v. v.items) tsdus.now)) }
-    ensures ok { OnOk result (out.new.items ≡ out.old.items ++ packets (written_for peer (any_standing link.old) (map (λ v. v.items) tsdus.now))) }
+    ensures link { OnOk result (any_standing link.new ≡ one_by_one (any_standing link.old) (map (λ v. v.items) (cow_slice_items tsdus.entry))) }
+    ensures ok { OnOk result (out.new.items ≡ out.old.items ++ packets (written_for peer (any_standing link.old) (map (λ v. v.items) (cow_slice_items tsdus.entry)))) }
     ensures pumped { OnOk result (next (any_standing link.new) ≡ None) }
     ensures err { OnErr result ((any_standing link.new ≡ any_standing link.old) × (out.new.items ≡ out.old.items)) }
 {
     many_go_as_one_by_one();
     what_units_take();
-    let Some(room) = link.room_for_all(tsdus, MOST_HEADERS as u8) else {
+    let lent = tsdus.as_slice();
+    let Some(room) = link.room_for_all(lent, MOST_HEADERS as u8) else {
         return Err(AllocError);
     };
     out.reserve(room)?;
-    link.send_tsdus(tsdus)?;
+    keep_all(link, tsdus)?;
     let Ok(()) = write_all(link, peer, out) else {
         unreachable!()
     };

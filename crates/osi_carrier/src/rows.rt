@@ -163,13 +163,13 @@ impl Row {
     fn send_all(
         &mut self,
         peer: u16,
-        tsdus: &[Vec<u8>],
+        tsdus: CowSlice<'_, Vec<u8>, Global>,
         out: &mut BytesMut,
     ) -> Result<(), AllocError>
         requires { stage_of (Some self.old.1) ≡ Stage.Open peer }
         ensures reference { self.new.0 ≡ self.old.0 }
-        ensures row { OnOk result (self.new ≡ (self.old.0, linked peer (one_by_one (link_in (Some self.old.1)) (map (λ v. v.items) tsdus.now)))) }
-        ensures ok { OnOk result (out.new.items ≡ out.old.items ++ packets (written_for peer (link_in (Some self.old.1)) (map (λ v. v.items) tsdus.now))) }
+        ensures row { OnOk result (self.new ≡ (self.old.0, linked peer (one_by_one (link_in (Some self.old.1)) (map (λ v. v.items) (cow_slice_items tsdus.entry))))) }
+        ensures ok { OnOk result (out.new.items ≡ out.old.items ++ packets (written_for peer (link_in (Some self.old.1)) (map (λ v. v.items) (cow_slice_items tsdus.entry)))) }
         ensures err { OnErr result ((self.new ≡ self.old) × (out.new.items ≡ out.old.items)) }
     {
         match &mut self.phase {
@@ -449,13 +449,13 @@ impl Connections {
         place: usize,
         reference: u16,
         peer: u16,
-        tsdus: &[Vec<u8>],
+        tsdus: CowSlice<'_, Vec<u8>, Global>,
         out: &mut BytesMut,
     ) -> Result<(), AllocError>
         requires place { place_of reference self.old ≡ Some place }
         requires open { stage_of (value_at reference self.old) ≡ Stage.Open peer }
-        ensures rows { OnOk result (self.new ≡ put reference (linked peer (one_by_one (link_in (value_at reference self.old)) (map (λ v. v.items) tsdus.now))) self.old) }
-        ensures ok { OnOk result (out.new.items ≡ out.old.items ++ packets (written_for peer (link_in (value_at reference self.old)) (map (λ v. v.items) tsdus.now))) }
+        ensures rows { OnOk result (self.new ≡ put reference (linked peer (one_by_one (link_in (value_at reference self.old)) (map (λ v. v.items) (cow_slice_items tsdus.entry)))) self.old) }
+        ensures ok { OnOk result (out.new.items ≡ out.old.items ++ packets (written_for peer (link_in (value_at reference self.old)) (map (λ v. v.items) (cow_slice_items tsdus.entry)))) }
         ensures err { OnErr result ((self.new ≡ self.old) × (out.new.items ≡ out.old.items)) }
     {
         self.rows[place].send_all(peer, tsdus, out)

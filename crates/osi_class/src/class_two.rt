@@ -81,6 +81,10 @@ impl Link for Class2 {
         self.outgoing.add_owned(tsdu)
     }
 
+    fn send_owned_tsdus(&mut self, tsdus: Vec<Vec<u8>>) -> Result<(), AllocError> {
+        self.outgoing.add_owned_all(tsdus)
+    }
+
     #[inline(always)]
     fn give_part<'t>(&mut self, tsdu: &'t [u8]) -> Option<Out<'t>> {
         if !self.outgoing.is_empty() {

@@ -43,6 +43,13 @@ impl Link for AnyLink {
         }
     }
 
+    fn send_owned_tsdus(&mut self, tsdus: Vec<Vec<u8>>) -> Result<(), AllocError> {
+        match self {
+            AnyLink::Zero(link) => link.send_owned_tsdus(tsdus),
+            AnyLink::Two(link) => link.send_owned_tsdus(tsdus),
+        }
+    }
+
     #[inline(always)]
     fn give_part<'t>(&mut self, tsdu: &'t [u8]) -> Option<Out<'t>> {
         match self {

@@ -47,6 +47,13 @@ pub trait Link {
         ensures alone { (standing self.old).ends.unsent ≡ [] → IsOk result }
         ensures limit { (standing self.new).ends.limit ≡ (standing self.old).ends.limit };
 
+    /// Hands in TSDUs together as [`Link::send_tsdus`] does, with the room that their octets are in: none is
+    /// copied. Where no memory is found, nothing has changed.
+    fn send_owned_tsdus(&mut self, tsdus: Vec<Vec<u8>>) -> Result<(), AllocError>
+        ensures ok { OnOk result (standing self.new ≡ with_tsdus (standing self.old) (map (λ v. v.items) tsdus.items)) }
+        ensures err { OnErr result (self.new ≡ self.old) }
+        ensures limit { (standing self.new).ends.limit ≡ (standing self.old).ends.limit };
+
     /// The first part of a TSDU that goes at once, since nothing else is to be given: as many octets as
     /// a unit carries, or all of them. The unit lends them from the TSDU, and none is copied. What is
     /// left of the TSDU is not kept: it is to be given by further calls of this one, each for what the

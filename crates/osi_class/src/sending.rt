@@ -143,6 +143,23 @@ impl Outgoing {
         Ok(())
     }
 
+    /// Puts TSDUs themselves behind those that are to be sent: all or none. Their octets stay where they
+    /// are.
+    pub fn add_owned_all(&mut self, tsdus: Vec<Vec<u8>>) -> Result<(), AllocError>
+        ensures ok { OnOk result (self.new.unsent ≡ self.old.unsent ++ map (λ v. v.items) tsdus.items) }
+        ensures err { OnErr result (self.new ≡ self.old) }
+    {
+        let queued = queued_with(
+            self.queued,
+            octets_of(tsdus.as_slice())?,
+            self.current.len(),
+        )?;
+        let mut moved = VecDeque::from(tsdus);
+        self.queue.append(&mut moved)?;
+        self.queued = queued;
+        Ok(())
+    }
+
     /// Puts a TSDU itself behind those that are to be sent: its octets stay where they are. Where there
     /// are none, no memory is needed.
     pub fn add_owned(&mut self, tsdu: Vec<u8>) -> Result<(), AllocError>

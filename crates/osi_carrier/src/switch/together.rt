@@ -1,6 +1,7 @@
 //! TSDUs that are sent together.
 
 ghost use Rattle.std.specs.Prelude.{◌≡◌, ◌≢◌, [], length, map, nat_lt, Err, IfErr, None, Some, OnOk, OnErr};
+ghost use Rattle.std.specs.Cow.{cow_slice_items};
 ghost use Rattle.std.specs.List.{list_any};
 ghost use Rattle.osi_carrier.specs.Calls.{open_link, send_all_error, lengths_error, call_error, sent_all, pumps_all};
 ghost use Rattle.osi_carrier.specs.Rows.{place_of, value_at};
@@ -10,6 +11,8 @@ use super::Switch;
 use crate::faults::SendError;
 use crate::stages::Stage;
 use osi_class::LONGEST_TSDU;
+use std::alloc::Global;
+use std::borrow::CowSlice;
 
 /// Whether one of these TSDUs has over 1,048,576 octets.
 fn any_too_long(tsdus: &[Vec<u8>]) -> bool
@@ -21,12 +24,16 @@ fn any_too_long(tsdus: &[Vec<u8>]) -> bool
 impl Switch {
     /// Sends TSDUs together on an open connection, all or none: the first of them first, and all units that
     /// may be sent now are written. An empty list sends none, and takes no memory.
-    pub fn send_all(&mut self, reference: u16, tsdus: &[Vec<u8>]) -> Result<(), SendError>
-        ensures ok { OnOk result (self.new ≡ sent_all reference (map (λ v. v.items) tsdus.now) self.old) }
-        ensures allowed { OnOk result (send_all_error (map (λ v. v.items) tsdus.now) (open_link reference self.old) ≡ None) }
-        ensures refused { IfErr result (λ e. call_error e ≡ send_all_error (map (λ v. v.items) tsdus.now) (open_link reference self.old)) }
+    pub fn send_all(
+        &mut self,
+        reference: u16,
+        tsdus: CowSlice<'_, Vec<u8>, Global>,
+    ) -> Result<(), SendError>
+        ensures ok { OnOk result (self.new ≡ sent_all reference (map (λ v. v.items) (cow_slice_items tsdus.entry)) self.old) }
+        ensures allowed { OnOk result (send_all_error (map (λ v. v.items) (cow_slice_items tsdus.entry)) (open_link reference self.old) ≡ None) }
+        ensures refused { IfErr result (λ e. call_error e ≡ send_all_error (map (λ v. v.items) (cow_slice_items tsdus.entry)) (open_link reference self.old)) }
         ensures err { OnErr result (self.new ≡ self.old) }
-        ensures nothing { tsdus.now ≡ [] → result ≢ Err SendError.OutOfMemory }
+        ensures nothing { cow_slice_items tsdus.entry ≡ [] → result ≢ Err SendError.OutOfMemory }
     {
         if self.ended.is_some() {
             return Err(SendError::NotOpen);
@@ -45,20 +52,21 @@ impl Switch {
         place: usize,
         reference: u16,
         peer: u16,
-        tsdus: &[Vec<u8>],
+        tsdus: CowSlice<'_, Vec<u8>, Global>,
     ) -> Result<(), SendError>
         requires place { place_of reference self.old.live ≡ Some place }
         requires open { stage_of (value_at reference self.old.live) ≡ Stage.Open peer }
-        ensures ok { OnOk result (self.new ≡ pumps_all reference peer (link_in (value_at reference self.old.live)) (map (λ v. v.items) tsdus.now) self.old) }
-        ensures allowed { OnOk result (lengths_error (map (λ v. v.items) tsdus.now) ≡ None) }
-        ensures refused { IfErr result (λ e. call_error e ≡ lengths_error (map (λ v. v.items) tsdus.now)) }
+        ensures ok { OnOk result (self.new ≡ pumps_all reference peer (link_in (value_at reference self.old.live)) (map (λ v. v.items) (cow_slice_items tsdus.entry)) self.old) }
+        ensures allowed { OnOk result (lengths_error (map (λ v. v.items) (cow_slice_items tsdus.entry)) ≡ None) }
+        ensures refused { IfErr result (λ e. call_error e ≡ lengths_error (map (λ v. v.items) (cow_slice_items tsdus.entry))) }
         ensures err { OnErr result (self.new ≡ self.old) }
-        ensures nothing { tsdus.now ≡ [] → result ≢ Err SendError.OutOfMemory }
+        ensures nothing { cow_slice_items tsdus.entry ≡ [] → result ≢ Err SendError.OutOfMemory }
     {
-        if tsdus.is_empty() {
+        let lent = tsdus.as_slice();
+        if lent.is_empty() {
             return Ok(());
         }
-        if any_too_long(tsdus) {
+        if any_too_long(lent) {
             return Err(SendError::TooLong);
         }
         let Ok(()) = self

@@ -1,4 +1,4 @@
-use Rattle.std.proofs.Common.{◌<◌, ◌≤◌, length, map, sym, subst, arith}
+use Rattle.std.proofs.Common.{◌<◌, ◌≤◌, length, map, ap, sym, subst, ◌∙◌, arith}
 use Rattle.osi_class.specs.AnyLink.{any_standing}
 use Rattle.osi_class.specs.Giving.{all_given}
 use Rattle.osi_class.specs.Link.{Standing, with_tsdus}
@@ -9,7 +9,7 @@ use Rattle.osi_carrier.proofs.links.send_all_on.Goals as goal
 
 pub unreachable-requires : goal.unreachable-requires
 unreachable-requires c =
-    let then = with_tsdus (any_standing c.args.link.now) (map (λ v. v.items) c.args.tsdus.now) in
+    let then = with_tsdus (any_standing c.args.link.now) (map (λ v. v.items) c.as_slice-lent.result.now) in
     let least = c.room_for_all.ensures.at_least in
     let limit : 0 < then.ends.limit = omega arith in
     let most = c.what_units_take.ensures 9 then limit in
@@ -18,5 +18,5 @@ unreachable-requires c =
     let units = packets_most c.args.peer (all_given then) in
     let fits : length (packets (written_by c.args.peer then)) ≤ c.reserve.new.self.spare = omega arith in
     let never = c.in_default-write_all.ensures.enough
-    (subst (λ (s : Standing). length (packets (written_by c.args.peer s)) ≤ c.reserve.new.self.spare) (sym c.in_ok-send_tsdus.ensures.ok) fits) in
+    (subst (λ (s : Standing). length (packets (written_by c.args.peer s)) ≤ c.reserve.new.self.spare) (sym (c.in_ok-keep_all.ensures.ok ∙ ap (λ ts. with_tsdus (any_standing c.args.link.now) (map (λ v. v.items) ts)) (sym c.as_slice-lent.ensures.value))) fits) in
     cc

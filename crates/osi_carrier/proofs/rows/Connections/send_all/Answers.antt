@@ -1,4 +1,5 @@
 use Rattle.std.proofs.Common.{◌≡◌, ◌++◌, Option, OnOk, map, get_or, ap, sym, subst, ◌∙◌}
+use Rattle.std.specs.Cow.{cow_slice_items}
 use Rattle.osi_class.specs.Giving.{one_by_one}
 use Rattle.osi_carrier.specs.Pump.{written_for}
 use Rattle.osi_carrier.specs.Rows.{value_at}
@@ -20,16 +21,16 @@ returns-clause-rows c =
     let here = c.index_mut.ensures.value ∙ ap (λ l. get_or l c.args.place row) c.self.view_is in
     let was = here_is c.args.reference c.args.self.now c.args.place row c.requires.place here in
     stepped_rows c.send_all.result c.args.reference c.args.self.now c.self.inside.rows.items c.args.place row c.send_all.new.self
-    (linked c.args.peer (one_by_one (link_in (value_at c.args.reference c.args.self.now)) (map (λ v. v.items) c.args.tsdus.now)))
+    (linked c.args.peer (one_by_one (link_in (value_at c.args.reference c.args.self.now)) (map (λ v. v.items) (cow_slice_items c.args.tsdus))))
     c.requires.place here c.self.view_is
-    (subst (λ (o : Option Connection). OnOk c.send_all.result (c.send_all.new.self ≡ (row.0, linked c.args.peer (one_by_one (link_in o) (map (λ v. v.items) c.args.tsdus.now)))))
+    (subst (λ (o : Option Connection). OnOk c.send_all.result (c.send_all.new.self ≡ (row.0, linked c.args.peer (one_by_one (link_in o) (map (λ v. v.items) (cow_slice_items c.args.tsdus))))))
     (sym was) c.send_all.ensures.row)
 
 pub returns-clause-ok : goal.returns-clause-ok
 returns-clause-ok c =
     let row = c.index_mut.result.now in
     let here = c.index_mut.ensures.value ∙ ap (λ l. get_or l c.args.place row) c.self.view_is in
-    subst (λ (o : Option Connection). OnOk c.send_all.result (c.send_all.new.out.items ≡ c.args.out.now.items ++ packets (written_for c.args.peer (link_in o) (map (λ v. v.items) c.args.tsdus.now))))
+    subst (λ (o : Option Connection). OnOk c.send_all.result (c.send_all.new.out.items ≡ c.args.out.now.items ++ packets (written_for c.args.peer (link_in o) (map (λ v. v.items) (cow_slice_items c.args.tsdus)))))
     (sym (here_is c.args.reference c.args.self.now c.args.place row c.requires.place here)) c.send_all.ensures.ok
 
 pub invariant_of-self : goal.invariant_of-self

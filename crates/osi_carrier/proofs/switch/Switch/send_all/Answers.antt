@@ -1,4 +1,5 @@
 use Rattle.std.proofs.Common.{◌≡◌, OnOk, map, ap, sym, subst, ◌∙◌}
+use Rattle.std.specs.Cow.{cow_slice_items}
 use Rattle.osi_carrier.specs.Calls.{send_all_error}
 use Rattle.osi_carrier.specs.Rows.{value_at}
 use Rattle.osi_carrier.specs.Stages.{stage_of}
@@ -11,11 +12,11 @@ use Rattle.osi_carrier.proofs.switch.Switch.send_all.Goals as goal
 pub returns-in_default-clause-refused : goal.returns-in_default-clause-refused
 returns-in_default-clause-refused c =
     let none = ap (λ (s : State). value_at c.args.reference s.live) (sym c.self.view_is) ∙ nowhere c.args.reference c.self.inside.live (sym c.find.ensures ∙ c.in_default.is) in
-    sym (ap (send_all_error (map (λ v. v.items) c.args.tsdus.now)) (no_link c.args.reference c.args.self.now none))
+    sym (ap (send_all_error (map (λ v. v.items) (cow_slice_items c.args.tsdus))) (no_link c.args.reference c.args.self.now none))
 
 pub returns-in-Open-clause-ok : goal.returns-in-Open-clause-ok
 returns-in-Open-clause-ok c =
     let alive = ap (λ (s : State). s.ended) (sym c.self.view_is) ∙ none_of c.self.inside.ended (sym c.is_some.ensures ∙ c.if-is_some.false) in
     let here = ap (λ (s : State). stage_of (value_at c.args.reference s.live)) (sym c.self.view_is) ∙ sym c.in-Open.ensures in
     subst (λ (s : State). OnOk c.send_all_open.result (c.send_all_open.new.self ≡ s))
-    (sent_open c.args.reference c.in-Open.peer (map (λ v. v.items) c.args.tsdus.now) c.args.self.now alive here) c.send_all_open.ensures.ok
+    (sent_open c.args.reference c.in-Open.peer (map (λ v. v.items) (cow_slice_items c.args.tsdus)) c.args.self.now alive here) c.send_all_open.ensures.ok
