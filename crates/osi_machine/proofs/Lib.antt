@@ -3,6 +3,7 @@ pub mod Acting
 pub mod Alive
 pub mod Apart
 pub mod Begun
+pub mod CalmLaws
 pub mod ChannelLaws
 pub mod ConfirmCall
 pub mod Consistent

@@ -25,13 +25,13 @@ use Rattle.osi_machine.proofs.TablePromises.{sides_of_runs}
 
 -- ---- data that comes next
 
-unit_that_fits : (s : State) (u : Meaning) → Fits s u → is_over s.phase ≡ false → is_faulty (verdict s u) ≡ false
+pub unit_that_fits : (s : State) (u : Meaning) → Fits s u → is_over s.phase ≡ false → is_faulty (verdict s u) ≡ false
 unit_that_fits s u f o = elim (cases_Bool (drops s u)) [
   | inl d ↦ rw (o, d) refl
   | inr d ↦ ap is_faulty (good_is_fine s u o d (f.good d))
 ]
 
-unit_when_over : (s : State) (u : Meaning) → is_over s.phase ≡ true → is_faulty (verdict s u) ≡ false
+pub unit_when_over : (s : State) (u : Meaning) → is_over s.phase ≡ true → is_faulty (verdict s u) ≡ false
 unit_when_over s u o = rw o refl
 
 data_fits : (b : Bool) (w : World) (t u : Told) (octets : List ℕ) (ms : List Message) (h : Repeats b w t u) → w.peer.channel ≡ unit (DT octets) ∷ ms → stopped w.own ≡ false

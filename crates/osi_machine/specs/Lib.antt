@@ -1,4 +1,5 @@
 pub mod AsTables
+pub mod Calm
 pub mod Channels
 pub mod Core
 pub mod Examples

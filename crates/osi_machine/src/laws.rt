@@ -3,9 +3,10 @@
 ghost use Rattle.std.specs.Prelude.{◌≡◌, ◌<◌, ◌≤◌, ℕ, suc, List, [], ◌∷◌, ◌++◌, length, Some, None, is_some, true, false};
 ghost use Rattle.std.specs.List.{AllByRecursion};
 ghost use Rattle.osi_machine.specs.AsTables.{cut_line, AreSoundLines, AtEachSide, IsNoFaultNext, IsOverWhenLeft, IsAsTables, IsTableRun, AreOffered, OfEachLine, HoldNoneTwice, AreNoFaults, AreAgreed, IsShownAsAsked, IsSeenInBoth, TellsNoFault, LosesAsItEnds};
+ghost use Rattle.osi_machine.specs.Calm.{StaysCalm, IsNoFaultBehind};
 ghost use Rattle.osi_machine.specs.Core.{Core, CoreStep, Offer, CanBeOffered, Side, Left, Right, core_run, core_start};
 ghost use Rattle.osi_machine.specs.Examples.{all_tokens, lost_give_seen, after_lost_give, crossing_seen, after_crossing, two_points_seen, restart_below_seen, after_restart_below, last_point, last_point_seen, lost_release_seen, after_lost_release, both_send, both_send_seen, to_right, held_in, stands_at, next_at, lowest_at, history_of, up_to_first_point};
-ghost use Rattle.osi_machine.specs.Floor.{no_token, is_profile};
+ghost use Rattle.osi_machine.specs.Floor.{State, is_over, no_token, is_profile};
 ghost use Rattle.osi_machine.specs.Histories.{Agree};
 ghost use Rattle.osi_machine.specs.Machine.{IsLegal, Machine, Step, HasNumber, run, start, step, connection_at, with_connection};
 ghost use Rattle.osi_machine.specs.Parties.{AreConsistent, IsNumberedStep};
@@ -15,7 +16,7 @@ ghost use Rattle.osi_machine.specs.Sayings.{IsHeardAsSaid};
 ghost use Rattle.osi_machine.specs.Tables.{Line, Tables};
 ghost use Rattle.osi_machine.specs.Tables as tables;
 ghost use Rattle.osi_machine.specs.Views.{AreTold, left_told, right_told};
-ghost use Rattle.osi_machine.specs.Worlds.{Terms, accepts, class_2};
+ghost use Rattle.osi_machine.specs.Worlds.{Message, Terms, accepts, class_2};
 
 use osi_session::laws as session;
 
@@ -188,6 +189,20 @@ pub fn what_is_under_way_can_be_sent()
 /// whatever phase its session is; where that is over, data is discarded.
 pub fn the_next_is_no_fault()
     ensures { (t : Tables) → IsTableRun t → AtEachSide IsNoFaultNext t }
+{
+    session::numbers_stay_in_order();
+    session::what_is_sent_can_be_sent();
+    session::what_two_units_do();
+    session::what_an_accepted_call_passed();
+    session::an_empty_token_item_changes_nothing();
+}
+
+/// Over every list of steps, whatever is lost: data that is anywhere under way to a side is no fault there
+/// once what is ahead of it was taken, whatever calls the user of that side makes before. To a session that
+/// is over data is no fault, whatever comes before it.
+pub fn data_is_no_fault_behind()
+    ensures under_way { (t : Tables) → IsTableRun t → AtEachSide IsNoFaultBehind t }
+    ensures over_now { (s : State) (ms : List Message) → is_over s.phase ≡ true → StaysCalm s ms }
 {
     session::numbers_stay_in_order();
     session::what_is_sent_can_be_sent();

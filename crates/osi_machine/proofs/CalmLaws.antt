@@ -1,0 +1,281 @@
+-- Data that is anywhere under way to a side is no fault there, once what is ahead of it is taken: of whatever its user
+-- calls in between, the connection of which nothing is lost makes the same.
+use Rattle.std.proofs.Common.{◌≡◌, refl, sym, ◌∙◌, ap, subst, ℕ, Bool, true, false, if◌then◌else◌, List, [], ◌∷◌, ◌++◌, map, Some, None, Ok, Err, ◌⊎◌, inl, inr, append_assoc}
+use Rattle.std.proofs.lemmas.Bool.{cases_Bool}
+use Rattle.std.specs.List.{AllByRecursion, list_any}
+use Rattle.osi_session.specs.declared.faults.CallError.TheVariants as error
+use Rattle.osi_session.specs.Moves.{Input, called, taken, unread, opened, refused as refused_input, broken, Standing, rests, begun, denied as denied_by, react, answered as answered_move}
+use Rattle.osi_session.specs.Respond.{verdict, is_faulty, respond_all, acting, and_then}
+use Rattle.osi_message.specs.Sendable.{said_of}
+use Rattle.osi_machine.specs.Floor.{State, Meaning, DT, Call, Refuse, ReleaseAccept, Abort, HasSerial, CallError, Granted, Answer, Outcome, allowed, after, is_over, is_wait_transport, respond_unit}
+use Rattle.osi_machine.specs.Calm.{left_by, after_calls, after_message, IsCalm, StaysCalm, IsNoFaultBehind}
+use Rattle.osi_machine.specs.Channels.{AllFit}
+use Rattle.osi_machine.specs.Core.{Core, stays_in_core, answered, taking}
+use Rattle.osi_machine.specs.Worlds.{Message, unit, ask, agree, deny, bye, over, World, turned, session_of}
+use Rattle.osi_machine.specs.Machine.{Machine, connection_at}
+use Rattle.osi_machine.specs.Views.{Told}
+use Rattle.osi_machine.specs.Runs.{IsRun}
+use Rattle.osi_machine.specs.Tables.{Tables}
+use Rattle.osi_machine.specs.AsTables.{IsTableRun, AtEachSide}
+use Rattle.osi_machine.proofs.CoreLaws.{SessionLaws}
+use Rattle.osi_machine.proofs.Dispatch.{called_stands, taking_stands}
+use Rattle.osi_machine.proofs.MachineLaws.{stage_at}
+use Rattle.osi_machine.proofs.NextLaws.{unit_that_fits, unit_when_over}
+use Rattle.osi_machine.proofs.PhaseLaws.{excluded}
+use Rattle.osi_machine.proofs.ProjectLast.{over_next}
+use Rattle.osi_machine.proofs.ProjectStart.{Way, nothing_sent, asked, agreed, denied, asks, replies}
+use Rattle.osi_machine.proofs.ProjectWorld.{refused}
+use Rattle.osi_machine.proofs.Projects.{IsTail, Carried, session_is}
+use Rattle.osi_machine.proofs.Records.{Stands}
+use Rattle.osi_machine.proofs.TableLines.{SaysItsUnit}
+use Rattle.osi_machine.proofs.TablePromises.{sides_of_runs}
+use Rattle.osi_machine.proofs.Whole.{Stage, turned_stage}
+
+-- ---- a side that is over stays so
+
+abbrev standing : State → Standing
+standing s = record { state = s; waiting = None }
+
+accepted : (s : State) (c : Call) (g : Granted) → allowed s c ≡ Ok g → left_by s (called c) ≡ g.next
+unfolding react
+accepted s c g e = ap (λ (a : Answer). (answered_move (standing s) a).next.state) e
+
+unmoved : (s : State) (c : Call) (x : CallError) → allowed s c ≡ Err x → left_by s (called c) ≡ s
+unfolding react
+unmoved s c x e = ap (λ (a : Answer). (answered_move (standing s) a).next.state) e
+
+over_call : (s : State) (c : Call) → is_over s.phase ≡ true → is_over (left_by s (called c)).phase ≡ true
+over_call s c o = ap (λ (x : State). is_over x.phase) (unmoved s c error.Ended (refused s c o)) ∙ o
+
+pub over_calls : (s : State) (calls : List Call) → is_over s.phase ≡ true → is_over (after_calls s calls).phase ≡ true
+over_calls s [] o = o
+over_calls s (c ∷ calls) o = over_calls (left_by s (called c)) calls (over_call s c o)
+
+either : (b : Bool) (x y : Outcome) → is_over x.next.phase ≡ true → is_over y.next.phase ≡ true → is_over (if b then x else y).next.phase ≡ true
+either true x y p q = p
+either false x y p q = q
+
+over_all : (s : State) (us : List Meaning) → is_over s.phase ≡ true → is_over (respond_all s us).next.phase ≡ true
+unfolding respond_all
+over_all s [] o = o
+over_all s (u ∷ us) o = either (is_faulty (verdict s u)) (respond_unit s u) (and_then (respond_unit s u) (respond_all (respond_unit s u).next us)) (over_next s u o)
+    (over_all (respond_unit s u).next us (over_next s u o))
+
+over_unit : (s : State) (u : Meaning) → is_over s.phase ≡ true → is_over (left_by s (taken (said_of u))).phase ≡ true
+unfolding react
+over_unit s u o = over_all s (acting (said_of u)) o
+
+not_waiting : (s : State) → is_over s.phase ≡ true → is_wait_transport s.phase ≡ false
+not_waiting s o = excluded is_over is_wait_transport refl s.phase o
+
+pub over_message : (s : State) (m : Message) → is_over s.phase ≡ true → is_over (after_message s m).phase ≡ true
+unfolding react
+over_message s (unit u) o = over_unit s u o
+over_message s ask o = o
+over_message s agree o = subst (λ (b : Bool). is_over (if b then begun (standing s) else rests (standing s)).next.state.phase ≡ true) (sym (not_waiting s o)) o
+over_message s (deny reason) o = subst (λ (b : Bool). is_over (if b then denied_by reason (standing s) else rests (standing s)).next.state.phase ≡ true) (sym (not_waiting s o)) o
+over_message s (bye reason) o = refl
+over_message s over o = o
+
+pub over_calm : (s : State) (ms : List Message) → is_over s.phase ≡ true → StaysCalm s ms
+over_calm s [] o = λ calls small octets. unit_when_over (after_calls s calls) (DT octets) (over_calls s calls o)
+over_calm s (m ∷ ms) o = λ calls small. over_calm (after_message (after_calls s calls) m) ms (over_message (after_calls s calls) m (over_calls s calls o))
+
+-- ---- the CN that waits makes no difference
+
+answer_left : (x : Standing) (a : Answer) → (answered_move (standing x.state) a).next.state ≡ (answered_move x a).next.state
+answer_left x (Ok g) = refl
+answer_left x (Err e) = refl
+
+begun_left : (b : Bool) (x : Standing) → (if b then begun (standing x.state) else rests (standing x.state)).next.state ≡ (if b then begun x else rests x).next.state
+begun_left true x = refl
+begun_left false x = refl
+
+denied_left : (b : Bool) (reason : ℕ) (x : Standing) → (if b then denied_by reason (standing x.state) else rests (standing x.state)).next.state ≡ (if b then denied_by reason x else rests x).next.state
+denied_left true reason x = refl
+denied_left false reason x = refl
+
+pub left_is : (x : Standing) (input : Input) → left_by x.state input ≡ (react x input).next.state
+unfolding react
+left_is x (called c) = answer_left x (allowed x.state c)
+left_is x (taken said) = refl
+left_is x (unread fault) = refl
+left_is x opened = begun_left (is_wait_transport x.state.phase) x
+left_is x (refused_input reason) = denied_left (is_wait_transport x.state.phase) reason x
+left_is x broken = refl
+
+-- ---- a call of its user
+
+call_first : (s : State) (c : Call) (ms : List Message) → HasSerial c → StaysCalm s ms → StaysCalm (left_by s (called c)) ms
+call_first s c [] small calm = λ calls numbered. calm (c ∷ calls) (small, numbered)
+call_first s c (m ∷ ms) small calm = λ calls numbered. calm (c ∷ calls) (small, numbered)
+
+pub called_calm : (x : Standing) (c : Call) (ms : List Message) → HasSerial c → StaysCalm x.state ms → StaysCalm (react x (called c)).next.state ms
+called_calm x c ms small calm = subst (λ (s : State). StaysCalm s ms) (left_is x (called c)) (call_first x.state c ms small calm)
+
+-- ---- a side of a connection of which nothing is lost
+
+record HasCore (s : State) (sent : List Meaning) : Type 0 where
+  core : Core
+  stands : Stands core
+  is : s ≡ core.own.session
+  way : core.peer.sent ≡ sent
+
+abbrev Lives : State → List Meaning → Type 0
+Lives s sent = (is_over s.phase ≡ true) ⊎ HasCore s sent
+
+stop_over : (s : State) (c : Call) → stays_in_core c ≡ false → is_over (after s c).phase ≡ true
+stop_over s (Refuse x) k = refl
+stop_over s (ReleaseAccept x) k = refl
+stop_over s (Abort x) k = refl
+stop_over s _ k = absurd (cc)
+
+granted : SessionLaws → (c : Core) (call : Call) (sent : List Meaning) → HasSerial call → Stands c → c.peer.sent ≡ sent → (g : Granted) → allowed c.own.session call ≡ Ok g → (k : Bool) → stays_in_core call ≡ k → Lives g.next sent
+granted laws c call sent small stands way g e true q = inr (record {
+  core = answered c call (Ok g);
+  stands = subst (λ (a : Answer). Stands (answered c call a)) e
+      (subst (λ (b : Bool). Stands (if b then answered c call (allowed c.own.session call) else c)) q (called_stands laws c call small stands));
+  is = refl;
+  way = way;
+})
+granted laws c call sent small stands way g e false q =
+    inl (ap (λ (x : Granted). is_over x.next.phase) (laws.passed c.own.session call g e).gives ∙ stop_over c.own.session call q)
+
+answers : SessionLaws → (c : Core) (call : Call) (sent : List Meaning) → HasSerial call → Stands c → c.peer.sent ≡ sent → (a : Answer) → allowed c.own.session call ≡ a → Lives (left_by c.own.session (called call)) sent
+answers laws c call sent small stands way (Ok g) e =
+    subst (λ (s : State). Lives s sent) (sym (accepted c.own.session call g e)) (granted laws c call sent small stands way g e (stays_in_core call) refl)
+answers laws c call sent small stands way (Err x) e =
+    inr (record { core = c; stands = stands; is = unmoved c.own.session call x e; way = way })
+
+one_call : SessionLaws → (s : State) (call : Call) (sent : List Meaning) → HasSerial call → Lives s sent → Lives (left_by s (called call)) sent
+one_call laws s call sent small (inl o) = inl (over_call s call o)
+one_call laws s call sent small (inr h) =
+    subst (λ (x : State). Lives (left_by x (called call)) sent) (sym h.is) (answers laws h.core call sent small h.stands h.way (allowed h.core.own.session call) refl)
+
+all_calls : SessionLaws → (s : State) (calls : List Call) (sent : List Meaning) → AllByRecursion HasSerial calls → Lives s sent → Lives (after_calls s calls) sent
+all_calls laws s [] sent small h = h
+all_calls laws s (c ∷ calls) sent small h = all_calls laws (left_by s (called c)) calls sent small.1 (one_call laws s c sent small.0 h)
+
+said : SaysItsUnit → (s : State) (u : Meaning) → left_by s (taken (said_of u)) ≡ (respond_unit s u).next
+unfolding react
+said says s u = ap (λ (o : Outcome). o.next) (says s u)
+
+one_unit : SessionLaws → SaysItsUnit → (s : State) (u : Meaning) (sent : List Meaning) → Lives s (u ∷ sent) → Lives (left_by s (taken (said_of u))) sent
+one_unit laws says s u sent (inl o) = inl (over_unit s u o)
+one_unit laws says s u sent (inr h) =
+    subst (λ (x : State). Lives x sent) (ap (λ (x : State). (respond_unit x u).next) (sym h.is) ∙ sym (said says s u))
+    (inr (record { core = taking h.core (u ∷ sent); stands = taking_stands laws h.core (u ∷ sent) h.way h.stands; is = refl; way = refl }))
+
+no_fault_first : (s : State) (octets : List ℕ) (rest : List Meaning) → Lives s (DT octets ∷ rest) → IsCalm s
+no_fault_first s octets rest (inl o) x = unit_when_over s (DT x) o
+no_fault_first s octets rest (inr h) x = elim (cases_Bool (is_over s.phase)) [
+  | inl o ↦ unit_when_over s (DT x) o
+  | inr o ↦ unit_that_fits s (DT octets) (subst (λ (t : State). AllFit t (DT octets ∷ rest)) (sym h.is) (subst (AllFit h.core.own.session) h.way h.stands.own.fits)).0 o
+]
+
+calm_behind : SessionLaws → SaysItsUnit → (s : State) (us : List Meaning) (octets : List ℕ) (rest : List Meaning) → Lives s (us ++ DT octets ∷ rest) → StaysCalm s (map unit us)
+calm_behind laws says s [] octets rest h = λ calls small. no_fault_first (after_calls s calls) octets rest (all_calls laws s calls (DT octets ∷ rest) small h)
+calm_behind laws says s (u ∷ us) octets rest h = λ calls small.
+    calm_behind laws says (left_by (after_calls s calls) (taken (said_of u))) us octets rest
+    (one_unit laws says (after_calls s calls) u (us ++ DT octets ∷ rest) (all_calls laws s calls (u ∷ (us ++ DT octets ∷ rest)) small h))
+
+-- ---- what is under way
+
+-- the units ahead of the data, where it is under way in the other connection too
+record Ahead (ms : List Message) (octets : List ℕ) (there : List Meaning) : Type 0 where
+  units : List Meaning
+  rest : List Meaning
+  ahead : ms ≡ map unit units
+  splits : there ≡ units ++ DT octets ∷ rest
+
+no_data_last : (b : Bool) (s : State) (lost tail : List Meaning) (ms : List Message) (octets : List ℕ) (rest : List Message) → IsTail b s lost tail → ms ++ unit (DT octets) ∷ rest ≡ map unit tail → ⊥
+no_data_last b s lost [] [] octets rest t e = cc
+no_data_last b s lost [] (m ∷ ms) octets rest t e = cc
+no_data_last b s lost (DT x ∷ []) [] octets rest t e = t.2
+no_data_last b s lost (u ∷ []) [] octets rest t e = cc
+no_data_last b s lost (u ∷ []) (m ∷ []) octets rest t e = cc
+no_data_last b s lost (u ∷ []) (m ∷ (n ∷ ms)) octets rest t e = cc
+no_data_last b s lost (u ∷ (v ∷ us)) ms octets rest t e = t
+
+first_is : (u : Meaning) (octets : List ℕ) (there : List Meaning) → DT octets ≡ u → u ∷ there ≡ DT octets ∷ there
+first_is u octets there e = ap (λ (v : Meaning). v ∷ there) (sym e)
+
+one_more : (u : Meaning) (m : Message) (ms : List Message) (octets : List ℕ) (there : List Meaning) → m ≡ unit u → Ahead ms octets there → Ahead (m ∷ ms) octets (u ∷ there)
+one_more u m ms octets there e h = record {
+  units = u ∷ h.units;
+  rest = h.rest;
+  ahead = λ i. e i ∷ h.ahead i;
+  splits = ap (λ (l : List Meaning). u ∷ l) h.splits;
+}
+
+ahead_of : (b : Bool) (s : State) (lost there tail : List Meaning) (ms : List Message) (octets : List ℕ) (rest : List Message) → IsTail b s lost tail → ms ++ unit (DT octets) ∷ rest ≡ map unit (there ++ tail) →
+    Ahead ms octets there
+ahead_of b s lost [] tail ms octets rest t e = absurd (no_data_last b s lost tail ms octets rest t e)
+ahead_of b s lost (u ∷ there) tail [] octets rest t e =
+    let same : DT octets ≡ u = cc in
+    record { units = []; rest = there; ahead = refl; splits = first_is u octets there same }
+ahead_of b s lost (u ∷ there) tail (m ∷ ms) octets rest t e =
+    let one : m ≡ unit u = cc in
+    let more : ms ++ unit (DT octets) ∷ rest ≡ map unit (there ++ tail) = cc in
+    one_more u m ms octets there one (ahead_of b s lost there tail ms octets rest t more)
+
+carried_calm : SessionLaws → SaysItsUnit → (b o : Bool) (c : Core) (ch ms : List Message) (octets : List ℕ) (rest : List Message) → Stands c → Carried b o ch c.peer.sent c.peer.session → ch ≡ ms ++ unit (DT octets) ∷ rest → StaysCalm c.own.session ms
+carried_calm laws says b o c ch ms octets rest stands k e =
+    let h = ahead_of o c.peer.session k.lost k.there k.tail ms octets rest k.last (sym e ∙ k.carries) in
+    subst (StaysCalm c.own.session) (sym h.ahead)
+    (calm_behind laws says c.own.session h.units octets (h.rest ++ k.lost) (inr (record {
+      core = c;
+      stands = stands;
+      is = refl;
+      way = sym k.splits ∙ ap (λ (l : List Meaning). l ++ k.lost) h.splits ∙ append_assoc h.units (DT octets ∷ h.rest) k.lost;
+    })))
+
+-- ---- at every step
+
+abbrev is_unit : Message → Bool
+is_unit (unit u) = true
+is_unit m = false
+
+has_unit : (ms : List Message) (u : Meaning) (rest : List Message) → list_any is_unit (ms ++ unit u ∷ rest) ≡ true
+has_unit [] u rest = refl
+has_unit (unit v ∷ ms) u rest = refl
+has_unit (ask ∷ ms) u rest = has_unit ms u rest
+has_unit (agree ∷ ms) u rest = has_unit ms u rest
+has_unit (deny r ∷ ms) u rest = has_unit ms u rest
+has_unit (bye r ∷ ms) u rest = has_unit ms u rest
+has_unit (over ∷ ms) u rest = has_unit ms u rest
+
+no_unit_replied : (way : Way) → list_any is_unit (replies way) ≡ false
+no_unit_replied nothing_sent = refl
+no_unit_replied asked = refl
+no_unit_replied agreed = refl
+no_unit_replied (denied r) = refl
+
+no_unit_asked : (way : Way) → list_any is_unit (asks way) ≡ false
+no_unit_asked nothing_sent = refl
+no_unit_asked asked = refl
+no_unit_asked agreed = refl
+no_unit_asked (denied r) = refl
+
+never_both : {A : Type 0} (b : Bool) → b ≡ true → b ≡ false → A
+never_both b p q = absurd (cc)
+
+no_fault_behind : SessionLaws → SaysItsUnit → (b : Bool) (w : World) (t u : Told) → Stage b w t u → IsNoFaultBehind (session_of w) w.peer.channel
+no_fault_behind laws says b w t u (inl h) ms octets rest e =
+    never_both _ (ap (list_any is_unit) e ∙ has_unit ms (DT octets) rest) (ap (list_any is_unit) h.peer_channel ∙ no_unit_replied h.way)
+no_fault_behind laws says b w t u (inr (inl h)) ms octets rest e =
+    never_both _ (ap (list_any is_unit) e ∙ has_unit ms (DT octets) rest) (ap (list_any is_unit) h.own_channel ∙ no_unit_asked h.way)
+no_fault_behind laws says b w t u (inr (inr h)) ms octets rest e = elim (cases_Bool (is_over (session_of w).phase)) [
+  | inl o ↦ over_calm (session_of w) ms o
+  | inr o ↦ let same = session_is w h.core h.stands h.projects.history h.projects.own.counted (h.projects.own.alike o) in
+      subst (λ (s : State). StaysCalm s ms) (sym same) (carried_calm laws says b _ h.core w.peer.channel ms octets rest h.stands (h.projects.own.carried o) e)
+]
+
+no_faults_behind : SessionLaws → SaysItsUnit → (m : Machine) → IsRun m → (r : ℕ) (w : World) → connection_at r m.worlds ≡ Some w
+    → IsNoFaultBehind (session_of w) w.peer.channel × IsNoFaultBehind (session_of (turned w)) w.own.channel
+no_faults_behind laws says m h r w e =
+    let s = stage_at laws m h r w e in
+    (no_fault_behind laws says m.broken w _ _ s, no_fault_behind laws says m.broken (turned w) _ _ (turned_stage m.broken w _ _ s))
+
+pub behind_is_no_fault : SessionLaws → SaysItsUnit → (t : Tables) → IsTableRun t → AtEachSide IsNoFaultBehind t
+behind_is_no_fault laws says = sides_of_runs laws says IsNoFaultBehind (no_faults_behind laws says)
