@@ -64,7 +64,7 @@ shown_join r [] b = refl
 shown_join r (x ∷ a) b = ap (λ (l : List (ℕ × Shown)). (r, x) ∷ l) (shown_join r a b)
 
 -- that it is lost is told behind all else
-lost_told : (r : ℕ) (t : List (ℕ × Shown)) (lines : Rows Line) → AreApart lines →
+pub lost_told : (r : ℕ) (t : List (ℕ × Shown)) (lines : Rows Line) → AreApart lines →
     told_of r (t ++ all_waiting (all_lost lines)) ≡ told_of r (t ++ all_waiting lines) ++ shown_of r (shown_at_loss (kept_at r lines))
 lost_told r t lines apart =
     let lost = shown_of r (shown_at_loss (kept_at r lines)) in

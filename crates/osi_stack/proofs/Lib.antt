@@ -42,4 +42,11 @@ pub mod Rounds
 pub mod Asked
 pub mod Breaking
 pub mod WholeRuns
+pub mod Pruning
+pub mod Reached
+pub mod Answered
+pub mod Awaiting
+pub mod InLive
+pub mod Looks
+pub mod Whatever
 pub mod Made

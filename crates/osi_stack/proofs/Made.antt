@@ -139,7 +139,7 @@ given_known g q input e past up k = record {
 
 -- ---- a new session
 
-kept_joined : (q r : ℕ) (s t : Listener) (live : Rows Connection) (lines : Rows Line) (b : Bool) → (q == r) ≡ b → value_at q lines ≡ None → Stays r live (joined_lines q s lines) →
+pub kept_joined : (q r : ℕ) (s t : Listener) (live : Rows Connection) (lines : Rows Line) (b : Bool) → (q == r) ≡ b → value_at q lines ≡ None → Stays r live (joined_lines q s lines) →
     kept_at r (used_lines live (joined_lines q s lines)) ≡ Some t → ((q ≡ r) × (t ≡ s)) ⊎ ((q ≡ r → ⊥) × (kept_at r lines ≡ Some t))
 kept_joined q r s t live lines true at none (inl same) is =
     let e = eqb-true q r at in

@@ -6,6 +6,7 @@ use Rattle.std.specs.List.{flat_map}
 use Rattle.osi_tpkt.specs.Held.{Held}
 use Rattle.osi_tpkt.specs.Packet.{IsPartial}
 use Rattle.osi_tpkt.specs.Stream.{ArePackets, offset_of}
+use Rattle.osi_tpkt.specs.declared.faults.TpktFault.{TpktFault}
 use Rattle.osi_tpdu.specs.Limits.{tsap_octets}
 use Rattle.osi_carrier.proofs.InFront.{apart_all}
 use Rattle.osi_carrier.proofs.Pieces.{OneCut}
@@ -19,25 +20,57 @@ use Rattle.osi_session.specs.Shown.{Shown}
 use Rattle.osi_stack.specs.Calls.{connects, calls_with}
 use Rattle.osi_stack.specs.Hearing.{ends}
 use Rattle.osi_stack.specs.Messages.{all_waiting}
-use Rattle.osi_stack.specs.Rounds.{UserCall, user_does, Round, WaitForLive, MayCall, IsCalled, RoundsAlong, calls_of, AreInStep}
+use Rattle.osi_stack.specs.Rounds.{UserCall, user_does, Round, WaitForLive, MayCall, IsCalled, RoundsBy, RoundsAlong, calls_of, AreInStep}
 use Rattle.osi_stack.specs.Rounds.UserCall.{connecting, calling, breaking}
-use Rattle.osi_stack.specs.Runs.{hushed, put_back, Account, account_of, with_packets, Call, CallsAlong, used_in, told_in, carried_in, account_along, AreAlike}
+use Rattle.osi_stack.specs.Runs.{hushed, put_back, Account, account_of, with_packet, with_packets, Call, CallsAlong, used_in, told_in, carried_in, account_along, AreAlike}
 use Rattle.osi_stack.specs.State.{Line, End, Holding, joins, waits}
 use Rattle.osi_stack.specs.declared.connecting.Connect.{Connect}
 use Rattle.osi_stack.proofs.Accounts.{made, after_more, account_quiet, account_joined, packets_apart}
 use Rattle.osi_stack.proofs.Asking.{wait_push, joins_alike}
+use Rattle.osi_stack.proofs.Endings.{faulted}
 use Rattle.osi_stack.proofs.Hushing.{account_calling}
 use Rattle.osi_stack.proofs.InFront.{apart_session}
-use Rattle.osi_stack.proofs.Runs.{calls_read}
+use Rattle.osi_stack.proofs.Lasting.{account_over}
+use Rattle.osi_stack.proofs.Pieces.{none_of}
+use Rattle.osi_stack.proofs.Runs.{never, calls_read}
 
--- two ends, of which this was told and carried, that are the same
-pub record Same (t : List (ℕ × Shown)) (o : List ℕ) (a : Holding) (u : List (ℕ × Shown)) (p : List ℕ) (b : Holding) : Type 0 where
+-- ---- accounts that are alike
+
+-- They stay so, whatever packet acts, and whatever call the user makes of both.
+pub record Likeness (May : UserCall → End → Type 0) (Like : Account → Account → Type 0) : Type 0 where
+  pub packet : (x y : Account) (unit : List ℕ) → x.end.carrier.ended ≡ None → Like x y → Like (with_packet x unit) (with_packet y unit)
+  pub fault : (x y : Account) (fault : TpktFault) → x.end.carrier.ended ≡ None → Like x y → Like (faulted fault x) (faulted fault y)
+  pub call : (t : List (ℕ × Shown)) (o : List ℕ) (a : End) (u : List (ℕ × Shown)) (p : List ℕ) (b : End) (call : UserCall) → a.carrier.ended ≡ None → May call a → May call b →
+      Like (account_of t o a) (account_of u p b) → Like (account_of t o (user_does call a)) (account_of u p (user_does call b))
+  pub ended : (x y : Account) → Like x y → x.end.carrier.ended ≡ y.end.carrier.ended
+  pub turned : (x y : Account) → Like x y → Like y x
+
+-- of what is the same
+pub alike_at : (Like : Account → Account → Type 0) (x y v w : Account) → x ≡ v → y ≡ w → Like v w → Like x y
+alike_at Like x y v w e f like = subst (λ (z : Account). Like z y) (sym e) (subst (Like v) (sym f) like)
+
+-- an account of which packets make one that lasts
+pub lasts_before : (units : List (List ℕ)) (x : Account) → (with_packets units x).end.carrier.ended ≡ None → x.end.carrier.ended ≡ None
+lasts_before units x lasts = by (is_some x.end.carrier.ended) refl
+  where
+    by : (b : Bool) → is_some x.end.carrier.ended ≡ b → x.end.carrier.ended ≡ None
+    by false e = none_of x.end.carrier.ended e
+    by true e = never (with_packets units x).end (account_over units x e) lasts
+
+pub packets_alike : (May : UserCall → End → Type 0) (Like : Account → Account → Type 0) → Likeness May Like → (units : List (List ℕ)) (x y : Account) →
+    (with_packets units x).end.carrier.ended ≡ None → Like x y → Like (with_packets units x) (with_packets units y)
+packets_alike May Like l [] x y lasts like = like
+packets_alike May Like l (unit ∷ units) x y lasts like =
+    packets_alike May Like l units (with_packet x unit) (with_packet y unit) lasts (l.packet x y unit (lasts_before (unit ∷ units) x lasts) like)
+
+-- two ends, of which this was told and carried, that are alike
+pub record Same (Like : Account → Account → Type 0) (t : List (ℕ × Shown)) (o : List ℕ) (a : Holding) (u : List (ℕ × Shown)) (p : List ℕ) (b : Holding) : Type 0 where
   pub octets : a.held.octets ≡ b.held.octets
-  pub account : account_of t o a.end ≡ account_of u p b.end
+  pub account : Like (account_of t o a.end) (account_of u p b.end)
 
 -- and whose packet under way stands at one place
-pub record Are (t : List (ℕ × Shown)) (o : List ℕ) (a : Holding) (u : List (ℕ × Shown)) (p : List ℕ) (b : Holding) : Type 0 where
-  pub same : Same t o a u p b
+pub record Are (Like : Account → Account → Type 0) (t : List (ℕ × Shown)) (o : List ℕ) (a : Holding) (u : List (ℕ × Shown)) (p : List ℕ) (b : Holding) : Type 0 where
+  pub same : Same Like t o a u p b
   pub partial : IsPartial a.held.octets
   pub offset : a.held.offset ≡ b.held.offset
   pub bound : a.held.offset < 2 ^ 64
@@ -53,29 +86,35 @@ account_on t o old calls new packets h =
     ∙ ap (after_more t o) h ∙ sym (packets_apart t o packets (account_of [] [] old.end))
 
 -- what was held and what was used
-pub used_alike : (t : List (ℕ × Shown)) (o : List ℕ) (a : Holding) (u : List (ℕ × Shown)) (p : List ℕ) (b : Holding) (xs ys : List Call) → Same t o a u p b → flat_map used_in xs ≡ flat_map used_in ys →
+pub used_alike : (a b : Holding) (xs ys : List Call) → a.held.octets ≡ b.held.octets → flat_map used_in xs ≡ flat_map used_in ys →
     a.held.octets ++ flat_map used_in xs ≡ b.held.octets ++ flat_map used_in ys
-used_alike t o a u p b xs ys same used = ap (λ l. l ++ flat_map used_in xs) same.octets ∙ ap (λ l. b.held.octets ++ l) used
+used_alike a b xs ys same used = ap (λ l. l ++ flat_map used_in xs) same ∙ ap (λ l. b.held.octets ++ l) used
 
 small_offset : (n at : ℕ) → n ≡ offset_of at → n < 2 ^ 64
 small_offset n at e = omega arith
 
-pub calls_alike : IsPartial [] → OneCut → (t : List (ℕ × Shown)) (o : List ℕ) (a : Holding) (u : List (ℕ × Shown)) (p : List ℕ) (b : Holding) (xs ys : List Call) (c d : Holding) → Are t o a u p b →
+pub calls_alike : (May : UserCall → End → Type 0) (Like : Account → Account → Type 0) → Likeness May Like → IsPartial [] → OneCut →
+    (t : List (ℕ × Shown)) (o : List ℕ) (a : Holding) (u : List (ℕ × Shown)) (p : List ℕ) (b : Holding) (xs ys : List Call) (c d : Holding) → Are Like t o a u p b →
     CallsAlong a xs c → CallsAlong b ys d → flat_map used_in xs ≡ flat_map used_in ys → c.end.carrier.ended ≡ None → d.end.carrier.ended ≡ None →
-    Are (t ++ flat_map told_in xs) (o ++ flat_map carried_in xs) c (u ++ flat_map told_in ys) (p ++ flat_map carried_in ys) d
-calls_alike nothing one_cut t o a u p b xs ys c d are h k used lasts still =
+    Are Like (t ++ flat_map told_in xs) (o ++ flat_map carried_in xs) c (u ++ flat_map told_in ys) (p ++ flat_map carried_in ys) d
+calls_alike May Like l nothing one_cut t o a u p b xs ys c d are h k used lasts still =
     let m = calls_read nothing a xs c h lasts in
     let n = calls_read nothing b ys d k still in
-    let same : a.held.octets ++ flat_map used_in xs ≡ b.held.octets ++ flat_map used_in ys = used_alike t o a u p b xs ys are.same used in
+    let same : a.held.octets ++ flat_map used_in xs ≡ b.held.octets ++ flat_map used_in ys = used_alike a b xs ys are.same.octets used in
     let one = one_cut (a.held.octets ++ flat_map used_in xs) c.held.octets d.held.octets m.packets n.packets (m.partial are.partial)
     (n.partial (subst IsPartial are.same.octets are.partial)) m.cut (subst (λ l. ArePackets n.packets l d.held.octets) (sym same) n.cut) in
     let at = m.offset are.bound in
     let at' = n.offset (subst (λ (k : ℕ). k < 2 ^ 64) are.offset are.bound) in
+    let left = account_of t o a.end in
+    let right = account_of u p b.end in
+    let here = account_on t o a xs c m.packets m.account in
+    let there = account_on u p b ys d n.packets n.account ∙ ap (λ us. with_packets us right) (sym one.0) in
     record {
       same = record {
         octets = one.1;
-        account = account_on t o a xs c m.packets m.account ∙ ap (λ l. with_packets l (account_of t o a.end)) one.0
-            ∙ ap (with_packets n.packets) are.same.account ∙ sym (account_on u p b ys d n.packets n.account);
+        account = alike_at Like (account_of (t ++ flat_map told_in xs) (o ++ flat_map carried_in xs) c.end) (account_of (u ++ flat_map told_in ys) (p ++ flat_map carried_in ys) d.end)
+            (with_packets m.packets left) (with_packets m.packets right) here there
+            (packets_alike May Like l m.packets left right (ap (λ (x : Account). x.end.carrier.ended) (sym here) ∙ lasts) are.same.account);
       };
       partial = m.partial are.partial;
       offset = at ∙ ap (λ k. offset_of (k + (length (a.held.octets ++ flat_map used_in xs) - length c.held.octets))) are.offset
@@ -105,7 +144,7 @@ account_still : (t : List (ℕ × Shown)) (o : List ℕ) (e : End) → waits e.l
 account_still t o e quiet = ap (after_more t o) (account_quiet e quiet) ∙ ap (made (put_back o e)) (append-nil t)
 
 -- what a call of the user makes of an account
-abbrev called_by : UserCall → Account → Account
+abbrev pub called_by : UserCall → Account → Account
 called_by call a = account_of a.told [] (user_does call a.end)
 
 called_still : (t : List (ℕ × Shown)) (o : List ℕ) (call : UserCall) (e : End) → waits e.lines ≡ false → account_of t o (user_does call e) ≡ called_by call (account_of t o e)
@@ -124,107 +163,132 @@ account_connecting t o c e h =
     ∙ ap (made (put_back o (hushed there))) (sym (append-nil told) ∙ ap (λ (w : List (ℕ × Shown)). told ++ w) (sym j.none))
     ∙ ap (account_of told []) (sym (connects_apart o c (hushed e)))
 
-account_called : (t : List (ℕ × Shown)) (o : List ℕ) (call : UserCall) (e : End) → MayCall call e → account_of t o (user_does call e) ≡ called_by call (account_of t o e)
+pub account_called : (t : List (ℕ × Shown)) (o : List ℕ) (call : UserCall) (e : End) → MayCall call e → account_of t o (user_does call e) ≡ called_by call (account_of t o e)
 account_called t o (connecting c) e h = account_connecting t o c e h
 account_called t o (calling r call) e h = account_calling t o r call e h
 account_called t o breaking e h = called_still t o breaking e h
 
+-- accounts that are the same
+pub exactly : Likeness MayCall (λ (x y : Account). x ≡ y)
+exactly = record {
+  packet = λ x y unit lasts same. ap (λ (a : Account). with_packet a unit) same;
+  fault = λ x y fault lasts same. ap (faulted fault) same;
+  call = λ t o a u p b call lasts h k same. account_called t o call a h ∙ ap (called_by call) same ∙ sym (account_called u p call b k);
+  ended = λ x y same. ap (λ (a : Account). a.end.carrier.ended) same;
+  turned = λ x y same. sym same;
+}
+
+-- ---- rounds
+
 -- the packet under way stays as it is
-held_alike : (t : List (ℕ × Shown)) (o : List ℕ) (a : Holding) (u : List (ℕ × Shown)) (p : List ℕ) (b c d : Holding) → Are t o a u p b → c.held ≡ a.held → d.held ≡ b.held →
-    account_of t o c.end ≡ account_of u p d.end → Are t o c u p d
-held_alike t o a u p b c d are h k account = record {
+held_alike : (Like : Account → Account → Type 0) (t : List (ℕ × Shown)) (o : List ℕ) (a : Holding) (u : List (ℕ × Shown)) (p : List ℕ) (b c d : Holding) → Are Like t o a u p b → c.held ≡ a.held → d.held ≡ b.held →
+    Like (account_of t o c.end) (account_of u p d.end) → Are Like t o c u p d
+held_alike Like t o a u p b c d are h k account = record {
   same = record { octets = ap (λ (x : Held). x.octets) h ∙ are.same.octets ∙ ap (λ (x : Held). x.octets) (sym k); account = account };
   partial = subst (λ (x : Held). IsPartial x.octets) (sym h) are.partial;
   offset = ap (λ (x : Held). x.offset) h ∙ are.offset ∙ ap (λ (x : Held). x.offset) (sym k);
   bound = subst (λ (x : Held). x.offset < 2 ^ 64) (sym h) are.bound;
 }
 
-user_alike : (t : List (ℕ × Shown)) (o : List ℕ) (a : Holding) (u : List (ℕ × Shown)) (p : List ℕ) (b : Holding) (call : Option UserCall) (c d : Holding) → Are t o a u p b →
-    IsCalled a call c → IsCalled b call d → Are t o c u p d
-user_alike t o a u p b None c d are h k =
-    held_alike t o a u p b c d are (ap (λ (x : Holding). x.held) h.1) (ap (λ (x : Holding). x.held) k.1)
-    (ap (λ (x : Holding). account_of t o x.end) h.1 ∙ are.same.account ∙ ap (λ (x : Holding). account_of u p x.end) (sym k.1))
-user_alike t o a u p b (Some call) c d are h k =
-    held_alike t o a u p b c d are (ap (λ (x : Holding). x.held) h.2) (ap (λ (x : Holding). x.held) k.2)
-    (ap (λ (x : Holding). account_of t o x.end) h.2 ∙ account_called t o call a.end h.1 ∙ ap (called_by call) are.same.account
-    ∙ sym (account_called u p call b.end k.1) ∙ ap (λ (x : Holding). account_of u p x.end) (sym k.2))
+user_alike : (May : UserCall → End → Type 0) (Like : Account → Account → Type 0) → Likeness May Like → (t : List (ℕ × Shown)) (o : List ℕ) (a : Holding) (u : List (ℕ × Shown)) (p : List ℕ) (b : Holding) (call : Option UserCall) (c d : Holding) →
+    Are Like t o a u p b → IsCalled May a call c → IsCalled May b call d → Are Like t o c u p d
+user_alike May Like l t o a u p b None c d are h k =
+    held_alike Like t o a u p b c d are (ap (λ (x : Holding). x.held) h.1) (ap (λ (x : Holding). x.held) k.1)
+    (alike_at Like (account_of t o c.end) (account_of u p d.end) (account_of t o a.end) (account_of u p b.end)
+    (ap (λ (x : Holding). account_of t o x.end) h.1) (ap (λ (x : Holding). account_of u p x.end) k.1) are.same.account)
+user_alike May Like l t o a u p b (Some call) c d are h k =
+    held_alike Like t o a u p b c d are (ap (λ (x : Holding). x.held) h.2) (ap (λ (x : Holding). x.held) k.2)
+    (alike_at Like (account_of t o c.end) (account_of u p d.end) (account_of t o (user_does call a.end)) (account_of u p (user_does call b.end))
+    (ap (λ (x : Holding). account_of t o x.end) h.2) (ap (λ (x : Holding). account_of u p x.end) k.2)
+    (l.call t o a.end u p b.end call h.0 h.1 k.1 are.same.account))
 
-called_lasts : (old : Holding) (call : Option UserCall) (new : Holding) → IsCalled old call new → old.end.carrier.ended ≡ None
-called_lasts old None new h = h.0
-called_lasts old (Some call) new h = h.0
-
--- ---- rounds
+called_lasts : (May : UserCall → End → Type 0) (old : Holding) (call : Option UserCall) (new : Holding) → IsCalled May old call new → old.end.carrier.ended ≡ None
+called_lasts May old None new h = h.0
+called_lasts May old (Some call) new h = h.0
 
 -- what was told, or carried, in front of the rounds and in them
 joined : {A : Type 0} (f : Call → List A) (front : List A) (calls rest : List Call) → (front ++ flat_map f calls) ++ flat_map f rest ≡ front ++ flat_map f (calls ++ rest)
 joined f front calls rest = append_assoc front (flat_map f calls) (flat_map f rest) ∙ ap (λ l. front ++ l) (sym (flat_map-append f calls rest))
 
-abbrev pub SameAfter : List (ℕ × Shown) → List ℕ → List Call → Holding → List (ℕ × Shown) → List ℕ → List Call → Holding → Type 0
-SameAfter t o xs a u p ys b = Same (t ++ flat_map told_in xs) (o ++ flat_map carried_in xs) a (u ++ flat_map told_in ys) (p ++ flat_map carried_in ys) b
+-- the account behind more calls
+account_behind : (t : List (ℕ × Shown)) (o : List ℕ) (xs more : List Call) (e : End) →
+    account_of (t ++ flat_map told_in (xs ++ more)) (o ++ flat_map carried_in (xs ++ more)) e
+    ≡ account_of ((t ++ flat_map told_in xs) ++ flat_map told_in more) ((o ++ flat_map carried_in xs) ++ flat_map carried_in more) e
+account_behind t o xs more e =
+    ap (λ l. account_of l (o ++ flat_map carried_in (xs ++ more)) e) (sym (joined told_in t xs more))
+    ∙ ap (λ l. account_of ((t ++ flat_map told_in xs) ++ flat_map told_in more) l e) (sym (joined carried_in o xs more))
 
-abbrev pub AreAfter : List (ℕ × Shown) → List ℕ → List Call → Holding → List (ℕ × Shown) → List ℕ → List Call → Holding → Type 0
-AreAfter t o xs a u p ys b = Are (t ++ flat_map told_in xs) (o ++ flat_map carried_in xs) a (u ++ flat_map told_in ys) (p ++ flat_map carried_in ys) b
+abbrev pub SameAfter : (Account → Account → Type 0) → List (ℕ × Shown) → List ℕ → List Call → Holding → List (ℕ × Shown) → List ℕ → List Call → Holding → Type 0
+SameAfter Like t o xs a u p ys b = Same Like (t ++ flat_map told_in xs) (o ++ flat_map carried_in xs) a (u ++ flat_map told_in ys) (p ++ flat_map carried_in ys) b
 
-pub same_joined : (t : List (ℕ × Shown)) (o : List ℕ) (u : List (ℕ × Shown)) (p : List ℕ) (xs ys more rest : List Call) (a b : Holding) →
-    SameAfter (t ++ flat_map told_in xs) (o ++ flat_map carried_in xs) more a (u ++ flat_map told_in ys) (p ++ flat_map carried_in ys) rest b → SameAfter t o (xs ++ more) a u p (ys ++ rest) b
-same_joined t o u p xs ys more rest a b h = record {
+abbrev pub AreAfter : (Account → Account → Type 0) → List (ℕ × Shown) → List ℕ → List Call → Holding → List (ℕ × Shown) → List ℕ → List Call → Holding → Type 0
+AreAfter Like t o xs a u p ys b = Are Like (t ++ flat_map told_in xs) (o ++ flat_map carried_in xs) a (u ++ flat_map told_in ys) (p ++ flat_map carried_in ys) b
+
+pub same_joined : (Like : Account → Account → Type 0) (t : List (ℕ × Shown)) (o : List ℕ) (u : List (ℕ × Shown)) (p : List ℕ) (xs ys more rest : List Call) (a b : Holding) →
+    SameAfter Like (t ++ flat_map told_in xs) (o ++ flat_map carried_in xs) more a (u ++ flat_map told_in ys) (p ++ flat_map carried_in ys) rest b →
+    SameAfter Like t o (xs ++ more) a u p (ys ++ rest) b
+same_joined Like t o u p xs ys more rest a b h = record {
   octets = h.octets;
-  account = ap (λ l. account_of l (o ++ flat_map carried_in (xs ++ more)) a.end) (sym (joined told_in t xs more))
-      ∙ ap (λ l. account_of ((t ++ flat_map told_in xs) ++ flat_map told_in more) l a.end) (sym (joined carried_in o xs more))
-      ∙ h.account
-      ∙ ap (λ l. account_of ((u ++ flat_map told_in ys) ++ flat_map told_in rest) l b.end) (joined carried_in p ys rest)
-      ∙ ap (λ l. account_of l (p ++ flat_map carried_in (ys ++ rest)) b.end) (joined told_in u ys rest);
+  account = alike_at Like (account_of (t ++ flat_map told_in (xs ++ more)) (o ++ flat_map carried_in (xs ++ more)) a.end)
+      (account_of (u ++ flat_map told_in (ys ++ rest)) (p ++ flat_map carried_in (ys ++ rest)) b.end)
+      (account_of ((t ++ flat_map told_in xs) ++ flat_map told_in more) ((o ++ flat_map carried_in xs) ++ flat_map carried_in more) a.end)
+      (account_of ((u ++ flat_map told_in ys) ++ flat_map told_in rest) ((p ++ flat_map carried_in ys) ++ flat_map carried_in rest) b.end)
+      (account_behind t o xs more a.end) (account_behind u p ys rest b.end) h.account;
 }
 
-are_joined : (t : List (ℕ × Shown)) (o : List ℕ) (u : List (ℕ × Shown)) (p : List ℕ) (xs ys more rest : List Call) (a b : Holding) →
-    AreAfter (t ++ flat_map told_in xs) (o ++ flat_map carried_in xs) more a (u ++ flat_map told_in ys) (p ++ flat_map carried_in ys) rest b → AreAfter t o (xs ++ more) a u p (ys ++ rest) b
-are_joined t o u p xs ys more rest a b h =
-    record { same = same_joined t o u p xs ys more rest a b h.same; partial = h.partial; offset = h.offset; bound = h.bound }
+are_joined : (Like : Account → Account → Type 0) (t : List (ℕ × Shown)) (o : List ℕ) (u : List (ℕ × Shown)) (p : List ℕ) (xs ys more rest : List Call) (a b : Holding) →
+    AreAfter Like (t ++ flat_map told_in xs) (o ++ flat_map carried_in xs) more a (u ++ flat_map told_in ys) (p ++ flat_map carried_in ys) rest b →
+    AreAfter Like t o (xs ++ more) a u p (ys ++ rest) b
+are_joined Like t o u p xs ys more rest a b h =
+    record { same = same_joined Like t o u p xs ys more rest a b h.same; partial = h.partial; offset = h.offset; bound = h.bound }
 
 -- no round
-are_behind : (t : List (ℕ × Shown)) (o : List ℕ) (a : Holding) (u : List (ℕ × Shown)) (p : List ℕ) (b c d : Holding) → Are t o a u p b → c ≡ a → d ≡ b → Are (t ++ []) (o ++ []) c (u ++ []) (p ++ []) d
-are_behind t o a u p b c d are h k =
-    held_alike (t ++ []) (o ++ []) a (u ++ []) (p ++ []) b c d
-    (record {
-      same = record {
-        octets = are.same.octets;
-        account = ap (λ l. account_of l (o ++ []) a.end) (append-nil t) ∙ ap (λ l. account_of t l a.end) (append-nil o) ∙ are.same.account
-            ∙ ap (λ l. account_of u l b.end) (sym (append-nil p)) ∙ ap (λ l. account_of l (p ++ []) b.end) (sym (append-nil u));
-      };
-      partial = are.partial;
-      offset = are.offset;
-      bound = are.bound;
-    })
-    (ap (λ (x : Holding). x.held) h) (ap (λ (x : Holding). x.held) k)
-    (ap (λ (x : Holding). account_of (t ++ []) (o ++ []) x.end) h
-    ∙ ap (λ l. account_of l (o ++ []) a.end) (append-nil t) ∙ ap (λ l. account_of t l a.end) (append-nil o) ∙ are.same.account
-    ∙ ap (λ l. account_of u l b.end) (sym (append-nil p)) ∙ ap (λ l. account_of l (p ++ []) b.end) (sym (append-nil u))
-    ∙ ap (λ (x : Holding). account_of (u ++ []) (p ++ []) x.end) (sym k))
+account_none : (t : List (ℕ × Shown)) (o : List ℕ) (a c : Holding) → c ≡ a → account_of (t ++ []) (o ++ []) c.end ≡ account_of t o a.end
+account_none t o a c h =
+    ap (λ (x : Holding). account_of (t ++ []) (o ++ []) x.end) h ∙ ap (λ l. account_of l (o ++ []) a.end) (append-nil t) ∙ ap (λ l. account_of t l a.end) (append-nil o)
 
-pub rounds_alike : IsPartial [] → OneCut → (t : List (ℕ × Shown)) (o : List ℕ) (a : Holding) (u : List (ℕ × Shown)) (p : List ℕ) (b : Holding) (xs ys : List Round) (c d : Holding) →
-    Are t o a u p b → RoundsAlong a xs c → RoundsAlong b ys d → AreInStep xs ys → AreAfter t o (calls_of xs) c u p (calls_of ys) d
-rounds_alike nothing one_cut t o a u p b [] [] c d are h k step = are_behind t o a u p b c d are h k
-rounds_alike nothing one_cut t o a u p b [] (y ∷ ys) c d are h k step = absurd step
-rounds_alike nothing one_cut t o a u p b (x ∷ xs) [] c d are h k step = absurd step
-rounds_alike nothing one_cut t o a u p b (x ∷ xs) (y ∷ ys) c d are h k step =
-    let fed = calls_alike nothing one_cut t o a u p b x.calls y.calls h.0 k.0 are h.2 k.2 step.0
-    (called_lasts h.0 x.user h.1 h.3) (called_lasts k.0 y.user k.1 k.3) in
+are_behind : (Like : Account → Account → Type 0) (t : List (ℕ × Shown)) (o : List ℕ) (a : Holding) (u : List (ℕ × Shown)) (p : List ℕ) (b c d : Holding) → Are Like t o a u p b → c ≡ a → d ≡ b →
+    Are Like (t ++ []) (o ++ []) c (u ++ []) (p ++ []) d
+are_behind Like t o a u p b c d are h k = record {
+  same = record {
+    octets = ap (λ (x : Holding). x.held.octets) h ∙ are.same.octets ∙ ap (λ (x : Holding). x.held.octets) (sym k);
+    account = alike_at Like (account_of (t ++ []) (o ++ []) c.end) (account_of (u ++ []) (p ++ []) d.end) (account_of t o a.end) (account_of u p b.end)
+        (account_none t o a c h) (account_none u p b d k) are.same.account;
+  };
+  partial = subst (λ (x : Holding). IsPartial x.held.octets) (sym h) are.partial;
+  offset = ap (λ (x : Holding). x.held.offset) h ∙ are.offset ∙ ap (λ (x : Holding). x.held.offset) (sym k);
+  bound = subst (λ (x : Holding). x.held.offset < 2 ^ 64) (sym h) are.bound;
+}
+
+pub rounds_alike : (May : UserCall → End → Type 0) (Like : Account → Account → Type 0) → Likeness May Like → IsPartial [] → OneCut →
+    (t : List (ℕ × Shown)) (o : List ℕ) (a : Holding) (u : List (ℕ × Shown)) (p : List ℕ) (b : Holding) (xs ys : List Round) (c d : Holding) →
+    Are Like t o a u p b → RoundsBy May a xs c → RoundsBy May b ys d → AreInStep xs ys → AreAfter Like t o (calls_of xs) c u p (calls_of ys) d
+rounds_alike May Like l nothing one_cut t o a u p b [] [] c d are h k step = are_behind Like t o a u p b c d are h k
+rounds_alike May Like l nothing one_cut t o a u p b [] (y ∷ ys) c d are h k step = absurd step
+rounds_alike May Like l nothing one_cut t o a u p b (x ∷ xs) [] c d are h k step = absurd step
+rounds_alike May Like l nothing one_cut t o a u p b (x ∷ xs) (y ∷ ys) c d are h k step =
+    let fed = calls_alike May Like l nothing one_cut t o a u p b x.calls y.calls h.0 k.0 are h.2 k.2 step.0
+    (called_lasts May h.0 x.user h.1 h.3) (called_lasts May k.0 y.user k.1 k.3) in
     let t' = t ++ flat_map told_in x.calls in
     let o' = o ++ flat_map carried_in x.calls in
     let u' = u ++ flat_map told_in y.calls in
     let p' = p ++ flat_map carried_in y.calls in
-    let met = user_alike t' o' h.0 u' p' k.0 x.user h.1 k.1 fed h.3 (subst (λ (call : Option UserCall). IsCalled k.0 call k.1) (sym step.1) k.3) in
-    are_joined t o u p x.calls y.calls (calls_of xs) (calls_of ys) c d
-    (rounds_alike nothing one_cut t' o' h.1 u' p' k.1 xs ys c d met h.4 k.4 step.2)
+    let met = user_alike May Like l t' o' h.0 u' p' k.0 x.user h.1 k.1 fed h.3 (subst (λ (call : Option UserCall). IsCalled May k.0 call k.1) (sym step.1) k.3) in
+    are_joined Like t o u p x.calls y.calls (calls_of xs) (calls_of ys) c d
+    (rounds_alike May Like l nothing one_cut t' o' h.1 u' p' k.1 xs ys c d met h.4 k.4 step.2)
 
 -- an end is like itself
-pub are_first : (old : Holding) → IsPartial old.held.octets → old.held.offset < 2 ^ 64 → Are [] [] old [] [] old
-are_first old partial bound = record { same = record { octets = refl; account = refl }; partial = partial; offset = refl; bound = bound }
+pub are_first : (Like : Account → Account → Type 0) (old : Holding) → IsPartial old.held.octets → old.held.offset < 2 ^ 64 → Like (account_of [] [] old.end) (account_of [] [] old.end) → Are Like [] [] old [] [] old
+are_first Like old partial bound like = record { same = record { octets = refl; account = like }; partial = partial; offset = refl; bound = bound }
 
-pub same_alike : (a b : Holding) (xs ys : List Call) → SameAfter [] [] xs a [] [] ys b → AreAlike a xs b ys
+-- ---- ends that are the same
+
+pub same_alike : (a b : Holding) (xs ys : List Call) → SameAfter (λ (x y : Account). x ≡ y) [] [] xs a [] [] ys b → AreAlike a xs b ys
 same_alike a b xs ys h = record { octets = h.octets; end = ap (λ (x : Account). x.end) h.account; told = ap (λ (x : Account). x.told) h.account }
 
 pub runs_alike : IsPartial [] → OneCut → (old a b : Holding) (xs ys : List Round) → IsPartial old.held.octets → old.held.offset < 2 ^ 64 → RoundsAlong old xs a → RoundsAlong old ys b →
     AreInStep xs ys → AreAlike a (calls_of xs) b (calls_of ys)
 runs_alike nothing one_cut old a b xs ys partial bound h k step =
-    same_alike a b (calls_of xs) (calls_of ys) (rounds_alike nothing one_cut [] [] old [] [] old xs ys a b (are_first old partial bound) h k step).same
+    let Like : Account → Account → Type 0 = λ (x y : Account). x ≡ y in
+    same_alike a b (calls_of xs) (calls_of ys)
+    (rounds_alike MayCall Like exactly nothing one_cut [] [] old [] [] old xs ys a b (are_first Like old partial bound refl) h k step).same

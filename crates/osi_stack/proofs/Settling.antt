@@ -41,6 +41,7 @@ use Rattle.osi_stack.specs.Folds.{CameAbout, IsProfiled, OfSessions}
 use Rattle.osi_stack.specs.Settled.{IsSettled}
 use Rattle.osi_stack.specs.declared.connecting.Connect.{Connect}
 use Rattle.osi_stack.proofs.Answering.{Below, answered_is}
+use Rattle.osi_stack.proofs.Awaiting.{StillWaits, fresh_asked, connect_asked, call_asked, feeds_asked, first_asked, carried_asked, breaks_asked}
 use Rattle.osi_stack.proofs.Attending.{session_attended, connect_attended, breaks_attended, feeds_attended}
 use Rattle.osi_stack.proofs.Folds.{at_line, session_all, connect_all, call_came, feeds_all, told_all, breaks_all, came_asking, came_true, profile_true}
 use Rattle.osi_stack.proofs.Comings.{attended_then}
@@ -177,6 +178,7 @@ pub record Profiles : Type 0 where
 pub record Steps : Type 0 where
   pub laws : SessionLaws
   pub profiles : Profiles
+  pub waits : StillWaits
   pub units : (units : Units) → HasNumbersInWords (taken (said_by_units units))
 
 pub fresh_settled : (is_caller : Bool) (local : Local) → IsSettled (fresh_end is_caller local)
@@ -184,6 +186,7 @@ fresh_settled is_caller local = record {
   attended = λ over. refl;
   orderly = orderly_fresh is_caller local;
   sound = fresh_sound is_caller local;
+  asks = fresh_asked is_caller local;
   ordered = fresh_ordered is_caller local;
   came = tt;
   profiled = tt;
@@ -208,17 +211,19 @@ connect_settled profiles c e allowed s = record {
   attended = connect_attended c e s.attended;
   orderly = connect_orderly c e allowed s.orderly;
   sound = connect_sound c e allowed s.sound;
+  asks = connect_asked c e s.sound s.asks;
   ordered = connect_ordered c e allowed s.sound s.ordered;
   came = connect_all CameAbout c e (came_asking c) s.came;
   profiled = connect_all IsProfiled c e (asks_profile profiles c e allowed) s.profiled;
   gone = connect_gone c e allowed;
 }
 
-pub call_settled : Profiles → SessionLaws → ((s : Listener) (call : Call) → (react s (called call)).closes ≡ false) → (r : ℕ) (call : Call) (e : End) → HasSerial call → IsSettled e → IsSettled (to_session r (called call) e)
-call_settled profiles laws still r call e serial s = record {
+pub call_settled : Profiles → SessionLaws → StillWaits → ((s : Listener) (call : Call) → (react s (called call)).closes ≡ false) → (r : ℕ) (call : Call) (e : End) → HasSerial call → IsSettled e → IsSettled (to_session r (called call) e)
+call_settled profiles laws waits still r call e serial s = record {
   attended = session_attended r (called call) e s.attended;
   orderly = session_orderly r (called call) e s.orderly;
   sound = call_sound laws r call e s.sound;
+  asks = call_asked waits r call e s.asks;
   ordered = call_ordered r (called call) e s.ordered;
   came = call_came r call e serial s.came;
   profiled = session_all IsProfiled r (called call) e (λ x h. profiles.kept x (called call ∷ []) h) s.profiled;
@@ -230,6 +235,7 @@ feeds_settled steps old new piece fed h s = record {
   attended = feeds_attended old new piece fed h s.attended;
   orderly = feeds_orderly steps.laws old new piece fed h s.attended s.sound s.orderly;
   sound = feeds_sound steps.laws old new piece fed h s.attended s.sound;
+  asks = feeds_asked steps.laws steps.waits old new piece fed h s.attended s.sound s.asks;
   ordered = feeds_ordered steps.laws old new piece fed h s.attended s.sound s.ordered;
   came = feeds_all CameAbout (came_true steps.units) old new piece fed h s.came;
   profiled = feeds_all IsProfiled (profile_true steps.profiles.kept steps.profiles.called) old new piece fed h s.profiled;
@@ -241,6 +247,7 @@ first_settled e s = record {
   attended = s.attended;
   orderly = s.orderly;
   sound = first_sound e s.sound;
+  asks = first_asked e s.asks;
   ordered = first_ordered e s.ordered;
   came = told_all CameAbout e.lines s.came;
   profiled = told_all IsProfiled e.lines s.profiled;
@@ -252,6 +259,7 @@ carried_settled octets e s = record {
   attended = s.attended;
   orderly = orderly_same e.carrier (drop octets e.carrier.outgoing) e.carrier.events s.orderly;
   sound = carried_sound octets e s.sound;
+  asks = carried_asked octets e s.asks;
   ordered = carried_ordered octets e s.ordered;
   came = s.came;
   profiled = s.profiled;
@@ -263,6 +271,7 @@ breaks_settled e s = record {
   attended = breaks_attended e s.attended;
   orderly = breaks_orderly e s.orderly;
   sound = breaks_sound e;
+  asks = breaks_asked e s.asks;
   ordered = breaks_ordered e s.ordered;
   came = breaks_all CameAbout e s.came;
   profiled = breaks_all IsProfiled e s.profiled;

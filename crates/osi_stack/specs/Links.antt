@@ -2,9 +2,10 @@
 use Rattle.std.specs.Prelude.{◌≡◌, ℕ, Bool, true, ◌||◌, [], ◌∷◌, None, Some}
 use Rattle.osi_carrier.specs.Orderly.{AreUpTo, IsOrderly}
 use Rattle.osi_carrier.specs.Rows.{Rows, value_at}
+use Rattle.osi_carrier.specs.State.{asked}
 use Rattle.osi_carrier.specs.Told.{is_open}
 use Rattle.osi_session.specs.Listening.{Listener}
-use Rattle.osi_session.specs.Phases.{is_wait_cn, may_abort}
+use Rattle.osi_session.specs.Phases.{is_wait_cn, is_wait_transport, may_abort}
 use Rattle.osi_session.specs.declared.phases.Phase.{Phase}
 use Rattle.osi_stack.specs.Messages.{kept_at}
 use Rattle.osi_stack.specs.State.{Line, End}
@@ -17,6 +18,11 @@ needs_link p = is_wait_cn p || may_abort p
 abbrev pub HasLinks : End → Type 0
 HasLinks e = e.carrier.ended ≡ None → (r : ℕ) (s : Listener) → kept_at r e.lines ≡ Some s → needs_link s.state.phase ≡ true →
     is_open r e.carrier ≡ true
+
+-- And each session that waits for its transport connection has one that was asked for.
+abbrev pub HasAsked : End → Type 0
+HasAsked e = e.carrier.ended ≡ None → (r : ℕ) (s : Listener) → kept_at r e.lines ≡ Some s → is_wait_transport s.state.phase ≡ true →
+    value_at r e.carrier.live ≡ Some asked
 
 -- no two lines have one reference
 abbrev pub AreApart : Rows Line → Type 0

@@ -6,7 +6,7 @@ use Rattle.osi_carrier.specs.Rows.{Rows, value_at}
 use Rattle.osi_carrier.specs.State.{Connection}
 use Rattle.osi_session.specs.Calls.{Call as SessionCall}
 use Rattle.osi_session.specs.Listening.{called}
-use Rattle.osi_stack.specs.Calls.{connects, breaks, call_error}
+use Rattle.osi_stack.specs.Calls.{connects, breaks, connect_error, call_error}
 use Rattle.osi_stack.specs.Moving.{to_session}
 use Rattle.osi_stack.specs.Runs.{Call, CallsAlong, used_in}
 use Rattle.osi_stack.specs.State.{Line, End, Holding, line_waits, waits}
@@ -41,16 +41,29 @@ MayCall (connecting c) e = WaitForLive e.carrier.live e.lines
 MayCall (calling r call) e = call_error r call e ≡ None
 MayCall breaking e = waits e.lines ≡ false
 
--- the user calls an end that lasts, or does not
-abbrev pub IsCalled : Holding → Option UserCall → Holding → Type 0
-IsCalled old None new = (old.end.carrier.ended ≡ None) × (new ≡ old)
-IsCalled old (Some call) new = (old.end.carrier.ended ≡ None) × MayCall call old.end × (new ≡ record old { end = user_does call old.end })
+-- The same, but a connection is asked for wherever that is accepted, whatever waits.
+abbrev pub MayAsk : UserCall → End → Type 0
+MayAsk (connecting c) e = connect_error c e ≡ None
+MayAsk (calling r call) e = call_error r call e ≡ None
+MayAsk breaking e = waits e.lines ≡ false
+
+-- the user calls an end that lasts, as it may, or does not
+abbrev pub IsCalled : (UserCall → End → Type 0) → Holding → Option UserCall → Holding → Type 0
+IsCalled May old None new = (old.end.carrier.ended ≡ None) × (new ≡ old)
+IsCalled May old (Some call) new = (old.end.carrier.ended ≡ None) × May call old.end × (new ≡ record old { end = user_does call old.end })
 
 -- rounds one after the other
+abbrev pub RoundsBy : (UserCall → End → Type 0) → Holding → List Round → Holding → Type 0
+RoundsBy May old [] new = new ≡ old
+RoundsBy May old (round ∷ rounds) new =
+    (fed : Holding) × (mid : Holding) × CallsAlong old round.calls fed × IsCalled May fed round.user mid × RoundsBy May mid rounds new
+
 abbrev pub RoundsAlong : Holding → List Round → Holding → Type 0
-RoundsAlong old [] new = new ≡ old
-RoundsAlong old (round ∷ rounds) new =
-    (fed : Holding) × (mid : Holding) × CallsAlong old round.calls fed × IsCalled fed round.user mid × RoundsAlong mid rounds new
+RoundsAlong old rounds new = RoundsBy MayCall old rounds new
+
+-- also such as ask for connections whatever waits
+abbrev pub RoundsAsking : Holding → List Round → Holding → Type 0
+RoundsAsking old rounds new = RoundsBy MayAsk old rounds new
 
 abbrev pub calls_of : List Round → List Call
 calls_of rounds = flat_map (λ round. round.calls) rounds

@@ -1,11 +1,12 @@
 -- Runs of feeding, telling and carrying between two calls of an end's user, and what they say of the octets
 -- that the end was fed.
-use Rattle.std.specs.Prelude.{◌≡◌, ℕ, ◌+◌, ◌-◌, ◌<◌, ◌^◌, ◌==◌, false, List, [], ◌∷◌, ◌++◌, length, take, map, Option, option_to_list, ◌⊎◌}
+use Rattle.std.specs.Prelude.{◌≡◌, ℕ, ◌+◌, ◌-◌, ◌<◌, ◌^◌, ◌==◌, false, List, [], ◌∷◌, ◌++◌, length, take, map, Option, is_some, option_to_list, ◌⊎◌}
 use Rattle.std.specs.List.{flat_map, filter}
 use Rattle.osi_tpkt.specs.Packet.{IsPartial}
 use Rattle.osi_tpkt.specs.Stream.{ArePackets, offset_of}
 use Rattle.osi_tpkt.specs.declared.cutting.Fed.{Fed}
-use Rattle.osi_carrier.specs.Rows.{Rows}
+use Rattle.osi_carrier.specs.Rows.{Rows, value_at}
+use Rattle.osi_carrier.specs.State.{Connection}
 use Rattle.osi_session.specs.Calls.{Call as SessionCall}
 use Rattle.osi_session.specs.Shown.{Shown}
 use Rattle.osi_stack.specs.Calls.{connect_error, call_error, first_shown, without_first, phase_at}
@@ -114,6 +115,20 @@ pub record Reads (old : Holding) (calls : List Call) (new : Holding) : Type 0 wh
 pub record AreAlike (a : Holding) (xs : List Call) (b : Holding) (ys : List Call) : Type 0 where
   pub octets : a.held.octets ≡ b.held.octets
   pub end : put_back (flat_map carried_in xs) (hushed a.end) ≡ put_back (flat_map carried_in ys) (hushed b.end)
+  pub told : flat_map told_in xs ++ all_waiting a.end.lines ≡ flat_map told_in ys ++ all_waiting b.end.lines
+
+-- the lines of live connections
+abbrev pub live_lines : Rows Connection → Rows Line → Rows Line
+live_lines live lines = filter (λ row. is_some (value_at row.0 live)) lines
+
+-- an end without the lines of connections that are gone
+abbrev pub pruned : End → End
+pruned e = record e { lines = live_lines e.carrier.live e.lines }
+
+-- The same, but for lines of connections that are gone: one of two ends may have dropped some that the other keeps.
+pub record AreAlikeInLive (a : Holding) (xs : List Call) (b : Holding) (ys : List Call) : Type 0 where
+  pub octets : a.held.octets ≡ b.held.octets
+  pub end : put_back (flat_map carried_in xs) (hushed (pruned a.end)) ≡ put_back (flat_map carried_in ys) (hushed (pruned b.end))
   pub told : flat_map told_in xs ++ all_waiting a.end.lines ≡ flat_map told_in ys ++ all_waiting b.end.lines
 
 -- the indications of one reference

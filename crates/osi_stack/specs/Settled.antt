@@ -2,7 +2,7 @@
 use Rattle.std.specs.Prelude.{◌≡◌, ℕ, None, IsSome}
 use Rattle.osi_carrier.specs.Orderly.{IsOrderly}
 use Rattle.osi_stack.specs.Folds.{AllCameAbout, AllProfiled}
-use Rattle.osi_stack.specs.Links.{IsSound}
+use Rattle.osi_stack.specs.Links.{HasAsked, IsSound}
 use Rattle.osi_stack.specs.Messages.{kept_at}
 use Rattle.osi_stack.specs.Ordered.{IsOrdered}
 use Rattle.osi_stack.specs.State.{End, IsAttended}
@@ -18,6 +18,8 @@ pub record IsSettled (e : End) : Type 0 where
   pub orderly : IsOrderly e.carrier
   -- while it lasts, each session that can be called has an open connection
   pub sound : IsSound e
+  -- and each that waits for its connection has one that was asked for
+  pub asks : HasAsked e
   -- its lines stand in the order of their references
   pub ordered : IsOrdered e
   -- each session is what its inputs made of it

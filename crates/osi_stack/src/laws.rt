@@ -38,8 +38,8 @@ ghost use Rattle.osi_stack.specs.Messages.{Message, Effect, begins, IsWhole, Act
 ghost use Rattle.osi_stack.specs.Moving.{to_session};
 ghost use Rattle.osi_stack.specs.Ordered.{IsOrdered, TellsLowest};
 ghost use Rattle.osi_stack.specs.Parted.{to_session_along};
-ghost use Rattle.osi_stack.specs.Rounds.{Round, RoundsAlong, AreInStep, calls_of};
-ghost use Rattle.osi_stack.specs.Runs.{Call as EndCall, CallsAlong, CallsInRoom, Reads, AreAlike, AreAlikeByReference, LookAlike, used_in};
+ghost use Rattle.osi_stack.specs.Rounds.{Round, RoundsAlong, RoundsAsking, AreInStep, calls_of};
+ghost use Rattle.osi_stack.specs.Runs.{Call as EndCall, CallsAlong, CallsInRoom, Reads, AreAlike, AreAlikeByReference, AreAlikeInLive, LookAlike, used_in};
 ghost use Rattle.osi_stack.specs.Settled.{IsSettled};
 ghost use Rattle.osi_stack.specs.State.{Line, End, Holding, IsAttended, fresh_end, session_at, waits, used_lines};
 
@@ -295,12 +295,18 @@ pub fn the_pieces_do_not_matter()
 /// So over whole runs too, with the user's calls between: where in each round the same octets were used, in
 /// whatever pieces, and then the user made the same call, the ends come to the same, and the same was told and
 /// put. A session may be called while indications wait, and a connection asked for while they wait for live
-/// connections: `connect` drops the lines of connections that are gone and for which nothing waits. Where it is
-/// called whatever waits, one of two ends may keep such a line; what is seen of them is still the same. Behind
-/// the rounds the same octets may end them, or they may have ended: where memory is not wanted there, they come
-/// to the same all the same. And the byte connection may break whatever waits: then the same is told of each
-/// reference, in the same order, if not of several (of 1 that it is lost before what waits of 2, where that was
-/// not yet told), and all else is the same.
+/// connections (`rounds`). Behind the rounds the same octets may end them, or they may have ended: where memory
+/// is not wanted there, they come to the same all the same (`last`). And the byte connection may break whatever
+/// waits: then the same is told of each reference, in the same order, if not of several (of 1 that it is lost
+/// before what waits of 2, where that was not yet told), and all else is the same (`broken`). Behind an end, as
+/// behind a break, there are no rounds: no packet acts and no call is accepted, and what is fed, told and carried
+/// there leaves what is seen the same (`behind`).
+///
+/// `connect` drops the lines of connections that are gone and for which nothing waits. So where it is called
+/// whatever waits, one of two ends may keep such a line that the other has dropped (`asked`). From then on, where
+/// the runs began with a settled end, whatever comes and is called, they are the same but for lines of connections
+/// that are gone, and the same was told and put, in the same order (`asking`, `asking_last`). So what is seen of
+/// them is the same (`asking_seen`), also where then the byte connection breaks, whatever waits (`asking_broken`).
 pub fn whole_runs_do_not_hang_on_pieces()
     ensures rounds { (old a b : Holding) (xs ys : List Round) → IsPartial old.held.octets → old.held.offset < 2 ^ 64 →
         RoundsAlong old xs a → RoundsAlong old ys b → AreInStep xs ys → AreAlike a (calls_of xs) b (calls_of ys) }
@@ -308,13 +314,27 @@ pub fn whole_runs_do_not_hang_on_pieces()
         RoundsAlong old xs c → RoundsAlong old ys d → AreInStep xs ys →
         CallsInRoom c zs a → CallsInRoom d ws b → flat_map used_in zs ≡ flat_map used_in ws →
         AreAlike a (calls_of xs ++ zs) b (calls_of ys ++ ws) }
-    ensures asked { (c : Connect) (a b : Holding) (xs ys : List EndCall) → AreAlike a xs b ys →
-        LookAlike (record a { end = connects c a.end }) xs (record b { end = connects c b.end }) ys }
     ensures broken { (a b : Holding) (xs ys : List EndCall) → IsSettled a.end → IsSettled b.end → AreAlike a xs b ys →
         AreAlikeByReference (record a { end = breaks a.end }) xs (record b { end = breaks b.end }) ys }
     ensures seen { (a b : Holding) (xs ys : List EndCall) → AreAlikeByReference a xs b ys → LookAlike a xs b ys }
+    ensures behind { (a b c d : Holding) (xs ys zs ws : List EndCall) → IsSome a.end.carrier.ended → LookAlike a xs b ys →
+        CallsAlong a zs c → CallsAlong b ws d → LookAlike c (xs ++ zs) d (ys ++ ws) }
+    ensures asked { (c : Connect) (a b : Holding) (xs ys : List EndCall) → AreAlike a xs b ys →
+        AreAlikeInLive (record a { end = connects c a.end }) xs (record b { end = connects c b.end }) ys }
+    ensures asking { (old a b : Holding) (xs ys : List Round) → IsSettled old.end → IsPartial old.held.octets → old.held.offset < 2 ^ 64 →
+        RoundsAsking old xs a → RoundsAsking old ys b → AreInStep xs ys → AreAlikeInLive a (calls_of xs) b (calls_of ys) }
+    ensures asking_last { (old c d a b : Holding) (xs ys : List Round) (zs ws : List EndCall) → IsSettled old.end → IsPartial old.held.octets →
+        old.held.offset < 2 ^ 64 → RoundsAsking old xs c → RoundsAsking old ys d → AreInStep xs ys →
+        CallsInRoom c zs a → CallsInRoom d ws b → flat_map used_in zs ≡ flat_map used_in ws →
+        AreAlikeInLive a (calls_of xs ++ zs) b (calls_of ys ++ ws) }
+    ensures asking_broken { (a b : Holding) (xs ys : List EndCall) → IsSettled a.end → IsSettled b.end → AreAlikeInLive a xs b ys →
+        LookAlike (record a { end = breaks a.end }) xs (record b { end = breaks b.end }) ys }
+    ensures asking_seen { (a b : Holding) (xs ys : List EndCall) → AreAlikeInLive a xs b ys → LookAlike a xs b ys }
 {
     a_prefix_of_a_packet();
     a_stream_has_one_cut();
     no_packet_begins_another();
+    an_ended_session_stays_ended();
+    what_closes_sends_nothing();
+    where_a_call_is_accepted();
 }

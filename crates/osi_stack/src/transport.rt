@@ -131,7 +131,7 @@ fn send_parts(carrier: &mut Carrier, reference: u16, tsdus: Vec<Vec<u8>>) -> Res
     ensures refused { IfErr result (λ e. Refuses e None (send_refusal (send_all_error (map (λ v. v.items) tsdus.items) (open_link reference carrier.old.state)))) }
     ensures err { OnErr result (carrier.new ≡ carrier.old) }
 {
-    match carrier.send_all(Ref(reference), tsdus.as_slice()) {
+    match carrier.send_all_owned(Ref(reference), tsdus) {
         Ok(()) => Ok(()),
         Err(error) => Err(call_error(error)),
     }

@@ -21,8 +21,8 @@ returns c =
     record {
       begins = fresh_settled;
       connects = connect_settled profiles;
-      called = call_settled profiles laws c.what_closes_sends_nothing.ensures.call;
-      fed = feeds_settled (record { laws = laws; profiles = profiles; units = c.what_happens_has_numbers.ensures.units });
+      called = call_settled profiles laws c.where_a_call_is_accepted.ensures.begun c.what_closes_sends_nothing.ensures.call;
+      fed = feeds_settled (record { laws = laws; profiles = profiles; waits = c.where_a_call_is_accepted.ensures.begun; units = c.what_happens_has_numbers.ensures.units });
       shown = first_settled;
       carried = carried_settled;
       broken = breaks_settled;

@@ -2,7 +2,11 @@ use Rattle.osi_carrier.proofs.Lasting.{PacketLaws}
 use Rattle.osi_stack.proofs.Alike.{look_apart}
 use Rattle.osi_stack.proofs.Asked.{asked_alike}
 use Rattle.osi_stack.proofs.Breaking.{breaks_alike}
+use Rattle.osi_stack.proofs.Linking.{SessionLaws}
+use Rattle.osi_stack.proofs.Looks.{looks_in_live, looks_broken, looks_behind}
 use Rattle.osi_stack.proofs.Rounds.{runs_alike}
+use Rattle.osi_stack.proofs.Tables.{session_laws, unopened}
+use Rattle.osi_stack.proofs.Whatever.{asking_alike, whole_asking_alike}
 use Rattle.osi_stack.proofs.WholeRuns.{whole_runs_alike}
 use Rattle.osi_stack.proofs.laws.whole_runs_do_not_hang_on_pieces.Goals as goal
 
@@ -10,5 +14,23 @@ pub returns : goal.returns
 returns c =
     let nothing = c.a_prefix_of_a_packet.ensures.nothing in
     let one_cut = c.a_stream_has_one_cut.ensures.packets in
-    let laws : PacketLaws = record { one = c.no_packet_begins_another.ensures; front = c.a_prefix_of_a_packet.ensures.front; proper = c.a_prefix_of_a_packet.ensures.proper } in
-    record { rounds = runs_alike nothing one_cut; last = whole_runs_alike laws nothing one_cut; asked = asked_alike; broken = breaks_alike; seen = look_apart }
+    let packets : PacketLaws = record { one = c.no_packet_begins_another.ensures; front = c.a_prefix_of_a_packet.ensures.front; proper = c.a_prefix_of_a_packet.ensures.proper } in
+    let laws : SessionLaws = session_laws (record {
+      over = c.an_ended_session_stays_ended.ensures.over;
+      ended = c.an_ended_session_stays_ended.ensures.ended;
+      closed = c.what_closes_sends_nothing.ensures.last;
+      waiting = λ s input other. c.where_a_call_is_accepted.ensures.waiting s input (unopened input other);
+    }) in
+    let waits = c.where_a_call_is_accepted.ensures.begun in
+    record {
+      rounds = runs_alike nothing one_cut;
+      last = whole_runs_alike packets nothing one_cut;
+      broken = breaks_alike;
+      seen = look_apart;
+      behind = looks_behind;
+      asked = asked_alike;
+      asking = asking_alike laws waits nothing one_cut;
+      asking_last = whole_asking_alike laws waits packets nothing one_cut;
+      asking_broken = looks_broken;
+      asking_seen = looks_in_live;
+    }

@@ -1,0 +1,296 @@
+-- Each session that waits for its transport connection has one that was asked for.
+use Rattle.std.proofs.Common.{◌≡◌, ◌≢◌, ℕ, ◌+◌, ◌==◌, Bool, true, false, ◌||◌, List, [], ◌∷◌, ◌++◌, length, Option, Some, None, is_some, refl, sym, ap, subst, ◌∙◌, inl, inr, ◌⊎◌, arith, if◌then◌else◌}
+use Rattle.std.proofs.lemmas.Bool.{eqb-true, eq-eqb}
+use Rattle.osi_tpkt.specs.Stream.{ArePackets}
+use Rattle.osi_tpkt.specs.declared.cutting.Fed.{Fed}
+use Rattle.osi_class.specs.Link.{Standing as Link}
+use Rattle.osi_class.specs.declared.terms.Class.{Class}
+use Rattle.osi_class.specs.declared.terms.Class.TheVariants.{Zero, Two}
+use Rattle.osi_class.specs.declared.terms.Local.{Local}
+use Rattle.osi_carrier.proofs.Apart.{beyond, push_here}
+use Rattle.osi_carrier.proofs.AtReferences.{put_other, push_other}
+use Rattle.osi_carrier.specs.Calls.{open_link, link_of, sent, sent_all, sent_on, send_all_error, closes, closed_on}
+use Rattle.osi_carrier.specs.Happenings.{Happening}
+use Rattle.osi_carrier.specs.Happenings as told
+use Rattle.osi_carrier.specs.Orderly.{IsOrderly, told_of}
+use Rattle.osi_carrier.specs.Packets as carriers
+use Rattle.osi_carrier.specs.Rows.{value_at}
+use Rattle.osi_carrier.specs.State.{Connection, asked, closing, State as Carrier}
+use Rattle.osi_carrier.specs.declared.ends.EndReason.{EndReason}
+use Rattle.osi_carrier.specs.declared.ends.EndReason.TheVariants.{Broken, NoMemory}
+use Rattle.osi_carrier.specs.declared.faults.SendError.{SendError}
+use Rattle.osi_session.specs.Calls.{Call}
+use Rattle.osi_session.specs.Listening.{Input, Listener, called, opened, refused, broken, came, begun, denied, rests, react}
+use Rattle.osi_session.specs.Phases.{is_wait_transport}
+use Rattle.osi_session.specs.Sessions.{awaits}
+use Rattle.osi_stack.specs.Calls.{connects, calls_with, breaks, carried, without_first}
+use Rattle.osi_stack.specs.Feeding.{TakesPackets, Goes, Feeds}
+use Rattle.osi_stack.specs.Hearing.{opens, hears, hears_next, hears_times, hears_all, with_events, with_carrier, after_packet, ends, Starves}
+use Rattle.osi_stack.specs.Links.{AreApart, HasAsked, Soundness, IsSound}
+use Rattle.osi_stack.specs.Messages.{kept_at}
+use Rattle.osi_stack.specs.Moving.{carrier_by, by_line, to_session}
+use Rattle.osi_stack.specs.State.{Line, End, Holding, IsAttended, fresh_end, waits}
+use Rattle.osi_stack.specs.Transport.{sent_unless, answers_by}
+use Rattle.osi_stack.specs.declared.connecting.Connect.{Connect}
+use Rattle.osi_stack.proofs.Answered.{answered, answered_other, stays_packet}
+use Rattle.osi_stack.proofs.Comings.{attended_then}
+use Rattle.osi_stack.proofs.Events.{concluded_carrier, starved_over}
+use Rattle.osi_stack.proofs.Keeping.{session_keeps}
+use Rattle.osi_stack.proofs.Lifting.{both, packet_is}
+use Rattle.osi_stack.proofs.Linking.{SessionLaws, HasMoved, Hearing, session_hears, first_is, rest_is, times_last, hears_apart, used_at, apart_push, joined_lines}
+use Rattle.osi_stack.proofs.Made.{kept_joined}
+use Rattle.osi_stack.proofs.Moves.{kept_first}
+use Rattle.osi_stack.proofs.Soundness.{concludes_lasting, lasting_of, packet_sound}
+
+-- what waits for its transport connection did so before
+abbrev pub StillWaits : Type 0
+StillWaits = (s : Listener) (input : Input) → is_wait_transport (react s input).next.state.phase ≡ true → is_wait_transport s.state.phase ≡ true
+
+-- ---- what a session does to its carrier
+
+unlinked : (over : Bool) (o : Option Connection) (link : ℕ × Link) → o ≡ Some asked → (if over then None else link_of o) ≡ Some link → ⊥
+unlinked true o link here e = cc
+unlinked false (Some asked) link here e = cc
+unlinked false None link here e = cc
+unlinked false (Some connection) link here e = (let no : link_of (Some asked) ≡ Some link = ap link_of (sym here) ∙ e in cc)
+
+other_link : (r q : ℕ) (c : Carrier) (link : ℕ × Link) → value_at r c.live ≡ Some asked → open_link q c ≡ Some link → r ≢ q
+other_link r q c link here e = λ same. unlinked (is_some c.ended) (value_at q c.live) link (ap (λ n. value_at n c.live) (sym same) ∙ here) e
+
+asked_sent : (r q : ℕ) (tsdu : List ℕ) (o : Option (ℕ × Link)) (c : Carrier) → open_link q c ≡ o → value_at r c.live ≡ Some asked → value_at r (sent_on q tsdu o c).live ≡ Some asked
+asked_sent r q tsdu None c e here = here
+asked_sent r q tsdu (Some (peer, link)) c e here = put_other r q _ c.live (other_link r q c (peer, link) here e) ∙ here
+
+asked_all : (r q : ℕ) (tsdus : List (List ℕ)) (c : Carrier) → value_at r c.live ≡ Some asked → value_at r (sent_all q tsdus c).live ≡ Some asked
+asked_all r q [] c here = here
+asked_all r q (tsdu ∷ tsdus) c here = asked_all r q tsdus (sent q tsdu c) (asked_sent r q tsdu (open_link q c) c refl here)
+
+asked_unless : (r q : ℕ) (tsdus : List (List ℕ)) (error : Option SendError) (c : Carrier) → value_at r c.live ≡ Some asked → value_at r (sent_unless error q tsdus c).live ≡ Some asked
+asked_unless r q tsdus None c here = asked_all r q tsdus c here
+asked_unless r q tsdus (Some error) c here = here
+
+asked_closes : (r q peer : ℕ) (class : Option Class) (c : Carrier) → r ≢ q → (closes q peer 128 class c).ended ≡ None → value_at r c.live ≡ Some asked → value_at r (closes q peer 128 class c).live ≡ Some asked
+asked_closes r q peer None c ne over here = put_other r q (closing peer) c.live ne ∙ here
+asked_closes r q peer (Some Two) c ne over here = put_other r q (closing peer) c.live ne ∙ here
+asked_closes r q peer (Some Zero) c ne over here = cc
+
+asked_closed : (r q : ℕ) (o : Option (ℕ × Link)) (c : Carrier) → open_link q c ≡ o → (closed_on q 128 o c).ended ≡ None → value_at r c.live ≡ Some asked → value_at r (closed_on q 128 o c).live ≡ Some asked
+asked_closed r q None c e over here = here
+asked_closed r q (Some (peer, link)) c e over here = asked_closes r q peer c.class c (other_link r q c (peer, link) here e) over here
+
+asked_answers : (r q : ℕ) (closing : Bool) (tsdus : List (List ℕ)) (c : Carrier) → (answers_by closing q tsdus c).ended ≡ None → value_at r c.live ≡ Some asked →
+    value_at r (answers_by closing q tsdus c).live ≡ Some asked
+asked_answers r q true tsdus c over here = asked_closed r q (open_link q c) c refl over here
+asked_answers r q false tsdus c over here = asked_unless r q tsdus (send_all_error tsdus (open_link q c)) c here
+
+asked_carrier : (r q : ℕ) (o : Option Listener) (input : Input) (c : Carrier) → (carrier_by q o input c).ended ≡ None → value_at r c.live ≡ Some asked → value_at r (carrier_by q o input c).live ≡ Some asked
+asked_carrier r q None input c over here = here
+asked_carrier r q (Some s) input c over here = asked_answers r q (react s input).closes _ c over here
+
+asked_line : (r q : ℕ) (o : Option Line) (input : Input) (e : End) → (by_line q o input e).carrier.ended ≡ None → value_at r e.carrier.live ≡ Some asked →
+    value_at r (by_line q o input e).carrier.live ≡ Some asked
+asked_line r q None input e over here = here
+asked_line r q (Some line) input e over here = asked_carrier r q line.session input e.carrier over here
+
+asked_session : (r q : ℕ) (input : Input) (e : End) → (to_session q input e).carrier.ended ≡ None → value_at r e.carrier.live ≡ Some asked → value_at r (to_session q input e).carrier.live ≡ Some asked
+asked_session r q input e over here = asked_line r q (value_at q e.lines) input e over here
+
+-- ---- while events wait
+
+-- a session that waits, whose connection none of the events answers, has one that was asked for
+abbrev pub AllAsked : List Happening → End → Type 0
+AllAsked events e = (r : ℕ) (s : Listener) → kept_at r e.lines ≡ Some s → is_wait_transport s.state.phase ≡ true → answered r events ≡ false → value_at r e.carrier.live ≡ Some asked
+
+-- an event answers no connection of a session that waits behind it
+abbrev Unanswered : ℕ → Input → Happening → List Happening → Type 0
+Unanswered q input event rest = (s : Listener) → is_wait_transport (react s input).next.state.phase ≡ true → answered q (event ∷ rest) ≡ answered q rest
+
+moved_asked : StillWaits → (q : ℕ) (input : Input) (event : Happening) (rest : List Happening) (e d : End) → told_of event ≡ q → HasMoved q input e d →
+    ((r : ℕ) → value_at r e.carrier.live ≡ Some asked → value_at r d.carrier.live ≡ Some asked) → Unanswered q input event rest → AllAsked (event ∷ rest) e →
+    (r : ℕ) (s : Listener) (b : Bool) → (r == q) ≡ b → kept_at r d.lines ≡ Some s → is_wait_transport s.state.phase ≡ true → answered r rest ≡ false → value_at r d.carrier.live ≡ Some asked
+moved_asked law q input event rest e d of m stays quiet all r s true at is n h =
+    let same = eqb-true r q at in
+    let both_are : Some (react m.session input).next ≡ Some s = sym m.is ∙ ap (λ k. kept_at k d.lines) (sym same) ∙ is in
+    let one : (react m.session input).next ≡ s = cc in
+    let waits = ap (λ (x : Listener). is_wait_transport x.state.phase) one ∙ n in
+    stays r (ap (λ k. value_at k e.carrier.live) same ∙ all q m.session m.was (law m.session input waits) (quiet m.session waits ∙ ap (λ k. answered k rest) (sym same) ∙ h))
+moved_asked law q input event rest e d of m stays quiet all r s false at is n h =
+    let ne : r ≢ q = (λ same. both (r == q) (eq-eqb r q same) at) in
+    stays r (all r s (sym (m.others r ne) ∙ is) n (answered_other r event rest (λ same. ne (same ∙ of)) ∙ h))
+
+rested_asked : (q : ℕ) (event : Happening) (rest : List Happening) (e : End) → told_of event ≡ q → kept_at q e.lines ≡ None → AllAsked (event ∷ rest) e →
+    (r : ℕ) (s : Listener) (b : Bool) → (r == q) ≡ b → kept_at r e.lines ≡ Some s → is_wait_transport s.state.phase ≡ true → answered r rest ≡ false → value_at r e.carrier.live ≡ Some asked
+rested_asked q event rest e of none all r s true at is n h = let no : None ≡ Some s = sym none ∙ ap (λ k. kept_at k e.lines) (sym (eqb-true r q at)) ∙ is in cc
+rested_asked q event rest e of none all r s false at is n h =
+    let ne : r ≢ q = (λ same. both (r == q) (eq-eqb r q same) at) in
+    all r s is n (answered_other r event rest (λ same. ne (same ∙ of)) ∙ h)
+
+heard_asked : StillWaits → (q : ℕ) (input : Input) (event : Happening) (rest : List Happening) (e d : End) → told_of event ≡ q → Hearing q input e d →
+    ((r : ℕ) → value_at r e.carrier.live ≡ Some asked → value_at r d.carrier.live ≡ Some asked) → Unanswered q input event rest → AllAsked (event ∷ rest) e → AllAsked rest d
+heard_asked law q input event rest e d of (inl m) stays quiet all = λ r s. moved_asked law q input event rest e d of m stays quiet all r s (r == q) refl
+heard_asked law q input event rest e d of (inr m) stays quiet all =
+    subst (λ (x : End). AllAsked rest x) (sym m.same) (λ r s. rested_asked q event rest e of m.none all r s (r == q) refl)
+
+session_asked : StillWaits → (q : ℕ) (input : Input) (event : Happening) (rest : List Happening) (e : End) → told_of event ≡ q → (to_session q input e).carrier.ended ≡ None →
+    Unanswered q input event rest → AllAsked (event ∷ rest) e → AllAsked rest (to_session q input e)
+session_asked law q input event rest e of over quiet all =
+    heard_asked law q input event rest e (to_session q input e) of (session_hears q input e) (λ r here. asked_session r q input e over here) quiet all
+
+-- ---- one event
+
+unwaiting : (s : Listener) (b : Bool) → is_wait_transport s.state.phase ≡ b → is_wait_transport (if b then begun s else rests s).next.state.phase ≡ false
+unwaiting s true e = refl
+unwaiting s false e = e
+
+unwaiting_denied : (s : Listener) (reason : ℕ) (b : Bool) → is_wait_transport s.state.phase ≡ b → is_wait_transport (if b then denied reason s else rests s).next.state.phase ≡ false
+unwaiting_denied s reason true e = refl
+unwaiting_denied s reason false e = e
+
+opened_waits : (s : Listener) → is_wait_transport (react s opened).next.state.phase ≡ false
+unfolding react
+opened_waits s = unwaiting s (is_wait_transport s.state.phase) refl
+
+refused_waits : (s : Listener) (reason : ℕ) → is_wait_transport (react s (refused reason)).next.state.phase ≡ false
+unfolding react
+refused_waits s reason = unwaiting_denied s reason (is_wait_transport s.state.phase) refl
+
+awaits_none : {A : Type 0} (s : Listener) → s ≡ awaits → is_wait_transport s.state.phase ≡ true → A
+awaits_none s is n = let no : false ≡ true = ap (λ (x : Listener). is_wait_transport x.state.phase) (sym is) ∙ n in cc
+
+joined_asked : (q : ℕ) (rest : List Happening) (e : End) → AreApart e.lines → value_at q e.lines ≡ None → AllAsked (told.opened q ∷ rest) e → AllAsked rest (opens q None e)
+joined_asked q rest e apart none all =
+    λ r s is n h. elim (kept_joined q r awaits s e.carrier.live e.lines (q == r) refl none (used_at r e.carrier.live (joined_lines q awaits e.lines) (apart_push q _ e.lines none apart)) is) [
+      | inl new ↦ awaits_none s new.1 n
+      | inr old ↦ all r s old.1 n (answered_other r (told.opened q) rest (λ same. old.0 (sym same)) ∙ h)
+    ]
+
+opens_asked : StillWaits → (q : ℕ) (rest : List Happening) (e : End) (o : Option Line) → value_at q e.lines ≡ o → AreApart e.lines → (opens q o e).carrier.ended ≡ None →
+    AllAsked (told.opened q ∷ rest) e → AllAsked rest (opens q o e)
+opens_asked law q rest e None at apart over all = joined_asked q rest e apart at all
+opens_asked law q rest e (Some line) at apart over all =
+    session_asked law q opened (told.opened q) rest e refl over (λ s n. both (is_wait_transport (react s opened).next.state.phase) n (opened_waits s)) all
+
+hears_asked : StillWaits → (event : Happening) (rest : List Happening) (e : End) → AreApart e.lines → (hears event e).carrier.ended ≡ None → AllAsked (event ∷ rest) e → AllAsked rest (hears event e)
+hears_asked law (told.opened q) rest e apart over all = opens_asked law q rest e (value_at q e.lines) refl apart over all
+hears_asked law (told.refused q reason) rest e apart over all =
+    session_asked law q (refused reason) (told.refused q reason) rest e refl over (λ s n. both (is_wait_transport (react s (refused reason)).next.state.phase) n (refused_waits s reason)) all
+hears_asked law (told.tsdu q octets) rest e apart over all = session_asked law q (came octets) (told.tsdu q octets) rest e refl over (λ s n. refl) all
+hears_asked law (told.closed q reason) rest e apart over all = session_asked law q broken (told.closed q reason) rest e refl over (λ s n. refl) all
+hears_asked law (told.faulted q fault) rest e apart over all = session_asked law q broken (told.faulted q fault) rest e refl over (λ s n. refl) all
+
+-- ---- all events
+
+times_asked : StillWaits → (l : List Happening) (e : End) → e.carrier.events ≡ l → AreApart e.lines → (hears_times (length l) e).carrier.ended ≡ None → AllAsked l e → AllAsked [] (hears_times (length l) e)
+times_asked law [] e h apart over all = all
+times_asked law (event ∷ rest) e h apart over all =
+    let here = with_events rest e in
+    let is = first_is event rest e h in
+    let lasts : (hears event here).carrier.ended ≡ None = ap (λ (x : End). x.carrier.ended) (sym is) ∙ times_last (length rest) (hears_next e) over in
+    let next : AllAsked rest (hears_next e) = subst (λ (x : End). AllAsked rest x) (sym is) (hears_asked law event rest here apart lasts all) in
+    let still : AreApart (hears_next e).lines = subst (λ (x : End). AreApart x.lines) (sym is) (hears_apart event here apart) in
+    times_asked law rest (hears_next e) (rest_is event rest e h) still over next
+
+-- ---- a packet
+
+answered_not : {A : Type 0} (r : ℕ) (events : List Happening) → answered r events ≡ true → answered r events ≡ false → A
+answered_not r events h k = both (answered r events) h k
+
+packet_told : (packet : List ℕ) (e : End) → IsOrderly e.carrier → e.carrier.ended ≡ None → (carriers.after_packet e.carrier packet).ended ≡ None → HasAsked e →
+    AllAsked (carriers.after_packet e.carrier packet).events (with_carrier (carriers.after_packet e.carrier packet) e)
+packet_told packet e o lasts over has =
+    λ r s is n h. elim (stays_packet r packet e.carrier o (has lasts r s is n) over) [
+      | inl here ↦ here
+      | inr told ↦ answered_not r (carriers.after_packet e.carrier packet).events told h
+    ]
+
+pub packet_asked : StillWaits → (packet : List ℕ) (e : End) → e.carrier.ended ≡ None → Soundness e → HasAsked e → HasAsked (after_packet e packet)
+packet_asked law packet e lasts sound has over =
+    let c = carriers.after_packet e.carrier packet in
+    let mid = with_carrier c e in
+    let heard = hears_all mid in
+    let is = packet_is e packet in
+    let heard_lasts : heard.carrier.ended ≡ None = sym (ap (λ (x : Carrier). x.ended) (concluded_carrier heard)) ∙ ap (λ (x : End). x.carrier.ended) (sym is) ∙ over in
+    let told_lasts : c.ended ≡ None = times_last (length c.events) mid heard_lasts in
+    let all : AllAsked [] heard = times_asked law c.events mid refl sound.apart heard_lasts (packet_told packet e sound.orderly lasts told_lasts has) in
+    let same : heard ≡ after_packet e packet = sym (concludes_lasting heard.carrier.ended heard heard_lasts) ∙ sym is in
+    subst (λ (x : End). (r : ℕ) (s : Listener) → kept_at r x.lines ≡ Some s → is_wait_transport s.state.phase ≡ true → value_at r x.carrier.live ≡ Some asked) same (λ r s is n. all r s is n refl)
+
+-- ---- calls
+
+pub fresh_asked : (is_caller : Bool) (local : Local) → HasAsked (fresh_end is_caller local)
+fresh_asked is_caller local = λ over r s is n. cc
+
+pub call_asked : StillWaits → (r : ℕ) (call : Call) (e : End) → HasAsked e → HasAsked (to_session r (called call) e)
+call_asked law r call e has over =
+    let lasts = (session_keeps r (called call) e).lasts over in
+    let all : AllAsked (told.tsdu r [] ∷ []) e = (λ q s is n h. has lasts q s is n) in
+    let after : AllAsked [] (to_session r (called call) e) = session_asked law r (called call) (told.tsdu r []) [] e refl over (λ s n. refl) all in
+    λ q s is n. after q s is n refl
+
+pub connect_asked : (c : Connect) (e : End) → IsSound e → HasAsked e → HasAsked (connects c e)
+connect_asked c e sound has over =
+    let s = sound over in
+    let q = e.carrier.given + 1 in
+    let live = e.carrier.live ++ (q, asked) ∷ [] in
+    let none : value_at q e.lines ≡ None = beyond q e.carrier.given e.lines s.known (omega arith) in
+    let free : value_at q e.carrier.live ≡ None = beyond q e.carrier.given e.carrier.live s.orderly.up_to (omega arith) in
+    λ r t is n. elim (kept_joined q r (calls_with c) t live e.lines (q == r) refl none (used_at r live (joined_lines q (calls_with c) e.lines) (apart_push q _ e.lines none s.apart)) is) [
+      | inl new ↦ subst (λ k. value_at k live ≡ Some asked) new.0 (push_here q asked e.carrier.live free)
+      | inr old ↦ push_other r q asked e.carrier.live (λ same. old.0 (sym same)) ∙ has over r t old.1 n
+    ]
+
+pub first_asked : (e : End) → HasAsked e → HasAsked (record e { lines = without_first e.lines })
+first_asked e has over r s is n = has over r s (sym (kept_first r e.lines) ∙ is) n
+
+pub carried_asked : (octets : ℕ) (e : End) → HasAsked e → HasAsked (carried octets e)
+carried_asked octets e has = has
+
+over_asked : (e : End) → is_some e.carrier.ended ≡ true → HasAsked e
+over_asked e over lasts = let no : is_some e.carrier.ended ≡ false = ap is_some lasts in both (is_some e.carrier.ended) over no
+
+breaks_by : (b : Bool) (e : End) → HasAsked e → HasAsked (if b then e else ends Broken e)
+breaks_by true e has = has
+breaks_by false e has = over_asked (ends Broken e) refl
+
+pub breaks_asked : (e : End) → HasAsked e → HasAsked (breaks e)
+breaks_asked e has = breaks_by (is_some e.carrier.ended) e has
+
+-- ---- feeding
+
+packets_asked : SessionLaws → StillWaits → (units : List (List ℕ)) (old new : End) → TakesPackets old units new → IsAttended old → IsSound old → HasAsked old → HasAsked new
+packets_asked laws law [] old new h attended sound has = subst HasAsked (sym h) has
+packets_asked laws law (u ∷ units) old new h attended sound has =
+    let lasts = lasting_of old.carrier.ended (waits old.lines) h.0 in
+    packets_asked laws law units (after_packet old u) new h.1 (attended_then (with_carrier (carriers.after_packet old.carrier u) old) (after_packet old u) (packet_is old u))
+    (packet_sound laws u old lasts (attended lasts) sound) (packet_asked law u old lasts (sound lasts) has)
+
+starved_asked : (e new : End) (packet : List ℕ) → Starves e packet new → HasAsked new
+starved_asked e new packet (inl h) = λ lasts.
+    let mid = with_carrier h.0 e in
+    let heard : (hears_all mid).carrier.ended ≡ None = sym (ap (λ (x : Carrier). x.ended) (concluded_carrier (hears_all mid))) ∙ ap (λ (x : End). x.carrier.ended) (sym h.2) ∙ lasts in
+    let told : h.0.ended ≡ None = times_last (length h.0.events) mid heard in
+    let over : is_some h.0.ended ≡ true = ap (λ (c : Carrier). is_some c.ended) h.1.2.ended in
+    let no : is_some h.0.ended ≡ false = ap is_some told in
+    both (is_some h.0.ended) over no
+starved_asked e new packet (inr h) =
+    over_asked new (ap (λ (x : End). is_some x.carrier.ended) h.2.starved ∙ starved_over (with_events h.2.more (hears_times h.2.heard (with_carrier h.0 e))))
+
+none_found : (e new : End) (rest : List ℕ) → (new ≡ ends NoMemory e) ⊎ ((packet : List ℕ) × ArePackets (packet ∷ []) rest [] × Starves e packet new) → HasAsked new
+none_found e new rest (inl is) = over_asked new (ap (λ (x : End). is_some x.carrier.ended) is)
+none_found e new rest (inr p) = starved_asked e new p.0 p.2
+
+goes_asked : SessionLaws → StillWaits → (old new : Holding) (piece : List ℕ) (used : ℕ) → Goes old piece used new → IsAttended old.end → IsSound old.end → HasAsked old.end → HasAsked new.end
+goes_asked laws law old new piece used (inl (inl h)) attended sound has = packets_asked laws law h.units old.end new.end h.taken attended sound has
+goes_asked laws law old new piece used (inl (inr h)) attended sound has = packets_asked laws law h.units old.end new.end h.taken attended sound has
+goes_asked laws law old new piece used (inr (inl h)) attended sound has = over_asked new.end (ap (λ (x : End). is_some x.carrier.ended) h.ended)
+goes_asked laws law old new piece used (inr (inr h)) attended sound has = none_found h.before new.end h.rest h.how
+
+feeds_by : SessionLaws → StillWaits → (old new : Holding) (piece : List ℕ) (fed : Fed) (o : Option EndReason) (b : Bool) → old.end.carrier.ended ≡ o → waits old.end.lines ≡ b →
+    Feeds old piece fed new → IsAttended old.end → IsSound old.end → HasAsked old.end → HasAsked new.end
+feeds_by laws law old new piece fed (Some reason) b is waiting h attended sound has = subst (λ (x : Holding). HasAsked x.end) (sym (h.over (ap is_some is)).1) has
+feeds_by laws law old new piece fed None true is waiting h attended sound has = subst (λ (x : Holding). HasAsked x.end) (sym (h.waiting is waiting).1) has
+feeds_by laws law old new piece fed None false is waiting h attended sound has =
+    goes_asked laws law old new piece fed.used (h.goes (ap (λ (o : Option EndReason). is_some o || waits old.end.lines) is ∙ waiting)) attended sound has
+
+pub feeds_asked : SessionLaws → StillWaits → (old new : Holding) (piece : List ℕ) (fed : Fed) → Feeds old piece fed new → IsAttended old.end → IsSound old.end → HasAsked old.end → HasAsked new.end
+feeds_asked laws law old new piece fed h attended sound has = feeds_by laws law old new piece fed old.end.carrier.ended (waits old.end.lines) refl refl h attended sound has

@@ -1,0 +1,208 @@
+-- Two accounts that are the same but for lines of connections that are gone stay so, whatever comes.
+use Rattle.std.proofs.Common.{◌≡◌, ℕ, ◌==◌, Bool, true, false, ◌||◌, List, [], ◌∷◌, ◌++◌, Option, Some, None, is_some, refl, sym, ap, ◌∙◌, if◌then◌else◌}
+use Rattle.std.proofs.lemmas.Bool.{eqb-true, eq-eqb}
+use Rattle.osi_carrier.proofs.Effects.{orderly_same}
+use Rattle.osi_carrier.specs.Calls.{link_of}
+use Rattle.osi_carrier.specs.Orderly.{AreUpTo}
+use Rattle.osi_carrier.specs.Packets as carriers
+use Rattle.osi_carrier.specs.Rows.{Rows, value_at}
+use Rattle.osi_carrier.specs.State.{Connection, asked, State as Carrier}
+use Rattle.osi_carrier.specs.Told.{is_open}
+use Rattle.osi_session.proofs.PhaseLaws.{implied}
+use Rattle.osi_session.specs.Listening.{Listener, broken, react}
+use Rattle.osi_session.specs.Phases.{is_wait_transport, may_abort, shows_loss}
+use Rattle.osi_session.specs.Shown.{Shown, Lost}
+use Rattle.osi_stack.specs.Hearing.{shown_at_loss, after_packet, with_carrier}
+use Rattle.osi_stack.specs.Links.{AreApart, HasAsked, IsSound}
+use Rattle.osi_stack.specs.Messages.{kept_at, all_waiting}
+use Rattle.osi_stack.specs.Runs.{quieted, hushed, put_back, live_lines, pruned, Account, account_of}
+use Rattle.osi_stack.specs.State.{Line, End, IsAttended, line_waits, session_in, waits}
+use Rattle.osi_stack.proofs.Accounts.{made}
+use Rattle.osi_stack.proofs.Alike.{quieted_at}
+use Rattle.osi_stack.proofs.Awaiting.{StillWaits, packet_asked}
+use Rattle.osi_stack.proofs.Comings.{attended_then}
+use Rattle.osi_stack.proofs.FirstShown.{quiet_line}
+use Rattle.osi_stack.proofs.Lifting.{both, or_first, or_second, packet_is}
+use Rattle.osi_stack.proofs.Linking.{SessionLaws}
+use Rattle.osi_stack.proofs.Pruning.{only_row, AreStill}
+use Rattle.osi_stack.proofs.Reached.{reached, unreached, SameInLive}
+use Rattle.osi_stack.proofs.Soundness.{packet_sound}
+
+-- ---- what is true of an end, whatever waits and was carried
+
+pub record IsFit (e : End) : Type 0 where
+  pub attended : IsAttended e
+  pub sound : IsSound e
+  pub asks : HasAsked e
+
+-- once it has ended nothing of it is asked
+pub fit_over : (e : End) → is_some e.carrier.ended ≡ true → IsFit e
+fit_over e over = record {
+  attended = λ lasts. both (is_some e.carrier.ended) over (ap is_some lasts);
+  sound = λ lasts. both (is_some e.carrier.ended) over (ap is_some lasts);
+  asks = λ lasts. both (is_some e.carrier.ended) over (ap is_some lasts);
+}
+
+quieted_up : (n : ℕ) (lines : Rows Line) → AreUpTo n lines → AreUpTo n (quieted lines)
+quieted_up n [] up = tt
+quieted_up n ((q, y) ∷ lines) up = (up.0, quieted_up n lines up.1)
+
+up_quieted : (n : ℕ) (lines : Rows Line) → AreUpTo n (quieted lines) → AreUpTo n lines
+up_quieted n [] up = tt
+up_quieted n ((q, y) ∷ lines) up = (up.0, up_quieted n lines up.1)
+
+none_by : (r q : ℕ) (y : Line) (lines : Rows Line) (b : Bool) → (q == r) ≡ b → is_some (value_at r (quieted lines)) ≡ is_some (value_at r lines) →
+    is_some (value_at r (quieted ((q, y) ∷ lines))) ≡ is_some (value_at r ((q, y) ∷ lines))
+none_by r q y lines true e more = rw e refl
+none_by r q y lines false e more = rw e more
+
+some_quieted : (r : ℕ) (lines : Rows Line) → is_some (value_at r (quieted lines)) ≡ is_some (value_at r lines)
+some_quieted r [] = refl
+some_quieted r ((q, y) ∷ lines) = none_by r q y lines (q == r) refl (some_quieted r lines)
+
+none_of : {X : Type 0} (o : Option X) → is_some o ≡ false → o ≡ None
+none_of None e = refl
+none_of (Some x) e = cc
+
+quieted_apart : (lines : Rows Line) → AreApart lines → AreApart (quieted lines)
+quieted_apart [] apart = tt
+quieted_apart ((q, y) ∷ lines) apart = (none_of (value_at q (quieted lines)) (some_quieted q lines ∙ ap is_some apart.0), quieted_apart lines apart.1)
+
+apart_quieted : (lines : Rows Line) → AreApart (quieted lines) → AreApart lines
+apart_quieted [] apart = tt
+apart_quieted ((q, y) ∷ lines) apart = (none_of (value_at q lines) (sym (some_quieted q lines) ∙ ap is_some apart.0), apart_quieted lines apart.1)
+
+pub fit_hushed : (o : List ℕ) (e : End) → IsFit e → IsFit (put_back o (hushed e))
+fit_hushed o e f = record {
+  attended = f.attended;
+  sound = λ over. (let s = f.sound over in record {
+    orderly = orderly_same e.carrier (o ++ e.carrier.outgoing) e.carrier.events s.orderly;
+    apart = quieted_apart e.lines s.apart;
+    known = quieted_up e.carrier.given e.lines s.known;
+    links = λ lasts r t is n. s.links lasts r t (sym (quieted_at r e.lines) ∙ is) n;
+  });
+  asks = λ over r t is n. f.asks over r t (sym (quieted_at r e.lines) ∙ is) n;
+}
+
+pub fit_back : (o : List ℕ) (e : End) → IsFit (put_back o (hushed e)) → IsFit e
+fit_back o e f = record {
+  attended = f.attended;
+  sound = λ over. (let s = f.sound over in record {
+    orderly = orderly_same (put_back o e).carrier e.carrier.outgoing e.carrier.events s.orderly;
+    apart = apart_quieted e.lines s.apart;
+    known = up_quieted e.carrier.given e.lines s.known;
+    links = λ lasts r t is n. s.links lasts r t (quieted_at r e.lines ∙ is) n;
+  });
+  asks = λ over r t is n. f.asks over r t (quieted_at r e.lines ∙ is) n;
+}
+
+pub fit_packet : SessionLaws → StillWaits → (unit : List ℕ) (e : End) → e.carrier.ended ≡ None → IsFit e → IsFit (after_packet e unit)
+fit_packet laws law unit e lasts f = record {
+  attended = attended_then (with_carrier (carriers.after_packet e.carrier unit) e) (after_packet e unit) (packet_is e unit);
+  sound = packet_sound laws unit e lasts (f.attended lasts) f.sound;
+  asks = packet_asked law unit e lasts (f.sound lasts) f.asks;
+}
+
+-- ---- the session of a connection that is gone shows nothing when it is lost
+
+unshown : (b : Bool) → b ≡ false → (if◌then◌else◌ {A = List Shown} b (Lost ∷ []) []) ≡ []
+unshown true h = cc
+unshown false h = refl
+
+quiet_loss : (s : Listener) → shows_loss s.state.phase ≡ false → (react s broken).shown ≡ []
+unfolding react
+quiet_loss s h = unshown (shows_loss s.state.phase) h
+
+or_either : (a b : Bool) → (a || b) ≡ true → a ≡ false → b ≡ true
+or_either false b h e = h
+or_either true b h e = cc
+
+or_last : (a b : Bool) → b ≡ true → (a || b) ≡ true
+or_last true b h = refl
+or_last false b h = h
+
+link_live : (over : Bool) (o : Option Connection) → o ≡ None → is_some (if over then None else link_of o) ≡ false
+link_live true o none = refl
+link_live false o none = ap (λ (x : Option Connection). is_some (link_of x)) none
+
+gone_closed : (r : ℕ) (c : Carrier) → value_at r c.live ≡ None → is_open r c ≡ false
+gone_closed r c none = link_live (is_some c.ended) (value_at r c.live) none
+
+gone_quiet : (e : End) (r : ℕ) (s : Listener) → e.carrier.ended ≡ None → IsFit e → kept_at r e.lines ≡ Some s → value_at r e.carrier.live ≡ None → (b c : Bool) → may_abort s.state.phase ≡ b →
+    shows_loss s.state.phase ≡ c → c ≡ false
+gone_quiet e r s lasts f kept none b false m shows = refl
+gone_quiet e r s lasts f kept none true true m shows =
+    let open_is : is_open r e.carrier ≡ true = (f.sound lasts).links lasts r s kept (or_last _ (may_abort s.state.phase) m) in
+    both (is_open r e.carrier) open_is (gone_closed r e.carrier none)
+gone_quiet e r s lasts f kept none false true m shows =
+    let waits : is_wait_transport s.state.phase ≡ true =
+    or_either (may_abort s.state.phase) (is_wait_transport s.state.phase) (implied shows_loss (λ p. may_abort p || is_wait_transport p) refl s.state.phase shows) m in
+    let no : None ≡ Some asked = sym none ∙ f.asks lasts r s kept waits in
+    cc
+
+pub gone_shows : (e : End) (r : ℕ) (s : Listener) → e.carrier.ended ≡ None → IsFit e → kept_at r e.lines ≡ Some s → value_at r e.carrier.live ≡ None → (react s broken).shown ≡ []
+gone_shows e r s lasts f kept none = quiet_loss s (gone_quiet e r s lasts f kept none (may_abort s.state.phase) (shows_loss s.state.phase) refl refl)
+
+-- ---- lines of connections that are gone, where nothing waits
+
+-- what the sessions of some references show when they are lost
+abbrev ShowNothing : (ℕ → Bool) → Rows Line → Type 0
+ShowNothing K lines = (r : ℕ) (s : Listener) → kept_at r lines ≡ Some s → K r ≡ false → (react s broken).shown ≡ []
+
+kept_first : (q : ℕ) (y : Line) (lines : Rows Line) → kept_at q ((q, y) ∷ lines) ≡ y.session
+kept_first q y lines = let e = eq-eqb q q refl in rw e refl
+
+kept_behind : (r q : ℕ) (y : Line) (lines : Rows Line) (s : Listener) (b : Bool) → (q == r) ≡ b → value_at q lines ≡ None → kept_at r lines ≡ Some s → kept_at r ((q, y) ∷ lines) ≡ Some s
+kept_behind r q y lines s true e none is =
+    let no : None ≡ Some s = ap session_in (sym none) ∙ ap (λ k. kept_at k lines) (eqb-true q r e) ∙ is in cc
+kept_behind r q y lines s false e none is = rw e is
+
+shown_none : (o : Option Listener) → ((s : Listener) → o ≡ Some s → (react s broken).shown ≡ []) → shown_at_loss o ≡ []
+shown_none None h = refl
+shown_none (Some s) h = h s refl
+
+still_lines : (K : ℕ → Bool) (lines : Rows Line) → AreApart lines → waits lines ≡ false → ShowNothing K lines → AreStill K lines
+still_lines K [] apart quiet shows = tt
+still_lines K ((q, y) ∷ lines) apart quiet shows = (
+  λ gone. record {
+    waiting = quiet_line y (or_first (line_waits y) (waits lines) quiet);
+    lost = shown_none y.session (λ s is. shows q s (kept_first q y lines ∙ is) gone);
+  },
+  still_lines K lines apart.1 (or_second (line_waits y) (waits lines) quiet) (λ r s is gone. shows r s (kept_behind r q y lines s (q == r) refl apart.0 is) gone),
+)
+
+pub fit_still : (e : End) → e.carrier.ended ≡ None → IsFit e → waits e.lines ≡ false → AreStill (reached e.carrier) e.lines
+fit_still e lasts f quiet =
+    still_lines (reached e.carrier) e.lines (f.sound lasts).apart quiet (λ r s is gone. gone_shows e r s lasts f is (unreached e.carrier r gone).none)
+
+-- ---- accounts
+
+abbrev pub pruned_account : Account → Account
+pruned_account a = record { end = pruned a.end; told = a.told }
+
+quieted_row : (live : Rows Connection) (q : ℕ) (y : Line) (lines : Rows Line) (b : Bool) → is_some (value_at q live) ≡ b → live_lines live (quieted lines) ≡ quieted (live_lines live lines) →
+    live_lines live (quieted ((q, y) ∷ lines)) ≡ quieted (live_lines live ((q, y) ∷ lines))
+quieted_row live q y lines true e more =
+    let K : ℕ → Bool = λ r. is_some (value_at r live) in
+    only_row K q (record y { waiting = [] }) (quieted lines) true e ∙ ap (λ (l : Rows Line). (q, record y { waiting = [] }) ∷ l) more ∙ sym (ap quieted (only_row K q y lines true e))
+quieted_row live q y lines false e more =
+    let K : ℕ → Bool = λ r. is_some (value_at r live) in
+    only_row K q (record y { waiting = [] }) (quieted lines) false e ∙ more ∙ sym (ap quieted (only_row K q y lines false e))
+
+pub quieted_live : (live : Rows Connection) (lines : Rows Line) → live_lines live (quieted lines) ≡ quieted (live_lines live lines)
+quieted_live live [] = refl
+quieted_live live ((q, y) ∷ lines) = quieted_row live q y lines (is_some (value_at q live)) refl (quieted_live live lines)
+
+-- what is left of the account of an end
+pub account_view : (t : List (ℕ × Shown)) (o : List ℕ) (e : End) → pruned_account (account_of t o e) ≡ made (put_back o (hushed (pruned e))) (t ++ all_waiting e.lines)
+account_view t o e = ap (λ (l : Rows Line). made (put_back o (record e { lines = l })) (t ++ all_waiting e.lines)) (quieted_live e.carrier.live e.lines)
+
+pub account_alike : (t : List (ℕ × Shown)) (o : List ℕ) (a b : End) → SameInLive a b → pruned_account (account_of t o a) ≡ pruned_account (account_of t o b)
+account_alike t o a b h =
+    account_view t o a ∙ ap (λ (e : End). made (put_back o (hushed e)) (t ++ all_waiting a.lines)) h.end ∙ ap (λ (w : List (ℕ × Shown)). made (put_back o (hushed (pruned b))) (t ++ w)) h.told
+    ∙ sym (account_view t o b)
+
+-- all was told of it
+pub none_waits : (lines : Rows Line) → waits (quieted lines) ≡ false
+none_waits [] = refl
+none_waits ((q, y) ∷ lines) = none_waits lines

@@ -1,0 +1,214 @@
+-- What happens to an end happens to live connections and to new ones alone: it is the same without the lines of
+-- connections that are gone.
+use Rattle.std.proofs.Common.{◌≡◌, ℕ, zero, suc, ◌<◌, ◌≤◌, Bool, true, false, ◌||◌, nat_lt, List, [], ◌∷◌, ◌++◌, length, Option, Some, None, is_some, refl, sym, ap, subst, ◌∙◌, inl, inr, arith}
+use Rattle.std.proofs.lemmas.Bool.Decides.{nat_tests}
+use Rattle.std.specs.List.{AllByRecursion}
+use Rattle.osi_carrier.proofs.Effects.{sent_gone, closed_gone}
+use Rattle.osi_carrier.specs.Calls.{open_link, sent, sent_all, send_all_error}
+use Rattle.osi_carrier.specs.Happenings.{Happening}
+use Rattle.osi_carrier.specs.Happenings as told
+use Rattle.osi_carrier.specs.Orderly.{AreUpTo, IsOrderly, told_of}
+use Rattle.osi_carrier.specs.Packets as carriers
+use Rattle.osi_carrier.specs.Rows.{Rows, value_at}
+use Rattle.osi_carrier.specs.State.{Connection, State as Carrier}
+use Rattle.osi_carrier.specs.declared.ends.EndReason.{EndReason}
+use Rattle.osi_carrier.specs.declared.faults.SendError.{SendError}
+use Rattle.osi_session.specs.Listening.{Input, Listener, opened, react}
+use Rattle.osi_stack.specs.Hearing.{opens, hears, hears_first, hears_next, hears_times, hears_all, with_events, with_carrier, after_packet, ends}
+use Rattle.osi_stack.specs.Messages.{all_waiting}
+use Rattle.osi_stack.specs.Moving.{carrier_by, by_line, to_session}
+use Rattle.osi_stack.specs.Runs.{live_lines, pruned}
+use Rattle.osi_stack.specs.State.{Line, End}
+use Rattle.osi_stack.specs.Transport.{sent_unless, answers_by}
+use Rattle.osi_stack.proofs.Events.{concluded_carrier}
+use Rattle.osi_stack.proofs.Lifting.{both, or_first, or_second, packet_is}
+use Rattle.osi_stack.proofs.Opened.{IsOf}
+use Rattle.osi_stack.proofs.Ordering.{packet_along}
+use Rattle.osi_stack.proofs.Pruning.{only, only_end, only_row, only_session, only_packet, only_lost, only_told, AreOf, AreStill, still_session, still_packet, still_lost}
+
+-- ---- which connections are reached
+
+abbrev pub is_live : Carrier → ℕ → Bool
+is_live c r = is_some (value_at r c.live)
+
+-- a live connection, and one that is new
+abbrev pub reached : Carrier → ℕ → Bool
+reached c r = is_live c r || nat_lt c.given r
+
+or_true : (a b : Bool) → b ≡ true → (a || b) ≡ true
+or_true true b h = refl
+or_true false b h = h
+
+or_false : (b : Bool) → (b || false) ≡ b
+or_false true = refl
+or_false false = refl
+
+pub reached_live : (c : Carrier) (r : ℕ) → is_live c r ≡ true → reached c r ≡ true
+reached_live c r h = ap (λ (b : Bool). b || nat_lt c.given r) h
+
+pub reached_new : (c : Carrier) (r : ℕ) → c.given < r → reached c r ≡ true
+reached_new c r above = or_true (is_live c r) (nat_lt c.given r) (let new : nat_lt c.given r ≡ true = grind (arith, nat_tests) in new)
+
+-- one that is gone
+pub record IsGone (c : Carrier) (r : ℕ) : Type 0 where
+  pub none : value_at r c.live ≡ None
+  pub given : r ≤ c.given
+
+gone_of : {X : Type 0} (o : Option X) → is_some o ≡ false → o ≡ None
+gone_of None e = refl
+gone_of (Some x) e = cc
+
+pub unreached : (c : Carrier) (r : ℕ) → reached c r ≡ false → IsGone c r
+unreached c r h =
+    let low : nat_lt c.given r ≡ false = or_second (is_live c r) (nat_lt c.given r) h in
+    record { none = gone_of (value_at r c.live) (or_first (is_live c r) (nat_lt c.given r) h); given = grind (arith, nat_tests) }
+
+reached_of : (c : Carrier) (event : Happening) → IsOf c event → reached c (told_of event) ≡ true
+reached_of c event (inl here) = reached_live c (told_of event) here
+reached_of c event (inr above) = reached_new c (told_of event) above
+
+reached_all : (c : Carrier) (events : List Happening) → AllByRecursion (IsOf c) events → AreOf (reached c) events
+reached_all c [] all = tt
+reached_all c (event ∷ events) all = (reached_of c event all.0, reached_all c events all.1)
+
+-- what a packet tells is of these
+pub packet_reaches : (c : Carrier) (unit : List ℕ) → IsOrderly c → c.events ≡ [] → AreOf (reached c) (carriers.after_packet c unit).events
+packet_reaches c unit orderly none =
+    let a = packet_along unit c orderly in
+    subst (AreOf (reached c)) (sym (a.events ∙ ap (λ (l : List Happening). l ++ a.told) none)) (reached_all c a.told a.about)
+
+-- ---- a connection that is gone stays so
+
+gone_all : (r : ℕ) (tsdus : List (List ℕ)) (c : Carrier) (q : ℕ) → value_at q c.live ≡ None → value_at q (sent_all r tsdus c).live ≡ None
+gone_all r [] c q none = none
+gone_all r (tsdu ∷ tsdus) c q none = gone_all r tsdus (sent r tsdu c) q (sent_gone r q tsdu c none)
+
+gone_unless : (error : Option SendError) (r : ℕ) (tsdus : List (List ℕ)) (c : Carrier) (q : ℕ) → value_at q c.live ≡ None → value_at q (sent_unless error r tsdus c).live ≡ None
+gone_unless None r tsdus c q none = gone_all r tsdus c q none
+gone_unless (Some error) r tsdus c q none = none
+
+gone_answers : (closing : Bool) (r : ℕ) (tsdus : List (List ℕ)) (c : Carrier) (q : ℕ) → value_at q c.live ≡ None → value_at q (answers_by closing r tsdus c).live ≡ None
+gone_answers true r tsdus c q none = closed_gone r q 128 c none
+gone_answers false r tsdus c q none = gone_unless (send_all_error tsdus (open_link r c)) r tsdus c q none
+
+gone_carrier : (r : ℕ) (session : Option Listener) (input : Input) (c : Carrier) (q : ℕ) → value_at q c.live ≡ None → value_at q (carrier_by r session input c).live ≡ None
+gone_carrier r None input c q none = none
+gone_carrier r (Some session) input c q none = gone_answers (react session input).closes r _ c q none
+
+gone_line : (r : ℕ) (line : Option Line) (input : Input) (e : End) (q : ℕ) → value_at q e.carrier.live ≡ None → value_at q (by_line r line input e).carrier.live ≡ None
+gone_line r None input e q none = none
+gone_line r (Some line) input e q none = gone_carrier r line.session input e.carrier q none
+
+gone_session : (r : ℕ) (input : Input) (e : End) (q : ℕ) → value_at q e.carrier.live ≡ None → value_at q (to_session r input e).carrier.live ≡ None
+gone_session r input e q none = gone_line r (value_at r e.lines) input e q none
+
+gone_opens : (r : ℕ) (line : Option Line) (e : End) (q : ℕ) → value_at q e.carrier.live ≡ None → value_at q (opens r line e).carrier.live ≡ None
+gone_opens r None e q none = none
+gone_opens r (Some line) e q none = gone_session r opened e q none
+
+gone_hears : (event : Happening) (e : End) (q : ℕ) → value_at q e.carrier.live ≡ None → value_at q (hears event e).carrier.live ≡ None
+gone_hears (told.opened r) e q none = gone_opens r (value_at r e.lines) e q none
+gone_hears (told.refused r reason) e q none = gone_session r _ e q none
+gone_hears (told.tsdu r octets) e q none = gone_session r _ e q none
+gone_hears (told.closed r reason) e q none = gone_session r _ e q none
+gone_hears (told.faulted r fault) e q none = gone_session r _ e q none
+
+gone_first : (events : List Happening) (e : End) (q : ℕ) → value_at q e.carrier.live ≡ None → value_at q (hears_first events e).carrier.live ≡ None
+gone_first [] e q none = none
+gone_first (event ∷ events) e q none = gone_hears event (with_events events e) q none
+
+gone_times : (n : ℕ) (e : End) (q : ℕ) → value_at q e.carrier.live ≡ None → value_at q (hears_times n e).carrier.live ≡ None
+gone_times zero e q none = none
+gone_times (suc n) e q none = gone_times n (hears_next e) q (gone_first e.carrier.events e q none)
+
+gone_packet : (e : End) (unit : List ℕ) (q : ℕ) → IsOrderly e.carrier → IsGone e.carrier q → value_at q (after_packet e unit).carrier.live ≡ None
+gone_packet e unit q orderly gone =
+    let mid = with_carrier (carriers.after_packet e.carrier unit) e in
+    ap (λ (x : End). value_at q x.carrier.live) (packet_is e unit)
+    ∙ ap (λ (c : Carrier). value_at q c.live) (concluded_carrier (hears_all mid))
+    ∙ gone_times (length mid.carrier.events) mid q ((packet_along unit e.carrier orderly).gone q gone.given gone.none)
+
+-- each reference of the one kind is of the other
+abbrev pub Within : (ℕ → Bool) → (ℕ → Bool) → Type 0
+Within K L = (q : ℕ) → K q ≡ true → L q ≡ true
+
+within_by : (o : Option Connection) (b : Bool) → (b ≡ false → o ≡ None) → is_some o ≡ true → b ≡ true
+within_by o true none here = refl
+within_by o false none here = both (is_some o) here (ap is_some (none refl))
+
+-- what is live behind a packet, or behind what happens to a session
+pub packet_within : (e : End) (unit : List ℕ) → IsOrderly e.carrier → Within (is_live (after_packet e unit).carrier) (reached e.carrier)
+packet_within e unit orderly q here =
+    within_by (value_at q (after_packet e unit).carrier.live) (reached e.carrier q) (λ no. gone_packet e unit q orderly (unreached e.carrier q no)) here
+
+pub session_within : (r : ℕ) (input : Input) (e : End) → Within (is_live (to_session r input e).carrier) (reached e.carrier)
+session_within r input e q here =
+    within_by (value_at q (to_session r input e).carrier.live) (reached e.carrier q) (λ no. gone_session r input e q (unreached e.carrier q no).none) here
+
+-- ---- lines of fewer references
+
+less_by : (K L : ℕ → Bool) → Within K L → (q : ℕ) (y : Line) (lines : Rows Line) (b c : Bool) → L q ≡ b → K q ≡ c → only K (only L lines) ≡ only K lines →
+    only K (only L ((q, y) ∷ lines)) ≡ only K ((q, y) ∷ lines)
+less_by K L within q y lines true true e f more =
+    ap (only K) (only_row L q y lines true e) ∙ only_row K q y (only L lines) true f ∙ ap (λ (l : Rows Line). (q, y) ∷ l) more ∙ sym (only_row K q y lines true f)
+less_by K L within q y lines true false e f more =
+    ap (only K) (only_row L q y lines true e) ∙ only_row K q y (only L lines) false f ∙ more ∙ sym (only_row K q y lines false f)
+less_by K L within q y lines false true e f more = both (L q) (within q f) e
+less_by K L within q y lines false false e f more = ap (only K) (only_row L q y lines false e) ∙ more ∙ sym (only_row K q y lines false f)
+
+pub only_less : (K L : ℕ → Bool) → Within K L → (lines : Rows Line) → only K (only L lines) ≡ only K lines
+only_less K L within [] = refl
+only_less K L within ((q, y) ∷ lines) = less_by K L within q y lines (L q) (K q) refl refl (only_less K L within lines)
+
+same_row : (K L : ℕ → Bool) (q : ℕ) (y : Line) (lines : Rows Line) (b : Bool) → K q ≡ b → L q ≡ b → only K lines ≡ only L lines → only K ((q, y) ∷ lines) ≡ only L ((q, y) ∷ lines)
+same_row K L q y lines true e f more = only_row K q y lines true e ∙ ap (λ (l : Rows Line). (q, y) ∷ l) more ∙ sym (only_row L q y lines true f)
+same_row K L q y lines false e f more = only_row K q y lines false e ∙ more ∙ sym (only_row L q y lines false f)
+
+reached_known : (c : Carrier) (q : ℕ) → q ≤ c.given → reached c q ≡ is_live c q
+reached_known c q low =
+    let old : nat_lt c.given q ≡ false = grind (arith, nat_tests) in
+    ap (λ (b : Bool). is_live c q || b) old ∙ or_false (is_live c q)
+
+-- where no line is new
+pub known_live : (c : Carrier) (lines : Rows Line) → AreUpTo c.given lines → only (reached c) lines ≡ live_lines c.live lines
+known_live c [] up = refl
+known_live c ((q, y) ∷ lines) up = same_row (reached c) (is_live c) q y lines (is_live c q) (reached_known c q up.0) refl (known_live c lines up.1)
+
+-- ---- an end without the lines of connections that are gone
+
+pub pruned_is : (e : End) → AreUpTo e.carrier.given e.lines → only_end (reached e.carrier) e ≡ pruned e
+pruned_is e known = ap (λ (l : Rows Line). record e { lines = l }) (known_live e.carrier e.lines known)
+
+-- two ends that are the same but for these lines, for which nothing waits
+pub record SameInLive (a b : End) : Type 0 where
+  pub end : pruned a ≡ pruned b
+  pub told : all_waiting a.lines ≡ all_waiting b.lines
+
+-- what does the same without them
+acts_alike : (e new : End) → Within (is_live new.carrier) (reached e.carrier) → AreStill (reached e.carrier) new.lines → SameInLive (only_end (reached e.carrier) new) new
+acts_alike e new within still = record {
+  end = ap (λ (l : Rows Line). record new { lines = l }) (only_less (is_live new.carrier) (reached e.carrier) within new.lines);
+  told = only_told (reached e.carrier) new.lines still;
+}
+
+pub packet_alike : (e : End) (unit : List ℕ) → IsOrderly e.carrier → e.carrier.events ≡ [] → AreUpTo e.carrier.given e.lines → AreStill (reached e.carrier) e.lines →
+    SameInLive (after_packet (pruned e) unit) (after_packet e unit)
+packet_alike e unit orderly none known still =
+    let all = packet_reaches e.carrier unit orderly none in
+    subst (λ (x : End). SameInLive x (after_packet e unit))
+    (sym (only_packet (reached e.carrier) e unit all) ∙ ap (λ (x : End). after_packet x unit) (pruned_is e known))
+    (acts_alike e (after_packet e unit) (packet_within e unit orderly) (still_packet (reached e.carrier) e unit all still))
+
+pub session_alike : (r : ℕ) (input : Input) (e : End) → is_live e.carrier r ≡ true → AreUpTo e.carrier.given e.lines → AreStill (reached e.carrier) e.lines →
+    SameInLive (to_session r input (pruned e)) (to_session r input e)
+session_alike r input e here known still =
+    let reaches = reached_live e.carrier r here in
+    subst (λ (x : End). SameInLive x (to_session r input e))
+    (sym (only_session (reached e.carrier) r input e reaches) ∙ ap (to_session r input) (pruned_is e known))
+    (acts_alike e (to_session r input e) (session_within r input e) (still_session (reached e.carrier) r input e reaches still))
+
+pub ends_alike : (reason : EndReason) (e : End) → AreUpTo e.carrier.given e.lines → AreStill (reached e.carrier) e.lines → SameInLive (ends reason (pruned e)) (ends reason e)
+ends_alike reason e known still =
+    subst (λ (x : End). SameInLive x (ends reason e))
+    (ap (λ (l : Rows Line). record (ends reason e) { lines = l }) (sym (only_lost (reached e.carrier) e.lines)) ∙ ap (ends reason) (pruned_is e known))
+    (acts_alike e (ends reason e) (λ q here. cc) (still_lost (reached e.carrier) e.lines still))
