@@ -15,6 +15,7 @@ use Rattle.osi_carrier.specs.Messages as carrier
 use Rattle.osi_carrier.specs.Progress.{Progress}
 use Rattle.osi_carrier.specs.Rows.{value_at}
 use Rattle.osi_carrier.specs.State.{Connection, State, asked, linked, closing, packets}
+use Rattle.osi_session.specs.declared.state.State.{State as Session}
 use Rattle.osi_carrier.specs.Terms.{Terms, terms_of}
 use Rattle.osi_class.specs.Link.{Standing}
 use Rattle.osi_machine.specs.Core as machine
@@ -81,15 +82,13 @@ no_words : (words : List Word) → map word_in words ≡ [] → words ≡ []
 no_words [] e = refl
 no_words (w ∷ words) e = absurd (cc)
 
--- nothing is under way, and nothing of it was cut off
-no_messages : (o : Option EndReason) (g : Progress) (c : Bool) (H : Option (List ℕ) → Type 0) (ms : List Message) (sent : List carrier.Message) → (w : AreUnderWay o g c H ms sent) → c ≡ false → map word_in w.words ≡ [] → ms ≡ []
-no_messages o g c H ms sent w uncut none =
-    sym w.joined ∙ ap (λ (l : List Word). joins w.begun (l ++ w.lost)) (no_words w.words none) ∙ ap (joins w.begun) (w.kept uncut)
+-- nothing is under way
+no_messages : (o : Option EndReason) (g : Progress) (c : Bool) (H : Option (List ℕ) → Type 0) (x : Session) (ms : List Message) (sent : List carrier.Message) → (w : AreUnderWay o g c H x ms sent) → map word_in w.words ≡ [] → ms ≡ []
+no_messages o g c H x ms sent w none = sym w.joined ∙ ap (joins w.begun) (no_words w.words none)
 
--- and nothing has begun
-none_begun_by : (o : Option EndReason) (g : Progress) (c : Bool) (H : Option (List ℕ) → Type 0) (ms : List Message) (sent : List carrier.Message) → (w : AreUnderWay o g c H ms sent) → c ≡ false → map word_in w.words ≡ [] → w.begun ≡ None
-none_begun_by o g c H ms sent w uncut none =
-    sym (ap (λ (l : List Word). left_of w.begun (l ++ w.lost)) (no_words w.words none) ∙ ap (left_of w.begun) (w.kept uncut)) ∙ w.finished
+-- and nothing has begun, where nothing was cut off
+none_begun_by : (o : Option EndReason) (g : Progress) (c : Bool) (H : Option (List ℕ) → Type 0) (x : Session) (ms : List Message) (sent : List carrier.Message) → (w : AreUnderWay o g c H x ms sent) → c ≡ false → map word_in w.words ≡ [] → w.begun ≡ None
+none_begun_by o g c H x ms sent w uncut none = sym (ap (left_of w.begun) (no_words w.words none)) ∙ w.finished uncut
 
 uncut_at : (side : Side) (p : TwoEnds) → Resting p → is_cut (is_caller side) (carriers_of p) ≡ false
 uncut_at side p rest = cut_none side p (is_some p.reach) refl (rest.lasts side) (ap is_some rest.unbroken)
@@ -174,7 +173,7 @@ joined_none empties p steps r h rest left right Right =
     let there = empties (terms_of p.left.end.carrier.local p.right.end.carrier.local) (carriers_of p) h.now r left.peer right.peer left.link right.link h.stands.between (at_rest p steps h rest) left.live right.live in
     let w = here.is.rightward in
     subst (HasJoined r p.right)
-    (none_begun_by _ _ _ (HasJoined r p.right) here.line.own.channel (under_way true r (carriers_of p) h.now) w (uncut_at Left p rest)
+    (none_begun_by _ _ _ (HasJoined r p.right) here.line.peer.session.state here.line.own.channel (under_way true r (carriers_of p) h.now) w (uncut_at Left p rest)
     (open_alike Right r p steps h (rest.lasts Right) right (map word_in w.words) (under_way true r (carriers_of p) h.now) (w.alike (rest.lasts Right)) ∙ there.there)) w.held
 joined_none empties p steps r h rest left right Left =
     let given = open_given r p steps h left in
@@ -182,7 +181,7 @@ joined_none empties p steps r h rest left right Left =
     let there = empties (terms_of p.left.end.carrier.local p.right.end.carrier.local) (carriers_of p) h.now r left.peer right.peer left.link right.link h.stands.between (at_rest p steps h rest) left.live right.live in
     let w = here.is.leftward in
     subst (HasJoined r p.left)
-    (none_begun_by _ _ _ (HasJoined r p.left) here.line.peer.channel (under_way false r (carriers_of p) h.now) w (uncut_at Right p rest)
+    (none_begun_by _ _ _ (HasJoined r p.left) here.line.own.session.state here.line.peer.channel (under_way false r (carriers_of p) h.now) w (uncut_at Right p rest)
     (open_alike Left r p steps h (rest.lasts Left) left (map word_in w.words) (under_way false r (carriers_of p) h.now) (w.alike (rest.lasts Left)) ∙ there.back)) w.held
 
 none_of : (r : ℕ) (e : End) (l : Listener) → is_some (value_at r e.carrier.live) ≡ true → session_at r e ≡ Some l → ((y : Listener) → kept_at r e.lines ≡ Some y → IsJoinedAs y.state y.joined None) → joined_of (session_at r e) ≡ 0
@@ -198,9 +197,9 @@ all_there heard empties p steps r h rest left right =
     let own : here.line.own.transport ≡ worlds.linked = here.is.left.transport ∙ ap transport_in (open_place Left r p steps h (rest.lasts Left) left) in
     let peer : here.line.peer.transport ≡ worlds.linked = here.is.right.transport ∙ ap transport_in (open_place Right r p steps h (rest.lasts Right) right) in
     let whole : (tables_at p steps).broken ≡ false = h.stands.broken ∙ ap is_some rest.unbroken in
-    let out = no_messages _ _ _ (HasJoined r p.right) here.line.own.channel (under_way true r (carriers_of p) h.now) here.is.rightward (uncut_at Left p rest)
+    let out = no_messages _ _ _ (HasJoined r p.right) here.line.peer.session.state here.line.own.channel (under_way true r (carriers_of p) h.now) here.is.rightward
     (open_alike Right r p steps h (rest.lasts Right) right (map word_in here.is.rightward.words) (under_way true r (carriers_of p) h.now) (here.is.rightward.alike (rest.lasts Right)) ∙ there.there) in
-    let back = no_messages _ _ _ (HasJoined r p.left) here.line.peer.channel (under_way false r (carriers_of p) h.now) here.is.leftward (uncut_at Right p rest)
+    let back = no_messages _ _ _ (HasJoined r p.left) here.line.own.session.state here.line.peer.channel (under_way false r (carriers_of p) h.now) here.is.leftward
     (open_alike Left r p steps h (rest.lasts Left) left (map word_in here.is.leftward.words) (under_way false r (carriers_of p) h.now) (here.is.leftward.alike (rest.lasts Left)) ∙ there.back) in
     record {
       rightward = none_left (taken_by Right r p steps) (sent_by Left r p steps) here.line.own.channel out

@@ -15,6 +15,7 @@ pub mod StandingWays
 pub mod StandingArrived
 pub mod StandingCut
 pub mod StandingTurned
+pub mod StandingAhead
 pub mod StandingSeats
 pub mod StandingListens
 pub mod StandingFinish

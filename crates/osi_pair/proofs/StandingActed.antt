@@ -31,6 +31,7 @@ use Rattle.osi_pair.proofs.StandingSeats.{transport_by, HasSession, place_by, se
 use Rattle.osi_pair.proofs.StandingTurned.{IsSeen, seen, seen_twice, with_holding, holding_here, holding_there, Others, LinesAfter, Turned, turned_pair, turned_stands, out_there, back_here, GoesTo}
 use Rattle.osi_pair.proofs.StandingWays.{shuts, back_waits}
 use Rattle.osi_pair.proofs.StandingCut.{end_back}
+use Rattle.osi_session.specs.declared.state.State.{State as SessionState}
 
 -- ---- the carrier
 
@@ -165,14 +166,14 @@ acted_line g channel l = record {
 }
 
 -- what is under way from the end that acted
-abbrev pub OutNow : Side → ℕ → TwoEnds → Between → TwoEnds → Between → List Message → Type 0
-OutNow s n p b new c channel = GoesTo s (end_at (other s) p) n new c (progress_of (place_at n (last_of (is_caller (other s)) b))) channel
+abbrev pub OutNow : Side → ℕ → TwoEnds → Between → TwoEnds → Between → SessionState → List Message → Type 0
+OutNow s n p b new c x channel = GoesTo s (end_at (other s) p) n new c (progress_of (place_at n (last_of (is_caller (other s)) b))) x channel
 
 in_use_lasts : (g : Progress) → g ≡ in_use → shuts g ≡ true → (h : Bool) → h ≡ true
 in_use_lasts g e f h = let no_way : false ≡ true = sym (ap shuts e) ∙ f in cc
 
 seen_acts : (s : Side) (p : TwoEnds) (b : Between) (t : Tables) (n : ℕ) (g : Progress) (c : State) (put : List carrier.Message) (channel : List Message) (l : Line) → Stands p b t → (end_at s p).end.carrier.ended ≡ None →
-    (a : CarrierActs s p b n g c put) → IsInOrder (end_with s c p) → IsSeen s n p b l → HasSession n (end_at s p).end.lines g l.own.session → OutNow s n p b (pair_with s c p) a.now channel →
+    (a : CarrierActs s p b n g c put) → IsInOrder (end_with s c p) → IsSeen s n p b l → HasSession n (end_at s p).end.lines g l.own.session → OutNow s n p b (pair_with s c p) a.now l.peer.session.state channel →
     IsSeen s n (pair_with s c p) a.now (acted_line g channel l)
 seen_acts s p b t n g c put channel l old alive a order i x out =
     let e = end_with s c p in
@@ -182,11 +183,11 @@ seen_acts s p b t n g c put channel l old alive a order i x out =
       here = subst (λ (y : Holding). IsSeated n y (acted_line g channel l).own) (sym (holding_here s e h p))
           (seat_of_session n e h g l.own.session channel order.sound.orderly (here_now s p b n g c put a order) x);
       there = subst (λ (y : Holding). IsSeated n y l.peer) (sym (holding_there s e h p)) i.there;
-      out = subst (λ (y : State). Goes s (other s) n (pair_with s c p) a.now (progress_of (place_at n y)) channel) (sym a.ways.there)
-          (out_there s p a.now e h n (progress_of (place_at n (last_of (is_caller (other s)) b))) channel out);
-      back = back_here s p a.now e h n (progress_of (place_at n (last_of (is_caller s) a.now))) l.peer.channel
+      out = subst (λ (y : State). Goes s (other s) n (pair_with s c p) a.now (progress_of (place_at n y)) l.peer.session.state channel) (sym a.ways.there)
+          (out_there s p a.now e h n (progress_of (place_at n (last_of (is_caller (other s)) b))) l.peer.session.state channel out);
+      back = back_here s p a.now e h n (progress_of (place_at n (last_of (is_caller s) a.now))) l.own.session.state l.peer.channel
           (back_waits (end_at s p).end.carrier.ended e.carrier.ended (progress_of (place_at n (last_of (is_caller s) b))) (place_at n (last_of (is_caller s) a.now)) (is_cut (is_caller (other s)) (carriers_of p))
-          (is_cut (is_caller (other s)) (carriers_of (pair_with s c p))) (HasJoined n (end_at s p)) (HasJoined n (record { end = e; held = h })) l.peer.channel (under_way (is_caller (other s)) n (carriers_of p) b) (under_way (is_caller (other s)) n (carriers_of (pair_with s c p)) a.now)
+          (is_cut (is_caller (other s)) (carriers_of (pair_with s c p))) (HasJoined n (end_at s p)) (HasJoined n (record { end = e; held = h })) l.own.session.state l.peer.channel (under_way (is_caller (other s)) n (carriers_of p) b) (under_way (is_caller (other s)) n (carriers_of (pair_with s c p)) a.now)
           (λ f. in_use_lasts (progress_of (place_at n (last_of (is_caller s) b))) stood f (shuts (progress_of (place_at n (last_of (is_caller s) a.now))))) i.back alive
           (end_back s (record { end = e; held = h }) p) (λ x held. held) a.ways.came);
     }
@@ -269,7 +270,7 @@ session_in_use s p b t n x l old alive at used i =
 
 pub acted_stands : (s : Side) (p : TwoEnds) (b : Between) (t : Tables) (n : ℕ) (g : Progress) (c : State) (put : List carrier.Message) (channel : List Message) (l : Line) → Stands p b t →
     (end_at s p).end.carrier.ended ≡ None → (a : CarrierActs s p b n g c put) → IsInOrder (end_with s c p) → connection_at n t.lines ≡ Some (seen_from (side_in s) l) →
-    HasSession n (end_at s p).end.lines g l.own.session → OutNow s n p b (pair_with s c p) a.now channel →
+    HasSession n (end_at s p).end.lines g l.own.session → OutNow s n p b (pair_with s c p) a.now l.peer.session.state channel →
     StandsOn (pair_with s c p) (stays t (side_in s) n (acted_line g channel l))
 acted_stands s p b t n g c put channel l old alive a order found x out =
     let line = acted_line g channel l in

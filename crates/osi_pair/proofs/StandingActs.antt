@@ -31,6 +31,7 @@ use Rattle.osi_pair.proofs.StandingRests.{unless_broken, put_unless, words_put, 
 use Rattle.osi_pair.proofs.StandingWays.{as_now, out_puts}
 use Rattle.osi_pair.proofs.StandingTurned.{GoesTo}
 use Rattle.osi_pair.proofs.WordLaws.{AreWords}
+use Rattle.osi_machine.specs.Calm.{StaysCalm}
 
 -- ---- what is under way from the end that acted
 
@@ -41,25 +42,25 @@ reach_in p broken e = mapped p.reach ∙ sym e
     mapped None = refl
     mapped (Some r) = refl
 
-pub out_way : (terms : Terms) (side : Side) (r : ℕ) (p new : TwoEnds) (b c : Between) (words : List Word) (more channel : List Message) (broken : Bool) (seat : Seat) → AreWords words more →
+pub out_way : (terms : Terms) (side : Side) (r : ℕ) (p new : TwoEnds) (b c : Between) (words : List Word) (more channel : List Message) (broken : Bool) (seat to : Seat) → AreWords words more →
     (k : Carries terms (is_caller side) r (carriers_of p) (carriers_of new) b c [] (map word_in words)) → broken ≡ is_some p.reach → k.gone ≡ [] →
     end_at (other side) new ≡ end_at (other side) p → (end_at side p).end.carrier.ended ≡ None → new.reach ≡ p.reach →
-    Goes side (other side) r p b (progress_of (place_at r (last_of (is_caller (other side)) b))) channel →
-    seat.channel ≡ put broken more channel → IsUnderWay side (other side) r new c seat
-out_way terms Left r p new b c words more channel broken seat are k reach none there alive same was is =
+    Goes side (other side) r p b (progress_of (place_at r (last_of (is_caller (other side)) b))) to.session.state channel →
+    seat.channel ≡ put broken more channel → IsUnderWay side (other side) r new c seat to
+out_way terms Left r p new b c words more channel broken seat to are k reach none there alive same was is =
     let lasts = p.right.end.carrier.ended in
-    subst (λ (x : Holding). GoesTo Left x r new c (progress_of (place_at r c.called)) seat.channel) (sym there)
-    (subst (λ (s : Carrier). GoesTo Left p.right r new c (progress_of (place_at r s)) seat.channel) (sym k.there)
-    (subst (λ (ms : List Message). GoesTo Left p.right r new c (progress_of (place_at r b.called)) ms) (sym (is ∙ put_unless broken more channel))
-    (out_puts lasts (place_at r b.called) (is_cut true (carriers_of p)) (is_cut true (carriers_of new)) (HasJoined r p.right) channel (unless_broken broken more) (words_put broken words) (under_way true r (carriers_of p) b)
+    subst (λ (x : Holding). GoesTo Left x r new c (progress_of (place_at r c.called)) to.session.state seat.channel) (sym there)
+    (subst (λ (s : Carrier). GoesTo Left p.right r new c (progress_of (place_at r s)) to.session.state seat.channel) (sym k.there)
+    (subst (λ (ms : List Message). GoesTo Left p.right r new c (progress_of (place_at r b.called)) to.session.state ms) (sym (is ∙ put_unless broken more channel))
+    (out_puts lasts (place_at r b.called) (is_cut true (carriers_of p)) (is_cut true (carriers_of new)) (HasJoined r p.right) to.session.state channel (unless_broken broken more) (words_put broken words) (under_way true r (carriers_of p) b)
     (under_way true r (carriers_of new) c) k.stays k.gone (put_in (carriers_of p) (map word_in words)) was (are_put broken words more are) (put_spare broken (is_cut true (carriers_of p)) words (cut_none Left p broken reach alive))
     (cut_out Left p new same alive) k.before k.after none (put_same broken (is_some (carriers_of p).reach) words (sym (reach_in p broken reach))))))
-out_way terms Right r p new b c words more channel broken seat are k reach none there alive same was is =
+out_way terms Right r p new b c words more channel broken seat to are k reach none there alive same was is =
     let lasts = p.left.end.carrier.ended in
-    subst (λ (x : Holding). GoesTo Right x r new c (progress_of (place_at r c.caller)) seat.channel) (sym there)
-    (subst (λ (s : Carrier). GoesTo Right p.left r new c (progress_of (place_at r s)) seat.channel) (sym k.there)
-    (subst (λ (ms : List Message). GoesTo Right p.left r new c (progress_of (place_at r b.caller)) ms) (sym (is ∙ put_unless broken more channel))
-    (out_puts lasts (place_at r b.caller) (is_cut false (carriers_of p)) (is_cut false (carriers_of new)) (HasJoined r p.left) channel (unless_broken broken more) (words_put broken words) (under_way false r (carriers_of p) b)
+    subst (λ (x : Holding). GoesTo Right x r new c (progress_of (place_at r c.caller)) to.session.state seat.channel) (sym there)
+    (subst (λ (s : Carrier). GoesTo Right p.left r new c (progress_of (place_at r s)) to.session.state seat.channel) (sym k.there)
+    (subst (λ (ms : List Message). GoesTo Right p.left r new c (progress_of (place_at r b.caller)) to.session.state ms) (sym (is ∙ put_unless broken more channel))
+    (out_puts lasts (place_at r b.caller) (is_cut false (carriers_of p)) (is_cut false (carriers_of new)) (HasJoined r p.left) to.session.state channel (unless_broken broken more) (words_put broken words) (under_way false r (carriers_of p) b)
     (under_way false r (carriers_of new) c) k.stays k.gone (put_in (carriers_of p) (map word_in words)) was (are_put broken words more are) (put_spare broken (is_cut false (carriers_of p)) words (cut_none Right p broken reach alive))
     (cut_out Right p new same alive) k.before k.after none (put_same broken (is_some (carriers_of p).reach) words (sym (reach_in p broken reach))))))
 
@@ -70,18 +71,19 @@ came_same : (g h : Progress) (ch old now arrived : List carrier.Message) → g �
 came_same g h ch old now arrived e none was came =
     alike_trans h ch old now (alike_at g h ch old e was) (alike_trans h old (arrived ++ now) now came (alike_same h (arrived ++ now) now (ap (λ (l : List carrier.Message). l ++ now) none)))
 
-pub back_way : (terms : Terms) (side : Side) (r : ℕ) (p new : TwoEnds) (b c : Between) (messages : List carrier.Message) (seat : Seat) →
+pub back_way : (terms : Terms) (side : Side) (r : ℕ) (p new : TwoEnds) (b c : Between) (messages : List carrier.Message) (seat to now : Seat) →
     (k : Carries terms (is_caller side) r (carriers_of p) (carriers_of new) b c [] messages) →
     progress_of (place_at r (last_of (is_caller side) b)) ≡ progress_of (place_at r (last_of (is_caller side) c)) → end_at (other side) new ≡ end_at (other side) p → (end_at side p).end.carrier.ended ≡ None →
-    new.reach ≡ p.reach → ((x : Option (List ℕ)) → HasJoined r (end_at side p) x → HasJoined r (end_at side new) x) → IsUnderWay (other side) side r p b seat → IsUnderWay (other side) side r new c seat
-back_way terms Left r p new b c messages seat k same there alive reach holds was =
-    as_now p.left.end.carrier.ended new.left.end.carrier.ended (progress_of (place_at r b.caller)) (progress_of (place_at r c.caller)) (is_cut false (carriers_of p)) (is_cut false (carriers_of new)) (HasJoined r p.left) (HasJoined r new.left) seat.channel
-    (under_way false r (carriers_of p) b) (under_way false r (carriers_of new) c) was (cut_back Left p new reach there) holds
+    new.reach ≡ p.reach → ((x : Option (List ℕ)) → HasJoined r (end_at side p) x → HasJoined r (end_at side new) x) →
+    (StaysCalm to.session.state seat.channel → StaysCalm now.session.state seat.channel) → IsUnderWay (other side) side r p b seat to → IsUnderWay (other side) side r new c seat now
+back_way terms Left r p new b c messages seat to now k same there alive reach holds calms was =
+    as_now p.left.end.carrier.ended new.left.end.carrier.ended (progress_of (place_at r b.caller)) (progress_of (place_at r c.caller)) (is_cut false (carriers_of p)) (is_cut false (carriers_of new)) (HasJoined r p.left) (HasJoined r new.left) to.session.state now.session.state seat.channel
+    (under_way false r (carriers_of p) b) (under_way false r (carriers_of new) c) was (cut_back Left p new reach there) holds calms
     (λ e. came_same (progress_of (place_at r b.caller)) (progress_of (place_at r c.caller)) (map word_in was.words) (under_way false r (carriers_of p) b) (under_way false r (carriers_of new) c) k.arrived
     same k.brings.is (was.alike alive) (like_alike (place_at r c.caller) _ _ k.came))
-back_way terms Right r p new b c messages seat k same there alive reach holds was =
-    as_now p.right.end.carrier.ended new.right.end.carrier.ended (progress_of (place_at r b.called)) (progress_of (place_at r c.called)) (is_cut true (carriers_of p)) (is_cut true (carriers_of new)) (HasJoined r p.right) (HasJoined r new.right) seat.channel
-    (under_way true r (carriers_of p) b) (under_way true r (carriers_of new) c) was (cut_back Right p new reach there) holds
+back_way terms Right r p new b c messages seat to now k same there alive reach holds calms was =
+    as_now p.right.end.carrier.ended new.right.end.carrier.ended (progress_of (place_at r b.called)) (progress_of (place_at r c.called)) (is_cut true (carriers_of p)) (is_cut true (carriers_of new)) (HasJoined r p.right) (HasJoined r new.right) to.session.state now.session.state seat.channel
+    (under_way true r (carriers_of p) b) (under_way true r (carriers_of new) c) was (cut_back Right p new reach there) holds calms
     (λ e. came_same (progress_of (place_at r b.called)) (progress_of (place_at r c.called)) (map word_in was.words) (under_way true r (carriers_of p) b) (under_way true r (carriers_of new) c) k.arrived
     same k.brings.is (was.alike alive) (like_alike (place_at r c.called) _ _ k.came))
 

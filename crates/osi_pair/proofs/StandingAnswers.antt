@@ -253,7 +253,7 @@ closed_shown laws s p t packet h v sound two known closing reply over =
     v.does ∙ ap (λ (k : Carrier). concludes (answered_end k lines)) acts ∙ lasting (answered_end c lines) a.lasts in
     let events = closed_events n 128 e.carrier linked_now.peer linked_now.link (open_is n e.carrier linked_now.peer linked_now.link v.lasts linked_now.at) in
     let order : IsInOrder (with_carrier c e) = order_then e c lines refl a.lasts a.given events (moved_order s p t packet h v) (subst IsSound same sound) in
-    let on = closes_from laws s p1 v.now t1 n linked_now.peer linked_now.link (moved_line v.m) (record { end = e; held = h }) here v.stands two_now v.found_now over v.lasts linked_now.at order in
+    let on = closes_from laws s p1 v.now t1 n linked_now.peer linked_now.link (moved_line v.m) (record { end = e; held = h }) here v.stands two_now v.found_now (v.takes n (moved_line v.m) v.found_now) over v.lasts linked_now.at order in
     finish_shown s p t packet h v c (λ r. on.keep) (stays t1 (side_in s) n (closed t.broken on.keep (moved_line v.m))) same a.lasts a.local (closed_step s p t packet h v on.keep known closing reply) on.on
 
 -- ---- a move that sends and closes nothing

@@ -24,7 +24,7 @@ use Rattle.osi_stack.specs.State.{Line, session_in, is_used, used_lines}
 use Rattle.osi_stack.proofs.Linking.{used_by, used_at, Stays, apart_push}
 use Rattle.osi_stack.proofs.Moves.{used_live}
 use Rattle.osi_pair.specs.Ends.{TwoEnds, end_at}
-use Rattle.osi_pair.specs.Standing.{side_in, is_caller, carriers_of, Stands}
+use Rattle.osi_pair.specs.Standing.{side_in, is_caller, carriers_of, message_in, Stands}
 use Rattle.osi_pair.specs.Telling.{waiting_in}
 use Rattle.osi_pair.specs.declared.sides.Side.{Side}
 use Rattle.osi_pair.proofs.StandingArrived.{PacketActs}
@@ -33,6 +33,10 @@ use Rattle.osi_pair.proofs.StandingRests.{step_opens, tables_delivered, is_await
 use Rattle.osi_pair.proofs.StandingResting.{acted_end, line_at, EndThen, NextFor, was_at, transport_before, out_row, back_alone, back_then}
 use Rattle.osi_pair.proofs.StandingRows.{Row, begins, before, after, arrived_in}
 use Rattle.osi_pair.proofs.StandingSeats.{transport_by, lives_in, live_there, HasSession}
+use Rattle.osi_session.specs.declared.state.State.{State as SessionState}
+use Rattle.osi_machine.specs.Calm.{after_message, StaysCalm}
+use Rattle.osi_carrier.specs.Messages.{kind_of}
+use Rattle.osi_machine.specs.Worlds.{Message, unit, ask, agree, deny, bye, over}
 
 -- ---- lines with a new one, of which those are dropped that are of no use
 
@@ -105,6 +109,15 @@ new_at n s h = new_by n s (nat_lt s.given n) refl h
 abbrev pub begun_lines : Side → TwoEnds → Value → ℕ → Rows Line
 begun_lines s p u n = used_lines (told_all u (end_at s p).end).carrier.live (joined n (end_at s p).end.lines)
 
+-- an ask says nothing to a session
+pub asks_same : (x : SessionState) (m : Message) → kind_of (message_in m) ≡ carrier.ask → after_message x m ≡ x
+asks_same x (unit u) k = cc
+asks_same x ask k = refl
+asks_same x agree k = cc
+asks_same x (deny r) k = cc
+asks_same x (bye r) k = cc
+asks_same x over k = cc
+
 pub begins_unit : (s : Side) (p : TwoEnds) (b : Between) (t : Tables) (packet : List ℕ) (h : Held) → Stands p b t → (end_at s p).end.carrier.ended ≡ None → end_of (side_in s) t ≡ None →
     (pa : PacketActs (terms_at p) (is_caller s) (carriers_of p) b packet h.octets) →
     (d : DidAt s p b (acted_end pa.unit (begun_lines s p pa.unit (reference_of pa.unit)) (end_at s p).end) h (reference_of pa.unit)) → d.row ≡ begins → d.now.called.given ≤ d.now.caller.given →
@@ -147,8 +160,9 @@ begins_unit s p b t packet h old alive lasting pa d row behind new =
     }))) at.is
     (record {
       out = out_row s p b t e h n l old d at.is (ap (λ (r : Row). leaves_use (before r) (after r)) row) alive;
-      back = back_then s p d.now e h n (after d.row) None sp.others sp.stays
-          (λ y kept. (let two : Some awaits ≡ Some y = sym (begun_here n live was.lines none lives) ∙ kept in let same : awaits ≡ y = cc in inl (ap (λ (z : Listener). z.joined) (sym same))));
+      back = back_then s p d.now e h n (after d.row) None (after_message l.own.session.state sp.first) l.own.session.state sp.others sp.stays
+          (λ y kept. (let two : Some awaits ≡ Some y = sym (begun_here n live was.lines none lives) ∙ kept in let same : awaits ≡ y = cc in inl (ap (λ (z : Listener). z.joined) (sym same))))
+          (λ calm. subst (λ (x : SessionState). StaysCalm x sp.others) (asks_same l.own.session.state sp.first sp.kind) calm);
     })
     (subst (λ (u : Tables). TablesAfter s n t u [] line) (sym is) (tables_delivered s n (seen_from (side_in s) l) t known (unseen line) at.found))
     (ap (λ (u : Tables). u.known) is ∙ learns_row d.row l.own.transport t.terms sp.first t.known tr (ap is_awaited row) ∙ known_then s p b t e h n old alive d new.lasts pa.first.given (ap is_agree row))

@@ -9,14 +9,17 @@ use Rattle.osi_carrier.specs.Messages as carrier
 use Rattle.osi_carrier.specs.Progress.{Progress}
 use Rattle.osi_carrier.specs.Terms.{Terms, terms_of}
 use Rattle.osi_machine.specs.Machine.{connection_at, Step, breaks, HasNumber}
-use Rattle.osi_machine.specs.Tables.{Seat, Line, Tables, cut_channels, step, run, start}
+use Rattle.osi_machine.specs.AsTables.{IsTableRun}
+use Rattle.osi_machine.specs.Tables.{Seat, Line, Tables, turned, cut_channels, step, run, start}
+use Rattle.osi_session.specs.declared.state.State.{State}
 use Rattle.osi_machine.specs.Worlds.{Message}
 use Rattle.osi_pair.specs.Ends.{TwoEnds, sent_by, after_break, fresh_ends}
 use Rattle.osi_pair.specs.Standing.{terms_in, carriers_of, AreAlike, IsSeated, IsLine, IsInOrder, Stands, StandsAt, StandsAtBreak, AreUnderWay, word_in, HasLine, HasJoined}
 use Rattle.osi_stack.specs.Links.{IsSound}
 use Rattle.osi_stack.specs.State.{Holding, fresh_end}
 use Rattle.osi_pair.specs.declared.sides.Side.TheVariants.{Left, Right}
-use Rattle.osi_pair.proofs.StandingWays.{Front, front_at, map_take, alike_take}
+use Rattle.osi_pair.proofs.StandingAhead.{TakeLaws, TakesFrom, takes_from}
+use Rattle.osi_pair.proofs.StandingWays.{Takes, Front, front_at, map_take, alike_take}
 use Rattle.osi_pair.proofs.StandingCut.{IsWithin, outside_not, within_or}
 use Rattle.osi_carrier.specs.declared.ends.EndReason.{EndReason}
 
@@ -24,6 +27,7 @@ use Rattle.osi_carrier.specs.declared.ends.EndReason.{EndReason}
 pub record BreakLaws : Type 0 where
   pub broken : (terms : Terms) (both : Both) (b : Between) (k l : ℕ) → AreBetween terms both b → both.reach ≡ None →
       k ≤ length both.caller.state.outgoing → l ≤ length both.called.state.outgoing → Lost terms both (broken_at k l both) b
+  pub takes : TakeLaws
 
 -- what a break leaves of each line
 abbrev cut_line : ℕ → ℕ → Line → Line
@@ -70,24 +74,24 @@ record Breaks (n k l : ℕ) (p : TwoEnds) (b : Between) (most : ℕ) (c : Betwee
   right : ℕ
   is : 0 < n → n ≤ most → HasCut n k l p c left right lines
 
-left_over : (end : Bool) (n : ℕ) (o : Option EndReason) (g h : Progress) (c : Bool) (H : Option (List ℕ) → Type 0) (ms : List Message) (old new : Both) (b now : Between) (gone : List carrier.Message) →
-    under_way end n old b ≡ under_way end n new now ++ gone → h ≡ g → AreUnderWay o g c H ms (under_way end n old b) → Front o h true H ms (under_way end n new now)
-left_over end n o g h c H ms old new b now gone all same w =
+left_over : (end : Bool) (n : ℕ) (o : Option EndReason) (g h : Progress) (c : Bool) (H : Option (List ℕ) → Type 0) (x : State) (ms : List Message) (old new : Both) (b now : Between) (gone : List carrier.Message) →
+    under_way end n old b ≡ under_way end n new now ++ gone → h ≡ g → Takes x ms → AreUnderWay o g c H x ms (under_way end n old b) → Front o h true H x ms (under_way end n new now)
+left_over end n o g h c H x ms old new b now gone all same takes w =
     let first = under_way end n new now in
-    front_at o o g h c true H ms (length first) (under_way end n old b) first w refl
-    (λ e. subst (λ (x : Progress). AreAlike x (map word_in (take (length first) w.words)) first) (sym same)
+    front_at o o g h c true H x ms (length first) (under_way end n old b) first w takes refl
+    (λ e. subst (λ (y : Progress). AreAlike y (map word_in (take (length first) w.words)) first) (sym same)
     (subst (λ (l : List carrier.Message). AreAlike g l first) (sym (map_take word_in (length first) w.words))
     (alike_take g (map word_in w.words) first gone (subst (AreAlike g (map word_in w.words)) all (w.alike e)))))
 
 break_line : (n k l : ℕ) (p : TwoEnds) (b : Between) (lost : Lost (terms_of p.left.end.carrier.local p.right.end.carrier.local) (carriers_of p) (carriers_of (after_break k l p)) b) (t : Tables) →
-    HasLine n p b t → Breaks n k l p b (length t.lines) lost.now t.lines
-break_line n k l p b lost t h =
+    TakesFrom Left t → TakesFrom Right t → HasLine n p b t → Breaks n k l p b (length t.lines) lost.now t.lines
+break_line n k l p b lost t rightward leftward h =
     let old = carriers_of p in
     let new = carriers_of (after_break k l p) in
-    let out = left_over true n p.right.end.carrier.ended (progress_of (place_at n b.called)) (progress_of (place_at n lost.now.called)) (is_cut true old) (HasJoined n p.right) h.line.own.channel old new b lost.now
-    (lost.loses true n).gone (lost.loses true n).all (ap progress_of (lost.stays false n)) h.is.rightward in
-    let back = left_over false n p.left.end.carrier.ended (progress_of (place_at n b.caller)) (progress_of (place_at n lost.now.caller)) (is_cut false old) (HasJoined n p.left) h.line.peer.channel old new b lost.now
-    (lost.loses false n).gone (lost.loses false n).all (ap progress_of (lost.stays true n)) h.is.leftward in
+    let out = left_over true n p.right.end.carrier.ended (progress_of (place_at n b.called)) (progress_of (place_at n lost.now.called)) (is_cut true old) (HasJoined n p.right) h.line.peer.session.state h.line.own.channel old new b lost.now
+    (lost.loses true n).gone (lost.loses true n).all (ap progress_of (lost.stays false n)) (rightward n h.line h.found) h.is.rightward in
+    let back = left_over false n p.left.end.carrier.ended (progress_of (place_at n b.caller)) (progress_of (place_at n lost.now.caller)) (is_cut false old) (HasJoined n p.left) h.line.own.session.state h.line.peer.channel old new b lost.now
+    (lost.loses false n).gone (lost.loses false n).all (ap progress_of (lost.stays true n)) (leftward n (turned h.line) h.found) h.is.leftward in
     record {
       left = out.keep;
       right = back.keep;
@@ -104,10 +108,10 @@ break_line n k l p b lost t h =
     }
 
 -- what becomes of each reference, also where none was given
-breaks_at : (n k l : ℕ) (p : TwoEnds) (b : Between) (lost : Lost (terms_of p.left.end.carrier.local p.right.end.carrier.local) (carriers_of p) (carriers_of (after_break k l p)) b) (t : Tables) → Stands p b t →
+breaks_at : (n k l : ℕ) (p : TwoEnds) (b : Between) (lost : Lost (terms_of p.left.end.carrier.local p.right.end.carrier.local) (carriers_of p) (carriers_of (after_break k l p)) b) (t : Tables) → Stands p b t → TakesFrom Left t → TakesFrom Right t →
     IsWithin n (length t.lines) → Breaks n k l p b (length t.lines) lost.now t.lines
-breaks_at n k l p b lost t s (inl out) = record { left = 0; right = 0; is = λ some few. absurd (outside_not n (length t.lines) out some few) }
-breaks_at n k l p b lost t s (inr given) = break_line n k l p b lost t (s.lines n given.0 given.1)
+breaks_at n k l p b lost t s rightward leftward (inl out) = record { left = 0; right = 0; is = λ some few. absurd (outside_not n (length t.lines) out some few) }
+breaks_at n k l p b lost t s rightward leftward (inr given) = break_line n k l p b lost t rightward leftward (s.lines n given.0 given.1)
 
 -- ---- a break
 
@@ -124,11 +128,11 @@ record StandBroken (p : TwoEnds) (t : Tables) : Type 0 where
   now : Between
   stands : Stands p now (run t (breaks keep_left keep_right ∷ []))
 
-break_stands : BreakLaws → (p : TwoEnds) (b : Between) (t : Tables) (k l : ℕ) → Stands p b t → p.reach ≡ None → StandBroken (after_break k l p) t
-break_stands laws p b t k l s none =
+break_stands : BreakLaws → (p : TwoEnds) (b : Between) (t : Tables) (k l : ℕ) → Stands p b t → IsTableRun t → p.reach ≡ None → StandBroken (after_break k l p) t
+break_stands laws p b t k l s run none =
     let lost = laws.broken (terms_of p.left.end.carrier.local p.right.end.carrier.local) (carriers_of p) b (min k (sent_by Left p)) (min l (sent_by Right p)) s.between
     (ap (option_map (λ r. (r.left, r.right))) none) (least k (sent_by Left p)) (least l (sent_by Right p)) in
-    let at : (n : ℕ) → Breaks n k l p b (length t.lines) lost.now t.lines = λ n. breaks_at n k l p b lost t s (within_or n (length t.lines)) in
+    let at : (n : ℕ) → Breaks n k l p b (length t.lines) lost.now t.lines = λ n. breaks_at n k l p b lost t s (takes_from laws.takes Left t run) (takes_from laws.takes Right t run) (within_or n (length t.lines)) in
     let left : ℕ → ℕ = λ n. (at n).left in
     let right : ℕ → ℕ = λ n. (at n).right in
     record {
@@ -174,7 +178,8 @@ numbered_behind left right (x ∷ xs) a = (a.0, numbered_behind left right xs a.
 pub break_at : BreakLaws → (p : TwoEnds) (steps : List Step) (k l : ℕ) → StandsAt p steps → p.reach ≡ None → StandsAtBreak (after_break k l p) steps
 break_at laws p steps k l s none =
     let first : Tables = start (terms_in (terms_of p.left.end.carrier.local p.right.end.carrier.local)) in
-    let done = break_stands laws p s.now (run first steps) k l s.stands none in
+    let tabled : IsTableRun (run first steps) = record { agreed = _; steps = steps; numbered = s.numbered; reached = refl } in
+    let done = break_stands laws p s.now (run first steps) k l s.stands tabled none in
     record {
       keep_left = done.keep_left;
       keep_right = done.keep_right;

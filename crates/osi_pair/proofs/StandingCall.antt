@@ -65,6 +65,7 @@ use Rattle.osi_pair.proofs.StandingSeats.{live_session}
 use Rattle.osi_pair.proofs.WordLaws.{AreWords}
 use Rattle.osi_pair.proofs.WordsSent.{PartLaws, word_of, carried_words}
 use Rattle.osi_session.specs.Kept.{IsJoinedAs}
+use Rattle.osi_machine.proofs.CalmLaws.{called_calm}
 
 -- what the crates below say
 pub record CallLaws : Type 0 where
@@ -412,20 +413,21 @@ keeps_joined r call h c begun held y at =
     let same : y ≡ (words.react c.session (words.called call)).next = cc in
     subst (λ (z : Listener). IsJoinedAs z.state z.joined begun) (sym same) (calls_keep c.session call begun (held c.session was))
 
-line_acts : (side : Side) (r : ℕ) (call : Call) (p : TwoEnds) (b : Between) (t : Tables) (x : Line) (c : Called r call (end_at side p)) (a : MayAct side r call p b (sent_words r call (end_at side p) c) c.granted.sent) → OfEnd side p b t →
+line_acts : (side : Side) (r : ℕ) (call : Call) (p : TwoEnds) (b : Between) (t : Tables) (x : Line) (c : Called r call (end_at side p)) (a : MayAct side r call p b (sent_words r call (end_at side p) c) c.granted.sent) → HasSerial call → OfEnd side p b t →
     t.broken ≡ is_some p.reach → r ≤ (end_at side p).end.carrier.given → SeenLine side r p b x → SeenLine side r (new_of side r call p) a.now (after_call t.broken call x)
-line_acts side r call p b t x c a o broken within h =
+line_acts side r call p b t x c a serial o broken within h =
     let sends : (react x.own.session (called call)).reply ≡ Some c.granted.sent = reply_so r call (end_at side p) x.own c h.own in
     let before = progress_then side r call p b t c o within in
     let after = progress_now side r call p b c a within in
     record {
       own = subst (λ (y : Holding). IsSeated r y (after_call t.broken call x).own) (sym (end_is side r call p)) (seat_now r call (end_at side p) t.broken x c within h.own);
       peer = subst (λ (y : Holding). IsSeated r y x.peer) (sym (other_is side r call p)) h.peer;
-      out = out_way (terms_now p) side r p (new_of side r call p) b a.now (sent_words r call (end_at side p) c) (unit c.granted.sent ∷ []) x.own.channel t.broken (after_call t.broken call x).own a.are a.carries broken
+      out = out_way (terms_now p) side r p (new_of side r call p) b a.now (sent_words r call (end_at side p) c) (unit c.granted.sent ∷ []) x.own.channel t.broken (after_call t.broken call x).own x.peer a.are a.carries broken
           (none_gone _ _ a.carries.gone before after a.carries.keeps) (other_is side r call p) c.opened.lasts (reach_same side (now_of r call (end_at side p)) p) h.out (ap (λ (y : Option Meaning). worlds.put t.broken (replied y) x.own.channel) sends);
-      back = back_way (terms_now p) side r p (new_of side r call p) b a.now (map word_in (sent_words r call (end_at side p) c)) x.peer a.carries (before ∙ sym after)
+      back = back_way (terms_now p) side r p (new_of side r call p) b a.now (map word_in (sent_words r call (end_at side p) c)) x.peer x.own (after_call t.broken call x).own a.carries (before ∙ sym after)
           (other_is side r call p) c.opened.lasts (reach_same side (now_of r call (end_at side p)) p)
-          (λ begun held. subst (λ (y : Holding). HasJoined r y begun) (sym (end_is side r call p)) (keeps_joined r call (end_at side p) c begun held)) h.back;
+          (λ begun held. subst (λ (y : Holding). HasJoined r y begun) (sym (end_is side r call p)) (keeps_joined r call (end_at side p) c begun held))
+          (λ calm. called_calm x.own.session call x.peer.channel serial calm) h.back;
     }
 
 -- ---- each line
@@ -434,18 +436,18 @@ abbrev pub tables_now : Tables → Side → ℕ → Call → Line → Tables
 tables_now t side r call l = stays t (side_in side) r (after_call t.broken call (seen_from (side_in side) l))
 
 pub line_by : (here : Bool) (laws : CallLaws) (side : Side) (r n : ℕ) (call : Call) (p : TwoEnds) (b : Between) (t : Tables) (l : Line) (c : Called r call (end_at side p)) (a : MayAct side r call p b (sent_words r call (end_at side p) c) c.granted.sent) →
-    (n == r) ≡ here → Stands p b t → connection_at r t.lines ≡ Some l → IsLine r p b l → r ≤ (end_at side p).end.carrier.given → 0 < n → n ≤ length t.lines →
+    (n == r) ≡ here → HasSerial call → Stands p b t → connection_at r t.lines ≡ Some l → IsLine r p b l → r ≤ (end_at side p).end.carrier.given → 0 < n → n ≤ length t.lines →
     HasLine n (new_of side r call p) a.now (tables_now t side r call l)
-line_by true laws side r n call p b t l c a e s at is within some few =
+line_by true laws side r n call p b t l c a e serial s at is within some few =
     let x : Line = seen_from (side_in side) l in
     let y : Line = after_call t.broken call x in
     let new : HasLine r (new_of side r call p) a.now (tables_now t side r call l) = record {
       line = seen_from (side_in side) y;
       found = laws.same r t.lines l (seen_from (side_in side) y) at;
-      is = as_line side r (new_of side r call p) a.now y (line_acts side r call p b t x c a (of_end side p b t s) s.broken within (seen side r p b l is));
+      is = as_line side r (new_of side r call p) a.now y (line_acts side r call p b t x c a serial (of_end side p b t s) s.broken within (seen side r p b l is));
     } in
     subst (λ (m : ℕ). HasLine m (new_of side r call p) a.now (tables_now t side r call l)) (sym (eqb-true n r e)) new
-line_by false laws side r n call p b t l c a e s at is within some few =
+line_by false laws side r n call p b t l c a e serial s at is within some few =
     let h = s.lines n some few in
     let apart : n ≢ r = λ same. let no = sym e ∙ eq-eqb n r same in cc in
     let left : IsLeft n (end_at side p) (end_at side (new_of side r call p)) =

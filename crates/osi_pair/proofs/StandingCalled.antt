@@ -69,7 +69,7 @@ stand_left laws r call p b t l c a serial s at th within =
       given_then = ap (λ (x : Carrier). x.given) (sym lives);
       class_then = ap (λ (x : Carrier). x.class) (sym lives);
       given_back = subst (λ (n : ℕ). p.right.end.carrier.given ≤ n) (sym count) s.given_back;
-      lines = λ n some few. line_by (n == r) laws Left r n call p b t l c a refl s at th.is within some (subst (λ (m : ℕ). n ≤ m) count few);
+      lines = λ n some few. line_by (n == r) laws Left r n call p b t l c a refl serial s at th.is within some (subst (λ (m : ℕ). n ≤ m) count few);
       over_left = over_now r call p.left c;
       over_right = s.over_right;
       lost_right = s.lost_right;
@@ -97,7 +97,7 @@ stand_right laws r call p b t l c a serial s at th within =
       given_then = ap (λ (x : Carrier). x.given) a.carries.there ∙ s.given_then;
       class_then = ap (λ (x : Carrier). x.class) a.carries.there ∙ s.class_then;
       given_back = subst (λ (n : ℕ). g.end.carrier.given ≤ n) (sym count) (subst (λ (n : ℕ). n ≤ length t.lines) (sym c.kept.given) s.given_back);
-      lines = λ n some few. line_by (n == r) laws Right r n call p b t l c a refl s at th.is within some (subst (λ (m : ℕ). n ≤ m) count few);
+      lines = λ n some few. line_by (n == r) laws Right r n call p b t l c a refl serial s at th.is within some (subst (λ (m : ℕ). n ≤ m) count few);
       over_left = s.over_left;
       over_right = over_now r call p.right c;
       lost_right = λ e n. lost_now r call p.right c e n;

@@ -34,7 +34,7 @@ use Rattle.osi_pair.proofs.StandingResting.{broken_is}
 use Rattle.osi_pair.proofs.StandingSeats.{HasSession}
 use Rattle.osi_pair.proofs.StandingCall.{open_is}
 use Rattle.osi_pair.proofs.StandingTurned.{IsSeen, with_holding, GoesTo}
-use Rattle.osi_pair.proofs.StandingWays.{out_cuts}
+use Rattle.osi_pair.proofs.StandingWays.{Takes, out_cuts}
 use Rattle.osi_pair.proofs.StandingCut.{cut_broken, reach_same}
 
 -- ---- the carrier
@@ -92,10 +92,10 @@ close_acts laws Right p b t n peer link old alive two at =
 -- so much of it is left, and the close is put behind
 record OutCloses (s : Side) (p : TwoEnds) (b : Between) (t : Tables) (n : ℕ) (l : Line) (a : CloseActs s p b n) : Type 0 where
   keep : ℕ
-  way : OutNow s n p b (pair_with s (closed_with n 128 (end_at s p).end.carrier) p) a.now (put t.broken (bye 128 ∷ []) (take keep l.own.channel))
+  way : OutNow s n p b (pair_with s (closed_with n 128 (end_at s p).end.carrier) p) a.now l.peer.session.state (put t.broken (bye 128 ∷ []) (take keep l.own.channel))
 
-out_closes : (s : Side) (p : TwoEnds) (b : Between) (t : Tables) (n : ℕ) (l : Line) → Stands p b t → (a : CloseActs s p b n) → IsSeen s n p b l → OutCloses s p b t n l a
-out_closes s p b t n l old a i =
+out_closes : (s : Side) (p : TwoEnds) (b : Between) (t : Tables) (n : ℕ) (l : Line) → Stands p b t → (a : CloseActs s p b n) → IsSeen s n p b l → Takes l.peer.session.state l.own.channel → OutCloses s p b t n l a
+out_closes s p b t n l old a i takes =
     let place = place_at n (last_of (is_caller (other s)) b) in
     let lasts = (end_at (other s) p).end.carrier.ended in
     let two = pair_with s (closed_with n 128 (end_at s p).end.carrier) p in
@@ -103,12 +103,12 @@ out_closes s p b t n l old a i =
     let left = carrier.bye 128 ∷ [] in
     let cut = is_cut (is_caller s) (carriers_of two) in
     let h : Holding = record { end = end_with s (closed_with n 128 (end_at s p).end.carrier) p; held = (end_at s p).held } in
-    let x = out_cuts lasts place (is_cut (is_caller s) (carriers_of p)) cut (HasJoined n (end_at (other s) p)) l.own.channel (unless_broken t.broken (bye 128 ∷ [])) (under_way (is_caller s) n (carriers_of p) b) new a.ways.stays a.ways.gone
-    (put_in (carriers_of p) left) i.out (leave_by t.broken cut (bye 128) (λ begun. tt) (cut_broken s p two t.broken old.broken (reach_same s h p))) a.ways.before a.ways.after
+    let x = out_cuts lasts place (is_cut (is_caller s) (carriers_of p)) cut (HasJoined n (end_at (other s) p)) l.peer.session.state l.own.channel (unless_broken t.broken (bye 128 ∷ [])) (under_way (is_caller s) n (carriers_of p) b) new a.ways.stays a.ways.gone
+    (put_in (carriers_of p) left) i.out takes (leave_by t.broken cut (bye 128) (λ begun. tt) (cut_broken s p two t.broken old.broken (reach_same s h p))) a.ways.before a.ways.after
     (unless_same t.broken (is_some (carriers_of p).reach) (bye 128 ∷ []) left (broken_is p b t old) refl) in
     record {
       keep = x.keep;
-      way = subst (λ (ms : List Message). GoesTo s (end_at (other s) p) n two a.now (progress_of place) ms) (sym (put_unless t.broken (bye 128 ∷ []) (take x.keep l.own.channel))) x.way;
+      way = subst (λ (ms : List Message). GoesTo s (end_at (other s) p) n two a.now (progress_of place) l.peer.session.state ms) (sym (put_unless t.broken (bye 128 ∷ []) (take x.keep l.own.channel))) x.way;
     }
 
 -- ---- two ends
@@ -123,14 +123,14 @@ pub record ClosesOn (s : Side) (p : TwoEnds) (t : Tables) (n : ℕ) (l : Line) (
 
 -- an end closes a connection whose session has ended, and is in order then
 pub closes_stand : CarrierLaws → (s : Side) (p : TwoEnds) (b : Between) (t : Tables) (n peer : ℕ) (link : Link) (l : Line) → Stands p b t → (end_at s p).end.carrier.ended ≡ None → terms_at p ≡ by_two →
-    value_at n (end_at s p).end.carrier.live ≡ Some (linked peer link) → connection_at n t.lines ≡ Some (seen_from (side_in s) l) → is_ended l.own.session.state.phase ≡ true →
+    value_at n (end_at s p).end.carrier.live ≡ Some (linked peer link) → connection_at n t.lines ≡ Some (seen_from (side_in s) l) → Takes l.peer.session.state l.own.channel → is_ended l.own.session.state.phase ≡ true →
     IsInOrder (end_with s (closed_with n 128 (end_at s p).end.carrier) p) → ClosesOn s p t n l (end_at s p)
-closes_stand laws s p b t n peer link l old alive two at found ended order =
+closes_stand laws s p b t n peer link l old alive two at found takes ended order =
     let c = closed_with n 128 (end_at s p).end.carrier in
     let a = close_acts laws s p b t n peer link old alive two at in
     let i = seen_at s p b t n l old found in
     let x = session_shuts n (end_at s p).end.lines l.own.session ended (session_in_use s p b t n (linked peer link) l old alive at refl i) in
-    let out = out_closes s p b t n l old a i in
+    let out = out_closes s p b t n l old a i takes in
     record {
       keep = out.keep;
       on = acted_stands s p b t n shutting c (carrier.bye 128 ∷ []) (put t.broken (bye 128 ∷ []) (take out.keep l.own.channel)) l old alive a order found x out.way;
@@ -138,11 +138,11 @@ closes_stand laws s p b t n peer link l old alive two at found ended order =
 
 -- the end of the side is this
 pub closes_from : CarrierLaws → (s : Side) (p : TwoEnds) (b : Between) (t : Tables) (n peer : ℕ) (link : Link) (l : Line) (y : Holding) → end_at s p ≡ y → Stands p b t → terms_at p ≡ by_two →
-    connection_at n t.lines ≡ Some (seen_from (side_in s) l) → is_ended l.own.session.state.phase ≡ true → y.end.carrier.ended ≡ None → value_at n y.end.carrier.live ≡ Some (linked peer link) →
+    connection_at n t.lines ≡ Some (seen_from (side_in s) l) → Takes l.peer.session.state l.own.channel → is_ended l.own.session.state.phase ≡ true → y.end.carrier.ended ≡ None → value_at n y.end.carrier.live ≡ Some (linked peer link) →
     IsInOrder (with_carrier (closed_with n 128 y.end.carrier) y.end) → ClosesOn s p t n l y
-closes_from laws s p b t n peer link l y e old two found over =
+closes_from laws s p b t n peer link l y e old two found takes over =
     subst (λ (y : Holding). y.end.carrier.ended ≡ None → value_at n y.end.carrier.live ≡ Some (linked peer link) → IsInOrder (with_carrier (closed_with n 128 y.end.carrier) y.end) → ClosesOn s p t n l y) e
-    (λ alive at order. closes_stand laws s p b t n peer link l old alive two at found over order)
+    (λ alive at order. closes_stand laws s p b t n peer link l old alive two at found takes over order)
 
 -- what it leaves of the carrier
 pub close_is : CarrierLaws → (s : Side) (p : TwoEnds) (b : Between) (t : Tables) (n peer : ℕ) (link : Link) (y : Holding) → end_at s p ≡ y → Stands p b t → terms_at p ≡ by_two →

@@ -241,12 +241,12 @@ line_asks laws c p b t a s may can =
     as_line Left n new a.now (asked_with t.broken (offer_in (asked_of c))) (record {
       own = own_new t.broken c p.left o.sound may can;
       peer = peer_new n t.broken c p above (unaware n p b t p.right.end.carrier.ended refl s above);
-      out = out_way (terms_now p) Left n p new b a.now (whole ask ∷ []) (ask ∷ []) [] t.broken (asked_with t.broken (offer_in (asked_of c))).own (wholes (ask ∷ [])) a.carries s.broken
+      out = out_way (terms_now p) Left n p new b a.now (whole ask ∷ []) (ask ∷ []) [] t.broken (asked_with t.broken (offer_in (asked_of c))).own (asked_with t.broken (offer_in (asked_of c))).peer (wholes (ask ∷ [])) a.carries s.broken
           (none_gone _ _ a.carries.gone earlier now a.carries.keeps) refl may.lasts refl
-          (none_under_way p.right.end.carrier.ended (progress_of (place_at n b.called)) (is_cut true (carriers_of p)) (HasJoined n p.right) (under_way true n (carriers_of p) b)
+          (none_under_way p.right.end.carrier.ended (progress_of (place_at n b.called)) (is_cut true (carriers_of p)) (HasJoined n p.right) (asked_with t.broken (offer_in (asked_of c))).peer.session.state (under_way true n (carriers_of p) b)
           (λ y at. (let none = (unaware n p b t p.right.end.carrier.ended refl s above).kept in let no : None ≡ Some y = sym none ∙ at in absurd cc))
           (λ e. alike_same (progress_of (place_at n b.called)) _ _ (sym none_out))) refl;
-      back = none_under_way new.left.end.carrier.ended g (is_cut false (carriers_of new)) (HasJoined n new.left) (under_way false n (carriers_of new) a.now)
+      back = none_under_way new.left.end.carrier.ended g (is_cut false (carriers_of new)) (HasJoined n new.left) (asked_with t.broken (offer_in (asked_of c))).own.session.state (under_way false n (carriers_of new) a.now)
           (λ y at. (let is : Some y ≡ Some (calls_with c) = sym at ∙ ap session_in (line_new c p.left o.sound) in let same : y ≡ calls_with c = cc in inl (ap (λ (z : Listener). z.joined) same)))
           (λ e. alike_trans g [] (under_way false n (carriers_of p) b) (under_way false n (carriers_of new) a.now) (alike_same g _ _ (sym none_back))
           (alike_trans g _ (a.carries.arrived ++ under_way false n (carriers_of new) a.now) _ (like_alike (place_at n a.now.caller) _ _ a.carries.came)

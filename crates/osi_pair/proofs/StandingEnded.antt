@@ -36,6 +36,7 @@ use Rattle.osi_pair.proofs.StandingFinish.{terms_at}
 use Rattle.osi_pair.proofs.StandingShown.{shown_pair}
 use Rattle.osi_pair.proofs.StandingTurned.{IsSeen, seen, with_holding}
 use Rattle.osi_pair.proofs.StandingEnding.{ended_line, IsPlaced, placed_seat, seat_ends, ended_at_line, ended_count, way_cut, never_given, not_of, way_none, way_ended, cut_by_end}
+use Rattle.osi_pair.proofs.StandingAhead.{TakesFrom}
 use Rattle.osi_pair.proofs.StandingWays.{over_way}
 use Rattle.osi_pair.proofs.StandingCut.{IsWithin, outside_not, within_or}
 
@@ -60,7 +61,7 @@ pub record EndingLine (s : Side) (p : TwoEnds) (u : Tables) (e : End) (h : Held)
   pub more : List Message
   pub parts : line.own.channel ≡ kept ++ more
   pub whole : is_given line.own.transport ≡ false → more ≡ []
-  pub out : IsUnderWay s (other s) n (with_holding s e h p) c (record line.own { channel = kept })
+  pub out : IsUnderWay s (other s) n (with_holding s e h p) c (record line.own { channel = kept }) line.peer
 
 -- What is said of an end that is going to end: its carrier may have acted for what arrived, of which no session
 -- of it has heard.
@@ -80,6 +81,7 @@ pub record MayEnd (s : Side) (p : TwoEnds) (t u : Tables) (e : End) (h : Held) (
   pub known : u.known ≡ option_map class_in (with_holding s e h p).left.end.carrier.class
   pub given_then : c.caller.given ≡ (with_holding s e h p).left.end.carrier.given
   pub class_then : c.caller.class ≡ (with_holding s e h p).left.end.carrier.class
+  pub takes : TakesFrom s u
   pub lines : (n : ℕ) → 0 < n → n ≤ length t.lines → EndingLine s p u e h c n
 
 -- the two carriers are as they were but for the end
@@ -149,12 +151,12 @@ record Ends (s : Side) (p : TwoEnds) (u : Tables) (c : Between) (most : ℕ) (n 
   is : 0 < n → n ≤ most → HasEnds s p u c keep n
 
 left_line : (p : TwoEnds) (u : Tables) (e : End) (h : Held) (c : Between) (reason : EndReason) (lines : Rows stack.Line) (held : Held) (journal : List Entry) (most n : ℕ) →
-    e.carrier ≡ last_of true c → ((q : ℕ) → kept_at q lines ≡ None) → EndingLine Left p u e h c n → Ends Left (ended_pair Left reason e.carrier lines held journal p) u c most n
-left_line p u e h c reason lines held journal most n last none l =
+    e.carrier ≡ last_of true c → ((q : ℕ) → kept_at q lines ≡ None) → TakesFrom Left u → EndingLine Left p u e h c n → Ends Left (ended_pair Left reason e.carrier lines held journal p) u c most n
+left_line p u e h c reason lines held journal most n last none takes l =
     let q = ended_pair Left reason e.carrier lines held journal p in
     let mid = with_holding Left e h p in
-    let out = way_ended p.right.end.carrier.ended (progress_of (place_at n (last_of false c))) (is_cut true (carriers_of mid)) (HasJoined n p.right) (is_given l.line.own.transport) l.line.own l.kept l.more
-    (under_way true n (carriers_of mid) c) (under_way true n (carriers_of q) c) l.parts l.whole (way_cut true n (carriers_of mid) (carriers_of q) c (cut_by_end true (carriers_of q) refl))
+    let out = way_ended p.right.end.carrier.ended (progress_of (place_at n (last_of false c))) (is_cut true (carriers_of mid)) (HasJoined n p.right) l.line.peer.session.state (is_given l.line.own.transport) l.line.own l.kept l.more
+    (under_way true n (carriers_of mid) c) (under_way true n (carriers_of q) c) l.parts l.whole (takes n l.line l.found) (way_cut true n (carriers_of mid) (carriers_of q) c (cut_by_end true (carriers_of q) refl))
     (λ given. way_none true n (carriers_of mid) (carriers_of q) c (none_there n e.carrier (last_of true c) l.line.own last l.here given)) l.out in
     record {
       keep = out.keep;
@@ -164,21 +166,21 @@ left_line p u e h c reason lines held journal most n last none l =
         is = record {
           left = seat_ends n e.carrier q.left l.line.own out.keep (record { given = refl; live = refl; none = none }) l.here;
           right = l.there;
-          rightward = subst (λ (cut : Bool). AreUnderWay p.right.end.carrier.ended (progress_of (place_at n (last_of false c))) cut (HasJoined n p.right) (ended_line out.keep l.line).own.channel (under_way true n (carriers_of q) c))
+          rightward = subst (λ (cut : Bool). AreUnderWay p.right.end.carrier.ended (progress_of (place_at n (last_of false c))) cut (HasJoined n p.right) l.line.peer.session.state (ended_line out.keep l.line).own.channel (under_way true n (carriers_of q) c))
               (sym (cut_by_end true (carriers_of q) refl)) out.way;
-          leftward = over_way q.left.end.carrier.ended (progress_of (place_at n (last_of true c))) (is_cut false (carriers_of q)) (HasJoined n q.left) l.line.peer.channel (under_way false n (carriers_of q) c)
+          leftward = over_way q.left.end.carrier.ended (progress_of (place_at n (last_of true c))) (is_cut false (carriers_of q)) (HasJoined n q.left) (ended_line out.keep l.line).own.session.state l.line.peer.channel (under_way false n (carriers_of q) c)
               (λ y at. (let no : None ≡ Some y = sym (none n) ∙ at in absurd cc)) (λ x. cc);
         };
       };
     }
 
 right_line : (p : TwoEnds) (u : Tables) (e : End) (h : Held) (c : Between) (reason : EndReason) (lines : Rows stack.Line) (held : Held) (journal : List Entry) (most n : ℕ) →
-    e.carrier ≡ last_of false c → ((q : ℕ) → kept_at q lines ≡ None) → EndingLine Right p u e h c n → Ends Right (ended_pair Right reason e.carrier lines held journal p) u c most n
-right_line p u e h c reason lines held journal most n last none l =
+    e.carrier ≡ last_of false c → ((q : ℕ) → kept_at q lines ≡ None) → TakesFrom Right u → EndingLine Right p u e h c n → Ends Right (ended_pair Right reason e.carrier lines held journal p) u c most n
+right_line p u e h c reason lines held journal most n last none takes l =
     let q = ended_pair Right reason e.carrier lines held journal p in
     let mid = with_holding Right e h p in
-    let out = way_ended p.left.end.carrier.ended (progress_of (place_at n (last_of true c))) (is_cut false (carriers_of mid)) (HasJoined n p.left) (is_given l.line.own.transport) l.line.own l.kept l.more
-    (under_way false n (carriers_of mid) c) (under_way false n (carriers_of q) c) l.parts l.whole (way_cut false n (carriers_of mid) (carriers_of q) c (cut_by_end false (carriers_of q) refl))
+    let out = way_ended p.left.end.carrier.ended (progress_of (place_at n (last_of true c))) (is_cut false (carriers_of mid)) (HasJoined n p.left) l.line.peer.session.state (is_given l.line.own.transport) l.line.own l.kept l.more
+    (under_way false n (carriers_of mid) c) (under_way false n (carriers_of q) c) l.parts l.whole (takes n l.line l.found) (way_cut false n (carriers_of mid) (carriers_of q) c (cut_by_end false (carriers_of q) refl))
     (λ given. way_none false n (carriers_of mid) (carriers_of q) c (none_there n e.carrier (last_of false c) l.line.own last l.here given)) l.out in
     record {
       keep = out.keep;
@@ -188,9 +190,9 @@ right_line p u e h c reason lines held journal most n last none l =
         is = record {
           left = l.there;
           right = seat_ends n e.carrier q.right l.line.own out.keep (record { given = refl; live = refl; none = none }) l.here;
-          rightward = over_way q.right.end.carrier.ended (progress_of (place_at n (last_of false c))) (is_cut true (carriers_of q)) (HasJoined n q.right) l.line.peer.channel (under_way true n (carriers_of q) c)
+          rightward = over_way q.right.end.carrier.ended (progress_of (place_at n (last_of false c))) (is_cut true (carriers_of q)) (HasJoined n q.right) (ended_line out.keep l.line).own.session.state l.line.peer.channel (under_way true n (carriers_of q) c)
               (λ y at. (let no : None ≡ Some y = sym (none n) ∙ at in absurd cc)) (λ x. cc);
-          leftward = subst (λ (cut : Bool). AreUnderWay p.left.end.carrier.ended (progress_of (place_at n (last_of true c))) cut (HasJoined n p.left) (ended_line out.keep l.line).own.channel (under_way false n (carriers_of q) c))
+          leftward = subst (λ (cut : Bool). AreUnderWay p.left.end.carrier.ended (progress_of (place_at n (last_of true c))) cut (HasJoined n p.left) l.line.peer.session.state (ended_line out.keep l.line).own.channel (under_way false n (carriers_of q) c))
               (sym (cut_by_end false (carriers_of q) refl)) out.way;
         };
       };
@@ -198,16 +200,16 @@ right_line p u e h c reason lines held journal most n last none l =
 
 -- what becomes of each reference, also where none was given
 left_at : (p : TwoEnds) (u : Tables) (e : End) (h : Held) (c : Between) (reason : EndReason) (lines : Rows stack.Line) (held : Held) (journal : List Entry) (most n : ℕ) →
-    e.carrier ≡ last_of true c → ((q : ℕ) → kept_at q lines ≡ None) → ((m : ℕ) → 0 < m → m ≤ most → EndingLine Left p u e h c m) → IsWithin n most →
+    e.carrier ≡ last_of true c → ((q : ℕ) → kept_at q lines ≡ None) → TakesFrom Left u → ((m : ℕ) → 0 < m → m ≤ most → EndingLine Left p u e h c m) → IsWithin n most →
     Ends Left (ended_pair Left reason e.carrier lines held journal p) u c most n
-left_at p u e h c reason lines held journal most n last none all (inl out) = record { keep = 0; is = λ some few. absurd (outside_not n most out some few) }
-left_at p u e h c reason lines held journal most n last none all (inr given) = left_line p u e h c reason lines held journal most n last none (all n given.0 given.1)
+left_at p u e h c reason lines held journal most n last none takes all (inl out) = record { keep = 0; is = λ some few. absurd (outside_not n most out some few) }
+left_at p u e h c reason lines held journal most n last none takes all (inr given) = left_line p u e h c reason lines held journal most n last none takes (all n given.0 given.1)
 
 right_at : (p : TwoEnds) (u : Tables) (e : End) (h : Held) (c : Between) (reason : EndReason) (lines : Rows stack.Line) (held : Held) (journal : List Entry) (most n : ℕ) →
-    e.carrier ≡ last_of false c → ((q : ℕ) → kept_at q lines ≡ None) → ((m : ℕ) → 0 < m → m ≤ most → EndingLine Right p u e h c m) → IsWithin n most →
+    e.carrier ≡ last_of false c → ((q : ℕ) → kept_at q lines ≡ None) → TakesFrom Right u → ((m : ℕ) → 0 < m → m ≤ most → EndingLine Right p u e h c m) → IsWithin n most →
     Ends Right (ended_pair Right reason e.carrier lines held journal p) u c most n
-right_at p u e h c reason lines held journal most n last none all (inl out) = record { keep = 0; is = λ some few. absurd (outside_not n most out some few) }
-right_at p u e h c reason lines held journal most n last none all (inr given) = right_line p u e h c reason lines held journal most n last none (all n given.0 given.1)
+right_at p u e h c reason lines held journal most n last none takes all (inl out) = record { keep = 0; is = λ some few. absurd (outside_not n most out some few) }
+right_at p u e h c reason lines held journal most n last none takes all (inr given) = right_line p u e h c reason lines held journal most n last none takes (all n given.0 given.1)
 
 -- they stand to the tables in which the side ends, where so much is kept of what was under way from it
 pub record EndsOn (s : Side) (p : TwoEnds) (c : Between) (ending : Ending) (u : Tables) : Type 0 where
@@ -221,7 +223,7 @@ pub ended_stands : (s : Side) (p : TwoEnds) (b : Between) (t u : Tables) (e : En
     EndsOn s (ended_pair s reason e.carrier lines held journal p) c ending u
 ended_stands Left p b t u e h c reason ending lines held first journal s m is none says said =
     let q = ended_pair Left reason e.carrier lines held journal p in
-    let at : (n : ℕ) → Ends Left q u c (length t.lines) n = λ n. left_at p u e h c reason lines held journal (length t.lines) n (m.between.lives true m.lasts) none m.lines (within_or n (length t.lines)) in
+    let at : (n : ℕ) → Ends Left q u c (length t.lines) n = λ n. left_at p u e h c reason lines held journal (length t.lines) n (m.between.lives true m.lasts) none m.takes m.lines (within_or n (length t.lines)) in
     let keep : ℕ → ℕ = λ n. (at n).keep in
     let count = ended_count machine.Left keep 1 u.lines ∙ m.count in
     record {
@@ -255,7 +257,7 @@ ended_stands Left p b t u e h c reason ending lines held first journal s m is no
     }
 ended_stands Right p b t u e h c reason ending lines held first journal s m is none says said =
     let q = ended_pair Right reason e.carrier lines held journal p in
-    let at : (n : ℕ) → Ends Right q u c (length t.lines) n = λ n. right_at p u e h c reason lines held journal (length t.lines) n (m.between.lives false m.lasts) none m.lines (within_or n (length t.lines)) in
+    let at : (n : ℕ) → Ends Right q u c (length t.lines) n = λ n. right_at p u e h c reason lines held journal (length t.lines) n (m.between.lives false m.lasts) none m.takes m.lines (within_or n (length t.lines)) in
     let keep : ℕ → ℕ = λ n. (at n).keep in
     let count = ended_count machine.Right keep 1 u.lines ∙ m.count in
     record {
@@ -292,16 +294,16 @@ ended_stands Right p b t u e h c reason ending lines held first journal s m is n
 
 -- all of what it has put is under way
 pub whole_line : (s : Side) (p : TwoEnds) (u : Tables) (e : End) (h : Held) (c : Between) (n : ℕ) (l : Line) → connection_at n u.lines ≡ Some (seen_from (side_in s) l) → IsPlaced n e.carrier l.own →
-    IsSeated n (end_at (other s) p) l.peer → IsUnderWay s (other s) n (with_holding s e h p) c l.own → EndingLine s p u e h c n
+    IsSeated n (end_at (other s) p) l.peer → IsUnderWay s (other s) n (with_holding s e h p) c l.own l.peer → EndingLine s p u e h c n
 whole_line s p u e h c n l found here there out =
     record { line = l; found = found; here = here; there = there; kept = l.own.channel; more = []; parts = sym (append-nil l.own.channel); whole = λ x. refl; out = out }
 
 still_line : (s : Side) (p : TwoEnds) (b : Between) (t : Tables) (n : ℕ) (l : Line) → connection_at n t.lines ≡ Some (seen_from (side_in s) l) → IsSeen s n p b l →
-    IsUnderWay s (other s) n (with_holding s (end_at s p).end (end_at s p).held p) b l.own → EndingLine s p t (end_at s p).end (end_at s p).held b n
+    IsUnderWay s (other s) n (with_holding s (end_at s p).end (end_at s p).held p) b l.own l.peer → EndingLine s p t (end_at s p).end (end_at s p).held b n
 still_line s p b t n l found i out = whole_line s p t (end_at s p).end (end_at s p).held b n l found (placed_seat n (end_at s p) l.own i.here) i.there out
 
-pub may_end : (s : Side) (p : TwoEnds) (b : Between) (t : Tables) → Stands p b t → (end_at s p).end.carrier.ended ≡ None → MayEnd s p t t (end_at s p).end (end_at s p).held b
-may_end Left p b t s none = record {
+pub may_end : (s : Side) (p : TwoEnds) (b : Between) (t : Tables) → Stands p b t → TakesFrom s t → (end_at s p).end.carrier.ended ≡ None → MayEnd s p t t (end_at s p).end (end_at s p).held b
+may_end Left p b t s takes none = record {
   between = s.between;
   lasts = none;
   local = refl;
@@ -317,9 +319,10 @@ may_end Left p b t s none = record {
   known = s.known;
   given_then = s.given_then;
   class_then = s.class_then;
+  takes = takes;
   lines = λ n a x. (let l = s.lines n a x in still_line Left p b t n l.line l.found (seen Left n p b l.line l.is) l.is.rightward);
 }
-may_end Right p b t s none = record {
+may_end Right p b t s takes none = record {
   between = s.between;
   lasts = none;
   local = refl;
@@ -335,6 +338,7 @@ may_end Right p b t s none = record {
   known = s.known;
   given_then = s.given_then;
   class_then = s.class_then;
+  takes = takes;
   lines = λ n a x. (let l = s.lines n a x in still_line Right p b t n (turned l.line) l.found (seen Right n p b l.line l.is) l.is.leftward);
 }
 
@@ -383,8 +387,8 @@ lost_stands Right p b t u e h c reason ending lines held s m is says =
     ended_stands Right p b t u e h c reason ending (quieted (all_lost lines)) held (waiting_in (all_lost lines))
     (p.journal ++ (shown_entries Right (waiting_in (all_lost lines)) ++ ends Right reason ∷ [])) s m is (λ n. none_left n lines) says refl
 
-pub ends_stand : (s : Side) (p : TwoEnds) (b : Between) (t : Tables) (reason : EndReason) (ending : Ending) (held : Held) → Stands p b t → (end_at s p).end.carrier.ended ≡ None →
+pub ends_stand : (s : Side) (p : TwoEnds) (b : Between) (t : Tables) (reason : EndReason) (ending : Ending) (held : Held) → Stands p b t → TakesFrom s t → (end_at s p).end.carrier.ended ≡ None →
     ending_in reason ≡ Some ending →
     EndsOn s (shown_pair s (hearing.ends reason (end_at s p).end) held p) b ending t
-ends_stand s p b t reason ending held old none is =
-    lost_stands s p b t t (end_at s p).end (end_at s p).held b reason ending (end_at s p).end.lines held old (may_end s p b t old none) is (all_shown_then s p b t old none)
+ends_stand s p b t reason ending held old takes none is =
+    lost_stands s p b t t (end_at s p).end (end_at s p).held b reason ending (end_at s p).end.lines held old (may_end s p b t old takes none) is (all_shown_then s p b t old none)

@@ -22,11 +22,12 @@ use Rattle.osi_message.specs.InOctets.{IsInOctets}
 use Rattle.osi_message.specs.Meanings.{Meaning}
 use Rattle.osi_session.specs.Listening.{Listener}
 use Rattle.osi_session.specs.Moves.{Standing, broken as broken_off, react}
+use Rattle.osi_session.specs.declared.state.State.{State as Session}
 use Rattle.osi_stack.specs.Messages.{kept_at}
 use Rattle.osi_stack.specs.State.{Holding}
 use Rattle.osi_stack.proofs.Lifting.{both}
 use Rattle.osi_pair.specs.Standing.{AreAlike, is_parting, transport_in, IsSeated, AreUnderWay, word_in}
-use Rattle.osi_pair.proofs.StandingWays.{as_now, map_take, alike_take}
+use Rattle.osi_pair.proofs.StandingWays.{Takes, front_takes, as_now, map_take, alike_take}
 use Rattle.osi_pair.proofs.StandingWays as ways
 use Rattle.osi_carrier.specs.declared.ends.EndReason.{EndReason}
 use Rattle.osi_pair.proofs.StandingLost.{is_over}
@@ -198,27 +199,27 @@ take_front (suc k) [] ys h = absurd (omega arith)
 take_front (suc k) (x ∷ xs) ys h = ap (λ (l : List Message). x ∷ l) (take_front k xs ys (omega arith))
 
 -- so much of it is left
-pub record EndsWith (o : Option EndReason) (g : Progress) (H : Option (List ℕ) → Type 0) (given : Bool) (seat : Seat) (new : List between.Message) : Type 0 where
+pub record EndsWith (o : Option EndReason) (g : Progress) (H : Option (List ℕ) → Type 0) (x : Session) (given : Bool) (seat : Seat) (new : List between.Message) : Type 0 where
   pub keep : ℕ
-  pub way : AreUnderWay o g true H (ended_seat given keep seat).channel new
+  pub way : AreUnderWay o g true H x (ended_seat given keep seat).channel new
 
 -- what its end takes away was put behind what was under way
-pub way_ended : (o : Option EndReason) (g : Progress) (c : Bool) (H : Option (List ℕ) → Type 0) (given : Bool) (seat : Seat) (kept more : List Message) (old new : List between.Message) → seat.channel ≡ kept ++ more → (given ≡ false → more ≡ []) →
-    Front old new → (given ≡ false → old ≡ new) → AreUnderWay o g c H kept old → EndsWith o g H given seat new
-way_ended o g c H true seat kept more old new parts none f same w =
+pub way_ended : (o : Option EndReason) (g : Progress) (c : Bool) (H : Option (List ℕ) → Type 0) (x : Session) (given : Bool) (seat : Seat) (kept more : List Message) (old new : List between.Message) → seat.channel ≡ kept ++ more → (given ≡ false → more ≡ []) →
+    Takes x seat.channel → Front old new → (given ≡ false → old ≡ new) → AreUnderWay o g c H x kept old → EndsWith o g H x given seat new
+way_ended o g c H x true seat kept more old new parts none takes f same w =
     let k = length new in
-    let x = ways.front_at o o g g c true H kept k old new w refl
+    let y = ways.front_at o o g g c true H x kept k old new w (front_takes x kept more (subst (Takes x) parts takes)) refl
     (λ e. subst (λ (l : List between.Message). AreAlike g l new) (sym (map_take word_in k w.words))
     (alike_take g (map word_in w.words) new f.gone (subst (AreAlike g (map word_in w.words)) f.parts (w.alike e)))) in
     record {
-      keep = x.keep;
-      way = subst (λ (l : List Message). AreUnderWay o g true H l new) (sym (ap (take x.keep) parts ∙ take_front x.keep kept more x.fits)) x.way;
+      keep = y.keep;
+      way = subst (λ (l : List Message). AreUnderWay o g true H x l new) (sym (ap (take y.keep) parts ∙ take_front y.keep kept more y.fits)) y.way;
     }
-way_ended o g c H false seat kept more old new parts none f same w =
+way_ended o g c H x false seat kept more old new parts none takes f same w =
     let all : seat.channel ≡ kept = parts ∙ ap (λ (l : List Message). kept ++ l) (none refl) ∙ append-nil kept in
     record {
       keep = 0;
-      way = subst (λ (l : List Message). AreUnderWay o g true H l new) (sym all) (as_now o o g g c true H H kept old new w (λ e. cc) (λ x held. held) (λ e. subst (λ (l : List between.Message). AreAlike g (map word_in w.words) l) (same refl) (w.alike e)));
+      way = subst (λ (l : List Message). AreUnderWay o g true H x l new) (sym all) (as_now o o g g c true H H x x kept old new w (λ e. cc) (λ b held. held) (λ calm. calm) (λ e. subst (λ (l : List between.Message). AreAlike g (map word_in w.words) l) (same refl) (w.alike e)));
     }
 
 pub cut_by_end : (end : Bool) (both : Both) → is_some (side end both).state.ended ≡ true → is_cut end both ≡ true

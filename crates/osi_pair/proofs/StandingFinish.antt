@@ -177,26 +177,26 @@ others_then s p b t e h n old alive d lasts order o =
     }
 
 -- what is under way then, each way
-pub record WaysThen (s : Side) (p : TwoEnds) (b : Between) (e : End) (h : Held) (n : ℕ) (d : DidAt s p b e h n) (sends comes : List Message) : Type 0 where
-  pub out : Goes s (other s) n (with_holding s e h p) d.now (progress_of (place_at n (last_of (is_caller (other s)) d.now))) sends
-  pub back : Goes (other s) s n (with_holding s e h p) d.now (after d.row) comes
+pub record WaysThen (s : Side) (p : TwoEnds) (b : Between) (e : End) (h : Held) (n : ℕ) (d : DidAt s p b e h n) (own peer : Standing) (sends comes : List Message) : Type 0 where
+  pub out : Goes s (other s) n (with_holding s e h p) d.now (progress_of (place_at n (last_of (is_caller (other s)) d.now))) peer.state sends
+  pub back : Goes (other s) s n (with_holding s e h p) d.now (after d.row) own.state comes
 
 seen_then : (s : Side) (p : TwoEnds) (b : Between) (t : Tables) (e : End) (h : Held) (n : ℕ) (l : Line) (x : Standing) (channel back : List Message) → (d : DidAt s p b e h n) → e.carrier.ended ≡ None → IsInOrder e →
-    HasSession n e.lines (after d.row) x → IsSeen s n p b l → WaysThen s p b e h n d channel back → IsSeen s n (with_holding s e h p) d.now (line_then d.row x channel back l)
+    HasSession n e.lines (after d.row) x → IsSeen s n p b l → WaysThen s p b e h n d x l.peer.session channel back → IsSeen s n (with_holding s e h p) d.now (line_then d.row x channel back l)
 seen_then s p b t e h n l x channel back d lasts order hs i w = record {
   here = subst (λ (y : Holding). IsSeated n y (line_then d.row x channel back l).own) (sym (holding_here s e h p))
       (seat_of_session n e h (after d.row) x channel order.sound.orderly (ap (λ (c : State). progress_of (place_at n c)) (sym (last_is s p b e h n d lasts)) ∙ d.stands) hs);
   there = subst (λ (y : Holding). IsSeated n y (line_then d.row x channel back l).peer) (sym (holding_there s e h p))
       (record { joined = i.there.joined; transport = i.there.transport; live = i.there.live; kept = i.there.kept; over_now = i.there.over_now; awaiting = i.there.awaiting; octets = i.there.octets });
   out = w.out;
-  back = subst (λ (g : Progress). Goes (other s) s n (with_holding s e h p) d.now g back) (sym d.stands) w.back;
+  back = subst (λ (g : Progress). Goes (other s) s n (with_holding s e h p) d.now g x.state back) (sym d.stands) w.back;
 }
 
 -- of an end that took a unit all that is said of one that acted
 pub finish : (s : Side) (p : TwoEnds) (b : Between) (t u : Tables) (e : End) (h : Held) (n : ℕ) (shown : List Shown) (l : Line) (x : Standing) (channel back : List Message) → Stands p b t →
     (end_at s p).end.carrier.ended ≡ None → (d : DidAt s p b e h n) → e.carrier.ended ≡ None → e.carrier.local ≡ (end_at s p).end.carrier.local → e.carrier.is_caller ≡ (end_at s p).end.carrier.is_caller →
     n ≤ b.caller.given → d.now.called.given ≤ d.now.caller.given → IsInOrder e → waiting_in e.lines ≡ [] → OtherSessions s p e n → HasSession n e.lines (after d.row) x → IsSeen s n p b l →
-    WaysThen s p b e h n d channel back → TablesAfter s n t u shown (line_then d.row x channel back l) → u.known ≡ option_map class_in (with_holding s e h p).left.end.carrier.class →
+    WaysThen s p b e h n d x l.peer.session channel back → TablesAfter s n t u shown (line_then d.row x channel back l) → u.known ≡ option_map class_in (with_holding s e h p).left.end.carrier.class →
     Turned s p b t e h d.now u n shown
 finish Left p b t u e h n shown l x channel back old alive d lasts local role named behind order none o hs i w a known =
     let last = last_is Left p b e h n d lasts in

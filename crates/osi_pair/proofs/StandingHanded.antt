@@ -189,8 +189,8 @@ handed_left law p b t k h old le more =
               is = record {
                 left = seat_sent n k p.left was.line.own was.is.left;
                 right = seat_held n p.right h was.line.peer was.is.right;
-                rightward = way_same _ _ _ _ _ _ (HasJoined n p.right) (HasJoined n new.right) _ _ _ (λ e. e) (ap progress_of (same.stays false n)) (handed_cut Left Left k h p) (λ x held. held) (going n) was.is.rightward;
-                leftward = way_same _ _ _ _ _ _ (HasJoined n p.left) (HasJoined n new.left) _ _ _ (λ e. e) (ap progress_of (same.stays true n)) (handed_cut Left Right k h p) (λ x held. held) (coming n) was.is.leftward;
+                rightward = way_same _ _ _ _ _ _ (HasJoined n p.right) (HasJoined n new.right) _ _ _ _ (λ e. e) (ap progress_of (same.stays false n)) (handed_cut Left Left k h p) (λ x held. held) (going n) was.is.rightward;
+                leftward = way_same _ _ _ _ _ _ (HasJoined n p.left) (HasJoined n new.left) _ _ _ _ (λ e. e) (ap progress_of (same.stays true n)) (handed_cut Left Right k h p) (λ x held. held) (coming n) was.is.leftward;
               };
             };
         over_left = old.over_left;
@@ -238,8 +238,8 @@ handed_right law p b t k h old le more =
               is = record {
                 left = seat_held n p.left h was.line.own was.is.left;
                 right = seat_sent n k p.right was.line.peer was.is.right;
-                rightward = way_same _ _ _ _ _ _ (HasJoined n p.right) (HasJoined n new.right) _ _ _ (λ e. e) (ap progress_of (same.stays false n)) (handed_cut Right Left k h p) (λ x held. held) (going n) was.is.rightward;
-                leftward = way_same _ _ _ _ _ _ (HasJoined n p.left) (HasJoined n new.left) _ _ _ (λ e. e) (ap progress_of (same.stays true n)) (handed_cut Right Right k h p) (λ x held. held) (coming n) was.is.leftward;
+                rightward = way_same _ _ _ _ _ _ (HasJoined n p.right) (HasJoined n new.right) _ _ _ _ (λ e. e) (ap progress_of (same.stays false n)) (handed_cut Right Left k h p) (λ x held. held) (going n) was.is.rightward;
+                leftward = way_same _ _ _ _ _ _ (HasJoined n p.left) (HasJoined n new.left) _ _ _ _ (λ e. e) (ap progress_of (same.stays true n)) (handed_cut Right Right k h p) (λ x held. held) (coming n) was.is.leftward;
               };
             };
         over_left = old.over_left;

@@ -48,6 +48,8 @@ use Rattle.osi_pair.proofs.StandingTurned.{IsSeen, with_holding, turned_pair, Tu
 use Rattle.osi_pair.proofs.StandingWays.{out_cuts}
 use Rattle.osi_pair.proofs.StandingCut.{cut_broken, reach_same}
 use Rattle.osi_carrier.specs.Messages.{kind_of}
+use Rattle.osi_pair.proofs.StandingAhead.{takes_from}
+use Rattle.osi_pair.proofs.StandingWays.{Takes}
 
 -- ---- the turn of the tables
 
@@ -100,25 +102,25 @@ taken_leaves broken terms keep reason l m xs tr e =
 -- so much of it is left, and the answer is put behind
 pub record OutLeaves (s : Side) (p : TwoEnds) (b : Between) (t : Tables) (e : End) (h : Held) (n : ℕ) (l : TableLine) (d : DidAt s p b e h n) : Type 0 where
   pub keep : ℕ
-  pub way : Goes s (other s) n (with_holding s e h p) d.now (progress_of (place_at n (last_of (is_caller (other s)) d.now))) (left_channel t.broken keep l.own.channel)
+  pub way : Goes s (other s) n (with_holding s e h p) d.now (progress_of (place_at n (last_of (is_caller (other s)) d.now))) l.peer.session.state (left_channel t.broken keep l.own.channel)
 
-pub out_leaves : (s : Side) (p : TwoEnds) (b : Between) (t : Tables) (e : End) (h : Held) (n reason : ℕ) (l : TableLine) → Stands p b t → (d : DidAt s p b e h n) → d.row ≡ leaves reason → IsSeen s n p b l →
+pub out_leaves : (s : Side) (p : TwoEnds) (b : Between) (t : Tables) (e : End) (h : Held) (n reason : ℕ) (l : TableLine) → Stands p b t → (d : DidAt s p b e h n) → d.row ≡ leaves reason → IsSeen s n p b l → Takes l.peer.session.state l.own.channel →
     OutLeaves s p b t e h n l d
-out_leaves s p b t e h n reason l old d same i =
+out_leaves s p b t e h n reason l old d same i takes =
     let there = place_at n (last_of (is_caller (other s)) b) in
     let lasts = (end_at (other s) p).end.carrier.ended in
     let two = with_holding s e h p in
     let cut = is_cut (is_caller s) (carriers_of two) in
     let puts : unless_broken t.broken (answer_for d.row) ≡ unless_broken t.broken (over ∷ []) = ap (λ (r : Row). unless_broken t.broken (answer_for r)) same in
-    let x = out_cuts lasts there (is_cut (is_caller s) (carriers_of p)) cut (HasJoined n (end_at (other s) p)) l.own.channel (unless_broken t.broken (over ∷ [])) (under_way (is_caller s) n (carriers_of p) b)
-    (under_way (is_caller s) n (carriers_of two) d.now) d.stays d.gone (put_in (carriers_of p) (put_for d.row)) i.out
+    let x = out_cuts lasts there (is_cut (is_caller s) (carriers_of p)) cut (HasJoined n (end_at (other s) p)) l.peer.session.state l.own.channel (unless_broken t.broken (over ∷ [])) (under_way (is_caller s) n (carriers_of p) b)
+    (under_way (is_caller s) n (carriers_of two) d.now) d.stays d.gone (put_in (carriers_of p) (put_for d.row)) i.out takes
     (leave_by t.broken cut over (λ begun. tt) (cut_broken s p two t.broken old.broken (reach_same s (record { end = e; held = h }) p))) d.out_before d.out_after
     (ap (map message_in) (sym puts) ∙ answers_same t.broken (is_some (carriers_of p).reach) d.row (broken_is p b t old)) in
     record {
       keep = x.keep;
-      way = out_there s p d.now e h n (progress_of (place_at n (last_of (is_caller (other s)) d.now))) (left_channel t.broken x.keep l.own.channel)
-          (subst (λ (q : Place). GoesTo s (end_at (other s) p) n two d.now (progress_of q) (left_channel t.broken x.keep l.own.channel)) (sym (d.there n))
-          (subst (λ (ms : List Message). GoesTo s (end_at (other s) p) n two d.now (progress_of there) ms) (sym (put_unless t.broken (over ∷ []) (take x.keep l.own.channel))) x.way));
+      way = out_there s p d.now e h n (progress_of (place_at n (last_of (is_caller (other s)) d.now))) l.peer.session.state (left_channel t.broken x.keep l.own.channel)
+          (subst (λ (q : Place). GoesTo s (end_at (other s) p) n two d.now (progress_of q) l.peer.session.state (left_channel t.broken x.keep l.own.channel)) (sym (d.there n))
+          (subst (λ (ms : List Message). GoesTo s (end_at (other s) p) n two d.now (progress_of there) l.peer.session.state ms) (sym (put_unless t.broken (over ∷ []) (take x.keep l.own.channel))) x.way));
     }
 
 -- ---- two ends
@@ -131,7 +133,7 @@ LeftTables s p b t n keep row a =
 left_unit : MovingLaws → (s : Side) (p : TwoEnds) (b : Between) (t : Tables) (packet : List ℕ) (h : Held) (reason : ℕ) → Stands p b t → (end_at s p).end.carrier.ended ≡ None → (pa : PacketAt s p b packet h) →
     is_heard pa.did.row ≡ true → pa.did.row ≡ leaves reason → (a : Arriving s p b t (reference_of pa.unit) pa.did.row) → (d : DidThen s p b t packet h pa a) → d.row ≡ pa.did.row →
     (f : ActsAt s p packet pa.unit (reference_of pa.unit) pa.did.row) → (out : OutLeaves s p b t (EndOf s p b t packet h pa a) h (reference_of pa.unit) a.seen d) →
-    Goes (other s) s (reference_of pa.unit) (with_holding s (EndOf s p b t packet h pa a) h p) d.now (after pa.did.row) a.rest →
+    Goes (other s) s (reference_of pa.unit) (with_holding s (EndOf s p b t packet h pa a) h p) d.now (after pa.did.row) (move_of (moving s p b t (reference_of pa.unit) pa.did.row a)).next.state a.rest →
     Turned s p b t (EndOf s p b t packet h pa a) h d.now (LeftTables s p b t (reference_of pa.unit) out.keep pa.did.row a) (reference_of pa.unit) (move_of (moving s p b t (reference_of pa.unit) pa.did.row a)).shown
 left_unit laws s p b t packet h reason old alive pa heard is a d same f out back =
     let n = reference_of pa.unit in
@@ -152,7 +154,7 @@ left_unit laws s p b t packet h reason old alive pa heard is a d same f out back
     (session_then n a.kept.line x m.input (end_at s p).end.lines (after row) a.kept.here a.hears.ended a.hears.waits a.hears.goes.octets)) a.stands
     (record {
       out = out.way;
-      back = subst (λ (r : Row). Goes (other s) s n (with_holding s e h p) d.now (after r) a.rest) (sym same) back;
+      back = subst (λ (r : Row). Goes (other s) s n (with_holding s e h p) d.now (after r) move.next.state a.rest) (sym same) back;
     })
     (subst (λ (r : Row). TablesAfter s n t u move.shown (line_then r move.next channel a.rest a.seen)) (sym same)
     (tables_delivered s n (seen_from (side_in s) a.seen) t known turn a.found))
@@ -187,7 +189,7 @@ leaving_packet laws s p b t packet h reason old run alive pa v is =
     let d = did_at s p b packet h (quieted lines) pa in
     let same = same_row s p b packet h (quieted lines) pa in
     let f = acts_at s p b packet h pa in
-    let out = out_leaves s p b t e h n reason a.seen old d (same ∙ is) a.stands in
+    let out = out_leaves s p b t e h n reason a.seen old d (same ∙ is) a.stands (takes_from laws.takes s t run n a.seen a.found) in
     let keep = out.keep in
     let silent = a.hears.silent (ap after is) in
     let acts : answers n 0 (as_made (move_of m)) e.carrier ≡ e.carrier =
@@ -197,7 +199,7 @@ leaving_packet laws s p b t packet h reason old run alive pa v is =
     does_then s p b t packet h pa a f ∙ ap (λ (c : Carrier). concludes (answered_end c lines)) acts ∙ lasting (answered_end e.carrier lines) f.lasts in
     let waits = put_waits n a.kept.line (as_made (move_of m)) (end_at s p).end.lines (quiet_of s p b t old) a.kept.here in
     let stands : Stands (turned_pair s e h n (move_of m).shown p) d.now (LeftTables s p b t n keep row a) =
-    turned_stands s p b t e h d.now (LeftTables s p b t n keep row a) n (move_of m).shown old alive (left_unit laws s p b t packet h reason old alive pa heard is a d same f out (rest_then s p b t packet h pa v)) in
+    turned_stands s p b t e h d.now (LeftTables s p b t n keep row a) n (move_of m).shown old alive (left_unit laws s p b t packet h reason old alive pa heard is a d same f out (rest_then s p b t packet h pa v heard)) in
     subst (λ (x : End). StandsShown s p t x h) (sym then)
     (record {
       more = delivers (side_in s) n (λ r. keep) ∷ [];

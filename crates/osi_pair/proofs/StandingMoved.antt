@@ -17,7 +17,7 @@ use Rattle.osi_carrier.specs.Terms.{class_of}
 use Rattle.osi_carrier.specs.Told.{is_open}
 use Rattle.osi_carrier.specs.declared.ends.EndReason.{EndReason}
 use Rattle.osi_carrier.proofs.Effects.{orderly_unit, orderly_same}
-use Rattle.osi_machine.specs.AsTables.{IsTableRun, AreSoundLines, IsSoundLine, AreSendable, AtEachSide, IsNoFaultNext, IsOverWhenLeft, is_leaving}
+use Rattle.osi_machine.specs.AsTables.{IsTableRun, AreSoundLines, IsSoundLine, AreSendable, is_leaving}
 use Rattle.osi_machine.specs.Core as machine
 use Rattle.osi_machine.specs.Machine.{connection_at, delivers, learns}
 use Rattle.osi_machine.specs.Tables.{Line as TableLine, Turn, Tables, seen_from, after_turn, step}
@@ -25,7 +25,7 @@ use Rattle.osi_machine.specs.Worlds.{Message, unit, ask, agree, deny, bye, over,
 use Rattle.osi_machine.specs.Worlds as worlds
 use Rattle.osi_machine.proofs.CoreLaws.{SessionLaws}
 use Rattle.osi_message.specs.Meanings.{Meaning, DT}
-use Rattle.osi_session.specs.Moves.{Input, Standing, Move, react}
+use Rattle.osi_session.specs.Moves.{Input, Standing, Move, taken, opened, refused, broken as broken_off, react}
 use Rattle.osi_session.specs.Whole.{listening}
 use Rattle.osi_stack.specs.Hearing.{after_packet, concludes}
 use Rattle.osi_stack.specs.Messages.{told_all, kept_at}
@@ -49,7 +49,7 @@ use Rattle.osi_pair.proofs.StandingPacket.{PacketLaws, ActsAt, acts_at, same_rol
 use Rattle.osi_pair.proofs.StandingQuiet.{quiet_order, quiet_waits, put_waits}
 use Rattle.osi_pair.proofs.StandingReplies.{CanGo}
 use Rattle.osi_pair.proofs.StandingRests.{delivered, tables_delivered}
-use Rattle.osi_pair.proofs.StandingResting.{acted_end, did_at, same_row, line_at, EndThen, was_at, back_one, FoundLine, back_then, other_lines}
+use Rattle.osi_pair.proofs.StandingResting.{acted_end, did_at, same_row, line_at, EndThen, was_at, back_one, FoundLine, back_then, other_lines, over_stays}
 use Rattle.osi_pair.proofs.StandingRows.{Row, before, after, arrived_in, quiet, still, begins, refuses, agrees, denies, tells, leaves, ignores, ends}
 use Rattle.osi_pair.proofs.StandingSeats.{transport_by, value_same, HasSession, lives_in, session_of_seat, transport_at}
 use Rattle.osi_pair.proofs.StandingTurned.{IsSeen, with_holding, turned_pair, turned_stands}
@@ -58,15 +58,19 @@ use Rattle.osi_session.specs.Kept.{IsNoFault, IsJoinedAs}
 use Rattle.osi_session.specs.Listening.{Listener}
 use Rattle.osi_message.specs.declared.places.Place.{Place as PartPlace}
 use Rattle.osi_carrier.specs.Messages as carrier
-use Rattle.osi_pair.proofs.StandingWays.{Comes, BehindFirst, IsAlone, IsLast, Begins, GoesOn, is_tsdu, no_part}
+use Rattle.osi_pair.proofs.StandingWays.{NextOf, Comes, BehindFirst, IsAlone, IsLast, Begins, GoesOn, is_tsdu, no_part}
 use Rattle.osi_carrier.specs.Messages.{kind_of}
 use Rattle.osi_message.specs.InOctets.{IsInOctets}
 use Rattle.osi_message.specs.Words.{part_octets}
 use Rattle.osi_message.specs.declared.places.Place.TheVariants.{First, Middle, Last}
 use Rattle.osi_session.specs.Allowed.{most_data}
-use Rattle.osi_session.specs.Phases.{is_over}
-use Rattle.std.specs.List.{list_any}
 use Rattle.osi_pair.specs.declared.sides.Side.TheVariants.{Left, Right}
+use Rattle.osi_session.specs.declared.state.State.{State as SessionState}
+use Rattle.osi_machine.specs.Calm.{after_message, StaysCalm}
+use Rattle.osi_machine.proofs.CalmLaws.{left_is}
+use Rattle.osi_message.specs.Sendable.{said_of}
+use Rattle.osi_pair.proofs.StandingAhead.{TakeLaws, TakesFrom, takes_from, takes_here, takes_then}
+use Rattle.osi_pair.proofs.StandingLost.{is_over as is_lost}
 
 -- ---- a move
 
@@ -151,6 +155,8 @@ pub record HasMoved (s : Side) (p : TwoEnds) (t : Tables) (packet : List ℕ) (h
   pub agreed : after m.row ≡ in_use → known_by t m ≡ option_map class_in (class_of (terms_at p))
   pub silent : after m.row ≡ gone → ((move_of m).reply ≡ None) × ((move_of m).closes ≡ false)
   pub sends : (x : Meaning) → (move_of m).reply ≡ Some x → CanGo x
+  -- what the tables say of the session to which it sends
+  pub takes : TakesFrom s (moved_tables s t m)
 
 -- ---- how it comes about
 
@@ -160,8 +166,7 @@ pub record MovingLaws : Type 0 where
   pub hear : HearLaws
   pub tables : SessionLaws
   pub sound_lines : (t : Tables) → IsTableRun t → AreSoundLines t
-  pub next : (t : Tables) → IsTableRun t → AtEachSide IsNoFaultNext t
-  pub left : (t : Tables) → IsTableRun t → AtEachSide IsOverWhenLeft t
+  pub takes : TakeLaws
 
 seen_sound : (s : machine.Side) (l : TableLine) → IsSoundLine (seen_from s l) → IsSoundLine l
 seen_sound machine.Left l h = h
@@ -218,25 +223,25 @@ abbrev pub PacketAt : Side → TwoEnds → Between → List ℕ → Held → Typ
 PacketAt s p b packet h = PacketActs (terms_at p) (is_caller s) (carriers_of p) b packet h.octets
 
 -- what comes to it, and what is under way behind it
-abbrev pub Behind : (s : Side) (p : TwoEnds) (b : Between) (packet : List ℕ) (h : Held) (pa : PacketActs (terms_at p) (is_caller s) (carriers_of p) b packet h.octets) → Option (List ℕ) → List Message → Type 0
-Behind s p b packet h pa begun ms =
-    BehindFirst (after pa.did.row) (is_cut (is_caller (other s)) (carriers_of (with_holding s (acted_end pa.unit (end_at s p).end.lines (end_at s p).end) h p))) begun ms
+abbrev pub Behind : (s : Side) (p : TwoEnds) (b : Between) (packet : List ℕ) (h : Held) (pa : PacketActs (terms_at p) (is_caller s) (carriers_of p) b packet h.octets) → Option (List ℕ) → SessionState → List Message → Type 0
+Behind s p b packet h pa begun x ms =
+    BehindFirst (after pa.did.row) (is_cut (is_caller (other s)) (carriers_of (with_holding s (acted_end pa.unit (end_at s p).end.lines (end_at s p).end) h p))) begun x ms
     (under_way (is_caller (other s)) (reference_of pa.unit) (carriers_of (with_holding s (acted_end pa.unit (end_at s p).end.lines (end_at s p).end) h p)) (did_at s p b packet h (end_at s p).end.lines pa).now)
 
-abbrev pub ComesAt : (s : Side) (p : TwoEnds) (b : Between) (packet : List ℕ) (h : Held) (pa : PacketActs (terms_at p) (is_caller s) (carriers_of p) b packet h.octets) → List Message → carrier.Message → Type 0
-ComesAt s p b packet h pa ms got =
-    Comes (before pa.did.row) (after pa.did.row) (is_cut (is_caller (other s)) (carriers_of (with_holding s (acted_end pa.unit (end_at s p).end.lines (end_at s p).end) h p))) (HasJoined (reference_of pa.unit) (end_at s p)) ms got
+abbrev pub ComesAt : (s : Side) (p : TwoEnds) (b : Between) (packet : List ℕ) (h : Held) (pa : PacketActs (terms_at p) (is_caller s) (carriers_of p) b packet h.octets) → SessionState → List Message → carrier.Message → Type 0
+ComesAt s p b packet h pa x ms got =
+    Comes (before pa.did.row) (after pa.did.row) (is_cut (is_caller (other s)) (carriers_of (with_holding s (acted_end pa.unit (end_at s p).end.lines (end_at s p).end) h p))) (HasJoined (reference_of pa.unit) (end_at s p)) x ms got
     (under_way (is_caller (other s)) (reference_of pa.unit) (carriers_of (with_holding s (acted_end pa.unit (end_at s p).end.lines (end_at s p).end) h p)) (did_at s p b packet h (end_at s p).end.lines pa).now)
 
 pub comes_at : (s : Side) (p : TwoEnds) (b : Between) (t : Tables) (packet : List ℕ) (h : Held) → (end_at s p).end.carrier.ended ≡ None → (pa : PacketActs (terms_at p) (is_caller s) (carriers_of p) b packet h.octets) →
-    (got : carrier.Message) → (at : FoundLine s (reference_of pa.unit) p b t) → arrived_in pa.did.row ≡ got ∷ [] → ComesAt s p b packet h pa at.line.peer.channel got
+    (got : carrier.Message) → (at : FoundLine s (reference_of pa.unit) p b t) → arrived_in pa.did.row ≡ got ∷ [] → ComesAt s p b packet h pa at.line.own.session.state at.line.peer.channel got
 comes_at s p b t packet h alive pa got at one =
     let n = reference_of pa.unit in
     let lines = (end_at s p).end.lines in
     let e = acted_end pa.unit lines (end_at s p).end in
     let d = did_at s p b packet h lines pa in
     let same = same_row s p b packet h lines pa in
-    subst (λ (r : Row). Comes (before r) (after r) (is_cut (is_caller (other s)) (carriers_of (with_holding s e h p))) (HasJoined n (end_at s p)) at.line.peer.channel got
+    subst (λ (r : Row). Comes (before r) (after r) (is_cut (is_caller (other s)) (carriers_of (with_holding s e h p))) (HasJoined n (end_at s p)) at.line.own.session.state at.line.peer.channel got
     (under_way (is_caller (other s)) n (carriers_of (with_holding s e h p)) d.now)) same (back_one s p b e h n at.line got d at.is alive (ap arrived_in same ∙ one))
 
 -- where its connection stood
@@ -256,18 +261,9 @@ seat_transport s p b t n row l old alive stood i =
 
 -- ---- data that comes is no fault
 
-own_seen : (s : machine.Side) (l : TableLine) → seen_from s (seen_from s l) ≡ l
-own_seen machine.Left l = refl
-own_seen machine.Right l = refl
-
 next_at : MovingLaws → (s : Side) (t : Tables) (n : ℕ) (l : TableLine) → IsTableRun t → connection_at n t.lines ≡ Some (seen_from (side_in s) l) → (octets : List ℕ) (ms : List Message) →
     l.peer.channel ≡ unit (DT octets) ∷ ms → IsNoFault l.own.session.state octets
-next_at laws s t n l run found octets ms e =
-    subst (λ (x : TableLine). IsNoFaultNext x.own.session.state x.peer.channel) (own_seen (side_in s) l) (laws.next t run (side_in s) n (seen_from (side_in s) l) found) octets ms e
-
-left_at : MovingLaws → (s : Side) (t : Tables) (n : ℕ) (l : TableLine) → IsTableRun t → connection_at n t.lines ≡ Some (seen_from (side_in s) l) → list_any is_leaving l.peer.channel ≡ true → is_over l.own.session.state.phase ≡ true
-left_at laws s t n l run found e =
-    subst (λ (x : TableLine). IsOverWhenLeft x.own.session.state x.peer.channel) (own_seen (side_in s) l) (laws.left t run (side_in s) n (seen_from (side_in s) l) found) e
+next_at laws s t n l run found octets ms e = (takes_here laws.takes s t run n l found).behind [] octets ms e [] tt octets
 
 -- the Data of which a part comes
 record FineData (s : Standing) : Type 0 where
@@ -275,9 +271,10 @@ record FineData (s : Standing) : Type 0 where
   fine : IsNoFault s.state all
 
 part_fine : MovingLaws → (s : Side) (t : Tables) (n : ℕ) (l : TableLine) → IsTableRun t → connection_at n t.lines ≡ Some (seen_from (side_in s) l) → (now : List ℕ) →
-    ((more : List ℕ) × ((ns : List Message) × (l.peer.channel ≡ unit (DT (now ++ more)) ∷ ns))) ⊎ (list_any is_leaving l.peer.channel ≡ true) → FineData l.own.session
-part_fine laws s t n l run found now (inl more) = record { all = now ++ more.0; fine = next_at laws s t n l run found (now ++ more.0) more.1.0 more.1.1 }
-part_fine laws s t n l run found now (inr left) = record { all = []; fine = over_fine l.own.session.state [] (left_at laws s t n l run found left) }
+    NextOf l.own.session.state now l.peer.channel → FineData l.own.session
+part_fine laws s t n l run found now (inl r) = record { all = now ++ r.rest; fine = next_at laws s t n l run found (now ++ r.rest) r.others r.is }
+part_fine laws s t n l run found now (inr (inl away)) = record { all = []; fine = over_fine l.own.session.state [] ((takes_here laws.takes s t run n l found).left away) }
+part_fine laws s t n l run found now (inr (inr calm)) = record { all = []; fine = calm [] }
 
 part_joins : (joined : Option (List ℕ)) (x : Standing) (place : PartPlace) (octets now : List ℕ) (H : Option (List ℕ) → Type 0) → ((begun : Option (List ℕ)) → H begun → IsJoinedAs x.state joined begun) → length now ≤ most_data →
     IsTaker x joined → FineData x → (Begins H place octets now ⊎ GoesOn H place octets now) → PartJoins joined x place octets (Some now)
@@ -312,7 +309,7 @@ part_tells (ends m) place octets heard is = absurd (no_way heard)
 -- a message arrives, of which a session hears, and what is under way behind it
 pub record ArrivesAt (s : Side) (p : TwoEnds) (b : Between) (t : Tables) (packet : List ℕ) (h : Held) (pa : PacketActs (terms_at p) (is_caller s) (carriers_of p) b packet h.octets) : Type 0 where
   pub a : Arriving s p b t (reference_of pa.unit) pa.did.row
-  pub stays : Behind s p b packet h pa None a.rest
+  pub stays : Behind s p b packet h pa None (after_message a.seen.own.session.state a.first) a.rest
 
 -- or a part of one Data that is not the last
 pub record PartArrives (s : Side) (p : TwoEnds) (b : Between) (t : Tables) (packet : List ℕ) (h : Held) (pa : PacketActs (terms_at p) (is_caller s) (carriers_of p) b packet h.octets) : Type 0 where
@@ -327,7 +324,7 @@ pub record PartArrives (s : Side) (p : TwoEnds) (b : Between) (t : Tables) (pack
   pub is : pa.did.row ≡ tells (part_octets place octets)
   pub now : List ℕ
   pub joins : PartJoins joined seen.own.session place octets (Some now)
-  pub stays : Behind s p b packet h pa (Some now) seen.peer.channel
+  pub stays : Behind s p b packet h pa (Some now) seen.own.session.state seen.peer.channel
 
 -- a message that does not leave comes to a session that has joined nothing
 abbrev pub got_leaves : carrier.Message → Bool
@@ -385,7 +382,7 @@ hears_tsdu laws s p b t n row octets l joined first rest run found parts whole l
 
 arriving_as : MovingLaws → (s : Side) (p : TwoEnds) (b : Between) (t : Tables) (packet : List ℕ) (h : Held) → Stands p b t → IsTableRun t → (end_at s p).end.carrier.ended ≡ None → (pa : PacketAt s p b packet h) →
     is_heard pa.did.row ≡ true → (at : FoundLine s (reference_of pa.unit) p b t) → (was : HasSession (reference_of pa.unit) (end_at s p).end.lines (before pa.did.row) at.line.own.session) →
-    ComesAt s p b packet h pa at.line.peer.channel (got_in pa.did.row) → ArrivesAt s p b t packet h pa ⊎ PartArrives s p b t packet h pa
+    ComesAt s p b packet h pa at.line.own.session.state at.line.peer.channel (got_in pa.did.row) → ArrivesAt s p b t packet h pa ⊎ PartArrives s p b t packet h pa
 arriving_as laws s p b t packet h old run alive pa heard at was (inl sp) =
     let n = reference_of pa.unit in
     let row = pa.did.row in
@@ -533,24 +530,68 @@ moved_then laws s p b t packet h old alive pa a d same f =
 
 -- ---- two ends then
 
+-- a message that comes to a session makes of it what the session makes of what it hears
+agrees_left : (x : Standing) (m : Message) → kind_of (message_in m) ≡ carrier.agree → after_message x.state m ≡ (react x opened).next.state
+agrees_left x agree k = left_is x opened
+agrees_left x ask k = cc
+agrees_left x (unit u) k = cc
+agrees_left x (deny why) k = cc
+agrees_left x (bye why) k = cc
+agrees_left x over k = cc
+
+denies_left : (x : Standing) (reason : ℕ) (m : Message) → kind_of (message_in m) ≡ carrier.deny reason → after_message x.state m ≡ (react x (refused reason)).next.state
+denies_left x reason (deny why) k =
+    let same : why ≡ reason = cc in
+    left_is x (refused why) ∙ ap (λ (r : ℕ). (react x (refused r)).next.state) same
+denies_left x reason ask k = cc
+denies_left x reason agree k = cc
+denies_left x reason (unit u) k = cc
+denies_left x reason (bye why) k = cc
+denies_left x reason over k = cc
+
+tells_left : (x : Standing) (octets : List ℕ) (m : Message) → kind_of (message_in m) ≡ carrier.message [] → after_message x.state m ≡ (react x (heard_by (tells octets) m)).next.state
+tells_left x octets (unit u) k = left_is x (taken (said_of u))
+tells_left x octets ask k = cc
+tells_left x octets agree k = cc
+tells_left x octets (deny why) k = cc
+tells_left x octets (bye why) k = cc
+tells_left x octets over k = cc
+
+hears_calm : (row : Row) (x : Standing) (m : Message) (ms : List Message) → is_heard row ≡ true → kind_of (message_in m) ≡ kind_of (got_in row) → StaysCalm (after_message x.state m) ms → StaysCalm (react x (heard_by row m)).next.state ms
+hears_calm agrees x m ms e k calm = subst (λ (s : SessionState). StaysCalm s ms) (agrees_left x m k) calm
+hears_calm (denies reason) x m ms e k calm = subst (λ (s : SessionState). StaysCalm s ms) (denies_left x reason m k) calm
+hears_calm (tells octets) x m ms e k calm = subst (λ (s : SessionState). StaysCalm s ms) (tells_left x octets m k) calm
+hears_calm (leaves reason) x m ms e k calm = over_stays (react x broken_off).next ms (is_lost x)
+hears_calm quiet x m ms e k calm = absurd (no_way e)
+hears_calm still x m ms e k calm = absurd (no_way e)
+hears_calm begins x m ms e k calm = absurd (no_way e)
+hears_calm (refuses reason) x m ms e k calm = absurd (no_way e)
+hears_calm (ignores octets) x m ms e k calm = absurd (no_way e)
+hears_calm (ends last) x m ms e k calm = absurd (no_way e)
+
 -- what is still under way to it
-pub rest_then : (s : Side) (p : TwoEnds) (b : Between) (t : Tables) (packet : List ℕ) (h : Held) → (pa : PacketAt s p b packet h) → (v : ArrivesAt s p b t packet h pa) →
+pub rest_then : (s : Side) (p : TwoEnds) (b : Between) (t : Tables) (packet : List ℕ) (h : Held) → (pa : PacketActs (terms_at p) (is_caller s) (carriers_of p) b packet h.octets) → (v : ArrivesAt s p b t packet h pa) →
+    is_heard pa.did.row ≡ true →
     Goes (other s) s (reference_of pa.unit) (with_holding s (EndOf s p b t packet h pa v.a) h p)
-    (did_at s p b packet h (quieted (loud_lines s p (moving s p b t (reference_of pa.unit) pa.did.row v.a))) pa).now (after pa.did.row) v.a.rest
-rest_then s p b t packet h pa v =
+    (did_at s p b packet h (quieted (loud_lines s p (moving s p b t (reference_of pa.unit) pa.did.row v.a))) pa).now (after pa.did.row) (move_of (moving s p b t (reference_of pa.unit) pa.did.row v.a)).next.state v.a.rest
+rest_then s p b t packet h pa v heard =
     let n = reference_of pa.unit in
-    let m = moving s p b t n pa.did.row v.a in
+    let row = pa.did.row in
+    let m = moving s p b t n row v.a in
     let e = EndOf s p b t packet h pa v.a in
     let lines = quieted (loud_lines s p m) in
-    let now : kept_at n e.lines ≡ Some (listening (move_of m).next) = kept_then n v.a.kept.line v.a.seen.own.session (heard_by pa.did.row v.a.first) (end_at s p).end.lines v.a.kept.here in
+    let x = v.a.seen.own.session in
+    let next = after_message x.state v.a.first in
+    let now : kept_at n e.lines ≡ Some (listening (move_of m).next) = kept_then n v.a.kept.line x (heard_by row v.a.first) (end_at s p).end.lines v.a.kept.here in
     let held : HasJoined n (record { end = e; held = h }) None = λ y at. (let two : Some (listening (move_of m).next) ≡ Some y = sym now ∙ at in
     let is : listening (move_of m).next ≡ y = cc in
     inl (ap (λ (z : Listener). z.joined) (sym is))) in
-    back_then s p (did_at s p b packet h lines pa).now e h n (after pa.did.row) None v.a.rest (other_lines s p b packet h n (end_at s p).end.lines lines pa (after pa.did.row) None v.a.rest v.stays) held
+    back_then s p (did_at s p b packet h lines pa).now e h n (after row) None next (move_of m).next.state v.a.rest
+    (other_lines s p b packet h n (end_at s p).end.lines lines pa (after row) None next v.a.rest v.stays) held (λ calm. hears_calm row x v.a.first v.a.rest heard v.a.kind calm)
 
 stands_then : MovingLaws → (s : Side) (p : TwoEnds) (b : Between) (t : Tables) (packet : List ℕ) (h : Held) → Stands p b t → (end_at s p).end.carrier.ended ≡ None → (pa : PacketAt s p b packet h) → is_move pa.did.row ≡ true →
     (a : Arriving s p b t (reference_of pa.unit) pa.did.row) → (d : DidThen s p b t packet h pa a) → d.row ≡ pa.did.row → (f : ActsAt s p packet pa.unit (reference_of pa.unit) pa.did.row) →
-    Goes (other s) s (reference_of pa.unit) (with_holding s (EndOf s p b t packet h pa a) h p) d.now (after pa.did.row) a.rest →
+    Goes (other s) s (reference_of pa.unit) (with_holding s (EndOf s p b t packet h pa a) h p) d.now (after pa.did.row) (move_of (moving s p b t (reference_of pa.unit) pa.did.row a)).next.state a.rest →
     Stands (turned_pair s (EndOf s p b t packet h pa a) h (reference_of pa.unit) (move_of (moving s p b t (reference_of pa.unit) pa.did.row a)).shown p) d.now (moved_tables s t (moving s p b t (reference_of pa.unit) pa.did.row a))
 stands_then laws s p b t packet h old alive pa move a d same f back =
     let n = reference_of pa.unit in
@@ -598,6 +639,8 @@ has_moved laws s p b t packet h old run alive pa v move =
     let count = old.given in
     let kept = old.given_then in
     let given = pa.first.given in
+    let takes_out = takes_from laws.takes s t run in
+    let after_it = tables_delivered s n (seen_from (side_in s) a.seen) t (known_by t m) (record { line = moved_line m; shown = (move_of m).shown; closes = false }) a.found in
     record {
       moved = record {
         unit = pa.unit;
@@ -615,12 +658,13 @@ has_moved laws s p b t packet h old run alive pa v move =
         local = f.local;
         kept = kept_then n a.kept.line a.seen.own.session (heard_by row a.first) (end_at s p).end.lines a.kept.here;
         now = d.now;
-        stands = stands_then laws s p b t packet h old alive pa move a d same f (rest_then s p b t packet h pa v);
-        found_now = (tables_delivered s n (seen_from (side_in s) a.seen) t (known_by t m) (record { line = moved_line m; shown = (move_of m).shown; closes = false }) a.found).lines.found;
+        stands = stands_then laws s p b t packet h old alive pa move a d same f (rest_then s p b t packet h pa v heard);
+        found_now = after_it.lines.found;
         opened = λ open_now. opened_then s p b e h n row d f.lasts same open_now;
         agreed = λ open_now. moved_class s p b t e h n a.seen a.first pa.unit row old d pa.first same (as_move row move) a.transport a.kind open_now;
         silent = a.hears.silent;
         sends = a.hears.goes.sends;
+        takes = takes_then s t (moved_tables s t m) n (moved_line m) after_it.lines (takes_out n a.seen a.found) takes_out;
       };
       unit = refl;
       row = refl;

@@ -177,7 +177,7 @@ pub move_unit : (s : Side) (p : TwoEnds) (b : Between) (t : Tables) (packet : Li
     connection_at (reference_of pa.unit) t.lines ≡ Some (seen_from (side_in s) l) → IsSeen s (reference_of pa.unit) p b l →
     (k : MovesBy s p (reference_of pa.unit) l.own.session row input) →
     (d : DidAt s p b (acted_end pa.unit (moved_lines s p (reference_of pa.unit) l.own.session row input k) (end_at s p).end) h (reference_of pa.unit)) → d.row ≡ row → is_move row ≡ true →
-    Goes (other s) s (reference_of pa.unit) (with_holding s (acted_end pa.unit (moved_lines s p (reference_of pa.unit) l.own.session row input k) (end_at s p).end) h p) d.now (after row) xs →
+    Goes (other s) s (reference_of pa.unit) (with_holding s (acted_end pa.unit (moved_lines s p (reference_of pa.unit) l.own.session row input k) (end_at s p).end) h p) d.now (after row) (react l.own.session input).next.state xs →
     d.now.called.given ≤ d.now.caller.given → EndThen s p (acted_end pa.unit (moved_lines s p (reference_of pa.unit) l.own.session row input k) (end_at s p).end) →
     learns t.terms l.own.transport m t.known ≡ option_map class_in (with_holding s (acted_end pa.unit (moved_lines s p (reference_of pa.unit) l.own.session row input k) (end_at s p).end) h p).left.end.carrier.class →
     NextFor s p b t pa.unit h (moved_lines s p (reference_of pa.unit) l.own.session row input k) (reference_of pa.unit) (react l.own.session input).shown
@@ -193,9 +193,9 @@ move_unit s p b t packet h l m xs row input old alive pa found seen k d same mov
     (moved_others s p e n k.line x input refl)
     (subst (λ (r : Row). HasSession n e.lines (after r) (react x input).next) (sym same) (session_then n k.line x input (end_at s p).end.lines (after row) k.here k.ended k.waits k.octets)) seen
     (record {
-      out = subst (λ (ms : List Message). Goes s (other s) n (with_holding s e h p) d.now (progress_of (place_at n (last_of (is_caller (other s)) d.now))) ms)
+      out = subst (λ (ms : List Message). Goes s (other s) n (with_holding s e h p) d.now (progress_of (place_at n (last_of (is_caller (other s)) d.now))) l.peer.session.state ms)
           (ap (λ (r : Row). sends_then r t.broken l.own.channel) same ∙ sends_none row t.broken l.own.channel move) (out_row s p b t e h n l old d seen steady alive);
-      back = subst (λ (r : Row). Goes (other s) s n (with_holding s e h p) d.now (after r) xs) (sym same) back;
+      back = subst (λ (r : Row). Goes (other s) s n (with_holding s e h p) d.now (after r) (react x input).next.state xs) (sym same) back;
     })
     (subst (λ (r : Row). TablesAfter s n t u (react x input).shown (line_then r (react x input).next l.own.channel xs l)) (sym same)
     (tables_delivered s n (seen_from (side_in s) l) t (learns t.terms l.own.transport m t.known) turn found))

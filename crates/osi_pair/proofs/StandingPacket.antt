@@ -41,11 +41,11 @@ use Rattle.osi_pair.specs.Telling.{waiting_in}
 use Rattle.osi_pair.specs.declared.sides.Side.{Side}
 use Rattle.osi_pair.specs.declared.sides.Side.TheVariants.{Left, Right}
 use Rattle.osi_pair.proofs.StandingArrived.{CarrierLaws, PacketActs, packet_acts}
-use Rattle.osi_pair.proofs.StandingBegins.{begun_lines, begun_waits, begins_unit, new_at}
+use Rattle.osi_pair.proofs.StandingBegins.{asks_same, begun_lines, begun_waits, begins_unit, new_at}
 use Rattle.osi_pair.proofs.StandingFinish.{terms_at, DidAt, is_agree, last_is, order_of}
 use Rattle.osi_pair.proofs.StandingHeard.{carried_out, nothing_heard, one_told, lasting}
 use Rattle.osi_pair.proofs.StandingRests.{is_awaited, rests, sends_then}
-use Rattle.osi_pair.proofs.StandingResting.{acted_end, did_at, same_row, was_at, is_rest, EndThen, quiet_unit, rest_unit, FoundLine, line_at, back_none, back_one, back_alone, back_then, over_holds}
+use Rattle.osi_pair.proofs.StandingResting.{acted_end, did_at, same_row, was_at, is_rest, EndThen, quiet_unit, rest_unit, FoundLine, line_at, back_none, back_one, back_alone, back_then, over_holds, over_stays}
 use Rattle.osi_pair.proofs.StandingRows.{Row, quiet, still, begins, refuses, agrees, denies, tells, leaves, ignores, ends, before, after, arrived_in, told_for, is_row}
 use Rattle.osi_pair.proofs.StandingTurned.{with_holding, turned_pair, turned_stands, IsSeen}
 use Rattle.osi_pair.proofs.StandingWays.{Alone, is_tsdu}
@@ -53,6 +53,8 @@ use Rattle.osi_pair.proofs.StandingSeats.{session_of_seat}
 use Rattle.osi_machine.specs.AsTables.{is_leaving}
 use Rattle.osi_pair.specs.Sides.{other}
 use Rattle.osi_carrier.specs.Messages.{kind_of as message_kind}
+use Rattle.osi_session.specs.declared.state.State.{State as SessionState}
+use Rattle.osi_machine.specs.Calm.{after_message, StaysCalm}
 
 -- what is proved of two carriers and of one end
 pub record PacketLaws : Type 0 where
@@ -206,14 +208,14 @@ quiet_packet laws s p b t packet h old alive pa q =
     }
 
 -- the message that came is the first of those that the tables have under way
-abbrev BackThen : (s : Side) (p : TwoEnds) (b : Between) (packet : List ℕ) (h : Held) → (pa : PacketActs (terms_at p) (is_caller s) (carriers_of p) b packet h.octets) → List Message → Type 0
-BackThen s p b packet h pa ms =
+abbrev BackThen : (s : Side) (p : TwoEnds) (b : Between) (packet : List ℕ) (h : Held) → (pa : PacketActs (terms_at p) (is_caller s) (carriers_of p) b packet h.octets) → SessionState → List Message → Type 0
+BackThen s p b packet h pa x ms =
     Goes (other s) s (reference_of pa.unit) (with_holding s (acted_end pa.unit (end_at s p).end.lines (end_at s p).end) h p) (did_at s p b packet h (end_at s p).end.lines pa).now
-    (after (did_at s p b packet h (end_at s p).end.lines pa).row) ms
+    (after (did_at s p b packet h (end_at s p).end.lines pa).row) x ms
 
 rest_packet : PacketLaws → (s : Side) (p : TwoEnds) (b : Between) (t : Tables) (packet : List ℕ) (h : Held) → Stands p b t → (end_at s p).end.carrier.ended ≡ None →
     (pa : PacketActs (terms_at p) (is_caller s) (carriers_of p) b packet h.octets) → (q : IsRestRow pa.did.row (reference_of pa.unit)) → (at : FoundLine s (reference_of pa.unit) p b t) (first : Message) (others : List Message) →
-    at.line.peer.channel ≡ first ∷ others → message_kind (message_in first) ≡ message_kind q.got → BackThen s p b packet h pa others → StandsBehind s p t packet h
+    at.line.peer.channel ≡ first ∷ others → message_kind (message_in first) ≡ message_kind q.got → BackThen s p b packet h pa at.line.own.session.state others → StandsBehind s p t packet h
 rest_packet laws s p b t packet h old alive pa q at first others parts kind back =
     let n = reference_of pa.unit in
     let was = (end_at s p).end in
@@ -241,7 +243,7 @@ rest_packet laws s p b t packet h old alive pa q at first others parts kind back
 
 -- a part of one Data came to an end that ignores it: the tables have it under way until its last part comes
 ignored_packet : PacketLaws → (s : Side) (p : TwoEnds) (b : Between) (t : Tables) (packet : List ℕ) (h : Held) → Stands p b t → (end_at s p).end.carrier.ended ≡ None →
-    (pa : PacketActs (terms_at p) (is_caller s) (carriers_of p) b packet h.octets) → (octets : List ℕ) → pa.did.row ≡ ignores octets → (at : FoundLine s (reference_of pa.unit) p b t) → BackThen s p b packet h pa at.line.peer.channel →
+    (pa : PacketActs (terms_at p) (is_caller s) (carriers_of p) b packet h.octets) → (octets : List ℕ) → pa.did.row ≡ ignores octets → (at : FoundLine s (reference_of pa.unit) p b t) → BackThen s p b packet h pa at.line.own.session.state at.line.peer.channel →
     StandsBehind s p t packet h
 ignored_packet laws s p b t packet h old alive pa octets is at back =
     let n = reference_of pa.unit in
@@ -279,7 +281,7 @@ row_of_pa Right p b packet h pa = pa.did.is
 came_alone : (s : Side) (p : TwoEnds) (b : Between) (t : Tables) (packet : List ℕ) (h : Held) → (end_at s p).end.carrier.ended ≡ None → (pa : PacketActs (terms_at p) (is_caller s) (carriers_of p) b packet h.octets) →
     (q : IsRestRow pa.did.row (reference_of pa.unit)) → (at : FoundLine s (reference_of pa.unit) p b t) → is_tsdu q.got ≡ false →
     Alone (before (did_at s p b packet h (end_at s p).end.lines pa).row) (after (did_at s p b packet h (end_at s p).end.lines pa).row)
-    (is_cut (is_caller (other s)) (carriers_of (with_holding s (acted_end pa.unit (end_at s p).end.lines (end_at s p).end) h p))) (HasJoined (reference_of pa.unit) (end_at s p)) at.line.peer.channel q.got
+    (is_cut (is_caller (other s)) (carriers_of (with_holding s (acted_end pa.unit (end_at s p).end.lines (end_at s p).end) h p))) (HasJoined (reference_of pa.unit) (end_at s p)) at.line.own.session.state at.line.peer.channel q.got
     (under_way (is_caller (other s)) (reference_of pa.unit) (carriers_of (with_holding s (acted_end pa.unit (end_at s p).end.lines (end_at s p).end) h p)) (did_at s p b packet h (end_at s p).end.lines pa).now)
 came_alone s p b t packet h alive pa q at other_kind =
     let lines = (end_at s p).end.lines in
@@ -291,6 +293,13 @@ held_then : (s : Side) (p : TwoEnds) (b : Between) (t : Tables) (n : ℕ) (row :
 held_then s p b t n row l begun old alive stood i shuts =
     let now : progress_of (place_at n (end_at s p).end.carrier) ≡ shutting = ap (λ (c : State). progress_of (place_at n c)) (sym (was_at s p b t old alive)) ∙ stood ∙ shuts in
     over_holds s p n shutting l.own.session begun (order_of s p b t old alive) (session_of_seat n (end_at s p) l.own shutting now i.here) refl
+
+-- and its session takes data, whatever comes before it
+calm_then : (s : Side) (p : TwoEnds) (b : Between) (t : Tables) (n : ℕ) (row : Row) (l : TableLine) (ms : List Message) → Stands p b t → (end_at s p).end.carrier.ended ≡ None →
+    progress_of (place_at n (last_of (is_caller s) b)) ≡ before row → IsSeen s n p b l → before row ≡ shutting → StaysCalm l.own.session.state ms
+calm_then s p b t n row l ms old alive stood i shuts =
+    let now : progress_of (place_at n (end_at s p).end.carrier) ≡ shutting = ap (λ (c : State). progress_of (place_at n c)) (sym (was_at s p b t old alive)) ∙ stood ∙ shuts in
+    over_stays l.own.session ms ((session_of_seat n (end_at s p) l.own shutting now i.here).over_now refl)
 
 stood_at : (s : Side) (p : TwoEnds) (b : Between) (packet : List ℕ) (h : Held) → (pa : PacketActs (terms_at p) (is_caller s) (carriers_of p) b packet h.octets) →
     progress_of (place_at (reference_of pa.unit) (last_of (is_caller s) b)) ≡ before pa.did.row
@@ -419,7 +428,8 @@ resting_packet laws s p b t packet h old alive pa (inl is) =
     let kind : q.got ≡ carrier.ask = got_is pa.did.row n q carrier.ask (ap arrived_in is.1) in
     let sp = came_alone s p b t packet h alive pa q at (ap is_tsdu kind) in
     rest_packet laws s p b t packet h old alive pa q at sp.first sp.others sp.parts sp.kind
-    (back_then s p (did_at s p b packet h lines pa).now e h n (after (did_at s p b packet h lines pa).row) None sp.others sp.stays (sp.alone.held (asks_stays sp.first (sp.kind ∙ ap message_kind kind))))
+    (back_then s p (did_at s p b packet h lines pa).now e h n (after (did_at s p b packet h lines pa).row) None (after_message at.line.own.session.state sp.first) at.line.own.session.state sp.others sp.stays
+    (sp.alone.held (asks_stays sp.first (sp.kind ∙ ap message_kind kind))) (λ calm. subst (λ (x : SessionState). StaysCalm x sp.others) (asks_same at.line.own.session.state sp.first (sp.kind ∙ ap message_kind kind)) calm))
 resting_packet laws s p b t packet h old alive pa (inr (inl is)) =
     let n = reference_of pa.unit in
     let lines = (end_at s p).end.lines in
@@ -429,8 +439,9 @@ resting_packet laws s p b t packet h old alive pa (inr (inl is)) =
     let kind : q.got ≡ is.0 = got_is pa.did.row n q is.0 (ap arrived_in is.1) in
     let sp = came_alone s p b t packet h alive pa q at (ap is_tsdu kind ∙ ends_kind (terms_at p) is.0 (subst (is_row (terms_at p)) is.1 (row_of_pa s p b packet h pa))) in
     rest_packet laws s p b t packet h old alive pa q at sp.first sp.others sp.parts sp.kind
-    (back_then s p (did_at s p b packet h lines pa).now e h n (after (did_at s p b packet h lines pa).row) None sp.others sp.stays
-    (held_then s p b t n pa.did.row at.line None old alive (stood_at s p b packet h pa) at.is (ap before is.1)))
+    (back_then s p (did_at s p b packet h lines pa).now e h n (after (did_at s p b packet h lines pa).row) None (after_message at.line.own.session.state sp.first) at.line.own.session.state sp.others sp.stays
+    (held_then s p b t n pa.did.row at.line None old alive (stood_at s p b packet h pa) at.is (ap before is.1))
+    (λ calm. calm_then s p b t n pa.did.row at.line sp.others old alive (stood_at s p b packet h pa) at.is (ap before is.1)))
 resting_packet laws s p b t packet h old alive pa (inr (inr is)) =
     let n = reference_of pa.unit in
     let lines = (end_at s p).end.lines in
@@ -443,8 +454,10 @@ resting_packet laws s p b t packet h old alive pa (inr (inr is)) =
       | inl sp ↦
           let q : IsRestRow pa.did.row n = subst (λ (r : Row). IsRestRow r n) (sym is.1) (ignores_row n is.0) in
           rest_packet laws s p b t packet h old alive pa q at sp.first sp.others sp.parts (sp.kind ∙ ap message_kind (sym (got_is pa.did.row n q (carrier.message is.0) (ap arrived_in is.1))))
-          (back_then s p d.now e h n (after d.row) None sp.others sp.stays (held None))
-      | inr sp ↦ ignored_packet laws s p b t packet h old alive pa is.0 is.1 at (back_then s p d.now e h n (after d.row) (Some sp.now) at.line.peer.channel sp.stays (held (Some sp.now)))
+          (back_then s p d.now e h n (after d.row) None (after_message at.line.own.session.state sp.first) at.line.own.session.state sp.others sp.stays (held None)
+          (λ calm. calm_then s p b t n pa.did.row at.line sp.others old alive (stood_at s p b packet h pa) at.is (ap before is.1)))
+      | inr sp ↦ ignored_packet laws s p b t packet h old alive pa is.0 is.1 at (back_then s p d.now e h n (after d.row) (Some sp.now) at.line.own.session.state at.line.own.session.state at.line.peer.channel sp.stays (held (Some sp.now))
+          (λ calm. calm))
     ]
 
 by_kind : PacketLaws → (s : Side) (p : TwoEnds) (b : Between) (t : Tables) (packet : List ℕ) (h : Held) → Stands p b t → (end_at s p).end.carrier.ended ≡ None →

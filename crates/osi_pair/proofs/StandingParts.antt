@@ -149,11 +149,11 @@ part_unit laws s p b t packet h old alive pa v f =
     finish s p b t t e h n [] l x l.own.channel l.peer.channel old alive d f.lasts f.local (same_role laws.packet s p b t e h n old alive d f.lasts) pa.first.given (laws.packet.behind _ _ d.now d.between)
     (part_order laws s p b t packet h old alive pa v f) waits (part_others s p b t packet h pa v) (subst (λ (r : Row). HasSession n lines (after r) x) (sym row) (part_has s p b t packet h pa v octets)) v.stands
     (record {
-      out = subst (λ (ms : List Message). Goes s (other s) n (with_holding s e h p) d.now (progress_of (place_at n (last_of (is_caller (other s)) d.now))) ms) (ap (λ (r : Row). sends_then r t.broken l.own.channel) row)
+      out = subst (λ (ms : List Message). Goes s (other s) n (with_holding s e h p) d.now (progress_of (place_at n (last_of (is_caller (other s)) d.now))) l.peer.session.state ms) (ap (λ (r : Row). sends_then r t.broken l.own.channel) row)
           (out_row s p b t e h n l old d v.stands steady alive);
-      back = subst (λ (r : Row). Goes (other s) s n (with_holding s e h p) d.now (after r) l.peer.channel) (sym same)
-          (back_then s p d.now e h n (after pa.did.row) (Some v.now) l.peer.channel (other_lines s p b packet h n (end_at s p).end.lines lines pa (after pa.did.row) (Some v.now) l.peer.channel v.stays)
-          (part_holds s p b t packet h pa v));
+      back = subst (λ (r : Row). Goes (other s) s n (with_holding s e h p) d.now (after r) x.state l.peer.channel) (sym same)
+          (back_then s p d.now e h n (after pa.did.row) (Some v.now) x.state x.state l.peer.channel (other_lines s p b packet h n (end_at s p).end.lines lines pa (after pa.did.row) (Some v.now) x.state l.peer.channel v.stays)
+          (part_holds s p b t packet h pa v) (λ calm. calm));
     })
     (subst (λ (m : TableLine). TablesAfter s n t t [] m) (sym (line_same d.row l tr)) (tables_rest s n l t v.found))
     (known_then s p b t e h n old alive d f.lasts pa.first.given (ap is_agree row))

@@ -39,6 +39,9 @@ use Rattle.osi_session.specs.Kept.{discards}
 use Rattle.osi_session.specs.Phases.{is_ended, is_over}
 use Rattle.osi_session.proofs.PhaseLaws.{implied}
 use Rattle.osi_session.proofs.KeptLaws.{gone_is}
+use Rattle.osi_session.specs.declared.state.State.{State as SessionState}
+use Rattle.osi_machine.specs.Calm.{StaysCalm}
+use Rattle.osi_machine.proofs.CalmLaws.{over_calm}
 
 -- ---- the end that took the unit
 
@@ -129,7 +132,7 @@ sends_is (ends m) broken channel e = none_sent broken channel
 
 pub out_row : (s : Side) (p : TwoEnds) (b : Between) (t : Tables) (e : End) (h : Held) (n : ℕ) (l : TableLine) → Stands p b t → (d : DidAt s p b e h n) → IsSeen s n p b l → leaves_use (before d.row) (after d.row) ≡ false →
     (end_at s p).end.carrier.ended ≡ None →
-    Goes s (other s) n (with_holding s e h p) d.now (progress_of (place_at n (last_of (is_caller (other s)) d.now))) (sends_then d.row t.broken l.own.channel)
+    Goes s (other s) n (with_holding s e h p) d.now (progress_of (place_at n (last_of (is_caller (other s)) d.now))) l.peer.session.state (sends_then d.row t.broken l.own.channel)
 out_row s p b t e h n l old d i stays alive =
     let there = place_at n (last_of (is_caller (other s)) b) in
     let lasts = (end_at (other s) p).end.carrier.ended in
@@ -137,68 +140,68 @@ out_row s p b t e h n l old d i stays alive =
     let new = under_way (is_caller s) n (carriers_of now) d.now in
     let puts = unless_broken t.broken (answer_for d.row) in
     let free = cut_none s p t.broken old.broken alive in
-    let all : GoesTo s (end_at (other s) p) n now d.now (progress_of there) (l.own.channel ++ puts) =
-    out_keeps lasts there (is_cut (is_caller s) (carriers_of p)) (is_cut (is_caller s) (carriers_of now)) (HasJoined n (end_at (other s) p)) l.own.channel puts (under_way (is_caller s) n (carriers_of p) b) new d.stays d.gone
+    let all : GoesTo s (end_at (other s) p) n now d.now (progress_of there) l.peer.session.state (l.own.channel ++ puts) =
+    out_keeps lasts there (is_cut (is_caller s) (carriers_of p)) (is_cut (is_caller s) (carriers_of now)) (HasJoined n (end_at (other s) p)) l.peer.session.state l.own.channel puts (under_way (is_caller s) n (carriers_of p) b) new d.stays d.gone
     (put_in (carriers_of p) (put_for d.row)) i.out (spare_by t.broken (is_cut (is_caller s) (carriers_of p)) (answer_for d.row) free) (end_out s (record { end = e; held = h }) p alive)
     d.out_before d.out_after (d.keeps stays) (answers_same t.broken (is_some (carriers_of p).reach) d.row (broken_is p b t old)) in
-    out_there s p d.now e h n (progress_of (place_at n (last_of (is_caller (other s)) d.now))) (sends_then d.row t.broken l.own.channel)
-    (subst (λ (q : Place). GoesTo s (end_at (other s) p) n now d.now (progress_of q) (sends_then d.row t.broken l.own.channel)) (sym (d.there n))
-    (subst (λ (ms : List Message). GoesTo s (end_at (other s) p) n now d.now (progress_of there) ms) (sym (sends_is d.row t.broken l.own.channel stays)) all))
+    out_there s p d.now e h n (progress_of (place_at n (last_of (is_caller (other s)) d.now))) l.peer.session.state (sends_then d.row t.broken l.own.channel)
+    (subst (λ (q : Place). GoesTo s (end_at (other s) p) n now d.now (progress_of q) l.peer.session.state (sends_then d.row t.broken l.own.channel)) (sym (d.there n))
+    (subst (λ (ms : List Message). GoesTo s (end_at (other s) p) n now d.now (progress_of there) l.peer.session.state ms) (sym (sends_is d.row t.broken l.own.channel stays)) all))
 
 -- ---- what is under way to it
 
 -- no message arrived
 pub back_none : (s : Side) (p : TwoEnds) (b : Between) (e : End) (h : Held) (n : ℕ) (l : TableLine) → (d : DidAt s p b e h n) → IsSeen s n p b l → (end_at s p).end.carrier.ended ≡ None → arrived_in d.row ≡ [] →
-    before d.row ≡ after d.row → ((y : Listener) → kept_at n e.lines ≡ Some y → kept_at n (end_at s p).end.lines ≡ Some y) → Goes (other s) s n (with_holding s e h p) d.now (after d.row) l.peer.channel
+    before d.row ≡ after d.row → ((y : Listener) → kept_at n e.lines ≡ Some y → kept_at n (end_at s p).end.lines ≡ Some y) → Goes (other s) s n (with_holding s e h p) d.now (after d.row) l.own.session.state l.peer.channel
 back_none s p b e h n l d i alive none same kept =
     let now = place_at n (last_of (is_caller s) d.now) in
     let two = with_holding s e h p in
     let new = under_way (is_caller (other s)) n (carriers_of two) d.now in
-    subst (λ (g : Progress). Goes (other s) s n two d.now g l.peer.channel) d.stands
-    (back_here s p d.now e h n (progress_of now) l.peer.channel
+    subst (λ (g : Progress). Goes (other s) s n two d.now g l.own.session.state l.peer.channel) d.stands
+    (back_here s p d.now e h n (progress_of now) l.own.session.state l.peer.channel
     (back_waits (end_at s p).end.carrier.ended e.carrier.ended (progress_of (place_at n (last_of (is_caller s) b))) now (is_cut (is_caller (other s)) (carriers_of p)) (is_cut (is_caller (other s)) (carriers_of two))
-    (HasJoined n (end_at s p)) (HasJoined n (record { end = e; held = h })) l.peer.channel (under_way (is_caller (other s)) n (carriers_of p) b) new (λ x. ap shuts (d.stands ∙ sym same ∙ sym d.stood) ∙ x)
+    (HasJoined n (end_at s p)) (HasJoined n (record { end = e; held = h })) l.own.session.state l.peer.channel (under_way (is_caller (other s)) n (carriers_of p) b) new (λ x. ap shuts (d.stands ∙ sym same ∙ sym d.stood) ∙ x)
     i.back alive (end_back s (record { end = e; held = h }) p) (λ x held y at. held y (kept y at))
     (subst (λ (ms : List carrier.Message). AreLike (connection_in now) (under_way (is_caller (other s)) n (carriers_of p) b) (ms ++ new)) none d.came)))
 
 -- one did
 pub back_one : (s : Side) (p : TwoEnds) (b : Between) (e : End) (h : Held) (n : ℕ) (l : TableLine) (got : carrier.Message) → (d : DidAt s p b e h n) → IsSeen s n p b l → (end_at s p).end.carrier.ended ≡ None →
     arrived_in d.row ≡ got ∷ [] →
-    Comes (before d.row) (after d.row) (is_cut (is_caller (other s)) (carriers_of (with_holding s e h p))) (HasJoined n (end_at s p)) l.peer.channel got (under_way (is_caller (other s)) n (carriers_of (with_holding s e h p)) d.now)
+    Comes (before d.row) (after d.row) (is_cut (is_caller (other s)) (carriers_of (with_holding s e h p))) (HasJoined n (end_at s p)) l.own.session.state l.peer.channel got (under_way (is_caller (other s)) n (carriers_of (with_holding s e h p)) d.now)
 back_one s p b e h n l got d i alive one =
     let two = with_holding s e h p in
     let new = under_way (is_caller (other s)) n (carriers_of two) d.now in
     back_comes d.row (end_at s p).end.carrier.ended (place_at n (last_of (is_caller s) b)) (place_at n (last_of (is_caller s) d.now)) (is_cut (is_caller (other s)) (carriers_of p))
-    (is_cut (is_caller (other s)) (carriers_of two)) (HasJoined n (end_at s p)) l.peer.channel got (under_way (is_caller (other s)) n (carriers_of p) b) new d.stood d.stands i.back alive (end_back s (record { end = e; held = h }) p)
+    (is_cut (is_caller (other s)) (carriers_of two)) (HasJoined n (end_at s p)) l.own.session.state l.peer.channel got (under_way (is_caller (other s)) n (carriers_of p) b) new d.stood d.stands i.back alive (end_back s (record { end = e; held = h }) p)
     (subst (λ (ms : List carrier.Message). AreLike (connection_in (place_at n (last_of (is_caller s) d.now))) (under_way (is_caller (other s)) n (carriers_of p) b) (ms ++ new)) one d.came)
 
 -- that is no TSDU
 pub back_alone : (s : Side) (p : TwoEnds) (b : Between) (e : End) (h : Held) (n : ℕ) (l : TableLine) (got : carrier.Message) → (d : DidAt s p b e h n) → IsSeen s n p b l → (end_at s p).end.carrier.ended ≡ None →
     arrived_in d.row ≡ got ∷ [] → is_tsdu got ≡ false →
-    Alone (before d.row) (after d.row) (is_cut (is_caller (other s)) (carriers_of (with_holding s e h p))) (HasJoined n (end_at s p)) l.peer.channel got (under_way (is_caller (other s)) n (carriers_of (with_holding s e h p)) d.now)
+    Alone (before d.row) (after d.row) (is_cut (is_caller (other s)) (carriers_of (with_holding s e h p))) (HasJoined n (end_at s p)) l.own.session.state l.peer.channel got (under_way (is_caller (other s)) n (carriers_of (with_holding s e h p)) d.now)
 back_alone s p b e h n l got d i alive one other_kind =
-    alone_of (before d.row) (after d.row) (is_cut (is_caller (other s)) (carriers_of (with_holding s e h p))) (HasJoined n (end_at s p)) l.peer.channel got
+    alone_of (before d.row) (after d.row) (is_cut (is_caller (other s)) (carriers_of (with_holding s e h p))) (HasJoined n (end_at s p)) l.own.session.state l.peer.channel got
     (under_way (is_caller (other s)) n (carriers_of (with_holding s e h p)) d.now) other_kind (back_one s p b e h n l got d i alive one)
 
 -- what is under way to an end behind the first, where its lines are these
-pub back_then : (s : Side) (p : TwoEnds) (c : Between) (e : End) (h : Held) (n : ℕ) (g : Progress) (begun : Option (List ℕ)) (ms : List Message) →
-    BehindFirst g (is_cut (is_caller (other s)) (carriers_of (with_holding s e h p))) begun ms (under_way (is_caller (other s)) n (carriers_of (with_holding s e h p)) c) → HasJoined n (record { end = e; held = h }) begun →
-    Goes (other s) s n (with_holding s e h p) c g ms
-back_then s p c e h n g begun ms way held =
-    back_here s p c e h n g ms
-    (behind_first e.carrier.ended g (is_cut (is_caller (other s)) (carriers_of (with_holding s e h p))) (HasJoined n (record { end = e; held = h })) begun ms
-    (under_way (is_caller (other s)) n (carriers_of (with_holding s e h p)) c) way held)
+pub back_then : (s : Side) (p : TwoEnds) (c : Between) (e : End) (h : Held) (n : ℕ) (g : Progress) (begun : Option (List ℕ)) (x y : SessionState) (ms : List Message) →
+    BehindFirst g (is_cut (is_caller (other s)) (carriers_of (with_holding s e h p))) begun x ms (under_way (is_caller (other s)) n (carriers_of (with_holding s e h p)) c) → HasJoined n (record { end = e; held = h }) begun →
+    (StaysCalm x ms → StaysCalm y ms) → Goes (other s) s n (with_holding s e h p) c g y ms
+back_then s p c e h n g begun x y ms way held calms =
+    back_here s p c e h n g y ms
+    (behind_first e.carrier.ended g (is_cut (is_caller (other s)) (carriers_of (with_holding s e h p))) (HasJoined n (record { end = e; held = h })) begun x y ms
+    (under_way (is_caller (other s)) n (carriers_of (with_holding s e h p)) c) way held calms)
 
 -- its lines make no difference to what is under way
 pub other_lines : (s : Side) (p : TwoEnds) (b : Between) (packet : List ℕ) (h : Held) (n : ℕ) (lines more : Rows Line) → (pa : PacketActs (terms_at p) (is_caller s) (carriers_of p) b packet h.octets) → (g : Progress)
-    (begun : Option (List ℕ)) (ms : List Message) →
-    BehindFirst g (is_cut (is_caller (other s)) (carriers_of (with_holding s (acted_end pa.unit lines (end_at s p).end) h p))) begun ms
+    (begun : Option (List ℕ)) (x : SessionState) (ms : List Message) →
+    BehindFirst g (is_cut (is_caller (other s)) (carriers_of (with_holding s (acted_end pa.unit lines (end_at s p).end) h p))) begun x ms
     (under_way (is_caller (other s)) n (carriers_of (with_holding s (acted_end pa.unit lines (end_at s p).end) h p)) (did_at s p b packet h lines pa).now) →
-    BehindFirst g (is_cut (is_caller (other s)) (carriers_of (with_holding s (acted_end pa.unit more (end_at s p).end) h p))) begun ms
+    BehindFirst g (is_cut (is_caller (other s)) (carriers_of (with_holding s (acted_end pa.unit more (end_at s p).end) h p))) begun x ms
     (under_way (is_caller (other s)) n (carriers_of (with_holding s (acted_end pa.unit more (end_at s p).end) h p)) (did_at s p b packet h more pa).now)
 unfolding did_at
-other_lines Left p b packet h n lines more pa g begun ms way = way
-other_lines Right p b packet h n lines more pa g begun ms way = way
+other_lines Left p b packet h n lines more pa g begun x ms way = way
+other_lines Right p b packet h n lines more pa g begun x ms way = way
 
 -- ---- all of it
 
@@ -210,6 +213,10 @@ over_holds s p n g x begun order h parts y at =
     let over : is_ended y.state.phase ≡ true = ap (λ (z : Listener). is_ended z.state.phase) same ∙ h.over_now parts in
     let off : discards y.state.phase ≡ true = discards_over y.state.phase (implied is_ended is_over refl y.state.phase over) in
     inr (gone_is y.state.phase y.joined off (kept_of n y (end_at s p).end order at).phase, off)
+
+-- and data is no fault to it
+pub over_stays : (x : Standing) (ms : List Message) → is_ended x.state.phase ≡ true → StaysCalm x.state ms
+over_stays x ms ended = over_calm x.state ms (implied is_ended is_over refl x.state.phase ended)
 
 -- what is said of the end that took it beside its connection
 pub record EndThen (s : Side) (p : TwoEnds) (e : End) : Type 0 where
@@ -246,7 +253,7 @@ NextFor s p b t u h lines n shown new now = Turned s p b t (acted_end u lines (e
 -- no message of the tables arrived: they stay
 pub quiet_unit : (s : Side) (p : TwoEnds) (b : Between) (t : Tables) (packet : List ℕ) (h : Held) → Stands p b t → (end_at s p).end.carrier.ended ≡ None →
     (pa : PacketActs (terms_at p) (is_caller s) (carriers_of p) b packet h.octets) → (d : DidAt s p b (acted_end pa.unit (end_at s p).end.lines (end_at s p).end) h (reference_of pa.unit)) →
-    (at : FoundLine s (reference_of pa.unit) p b t) → Goes (other s) s (reference_of pa.unit) (with_holding s (acted_end pa.unit (end_at s p).end.lines (end_at s p).end) h p) d.now (after d.row) at.line.peer.channel →
+    (at : FoundLine s (reference_of pa.unit) p b t) → Goes (other s) s (reference_of pa.unit) (with_holding s (acted_end pa.unit (end_at s p).end.lines (end_at s p).end) h p) d.now (after d.row) at.line.own.session.state at.line.peer.channel →
     before d.row ≡ after d.row → is_rest d.row ≡ true → is_agree d.row ≡ false → leaves_use (before d.row) (after d.row) ≡ false →
     ((broken : Bool) (channel : List Message) → sends_then d.row broken channel ≡ channel) → d.now.called.given ≤ d.now.caller.given →
     EndThen s p (acted_end pa.unit (end_at s p).end.lines (end_at s p).end) →
@@ -259,7 +266,7 @@ quiet_unit s p b t packet h old alive pa d at back same rest agree stays sends b
     finish s p b t t e h n [] l l.own.session l.own.channel l.peer.channel old alive d new.lasts new.local new.role pa.first.given behind new.order new.waits (same_sessions s p pa.unit n)
     (session_rests n (end_at s p).end.lines d.row l.own.session rest (session_before s p b t e h n l old alive d at.is)) at.is
     (record {
-      out = subst (λ (ms : List Message). Goes s (other s) n (with_holding s e h p) d.now (progress_of (place_at n (last_of (is_caller (other s)) d.now))) ms)
+      out = subst (λ (ms : List Message). Goes s (other s) n (with_holding s e h p) d.now (progress_of (place_at n (last_of (is_caller (other s)) d.now))) l.peer.session.state ms)
           (sends t.broken l.own.channel) (out_row s p b t e h n l old d at.is stays alive);
       back = back;
     })
@@ -270,7 +277,7 @@ quiet_unit s p b t packet h old alive pa d at back same rest agree stays sends b
 pub rest_unit : (s : Side) (p : TwoEnds) (b : Between) (t : Tables) (packet : List ℕ) (h : Held) (got : carrier.Message) → Stands p b t → (end_at s p).end.carrier.ended ≡ None → end_of (side_in s) t ≡ None →
     (pa : PacketActs (terms_at p) (is_caller s) (carriers_of p) b packet h.octets) → (d : DidAt s p b (acted_end pa.unit (end_at s p).end.lines (end_at s p).end) h (reference_of pa.unit)) →
     (at : FoundLine s (reference_of pa.unit) p b t) (first : Message) (rest : List Message) → at.line.peer.channel ≡ first ∷ rest → kind_of (message_in first) ≡ kind_of got →
-    Goes (other s) s (reference_of pa.unit) (with_holding s (acted_end pa.unit (end_at s p).end.lines (end_at s p).end) h p) d.now (after d.row) rest →
+    Goes (other s) s (reference_of pa.unit) (with_holding s (acted_end pa.unit (end_at s p).end.lines (end_at s p).end) h p) d.now (after d.row) at.line.own.session.state rest →
     arrived_in d.row ≡ got ∷ [] → is_rest d.row ≡ true → rests d.row ≡ true → is_agree d.row ≡ false → is_awaited d.row ≡ false → leaves_use (before d.row) (after d.row) ≡ false → d.now.called.given ≤ d.now.caller.given →
     EndThen s p (acted_end pa.unit (end_at s p).end.lines (end_at s p).end) →
     NextFor s p b t pa.unit h (end_at s p).end.lines (reference_of pa.unit) [] (step t (delivers (side_in s) (reference_of pa.unit) (λ r. 0))) d.now

@@ -86,7 +86,7 @@ stays_open g h e f = ap (λ (x : Progress). leaves_use x h) e ∙ ap (λ (x : Pr
 
 out_sends : (s : Side) (p : TwoEnds) (b : Between) (t : Tables) (n : ℕ) (m : Meaning) (l : Line) → Stands p b t → (end_at s p).end.carrier.ended ≡ None → (a : SendActs s p b n (written m)) →
     IsInOrder (end_with s (sent n (written m) (end_at s p).end.carrier) p) → IsSeen s n p b l →
-    OutNow s n p b (pair_with s (sent n (written m) (end_at s p).end.carrier) p) a.now (put t.broken (unit m ∷ []) l.own.channel)
+    OutNow s n p b (pair_with s (sent n (written m) (end_at s p).end.carrier) p) a.now l.peer.session.state (put t.broken (unit m ∷ []) l.own.channel)
 out_sends s p b t n m l old alive a order i =
     let c = sent n (written m) (end_at s p).end.carrier in
     let place = place_at n (last_of (is_caller (other s)) b) in
@@ -95,8 +95,8 @@ out_sends s p b t n m l old alive a order i =
     let none = a.ways.keeps (stays_open _ _ (stood_in_use s p b t n in_use c sends old alive a) (stands_now s p b n in_use c sends a order)) in
     let lasts = (end_at (other s) p).end.carrier.ended in
     let two = pair_with s c p in
-    subst (λ (ms : List Message). GoesTo s (end_at (other s) p) n two a.now (progress_of place) ms) (sym (put_unless t.broken (unit m ∷ []) l.own.channel))
-    (out_keeps lasts place (is_cut (is_caller s) (carriers_of p)) (is_cut (is_caller s) (carriers_of two)) (HasJoined n (end_at (other s) p)) l.own.channel (unless_broken t.broken (unit m ∷ [])) (under_way (is_caller s) n (carriers_of p) b) new
+    subst (λ (ms : List Message). GoesTo s (end_at (other s) p) n two a.now (progress_of place) l.peer.session.state ms) (sym (put_unless t.broken (unit m ∷ []) l.own.channel))
+    (out_keeps lasts place (is_cut (is_caller s) (carriers_of p)) (is_cut (is_caller s) (carriers_of two)) (HasJoined n (end_at (other s) p)) l.peer.session.state l.own.channel (unless_broken t.broken (unit m ∷ [])) (under_way (is_caller s) n (carriers_of p) b) new
     a.ways.stays a.ways.gone (put_in (carriers_of p) sends) i.out (spare_by t.broken (is_cut (is_caller s) (carriers_of p)) (unit m ∷ []) (cut_none s p t.broken old.broken alive))
     (end_out s (record { end = end_with s c p; held = (end_at s p).held }) p alive) a.ways.before a.ways.after none
     (unless_same t.broken (is_some (carriers_of p).reach) (unit m ∷ []) sends (broken_is p b t old) refl))

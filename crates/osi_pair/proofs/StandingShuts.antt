@@ -36,6 +36,7 @@ use Rattle.osi_pair.proofs.StandingAnswering.{AnswerLaws, closes_alone, known_ze
 use Rattle.osi_pair.proofs.StandingAnswers.{answered_end, line_with, closing_by, move_ends, linked_closes, moved_order}
 use Rattle.osi_pair.proofs.StandingArrived.{CarrierLaws, PacketActs}
 use Rattle.osi_pair.proofs.StandingCall.{put_nothing}
+use Rattle.osi_pair.proofs.StandingAhead.{TakesFrom}
 use Rattle.osi_pair.proofs.StandingEnded.{lost_end, ended_stands, may_end, all_shown_then, none_left, EndsOn}
 use Rattle.osi_pair.proofs.StandingFinish.{terms_at, line_then}
 use Rattle.osi_pair.proofs.StandingListens.{as_made}
@@ -94,21 +95,21 @@ says_so s before n shown lines last waits alone =
     ∙ shown_apart s before (map (λ x. (n, x)) shown) (waiting_in (all_lost (quieted lines))) last
 
 zero_stands : (s : Side) (p : TwoEnds) (a : State) (lines : Rows Line) (h : Held) (n : ℕ) (shown : List Shown) (now : Between) (t : Tables) →
-    Stands (turned_pair s (record { carrier = a; lines = quieted lines }) h n shown p) now t → a.ended ≡ None → waiting_in lines ≡ map (λ x. (n, x)) shown → IsAlone lines →
+    Stands (turned_pair s (record { carrier = a; lines = quieted lines }) h n shown p) now t → TakesFrom s t → a.ended ≡ None → waiting_in lines ≡ map (λ x. (n, x)) shown → IsAlone lines →
     EndsOn s (shown_pair s (lost_end Closed a lines) h p) now closed_here t
-zero_stands Left p a lines h n shown now t old lasts waits alone =
+zero_stands Left p a lines h n shown now t old takes lasts waits alone =
     let e : End = record { carrier = a; lines = quieted lines } in
     let p1 = turned_pair Left e h n shown p in
     let says = all_shown_then Left p1 now t old lasts in
     ended_stands Left p1 now t t e h now Closed closed_here (quieted (all_lost lines)) h (waiting_in (all_lost (quieted lines)))
-    (p.journal ++ (shown_entries Left (waiting_in (all_lost lines)) ++ ends Left Closed ∷ [])) old (may_end Left p1 now t old lasts) refl (λ q. none_left q lines)
+    (p.journal ++ (shown_entries Left (waiting_in (all_lost lines)) ++ ends Left Closed ∷ [])) old (may_end Left p1 now t old takes lasts) refl (λ q. none_left q lines)
     (record { quiet = quiet_waits (all_lost lines); says = says.says }) (says_so Left p.journal n shown lines (ends Left Closed ∷ []) waits alone)
-zero_stands Right p a lines h n shown now t old lasts waits alone =
+zero_stands Right p a lines h n shown now t old takes lasts waits alone =
     let e : End = record { carrier = a; lines = quieted lines } in
     let p1 = turned_pair Right e h n shown p in
     let says = all_shown_then Right p1 now t old lasts in
     ended_stands Right p1 now t t e h now Closed closed_here (quieted (all_lost lines)) h (waiting_in (all_lost (quieted lines)))
-    (p.journal ++ (shown_entries Right (waiting_in (all_lost lines)) ++ ends Right Closed ∷ [])) old (may_end Right p1 now t old lasts) refl (λ q. none_left q lines)
+    (p.journal ++ (shown_entries Right (waiting_in (all_lost lines)) ++ ends Right Closed ∷ [])) old (may_end Right p1 now t old takes lasts) refl (λ q. none_left q lines)
     (record { quiet = quiet_waits (all_lost lines); says = says.says }) (says_so Right p.journal n shown lines (ends Right Closed ∷ []) waits alone)
 
 -- ---- the carrier
@@ -153,7 +154,7 @@ shut_shown laws s p t packet h v zero known closing reply =
     let acts : answers n 0 (as_made (move_of v.m)) e.carrier ≡ carriers.ends Closed e.carrier =
     ap (λ (b : Bool). answers_by b n (tsdus_sent 0 (move_of v.m).reply) e.carrier) closing ∙ closes_carrier laws s p e h n shown v.now open_now.peer open_now.link between v.lasts open_now.at in
     let same : after_packet (end_at s p).end packet ≡ lost_end Closed e.carrier lines = v.does ∙ ap (λ (k : State). concludes (answered_end k lines)) acts in
-    let done = zero_stands s p e.carrier lines h n shown v.now (moved_tables s t v.m) v.stands v.lasts v.waits alone in
+    let done = zero_stands s p e.carrier lines h n shown v.now (moved_tables s t v.m) v.stands v.takes v.lasts v.waits alone in
     let keep = done.keep in
     subst (λ (x : End). StandsShown s p t x h) (sym same)
     (record {

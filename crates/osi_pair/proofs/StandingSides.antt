@@ -29,8 +29,8 @@ use Rattle.osi_pair.proofs.StandingWays.{way_same}
 pub record SeenLine (side : Side) (n : ℕ) (p : TwoEnds) (b : Between) (l : Line) : Type 0 where
   pub own : IsSeated n (end_at side p) l.own
   pub peer : IsSeated n (end_at (other side) p) l.peer
-  pub out : IsUnderWay side (other side) n p b l.own
-  pub back : IsUnderWay (other side) side n p b l.peer
+  pub out : IsUnderWay side (other side) n p b l.own l.peer
+  pub back : IsUnderWay (other side) side n p b l.peer l.own
 
 pub seen : (side : Side) (n : ℕ) (p : TwoEnds) (b : Between) (l : Line) → IsLine n p b l → SeenLine side n p b (seen_from (side_in side) l)
 seen Left n p b l h = record { own = h.left; peer = h.right; out = h.rightward; back = h.leftward }
@@ -103,16 +103,16 @@ pub other_line : (terms : Terms) (side : Side) (q r : ℕ) (p new : TwoEnds) (b 
 other_line terms Left q r p new b c taken messages l k apart there alive reach left h = record {
   own = seated_there q p.left new.left l.own left h.own;
   peer = subst (λ (x : Holding). IsSeated q x l.peer) (sym there) h.peer;
-  out = way_same _ _ _ _ _ _ (HasJoined q p.right) (HasJoined q new.right) _ _ _ (λ e. ap (λ (x : Holding). x.end.carrier.ended) (sym there) ∙ e) (ap (λ s. progress_of (place_at q s)) k.there) (cut_out Left p new reach alive)
+  out = way_same _ _ _ _ _ _ (HasJoined q p.right) (HasJoined q new.right) _ _ _ _ (λ e. ap (λ (x : Holding). x.end.carrier.ended) (sym there) ∙ e) (ap (λ s. progress_of (place_at q s)) k.there) (cut_out Left p new reach alive)
       (λ x held. subst (λ (y : Holding). HasJoined q y x) (sym there) held) (k.others q apart true) h.out;
-  back = way_same _ _ _ _ _ _ (HasJoined q p.left) (HasJoined q new.left) _ _ _ (λ e. alive) (ap progress_of (k.other_places q apart)) (cut_back Left p new reach there) (λ x held y at. held y (left.kept y at)) (k.others q apart false) h.back;
+  back = way_same _ _ _ _ _ _ (HasJoined q p.left) (HasJoined q new.left) _ _ _ _ (λ e. alive) (ap progress_of (k.other_places q apart)) (cut_back Left p new reach there) (λ x held y at. held y (left.kept y at)) (k.others q apart false) h.back;
 }
 other_line terms Right q r p new b c taken messages l k apart there alive reach left h = record {
   own = seated_there q p.right new.right l.own left h.own;
   peer = subst (λ (x : Holding). IsSeated q x l.peer) (sym there) h.peer;
-  out = way_same _ _ _ _ _ _ (HasJoined q p.left) (HasJoined q new.left) _ _ _ (λ e. ap (λ (x : Holding). x.end.carrier.ended) (sym there) ∙ e) (ap (λ s. progress_of (place_at q s)) k.there) (cut_out Right p new reach alive)
+  out = way_same _ _ _ _ _ _ (HasJoined q p.left) (HasJoined q new.left) _ _ _ _ (λ e. ap (λ (x : Holding). x.end.carrier.ended) (sym there) ∙ e) (ap (λ s. progress_of (place_at q s)) k.there) (cut_out Right p new reach alive)
       (λ x held. subst (λ (y : Holding). HasJoined q y x) (sym there) held) (k.others q apart false) h.out;
-  back = way_same _ _ _ _ _ _ (HasJoined q p.right) (HasJoined q new.right) _ _ _ (λ e. alive) (ap progress_of (k.other_places q apart)) (cut_back Right p new reach there) (λ x held y at. held y (left.kept y at)) (k.others q apart true) h.back;
+  back = way_same _ _ _ _ _ _ (HasJoined q p.right) (HasJoined q new.right) _ _ _ _ (λ e. alive) (ap progress_of (k.other_places q apart)) (cut_back Right p new reach there) (λ x held y at. held y (left.kept y at)) (k.others q apart true) h.back;
 }
 
 -- ---- lines

@@ -40,6 +40,7 @@ use Rattle.osi_pair.proofs.StandingAnswering.{opened_stays}
 use Rattle.osi_pair.proofs.StandingArrived.{PacketActs, packet_acts}
 use Rattle.osi_pair.proofs.StandingBreak.{still_seated}
 use Rattle.osi_pair.proofs.StandingCall.{put_nothing}
+use Rattle.osi_pair.proofs.StandingAhead.{TakeLaws, takes_from}
 use Rattle.osi_pair.proofs.StandingEnded.{EndingLine, lost_end, all_shown_then, whole_line}
 use Rattle.osi_pair.proofs.StandingEnding.{still_waiting}
 use Rattle.osi_pair.proofs.StandingFinish.{terms_at, TablesAfter, line_then, is_agree, order_of, known_then}
@@ -58,6 +59,17 @@ use Rattle.osi_pair.proofs.StandingWant.{alone_shown, behind_shown, ended_shown,
 use Rattle.osi_pair.proofs.StandingLeaves.{out_leaves}
 use Rattle.osi_carrier.specs.Messages.{kind_of}
 
+-- ---- what the tables say of the other side
+
+-- tables that came about take one delivery more
+pub run_more : (t u : Tables) (who : machine.Side) (n : ℕ) (cut : ℕ → ℕ) → step t (delivers who n cut) ≡ u → IsTableRun t → IsTableRun u
+run_more t u who n cut is run = record {
+  agreed = run.agreed;
+  steps = run.steps ++ delivers who n cut ∷ [];
+  numbered = number_one run.steps (delivers who n cut) run.numbered tt;
+  reached = run_one _ run.steps (delivers who n cut) ∙ ap (λ (v : Tables). step v (delivers who n cut)) run.reached ∙ is;
+}
+
 -- ---- the tables take nothing
 
 record IsLone (row : Row) : Type 0 where
@@ -72,9 +84,9 @@ tells_lone octets = record { given = refl; agree = refl; stays = refl; sends = �
 denies_lone : (reason : ℕ) → IsLone (denies reason)
 denies_lone reason = record { given = refl; agree = refl; stays = refl; sends = λ b c. refl }
 
-lone_shown : PacketLaws → (s : Side) (p : TwoEnds) (b : Between) (t : Tables) (packet : List ℕ) (h held : Held) → Stands p b t → (end_at s p).end.carrier.ended ≡ None →
+lone_shown : PacketLaws → TakeLaws → (s : Side) (p : TwoEnds) (b : Between) (t : Tables) (packet : List ℕ) (h held : Held) → Stands p b t → IsTableRun t → (end_at s p).end.carrier.ended ≡ None →
     (pa : PacketActs (terms_at p) (is_caller s) (carriers_of p) b packet h.octets) → IsLone pa.did.row → StandsShown s p t (lost_end NoMemory (told_all pa.unit (end_at s p).end).carrier (end_at s p).end.lines) held
-lone_shown laws s p b t packet h held old alive pa lone =
+lone_shown laws takes s p b t packet h held old run alive pa lone =
     let n = reference_of pa.unit in
     let was = (end_at s p).end in
     let e = acted_end pa.unit was.lines was in
@@ -85,16 +97,16 @@ lone_shown laws s p b t packet h held old alive pa lone =
     let l = at.line in
     let tr = transport_before s p b t e h n l old alive d at.is in
     let line = whole_line s p t e h d.now n l at.found (placed_then s p b e h n l.own d f.lasts (ap is_given tr ∙ q.given) at.is.here.awaiting at.is.here.octets) at.is.there
-    (subst (λ (ms : List Message). Goes s (other s) n (with_holding s e h p) d.now (progress_of (place_at n (last_of (is_caller (other s)) d.now))) ms)
+    (subst (λ (ms : List Message). Goes s (other s) n (with_holding s e h p) d.now (progress_of (place_at n (last_of (is_caller (other s)) d.now))) l.peer.session.state ms)
     (q.sends t.broken l.own.channel) (out_row s p b t e h n l old d at.is q.stays alive)) in
-    let m = acted_may_end laws s p b t t packet h l old alive pa d (tables_rest s n l t at.found) line (known_then s p b t e h n old alive d f.lasts pa.first.given q.agree) in
+    let m = acted_may_end laws s p b t t packet h l old alive pa d (tables_rest s n l t at.found) line (known_then s p b t e h n old alive d f.lasts pa.first.given q.agree) (takes_from takes s t run) in
     alone_shown s p b t e h d.now was.lines held old m (all_shown_then s p b t old alive) (lasting_in s p b t old alive)
 
 -- ---- a session begins
 
-begins_shown : PacketLaws → (s : Side) (p : TwoEnds) (b : Between) (t : Tables) (packet : List ℕ) (h held : Held) → Stands p b t → (end_at s p).end.carrier.ended ≡ None →
+begins_shown : PacketLaws → TakeLaws → (s : Side) (p : TwoEnds) (b : Between) (t : Tables) (packet : List ℕ) (h held : Held) → Stands p b t → IsTableRun t → (end_at s p).end.carrier.ended ≡ None →
     (pa : PacketActs (terms_at p) (is_caller s) (carriers_of p) b packet h.octets) → pa.did.row ≡ begins → StandsShown s p t (lost_end NoMemory (told_all pa.unit (end_at s p).end).carrier (end_at s p).end.lines) held
-begins_shown laws s p b t packet h held old alive pa begun =
+begins_shown laws takes s p b t packet h held old run alive pa begun =
     let n = reference_of pa.unit in
     let was = (end_at s p).end in
     let e = acted_end pa.unit was.lines was in
@@ -118,7 +130,8 @@ begins_shown laws s p b t packet h held old alive pa begun =
     (still_seated n (end_at (other s) p) l.peer sp.others at.is.there)
     (out_row s p b t e h n l old d at.is (ap (λ (r : Row). leaves_use (before r) (after r)) row) alive) in
     let m = acted_may_end laws s p b t u packet h line old alive pa d a ending
-    (learns_row d.row l.own.transport t.terms sp.first t.known tr (ap is_awaited row) ∙ known_then s p b t e h n old alive d f.lasts pa.first.given (ap is_agree row)) in
+    (learns_row d.row l.own.transport t.terms sp.first t.known tr (ap is_awaited row) ∙ known_then s p b t e h n old alive d f.lasts pa.first.given (ap is_agree row))
+    (takes_from takes s u (run_more t u (side_in s) n (λ r. 0) is run)) in
     behind_shown s p b t u e h d.now was.lines held n (λ r. 0) old m (says_then s n line l t u _ _ a.lines at.found refl (all_shown_then s p b t old alive)) lasting is
 
 -- ---- a CC: the session sends its CN, which the end takes away
@@ -155,9 +168,9 @@ opened_loses : (x : Standing) → (react (react x opened).next broken_off).shown
 unfolding react
 opened_loses x = loss_by (is_wait_transport x.state.phase) x refl
 
-agrees_shown : PacketLaws → (s : Side) (p : TwoEnds) (b : Between) (t : Tables) (packet : List ℕ) (h held : Held) → Stands p b t → (end_at s p).end.carrier.ended ≡ None →
+agrees_shown : PacketLaws → TakeLaws → (s : Side) (p : TwoEnds) (b : Between) (t : Tables) (packet : List ℕ) (h held : Held) → Stands p b t → IsTableRun t → (end_at s p).end.carrier.ended ≡ None →
     (pa : PacketActs (terms_at p) (is_caller s) (carriers_of p) b packet h.octets) → pa.did.row ≡ agrees → StandsShown s p t (lost_end NoMemory (told_all pa.unit (end_at s p).end).carrier (end_at s p).end.lines) held
-agrees_shown laws s p b t packet h held old alive pa agreed =
+agrees_shown laws takes s p b t packet h held old run alive pa agreed =
     let n = reference_of pa.unit in
     let was = (end_at s p).end in
     let e = acted_end pa.unit was.lines was in
@@ -187,11 +200,12 @@ agrees_shown laws s p b t packet h held old alive pa agreed =
       more = unless_broken t.broken (replied (react x opened).reply);
       parts = put_unless t.broken (replied (react x opened).reply) l.own.channel;
       whole = λ y. cc;
-      out = subst (λ (r : Row). Goes s (other s) n (with_holding s e h p) d.now (progress_of (place_at n (last_of (is_caller (other s)) d.now))) (sends_then r t.broken l.own.channel)) row
+      out = subst (λ (r : Row). Goes s (other s) n (with_holding s e h p) d.now (progress_of (place_at n (last_of (is_caller (other s)) d.now))) l.peer.session.state (sends_then r t.broken l.own.channel)) row
           (out_row s p b t e h n l old d at.is (ap (λ (r : Row). leaves_use (before r) (after r)) row) alive);
     } in
     let m = acted_may_end laws s p b t u packet h turn.line old alive pa d a ending
-    (moved_known s p b t e h n l sp.first pa.unit agrees old alive d f.lasts pa.first pa.first.given row (inl refl) tr alike) in
+    (moved_known s p b t e h n l sp.first pa.unit agrees old alive d f.lasts pa.first pa.first.given row (inl refl) tr alike)
+    (takes_from takes s u (run_more t u (side_in s) n (λ r. 0) is run)) in
     behind_shown s p b t u e h d.now was.lines held n (λ r. 0) old m (says_then s n turn.line l t u _ _ a.lines at.found (opened_loses x) (all_shown_then s p b t old alive)) lasting is
 
 -- ---- a DR that closes: a DC is put in answer
@@ -258,23 +272,14 @@ none_lost : (who : machine.Side) (n : ℕ) (x : Standing) (u : Tables) (es : Lis
     (react x broken_off).shown ≡ []
 none_lost who n x u es law none says = none_lost_by who n x u es (shows_loss x.state.phase) refl law none says
 
--- tables that came about take one delivery more
-pub run_more : (t u : Tables) (who : machine.Side) (n : ℕ) (cut : ℕ → ℕ) → step t (delivers who n cut) ≡ u → IsTableRun t → IsTableRun u
-run_more t u who n cut is run = record {
-  agreed = run.agreed;
-  steps = run.steps ++ delivers who n cut ∷ [];
-  numbered = number_one run.steps (delivers who n cut) run.numbered tt;
-  reached = run_one _ run.steps (delivers who n cut) ∙ ap (λ (v : Tables). step v (delivers who n cut)) run.reached ∙ is;
-}
-
 end_after : (s : Side) (t : Tables) (n : ℕ) (known : Option worlds.Class) (turn : Turn) → end_of (side_in s) (delivered t (side_in s) n known turn) ≡ end_of (side_in s) t
 end_after Left t n known turn = refl
 end_after Right t n known turn = refl
 
-leaves_shown : PacketLaws → LosesLate → (s : Side) (p : TwoEnds) (b : Between) (t : Tables) (packet : List ℕ) (h held : Held) → Stands p b t → IsTableRun t → (end_at s p).end.carrier.ended ≡ None →
+leaves_shown : PacketLaws → TakeLaws → LosesLate → (s : Side) (p : TwoEnds) (b : Between) (t : Tables) (packet : List ℕ) (h held : Held) → Stands p b t → IsTableRun t → (end_at s p).end.carrier.ended ≡ None →
     (pa : PacketActs (terms_at p) (is_caller s) (carriers_of p) b packet h.octets) → (reason : ℕ) → pa.did.row ≡ leaves reason →
     StandsShown s p t (lost_end NoMemory (told_all pa.unit (end_at s p).end).carrier (end_at s p).end.lines) held
-leaves_shown laws late s p b t packet h held old run alive pa reason left =
+leaves_shown laws takes late s p b t packet h held old run alive pa reason left =
     let n = reference_of pa.unit in
     let was = (end_at s p).end in
     let e = acted_end pa.unit was.lines was in
@@ -290,7 +295,7 @@ leaves_shown laws late s p b t packet h held old run alive pa reason left =
     let first = transport_before s p b t e h n l old alive d at.is in
     let tr : l.own.transport ≡ worlds.linked = first ∙ ap (λ (r : Row). transport_by (before r)) row in
     let alike : kind_of (message_in sp.first) ≡ carrier.bye reason = sp.kind in
-    let out = out_leaves s p b t e h n reason l old d row at.is in
+    let out = out_leaves s p b t e h n reason l old d row at.is (takes_from takes s t run n l at.found) in
     let k = out.keep in
     let turn = left_turn t.broken k (without_first l sp.others) in
     let known = learns t.terms l.own.transport sp.first t.known in
@@ -315,7 +320,8 @@ leaves_shown laws late s p b t packet h held old run alive pa reason left =
       out = out.way;
     } in
     let m = acted_may_end laws s p b t u packet h turn.line old alive pa d a ending
-    (learns_row d.row l.own.transport t.terms sp.first t.known first (ap is_awaited row) ∙ known_then s p b t e h n old alive d f.lasts pa.first.given (ap is_agree row)) in
+    (learns_row d.row l.own.transport t.terms sp.first t.known first (ap is_awaited row) ∙ known_then s p b t e h n old alive d f.lasts pa.first.given (ap is_agree row))
+    (takes_from takes s u (run_more t u (side_in s) n (λ r. k) is run)) in
     behind_shown s p b t u e h d.now was.lines held n (λ r. k) old m
     (says_then s n turn.line l t u _ _ a.lines at.found (ended_shows (react x broken_off).next (is_over x) ∙ sym none) (all_shown_then s p b t old alive)) lasting is
 
@@ -340,14 +346,15 @@ pub record StarveLaws : Type 0 where
   pub packet : PacketLaws
   pub want : WantLaws
   pub late : LosesLate
+  pub takes : TakeLaws
 
 unheard_shown : StarveLaws → (s : Side) (p : TwoEnds) (b : Between) (t : Tables) (packet : List ℕ) (h held : Held) → Stands p b t → IsTableRun t → (end_at s p).end.carrier.ended ≡ None →
     (pa : PacketActs (terms_at p) (is_caller s) (carriers_of p) b packet h.octets) → TellsOne (reference_of pa.unit) pa.did.row →
     StandsShown s p t (lost_end NoMemory (told_all pa.unit (end_at s p).end).carrier (end_at s p).end.lines) held
-unheard_shown laws s p b t packet h held old run alive pa (inl q) = lone_shown laws.packet s p b t packet h held old alive pa q
-unheard_shown laws s p b t packet h held old run alive pa (inr (inl q)) = begins_shown laws.packet s p b t packet h held old alive pa q
-unheard_shown laws s p b t packet h held old run alive pa (inr (inr (inl q))) = agrees_shown laws.packet s p b t packet h held old alive pa q
-unheard_shown laws s p b t packet h held old run alive pa (inr (inr (inr q))) = leaves_shown laws.packet laws.late s p b t packet h held old run alive pa q.0 q.1
+unheard_shown laws s p b t packet h held old run alive pa (inl q) = lone_shown laws.packet laws.takes s p b t packet h held old run alive pa q
+unheard_shown laws s p b t packet h held old run alive pa (inr (inl q)) = begins_shown laws.packet laws.takes s p b t packet h held old run alive pa q
+unheard_shown laws s p b t packet h held old run alive pa (inr (inr (inl q))) = agrees_shown laws.packet laws.takes s p b t packet h held old run alive pa q
+unheard_shown laws s p b t packet h held old run alive pa (inr (inr (inr q))) = leaves_shown laws.packet laws.takes laws.late s p b t packet h held old run alive pa q.0 q.1
 
 -- For what a packet does there was no memory: the tables take what arrived where it was answered, and then the
 -- end of the side.
@@ -358,7 +365,7 @@ starved_shown laws s p b t packet octets h held new old run alive is cut x =
     let pa = packet_acts laws.packet.two (terms_at p) (is_caller s) (carriers_of p) b packet octets h.octets old.between (ap (λ (y : State). y.ended) c ∙ alive)
     (ap (λ (y : State). y.events) c ∙ (order_of s p b t old alive).heard) is (both_held s p ∙ cut) in
     elim (has_starved laws.want s p b t packet octets h new old alive is cut pa x) [
-      | inl nothing ↦ subst (λ (e : End). StandsShown s p t e held) (sym nothing) (ended_shown s p b t held old alive)
+      | inl nothing ↦ subst (λ (e : End). StandsShown s p t e held) (sym nothing) (ended_shown s p b t held old (takes_from laws.takes s t run) alive)
       | inr some ↦ subst (λ (e : End). StandsShown s p t e held) (sym some.is)
           (unheard_shown laws s p b t packet h held old run alive pa (tells_one (reference_of pa.unit) pa.did.row some.event some.one))
     ]

@@ -25,6 +25,7 @@ use Rattle.osi_pair.proofs.StandingShown.{shown_pair, StandsShown}
 use Rattle.osi_pair.proofs.StandingShuts.{closes_zero}
 use Rattle.osi_pair.proofs.StandingStarved.{StarveLaws, starved_shown}
 use Rattle.osi_pair.proofs.StandingTaken.{unheard_shown, tables_at, is_run, arrivals_at, packet_at}
+use Rattle.osi_pair.proofs.StandingAhead.{takes_from}
 use Rattle.osi_pair.proofs.StandingWant.{ended_shown}
 use Rattle.osi_pair.proofs.StandingParts.{part_shown}
 
@@ -76,12 +77,13 @@ starved_at : StarveLaws → (p : TwoEnds) (steps : List Step) (s : Side) (packet
 starved_at laws p steps s packet octets new h at alive is cut starved =
     arrivals_at s p steps new h at (starved_shown laws s p at.now (tables_at p steps) packet octets h h new at.stands (is_run p steps at) alive is cut starved)
 
-ended_at : (p : TwoEnds) (steps : List Step) (s : Side) (h : Held) → StandsAt p steps → (end_at s p).end.carrier.ended ≡ None → StandsAtArrivals s (shown_pair s (ends_end NoMemory (end_at s p).end) h p) steps
-ended_at p steps s h at alive = arrivals_at s p steps (ends_end NoMemory (end_at s p).end) h at (ended_shown s p at.now (tables_at p steps) h at.stands alive)
+ended_at : StarveLaws → (p : TwoEnds) (steps : List Step) (s : Side) (h : Held) → StandsAt p steps → (end_at s p).end.carrier.ended ≡ None → StandsAtArrivals s (shown_pair s (ends_end NoMemory (end_at s p).end) h p) steps
+ended_at laws p steps s h at alive =
+    arrivals_at s p steps (ends_end NoMemory (end_at s p).end) h at (ended_shown s p at.now (tables_at p steps) h at.stands (takes_from laws.takes s (tables_at p steps) (is_run p steps at)) alive)
 
 pub packet_stands : MovingLaws → AnswerLaws → StarveLaws → PacketStands
 packet_stands laws answers starve = record {
   told = λ p steps s packet octets h at alive is cut. told_at laws answers p steps s packet octets h at alive is cut;
   starved = λ p steps s packet octets new h at alive is cut starved. starved_at starve p steps s packet octets new h at alive is cut starved;
-  ended = λ p steps s h at alive. ended_at p steps s h at alive;
+  ended = λ p steps s h at alive. ended_at starve p steps s h at alive;
 }

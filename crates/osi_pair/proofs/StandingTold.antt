@@ -4,6 +4,7 @@ use Rattle.std.specs.List.{AllByRecursion}
 use Rattle.osi_carrier.specs.Rows.{Rows}
 use Rattle.osi_carrier.specs.declared.ends.EndReason.{EndReason}
 use Rattle.osi_carrier.specs.declared.ends.EndReason.TheVariants.{Broken}
+use Rattle.osi_machine.specs.AsTables.{IsTableRun}
 use Rattle.osi_machine.specs.Core as machine
 use Rattle.osi_machine.specs.Machine.{Ending, told_of_break, Step, HasNumber}
 use Rattle.osi_machine.specs.Machine as entries
@@ -23,6 +24,7 @@ use Rattle.osi_pair.specs.declared.reach.Reach.{Reach}
 use Rattle.osi_pair.specs.declared.sides.Side.{Side}
 use Rattle.osi_pair.specs.declared.sides.Side.TheVariants.{Left, Right}
 use Rattle.osi_pair.proofs.StandingBreak.{run_behind}
+use Rattle.osi_pair.proofs.StandingAhead.{TakeLaws, takes_from}
 use Rattle.osi_pair.proofs.StandingEnded.{ended_holding, ended_pair, may_end, shown_then, ended_stands}
 use Rattle.osi_pair.proofs.StandingLost.{none_kept, IsTold}
 
@@ -52,13 +54,14 @@ numbered_told : (who : machine.Side) (keep : ℕ → ℕ) (xs : List Step) → A
 numbered_told who keep [] a = (tt, tt)
 numbered_told who keep (x ∷ xs) a = (a.0, numbered_told who keep xs a.1)
 
-left_at : (p : TwoEnds) (steps : List Step) (lines : Rows stack.Line) (first : List (ℕ × Shown)) (journal : List Entry) → StandsAt p steps → is_some p.reach ≡ true →
+left_at : TakeLaws → (p : TwoEnds) (steps : List Step) (lines : Rows stack.Line) (first : List (ℕ × Shown)) (journal : List Entry) → StandsAt p steps → is_some p.reach ≡ true →
     p.left.end.carrier.ended ≡ None → IsTold p.left lines first → journal ≡ p.journal ++ (shown_entries Left first ++ ends Left Broken ∷ []) →
     StandsAtEnd Left (told_left p lines journal) steps
-left_at p steps lines first journal s broken none told said =
+left_at laws p steps lines first journal s broken none told said =
     let begin : Tables = start (terms_in (terms_of p.left.end.carrier.local p.right.end.carrier.local)) in
     let t = run begin steps in
-    let done = ended_stands Left p s.now t t p.left.end p.left.held s.now Broken told_of_break lines p.left.held first journal s.stands (may_end Left p s.now t s.stands none) refl
+    let tabled : IsTableRun t = record { agreed = _; steps = steps; numbered = s.numbered; reached = refl } in
+    let done = ended_stands Left p s.now t t p.left.end p.left.held s.now Broken told_of_break lines p.left.held first journal s.stands (may_end Left p s.now t s.stands (takes_from laws Left t tabled) none) refl
     (λ n. none_kept n p.left.end.lines lines told.same) (shown_then Left p s.now t lines first s.stands none told) said in
     let keep = done.keep in
     let lasts : end_of machine.Left t ≡ None = none_of t.left_end (s.stands.left_end ∙ ap (option_map ending_in) none) in
@@ -72,13 +75,14 @@ left_at p steps lines first journal s broken none told said =
       };
     }
 
-right_at : (p : TwoEnds) (steps : List Step) (lines : Rows stack.Line) (first : List (ℕ × Shown)) (journal : List Entry) → StandsAt p steps → is_some p.reach ≡ true →
+right_at : TakeLaws → (p : TwoEnds) (steps : List Step) (lines : Rows stack.Line) (first : List (ℕ × Shown)) (journal : List Entry) → StandsAt p steps → is_some p.reach ≡ true →
     p.right.end.carrier.ended ≡ None → IsTold p.right lines first → journal ≡ p.journal ++ (shown_entries Right first ++ ends Right Broken ∷ []) →
     StandsAtEnd Right (told_right p lines journal) steps
-right_at p steps lines first journal s broken none told said =
+right_at laws p steps lines first journal s broken none told said =
     let begin : Tables = start (terms_in (terms_of p.left.end.carrier.local p.right.end.carrier.local)) in
     let t = run begin steps in
-    let done = ended_stands Right p s.now t t p.right.end p.right.held s.now Broken told_of_break lines p.right.held first journal s.stands (may_end Right p s.now t s.stands none) refl
+    let tabled : IsTableRun t = record { agreed = _; steps = steps; numbered = s.numbered; reached = refl } in
+    let done = ended_stands Right p s.now t t p.right.end p.right.held s.now Broken told_of_break lines p.right.held first journal s.stands (may_end Right p s.now t s.stands (takes_from laws Right t tabled) none) refl
     (λ n. none_kept n p.right.end.lines lines told.same) (shown_then Right p s.now t lines first s.stands none told) said in
     let keep = done.keep in
     let lasts : end_of machine.Right t ≡ None = none_of t.right_end (s.stands.right_end ∙ ap (option_map ending_in) none) in
@@ -113,33 +117,33 @@ heard who old new before after none h =
           ∙ ap (λ (x : Holding). before ++ told_entries who None x.end.carrier.ended h.first) shown.rest;
     }
 
-told_by : (who : Side) (old new : TwoEnds) (steps : List Step) (o : Option EndReason) → (end_at who old).end.carrier.ended ≡ o → StandsAt old steps → is_some old.reach ≡ true →
+told_by : TakeLaws → (who : Side) (old new : TwoEnds) (steps : List Step) (o : Option EndReason) → (end_at who old).end.carrier.ended ≡ o → StandsAt old steps → is_some old.reach ≡ true →
     TellsBreak who old new → StandsAtTold o who new steps
-told_by Left old new steps (Some reason) e s broken h =
+told_by laws Left old new steps (Some reason) e s broken h =
     let same = h.told.over (ap is_some e) in
     subst (λ (x : Holding). StandsAt (record new { left = x }) steps) (sym same.0)
     (subst (λ (x : Holding). StandsAt (record new { left = old.left; right = x }) steps) (sym h.other)
     (subst (λ (x : Option Reach). StandsAt (record new { left = old.left; right = old.right; reach = x }) steps) (sym h.reach)
     (subst (λ (x : List Entry). StandsAt (record old { journal = x }) steps) (sym same.1) s)))
-told_by Right old new steps (Some reason) e s broken h =
+told_by laws Right old new steps (Some reason) e s broken h =
     let same = h.told.over (ap is_some e) in
     subst (λ (x : Holding). StandsAt (record new { right = x }) steps) (sym same.0)
     (subst (λ (x : Holding). StandsAt (record new { right = old.right; left = x }) steps) (sym h.other)
     (subst (λ (x : Option Reach). StandsAt (record new { left = old.left; right = old.right; reach = x }) steps) (sym h.reach)
     (subst (λ (x : List Entry). StandsAt (record old { journal = x }) steps) (sym same.1) s)))
-told_by Left old new steps None e s broken h =
+told_by laws Left old new steps None e s broken h =
     let now = heard Left old.left new.left old.journal new.journal e (h.told.hears e) in
     subst (λ (x : Holding). StandsAtEnd Left (record new { left = x }) steps) (sym now.is)
     (subst (λ (x : Holding). StandsAtEnd Left (record new { left = told_end old.left new.left.end.lines; right = x }) steps) (sym h.other)
     (subst (λ (x : Option Reach). StandsAtEnd Left (record (told_left old new.left.end.lines new.journal) { reach = x }) steps) (sym h.reach)
-    (left_at old steps new.left.end.lines now.first new.journal s broken e now.told now.says)))
-told_by Right old new steps None e s broken h =
+    (left_at laws old steps new.left.end.lines now.first new.journal s broken e now.told now.says)))
+told_by laws Right old new steps None e s broken h =
     let now = heard Right old.right new.right old.journal new.journal e (h.told.hears e) in
     subst (λ (x : Holding). StandsAtEnd Right (record new { right = x }) steps) (sym now.is)
     (subst (λ (x : Holding). StandsAtEnd Right (record new { right = told_end old.right new.right.end.lines; left = x }) steps) (sym h.other)
     (subst (λ (x : Option Reach). StandsAtEnd Right (record (told_right old new.right.end.lines new.journal) { reach = x }) steps) (sym h.reach)
-    (right_at old steps new.right.end.lines now.first new.journal s broken e now.told now.says)))
+    (right_at laws old steps new.right.end.lines now.first new.journal s broken e now.told now.says)))
 
-pub told_at : (who : Side) (old new : TwoEnds) (steps : List Step) → StandsAt old steps → is_some old.reach ≡ true → TellsBreak who old new →
+pub told_at : TakeLaws → (who : Side) (old new : TwoEnds) (steps : List Step) → StandsAt old steps → is_some old.reach ≡ true → TellsBreak who old new →
     StandsAtTold (end_at who old).end.carrier.ended who new steps
-told_at who old new steps s broken h = told_by who old new steps (end_at who old).end.carrier.ended refl s broken h
+told_at laws who old new steps s broken h = told_by laws who old new steps (end_at who old).end.carrier.ended refl s broken h

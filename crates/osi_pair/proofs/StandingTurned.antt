@@ -27,14 +27,15 @@ use Rattle.osi_pair.proofs.StandingCut.{end_out, end_back}
 use Rattle.osi_pair.proofs.StandingWays.{way_same}
 use Rattle.osi_carrier.specs.Progress.{Progress}
 use Rattle.osi_machine.specs.Worlds.{Message}
+use Rattle.osi_session.specs.declared.state.State.{State as SessionState}
 
 -- ---- a connection, seen from one of its sides
 
 pub record IsSeen (s : Side) (n : ℕ) (p : TwoEnds) (b : Between) (l : Line) : Type 0 where
   pub here : IsSeated n (end_at s p) l.own
   pub there : IsSeated n (end_at (other s) p) l.peer
-  pub out : IsUnderWay s (other s) n p b l.own
-  pub back : IsUnderWay (other s) s n p b l.peer
+  pub out : IsUnderWay s (other s) n p b l.own l.peer
+  pub back : IsUnderWay (other s) s n p b l.peer l.own
 
 pub seen : (s : Side) (n : ℕ) (p : TwoEnds) (b : Between) (l : Line) → IsLine n p b l → IsSeen s n p b (seen_from (side_in s) l)
 seen Left n p b l h = record { here = h.left; there = h.right; out = h.rightward; back = h.leftward }
@@ -62,16 +63,16 @@ holding_there Left e h p = refl
 holding_there Right e h p = refl
 
 -- what is under way to the other end, and to this one
-abbrev pub GoesTo : Side → Holding → ℕ → TwoEnds → Between → Progress → List Message → Type 0
-GoesTo s taker n p b g ms = AreUnderWay taker.end.carrier.ended g (is_cut (is_caller s) (carriers_of p)) (HasJoined n taker) ms (under_way (is_caller s) n (carriers_of p) b)
+abbrev pub GoesTo : Side → Holding → ℕ → TwoEnds → Between → Progress → SessionState → List Message → Type 0
+GoesTo s taker n p b g x ms = AreUnderWay taker.end.carrier.ended g (is_cut (is_caller s) (carriers_of p)) (HasJoined n taker) x ms (under_way (is_caller s) n (carriers_of p) b)
 
-pub out_there : (s : Side) (p : TwoEnds) (c : Between) (e : End) (h : Held) (n : ℕ) (g : Progress) (ms : List Message) → GoesTo s (end_at (other s) p) n (with_holding s e h p) c g ms →
-    Goes s (other s) n (with_holding s e h p) c g ms
-out_there s p c e h n g ms way = subst (λ (y : Holding). GoesTo s y n (with_holding s e h p) c g ms) (sym (holding_there s e h p)) way
+pub out_there : (s : Side) (p : TwoEnds) (c : Between) (e : End) (h : Held) (n : ℕ) (g : Progress) (x : SessionState) (ms : List Message) → GoesTo s (end_at (other s) p) n (with_holding s e h p) c g x ms →
+    Goes s (other s) n (with_holding s e h p) c g x ms
+out_there s p c e h n g x ms way = subst (λ (y : Holding). GoesTo s y n (with_holding s e h p) c g x ms) (sym (holding_there s e h p)) way
 
-pub back_here : (s : Side) (p : TwoEnds) (c : Between) (e : End) (h : Held) (n : ℕ) (g : Progress) (ms : List Message) → GoesTo (other s) (record { end = e; held = h }) n (with_holding s e h p) c g ms →
-    Goes (other s) s n (with_holding s e h p) c g ms
-back_here s p c e h n g ms way = subst (λ (y : Holding). GoesTo (other s) y n (with_holding s e h p) c g ms) (sym (holding_here s e h p)) way
+pub back_here : (s : Side) (p : TwoEnds) (c : Between) (e : End) (h : Held) (n : ℕ) (g : Progress) (x : SessionState) (ms : List Message) → GoesTo (other s) (record { end = e; held = h }) n (with_holding s e h p) c g x ms →
+    Goes (other s) s n (with_holding s e h p) c g x ms
+back_here s p c e h n g x ms way = subst (λ (y : Holding). GoesTo (other s) y n (with_holding s e h p) c g x ms) (sym (holding_here s e h p)) way
 
 -- what stays of all other connections
 pub record Others (s : Side) (p : TwoEnds) (b : Between) (e : End) (h : Held) (c : Between) (n : ℕ) : Type 0 where
@@ -107,13 +108,13 @@ other_seen s p b e h c n q l apart alive o i =
     record {
       here = subst (λ (x : Holding). IsSeated q x l.own) (sym (holding_here s e h p)) (other_seated s p b e h c n q l.own apart o i.here);
       there = subst (λ (x : Holding). IsSeated q x l.peer) (sym (holding_there s e h p)) i.there;
-      out = out_there s p c e h q (progress_of (place_at q (last_of (is_caller (other s)) c))) l.own.channel
+      out = out_there s p c e h q (progress_of (place_at q (last_of (is_caller (other s)) c))) l.peer.session.state l.own.channel
           (way_same (end_at (other s) p).end.carrier.ended (end_at (other s) p).end.carrier.ended _ _ (is_cut (is_caller s) (carriers_of p)) (is_cut (is_caller s) (carriers_of p2)) (HasJoined q (end_at (other s) p))
-          (HasJoined q (end_at (other s) p)) l.own.channel (under_way (is_caller s) q (carriers_of p) b) (under_way (is_caller s) q (carriers_of p2) c) (λ x. x) (ap progress_of (o.there q))
+          (HasJoined q (end_at (other s) p)) l.peer.session.state l.own.channel (under_way (is_caller s) q (carriers_of p) b) (under_way (is_caller s) q (carriers_of p2) c) (λ x. x) (ap progress_of (o.there q))
           (end_out s (record { end = e; held = h }) p alive) (λ x held. held) (o.ways q apart (is_caller s)) i.out);
-      back = back_here s p c e h q (progress_of (place_at q (last_of (is_caller s) c))) l.peer.channel
+      back = back_here s p c e h q (progress_of (place_at q (last_of (is_caller s) c))) l.own.session.state l.peer.channel
           (way_same (end_at s p).end.carrier.ended e.carrier.ended _ _ (is_cut (is_caller (other s)) (carriers_of p)) (is_cut (is_caller (other s)) (carriers_of p2)) (HasJoined q (end_at s p))
-          (HasJoined q (record { end = e; held = h })) l.peer.channel (under_way (is_caller (other s)) q (carriers_of p) b) (under_way (is_caller (other s)) q (carriers_of p2) c) (λ x. alive)
+          (HasJoined q (record { end = e; held = h })) l.own.session.state l.peer.channel (under_way (is_caller (other s)) q (carriers_of p) b) (under_way (is_caller (other s)) q (carriers_of p2) c) (λ x. alive)
           (ap progress_of (o.last q apart)) (end_back s (record { end = e; held = h }) p) (λ x held y at. held y (o.kept q apart y at)) (o.ways q apart (is_caller (other s))) i.back);
     }
 

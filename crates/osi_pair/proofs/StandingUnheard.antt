@@ -18,6 +18,7 @@ use Rattle.osi_pair.specs.Standing.{side_in, is_caller, transport_in, class_in, 
 use Rattle.osi_pair.specs.declared.sides.Side.{Side}
 use Rattle.osi_pair.specs.declared.sides.Side.TheVariants.{Left, Right}
 use Rattle.osi_pair.proofs.StandingArrived.{PacketActs}
+use Rattle.osi_pair.proofs.StandingAhead.{TakesFrom}
 use Rattle.osi_pair.proofs.StandingEnded.{EndingLine, MayEnd, whole_line}
 use Rattle.osi_pair.proofs.StandingEnding.{IsPlaced, given_place}
 use Rattle.osi_pair.proofs.StandingFinish.{terms_at, DidAt, TablesAfter, refs_row, given_not_new, last_is}
@@ -89,9 +90,9 @@ other_ending s p b t u e h n q line old alive d lasts apart a has =
       awaiting = i.here.awaiting;
       octets = i.here.octets;
     }) i.there
-    (out_there s p d.now e h q (progress_of (place_at q (last_of (is_caller (other s)) d.now))) l.own.channel
+    (out_there s p d.now e h q (progress_of (place_at q (last_of (is_caller (other s)) d.now))) l.peer.session.state l.own.channel
     (way_same (end_at (other s) p).end.carrier.ended (end_at (other s) p).end.carrier.ended _ _ (is_cut (is_caller s) (carriers_of p)) (is_cut (is_caller s) (carriers_of (with_holding s e h p)))
-    (HasJoined q (end_at (other s) p)) (HasJoined q (end_at (other s) p)) l.own.channel (under_way (is_caller s) q (carriers_of p) b) (under_way (is_caller s) q (carriers_of (with_holding s e h p)) d.now)
+    (HasJoined q (end_at (other s) p)) (HasJoined q (end_at (other s) p)) l.peer.session.state l.own.channel (under_way (is_caller s) q (carriers_of p) b) (under_way (is_caller s) q (carriers_of (with_holding s e h p)) d.now)
     (λ x. x) (ap progress_of (d.there q)) (end_out s (record { end = e; held = h }) p alive) (λ x held. held) (d.others q apart (is_caller s)) i.out))
 
 ending_by : (s : Side) (p : TwoEnds) (b : Between) (t u : Tables) (e : End) (h : Held) (n q : ℕ) (line : Line) (same : Bool) → (q == n) ≡ same → Stands p b t → (end_at s p).end.carrier.ended ≡ None →
@@ -105,9 +106,9 @@ ending_by s p b t u e h n q line false f old alive d lasts a l has =
 pub acted_may_end : PacketLaws → (s : Side) (p : TwoEnds) (b : Between) (t u : Tables) (packet : List ℕ) (h : Held) (line : Line) → Stands p b t → (end_at s p).end.carrier.ended ≡ None →
     (pa : PacketActs (terms_at p) (is_caller s) (carriers_of p) b packet h.octets) → (d : DidAt s p b (acted_end pa.unit (end_at s p).end.lines (end_at s p).end) h (reference_of pa.unit)) →
     TablesAfter s (reference_of pa.unit) t u [] line → EndingLine s p u (acted_end pa.unit (end_at s p).end.lines (end_at s p).end) h d.now (reference_of pa.unit) →
-    u.known ≡ option_map class_in (with_holding s (acted_end pa.unit (end_at s p).end.lines (end_at s p).end) h p).left.end.carrier.class →
+    u.known ≡ option_map class_in (with_holding s (acted_end pa.unit (end_at s p).end.lines (end_at s p).end) h p).left.end.carrier.class → TakesFrom s u →
     MayEnd s p t u (acted_end pa.unit (end_at s p).end.lines (end_at s p).end) h d.now
-acted_may_end laws s p b t u packet h line old alive pa d a l known =
+acted_may_end laws s p b t u packet h line old alive pa d a l known takes =
     let n = reference_of pa.unit in
     let e = acted_end pa.unit (end_at s p).end.lines (end_at s p).end in
     let f = acts_at s p b packet h pa in
@@ -128,5 +129,6 @@ acted_may_end laws s p b t u packet h line old alive pa d a l known =
       known = known;
       given_then = g.given_then;
       class_then = g.class_then;
+      takes = takes;
       lines = λ q some le. ending_by s p b t u e h n q line (q == n) refl old alive d f.lasts a.lines l (old.lines q some le);
     }

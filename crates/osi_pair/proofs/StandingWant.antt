@@ -36,6 +36,7 @@ use Rattle.osi_pair.specs.Telling.{waiting_in, quieted}
 use Rattle.osi_pair.specs.declared.sides.Side.{Side}
 use Rattle.osi_pair.specs.declared.sides.Side.TheVariants.{Left, Right}
 use Rattle.osi_pair.proofs.StandingArrived.{PacketActs}
+use Rattle.osi_pair.proofs.StandingAhead.{TakesFrom}
 use Rattle.osi_pair.proofs.StandingEnded.{MayEnd, lost_end, lost_stands, may_end, all_shown_then}
 use Rattle.osi_pair.proofs.StandingFinish.{terms_at, order_of}
 use Rattle.osi_pair.proofs.StandingLost.{SaysAll}
@@ -85,9 +86,9 @@ behind_shown s p b t u e h c lines held n cut old m says none is =
     }
 
 -- nothing was done before
-pub ended_shown : (s : Side) (p : TwoEnds) (b : Between) (t : Tables) (held : Held) → Stands p b t → (end_at s p).end.carrier.ended ≡ None → StandsShown s p t (hearing.ends NoMemory (end_at s p).end) held
-ended_shown s p b t held old alive =
-    alone_shown s p b t (end_at s p).end (end_at s p).held b (end_at s p).end.lines held old (may_end s p b t old alive) (all_shown_then s p b t old alive) (lasting_in s p b t old alive)
+pub ended_shown : (s : Side) (p : TwoEnds) (b : Between) (t : Tables) (held : Held) → Stands p b t → TakesFrom s t → (end_at s p).end.carrier.ended ≡ None → StandsShown s p t (hearing.ends NoMemory (end_at s p).end) held
+ended_shown s p b t held old takes alive =
+    alone_shown s p b t (end_at s p).end (end_at s p).held b (end_at s p).end.lines held old (may_end s p b t old takes alive) (all_shown_then s p b t old alive) (lasting_in s p b t old alive)
 
 -- ---- what is shown in the order of the tables
 

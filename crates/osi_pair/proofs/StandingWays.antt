@@ -1,5 +1,5 @@
 -- What is under way, as the messages of the tables and as those between two carriers, where one end acts.
-use Rattle.std.proofs.Common.{◌≡◌, ℕ, zero, suc, Bool, true, false, ◌≤◌, ◌⊎◌, inl, inr, List, [], ◌∷◌, ◌++◌, length, map, take, drop, Option, Some, None, refl, sym, ap, subst, ◌∙◌, append_assoc}
+use Rattle.std.proofs.Common.{◌≡◌, ℕ, zero, suc, Bool, true, false, ◌||◌, ◌≤◌, ◌⊎◌, inl, inr, List, [], ◌∷◌, ◌++◌, length, map, take, drop, Option, Some, None, refl, sym, ap, subst, ◌∙◌, append_assoc}
 use Rattle.std.proofs.Math.Seq.{take-append_seam}
 use Rattle.std.proofs.lemmas.List.{length-map, map-append, append-nil, take-append-drop}
 use Rattle.osi_carrier.specs.Course.{Place, never, was_given, connection_in, progress_of}
@@ -11,14 +11,19 @@ use Rattle.osi_carrier.specs.State.{asked, linked, closing}
 use Rattle.osi_machine.specs.Worlds.{Message, unit, ask, agree, deny, bye, over}
 use Rattle.osi_carrier.specs.declared.ends.EndReason.{EndReason}
 use Rattle.osi_pair.specs.Standing.{AreAlike, message_in, word_in, AreUnderWay}
-use Rattle.osi_pair.specs.Words.{Word, whole, part, joins, left_of, AreInOrder, MayFollow, most_data}
-use Rattle.osi_pair.proofs.WordLaws.{cut_words, AreWords, wholes, put_words, MayLeave, leave_behind, joins_whole, whole_order, whole_left, next_is}
+use Rattle.osi_machine.specs.AsTables.{IsOverWhenLeft}
+use Rattle.osi_machine.specs.Calm.{after_message, IsCalm, StaysCalm, IsNoFaultBehind}
+use Rattle.osi_machine.proofs.CalmLaws.{over_calm}
+use Rattle.osi_session.specs.declared.state.State.{State}
+use Rattle.osi_pair.specs.Words.{Word, whole, part, joins, left_of, IsBegun, AreInOrder, MayFollow, most_data}
+use Rattle.osi_pair.proofs.WordLaws.{IsRest, Next, FrontOf, next_is, front_of, cut_behind, cut_fits, AreWords, wholes, put_words, MayLeave, leave_behind, joins_whole, whole_order, whole_left}
 use Rattle.osi_pair.proofs.StandingRows.{Row, quiet, still, begins, refuses, agrees, denies, tells, leaves, ignores, ends, before, after}
 use Rattle.osi_machine.specs.AsTables.{is_leaving}
 use Rattle.osi_message.specs.Meanings.{DT}
 use Rattle.osi_message.specs.Words.{part_octets}
 use Rattle.osi_message.specs.declared.places.Place.TheVariants.{First, Middle, Last}
 use Rattle.std.specs.List.{list_any}
+use Rattle.std.proofs.lemmas.List.Folds.{list_any-append}
 use Rattle.osi_message.specs.declared.places.Place.{Place as PartPlace}
 
 abbrev pub Sent : Type 0
@@ -79,47 +84,48 @@ alike_back (was_given (Some (closing peer))) xs ys zs h k = h ∙ sym k
 abbrev pub About : Type 1
 About = Option (List ℕ) → Type 0
 
--- they are under way to a taker that is this far
-pub as_now : (o q : Option EndReason) (g h : Progress) (c d : Bool) (H K : About) (ms : List Message) (xs ys : Sent) → (w : AreUnderWay o g c H ms xs) → (d ≡ false → c ≡ false) →
-    ((x : Option (List ℕ)) → H x → K x) → (q ≡ None → AreAlike h (map word_in w.words) ys) → AreUnderWay q h d K ms ys
-as_now o q g h c d H K ms xs ys w cut holds alike = record {
+-- they are under way to a taker that is this far, and whose session is this
+pub as_now : (o q : Option EndReason) (g h : Progress) (c d : Bool) (H K : About) (x y : State) (ms : List Message) (xs ys : Sent) → (w : AreUnderWay o g c H x ms xs) → (d ≡ false → c ≡ false) →
+    ((b : Option (List ℕ)) → H b → K b) → (StaysCalm x ms → StaysCalm y ms) → (q ≡ None → AreAlike h (map word_in w.words) ys) → AreUnderWay q h d K y ms ys
+as_now o q g h c d H K x y ms xs ys w cut holds calms alike = record {
   words = w.words;
-  lost = w.lost;
   begun = w.begun;
   alike = alike;
   joined = w.joined;
   order = w.order;
-  finished = w.finished;
-  kept = λ e. w.kept (cut e);
+  finished = λ e. w.finished (cut e);
+  calm = λ e. calms (w.calm e);
   held = holds w.begun w.held;
 }
 
--- what is under way is the same
-pub way_same : (o q : Option EndReason) (g k : Progress) (c d : Bool) (H K : About) (ms : List Message) (xs ys : Sent) → (q ≡ None → o ≡ None) → k ≡ g → (d ≡ false → c ≡ false) →
-    ((x : Option (List ℕ)) → H x → K x) → xs ≡ ys → AreUnderWay o g c H ms xs → AreUnderWay q k d K ms ys
-way_same o q g k c d H K ms xs ys lasts e cut holds f w =
-    as_now o q g k c d H K ms xs ys w cut holds (λ x. subst (λ (y : Progress). AreAlike y (map word_in w.words) ys) (sym e) (subst (λ (l : Sent). AreAlike g (map word_in w.words) l) f (w.alike (lasts x))))
+-- what is under way is the same, and the session is
+pub way_same : (o q : Option EndReason) (g k : Progress) (c d : Bool) (H K : About) (x : State) (ms : List Message) (xs ys : Sent) → (q ≡ None → o ≡ None) → k ≡ g → (d ≡ false → c ≡ false) →
+    ((b : Option (List ℕ)) → H b → K b) → xs ≡ ys → AreUnderWay o g c H x ms xs → AreUnderWay q k d K x ms ys
+way_same o q g k c d H K x ms xs ys lasts e cut holds f w =
+    as_now o q g k c d H K x x ms xs ys w cut holds (λ calm. calm)
+    (λ z. subst (λ (y : Progress). AreAlike y (map word_in w.words) ys) (sym e) (subst (λ (l : Sent). AreAlike g (map word_in w.words) l) f (w.alike (lasts z))))
 
 -- nothing is
-pub none_under_way : (q : Option EndReason) (g : Progress) (c : Bool) (H : About) (xs : Sent) → H None → (q ≡ None → AreAlike g [] xs) → AreUnderWay q g c H [] xs
-none_under_way q g c H xs held alike =
-    record { words = []; lost = []; begun = None; alike = alike; joined = refl; order = tt; finished = refl; kept = λ e. refl; held = held }
+pub none_under_way : (q : Option EndReason) (g : Progress) (c : Bool) (H : About) (x : State) (xs : Sent) → H None → (q ≡ None → AreAlike g [] xs) → AreUnderWay q g c H x [] xs
+none_under_way q g c H x xs held alike =
+    record { words = []; begun = None; alike = alike; joined = refl; order = tt; finished = λ e. refl; calm = λ e. absurd e; held = held }
+
+no_begun : {A : Type 0} (b : Option (List ℕ)) → b ≡ None → IsBegun b → A
+no_begun None e h = absurd h
+no_begun (Some x) e h = cc
 
 -- to a taker that has ended it matters no more in which words it goes
-pub over_way : (q : Option EndReason) (g : Progress) (c : Bool) (H : About) (ms : List Message) (xs : Sent) → H None → (q ≡ None → ⊥) → AreUnderWay q g c H ms xs
-over_way q g c H ms xs held shut =
-    let all : map whole ms ++ [] ≡ map whole ms = append-nil (map whole ms) in
-    record {
-      words = map whole ms;
-      lost = [];
-      begun = None;
-      alike = λ e. absurd (shut e);
-      joined = ap (joins None) all ∙ joins_whole ms;
-      order = subst (AreInOrder None) (sym all) (whole_order ms);
-      finished = ap (left_of None) all ∙ whole_left ms;
-      kept = λ e. refl;
-      held = held;
-    }
+pub over_way : (q : Option EndReason) (g : Progress) (c : Bool) (H : About) (x : State) (ms : List Message) (xs : Sent) → H None → (q ≡ None → ⊥) → AreUnderWay q g c H x ms xs
+over_way q g c H x ms xs held shut = record {
+  words = map whole ms;
+  begun = None;
+  alike = λ e. absurd (shut e);
+  joined = joins_whole ms;
+  order = whole_order ms;
+  finished = λ e. whole_left ms;
+  calm = λ e. no_begun (left_of None (map whole ms)) (whole_left ms) e;
+  held = held;
+}
 
 -- ---- from the end that acts
 
@@ -135,43 +141,40 @@ put_alike p words more stays put new first after same =
     subst (λ (l : Sent). AreAlike (progress_of p) l new) (sym parts)
     (alike_back p (map word_in words ++ put) new (stays ++ put) (alike_append (progress_of p) (map word_in words) stays put first) after)
 
-keeps_whole : (o : Option EndReason) (p : Place) (c d : Bool) (H : About) (ms puts : List Message) (more : List Word) (old new stays put : Sent) → (w : AreUnderWay o (progress_of p) c H ms old) → w.lost ≡ [] → AreWords more puts →
-    (o ≡ None → AreAlike (progress_of p) (map word_in w.words) stays) → AreLike (connection_in p) new (stays ++ put) → map word_in more ≡ put → AreUnderWay o (progress_of p) d H (ms ++ puts) new
-keeps_whole o p c d H ms puts more old new stays put w none are first after same =
-    let all : w.words ++ w.lost ≡ w.words = ap (λ (l : List Word). w.words ++ l) none ∙ append-nil w.words in
-    let x = put_words w.begun w.words more puts (subst (AreInOrder w.begun) all w.order) (sym (ap (left_of w.begun) all) ∙ w.finished) are in
-    let now : (w.words ++ more) ++ [] ≡ w.words ++ more = append-nil (w.words ++ more) in
+keeps_whole : (o : Option EndReason) (p : Place) (c d : Bool) (H : About) (x : State) (ms puts : List Message) (more : List Word) (old new stays put : Sent) → (w : AreUnderWay o (progress_of p) c H x ms old) → c ≡ false → AreWords more puts →
+    (o ≡ None → AreAlike (progress_of p) (map word_in w.words) stays) → AreLike (connection_in p) new (stays ++ put) → map word_in more ≡ put → AreUnderWay o (progress_of p) d H x (ms ++ puts) new
+keeps_whole o p c d H x ms puts more old new stays put w uncut are first after same =
+    let y = put_words w.begun w.words more puts w.order (w.finished uncut) are in
     record {
       words = w.words ++ more;
-      lost = [];
       begun = w.begun;
       alike = λ e. put_alike p w.words more stays put new (first e) after same;
-      joined = ap (joins w.begun) now ∙ x.0 ∙ ap (λ (l : List Message). l ++ puts) (sym (ap (joins w.begun) all) ∙ w.joined);
-      order = subst (AreInOrder w.begun) (sym now) x.2;
-      finished = ap (left_of w.begun) now ∙ x.1;
-      kept = λ e. refl;
+      joined = y.0 ∙ ap (λ (l : List Message). l ++ puts) w.joined;
+      order = y.2;
+      finished = λ e. y.1;
+      calm = λ e. no_begun (left_of w.begun (w.words ++ more)) y.1 e;
       held = w.held;
     }
 
-keeps_same : (o : Option EndReason) (p : Place) (c d : Bool) (H : About) (ms puts : List Message) (more : List Word) (old new stays put : Sent) → (w : AreUnderWay o (progress_of p) c H ms old) → more ≡ [] → (d ≡ false → c ≡ false) → AreWords more puts →
-    (o ≡ None → AreAlike (progress_of p) (map word_in w.words) stays) → AreLike (connection_in p) new (stays ++ put) → map word_in more ≡ put → AreUnderWay o (progress_of p) d H (ms ++ puts) new
-keeps_same o p c d H ms puts more old new stays put w none cut are first after same =
+keeps_same : (o : Option EndReason) (p : Place) (c d : Bool) (H : About) (x : State) (ms puts : List Message) (more : List Word) (old new stays put : Sent) → (w : AreUnderWay o (progress_of p) c H x ms old) → more ≡ [] → (d ≡ false → c ≡ false) → AreWords more puts →
+    (o ≡ None → AreAlike (progress_of p) (map word_in w.words) stays) → AreLike (connection_in p) new (stays ++ put) → map word_in more ≡ put → AreUnderWay o (progress_of p) d H x (ms ++ puts) new
+keeps_same o p c d H x ms puts more old new stays put w none cut are first after same =
     let nothing : [] ≡ put = sym (ap (map word_in) none) ∙ same in
     let left : stays ++ put ≡ stays = ap (λ (l : Sent). stays ++ l) (sym nothing) ∙ append-nil stays in
     let no_message : puts ≡ [] = sym are.joined ∙ ap (joins None) none in
-    subst (λ (l : List Message). AreUnderWay o (progress_of p) d H l new) (sym (ap (λ (l : List Message). ms ++ l) no_message ∙ append-nil ms))
-    (as_now o o (progress_of p) (progress_of p) c d H H ms old new w cut (λ x held. held)
+    subst (λ (l : List Message). AreUnderWay o (progress_of p) d H x l new) (sym (ap (λ (l : List Message). ms ++ l) no_message ∙ append-nil ms))
+    (as_now o o (progress_of p) (progress_of p) c d H H x x ms old new w cut (λ b held. held) (λ calm. calm)
     (λ e. alike_back p (map word_in w.words) new stays (first e) (subst (λ (l : Sent). AreLike (connection_in p) new l) left after)))
 
 -- nothing of it is lost, and something is put behind it, but nothing where what is under way was cut
-pub out_puts : (o : Option EndReason) (p : Place) (c d : Bool) (H : About) (ms puts : List Message) (more : List Word) (old new stays gone put : Sent) → AreUnderWay o (progress_of p) c H ms old → AreWords more puts → (c ≡ false) ⊎ (more ≡ []) →
-    (d ≡ false → c ≡ false) → AreLike (connection_in p) old (stays ++ gone) → AreLike (connection_in p) new (stays ++ put) → gone ≡ [] → map word_in more ≡ put → AreUnderWay o (progress_of p) d H (ms ++ puts) new
-out_puts o p c d H ms puts more old new stays gone put w are spare cut before after none same =
+pub out_puts : (o : Option EndReason) (p : Place) (c d : Bool) (H : About) (x : State) (ms puts : List Message) (more : List Word) (old new stays gone put : Sent) → AreUnderWay o (progress_of p) c H x ms old → AreWords more puts → (c ≡ false) ⊎ (more ≡ []) →
+    (d ≡ false → c ≡ false) → AreLike (connection_in p) old (stays ++ gone) → AreLike (connection_in p) new (stays ++ put) → gone ≡ [] → map word_in more ≡ put → AreUnderWay o (progress_of p) d H x (ms ++ puts) new
+out_puts o p c d H x ms puts more old new stays gone put w are spare cut before after none same =
     let first : o ≡ None → AreAlike (progress_of p) (map word_in w.words) stays =
     λ e. subst (λ (l : Sent). AreAlike (progress_of p) (map word_in w.words) l) (ap (λ (l : Sent). stays ++ l) none ∙ append-nil stays) (alike_like p (map word_in w.words) old (stays ++ gone) (w.alike e) before) in
     elim spare [
-      | inl uncut ↦ keeps_whole o p c d H ms puts more old new stays put w (w.kept uncut) are first after same
-      | inr nothing ↦ keeps_same o p c d H ms puts more old new stays put w nothing cut are first after same
+      | inl uncut ↦ keeps_whole o p c d H x ms puts more old new stays put w uncut are first after same
+      | inr nothing ↦ keeps_same o p c d H x ms puts more old new stays put w nothing cut are first after same
     ]
 
 spare_wholes : (c : Bool) (puts : List Message) → (c ≡ false) ⊎ (puts ≡ []) → (c ≡ false) ⊎ (map whole puts ≡ [])
@@ -179,65 +182,88 @@ spare_wholes c puts (inl uncut) = inl uncut
 spare_wholes c puts (inr nothing) = inr (ap (map whole) nothing)
 
 -- messages that go by themselves
-pub out_keeps : (o : Option EndReason) (p : Place) (c d : Bool) (H : About) (ms puts : List Message) (old new stays gone put : Sent) → AreUnderWay o (progress_of p) c H ms old → (c ≡ false) ⊎ (puts ≡ []) → (d ≡ false → c ≡ false) →
-    AreLike (connection_in p) old (stays ++ gone) → AreLike (connection_in p) new (stays ++ put) → gone ≡ [] → map message_in puts ≡ put → AreUnderWay o (progress_of p) d H (ms ++ puts) new
-out_keeps o p c d H ms puts old new stays gone put w spare cut before after none same =
-    out_puts o p c d H ms puts (map whole puts) old new stays gone put w (wholes puts) (spare_wholes c puts spare) cut before after none (words_of_puts puts ∙ same)
+pub out_keeps : (o : Option EndReason) (p : Place) (c d : Bool) (H : About) (x : State) (ms puts : List Message) (old new stays gone put : Sent) → AreUnderWay o (progress_of p) c H x ms old → (c ≡ false) ⊎ (puts ≡ []) → (d ≡ false → c ≡ false) →
+    AreLike (connection_in p) old (stays ++ gone) → AreLike (connection_in p) new (stays ++ put) → gone ≡ [] → map message_in puts ≡ put → AreUnderWay o (progress_of p) d H x (ms ++ puts) new
+out_keeps o p c d H x ms puts old new stays gone put w spare cut before after none same =
+    out_puts o p c d H x ms puts (map whole puts) old new stays gone put w (wholes puts) (spare_wholes c puts spare) cut before after none (words_of_puts puts ∙ same)
 
 -- ---- the last of it is lost
 
--- so many messages are left
-pub record Left (o : Option EndReason) (g : Progress) (d : Bool) (H : About) (ms puts : List Message) (new : Sent) : Type 0 where
-  pub keep : ℕ
-  pub way : AreUnderWay o g d H (take keep ms ++ puts) new
+-- What the tables say of a session to which this is under way: data is no fault there behind what is ahead of it; and
+-- it is over where its peer has left.
+pub record Takes (x : State) (ms : List Message) : Type 0 where
+  pub behind : IsNoFaultBehind x ms
+  pub left : IsOverWhenLeft x ms
 
-pub record Front (o : Option EndReason) (g : Progress) (d : Bool) (H : About) (ms : List Message) (new : Sent) : Type 0 where
+-- so do they of the first of it
+pub front_takes : (x : State) (ms more : List Message) → Takes x (ms ++ more) → Takes x ms
+front_takes x ms more t = record {
+  behind = λ ahead octets rest is. t.behind ahead octets (rest ++ more) (ap (λ (l : List Message). l ++ more) is ∙ append_assoc ahead (unit (DT octets) ∷ rest) more);
+  left = λ away. t.left (list_any-append is_leaving ms more ∙ ap (λ (b : Bool). b || list_any is_leaving more) away);
+}
+
+front_calm : (x : State) (left : Option (List ℕ)) (ms all : List Message) → Takes x all → (IsBegun left → StaysCalm x all) → FrontOf left ms all → StaysCalm x ms
+front_calm x left ms all takes calm (inl a) = takes.behind ms a.octets a.rest a.is
+front_calm x left ms all takes calm (inr (inl away)) = over_calm x ms (takes.left away)
+front_calm x left ms all takes calm (inr (inr same)) = subst (StaysCalm x) same.is (calm same.begins)
+
+-- so many messages are left
+pub record Left (o : Option EndReason) (g : Progress) (d : Bool) (H : About) (x : State) (ms puts : List Message) (new : Sent) : Type 0 where
+  pub keep : ℕ
+  pub way : AreUnderWay o g d H x (take keep ms ++ puts) new
+
+pub record Front (o : Option EndReason) (g : Progress) (d : Bool) (H : About) (x : State) (ms : List Message) (new : Sent) : Type 0 where
   pub keep : ℕ
   pub fits : keep ≤ length ms
-  pub way : AreUnderWay o g d H (take keep ms) new
+  pub way : AreUnderWay o g d H x (take keep ms) new
 
 -- and will be cut
-pub front_at : (o q : Option EndReason) (g h : Progress) (c d : Bool) (H : About) (ms : List Message) (k : ℕ) (old new : Sent) → (w : AreUnderWay o g c H ms old) → d ≡ true →
-    (q ≡ None → AreAlike h (map word_in (take k w.words)) new) → Front q h d H ms new
-front_at o q g h c d H ms k old new w cut alike =
-    let parts : take k w.words ++ (drop k w.words ++ w.lost) ≡ w.words ++ w.lost = sym (append_assoc (take k w.words) (drop k w.words) w.lost) ∙ ap (λ (l : List Word). l ++ w.lost) (take-append-drop k w.words) in
-    let x = cut_words w.begun (take k w.words) (drop k w.words ++ w.lost) ms (subst (AreInOrder w.begun) (sym parts) w.order) (ap (left_of w.begun) parts ∙ w.finished) (ap (joins w.begun) parts ∙ w.joined) in
+pub front_at : (o q : Option EndReason) (g h : Progress) (c d : Bool) (H : About) (x : State) (ms : List Message) (k : ℕ) (old new : Sent) → (w : AreUnderWay o g c H x ms old) → Takes x ms → d ≡ true →
+    (q ≡ None → AreAlike h (map word_in (take k w.words)) new) → Front q h d H x ms new
+front_at o q g h c d H x ms k old new w takes cut alike =
+    let kept = take k w.words in
+    let gone = drop k w.words in
+    let parts : kept ++ gone ≡ w.words = take-append-drop k w.words in
+    let order : AreInOrder w.begun (kept ++ gone) = subst (AreInOrder w.begun) (sym parts) w.order in
+    let all : joins w.begun (kept ++ gone) ≡ ms = ap (joins w.begun) parts ∙ w.joined in
+    let y = cut_behind w.begun kept gone order in
+    let left : take (length (joins w.begun kept)) ms ≡ joins w.begun kept = ap (take (length (joins w.begun kept))) (sym all) ∙ y.0 in
     record {
-      keep = length (joins w.begun (take k w.words ++ x.lost));
-      fits = x.fits;
+      keep = length (joins w.begun kept);
+      fits = subst (λ (l : List Message). length (joins w.begun kept) ≤ length l) all (cut_fits w.begun kept gone);
       way = record {
-        words = take k w.words;
-        lost = x.lost;
+        words = kept;
         begun = w.begun;
         alike = alike;
-        joined = x.joined;
-        order = x.order;
-        finished = x.finished;
-        kept = λ e. (let no : true ≡ false = sym cut ∙ e in cc);
+        joined = sym left;
+        order = y.1;
+        finished = λ e. (let no : true ≡ false = sym cut ∙ e in cc);
+        calm = λ some. subst (StaysCalm x) (sym left)
+            (front_calm x (left_of w.begun (kept ++ gone)) (joins w.begun kept) (joins w.begun (kept ++ gone)) (subst (Takes x) (sym all) takes)
+            (λ begins. subst (StaysCalm x) (sym all) (w.calm (subst (λ (l : List Word). IsBegun (left_of w.begun l)) parts begins)))
+            (front_of w.begun kept gone order some));
         held = w.held;
       };
     }
 
 -- its sender leaves, which is put behind
-leave_at : (o : Option EndReason) (p : Place) (c d : Bool) (H : About) (ms : List Message) (m : Message) (k : ℕ) (old new stays put : Sent) → (w : AreUnderWay o (progress_of p) c H ms old) → MayLeave m →
-    (o ≡ None → AreAlike (progress_of p) (map word_in (take k w.words)) stays) → AreLike (connection_in p) new (stays ++ put) → message_in m ∷ [] ≡ put → Left o (progress_of p) d H ms (m ∷ []) new
-leave_at o p c d H ms m k old new stays put w goes first now_is same =
+leave_at : (o : Option EndReason) (p : Place) (c d : Bool) (H : About) (x : State) (ms : List Message) (m : Message) (k : ℕ) (old new stays put : Sent) → (w : AreUnderWay o (progress_of p) c H x ms old) → MayLeave m →
+    (o ≡ None → AreAlike (progress_of p) (map word_in (take k w.words)) stays) → AreLike (connection_in p) new (stays ++ put) → message_in m ∷ [] ≡ put → Left o (progress_of p) d H x ms (m ∷ []) new
+leave_at o p c d H x ms m k old new stays put w goes first now_is same =
     let kept = take k w.words in
-    let gone = drop k w.words ++ w.lost in
-    let parts : kept ++ gone ≡ w.words ++ w.lost = sym (append_assoc kept (drop k w.words) w.lost) ∙ ap (λ (l : List Word). l ++ w.lost) (take-append-drop k w.words) in
-    let x = leave_behind w.begun kept gone m (subst (AreInOrder w.begun) (sym parts) w.order) goes in
-    let now : (kept ++ whole m ∷ []) ++ [] ≡ kept ++ whole m ∷ [] = append-nil (kept ++ whole m ∷ []) in
+    let gone = drop k w.words in
+    let parts : kept ++ gone ≡ w.words = take-append-drop k w.words in
+    let y = leave_behind w.begun kept gone m (subst (AreInOrder w.begun) (sym parts) w.order) goes in
     record {
       keep = length (joins w.begun kept);
       way = record {
         words = kept ++ whole m ∷ [];
-        lost = [];
         begun = w.begun;
         alike = λ e. put_alike p kept (whole m ∷ []) stays put new (first e) now_is same;
-        joined = ap (joins w.begun) now ∙ x.0 ∙ ap (λ (l : List Message). take (length (joins w.begun kept)) l ++ m ∷ []) (ap (joins w.begun) parts ∙ w.joined);
-        order = subst (AreInOrder w.begun) (sym now) x.2;
-        finished = ap (left_of w.begun) now ∙ x.1;
-        kept = λ e. refl;
+        joined = y.0 ∙ ap (λ (l : List Message). take (length (joins w.begun kept)) l ++ m ∷ []) (ap (joins w.begun) parts ∙ w.joined);
+        order = y.2;
+        finished = λ e. y.1;
+        calm = λ e. no_begun (left_of w.begun (kept ++ whole m ∷ [])) y.1 e;
         held = w.held;
       };
     }
@@ -248,24 +274,24 @@ pub record IsLeave (puts : List Message) : Type 0 where
   pub is : puts ≡ m ∷ []
   pub leaves : MayLeave m
 
-pub out_cuts : (o : Option EndReason) (p : Place) (c d : Bool) (H : About) (ms puts : List Message) (old new stays gone put : Sent) → AreUnderWay o (progress_of p) c H ms old → IsLeave puts ⊎ ((d ≡ true) × (puts ≡ [])) →
-    AreLike (connection_in p) old (stays ++ gone) → AreLike (connection_in p) new (stays ++ put) → map message_in puts ≡ put → Left o (progress_of p) d H ms puts new
-out_cuts o p c d H ms puts old new stays gone put w which before after same =
+pub out_cuts : (o : Option EndReason) (p : Place) (c d : Bool) (H : About) (x : State) (ms puts : List Message) (old new stays gone put : Sent) → AreUnderWay o (progress_of p) c H x ms old → Takes x ms → IsLeave puts ⊎ ((d ≡ true) × (puts ≡ [])) →
+    AreLike (connection_in p) old (stays ++ gone) → AreLike (connection_in p) new (stays ++ put) → map message_in puts ≡ put → Left o (progress_of p) d H x ms puts new
+out_cuts o p c d H x ms puts old new stays gone put w takes which before after same =
     let k = length stays in
     let first : o ≡ None → AreAlike (progress_of p) (map word_in (take k w.words)) stays =
     λ e. subst (λ (l : Sent). AreAlike (progress_of p) l stays) (sym (map_take word_in k w.words))
     (alike_take (progress_of p) (map word_in w.words) stays gone (alike_like p (map word_in w.words) old (stays ++ gone) (w.alike e) before)) in
     elim which [
-      | inl leave ↦ subst (λ (l : List Message). Left o (progress_of p) d H ms l new) (sym leave.is)
-          (leave_at o p c d H ms leave.m k old new stays put w leave.leaves first after (sym (ap (map message_in) leave.is) ∙ same))
+      | inl leave ↦ subst (λ (l : List Message). Left o (progress_of p) d H x ms l new) (sym leave.is)
+          (leave_at o p c d H x ms leave.m k old new stays put w leave.leaves first after (sym (ap (map message_in) leave.is) ∙ same))
       | inr nothing ↦
           let none : [] ≡ put = sym (ap (map message_in) nothing.1) ∙ same in
           let left : stays ++ put ≡ stays = ap (λ (l : Sent). stays ++ l) (sym none) ∙ append-nil stays in
-          let x = front_at o o (progress_of p) (progress_of p) c d H ms k old new w nothing.0
+          let y = front_at o o (progress_of p) (progress_of p) c d H x ms k old new w takes nothing.0
           (λ e. alike_back p (map word_in (take k w.words)) new stays (first e) (subst (λ (l : Sent). AreLike (connection_in p) new l) left after)) in
           record {
-            keep = x.keep;
-            way = subst (λ (l : List Message). AreUnderWay o (progress_of p) d H l new) (sym (ap (λ (l : List Message). take x.keep ms ++ l) nothing.1 ∙ append-nil (take x.keep ms))) x.way;
+            keep = y.keep;
+            way = subst (λ (l : List Message). AreUnderWay o (progress_of p) d H x l new) (sym (ap (λ (l : List Message). take y.keep ms ++ l) nothing.1 ∙ append-nil (take y.keep ms))) y.way;
           }
     ]
 
@@ -341,12 +367,12 @@ alike_kind in_use x y h = let e : x ≡ y = cc in ap kind_of e
 alike_kind shutting x y h = cc
 alike_kind progress.gone x y h = cc
 
--- what becomes of the way where this has begun then
-abbrev pub BehindFirst : Progress → Bool → Option (List ℕ) → List Message → Sent → Type 0
-BehindFirst h d begun ms rest = AreUnderWay None h d (λ x. x ≡ begun) ms rest
+-- what becomes of the way where this has begun then, to a session that is this then
+abbrev pub BehindFirst : Progress → Bool → Option (List ℕ) → State → List Message → Sent → Type 0
+BehindFirst h d begun x ms rest = AreUnderWay None h d (λ b. b ≡ begun) x ms rest
 
-pub behind_first : (q : Option EndReason) (h : Progress) (d : Bool) (K : About) (begun : Option (List ℕ)) (ms : List Message) (rest : Sent) → BehindFirst h d begun ms rest → K begun → AreUnderWay q h d K ms rest
-behind_first q h d K begun ms rest w held = as_now None q h h d d (λ x. x ≡ begun) K ms rest rest w (λ e. e) (λ x e. subst K (sym e) held) (λ e. w.alike refl)
+pub behind_first : (q : Option EndReason) (h : Progress) (d : Bool) (K : About) (begun : Option (List ℕ)) (x y : State) (ms : List Message) (rest : Sent) → BehindFirst h d begun x ms rest → K begun → (StaysCalm x ms → StaysCalm y ms) → AreUnderWay q h d K y ms rest
+behind_first q h d K begun x y ms rest w held calms = as_now None q h h d d (λ b. b ≡ begun) K x y ms rest rest w (λ e. e) (λ b e. subst K (sym e) held) calms (λ e. w.alike refl)
 
 -- a message comes by itself
 pub record IsAlone (g : Progress) (H : About) (first : Message) (m : carrier.Message) : Type 0 where
@@ -363,13 +389,13 @@ pub record IsLast (g : Progress) (H : About) (first : Message) (m : carrier.Mess
   pub held : H (Some front)
 
 -- a message comes first
-pub record Split (g h : Progress) (d : Bool) (H : About) (ms : List Message) (m : carrier.Message) (rest : Sent) : Type 0 where
+pub record Split (g h : Progress) (d : Bool) (H : About) (x : State) (ms : List Message) (m : carrier.Message) (rest : Sent) : Type 0 where
   pub first : Message
   pub others : List Message
   pub parts : ms ≡ first ∷ others
   pub kind : kind_of (message_in first) ≡ kind_of m
   pub how : IsAlone g H first m ⊎ IsLast g H first m
-  pub stays : BehindFirst h d None others rest
+  pub stays : BehindFirst h d None (after_message x first) others rest
 
 -- a part that begins a Data, or goes on with one
 pub record Begins (H : About) (place : PartPlace) (octets now : List ℕ) : Type 0 where
@@ -383,22 +409,26 @@ pub record GoesOn (H : About) (place : PartPlace) (octets now : List ℕ) : Type
   pub now_is : now ≡ front ++ octets
   pub held : H (Some front)
 
+-- what is known of the Data of which a part comes: the rest of it is behind it; or its sender has left; or the rest was
+-- cut off, and data is no fault
+abbrev pub NextOf : State → List ℕ → List Message → Type 0
+NextOf x now ms = IsRest now ms ⊎ ((list_any is_leaving ms ≡ true) ⊎ IsCalm x)
+
 -- or such a part does: the messages stay
-pub record PartFirst (g h : Progress) (d : Bool) (H : About) (ms : List Message) (m : carrier.Message) (rest : Sent) : Type 0 where
+pub record PartFirst (g h : Progress) (d : Bool) (H : About) (x : State) (ms : List Message) (m : carrier.Message) (rest : Sent) : Type 0 where
   pub place : PartPlace
   pub octets : List ℕ
   pub is : AreAlike g (carrier.message (part_octets place octets) ∷ []) (m ∷ [])
   pub now : List ℕ
   pub short : length now ≤ most_data
   pub how : Begins H place octets now ⊎ GoesOn H place octets now
-  pub stays : BehindFirst h d (Some now) ms rest
-  -- the rest of the Data is behind it, or its sender has left
-  pub next : ((more : List ℕ) × ((ns : List Message) × (ms ≡ unit (DT (now ++ more)) ∷ ns))) ⊎ (list_any is_leaving ms ≡ true)
+  pub stays : BehindFirst h d (Some now) x ms rest
+  pub next : NextOf x now ms
 
-abbrev pub Comes : Progress → Progress → Bool → About → List Message → carrier.Message → Sent → Type 0
-Comes g h d H ms m rest = Split g h d H ms m rest ⊎ PartFirst g h d H ms m rest
+abbrev pub Comes : Progress → Progress → Bool → About → State → List Message → carrier.Message → Sent → Type 0
+Comes g h d H x ms m rest = Split g h d H x ms m rest ⊎ PartFirst g h d H x ms m rest
 
-follows : (b : Option (List ℕ)) (x : Message) → MayFollow b x → is_leaving x ≡ false → b ≡ None
+follows : (b : Option (List ℕ)) (m : Message) → MayFollow b m → is_leaving m ≡ false → b ≡ None
 follows b (unit u) h e = h
 follows b ask h e = h
 follows b agree h e = h
@@ -406,53 +436,80 @@ follows b (deny r) h e = h
 follows b (bye r) h e = cc
 follows b over h e = cc
 
-part_next : (now : List ℕ) (words : List Word) (ms : List Message) → joins (Some now) words ≡ ms → AreInOrder (Some now) words → left_of (Some now) words ≡ None →
-    ((more : List ℕ) × ((ns : List Message) × (ms ≡ unit (DT (now ++ more)) ∷ ns))) ⊎ (list_any is_leaving ms ≡ true)
-part_next now words ms joined order finished = elim (next_is now words order finished) [
-  | inl more ↦ inl (more.0, (more.1.0, sym joined ∙ more.1.1))
-  | inr left ↦ inr (ap (list_any is_leaving) (sym joined) ∙ left)
-]
+-- where nothing is ahead of it
+calm_now : (x : State) (ms : List Message) → ms ≡ [] → StaysCalm x ms → IsCalm x
+calm_now x ms none calm = subst (StaysCalm x) none calm [] tt
 
-split_way : (g h : Progress) (d : Bool) (H : About) (ms : List Message) (m : carrier.Message) (rest : Sent) (begun : Option (List ℕ)) (lost : List Word) (first : Word) (others : List Word) →
-    AreAlike g (word_in first ∷ []) (m ∷ []) → AreAlike h (map word_in others) rest → joins begun ((first ∷ others) ++ lost) ≡ ms → AreInOrder begun ((first ∷ others) ++ lost) →
-    left_of begun ((first ∷ others) ++ lost) ≡ None → (d ≡ false → lost ≡ []) → H begun → Comes g h d H ms m rest
-split_way g h d H ms m rest begun lost (whole x) others is stays joined order finished kept held = inl (record {
-  first = x;
-  others = joins None (others ++ lost);
+next_of : (x : State) (now : List ℕ) (left : Option (List ℕ)) (ms : List Message) → (IsBegun left → StaysCalm x ms) → Next now left ms → NextOf x now ms
+next_of x now left ms calm (inl r) = inl r
+next_of x now left ms calm (inr (inl away)) = inr (inl away)
+next_of x now left ms calm (inr (inr c)) = inr (inr (calm_now x ms c.none (calm c.begins)))
+
+part_next : (x : State) (now : List ℕ) (words : List Word) (ms : List Message) → joins (Some now) words ≡ ms → AreInOrder (Some now) words → (IsBegun (left_of (Some now) words) → StaysCalm x ms) → NextOf x now ms
+part_next x now words ms joined order calm = next_of x now (left_of (Some now) words) ms calm (subst (Next now (left_of (Some now) words)) joined (next_is now words order))
+
+-- behind a message that was taken
+taken_calm : (x : State) (ms others : List Message) (m : Message) → m ∷ others ≡ ms → StaysCalm x ms → StaysCalm (after_message x m) others
+taken_calm x ms others m joined calm = subst (StaysCalm x) (sym joined) calm [] tt
+
+split_way : (g h : Progress) (d : Bool) (H : About) (x : State) (ms : List Message) (m : carrier.Message) (rest : Sent) (begun : Option (List ℕ)) (first : Word) (others : List Word) →
+    AreAlike g (word_in first ∷ []) (m ∷ []) → AreAlike h (map word_in others) rest → joins begun (first ∷ others) ≡ ms → AreInOrder begun (first ∷ others) →
+    (d ≡ false → left_of begun (first ∷ others) ≡ None) → (IsBegun (left_of begun (first ∷ others)) → StaysCalm x ms) → H begun → Comes g h d H x ms m rest
+split_way g h d H x ms m rest begun (whole first) others is stays joined order finished calm held = inl (record {
+  first = first;
+  others = joins None others;
   parts = sym joined;
-  kind = alike_kind g (message_in x) m is;
-  how = inl (record { is = is; held = λ e. subst H (follows begun x order.0 e) held });
-  stays = record { words = others; lost = lost; begun = None; alike = λ e. stays; joined = refl; order = order.1; finished = finished; kept = kept; held = refl };
+  kind = alike_kind g (message_in first) m is;
+  how = inl (record { is = is; held = λ e. subst H (follows begun first order.0 e) held });
+  stays = record {
+    words = others;
+    begun = None;
+    alike = λ e. stays;
+    joined = refl;
+    order = order.1;
+    finished = finished;
+    calm = λ some. taken_calm x ms (joins None others) first joined (calm some);
+    held = refl;
+  };
 })
-split_way g h d H ms m rest begun lost (part First o) others is stays joined order finished kept held = inr (record {
+split_way g h d H x ms m rest begun (part First o) others is stays joined order finished calm held = inr (record {
   place = First;
   octets = o;
   is = is;
   now = o;
   short = order.1;
   how = inl (record { place_is = refl; now_is = refl; held = subst H order.0 held });
-  stays = record { words = others; lost = lost; begun = Some o; alike = λ e. stays; joined = joined; order = order.2; finished = finished; kept = kept; held = refl };
-  next = part_next o (others ++ lost) ms joined order.2 finished;
+  stays = record { words = others; begun = Some o; alike = λ e. stays; joined = joined; order = order.2; finished = finished; calm = calm; held = refl };
+  next = part_next x o others ms joined order.2 calm;
 })
-split_way g h d H ms m rest None lost (part Middle o) others is stays joined order finished kept held = absurd order.0
-split_way g h d H ms m rest (Some b) lost (part Middle o) others is stays joined order finished kept held = inr (record {
+split_way g h d H x ms m rest None (part Middle o) others is stays joined order finished calm held = absurd order.0
+split_way g h d H x ms m rest (Some b) (part Middle o) others is stays joined order finished calm held = inr (record {
   place = Middle;
   octets = o;
   is = is;
   now = b ++ o;
   short = order.1;
   how = inr (record { place_is = refl; front = b; now_is = refl; held = held });
-  stays = record { words = others; lost = lost; begun = Some (b ++ o); alike = λ e. stays; joined = joined; order = order.2; finished = finished; kept = kept; held = refl };
-  next = part_next (b ++ o) (others ++ lost) ms joined order.2 finished;
+  stays = record { words = others; begun = Some (b ++ o); alike = λ e. stays; joined = joined; order = order.2; finished = finished; calm = calm; held = refl };
+  next = part_next x (b ++ o) others ms joined order.2 calm;
 })
-split_way g h d H ms m rest None lost (part Last o) others is stays joined order finished kept held = absurd order.0
-split_way g h d H ms m rest (Some b) lost (part Last o) others is stays joined order finished kept held = inl (record {
+split_way g h d H x ms m rest None (part Last o) others is stays joined order finished calm held = absurd order.0
+split_way g h d H x ms m rest (Some b) (part Last o) others is stays joined order finished calm held = inl (record {
   first = unit (DT (b ++ o));
-  others = joins None (others ++ lost);
+  others = joins None others;
   parts = sym joined;
   kind = alike_kind g (carrier.message (part_octets Last o)) m is;
   how = inr (record { front = b; last = o; first_is = refl; is = is; short = order.1; held = held });
-  stays = record { words = others; lost = lost; begun = None; alike = λ e. stays; joined = refl; order = order.2; finished = finished; kept = kept; held = refl };
+  stays = record {
+    words = others;
+    begun = None;
+    alike = λ e. stays;
+    joined = refl;
+    order = order.2;
+    finished = finished;
+    calm = λ some. taken_calm x ms (joins None others) (unit (DT (b ++ o))) joined (calm some);
+    held = refl;
+  };
 })
 
 -- a message that is no TSDU comes by itself
@@ -471,20 +528,20 @@ no_part g octets m e is = no_kind m e (alike_kind g (carrier.message octets) m i
     no_kind (carrier.bye r) e k = cc
     no_kind carrier.over e k = cc
 
-pub record Alone (g h : Progress) (d : Bool) (H : About) (ms : List Message) (m : carrier.Message) (rest : Sent) : Type 0 where
+pub record Alone (g h : Progress) (d : Bool) (H : About) (x : State) (ms : List Message) (m : carrier.Message) (rest : Sent) : Type 0 where
   pub first : Message
   pub others : List Message
   pub parts : ms ≡ first ∷ others
   pub kind : kind_of (message_in first) ≡ kind_of m
   pub alone : IsAlone g H first m
-  pub stays : BehindFirst h d None others rest
+  pub stays : BehindFirst h d None (after_message x first) others rest
 
-pub alone_of : (g h : Progress) (d : Bool) (H : About) (ms : List Message) (m : carrier.Message) (rest : Sent) → is_tsdu m ≡ false → Comes g h d H ms m rest → Alone g h d H ms m rest
-alone_of g h d H ms m rest e (inl s) = elim s.how [
+pub alone_of : (g h : Progress) (d : Bool) (H : About) (x : State) (ms : List Message) (m : carrier.Message) (rest : Sent) → is_tsdu m ≡ false → Comes g h d H x ms m rest → Alone g h d H x ms m rest
+alone_of g h d H x ms m rest e (inl s) = elim s.how [
   | inl a ↦ record { first = s.first; others = s.others; parts = s.parts; kind = s.kind; alone = a; stays = s.stays }
   | inr l ↦ absurd (no_part g (part_octets Last l.last) m e l.is)
 ]
-alone_of g h d H ms m rest e (inr q) = absurd (no_part g (part_octets q.place q.octets) m e q.is)
+alone_of g h d H x ms m rest e (inr q) = absurd (no_part g (part_octets q.place q.octets) m e q.is)
 
 -- by row
 same_then : (g : Progress) (xs ys zs : Sent) → AreAlike g xs ys → ys ≡ zs → AreAlike g xs zs
@@ -532,16 +589,15 @@ comes_first row old new ms m ys rest e f h k =
     let s = split (before row) ms m rest (row_over row new (map word_in ms) ys (m ∷ rest) f (subst (λ (g : Progress). AreAlike g (map word_in ms) ys) e h) k) in
     record { first = s.first; others = s.others; parts = s.parts; is = s.is; stays = row_up row (map word_in s.others) rest s.stays }
 
-pub back_comes : (row : Row) (o : Option EndReason) (old new : Place) (c d : Bool) (H : About) (ms : List Message) (m : carrier.Message) (ys rest : Sent) → progress_of old ≡ before row → progress_of new ≡ after row →
-    AreUnderWay o (progress_of old) c H ms ys → o ≡ None → (d ≡ false → c ≡ false) → AreLike (connection_in new) ys (m ∷ rest) → Comes (before row) (after row) d H ms m rest
-back_comes row o old new c d H ms m ys rest e f w lasts cut k =
+pub back_comes : (row : Row) (o : Option EndReason) (old new : Place) (c d : Bool) (H : About) (x : State) (ms : List Message) (m : carrier.Message) (ys rest : Sent) → progress_of old ≡ before row → progress_of new ≡ after row →
+    AreUnderWay o (progress_of old) c H x ms ys → o ≡ None → (d ≡ false → c ≡ false) → AreLike (connection_in new) ys (m ∷ rest) → Comes (before row) (after row) d H x ms m rest
+back_comes row o old new c d H x ms m ys rest e f w lasts cut k =
     let s = comes_first row old new w.words m ys rest e f (w.alike lasts) k in
-    let all : w.words ++ w.lost ≡ (s.first ∷ s.others) ++ w.lost = ap (λ (l : List Word). l ++ w.lost) s.parts in
-    split_way (before row) (after row) d H ms m rest w.begun w.lost s.first s.others s.is s.stays (sym (ap (joins w.begun) all) ∙ w.joined) (subst (AreInOrder w.begun) all w.order)
-    (sym (ap (left_of w.begun) all) ∙ w.finished) (λ x. w.kept (cut x)) w.held
+    split_way (before row) (after row) d H x ms m rest w.begun s.first s.others s.is s.stays (sym (ap (joins w.begun) s.parts) ∙ w.joined) (subst (AreInOrder w.begun) s.parts w.order)
+    (λ z. sym (ap (left_of w.begun) s.parts) ∙ w.finished (cut z)) (λ some. w.calm (subst (λ (l : List Word). IsBegun (left_of w.begun l)) (sym s.parts) some)) w.held
 
 -- nothing did
-pub back_waits : (o q : Option EndReason) (g : Progress) (new : Place) (c d : Bool) (H K : About) (ms : List Message) (ys zs : Sent) → (shuts g ≡ true → shuts (progress_of new) ≡ true) →
-    AreUnderWay o g c H ms ys → o ≡ None → (d ≡ false → c ≡ false) → ((x : Option (List ℕ)) → H x → K x) → AreLike (connection_in new) ys zs → AreUnderWay q (progress_of new) d K ms zs
-back_waits o q g new c d H K ms ys zs shut w lasts cut holds k =
-    as_now o q g (progress_of new) c d H K ms ys zs w cut holds (λ e. back_stays g new (map word_in w.words) ys zs shut (w.alike lasts) k)
+pub back_waits : (o q : Option EndReason) (g : Progress) (new : Place) (c d : Bool) (H K : About) (x : State) (ms : List Message) (ys zs : Sent) → (shuts g ≡ true → shuts (progress_of new) ≡ true) →
+    AreUnderWay o g c H x ms ys → o ≡ None → (d ≡ false → c ≡ false) → ((b : Option (List ℕ)) → H b → K b) → AreLike (connection_in new) ys zs → AreUnderWay q (progress_of new) d K x ms zs
+back_waits o q g new c d H K x ms ys zs shut w lasts cut holds k =
+    as_now o q g (progress_of new) c d H K x x ms ys zs w cut holds (λ calm. calm) (λ e. back_stays g new (map word_in w.words) ys zs shut (w.alike lasts) k)

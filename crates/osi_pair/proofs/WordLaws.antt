@@ -1,11 +1,11 @@
 -- What is put behind words, what is cut from them, and what then is left of their messages.
-use Rattle.std.proofs.Common.{◌≡◌, refl, ◌∙◌, ap, subst, sym, ℕ, ◌+◌, ◌≤◌, List, [], ◌∷◌, ◌++◌, length, take, map, Option, Some, None, append_assoc, ◌⊎◌, inl, inr, true, arith}
+use Rattle.std.proofs.Common.{◌≡◌, refl, ◌∙◌, ap, subst, sym, ℕ, ◌≤◌, List, [], ◌∷◌, ◌++◌, length, take, map, Option, Some, None, append_assoc, ◌⊎◌, inl, inr, true, arith}
 use Rattle.std.proofs.Math.Seq.{take-append_seam}
-use Rattle.std.proofs.lemmas.List.{length-append}
+use Rattle.std.proofs.lemmas.List.{append-nil, length-append}
 use Rattle.osi_machine.specs.Worlds.{Message, unit, ask, agree, deny, bye, over}
 use Rattle.osi_message.specs.Meanings.{DT}
 use Rattle.osi_message.specs.declared.places.Place.TheVariants.{First, Middle, Last}
-use Rattle.osi_pair.specs.Words.{Word, whole, part, begun_octets, joins, left_of, MayFollow, AreInOrder}
+use Rattle.osi_pair.specs.Words.{Word, whole, part, begun_octets, joins, left_of, MayFollow, IsBegun, AreInOrder}
 use Rattle.std.specs.List.{list_any}
 use Rattle.osi_machine.specs.AsTables.{is_leaving}
 
@@ -68,89 +68,51 @@ pub whole_left : (ms : List Message) → left_of None (map whole ms) ≡ None
 whole_left [] = refl
 whole_left (m ∷ ms) = whole_left ms
 
--- ---- what finishes a Data that has begun
+-- ---- behind what has begun of a Data
 
--- its other parts, or what its sender left in their place
-abbrev finish : List Word → List Word
-finish [] = []
-finish (whole m ∷ words) = whole m ∷ []
-finish (part First o ∷ words) = []
-finish (part Middle o ∷ words) = part Middle o ∷ finish words
-finish (part Last o ∷ words) = part Last o ∷ []
+-- what comes behind it: the rest of the Data; or a message by which its sender leaves; or parts of it alone, of which
+-- the last was cut off
+pub record IsRest (b : List ℕ) (ms : List Message) : Type 0 where
+  pub rest : List ℕ
+  pub others : List Message
+  pub is : ms ≡ unit (DT (b ++ rest)) ∷ others
 
-abbrev pub rest_of : Option (List ℕ) → List Word → List Word
-rest_of None words = []
-rest_of (Some o) words = finish words
+pub record IsCut (begun : Option (List ℕ)) (ms : List Message) : Type 0 where
+  pub none : ms ≡ []
+  pub begins : IsBegun begun
 
-finish_left : (o : List ℕ) (words : List Word) → AreInOrder (Some o) words → left_of (Some o) words ≡ None → left_of (Some o) (finish words) ≡ None
-finish_left o [] h e = cc
-finish_left o (whole m ∷ words) h e = refl
-finish_left o (part First x ∷ words) h e = let no : Some o ≡ None = h.0 in cc
-finish_left o (part Middle x ∷ words) h e = finish_left (o ++ x) words h.2 e
-finish_left o (part Last x ∷ words) h e = refl
+abbrev pub Next : List ℕ → Option (List ℕ) → List Message → Type 0
+Next b left ms = IsRest b ms ⊎ ((list_any is_leaving ms ≡ true) ⊎ IsCut left ms)
 
-rest_left : (b : Option (List ℕ)) (words : List Word) → AreInOrder b words → left_of b words ≡ None → left_of b (rest_of b words) ≡ None
-rest_left None words h e = refl
-rest_left (Some o) words h e = finish_left o words h e
+next_more : (b x : List ℕ) (left : Option (List ℕ)) (ms : List Message) → Next (b ++ x) left ms → Next b left ms
+next_more b x left ms (inl more) =
+    inl (record { rest = x ++ more.rest; others = more.others; is = more.is ∙ ap (λ (o : List ℕ). unit (DT o) ∷ more.others) (append_assoc b x more.rest) })
+next_more b x left ms (inr other) = inr other
 
-finish_front : (words : List Word) → (gone : List Word) × (words ≡ finish words ++ gone)
-finish_front [] = ([], refl)
-finish_front (whole m ∷ words) = (words, refl)
-finish_front (part First x ∷ words) = (part First x ∷ words, refl)
-finish_front (part Middle x ∷ words) = let f = finish_front words in (f.0, ap (λ (l : List Word). part Middle x ∷ l) f.1)
-finish_front (part Last x ∷ words) = (words, refl)
-
-rest_front : (b : Option (List ℕ)) (words : List Word) → (gone : List Word) × (words ≡ rest_of b words ++ gone)
-rest_front None words = (words, refl)
-rest_front (Some o) words = finish_front words
-
--- behind parts comes the rest of their Data, or its sender has left
-pub next_is : (b : List ℕ) (words : List Word) → AreInOrder (Some b) words → left_of (Some b) words ≡ None →
-    ((rest : List ℕ) × ((ms : List Message) × (joins (Some b) words ≡ unit (DT (b ++ rest)) ∷ ms))) ⊎ (list_any is_leaving (joins (Some b) words) ≡ true)
-next_is b [] h e = cc
-next_is b (whole (unit m) ∷ words) h e = let no : Some b ≡ None = h.0 in cc
-next_is b (whole ask ∷ words) h e = let no : Some b ≡ None = h.0 in cc
-next_is b (whole agree ∷ words) h e = let no : Some b ≡ None = h.0 in cc
-next_is b (whole (deny r) ∷ words) h e = let no : Some b ≡ None = h.0 in cc
-next_is b (whole (bye r) ∷ words) h e = inr refl
-next_is b (whole over ∷ words) h e = inr refl
-next_is b (part First x ∷ words) h e = let no : Some b ≡ None = h.0 in cc
-next_is b (part Last x ∷ words) h e = inl (x, (joins None words, refl))
-next_is b (part Middle x ∷ words) h e = elim (next_is (b ++ x) words h.2 e) [
-  | inl more ↦ inl (x ++ more.0, (more.1.0, more.1.1 ∙ ap (λ (o : List ℕ). unit (DT o) ∷ more.1.0) (append_assoc b x more.0)))
-  | inr left ↦ inr left
-]
+pub next_is : (b : List ℕ) (words : List Word) → AreInOrder (Some b) words → Next b (left_of (Some b) words) (joins (Some b) words)
+next_is b [] h = inr (inr (record { none = refl; begins = tt }))
+next_is b (whole (unit m) ∷ words) h = let no : Some b ≡ None = h.0 in cc
+next_is b (whole ask ∷ words) h = let no : Some b ≡ None = h.0 in cc
+next_is b (whole agree ∷ words) h = let no : Some b ≡ None = h.0 in cc
+next_is b (whole (deny r) ∷ words) h = let no : Some b ≡ None = h.0 in cc
+next_is b (whole (bye r) ∷ words) h = inr (inl refl)
+next_is b (whole over ∷ words) h = inr (inl refl)
+next_is b (part First x ∷ words) h = let no : Some b ≡ None = h.0 in cc
+next_is b (part Last x ∷ words) h = inl (record { rest = x; others = joins None words; is = refl })
+next_is b (part Middle x ∷ words) h = next_more b x (left_of (Some (b ++ x)) words) (joins (Some (b ++ x)) words) (next_is (b ++ x) words h.2)
 
 -- ---- what is under way
-
--- A suffix is lost: with what finishes the Data that is begun, what is left is a front of the messages.
-pub record Cut (b : Option (List ℕ)) (kept gone : List Word) (channel : List Message) : Type 0 where
-  pub lost : List Word
-  pub order : AreInOrder b (kept ++ lost)
-  pub finished : left_of b (kept ++ lost) ≡ None
-  pub joined : joins b (kept ++ lost) ≡ take (length (joins b (kept ++ lost))) channel
-  pub fits : length (joins b (kept ++ lost)) ≤ length channel
-
-pub cut_words : (b : Option (List ℕ)) (kept gone : List Word) (channel : List Message) → AreInOrder b (kept ++ gone) → left_of b (kept ++ gone) ≡ None → joins b (kept ++ gone) ≡ channel → Cut b kept gone channel
-cut_words b kept gone channel order finished joined =
-    let lost = rest_of (left_of b kept) gone in
-    let f = rest_front (left_of b kept) gone in
-    let all : kept ++ gone ≡ (kept ++ lost) ++ f.0 = ap (λ (l : List Word). kept ++ l) f.1 ∙ sym (append_assoc kept lost f.0) in
-    let same : channel ≡ joins b (kept ++ lost) ++ joins (left_of b (kept ++ lost)) f.0 = sym joined ∙ ap (joins b) all ∙ joins_append b (kept ++ lost) f.0 in
-    let long : length channel ≡ length (joins b (kept ++ lost)) + length (joins (left_of b (kept ++ lost)) f.0) = ap length same ∙ length-append (joins b (kept ++ lost)) (joins (left_of b (kept ++ lost)) f.0) in
-    record {
-      lost = lost;
-      order = order_front b (kept ++ lost) f.0 (subst (AreInOrder b) all order);
-      finished = left_append b kept lost ∙ rest_left (left_of b kept) gone (order_back b kept gone order) (sym (left_append b kept gone) ∙ finished);
-      joined = sym (ap (take (length (joins b (kept ++ lost)))) same ∙ take-append_seam (joins b (kept ++ lost)) (joins (left_of b (kept ++ lost)) f.0));
-      fits = omega arith;
-    }
 
 -- what is left of words that lose a suffix is what is left of their messages
 pub cut_behind : (b : Option (List ℕ)) (kept gone : List Word) → AreInOrder b (kept ++ gone) →
     (take (length (joins b kept)) (joins b (kept ++ gone)) ≡ joins b kept) × AreInOrder b kept
 cut_behind b kept gone h =
     (ap (take (length (joins b kept))) (joins_append b kept gone) ∙ take-append_seam (joins b kept) (joins (left_of b kept) gone), order_front b kept gone h)
+
+pub cut_fits : (b : Option (List ℕ)) (kept gone : List Word) → length (joins b kept) ≤ length (joins b (kept ++ gone))
+cut_fits b kept gone =
+    let long = ap length (joins_append b kept gone) ∙ length-append (joins b kept) (joins (left_of b kept) gone) in
+    omega arith
 
 -- words that are these messages, each of them whole
 pub record AreWords (words : List Word) (messages : List Message) : Type 0 where
@@ -177,6 +139,44 @@ put_words b words more ms h e are = (
 -- a message by which the sender leaves, behind a front of them
 abbrev pub MayLeave : Message → Type 0
 MayLeave m = (b : Option (List ℕ)) → MayFollow b m
+
+any_behind : (xs ys : List Message) → list_any is_leaving ys ≡ true → list_any is_leaving (xs ++ ys) ≡ true
+any_behind [] ys e = e
+any_behind (unit u ∷ xs) ys e = any_behind xs ys e
+any_behind (ask ∷ xs) ys e = any_behind xs ys e
+any_behind (agree ∷ xs) ys e = any_behind xs ys e
+any_behind (deny r ∷ xs) ys e = any_behind xs ys e
+any_behind (bye r ∷ xs) ys e = refl
+any_behind (over ∷ xs) ys e = refl
+
+-- Of a front of them that leaves a Data unfinished: the whole of it was among the messages, or its sender has left, or
+-- the messages are the same.
+pub record IsAhead (ms all : List Message) : Type 0 where
+  pub octets : List ℕ
+  pub rest : List Message
+  pub is : all ≡ ms ++ unit (DT octets) ∷ rest
+
+pub record IsSame (left : Option (List ℕ)) (ms all : List Message) : Type 0 where
+  pub is : all ≡ ms
+  pub begins : IsBegun left
+
+abbrev pub FrontOf : Option (List ℕ) → List Message → List Message → Type 0
+FrontOf left ms all = IsAhead ms all ⊎ ((list_any is_leaving all ≡ true) ⊎ IsSame left ms all)
+
+behind_it : (b : Option (List ℕ)) (left : Option (List ℕ)) (ms more all : List Message) → IsBegun b → ((x : List ℕ) → b ≡ Some x → Next x left more) → all ≡ ms ++ more → FrontOf left ms all
+behind_it None left ms more all some next e = absurd some
+behind_it (Some x) left ms more all some next e = elim (next x refl) [
+  | inl r ↦ inl (record { octets = x ++ r.rest; rest = r.others; is = e ∙ ap (λ (l : List Message). ms ++ l) r.is })
+  | inr (inl away) ↦ inr (inl (ap (list_any is_leaving) e ∙ any_behind ms more away))
+  | inr (inr c) ↦ inr (inr (record { is = e ∙ ap (λ (l : List Message). ms ++ l) c.none ∙ append-nil ms; begins = c.begins }))
+]
+
+pub front_of : (b : Option (List ℕ)) (kept gone : List Word) → AreInOrder b (kept ++ gone) → IsBegun (left_of b kept) → FrontOf (left_of b (kept ++ gone)) (joins b kept) (joins b (kept ++ gone))
+front_of b kept gone h some =
+    behind_it (left_of b kept) (left_of b (kept ++ gone)) (joins b kept) (joins (left_of b kept) gone) (joins b (kept ++ gone)) some
+    (λ x e. subst (λ (l : Option (List ℕ)). Next x l (joins (left_of b kept) gone)) (sym (left_append b kept gone))
+    (subst (λ (q : Option (List ℕ)). Next x (left_of q gone) (joins q gone)) (sym e) (next_is x gone (subst (λ (q : Option (List ℕ)). AreInOrder q gone) e (order_back b kept gone h)))))
+    (joins_append b kept gone)
 
 pub leave_behind : (b : Option (List ℕ)) (kept gone : List Word) (m : Message) → AreInOrder b (kept ++ gone) → MayLeave m →
     (joins b (kept ++ whole m ∷ []) ≡ take (length (joins b kept)) (joins b (kept ++ gone)) ++ m ∷ []) × (left_of b (kept ++ whole m ∷ []) ≡ None) × AreInOrder b (kept ++ whole m ∷ [])

@@ -19,6 +19,7 @@ use Rattle.osi_carrier.specs.declared.ends.EndReason.TheVariants as why
 use Rattle.osi_carrier.specs.declared.faults.OpenError.TheVariants as opening
 use Rattle.osi_class.specs.declared.terms.Class.{Class}
 use Rattle.osi_class.specs.declared.terms.Class.TheVariants as classes
+use Rattle.osi_machine.specs.Calm.{StaysCalm}
 use Rattle.osi_machine.specs.Core.{Offer}
 use Rattle.osi_machine.specs.Core as machine
 use Rattle.osi_machine.specs.Machine.{Ending, told_of_break, closed_here, no_memory, Refusal, has_ended, negotiating, one_connection, too_many, references_used_up, not_selected, too_long, connect_answered, call_answered, shown_at, ended, connection_at, Step, delivers, breaks, HasNumber}
@@ -42,11 +43,12 @@ use Rattle.osi_pair.specs.Asked.{Asked}
 use Rattle.osi_pair.specs.Ends.{TwoEnds, end_at, with_end}
 use Rattle.osi_pair.specs.Entries.{Entry, asks, calls, shows, ends}
 use Rattle.osi_pair.specs.Telling.{waiting_in}
-use Rattle.osi_pair.specs.Words.{Word, whole, part, joins, left_of, AreInOrder}
+use Rattle.osi_pair.specs.Words.{Word, whole, part, joins, left_of, IsBegun, AreInOrder}
 use Rattle.osi_pair.specs.declared.sides.Side.{Side}
 use Rattle.osi_pair.specs.declared.sides.Side.TheVariants.{Left, Right}
 use Rattle.osi_session.specs.Kept.{IsJoinedAs}
 use Rattle.osi_session.specs.Moves.{Standing}
+use Rattle.osi_session.specs.declared.state.State.{State}
 
 -- ---- the words of the one in those of the other
 
@@ -171,18 +173,18 @@ AreAlike progress.gone some others = map kind_of some ≡ map kind_of others
 AreAlike taker some others = some ≡ others
 
 -- What is under way to a taker, which may have ended: the messages of the tables, and those between two
--- carriers, by the words in which they go. `lost`: the last of what is under way by the tables, which will
--- never come; there is none of it where nothing was cut from what is under way.
-pub record AreUnderWay (reason : Option EndReason) (taker : Progress) (cut : Bool) (Holds : Option (List ℕ) → Type 0) (channel : List Message) (sent : List carrier.Message) : Type 0 where
+-- carriers, by the words in which they go. The tables have a Data as long as all of it that is still to come is
+-- under way. Where the rest of it was cut off, by a break or by the end of its sender, they do not have it any
+-- more: what there is of it may still arrive, and is no fault to the session of the taker.
+pub record AreUnderWay (reason : Option EndReason) (taker : Progress) (cut : Bool) (Holds : Option (List ℕ) → Type 0) (session : State) (channel : List Message) (sent : List carrier.Message) : Type 0 where
   pub words : List Word
-  pub lost : List Word
   -- of an unfinished Data, what is not under way any more
   pub begun : Option (List ℕ)
   pub alike : reason ≡ None → AreAlike taker (map word_in words) sent
-  pub joined : joins begun (words ++ lost) ≡ channel
-  pub order : AreInOrder begun (words ++ lost)
-  pub finished : left_of begun (words ++ lost) ≡ None
-  pub kept : cut ≡ false → lost ≡ []
+  pub joined : joins begun words ≡ channel
+  pub order : AreInOrder begun words
+  pub finished : cut ≡ false → left_of begun words ≡ None
+  pub calm : IsBegun (left_of begun words) → StaysCalm session channel
   pub held : Holds begun
 
 -- the session that an end keeps has joined of an unfinished Data what has begun, unless it discards data
@@ -190,19 +192,19 @@ abbrev pub HasJoined : ℕ → Holding → Option (List ℕ) → Type 0
 HasJoined n h begun = (l : Listener) → kept_at n h.end.lines ≡ Some l → IsJoinedAs l.state l.joined begun
 
 -- what is under way from a side to the other, whose connection is this far
-abbrev pub Goes : Side → Side → ℕ → TwoEnds → Between → Progress → List Message → Type 0
-Goes side other n p b taker channel =
-    AreUnderWay (end_at other p).end.carrier.ended taker (is_cut (is_caller side) (carriers_of p)) (HasJoined n (end_at other p)) channel (under_way (is_caller side) n (carriers_of p) b)
+abbrev pub Goes : Side → Side → ℕ → TwoEnds → Between → Progress → State → List Message → Type 0
+Goes side other n p b taker session channel =
+    AreUnderWay (end_at other p).end.carrier.ended taker (is_cut (is_caller side) (carriers_of p)) (HasJoined n (end_at other p)) session channel (under_way (is_caller side) n (carriers_of p) b)
 
 -- what is under way from a side to the other
-abbrev pub IsUnderWay : Side → Side → ℕ → TwoEnds → Between → Seat → Type 0
-IsUnderWay side other n p b seat = Goes side other n p b (progress_of (place_at n (last_of (is_caller other) b))) seat.channel
+abbrev pub IsUnderWay : Side → Side → ℕ → TwoEnds → Between → (from to : Seat) → Type 0
+IsUnderWay side other n p b from to = Goes side other n p b (progress_of (place_at n (last_of (is_caller other) b))) to.session.state from.channel
 
 pub record IsLine (n : ℕ) (p : TwoEnds) (b : Between) (l : Line) : Type 0 where
   pub left : IsSeated n p.left l.own
   pub right : IsSeated n p.right l.peer
-  pub rightward : IsUnderWay Left Right n p b l.own
-  pub leftward : IsUnderWay Right Left n p b l.peer
+  pub rightward : IsUnderWay Left Right n p b l.own l.peer
+  pub leftward : IsUnderWay Right Left n p b l.peer l.own
 
 pub record HasLine (n : ℕ) (p : TwoEnds) (b : Between) (t : Tables) : Type 0 where
   pub line : Line

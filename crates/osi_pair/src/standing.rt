@@ -20,7 +20,7 @@ use osi_carrier::two_carriers::{
     what_an_end_holds, what_two_carriers_have, whatever_becomes_of_two_carriers,
 };
 use osi_machine::laws::{
-    the_next_is_no_fault, what_is_under_way_can_be_sent, what_stands_at_a_reference,
+    data_is_no_fault_behind, what_is_under_way_can_be_sent, what_stands_at_a_reference,
     what_two_tables_tell, who_is_left_is_over,
 };
 use osi_message::laws::{
@@ -50,6 +50,8 @@ pub fn how_two_ends_stand()
 {
     whatever_becomes_of_two_carriers();
     a_session_that_is_called_has_a_connection();
+    data_is_no_fault_behind();
+    who_is_left_is_over();
 }
 
 /// Where two ends stand at a list of steps, and the user of the left end asks for a connection, or the user of a
@@ -101,7 +103,7 @@ pub fn how_two_ends_carry()
     what_an_accepted_call_passed();
     numbers_stay_in_order();
     what_is_under_way_can_be_sent();
-    the_next_is_no_fault();
+    data_is_no_fault_behind();
     who_is_left_is_over();
     what_two_tables_tell();
 }

@@ -1,3 +1,4 @@
+use Rattle.osi_pair.proofs.StandingAhead.{TakeLaws}
 use Rattle.osi_pair.proofs.StandingAnswering.{AnswerLaws}
 use Rattle.osi_pair.proofs.StandingCarried.{carries_stand}
 use Rattle.osi_pair.proofs.StandingMoved.{MovingLaws}
@@ -8,6 +9,7 @@ use Rattle.osi_pair.proofs.standing.how_two_ends_carry.Goals as goal
 
 pub returns : goal.returns
 returns c =
+    let takes : TakeLaws = record { behind = c.data_is_no_fault_behind.ensures.under_way; left = c.who_is_left_is_over.ensures } in
     let packets : PacketLaws = record {
       two = record {
         taken = c.whatever_becomes_of_two_carriers.ensures.taken;
@@ -41,8 +43,7 @@ returns c =
         passed = c.what_an_accepted_call_passed.ensures.passed;
       };
       sound_lines = c.what_is_under_way_can_be_sent.ensures;
-      next = c.the_next_is_no_fault.ensures;
-      left = c.who_is_left_is_over.ensures;
+      takes = takes;
     } in
     let answers : AnswerLaws = record {
       says = c.an_empty_token_item_changes_nothing.ensures.said;
@@ -53,6 +54,7 @@ returns c =
       packet = packets;
       want = record { starved = c.what_an_end_holds.ensures.starved; acts = c.what_an_end_holds.ensures.acts };
       late = c.what_two_tables_tell.ensures.lost;
+      takes = takes;
     } in
     record {
       carries = λ side most old new octets. carries_stand (record {

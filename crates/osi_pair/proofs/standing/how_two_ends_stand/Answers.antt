@@ -8,7 +8,10 @@ returns-clause-begins c caller called =
 
 pub returns-clause-broken : goal.returns-clause-broken
 returns-clause-broken c =
-    break_at (record { broken = c.whatever_becomes_of_two_carriers.ensures.broken })
+    break_at (record {
+      broken = c.whatever_becomes_of_two_carriers.ensures.broken;
+      takes = record { behind = c.data_is_no_fault_behind.ensures.under_way; left = c.who_is_left_is_over.ensures };
+    })
 
 pub returns-clause-tells : goal.returns-clause-tells
-returns-clause-tells c = told_at
+returns-clause-tells c = told_at (record { behind = c.data_is_no_fault_behind.ensures.under_way; left = c.who_is_left_is_over.ensures })
