@@ -106,7 +106,7 @@ int main(void)
     static const char *const names[] = {
         "addresses", "both_classes", "class_0_alone", "no_class", "accepted", "minor_points",
         "numbers_go_round", "out_of_sequence", "calls_refused", "token_lost", "restarts_cross", "restart_below",
-        "release_refused", "alternately", "duplex"};
+        "release_refused", "alternately", "duplex", "three_parts"};
     for (size_t i = 0; i < sizeof names / sizeof names[0]; i++)
         each_growth(names[i]);
     return counts("growths");
