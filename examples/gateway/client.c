@@ -1,9 +1,10 @@
 /* The calling side: asks for a connection, sends messages with a minor point behind each, whose
  * confirmation it awaits, gives the tokens and accepts the release.
  *
- *   client [--port 4000] [--classes 0|2|20] [--window 1..15] [--wait SECONDS] [--messages 5] [--log FILE|-]
- *          [--capture NAME] [--bulk COUNT] [--size OCTETS]
+ *   client [--port 4000] [--classes 0|2|20] [--window 1..15] [--tsdu OCTETS] [--wait SECONDS] [--messages 5]
+ *          [--log FILE|-] [--capture NAME] [--bulk COUNT] [--size OCTETS]
  *
+ * With --tsdu it asks for TSDUs of at most so many octets in both directions: 64 to 65535.
  * With --bulk it sends so many messages of one size, as fast as they go, and one point at the end, and
  * prints messages and megabytes a second. The status is 0 where the connection was released, and 3
  * where it was lost. */
@@ -25,7 +26,7 @@ struct plan {
     unsigned long messages, bulk, said;
     size_t size;
     uint8_t *data;
-    uint16_t connection;
+    uint16_t connection, tsdu;
     bool ready, released, lost;
     struct timespec began;
 };
@@ -119,6 +120,7 @@ static bool ask(struct gateway *g)
     asked.requirements = UNITS;
     asked.user_data.at = (const uint8_t *)"gateway";
     asked.user_data.length = 7;
+    asked.size_from_asker = asked.size_from_answerer = plan->tsdu;
     uint32_t code = osi_connect(&g->end, &asked, &plan->connection);
     if (g->log != NULL && code == OSI_OK)
         fprintf(g->log, "left connect ok %u\n", plan->connection);
@@ -139,6 +141,7 @@ int main(int count, char **words)
     plan.messages = strtoul(option(count, words, "--messages", "5"), NULL, 10);
     plan.bulk = strtoul(option(count, words, "--bulk", "0"), NULL, 10);
     plan.size = strtoul(option(count, words, "--size", "1000"), NULL, 10);
+    plan.tsdu = (uint16_t)strtoul(option(count, words, "--tsdu", "0"), NULL, 10);
     plan.data = calloc(plan.size + 1, 1);
     if (plan.data == NULL || !gateway_open(&g, socket, true, count, words))
         return 2;

@@ -1,7 +1,7 @@
 /* The calling side of client.c, in C++: it sends messages with a minor point behind each, whose
  * confirmation it awaits, gives the tokens and accepts the release.
  *
- *   client [--port 4000] [--classes 0|2|20] [--messages 5] [--log FILE|-]
+ *   client [--port 4000] [--classes 0|2|20] [--tsdu OCTETS] [--messages 5] [--log FILE|-]
  *
  * The status is 0 where the connection was released, and 3 where it was lost. */
 #include "line.hpp"
@@ -13,11 +13,12 @@ public:
     {
     }
 
-    bool ask()
+    bool ask(osi::tsdu_sizes sizes)
     {
         osi::opening asked;
         asked.requirements = osi::units::half_duplex | osi::units::minor_sync | osi::units::negotiated_release;
         asked.user_data = "gateway";
+        asked.sizes = sizes;
         const auto connection = end.connect(asked);
         if (!connection) {
             log() << "connect refused: " << osi::text(connection.code) << '\n';
@@ -74,7 +75,7 @@ int main(int count, char **words)
     }
     client one(std::move(*made), std::move(socket), option(count, words, "--log", "-"),
                std::stoul(option(count, words, "--messages", "5")));
-    if (one.ask())
+    if (one.ask(sizes_of(option(count, words, "--tsdu", "0"))))
         one.run();
     return one.status();
 }

@@ -2,7 +2,8 @@
 """The calling side of client.c, over ctypes: it sends messages with a minor point behind each, whose
 confirmation it awaits, gives the tokens and accepts the release.
 
-    client.py --library build/libosi-session.so [--port 4000] [--classes 0|2|20] [--messages 5] [--log FILE]
+    client.py --library build/libosi-session.so [--port 4000] [--classes 0|2|20] [--tsdu OCTETS] [--messages 5]
+              [--log FILE]
 """
 import argparse
 import ctypes
@@ -135,18 +136,24 @@ def fields(i):
     return f" {FAULTS[i.fault.fault]}" if i.tag == BAD_UNIT else ""
 
 
+def sizes(i):
+    """The sizes that a CN or an AC names, where one is not 0."""
+    named = i.tag in (CONNECT, CONNECTED) and (i.size_from_asker or i.size_from_answerer)
+    return f" tsdu {i.size_from_asker} {i.size_from_answerer}" if named else ""
+
+
 def text(i):
     """The words of an indication (docs/SCRIPTS.md)."""
     words, user_data = NAMES[i.tag] + fields(i), data(of(i.user_data))
     if i.tag == DATA:
         return f"{words} {user_data}"
     has_none = i.tag in (REFUSED_BY_TRANSPORT, GIVEN) or i.tag >= LOST
-    return words if has_none else f"{words} data {user_data}"
+    return words if has_none else f"{words} data {user_data}{sizes(i)}"
 
 
 class Client:
-    def __init__(self, library, classes, messages, log):
-        self.osi, self.messages, self.log = library, messages, log
+    def __init__(self, library, classes, tsdu, messages, log):
+        self.osi, self.tsdu, self.messages, self.log = library, tsdu, messages, log
         self.end, self.reference = End(), c_uint16()
         self.said, self.released, self.lost = 0, False, False
         terms = Terms(("0" in classes) | ("2" in classes) << 1, 13, 15)
@@ -160,7 +167,7 @@ class Client:
     def ask(self):
         self.user_data = ctypes.create_string_buffer(b"gateway", 7)
         asked = Opening(UNITS, 0, Sides(), NO_OCTETS, NO_OCTETS, NO_OCTETS, NO_OCTETS,
-                        Octets(ctypes.addressof(self.user_data), 7))
+                        Octets(ctypes.addressof(self.user_data), 7), self.tsdu, self.tsdu)
         code = self.osi.osi_connect_with_size(byref(self.end), byref(asked), ctypes.sizeof(asked), byref(self.reference))
         answer = f"ok {self.reference.value}" if code == OK else f"refused {REFUSALS.get(code, code)}"
         print(f"left connect {answer}", file=self.log)
@@ -235,10 +242,11 @@ def main():
     words.add_argument("--library", required=True)
     words.add_argument("--port", type=int, default=4000)
     words.add_argument("--classes", default="0")
+    words.add_argument("--tsdu", type=int, default=0)
     words.add_argument("--messages", type=int, default=5)
     words.add_argument("--log", type=argparse.FileType("w"), default=sys.stdout)
     words = words.parse_args()
-    client = Client(load(words.library), words.classes, words.messages, words.log)
+    client = Client(load(words.library), words.classes, words.tsdu, words.messages, words.log)
     with socket.create_connection(("127.0.0.1", words.port)) as connection:
         connection.setblocking(False)
         if client.ask():

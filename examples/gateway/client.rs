@@ -2,7 +2,7 @@
 //! each, whose confirmation it awaits, gives the tokens and accepts the release.
 //!
 //!     rustc -O --edition 2021 -L build -l static=osi-session client.rs
-//!     client [--port 4000] [--classes 0|2|20] [--messages 5] [--log FILE]
+//!     client [--port 4000] [--classes 0|2|20] [--tsdu OCTETS] [--messages 5] [--log FILE]
 
 use std::env;
 use std::ffi::c_void;
@@ -126,7 +126,7 @@ impl Caller {
         (code == osi::OK).then_some(Caller { end })
     }
 
-    fn connect(&mut self, requirements: u16, user_data: &[u8]) -> Result<u16, u32> {
+    fn connect(&mut self, requirements: u16, tsdu: u16, user_data: &[u8]) -> Result<u16, u32> {
         let none = octets(&[]);
         let asked = osi::Opening {
             requirements,
@@ -137,8 +137,8 @@ impl Caller {
             calling_selector: none,
             called_selector: none,
             user_data: octets(user_data),
-            size_from_asker: 0,
-            size_from_answerer: 0,
+            size_from_asker: tsdu,
+            size_from_answerer: tsdu,
         };
         let mut reference = 0;
         match unsafe { osi::osi_connect_with_size(&mut *self.end, &asked, std::mem::size_of_val(&asked), &mut reference) } {
@@ -231,7 +231,11 @@ fn sides(sides: osi::Sides) -> String {
 fn text(shown: &Shown) -> String {
     let (i, data) = (&shown.said, hex(&shown.user_data));
     let number = if i.has_number == 0 { "-".to_string() } else { i.number.to_string() };
-    let opening = format!("units {:04x} serial {number} sides {} data {data}", i.requirements, sides(i.sides));
+    let tsdu = match (i.size_from_asker, i.size_from_answerer) {
+        (0, 0) => String::new(),
+        (from_asker, from_answerer) => format!(" tsdu {from_asker} {from_answerer}"),
+    };
+    let opening = format!("units {:04x} serial {number} sides {} data {data}{tsdu}", i.requirements, sides(i.sides));
     let confirm = if i.confirm == 0 { "no" } else { "yes" };
     match i.tag {
         1 => format!("Connect {opening}"),
@@ -375,7 +379,8 @@ fn main() -> io::Result<ExitCode> {
     };
     let messages = option("--messages", "5").parse().unwrap_or(5);
     let mut client = Client { caller, reference: 0, messages, said: 0, released: false, lost: false, log };
-    match client.caller.connect(0x0001 | 0x0008 | 0x0080, b"gateway") {
+    let tsdu = option("--tsdu", "0").parse().unwrap_or(0);
+    match client.caller.connect(0x0001 | 0x0008 | 0x0080, tsdu, b"gateway") {
         Ok(reference) => client.reference = reference,
         Err(code) => {
             writeln!(client.log, "left connect refused {code}")?;

@@ -100,6 +100,8 @@ static void write_shown(FILE *log, const osi_indication *i)
         write_data(log, "", i->user_data);
     else if (i->tag < OSI_LOST && !is_one_of(i, OSI_REFUSED_BY_TRANSPORT, OSI_GIVEN))
         write_data(log, " data", i->user_data);
+    if (is_one_of(i, OSI_CONNECT, OSI_CONNECTED) && (i->size_from_asker != 0 || i->size_from_answerer != 0))
+        fprintf(log, " tsdu %u %u", i->size_from_asker, i->size_from_answerer);
     putc('\n', log);
 }
 

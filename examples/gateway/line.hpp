@@ -65,6 +65,13 @@ inline osi::terms terms_of(const std::string &classes)
     return own;
 }
 
+/* The largest TSDU in both directions; 0 for no limit. */
+inline osi::tsdu_sizes sizes_of(const std::string &octets)
+{
+    const auto size = static_cast<std::uint16_t>(std::stoul(octets));
+    return {size, size};
+}
+
 /* ---- the log, in the words of a transcript (docs/SCRIPTS.md) */
 
 inline std::string hex(osi::octets octets)
@@ -98,6 +105,14 @@ inline std::string opened(const osi::indication &shown)
            (shown.number ? std::to_string(*shown.number) : "-") + letters(shown.sides);
 }
 
+/* The sizes that a CN or an AC names, where one is not 0. */
+inline std::string sizes(osi::tsdu_sizes s)
+{
+    if (s.from_asker == 0 && s.from_answerer == 0)
+        return "";
+    return " tsdu " + std::to_string(s.from_asker) + ' ' + std::to_string(s.from_answerer);
+}
+
 inline std::string words(const osi::indication &shown)
 {
     static constexpr const char *faults[] = {"",          "Spelling",  "Unexpected",   "NotSelected", "TokenHeld",
@@ -107,8 +122,8 @@ inline std::string words(const osi::indication &shown)
     const std::string data = " data " + hex(shown.user_data);
     switch (shown.tag) {
     case osi::tag::none: return "";
-    case osi::tag::connect: return "Connect" + opened(shown) + data;
-    case osi::tag::connected: return "Connected" + opened(shown) + data;
+    case osi::tag::connect: return "Connect" + opened(shown) + data + sizes(shown.sizes);
+    case osi::tag::connected: return "Connected" + opened(shown) + data + sizes(shown.sizes);
     case osi::tag::refused_by_transport: return "Refused transport " + std::to_string(shown.reason);
     case osi::tag::refused_by_session: return "Refused session " + std::to_string(shown.reason) + data;
     case osi::tag::data: return "Data " + hex(shown.user_data);

@@ -1,12 +1,13 @@
 /* The called side: takes one byte connection, accepts what is asked for, confirms each point, answers
  * when it is given the tokens, and releases the connection.
  *
- *   server [--port 4000] [--classes 0|2|20] [--window 1..15] [--wait SECONDS] [--log FILE|-] [--capture NAME]
- *          [--stall OCTETS]
+ *   server [--port 4000] [--classes 0|2|20] [--window 1..15] [--tsdu OCTETS] [--wait SECONDS] [--log FILE|-]
+ *          [--capture NAME] [--stall OCTETS]
  *
  * It prints the port that it listens on (0 takes a free one). A peer whose connection is not shown within
- * --wait seconds, or that is silent for so long, is logged and given up. With --stall it stops for good once
- * it has sent so many octets. */
+ * --wait seconds, or that is silent for so long, is logged and given up. With --tsdu it takes TSDUs of at most
+ * so many octets, 64 to 65535, and sends none that are longer, where the client names a size too. With --stall
+ * it stops for good once it has sent so many octets. */
 #define _POSIX_C_SOURCE 200809L
 #include "gateway.h"
 
@@ -23,6 +24,7 @@
 struct seen {
     unsigned long messages;
     unsigned long octets;
+    uint16_t tsdu;
 };
 
 /* The tokens came: says how many messages did, and asks for the release. */
@@ -42,7 +44,8 @@ static void shown(struct gateway *g, const osi_indication *i)
     uint16_t r = i->reference;
     switch (i->tag) {
     case OSI_CONNECT:
-        gateway_did(g, r, "accept", osi_accept(&g->end, r, i->requirements & UNITS, 0, &asker, OSI_NO_DATA));
+        gateway_did(g, r, "accept", osi_accept_sized(&g->end, r, i->requirements & UNITS, 0, &asker, seen->tsdu,
+                                                     seen->tsdu, OSI_NO_DATA));
         break;
     case OSI_DATA:
         seen->messages++;
@@ -78,7 +81,7 @@ static int listens(const char *port, int *listener)
 
 int main(int count, char **words)
 {
-    struct seen seen = {0, 0};
+    struct seen seen = {0, 0, (uint16_t)strtoul(option(count, words, "--tsdu", "0"), NULL, 10)};
     struct gateway g = {.end = OSI_END, .socket = -1, .shown = shown, .user = &seen};
     int listener, yes = 1, port = listens(option(count, words, "--port", "4000"), &listener);
     if (port < 0) {

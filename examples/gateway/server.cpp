@@ -1,7 +1,7 @@
 /* The called side of server.c, in C++: it takes one byte connection, accepts what is asked for, confirms
  * each point, answers when it is given the tokens, and releases the connection.
  *
- *   server [--port 4000] [--classes 0|2|20] [--wait SECONDS] [--log FILE|-]
+ *   server [--port 4000] [--classes 0|2|20] [--tsdu OCTETS] [--wait SECONDS] [--log FILE|-]
  *
  * It prints the port that it listens on (0 takes a free one). A peer whose connection is not shown within
  * --wait seconds, or that is silent for so long, is logged and given up. */
@@ -9,8 +9,8 @@
 
 class server final : public line {
 public:
-    server(osi::end made, connection socket, const std::string &log)
-        : line(std::move(made), std::move(socket), "right", log)
+    server(osi::end made, connection socket, const std::string &log, osi::tsdu_sizes sizes)
+        : line(std::move(made), std::move(socket), "right", log), sizes_(sizes)
     {
     }
 
@@ -29,7 +29,9 @@ private:
     {
         const osi::reference of = one.reference;
         switch (one.tag) {
-        case osi::tag::connect: did(of, "accept", end.accept(of, one.requirements & known)); break;
+        case osi::tag::connect:
+            did(of, "accept", end.accept_sized(of, one.requirements & known, 0, {}, sizes_));
+            break;
         case osi::tag::data: messages_++; break;
         case osi::tag::minor:
             if (one.confirm)
@@ -40,6 +42,7 @@ private:
         }
     }
 
+    osi::tsdu_sizes sizes_;
     unsigned long messages_ = 0;
 };
 
@@ -69,7 +72,8 @@ int main(int count, char **words)
         std::cerr << "server: " << (made ? std::strerror(errno) : osi::text(made.code)) << '\n';
         return 2;
     }
-    server one(std::move(*made), std::move(socket), option(count, words, "--log", "-"));
+    server one(std::move(*made), std::move(socket), option(count, words, "--log", "-"),
+               sizes_of(option(count, words, "--tsdu", "0")));
     one.patience = std::chrono::seconds(std::stoi(option(count, words, "--wait", "10")));
     one.run();
     return 0;

@@ -2,7 +2,7 @@
 """The calling side of a gateway over asyncio: it sends messages with a minor point behind each, whose
 confirmation it awaits, gives the tokens and accepts the release.
 
-    client.py [--port 4000] [--classes 0|2|20] [--messages 5] [--log FILE]
+    client.py [--port 4000] [--classes 0|2|20] [--tsdu OCTETS] [--messages 5] [--log FILE]
 
 The status is 0 where the connection was released, and 3 where it was lost.
 """
@@ -27,6 +27,7 @@ from osi_session import (
     RefusedByTransport,
     Release,
     SessionError,
+    Sizes,
     Terms,
     Tokens,
     Units,
@@ -60,6 +61,12 @@ def fields(shown):
     return "".join(f" {getattr(shown, name)}" for name in ("number", "reason") if hasattr(shown, name))
 
 
+def named(shown):
+    """The sizes that a CN or an AC names, where one is not 0."""
+    sizes = getattr(shown, "sizes", Sizes())
+    return "" if sizes == Sizes() else f" tsdu {sizes.from_asker} {sizes.from_answerer}"
+
+
 NAMES = {
     RefusedByTransport: "Refused transport",
     RefusedBySession: "Refused session",
@@ -75,12 +82,12 @@ def words(shown):
     if not hasattr(shown, "user_data"):
         return text
     data = shown.user_data.hex() or "-"
-    return f"{text} {data}" if isinstance(shown, Data) else f"{text} data {data}"
+    return f"{text} {data}" if isinstance(shown, Data) else f"{text} data {data}{named(shown)}"
 
 
 class Client:
-    def __init__(self, line, messages, log):
-        self.line, self.end, self.log = line, line.end, log
+    def __init__(self, line, sizes, messages, log):
+        self.line, self.end, self.sizes, self.log = line, line.end, sizes, log
         self.messages, self.said = messages, 0
         self.released = self.lost = False
 
@@ -107,7 +114,8 @@ class Client:
         self.did(reference, "minor", self.end.minor)
 
     async def run(self):
-        self.tell(f"connect ok {self.end.connect(Opening(requirements=UNITS, user_data=b'gateway'))}")
+        asked = Opening(requirements=UNITS, user_data=b"gateway", sizes=self.sizes)
+        self.tell(f"connect ok {self.end.connect(asked)}")
         async for shown in self.line:
             self.tell(f"{shown.reference} {words(shown)}")
             if isinstance(shown, (Connected, MinorConfirmed)):
@@ -123,12 +131,14 @@ async def main():
     options = argparse.ArgumentParser(description=__doc__.splitlines()[0])
     options.add_argument("--port", type=int, default=4000)
     options.add_argument("--classes", default="0")
+    options.add_argument("--tsdu", type=int, default=0)
     options.add_argument("--messages", type=int, default=5)
     options.add_argument("--log", type=argparse.FileType("w"), default=sys.stdout)
     options = options.parse_args()
     classes = Classes(("0" in options.classes) | ("2" in options.classes) << 1)
     async with aio.dial("127.0.0.1", options.port, Terms(classes=classes)) as line:
-        return await asyncio.wait_for(Client(line, options.messages, options.log).run(), 20)
+        client = Client(line, Sizes(options.tsdu, options.tsdu), options.messages, options.log)
+        return await asyncio.wait_for(client.run(), 20)
 
 
 if __name__ == "__main__":

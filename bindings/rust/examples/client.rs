@@ -2,12 +2,14 @@
 //! whose confirmation it awaits, gives the tokens and accepts the release.
 //!
 //! ```text
-//! client [--port 4000] [--classes 0|2|20] [--messages 5] [--log FILE]
+//! client [--port 4000] [--classes 0|2|20] [--tsdu OCTETS] [--messages 5] [--log FILE]
 //! ```
 //!
 //! The status is 0 where the connection was released, and 3 where it was lost.
 
-use osi_session::{Classes, End, Error, Indication, Opening, Reference, Side, Sides, Terms, Tokens, Units};
+use osi_session::{
+    Classes, End, Error, Indication, Opening, Reference, Side, Sides, Sizes, Terms, Tokens, Units,
+};
 use std::env;
 use std::error;
 use std::fs::File;
@@ -37,15 +39,23 @@ fn opened(requirements: Units, number: Option<u32>, sides: Sides) -> String {
     format!("units {:04x} serial {serial} sides {}", requirements.bits(), letters(sides))
 }
 
+/// The sizes that a CN or an AC names, where one is not 0.
+fn named(sizes: Sizes) -> String {
+    match sizes {
+        Sizes { from_asker: 0, from_answerer: 0 } => String::new(),
+        Sizes { from_asker, from_answerer } => format!(" tsdu {from_asker} {from_answerer}"),
+    }
+}
+
 /// The words of an indication in a transcript (docs/SCRIPTS.md).
 fn words(indication: &Indication<&[u8]>) -> String {
     let data = hex(indication.user_data().unwrap_or(&b"".as_slice()));
     match *indication {
-        Indication::Connect { requirements, number, wishes, .. } => {
-            format!("Connect {} data {data}", opened(requirements, number, wishes))
+        Indication::Connect { requirements, number, wishes, sizes, .. } => {
+            format!("Connect {} data {data}{}", opened(requirements, number, wishes), named(sizes))
         }
-        Indication::Connected { requirements, number, sides, .. } => {
-            format!("Connected {} data {data}", opened(requirements, number, sides))
+        Indication::Connected { requirements, number, sides, sizes, .. } => {
+            format!("Connected {} data {data}{}", opened(requirements, number, sides), named(sizes))
         }
         Indication::RefusedByTransport { reason } => format!("Refused transport {reason}"),
         Indication::RefusedBySession { reason, .. } => format!("Refused session {reason} data {data}"),
@@ -84,10 +94,11 @@ struct Client {
 }
 
 impl Client {
-    fn ask(&mut self) -> Result<(), Box<dyn error::Error>> {
+    fn ask(&mut self, sizes: Sizes) -> Result<(), Box<dyn error::Error>> {
         let asked = Opening {
             requirements: Units::HALF_DUPLEX | Units::MINOR_SYNC | Units::NEGOTIATED_RELEASE,
             user_data: b"gateway",
+            sizes,
             ..Opening::default()
         };
         let connection = self.end.connect(&asked)?;
@@ -180,7 +191,8 @@ fn main() -> Result<ExitCode, Box<dyn error::Error>> {
     let end = End::caller(Terms { classes, ..Terms::default() })?;
     let messages = option("--messages", "5").parse()?;
     let mut client = Client { end, messages, said: 0, released: false, lost: false, log };
-    client.ask()?;
+    let tsdu = option("--tsdu", "0").parse()?;
+    client.ask(Sizes { from_asker: tsdu, from_answerer: tsdu })?;
     if let Err(error) = client.run(&mut stream) {
         eprintln!("client: {error}");
     }
