@@ -230,12 +230,10 @@ static void give_up(struct gateway *g, const char *why)
 
 bool gateway_turn(struct gateway *g)
 {
-    if (outgoing_length(g) > 0)
-        transmit(g);
-    if (g->socket >= 0 && has_said_all(g))
+    if (has_said_all(g)) {
         is_over(g);
-    if (g->socket < 0)
         return false;
+    }
     const size_t left = outgoing_length(g);
     struct pollfd waits = {g->socket, 0, 0};
     waits.events = (short)((left <= MOST_WAITING ? POLLIN : 0) | (left > 0 ? POLLOUT : 0));
@@ -245,6 +243,8 @@ bool gateway_turn(struct gateway *g)
         give_up(g, "the peer is silent");
     else if (waits.revents & (POLLIN | POLLERR | POLLHUP))
         receive(g);
+    if (g->socket >= 0 && outgoing_length(g) > 0)
+        transmit(g);
     if (g->socket >= 0 && !g->was_shown && time(NULL) - g->began > g->patience)
         give_up(g, "nothing was shown");
     return g->socket >= 0;

@@ -39,8 +39,9 @@ const char *option(int count, char **words, const char *name, const char *otherw
  *   --log FILE|-       the log; --capture NAME: the octets of each direction, in NAME.left and NAME.right */
 bool gateway_open(struct gateway *g, int socket, bool calls, int count, char **words);
 
-/* Waits for the socket once, and carries what can be carried. False once there is nothing left to
- * do: the byte connection is closed, by this side or by the other. */
+/* Waits for the socket once, and carries what can be carried: one read, and one write of all that it and
+ * earlier calls gave. False once there is nothing left to do: the byte connection is closed, by this side
+ * or by the other. */
 bool gateway_turn(struct gateway *g);
 
 /* How many octets wait to be sent: those that go next, and those that the peer gives no credit for. */
