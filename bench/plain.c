@@ -1,0 +1,194 @@
+/* What a loop over TCP costs by itself: messages of one size, each framed by a TPKT header and copied, from one process
+ * to another over loopback. There is no session and no transport unit in it.
+ *
+ *     plain COUNT OCTETS [WINDOW]
+ *
+ * prints messages and megabytes a second. Without a window the last message alone is answered, as in class 0; with one
+ * each is, by as many octets as an AK in its packet, and no more than so many are sent before their answers, as in
+ * class 2. Sockets, pieces and how much may wait are those of examples/gateway. */
+#define _POSIX_C_SOURCE 200809L
+#include "timer.h"
+
+#include <arpa/inet.h>
+#include <fcntl.h>
+#include <netinet/in.h>
+#include <netinet/tcp.h>
+#include <poll.h>
+#include <stdint.h>
+#include <stdlib.h>
+#include <sys/socket.h>
+#include <sys/wait.h>
+#include <unistd.h>
+
+#define PIECE 65536
+#define MOST_WAITING 262144u
+#define HEADER 4
+#define ANSWER 9
+
+struct task {
+    unsigned long count, window;
+    size_t octets;
+};
+
+static void must(int holds, const char *what)
+{
+    if (holds)
+        return;
+    perror(what);
+    exit(1);
+}
+
+static short wait_for(int socket, short events)
+{
+    struct pollfd waits = {socket, events, 0};
+    must(poll(&waits, 1, 10000) == 1, "poll");
+    return waits.revents;
+}
+
+static int settled(int socket)
+{
+    int yes = 1;
+    must(socket >= 0, "socket");
+    setsockopt(socket, IPPROTO_TCP, TCP_NODELAY, &yes, sizeof yes);
+    fcntl(socket, F_SETFL, fcntl(socket, F_GETFL) | O_NONBLOCK);
+    return socket;
+}
+
+/* ---- the side that sends */
+
+/* What waits to be sent, from `begin` to `end`. */
+struct waiting {
+    uint8_t octets[2 * MOST_WAITING + PIECE];
+    size_t begin, end;
+};
+
+static void frame(struct waiting *w, const uint8_t *message, size_t octets)
+{
+    const size_t length = octets + HEADER;
+    const uint8_t header[HEADER] = {3, 0, (uint8_t)(length >> 8), (uint8_t)length};
+    memcpy(w->octets + w->end, header, HEADER);
+    memcpy(w->octets + w->end + HEADER, message, octets);
+    w->end += length;
+}
+
+/* Writes what can be written, once. What waits is moved to the front where half of its room is used up. */
+static void transmit(int socket, struct waiting *w)
+{
+    const ssize_t count = send(socket, w->octets + w->begin, w->end - w->begin, MSG_NOSIGNAL);
+    w->begin += count > 0 ? (size_t)count : 0;
+    if (w->begin < MOST_WAITING && w->begin < w->end)
+        return;
+    memmove(w->octets, w->octets + w->begin, w->end - w->begin);
+    w->end -= w->begin;
+    w->begin = 0;
+}
+
+/* Whether another message may be framed: there is one, room for it, and a place in the window. */
+static int may_say(const struct task *t, const struct waiting *w, unsigned long said, unsigned long answered)
+{
+    return said < t->count && w->end - w->begin < MOST_WAITING && (t->window == 0 || said - answered < t->window);
+}
+
+static void send_all(int socket, const struct task *t)
+{
+    static struct waiting waiting;
+    static uint8_t message[PIECE], answers[PIECE];
+    const unsigned long awaited = (t->window > 0 ? t->count : 1) * ANSWER;
+    for (unsigned long said = 0, came = 0; came < awaited;) {
+        for (; may_say(t, &waiting, said, came / ANSWER); said++)
+            frame(&waiting, message, t->octets);
+        if (waiting.end > 0)
+            transmit(socket, &waiting);
+        const int goes_on = waiting.end > 0 || may_say(t, &waiting, said, came / ANSWER);
+        if (wait_for(socket, goes_on ? POLLIN | POLLOUT : POLLIN) & POLLIN) {
+            const ssize_t more = recv(socket, answers, sizeof answers, 0);
+            must(more > 0, "recv");
+            came += (unsigned long)more;
+        }
+    }
+}
+
+/* ---- the side that takes */
+
+/* A packet that is not whole yet. */
+struct packet {
+    uint8_t octets[PIECE];
+    size_t length;
+};
+
+/* How many octets of the piece belong to the packet: up to its end, as far as its header says where that is. */
+static size_t of_packet(const struct packet *p, size_t left)
+{
+    const size_t whole = p->length < HEADER ? HEADER : (size_t)p->octets[2] << 8 | p->octets[3];
+    return left < whole - p->length ? left : whole - p->length;
+}
+
+/* Copies the piece, packet by packet, and answers how many became whole. */
+static unsigned long gather(struct packet *p, const uint8_t *piece, size_t length)
+{
+    unsigned long whole = 0;
+    while (length > 0) {
+        const size_t part = of_packet(p, length);
+        memcpy(p->octets + p->length, piece, part);
+        p->length += part;
+        piece += part;
+        length -= part;
+        if (p->length > HEADER && of_packet(p, PIECE) == 0) {
+            p->length = 0;
+            whole++;
+        }
+    }
+    return whole;
+}
+
+static void take_all(int socket, const struct task *t)
+{
+    static uint8_t piece[PIECE], answers[PIECE];
+    static struct packet packet;
+    for (unsigned long taken = 0; taken < t->count;) {
+        wait_for(socket, POLLIN);
+        const ssize_t came = recv(socket, piece, sizeof piece, 0);
+        must(came > 0, "recv");
+        const unsigned long more = gather(&packet, piece, (size_t)came);
+        taken += more;
+        const size_t due = ANSWER * (t->window > 0 ? more : taken == t->count);
+        must(due == 0 || send(socket, answers, due, MSG_NOSIGNAL) == (ssize_t)due, "send");
+    }
+}
+
+/* ---- both */
+
+static double seconds_of(const struct task *t)
+{
+    struct sockaddr_in own = {.sin_family = AF_INET, .sin_addr.s_addr = htonl(INADDR_LOOPBACK)};
+    socklen_t size = sizeof own;
+    int status;
+    const int listener = socket(AF_INET, SOCK_STREAM, 0), made = socket(AF_INET, SOCK_STREAM, 0);
+    must(bind(listener, (struct sockaddr *)&own, size) == 0 && listen(listener, 1) == 0, "listen");
+    getsockname(listener, (struct sockaddr *)&own, &size);
+    const pid_t taker = fork();
+    must(taker >= 0, "fork");
+    if (taker == 0) {
+        take_all(settled(accept(listener, NULL, NULL)), t);
+        _exit(0);
+    }
+    must(connect(made, (struct sockaddr *)&own, size) == 0, "connect");
+    const double began = now();
+    send_all(settled(made), t);
+    const double took = now() - began;
+    must(waitpid(taker, &status, 0) == taker && status == 0, "the side that takes");
+    return took;
+}
+
+int main(int words, char **word)
+{
+    if (words != 3 && words != 4)
+        return 2;
+    const struct task t = {strtoul(word[1], NULL, 10), words == 4 ? strtoul(word[3], NULL, 10) : 0, strtoul(word[2], NULL, 10)};
+    if (t.count == 0 || t.octets == 0 || t.octets > PIECE - 1 - HEADER)
+        return 2;
+    const double took = seconds_of(&t);
+    printf("%lu messages of %zu octets: %.0f messages/s, %.0f MB/s\n", t.count, t.octets, (double)t.count / took,
+           (double)t.count * (double)t.octets / took / 1e6);
+    return 0;
+}
