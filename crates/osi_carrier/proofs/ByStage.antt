@@ -45,7 +45,7 @@ by_leaving r (Some (linked q link)) unit s e = cc
 by_leaving r (Some (closing q)) unit s e = refl
 
 -- no place, no connection
-nowhere_by : (r q : ℕ) (y : Connection) (rows : Rows Connection) (b : Bool) → (q == r) ≡ b →
+nowhere_by : {X : Type 0} (r q : ℕ) (y : X) (rows : Rows X) (b : Bool) → (q == r) ≡ b →
     (length rows ≤ position_or_len (λ row. row.0 == r) rows → value_at r rows ≡ None) →
     length ((q, y) ∷ rows) ≤ position_or_len (λ row. row.0 == r) ((q, y) ∷ rows) → value_at r ((q, y) ∷ rows) ≡ None
 nowhere_by r q y rows true t more h = let none : suc (length rows) ≤ 0 = rw t at h in absurd (omega arith)
@@ -53,11 +53,11 @@ nowhere_by r q y rows false t more h =
     let behind : suc (length rows) ≤ 1 + position_or_len (λ row. row.0 == r) rows = rw t at h in
     rw t (more (omega arith))
 
-nowhere_at : (r : ℕ) (rows : Rows Connection) → length rows ≤ position_or_len (λ row. row.0 == r) rows → value_at r rows ≡ None
+nowhere_at : {X : Type 0} (r : ℕ) (rows : Rows X) → length rows ≤ position_or_len (λ row. row.0 == r) rows → value_at r rows ≡ None
 nowhere_at r [] h = refl
 nowhere_at r ((q, y) ∷ rows) h = nowhere_by r q y rows (q == r) refl (nowhere_at r rows) h
 
-pub nowhere : (r : ℕ) (rows : Rows Connection) → place_of r rows ≡ None → value_at r rows ≡ None
+pub nowhere : {X : Type 0} (r : ℕ) (rows : Rows X) → place_of r rows ≡ None → value_at r rows ≡ None
 nowhere r rows e = nowhere_at r rows (grind (arith, common_steps))
 
 -- the first row is at its reference

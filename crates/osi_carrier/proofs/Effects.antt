@@ -19,7 +19,7 @@ use Rattle.osi_carrier.specs.Orderly.{RiseFrom, AreUpTo, only_of, connection_by,
 use Rattle.osi_carrier.specs.Packets.{acts_by, after_packet}
 use Rattle.osi_carrier.specs.React.{denies, answers, is_full, has_peer, answers_request, to_unknown, opens, to_asked, tells_of, taking, breaks, leaves, to_linked, to_closing, to_connection, to_reference, before_class, to_only, in_zero, in_two, in_class, react, react_by, reacts}
 use Rattle.osi_carrier.specs.Rows.{Rows, value_at, put, without}
-use Rattle.osi_carrier.specs.State.{Connection, asked, linked, closing, State, ends}
+use Rattle.osi_carrier.specs.State.{Connection, asked, linked, closing, State, drops, ends}
 use Rattle.osi_carrier.specs.declared.ends.EndReason.{EndReason}
 use Rattle.osi_carrier.specs.declared.faults.OpenError.{OpenError}
 use Rattle.osi_carrier.specs.declared.faults.OpenError.TheVariants.{NotCaller, Ended, TooMany, ReferencesUsedUp}
@@ -189,8 +189,8 @@ effect_linked r peer link (data2 destination number end user) s = effect_taking 
 effect_linked r peer link (acknowledge credit destination number) s = effect_taking r peer (taken link (acknowledge credit destination number)) s
 effect_linked r peer link (error destination cause) s = effect_taking r peer (taken link (error destination cause)) s
 
-effect_dropped : (r : ℕ) (s : State) → Effect r s (record s { live = without r s.live })
-effect_dropped r s = silent r s (record s { live = without r s.live }) refl (inl (record { given = refl; ended = refl; live = inr (inr refl) }))
+effect_dropped : (r : ℕ) (s : State) → Effect r s (drops r s)
+effect_dropped r s = silent r s (drops r s) refl (inl (record { given = refl; ended = refl; live = inr (inr refl) }))
 
 effect_closing : (r : ℕ) (unit : Value) (s : State) → Effect r s (to_closing r unit s)
 effect_closing r (disconnected destination source) s = effect_dropped r s

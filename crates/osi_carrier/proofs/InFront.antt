@@ -14,7 +14,7 @@ use Rattle.osi_carrier.specs.Happenings.{Happening, opened, refused, tsdu, close
 use Rattle.osi_carrier.specs.Negotiation.{proposal, acceptance, confirmed, agreed_size, opened_link}
 use Rattle.osi_carrier.specs.Packets.{acts_by, after_packet}
 use Rattle.osi_carrier.specs.Pump.{written_by, pumped}
-use Rattle.osi_carrier.specs.React.{denies, answers, is_full, has_peer, answers_request, to_unknown, opens, to_asked, handed_out, pumps, tells_of, settles, taking, breaks, leaves, to_linked, to_closing, to_connection, to_reference, before_class, to_only, in_zero, in_two, in_class, react, react_by, reacts}
+use Rattle.osi_carrier.specs.React.{denies, tsaps_of, answers, is_full, has_peer, answers_request, to_unknown, opens, to_asked, handed_out, pumps, tells_of, settles, taking, breaks, leaves, to_linked, to_closing, to_connection, to_reference, before_class, to_only, in_zero, in_two, in_class, react, react_by, reacts}
 use Rattle.osi_carrier.specs.Rows.{Rows, value_at}
 use Rattle.osi_carrier.specs.Runs.{UserCall, Act, user_does, does, all_done, put_back}
 use Rattle.osi_carrier.specs.Runs.UserCall.{connects, sends, closes as closing_call, breaks as breaking_call}
@@ -44,10 +44,10 @@ module _ (e : List Happening) (o : List ℕ) where
   apart_answers c (refuse reason) held s = apart_writes (disconnect c.source 0 reason [] ∷ []) s
   apart_answers c (accept Two size) held s =
       apart_both (opened (s.given + 1)) (confirm c.source (acceptance Two size c s.local (s.given + 1)) ∷ [])
-      (joins (s.given + 1) (linked c.source (opened_link Two size s.local c.credit)) (record s { class = Some Two; given = s.given + 1 }))
+      (joins (s.given + 1) (linked c.source (opened_link Two size s.local c.credit)) (tsaps_of c) (record s { class = Some Two; given = s.given + 1 }))
   apart_answers c (accept Zero size) None s =
       apart_both (opened (s.given + 1)) (confirm c.source (acceptance Zero size c s.local (s.given + 1)) ∷ [])
-      (joins (s.given + 1) (linked c.source (opened_link Zero size s.local c.credit)) (record s { class = Some Zero; given = s.given + 1 }))
+      (joins (s.given + 1) (linked c.source (opened_link Zero size s.local c.credit)) (tsaps_of c) (record s { class = Some Zero; given = s.given + 1 }))
   apart_answers c (accept Zero size) (Some class) s = apart_writes (disconnect c.source 0 136 [] ∷ []) s
 
   apart_request_by : (c : Connect) (s : State) (in_use full : Bool) →
@@ -233,7 +233,7 @@ module _ (e : List Happening) (o : List ℕ) where
 
   apart_user : (call : UserCall) (s : State) → user_does call (put_back e o s) ≡ put_back e o (user_does call s)
   apart_user (connects calling called) s =
-      apart_writes (request (proposal s.local s.class calling called (s.given + 1)) ∷ []) (joins (s.given + 1) asked (record s { given = s.given + 1 }))
+      apart_writes (request (proposal s.local s.class calling called (s.given + 1)) ∷ []) (joins (s.given + 1) asked (record { calling = calling; called = called }) (record s { given = s.given + 1 }))
   apart_user (sends r octets) s = apart_sent r octets (open_link r s) s
   apart_user (closing_call r reason) s = apart_closed r reason (open_link r s) s
   apart_user (breaking_call reason) s = apart_ended reason (is_some s.ended) s

@@ -1,6 +1,7 @@
 pub mod Places
 pub mod Units
 pub mod ByStage
+pub mod Named
 pub mod Reacts
 pub mod Selecting
 pub mod Pumping
@@ -54,3 +55,4 @@ pub mod Firsts
 pub mod Tellings
 pub mod Having
 pub mod Growing
+pub mod Naming

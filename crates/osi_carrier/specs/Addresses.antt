@@ -3,7 +3,6 @@ use Rattle.std.specs.Prelude.{◌≡◌, ℕ, zero, suc, ◌+◌, ◌==◌, Bool
 use Rattle.std.specs.List.{flat_map, AllByRecursion}
 use Rattle.osi_tpdu.specs.Value.{Value, request, confirm, disconnect, disconnected, data0, data2, acknowledge, error}
 use Rattle.osi_carrier.specs.Rows.{Rows}
-use Rattle.osi_carrier.specs.State.{Connection}
 
 -- A CR is for the connection that its sender gave this reference, all others for that of their taker;
 -- both give a connection the same one. A DT of class 0 names none, and is for the first.
@@ -26,8 +25,8 @@ AreFor n units = AllByRecursion (λ unit. reference_of unit ≡ n) units
 
 -- ---- the references that are live at an end
 
-abbrev pub references : Rows Connection → List ℕ
-references live = map (λ row. row.0) live
+abbrev pub references : {X : Type 0} → Rows X → List ℕ
+references rows = map (λ row. row.0) rows
 
 abbrev pub dropped : ℕ → List ℕ → List ℕ
 dropped r [] = []

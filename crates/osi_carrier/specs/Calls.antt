@@ -12,7 +12,7 @@ use Rattle.osi_carrier.specs.Negotiation.{proposal}
 use Rattle.osi_carrier.specs.Pump.{written_for}
 use Rattle.osi_carrier.specs.React.{pumps}
 use Rattle.osi_carrier.specs.Rows.{Rows, value_at}
-use Rattle.osi_carrier.specs.State.{Connection, asked, linked, closing, State, writes, joins, moves, ends}
+use Rattle.osi_carrier.specs.State.{Connection, asked, linked, closing, TsapIds, State, writes, joins, moves, ends}
 use Rattle.osi_carrier.specs.declared.ends.EndReason.{EndReason}
 use Rattle.osi_carrier.specs.declared.ends.EndReason.TheVariants.{Closed}
 use Rattle.osi_carrier.specs.declared.faults.OpenError.{OpenError}
@@ -22,7 +22,7 @@ use Rattle.osi_carrier.specs.declared.faults.SendError.TheVariants.{NotOpen, Too
 
 -- a carrier on which nothing has happened
 abbrev pub fresh_state : Bool → Local → State
-fresh_state is_caller local = record { is_caller = is_caller; local = local; class = None; given = 0; live = []; outgoing = []; events = []; ended = None }
+fresh_state is_caller local = record { is_caller = is_caller; local = local; class = None; given = 0; live = []; tsaps = []; outgoing = []; events = []; ended = None }
 
 -- ---- connect
 
@@ -60,7 +60,7 @@ open_error ReferencesUsedUp = Some ReferencesUsedUp
 abbrev pub asks : Option (List ℕ) → Option (List ℕ) → State → State
 asks calling called s =
     writes (request (proposal s.local s.class calling called (s.given + 1)) ∷ [])
-    (joins (s.given + 1) asked (record s { given = s.given + 1 }))
+    (joins (s.given + 1) asked (record { calling = calling; called = called }) (record s { given = s.given + 1 }))
 
 -- ---- send and close
 
@@ -170,6 +170,12 @@ unsent_at (Some connection) = unsent_by connection
 -- those of all connections
 abbrev pub backlog_of : Rows Connection → ℕ
 backlog_of live = sum_by (λ row. unsent_by row.1) live
+
+-- ---- addresses
+
+-- the transport selectors that the CR of a live connection names
+abbrev pub tsaps_at : ℕ → State → Option TsapIds
+tsaps_at r s = value_at r s.tsaps
 
 -- ---- events
 

@@ -2,6 +2,7 @@ pub mod Rows
 pub mod Happenings
 pub mod State
 pub mod Live
+pub mod Selectors
 pub mod Stages
 pub mod Pump
 pub mod Negotiation
@@ -17,6 +18,7 @@ pub mod OpenLinks
 pub mod Messages
 pub mod Coming
 pub mod Addresses
+pub mod Named
 pub mod Progress
 pub mod Meeting
 pub mod Terms

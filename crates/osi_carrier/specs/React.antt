@@ -11,7 +11,7 @@ use Rattle.osi_carrier.specs.Happenings.{opened, refused, tsdu, closed, faulted}
 use Rattle.osi_carrier.specs.Negotiation.{acceptance, confirmed, agreed_size, opened_link}
 use Rattle.osi_carrier.specs.Pump.{written_by, pumped}
 use Rattle.osi_carrier.specs.Rows.{Rows, value_at}
-use Rattle.osi_carrier.specs.State.{Connection, asked, linked, closing, State, writes, tells, joins, moves, drops, ends, fails}
+use Rattle.osi_carrier.specs.State.{Connection, asked, linked, closing, TsapIds, State, writes, tells, joins, moves, drops, ends, fails}
 use Rattle.osi_carrier.specs.declared.ends.CarrierFault.TheVariants.{Link, UnknownReference, BadAnswer, UnexpectedUnit}
 use Rattle.osi_carrier.specs.declared.ends.EndReason.TheVariants.{PeerClosed}
 
@@ -21,11 +21,14 @@ use Rattle.osi_carrier.specs.declared.ends.EndReason.TheVariants.{PeerClosed}
 abbrev pub denies : ℕ → ℕ → State → State
 denies reason peer s = writes (disconnect peer 0 reason [] ∷ []) s
 
+abbrev pub tsaps_of : Connect → TsapIds
+tsaps_of c = record { calling = c.parameters.calling; called = c.parameters.called }
+
 -- the next reference is given; the first CC also settles the class for the byte connection
 abbrev pub accepts : Class → Option ℕ → Connect → State → State
 accepts class size c s =
     tells (opened (s.given + 1)) (writes (confirm c.source (acceptance class size c s.local (s.given + 1)) ∷ [])
-    (joins (s.given + 1) (linked c.source (opened_link class size s.local c.credit))
+    (joins (s.given + 1) (linked c.source (opened_link class size s.local c.credit)) (tsaps_of c)
     (record s { class = Some class; given = s.given + 1 })))
 
 -- by what negotiation selects: class 0 is refused where class 2 holds

@@ -21,16 +21,22 @@ pub data Connection : Type 0 where
   linked : ℕ → Standing → Connection
   closing : ℕ → Connection
 
+-- the transport selectors that a CR names
+pub record TsapIds : Type 0 where
+  pub calling : Option (List ℕ)
+  pub called : Option (List ℕ)
+
 -- `class`: the one that was selected on this byte connection; `given`: how many references were
 -- given, which are the numbers from 1 up to it; `live`: the live connections by the references that
--- this end gave; `outgoing`: octets to be carried to the peer; `events`: what the user is still to
--- be told, the oldest first; `ended`: why the carrier ended
+-- this end gave; `tsaps`: the transport selectors of each; `outgoing`: octets to be carried to the
+-- peer; `events`: what the user is still to be told, the oldest first; `ended`: why the carrier ended
 pub record State : Type 0 where
   pub is_caller : Bool
   pub local : Local
   pub class : Option Class
   pub given : ℕ
   pub live : Rows Connection
+  pub tsaps : Rows TsapIds
   pub outgoing : List ℕ
   pub events : List Happening
   pub ended : Option EndReason
@@ -45,19 +51,19 @@ writes units s = record s { outgoing = s.outgoing ++ packets units }
 abbrev pub tells : Happening → State → State
 tells event s = record s { events = s.events ++ event ∷ [] }
 
--- a new connection
-abbrev pub joins : ℕ → Connection → State → State
-joins r connection s = record s { live = s.live ++ (r, connection) ∷ [] }
+-- a new connection, whose CR names these transport selectors
+abbrev pub joins : ℕ → Connection → TsapIds → State → State
+joins r connection ids s = record s { live = s.live ++ (r, connection) ∷ []; tsaps = s.tsaps ++ (r, ids) ∷ [] }
 
 abbrev pub moves : ℕ → Connection → State → State
 moves r connection s = record s { live = put r connection s.live }
 
 abbrev pub drops : ℕ → State → State
-drops r s = record s { live = without r s.live }
+drops r s = record s { live = without r s.live; tsaps = without r s.tsaps }
 
 -- a carrier that has ended has no live connection
 abbrev pub ends : EndReason → State → State
-ends reason s = record s { live = []; ended = Some reason }
+ends reason s = record s { live = []; tsaps = []; ended = Some reason }
 
 abbrev pub fails : CarrierFault → State → State
 fails fault s = ends (Fault fault) s

@@ -3,6 +3,7 @@
 use crate::ends::EndReason;
 use crate::events::{Event, Ref};
 use crate::faults::{OpenError, SendError};
+use crate::selectors::Tsaps;
 use crate::switch::Switch;
 use osi_class::Local;
 use osi_tpdu::Tsap;
@@ -38,10 +39,11 @@ impl Carrier {
     ghost use Rattle.std.specs.Prelude.{◌≡◌, ◌≢◌, ◌+◌, ◌-◌, ◌*◌, ◌^◌, ◌≤◌, true, false, None, Some, Err, [], length, map, min, drop, IfOk, IfErr, OnOk, OnErr, MatchResult, option_map, is_some};
     ghost use Rattle.osi_tpkt.specs.Held.{fresh};
     ghost use Rattle.osi_tpdu.specs.Limits.{tsap_octets};
-    ghost use Rattle.osi_carrier.specs.Calls.{fresh_state, may_connect, open_error, asks, open_link, close_error, send_error, send_all_error, call_error, closed_with, sent, sent_all, ended_by, kept_in, unsent_at, backlog_of, Tells, WaitsOn};
+    ghost use Rattle.osi_carrier.specs.Calls.{fresh_state, may_connect, open_error, asks, open_link, close_error, send_error, send_all_error, call_error, closed_with, sent, sent_all, ended_by, kept_in, unsent_at, backlog_of, tsaps_at, Tells, WaitsOn};
     ghost use Rattle.osi_carrier.specs.Rows.{value_at};
     ghost use Rattle.osi_carrier.specs.Happenings.{happening};
     ghost use Rattle.osi_carrier.specs.Packets.{Feeds};
+    ghost use Rattle.osi_carrier.specs.Selectors.{tsap_ids};
     ghost use Rattle.osi_carrier.specs.declared.ends.EndReason.TheVariants.{Broken, NoMemory};
     ghost use Rattle.osi_class.specs.declared.terms.Class.TheVariants.{Zero};
 
@@ -272,6 +274,14 @@ impl Carrier {
         ensures { result ≡ is_some (value_at reference.0 self.now.state.live) }
     {
         self.switch.is_live(reference.0)
+    }
+
+    /// The transport selectors that the CR of a live connection names, as it came or as it was asked
+    /// for (X.224 section 13.3.4); none where no live connection has this reference. Takes no memory.
+    pub fn tsaps(&self, reference: Ref) -> Option<Tsaps>
+        ensures { option_map tsap_ids result ≡ tsaps_at reference.0 self.now.state }
+    {
+        self.switch.tsaps(reference.0)
     }
 
     /// How many references were given: they are the numbers from 1 up to this one. Takes no memory.

@@ -1,12 +1,13 @@
 //! Laws of carriers. Each function does nothing: its clauses are the laws.
 
-ghost use Rattle.std.specs.Prelude.{◌≡◌, ◌≢◌, ◌<◌, ◌≤◌, ◌^◌, ◌==◌, ◌&&◌, not, ◌⊎◌, ℕ, Bool, List, [], Option, Some, None};
+ghost use Rattle.std.specs.Prelude.{◌≡◌, ◌≢◌, ◌<◌, ◌≤◌, ◌^◌, ◌==◌, ◌&&◌, not, ◌⊎◌, ℕ, Bool, List, [], Option, Some, None, is_some};
 ghost use Rattle.std.specs.List.{flat_map};
 ghost use Rattle.osi_tpkt.specs.Packet.{IsPartial};
 ghost use Rattle.osi_tpdu.specs.Value.{Value};
 ghost use Rattle.osi_class.specs.declared.terms.Local.{Local};
-ghost use Rattle.osi_carrier.specs.Calls.{fresh_state, may_connect, asks, sent, closed_with, ended_by};
+ghost use Rattle.osi_carrier.specs.Calls.{fresh_state, may_connect, asks, sent, closed_with, ended_by, tsaps_at};
 ghost use Rattle.osi_carrier.specs.Happenings.{Happening};
+ghost use Rattle.osi_carrier.specs.Named.{AreNamed, KeepsTsaps};
 ghost use Rattle.osi_carrier.specs.Orderly.{IsOrderly, ChangesOne, connection_of};
 ghost use Rattle.osi_carrier.specs.Packets.{Carrying, after_packet};
 ghost use Rattle.osi_carrier.specs.React.{react};
@@ -47,6 +48,23 @@ pub fn no_reference_is_given_twice()
         value_at r (asks calling called s).live ≡ None }
     ensures sent { (q r : ℕ) (tsdu : List ℕ) (s : State) → value_at r s.live ≡ None → value_at r (sent q tsdu s).live ≡ None }
     ensures closed { (q r reason : ℕ) (s : State) → value_at r s.live ≡ None → value_at r (closed_with q reason s).live ≡ None }
+{}
+
+/// Each live connection has transport selectors, and no other has: of a new carrier, and whatever comes and is
+/// called keeps it. They stay as they came or were asked for until the connection is gone (`unit_keeps` and
+/// those behind it): where a connection was there and is there still, they are as they were.
+pub fn each_live_connection_has_its_tsaps()
+    ensures known { (r : ℕ) (s : State) → AreNamed s → is_some (tsaps_at r s) ≡ is_some (value_at r s.live) }
+    ensures begins { (is_caller : Bool) (local : Local) → AreNamed (fresh_state is_caller local) }
+    ensures unit { (unit : Value) (s : State) → AreNamed s → AreNamed (react unit s) }
+    ensures asks { (calling called : Option (List ℕ)) (s : State) → AreNamed s → AreNamed (asks calling called s) }
+    ensures sent { (r : ℕ) (tsdu : List ℕ) (s : State) → AreNamed s → AreNamed (sent r tsdu s) }
+    ensures closed { (r reason : ℕ) (s : State) → AreNamed s → AreNamed (closed_with r reason s) }
+    ensures ended { (reason : EndReason) (s : State) → AreNamed s → AreNamed (ended_by reason s) }
+    ensures unit_keeps { (unit : Value) (s : State) → IsOrderly s → KeepsTsaps s (react unit s) }
+    ensures asks_keeps { (calling called : Option (List ℕ)) (s : State) → IsOrderly s → KeepsTsaps s (asks calling called s) }
+    ensures sent_keeps { (r : ℕ) (tsdu : List ℕ) (s : State) → IsOrderly s → KeepsTsaps s (sent r tsdu s) }
+    ensures closed_keeps { (r reason : ℕ) (s : State) → IsOrderly s → KeepsTsaps s (closed_with r reason s) }
 {}
 
 /// Over every list of calls after which the carrier has not ended, the packets of the octets that it

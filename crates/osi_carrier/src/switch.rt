@@ -2,10 +2,11 @@
 
 use crate::ends::{CarrierFault, EndReason};
 use crate::events::Event;
-use crate::rows::Connections;
+use crate::rows::{Connections, Phase};
+use crate::selectors::{Names, Tsaps};
 use bytes::BytesMut;
 use osi_class::{Class, Local};
-use std::alloc::Global;
+use std::alloc::{AllocError, Global};
 use std::collections::VecDeque;
 use std::marker::Model;
 
@@ -28,6 +29,8 @@ pub struct Switch {
     /// How many references were given.
     given: u16,
     live: Connections,
+    /// The transport selectors of the live connections.
+    names: Names,
     /// Octets to be carried to the peer.
     outgoing: BytesMut,
     /// What the user is still to be told.
@@ -49,6 +52,7 @@ impl Model for Switch {
       class = s.class;
       given = s.given;
       live = s.live;
+      tsaps = s.names;
       outgoing = s.outgoing.items;
       events = map happening s.events.items;
       ended = s.ended;
@@ -56,9 +60,12 @@ impl Model for Switch {
 }
 
 impl Switch {
-    ghost use Rattle.std.specs.Prelude.{◌≡◌};
+    ghost use Rattle.std.specs.Prelude.{◌≡◌, ◌<◌, Some, OnOk, OnErr, length};
     ghost use Rattle.osi_carrier.specs.Calls.{fresh_state};
-    ghost use Rattle.osi_carrier.specs.State.{ends, fails};
+    ghost use Rattle.osi_carrier.specs.Live.{connection, IsPumped};
+    ghost use Rattle.osi_carrier.specs.Rows.{place_of};
+    ghost use Rattle.osi_carrier.specs.Selectors.{tsap_ids};
+    ghost use Rattle.osi_carrier.specs.State.{joins, drops, ends, fails};
 
     /// A carrier's end on which nothing has happened.
     pub fn new(alloc: Global, local: Local, is_caller: bool) -> Self
@@ -71,10 +78,36 @@ impl Switch {
             class: None,
             given: 0,
             live: Connections::new(alloc),
+            names: Names::new(alloc),
             outgoing: BytesMut::new(alloc),
             events: VecDeque::new(alloc),
             ended: None,
         }
+    }
+
+    /// A new connection, whose CR names these selectors. Want of memory changes nothing.
+    fn enter(&mut self, reference: u16, phase: Phase, tsaps: Tsaps) -> Result<(), AllocError>
+        requires room { length self.old.live < 64 }
+        requires pumped { IsPumped (connection phase) }
+        ensures ok { OnOk result (self.new ≡ joins reference (connection phase) (tsap_ids tsaps) self.old) }
+        ensures err { OnErr result (self.new ≡ self.old) }
+    {
+        let before = self.names.len();
+        self.names.push(reference, tsaps)?;
+        if self.live.push(reference, phase).is_err() {
+            self.names.truncate(before);
+            return Err(AllocError);
+        }
+        Ok(())
+    }
+
+    /// Drops the connection at this place.
+    fn leave_out(&mut self, place: usize, reference: u16)
+        requires { place_of reference self.old.live ≡ Some place }
+        ensures { self.new ≡ drops reference self.old }
+    {
+        self.live.remove(place, reference);
+        self.names.remove(reference);
     }
 
     /// Ends with all connections.
@@ -83,6 +116,7 @@ impl Switch {
         ensures { self.new ≡ ends reason self.old }
     {
         self.live.clear();
+        self.names.clear();
         self.ended = Some(reason);
     }
 

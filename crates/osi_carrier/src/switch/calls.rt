@@ -2,10 +2,11 @@
 
 ghost use Rattle.std.specs.Prelude.{◌≡◌, ◌≢◌, ◌≤◌, ◌*◌, ◌^◌, ◌-◌, drop, length, min, Err, IfErr, None, Some, IsOk, OnOk, OnErr, option_map, is_some};
 ghost use Rattle.std.specs.Cow.{cow_slice_items, IsOwnedSlice};
-ghost use Rattle.osi_carrier.specs.Calls.{open_link, close_error, send_error, length_error, call_error, closed_with, closes, sent, ended_by, kept_in, unsent_at, backlog_of, Tells, WaitsAlone, WaitsOn};
+ghost use Rattle.osi_carrier.specs.Calls.{open_link, close_error, send_error, length_error, call_error, closed_with, closes, sent, ended_by, kept_in, unsent_at, backlog_of, tsaps_at, Tells, WaitsAlone, WaitsOn};
 ghost use Rattle.osi_carrier.specs.Happenings.{happening};
 ghost use Rattle.osi_carrier.specs.Packets.{stops, waits, is_spoilt};
 ghost use Rattle.osi_carrier.specs.React.{pumps};
+ghost use Rattle.osi_carrier.specs.Selectors.{tsap_ids};
 ghost use Rattle.osi_carrier.specs.Stages.{stage_of, link_in};
 ghost use Rattle.osi_class.specs.Link.{with_tsdu};
 ghost use Rattle.osi_carrier.specs.Rows.{place_of, value_at};
@@ -15,6 +16,7 @@ use crate::ends::EndReason;
 use crate::events::Event;
 use crate::faults::SendError;
 use crate::rows::Phase;
+use crate::selectors::Tsaps;
 use crate::stages::Stage;
 use crate::writing::put_disconnect;
 use osi_class::{Class, LONGEST_TSDU};
@@ -135,6 +137,13 @@ impl Switch {
         ensures { result ≡ is_some (value_at reference self.now.live) }
     {
         self.live.is_live(reference)
+    }
+
+    /// The transport selectors that the CR of a live connection names.
+    pub fn tsaps(&self, reference: u16) -> Option<Tsaps>
+        ensures { option_map tsap_ids result ≡ tsaps_at reference self.now }
+    {
+        self.names.find(reference)
     }
 
     /// The carrier ends, unless it has ended.

@@ -42,7 +42,7 @@ impl Switch {
         ensures { self.new ≡ to_closing reference (value unit.now) self.old }
     {
         match unit {
-            Tpdu::Dc(_) | Tpdu::Dr(_) => self.live.remove(place, reference),
+            Tpdu::Dc(_) | Tpdu::Dr(_) => self.leave_out(place, reference),
             Tpdu::Cr(_) | Tpdu::Cc(_) | Tpdu::Dt0(_) | Tpdu::Dt2(_) | Tpdu::Ak(_) | Tpdu::Er(_) =>
                 {}
         }
@@ -62,7 +62,7 @@ impl Switch {
     {
         self.events.reserve(1)?;
         self.events.push_back_reserved(event);
-        self.live.remove(place, reference);
+        self.leave_out(place, reference);
         Ok(())
     }
 

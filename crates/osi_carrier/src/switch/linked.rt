@@ -132,7 +132,7 @@ impl Switch {
                 put_disconnected(&mut self.outgoing, peer, reference)?;
                 self.events
                     .push_back_reserved(Event::Closed(Ref(reference), reason));
-                self.live.remove(place, reference);
+                self.leave_out(place, reference);
             }
             None | Some(Class::Zero) => {
                 self.events

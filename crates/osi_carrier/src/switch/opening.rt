@@ -15,6 +15,7 @@ use crate::events::{Event, Ref};
 use crate::faults::OpenError;
 use crate::negotiation::{acceptance, opened_link, proposal};
 use crate::rows::{MOST_LIVE, Phase};
+use crate::selectors::Tsaps;
 use crate::writing::{put_confirm, put_disconnect, put_request};
 use osi_class::{Answer, Class, answer};
 use osi_tpdu::{ConnectRequest, SizeCode, Tsap};
@@ -85,7 +86,11 @@ impl Switch {
         let before = self.outgoing.len();
         let request = proposal(&self.local, self.class, calling, called, reference);
         put_request(&mut self.outgoing, &request)?;
-        if self.live.push(reference, Phase::Asked).is_err() {
+        let tsaps = Tsaps {
+            calling: *calling,
+            called: *called,
+        };
+        if self.enter(reference, Phase::Asked, tsaps).is_err() {
             self.outgoing.truncate(before);
             return Err(AllocError);
         }
@@ -162,9 +167,9 @@ impl Switch {
         let reference = self.given + 1;
         let link = opened_link(self.alloc, class, size, &self.local, request.fields.credit);
         let confirm = acceptance(class, size, request, &self.local, reference);
+        let phase = Phase::Linked(request.fields.source, link);
+        self.enter(reference, phase, Tsaps::of(request))?;
         self.events.reserve(1)?;
-        self.live
-            .push(reference, Phase::Linked(request.fields.source, link))?;
         put_confirm(&mut self.outgoing, &confirm)?;
         self.events
             .push_back_reserved(Event::Opened(Ref(reference)));

@@ -1,0 +1,170 @@
+//! The transport selectors of the live connections (X.224 section 13.3.4).
+
+ghost use Rattle.std.specs.Prelude.{◌≡◌, ◌∷◌, ◌++◌, ◌==◌, [], None, Some, length, take, option_map, OnOk, OnErr};
+ghost use Rattle.osi_carrier.specs.React.{tsaps_of};
+ghost use Rattle.osi_carrier.specs.Rows.{value_at, place_of, without};
+ghost use Rattle.osi_carrier.specs.Selectors.{tsap_ids};
+ghost use Rattle.osi_tpdu.specs.Limits.{selector_octets, tsap_octets};
+ghost use Rattle.osi_tpdu.specs.View.{request_content};
+
+use osi_tpdu::{ConnectRequest, Selector, Tsap};
+use std::alloc::{AllocError, Global};
+use std::marker::Model;
+
+/// The transport selectors that the CR of a connection names (X.224 section 13.3.4).
+#[derive(Clone, Copy)]
+pub struct Tsaps {
+    /// That of the user that asks.
+    pub calling: Option<Tsap>,
+    /// That of the user that is asked.
+    pub called: Option<Tsap>,
+}
+
+/// A selector that is held in place.
+fn held(selector: Option<Selector<'_>>) -> Option<Tsap>
+    ensures { option_map tsap_octets result ≡ option_map selector_octets selector.entry }
+{
+    match selector {
+        None => None,
+        Some(selector) => Tsap::new(selector.octets()),
+    }
+}
+
+impl Tsaps {
+    /// Those that a CR names.
+    pub fn of(request: &ConnectRequest<'_>) -> Self
+        ensures { tsap_ids result ≡ tsaps_of (request_content request.now) }
+    {
+        Tsaps {
+            calling: held(request.fields.parameters.calling),
+            called: held(request.fields.parameters.called),
+        }
+    }
+}
+
+/// A reference, and the transport selectors of its connection.
+#[derive(Drop)]
+struct Named {
+    reference: u16,
+    tsaps: Tsaps,
+}
+
+impl Model for Named {
+    ghost use Rattle.std.specs.Prelude.{ℕ};
+    ghost use Rattle.osi_carrier.specs.State.{TsapIds};
+
+    ghost Value = { ℕ × TsapIds };
+
+    ghost use Rattle.osi_carrier.specs.Selectors.{tsap_ids};
+
+    ghost view = { λ n. (n.reference, tsap_ids n.tsaps) };
+}
+
+impl Named {
+    /// Whether it is of this reference.
+    fn has(&self, reference: u16) -> bool
+        ensures { result ≡ (self.now.0 == reference) }
+    {
+        self.reference == reference
+    }
+
+    /// The selectors.
+    fn tsaps(&self) -> Tsaps
+        ensures { tsap_ids result ≡ self.now.1 }
+    {
+        self.tsaps
+    }
+}
+
+/// The transport selectors of the live connections, by reference.
+#[derive(Drop)]
+pub struct Names {
+    rows: Vec<Named>,
+}
+
+impl Model for Names {
+    ghost use Rattle.osi_carrier.specs.Rows.{Rows};
+    ghost use Rattle.osi_carrier.specs.State.{TsapIds};
+
+    ghost Value = { Rows TsapIds };
+
+    ghost view = { λ n. n.rows.items };
+}
+
+/// The place of a reference.
+fn place_in(rows: &[Named], reference: u16) -> Option<usize>
+    ensures { result ≡ place_of reference rows.now }
+{
+    rows.iter().position(|named| named.has(reference))
+}
+
+impl Names {
+    /// There is none.
+    pub fn new(alloc: Global) -> Self
+        ensures { result ≡ [] }
+    {
+        Names {
+            rows: Vec::new(alloc),
+        }
+    }
+
+    /// How many there are.
+    pub fn len(&self) -> usize
+        ensures { result ≡ length self.now }
+    {
+        self.rows.len()
+    }
+
+    /// Those of a reference.
+    #[tactic(auto, using(crate::proofs::ByStage::nowhere))]
+    pub fn find(&self, reference: u16) -> Option<Tsaps>
+        ensures { option_map tsap_ids result ≡ value_at reference self.now }
+    {
+        match place_in(self.rows.as_slice(), reference) {
+            None => None,
+            Some(place) => Some(self.at(place, reference)),
+        }
+    }
+
+    /// Those at this place.
+    fn at(&self, place: usize, reference: u16) -> Tsaps
+        requires { place_of reference self.now ≡ Some place }
+        ensures { Some (tsap_ids result) ≡ value_at reference self.now }
+    {
+        self.rows[place].tsaps()
+    }
+
+    /// Those of a new reference. Want of memory changes nothing.
+    pub fn push(&mut self, reference: u16, tsaps: Tsaps) -> Result<(), AllocError>
+        ensures ok { OnOk result (self.new ≡ self.old ++ (reference, tsap_ids tsaps) ∷ []) }
+        ensures err { OnErr result (self.new ≡ self.old) }
+    {
+        self.rows.push(Named { reference, tsaps })?;
+        Ok(())
+    }
+
+    /// The first, so many.
+    pub fn truncate(&mut self, len: usize)
+        ensures { self.new ≡ take len self.old }
+    {
+        self.rows.truncate(len);
+    }
+
+    /// Drops those of a reference.
+    #[tactic(auto, using(crate::proofs::Named::nothing_dropped))]
+    pub fn remove(&mut self, reference: u16)
+        ensures { self.new ≡ without reference self.old }
+    {
+        let Some(place) = place_in(self.rows.as_slice(), reference) else {
+            return;
+        };
+        let _dropped = self.rows.remove(place);
+    }
+
+    /// Drops all.
+    pub fn clear(&mut self)
+        ensures { self.new ≡ [] }
+    {
+        self.rows.clear();
+    }
+}
