@@ -13,7 +13,7 @@ use Rattle.osi_session.specs.Shown.{Shown}
 use Rattle.osi_stack.specs.Calls.{calls_with, connects}
 use Rattle.osi_stack.specs.Messages.{shown_of, all_waiting}
 use Rattle.osi_stack.specs.Runs.{quieted, hushed, put_back, live_lines, pruned, Call, told_in, carried_in, AreAlike, AreAlikeInLive}
-use Rattle.osi_stack.specs.State.{Line, End, Holding, line_waits, is_used, used_lines}
+use Rattle.osi_stack.specs.State.{Line, End, Holding, line_waits, is_used, used_lines, fresh_line}
 use Rattle.osi_stack.specs.declared.connecting.Connect.{Connect}
 use Rattle.osi_tpdu.specs.Limits.{tsap_octets}
 use Rattle.osi_stack.proofs.FirstShown.{quiet_line}
@@ -37,7 +37,7 @@ waits_by live p y rows more false e h =
 -- nothing that waits is dropped
 waits_still : (live : Rows Connection) (q : ℕ) (s : Listener) (lines : Rows Line) → all_waiting (used_lines live (joined_lines q s lines)) ≡ all_waiting lines
 waits_still live q s [] =
-    waits_by live q (record { session = Some s; waiting = [] }) [] [] (is_used live (q, record { session = Some s; waiting = [] })) refl refl
+    waits_by live q (fresh_line s) [] [] (is_used live (q, fresh_line s)) refl refl
 waits_still live q s ((p, y) ∷ lines) = waits_by live p y (joined_lines q s lines) lines (is_used live (p, y)) refl (waits_still live q s lines)
 
 pub waits_asked : (c : Connect) (e : End) → all_waiting (connects c e).lines ≡ all_waiting e.lines

@@ -7,7 +7,7 @@ use Rattle.osi_session.specs.Shown.{Shown}
 use Rattle.osi_stack.specs.Messages.{shown_of, all_waiting}
 use Rattle.osi_stack.specs.Rounds.{WaitForLive}
 use Rattle.osi_stack.specs.Runs.{quieted}
-use Rattle.osi_stack.specs.State.{Line, line_waits, is_used, used_lines}
+use Rattle.osi_stack.specs.State.{Line, line_waits, is_used, used_lines, fresh_line}
 use Rattle.osi_stack.proofs.FirstShown.{quiet_line}
 use Rattle.osi_stack.proofs.Linking.{used_by, joined_lines}
 
@@ -50,7 +50,7 @@ pub record Joins (live : Rows Connection) (q : ℕ) (s : Listener) (lines : Rows
   pub none : all_waiting (used_lines live (joined_lines q s (quieted lines))) ≡ []
 
 abbrev new_line : ℕ → Listener → ℕ × Line
-new_line q s = (q, record { session = Some s; waiting = [] })
+new_line q s = (q, fresh_line s)
 
 last_waiting : (live : Rows Connection) (q : ℕ) (s : Listener) (b : Bool) → is_used live (new_line q s) ≡ b → all_waiting (used_lines live (new_line q s ∷ [])) ≡ []
 last_waiting live q s true e = ap all_waiting (used_by live (new_line q s) [] true e)

@@ -78,7 +78,7 @@ lost_told r t lines apart =
 
 lost_quieted : (lines : Rows Line) → quieted (all_lost lines) ≡ quieted (all_lost (quieted lines))
 lost_quieted [] = refl
-lost_quieted ((q, line) ∷ lines) = ap (λ (l : Rows Line). (q, record { session = None; waiting = [] }) ∷ l) (lost_quieted lines)
+lost_quieted ((q, line) ∷ lines) = ap (λ (l : Rows Line). (q, record line { session = None; waiting = [] }) ∷ l) (lost_quieted lines)
 
 ends_hushed : (o : List ℕ) (e : End) → put_back o (hushed (ends Broken e)) ≡ put_back o (hushed (ends Broken (hushed e)))
 ends_hushed o e = ap (λ (l : Rows Line). put_back o (record (ends Broken e) { lines = l })) (lost_quieted e.lines)

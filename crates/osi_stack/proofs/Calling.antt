@@ -1,5 +1,5 @@
 -- What a call sends, and what it does not do.
-use Rattle.std.proofs.Common.{◌≡◌, ℕ, Bool, false, List, [], ◌++◌, Option, Some, None, is_none, Result, Ok, Err, OnOk, IfErr, refl, sym, ap, subst, ◌∙◌}
+use Rattle.std.proofs.Common.{◌≡◌, ℕ, Bool, false, List, [], ◌++◌, Option, Some, None, is_none, Result, Ok, Err, OnOk, IfErr, refl, sym, ap, subst, ◌∙◌, if◌then◌else◌}
 use Rattle.std.proofs.lemmas.List.{append-nil}
 use Rattle.osi_carrier.specs.Packets.{Carrying}
 use Rattle.osi_carrier.specs.Calls.{send_all_error, open_link}
@@ -14,6 +14,7 @@ use Rattle.osi_session.specs.Shown.{Shown}
 use Rattle.osi_session.specs.Sizes.{limit_of}
 use Rattle.osi_stack.specs.Calls.{send_refusal, reply_refusal, move_refusal, or_else, Refuses}
 use Rattle.osi_stack.specs.Moving.{answers, line_by, carrier_by}
+use Rattle.osi_stack.specs.Selectors.{shows_connect}
 use Rattle.osi_stack.specs.State.{Line}
 use Rattle.osi_stack.specs.Transport.{hands, answers_by}
 
@@ -85,14 +86,21 @@ call_refused (Err f) s call sent tsdus r limit c none e same h =
 
 -- ---- the line and the carrier after a call
 
+-- the line of a session that shows this behind a call
+abbrev line_showing : Listener → List Shown → Line → Line
+line_showing next shown l = record { session = Some next; waiting = l.waiting ++ shown; selectors = if shows_connect shown then None else l.selectors }
+
 pub called_line : {A E : Type 0} (result : Result A E) (r : ℕ) (l : Line) (v : ℕ × Line) (s t : Listener) (call : Call) → (r, l) ≡ v → l.session ≡ Some s →
-    OnOk result (t ≡ (react s (called call)).next) → OnOk result (◌≡◌ {A = ℕ × Line} (r, record { session = Some t; waiting = l.waiting }) (v.0, line_by v.1 v.1.session (called call)))
+    OnOk result (t ≡ (react s (called call)).next) → OnOk result (◌≡◌ {A = ℕ × Line} (r, record l { session = Some t }) (v.0, line_by v.1 v.1.session (called call)))
 called_line (Err f) r l v s t call is here h = tt
 called_line (Ok a) r l v s t call is here h =
-    let done : ◌≡◌ {A = Line} (record { session = Some t; waiting = l.waiting }) (line_by l (Some s) (called call)) =
-    ap (λ (x : Listener). record { session = Some x; waiting = l.waiting }) h
-    ∙ ap (λ (w : List Shown). record { session = Some (react s (called call)).next; waiting = w }) (sym (append-nil l.waiting) ∙ ap (λ w. l.waiting ++ w) (sym (call_is s call).shown)) in
-    subst (λ (x : ℕ × Line). ◌≡◌ {A = ℕ × Line} (r, record { session = Some t; waiting = l.waiting }) (x.0, line_by x.1 x.1.session (called call))) is
+    let next = (react s (called call)).next in
+    let showing = λ (w : List Shown). line_showing next w l in
+    let done : ◌≡◌ {A = Line} (record l { session = Some t }) (line_by l (Some s) (called call)) =
+    ap (λ (x : Listener). record l { session = Some x }) h
+    ∙ ap (λ (w : List Shown). record l { session = Some next; waiting = w }) (sym (append-nil l.waiting))
+    ∙ ap showing (sym (call_is s call).shown) in
+    subst (λ (x : ℕ × Line). ◌≡◌ {A = ℕ × Line} (r, record l { session = Some t }) (x.0, line_by x.1 x.1.session (called call))) is
     (ap (λ (x : Line). (r, x)) (done ∙ ap (λ o. line_by l o (called call)) (sym here)))
 
 pub called_carrier : {A E : Type 0} (result : Result A E) (r : ℕ) (l : Line) (v : ℕ × Line) (s : Listener) (c d : Carrying) (call : Call) → (r, l) ≡ v → l.session ≡ Some s →

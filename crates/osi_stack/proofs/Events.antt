@@ -143,7 +143,7 @@ over_by None x y h k = k
 over_by (Some reason) x y h k = h
 
 pub starved_over : (e : End) → is_some (starves e).carrier.ended ≡ true
-starved_over e = over_by e.carrier.ended e.carrier (record e.carrier { live = []; ended = Some NoMemory }) refl refl
+starved_over e = over_by e.carrier.ended e.carrier (record e.carrier { live = []; tsaps = []; ended = Some NoMemory }) refl refl
 
 pub starved_attended : (e new : End) → new ≡ starves e → IsAttended new
 starved_attended e new h none =

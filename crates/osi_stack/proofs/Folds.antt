@@ -27,7 +27,7 @@ use Rattle.osi_stack.specs.Feeding.{TakesPackets, Goes, Feeds}
 use Rattle.osi_stack.specs.Folds.{CameAbout, IsProfiled, OfSessions, AllCameAbout}
 use Rattle.osi_stack.specs.Hearing.{opens, hears, hears_first, hears_next, hears_times, hears_all, with_events, with_carrier, attends, after_packet, ends, all_lost, Starves}
 use Rattle.osi_stack.specs.Moving.{line_by, by_line, to_session}
-use Rattle.osi_stack.specs.State.{Line, End, Holding, waits, is_used, used_lines}
+use Rattle.osi_stack.specs.State.{Line, End, Holding, waits, is_used, used_lines, fresh_line}
 use Rattle.osi_stack.specs.declared.connecting.Connect.{Connect}
 use Rattle.osi_stack.proofs.Lifting.{packet_is}
 use Rattle.osi_stack.proofs.Linking.{used_by}
@@ -99,7 +99,7 @@ pub session_all : (P : Listener → Type 0) (r : ℕ) (input : Input) (e : End) 
 session_all P r input e moves all = session_by P r input e (value_at r e.lines) refl moves all
 
 opens_all : (P : Listener → Type 0) → StaysTrue P → (r : ℕ) (e : End) (o : Option Line) → OfSessions P e.lines → OfSessions P (opens r o e).lines
-opens_all P law r e None all = more_all P e.carrier.live e.lines (r, record { session = Some awaits; waiting = [] }) law.begins all
+opens_all P law r e None all = more_all P e.carrier.live e.lines (r, fresh_line awaits) law.begins all
 opens_all P law r e (Some line) all = session_all P r opened e law.opened all
 
 hears_all_by : (P : Listener → Type 0) → StaysTrue P → (event : Happening) (e : End) → OfSessions P e.lines → OfSessions P (hears event e).lines
@@ -161,7 +161,7 @@ feeds_all P law old new piece fed h all = feeds_by P law old new piece fed old.e
 -- ---- calls
 
 pub connect_all : (P : Listener → Type 0) (c : Connect) (e : End) → P (calls_with c) → OfSessions P e.lines → OfSessions P (connects c e).lines
-connect_all P c e new all = more_all P _ e.lines (e.carrier.given + 1, record { session = Some (calls_with c); waiting = [] }) new all
+connect_all P c e new all = more_all P _ e.lines (e.carrier.given + 1, fresh_line (calls_with c)) new all
 
 rest_all : (P : Listener → Type 0) (r : ℕ) (line : Line) (waiting : List Shown) (lines : Rows Line) → IfSome line.session P → OfSessions P lines → OfSessions P (without_first lines) →
     OfSessions P (rest_by r line waiting lines (without_first lines))

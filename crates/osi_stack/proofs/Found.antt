@@ -32,7 +32,7 @@ nowhere r rows e = nowhere_at r rows (grind (arith, common_steps))
 
 found_by : (r : ℕ) (rows : Rows Line) (o : Option ℕ) → place_of r rows ≡ o → is_some o ≡ is_some (value_at r rows)
 found_by r rows None e = sym (ap is_some (nowhere r rows e))
-found_by r rows (Some i) e = sym (ap is_some (placed r rows i (0, record { session = None; waiting = [] }) e).there)
+found_by r rows (Some i) e = sym (ap is_some (placed r rows i (0, record { session = None; waiting = []; selectors = None }) e).there)
 
 pub found : (r : ℕ) (rows : Rows Line) → is_some (place_of r rows) ≡ is_some (value_at r rows)
 found r rows = found_by r rows (place_of r rows) refl

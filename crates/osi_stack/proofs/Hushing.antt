@@ -7,7 +7,7 @@ use Rattle.osi_session.specs.Listening.{Input, Listener, called, react}
 use Rattle.osi_session.specs.Shown.{Shown}
 use Rattle.osi_stack.specs.Calls.{call_error}
 use Rattle.osi_stack.specs.Messages.{shown_of, all_waiting}
-use Rattle.osi_stack.specs.Moving.{line_after, line_by, by_line, to_session}
+use Rattle.osi_stack.specs.Moving.{line_by, by_line, to_session}
 use Rattle.osi_stack.specs.Runs.{quieted, hushed, put_back, account_of}
 use Rattle.osi_stack.specs.State.{Line, End}
 use Rattle.osi_stack.proofs.Accounts.{made}
@@ -82,7 +82,7 @@ call_waiting r call e h =
     let says = says_is r call e h in
     let acts = says.acts in
     ap all_waiting acts.lines
-    ∙ waiting_put r (line_after acts.line (react acts.session (called call))) acts.line e.lines
+    ∙ waiting_put r (line_by acts.line (Some acts.session) (called call)) acts.line e.lines
     (ap (λ (w : List Shown). acts.line.waiting ++ w) says.granted.shown ∙ append-nil acts.line.waiting) acts.here
 
 none_quieted : (lines : Rows Line) → all_waiting (quieted lines) ≡ []

@@ -9,7 +9,7 @@ use Rattle.osi_carrier.specs.State.{Connection}
 use Rattle.osi_carrier.proofs.AtReferences.{without_other}
 use Rattle.osi_session.specs.Listening.{Listener}
 use Rattle.osi_stack.specs.Runs.{quieted}
-use Rattle.osi_stack.specs.State.{Line, End, Holding, joined_of, joined_live, joined_in, kept_octets, is_used, used_lines}
+use Rattle.osi_stack.specs.State.{Line, End, Holding, joined_of, joined_live, joined_in, kept_octets, is_used, used_lines, fresh_line}
 use Rattle.osi_stack.proofs.Linking.{used_by, joined_lines}
 
 -- ---- how many lines are of live connections
@@ -105,9 +105,9 @@ pub joined_joins : (live : Rows Connection) (q : ℕ) (s : Listener) (lines : Ro
     joined_in live (used_lines live (joined_lines q s lines)) ≡ joined_in live (used_lines live (joined_lines q s (quieted lines)))
 joined_joins live q s lines =
     let one = used_joined live (joined_lines q s lines) in
-    let two = sum_by_push (λ row. joined_live live row) lines (q, record { session = Some s; waiting = [] }) in
+    let two = sum_by_push (λ row. joined_live live row) lines (q, fresh_line s) in
     let three = used_joined live (joined_lines q s (quieted lines)) in
-    let four = sum_by_push (λ row. joined_live live row) (quieted lines) (q, record { session = Some s; waiting = [] }) in
+    let four = sum_by_push (λ row. joined_live live row) (quieted lines) (q, fresh_line s) in
     let five = joined_quiet live lines in
     omega arith
 

@@ -10,6 +10,8 @@ pub mod Lifting
 pub mod Pieces
 pub mod Comings
 pub mod Moves
+pub mod Selecting
+pub mod Addressing
 pub mod Linking
 pub mod Soundness
 pub mod Tables

@@ -28,7 +28,7 @@ use Rattle.osi_stack.specs.Links.{needs_link, AreApart}
 use Rattle.osi_stack.specs.Messages.{kept_at}
 use Rattle.osi_message.specs.Parting.{tsdus_sent}
 use Rattle.osi_stack.specs.Moving.{limit_for, line_by, carrier_by, by_line, to_session}
-use Rattle.osi_stack.specs.State.{Line, End, session_in, line_waits, is_used, used_lines, joins}
+use Rattle.osi_stack.specs.State.{Line, End, session_in, line_waits, is_used, used_lines, joins, fresh_line}
 use Rattle.osi_stack.specs.Transport.{sent_unless, answers_by}
 use Rattle.osi_stack.proofs.Keeping.{hears_keep}
 use Rattle.osi_stack.proofs.Lifting.{both}
@@ -408,7 +408,7 @@ apart_used live [] apart = tt
 apart_used live ((p, y) ∷ lines) apart = apart_used_by p y live lines (is_used live (p, y)) refl apart.0 apart.1 (apart_used live lines apart.1)
 
 pub apart_joins : (r : ℕ) (s : Listener) (e : End) → value_at r e.lines ≡ None → AreApart e.lines → AreApart (joins r s e).lines
-apart_joins r s e none apart = apart_used e.carrier.live _ (apart_push r (record { session = Some s; waiting = [] }) e.lines none apart)
+apart_joins r s e none apart = apart_used e.carrier.live _ (apart_push r (fresh_line s) e.lines none apart)
 
 pub apart_lost : (lines : Rows Line) → AreApart lines → AreApart (all_lost lines)
 apart_lost [] apart = tt
@@ -425,14 +425,14 @@ joined_here q rest e none l h = elim l.fresh [
 ]
 
 abbrev pub joined_lines : ℕ → Listener → Rows Line → Rows Line
-joined_lines q s lines = lines ++ (q, record { session = Some s; waiting = [] }) ∷ []
+joined_lines q s lines = lines ++ (q, fresh_line s) ∷ []
 
 joined_by : (q : ℕ) (rest : List Happening) (e : End) → value_at q e.lines ≡ None → AllLinked (told.opened q ∷ rest) e → (r : ℕ) (b : Bool) → (r == q) ≡ b →
     Stays r e.carrier.live (joined_lines q awaits e.lines) → IsLinked r (kept_at r (joins q awaits e).lines) rest e.carrier
 joined_by q rest e none l r true at (inl same) =
     let is = eqb-true r q at in
     let kept : kept_at r (joins q awaits e).lines ≡ Some awaits =
-    ap session_in (same ∙ ap (λ n. value_at n (joined_lines q awaits e.lines)) is ∙ push_here q (record { session = Some awaits; waiting = [] }) e.lines none) in
+    ap session_in (same ∙ ap (λ n. value_at n (joined_lines q awaits e.lines)) is ∙ push_here q (fresh_line awaits) e.lines none) in
     subst (λ (o : Option Listener). IsLinked r o rest e.carrier) (sym kept) (record {
       needed = λ s same n h. ap (λ n. is_open n e.carrier) is ∙ joined_here q rest e none (l q) (ap (λ n. open_after n true rest) (sym is) ∙ h);
       fresh = inl (λ h. ap (λ n. is_open n e.carrier) is ∙ joined_here q rest e none (l q) (mono q rest false true (λ no. refl) (ap (λ n. open_after n false rest) (sym is) ∙ h)));

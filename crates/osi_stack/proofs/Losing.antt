@@ -16,9 +16,9 @@ unfolding react
 lost_shown s = refl
 
 pub lost_line : (s : Listener) (l : Line) (b : Bool) (waiting : List Shown) → l.session ≡ Some s → b ≡ shows_loss s.state.phase →
-    waiting ≡ l.waiting ++ (if b then Lost ∷ [] else []) → record { session = None; waiting = waiting } ≡ loses l
+    waiting ≡ l.waiting ++ (if b then Lost ∷ [] else []) → record l { session = None; waiting = waiting } ≡ loses l
 lost_line s l b waiting e shows h =
-    ap (λ (w : List Shown). record { session = None; waiting = w }) (h ∙ ap (λ (v : Bool). l.waiting ++ (if v then Lost ∷ [] else [])) shows
+    ap (λ (w : List Shown). record l { session = None; waiting = w }) (h ∙ ap (λ (v : Bool). l.waiting ++ (if v then Lost ∷ [] else [])) shows
     ∙ ap (λ v. l.waiting ++ v) (sym (lost_shown s)) ∙ ap (λ o. l.waiting ++ shown_at_loss o) (sym e))
 
 -- one indication more
@@ -32,7 +32,7 @@ none_more l = sym (append-nil l)
 -- ---- all of them
 
 lost_twice : (l : Line) → loses (loses l) ≡ loses l
-lost_twice l = ap (λ (w : List Shown). record { session = None; waiting = w }) (append-nil (l.waiting ++ shown_at_loss l.session))
+lost_twice l = ap (λ (w : List Shown). record l { session = None; waiting = w }) (append-nil (l.waiting ++ shown_at_loss l.session))
 
 lost_put_by : (r q : ℕ) (y l : Line) (rows : Rows Line) (b : Bool) → (q == r) ≡ b → (value_at r rows ≡ Some l → all_lost (put r (loses l) rows) ≡ all_lost rows) →
     value_at r ((q, y) ∷ rows) ≡ Some l → all_lost (put r (loses l) ((q, y) ∷ rows)) ≡ all_lost ((q, y) ∷ rows)

@@ -36,7 +36,7 @@ use Rattle.osi_stack.specs.Rounds.{UserCall, user_does}
 use Rattle.osi_stack.specs.Rounds.UserCall.{connecting, calling, breaking}
 use Rattle.osi_stack.specs.Runs.{put_back, Call, Calls, used_in}
 use Rattle.osi_stack.specs.Runs.Call.{feeding, telling, carrying}
-use Rattle.osi_stack.specs.State.{Line, End, Holding, IsAttended, fresh_end, session_in, used_lines, joins, waits}
+use Rattle.osi_stack.specs.State.{Line, End, Holding, IsAttended, fresh_end, session_in, used_lines, joins, waits, fresh_line}
 use Rattle.osi_stack.specs.declared.connecting.Connect.{Connect}
 use Rattle.osi_stack.proofs.Attending.{session_attended, connect_attended, feeds_attended}
 use Rattle.osi_stack.proofs.Comings.{attended_then}
@@ -143,12 +143,12 @@ pub kept_joined : (q r : ℕ) (s t : Listener) (live : Rows Connection) (lines :
     kept_at r (used_lines live (joined_lines q s lines)) ≡ Some t → ((q ≡ r) × (t ≡ s)) ⊎ ((q ≡ r → ⊥) × (kept_at r lines ≡ Some t))
 kept_joined q r s t live lines true at none (inl same) is =
     let e = eqb-true q r at in
-    let x : Line = record { session = Some s; waiting = [] } in
+    let x : Line = fresh_line s in
     let here : Some s ≡ Some t = ap session_in (sym (push_here q x lines none)) ∙ ap (λ n. session_in (value_at n (joined_lines q s lines))) e ∙ ap session_in (sym same) ∙ is in
     inl (e, (let one : s ≡ t = cc in sym one))
 kept_joined q r s t live lines false at none (inl same) is =
     let ne : r ≢ q = (λ e. both (q == r) (eq-eqb q r (sym e)) at) in
-    inr (λ e. ne (sym e), ap session_in (sym (push_other r q (record { session = Some s; waiting = [] }) lines ne)) ∙ ap session_in (sym same) ∙ is)
+    inr (λ e. ne (sym e), ap session_in (sym (push_other r q (fresh_line s) lines ne)) ∙ ap session_in (sym same) ∙ is)
 kept_joined q r s t live lines b at none (inr gone) is = let no : None ≡ Some t = ap session_in (sym gone.0) ∙ is in cc
 
 awaits_still : (react awaits linked_up).next ≡ awaits
@@ -159,7 +159,7 @@ joins_known : (g q : ℕ) (e : End) (past : Past) → g < q → AreApart e.lines
     IsKnown q (then_came ((q, linked_up) ∷ []) past) (joins q awaits e).lines
 joins_known g q e past above apart none k = record {
   made = λ r t is. elim (kept_joined q r awaits t e.carrier.live e.lines (q == r) refl none
-      (used_at r e.carrier.live (joined_lines q awaits e.lines) (apart_push q (record { session = Some awaits; waiting = [] }) e.lines none apart)) is) [
+      (used_at r e.carrier.live (joined_lines q awaits e.lines) (apart_push q (fresh_line awaits) e.lines none apart)) is) [
         | inl h ↦ h.1 ∙ sym (ap (λ (x : Listener). (react x linked_up).next) (new_awaits g past e.lines q k above) ∙ awaits_still)
             ∙ sym (made_here q linked_up past) ∙ ap (λ n. made_at n (then_came ((q, linked_up) ∷ []) past)) h.0
         | inr h ↦ k.made r t h.1 ∙ sym (made_other r q linked_up past (unlike q r (λ e. h.0 (sym e))))
@@ -437,7 +437,7 @@ connect_known c e past s k =
     let q = e.carrier.given + 1 in
     let none : value_at q e.lines ≡ None = beyond q e.carrier.given e.lines s.known (omega arith) in
     let live = (asks (option_map tsap_octets c.calling_tsap) (option_map tsap_octets c.called_tsap) e.carrier).live in
-    let stays = (λ (r : ℕ). used_at r live (joined_lines q (calls_with c) e.lines) (apart_push q (record { session = Some (calls_with c); waiting = [] }) e.lines none s.apart)) in
+    let stays = (λ (r : ℕ). used_at r live (joined_lines q (calls_with c) e.lines) (apart_push q (fresh_line (calls_with c)) e.lines none s.apart)) in
     record {
       made = λ r t is. elim (kept_joined q r (calls_with c) t live e.lines (q == r) refl none (stays r) is) [
         | inl h ↦ h.1 ∙ sym (asked_here q c past (k.unasked q (omega arith)) (k.unheard q (omega arith))) ∙ ap (λ n. made_at n (past_called (connecting c) e past)) h.0

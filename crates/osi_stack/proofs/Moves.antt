@@ -33,7 +33,7 @@ use Rattle.osi_stack.specs.Calls.{first_shown, first_by, without_first, rest_by,
 use Rattle.osi_stack.specs.Coming.{carries_out, after_unit}
 use Rattle.osi_stack.specs.Hearing.{opens, hears, hears_times, hears_first, hears_all, with_events, concludes, attends, shown_at_loss, loses, all_lost}
 use Rattle.osi_stack.specs.Messages.{Message, unit, part, ask, agree, deny, bye, over, IsWhole, put_by, puts, Acts, Effect, begins, happens, rests, effect_at, told_at, HasSession, AreShort, IsShort, CanHear, Hears, told_all, Arrives, kept_at, waiting_of, Becomes, IsGranted, Says, AreLost, shown_of, all_waiting, IsFirstOf}
-use Rattle.osi_stack.specs.Moving.{limit_for, line_after, line_by, carrier_by, by_line, to_session}
+use Rattle.osi_stack.specs.Moving.{limit_for, line_by, carrier_by, by_line, to_session}
 use Rattle.osi_stack.specs.State.{Line, End, session_in, session_at, line_waits, waits, is_used, used_lines, joins}
 use Rattle.osi_stack.specs.Transport.{answers_by}
 use Rattle.osi_stack.proofs.Handing.{hands_none, handed, puts_words}
@@ -74,7 +74,7 @@ acts_is r input e s short = by_acts r input e s.line s.session s.here s.is short
 pub acts_becomes : (r : ℕ) (input : Input) (old new : End) (a : Acts r input old new) →
     Becomes r (react a.session input).next (react a.session input).shown old.lines new.lines
 acts_becomes r input old new a =
-    let after = line_after a.line (react a.session input) in
+    let after = line_by a.line (Some a.session) input in
     let at : value_at r new.lines ≡ Some after = ap (λ (l : Rows Line). value_at r l) a.lines ∙ put_here r after a.line old.lines a.here in
     record {
       session_is = ap session_in at;

@@ -7,11 +7,11 @@ use Rattle.osi_carrier.specs.Rows.{Rows}
 use Rattle.osi_carrier.specs.State.{State as Carrier}
 use Rattle.osi_session.specs.Listening.{Listener}
 use Rattle.osi_stack.specs.Calls.{connects, calls_with}
-use Rattle.osi_stack.specs.State.{Line, Holding, used_lines}
+use Rattle.osi_stack.specs.State.{Line, Holding, used_lines, fresh_line}
 use Rattle.osi_stack.specs.declared.connecting.Connect.{Connect}
 
 abbrev begins_with : ℕ → Listener → ℕ × Line
-begins_with r session = (r, record { session = Some session; waiting = [] })
+begins_with r session = (r, fresh_line session)
 
 abbrev asked_by : Connect → Carrier → Carrier
 asked_by c old = asks (option_map tsap_octets c.calling_tsap) (option_map tsap_octets c.called_tsap) old

@@ -15,7 +15,7 @@ use Rattle.osi_carrier.specs.Negotiation.{confirmed}
 use Rattle.osi_carrier.specs.Orderly.{RiseFrom, told_of, IsOrderly}
 use Rattle.osi_carrier.specs.React.{denies, answers, is_full, has_peer, answers_request, to_unknown, opens, to_asked, tells_of, taking, breaks, leaves, to_linked, to_closing, to_connection, to_reference, before_class, to_only, in_zero, in_two, in_class, react, react_by, reacts}
 use Rattle.osi_carrier.specs.Rows.{Rows, value_at, put, without}
-use Rattle.osi_carrier.specs.State.{Connection, asked, linked, closing, State, ends}
+use Rattle.osi_carrier.specs.State.{Connection, asked, linked, closing, State, drops, ends}
 use Rattle.osi_carrier.specs.declared.ends.EndReason.{EndReason}
 use Rattle.osi_carrier.proofs.Apart.{put_here, without_here}
 use Rattle.osi_carrier.proofs.AtReferences.{put_other, without_other, put_none}
@@ -250,8 +250,8 @@ opens_linked r peer link (data2 destination number end user) s rise here = opens
 opens_linked r peer link (acknowledge credit destination number) s rise here = opens_taking r peer (taken link (acknowledge credit destination number)) s here
 opens_linked r peer link (error destination cause) s rise here = opens_taking r peer (taken link (error destination cause)) s here
 
-opens_dropped : (r : ℕ) (s : State) → RiseFrom 0 s.live → Opens s (record s { live = without r s.live })
-opens_dropped r s rise = silent s (record s { live = without r s.live }) refl refl refl (awaited_without r s.live rise)
+opens_dropped : (r : ℕ) (s : State) → RiseFrom 0 s.live → Opens s (drops r s)
+opens_dropped r s rise = silent s (drops r s) refl refl refl (awaited_without r s.live rise)
 
 opens_closing : (r : ℕ) (unit : Value) (s : State) → RiseFrom 0 s.live → Opens s (to_closing r unit s)
 opens_closing r (disconnected destination source) s rise = opens_dropped r s rise

@@ -35,7 +35,7 @@ use Rattle.osi_stack.specs.Hearing.{opens, hears, hears_first, hears_next, hears
 use Rattle.osi_stack.specs.Links.{AreApart, Soundness, IsSound}
 use Rattle.osi_stack.specs.Moving.{carrier_by, line_by, by_line, to_session}
 use Rattle.osi_stack.specs.Ordered.{IsOrdered}
-use Rattle.osi_stack.specs.State.{Line, End, Holding, IsAttended, fresh_end, waits, is_used, used_lines}
+use Rattle.osi_stack.specs.State.{Line, End, Holding, IsAttended, fresh_end, waits, is_used, used_lines, fresh_line}
 use Rattle.osi_stack.specs.Transport.{sent_unless, answers_by}
 use Rattle.osi_stack.specs.declared.connecting.Connect.{Connect}
 use Rattle.osi_stack.proofs.Comings.{attended_then, attended_along}
@@ -235,7 +235,7 @@ session_up n r input e rise up = record { rise = rise_session r input e rise; up
 opens_up : (n r : ℕ) (o : Option Line) (e : End) → n < r → RiseFrom 0 e.lines → AreUpTo n e.lines → HeardUpTo r (opens r o e)
 opens_up n r None e above rise up = record {
   rise = rise_joins n r awaits e above up rise;
-  up = up_used r e.carrier.live _ (up_push n r (record { session = Some awaits; waiting = [] }) e.lines above up);
+  up = up_used r e.carrier.live _ (up_push n r (fresh_line awaits) e.lines above up);
 }
 opens_up n r (Some line) e above rise up = session_up r r linked_up e rise (up_more n r e.lines (omega arith) up)
 
@@ -406,7 +406,7 @@ connect_ordered c e allowed sound o =
     let s = sound (none_of e.carrier.ended (free_of e.carrier may).lasts) in
     let q = e.carrier.given + 1 in
     let none : value_at q e.lines ≡ None = beyond q e.carrier.given e.lines s.known (omega arith) in
-    let x : Line = record { session = Some (calls_with c); waiting = [] } in
+    let x : Line = fresh_line (calls_with c) in
     record {
       rise = rise_connect c e s o.rise;
       awaiting = λ r h. (

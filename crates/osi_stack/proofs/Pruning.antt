@@ -15,7 +15,7 @@ use Rattle.osi_session.specs.Shown.{Shown}
 use Rattle.osi_stack.specs.Hearing.{opens, hears, hears_first, hears_next, hears_times, hears_all, with_events, with_carrier, shown_at_loss, loses, all_lost, concludes, attends, after_packet}
 use Rattle.osi_stack.specs.Messages.{shown_of, all_waiting}
 use Rattle.osi_stack.specs.Moving.{line_by, carrier_by, by_line, to_session}
-use Rattle.osi_stack.specs.State.{Line, End, is_used, used_lines, joins}
+use Rattle.osi_stack.specs.State.{Line, End, is_used, used_lines, joins, fresh_line}
 use Rattle.osi_stack.proofs.Lifting.{both, packet_is}
 use Rattle.osi_stack.proofs.Linking.{used_by, rest_is, joined_lines}
 
@@ -94,7 +94,7 @@ module _ (K : ℕ → Bool) where
 
   pub only_push : (r : ℕ) (s : Listener) (lines : Rows Line) → K r ≡ true → joined_lines r s (only lines) ≡ only (joined_lines r s lines)
   only_push r s lines here =
-      let new : Line = record { session = Some s; waiting = [] } in
+      let new : Line = fresh_line s in
       sym (filter-append (λ (row : ℕ × Line). K row.0) lines ((r, new) ∷ []) ∙ ap (λ (l : Rows Line). only lines ++ l) (only_row r new [] true here))
 
   lost_row : (q : ℕ) (y : Line) (lines : Rows Line) (b : Bool) → K q ≡ b → all_lost (only lines) ≡ only (all_lost lines) → all_lost (only ((q, y) ∷ lines)) ≡ only (all_lost ((q, y) ∷ lines))

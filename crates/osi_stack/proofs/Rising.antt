@@ -15,7 +15,7 @@ use Rattle.osi_stack.specs.Hearing.{ends, all_lost}
 use Rattle.osi_stack.specs.Links.{Soundness}
 use Rattle.osi_stack.specs.Messages.{Effect, begins, happens, rests, Hears, Arrives, told_all}
 use Rattle.osi_stack.specs.Moving.{line_by, by_line, to_session}
-use Rattle.osi_stack.specs.State.{Line, End, is_used, used_lines, joins}
+use Rattle.osi_stack.specs.State.{Line, End, is_used, used_lines, joins, fresh_line}
 use Rattle.osi_stack.specs.declared.connecting.Connect.{Connect}
 use Rattle.osi_carrier.specs.declared.ends.EndReason.TheVariants.{Broken}
 use Rattle.osi_stack.proofs.Linking.{used_by}
@@ -62,7 +62,7 @@ rise_first n ((p, y) ∷ lines) rise = rise_first_by n p y y.waiting lines rise.
 -- a new line has a reference above those that were given
 pub rise_joins : (g r : ℕ) (s : Listener) (e : End) → g < r → AreUpTo g e.lines → RiseFrom 0 e.lines → RiseFrom 0 (joins r s e).lines
 rise_joins g r s e over up rise =
-    rise_used 0 e.carrier.live _ (rise_push 0 g r (record { session = Some s; waiting = [] }) e.lines (omega arith) over up rise)
+    rise_used 0 e.carrier.live _ (rise_push 0 g r (fresh_line s) e.lines (omega arith) over up rise)
 
 rise_line : (r : ℕ) (input : Input) (e : End) (o : Option Line) → RiseFrom 0 e.lines → RiseFrom 0 (by_line r o input e).lines
 rise_line r input e None rise = rise

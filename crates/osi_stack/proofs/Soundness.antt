@@ -41,7 +41,7 @@ use Rattle.osi_stack.specs.Hearing.{opens, hears, hears_first, hears_next, hears
 use Rattle.osi_stack.specs.Links.{needs_link, AreApart, HasLinks, Soundness, IsSound}
 use Rattle.osi_stack.specs.Messages.{kept_at}
 use Rattle.osi_stack.specs.Moving.{line_by, carrier_by, by_line, to_session}
-use Rattle.osi_stack.specs.State.{Line, End, Holding, IsAttended, fresh_end, session_in, waits, is_used, used_lines, joins}
+use Rattle.osi_stack.specs.State.{Line, End, Holding, IsAttended, fresh_end, session_in, waits, is_used, used_lines, joins, fresh_line}
 use Rattle.osi_stack.specs.Transport.{sent_unless, answers_by}
 use Rattle.osi_stack.proofs.Comings.{attended_then}
 use Rattle.osi_stack.proofs.Events.{concluded_carrier, starved_over}
@@ -102,7 +102,7 @@ or_none false h = cc
 -- a new line is kept only where its connection is live
 up_joined : (n r : ℕ) (s : Listener) (live : Rows Connection) (lines : Rows Line) → AreUpTo n live → AreUpTo n lines → AreUpTo n (used_lines live (joined_lines r s lines))
 up_joined n r s live [] up known =
-    up_used_by n r (record { session = Some s; waiting = [] }) live [] (is_used live (r, record { session = Some s; waiting = [] })) refl
+    up_used_by n r (fresh_line s) live [] (is_used live (r, fresh_line s)) refl
     (λ used. up_at r n live up (or_none (is_some (value_at r live)) used)) tt
 up_joined n r s live ((p, y) ∷ lines) up known =
     up_used_by n p y live (joined_lines r s lines) (is_used live (p, y)) refl (λ used. known.0) (up_joined n r s live lines up known.1)
@@ -279,7 +279,7 @@ asked_linked : (q : ℕ) (s : Listener) (e : End) (c : Carrier) → value_at q e
 asked_linked q s e c none apart unneeded l same r true at (inl is) =
     let here = eqb-true r q at in
     let kept : kept_at r (used_lines c.live (joined_lines q s e.lines)) ≡ Some s =
-    ap session_in (is ∙ ap (λ n. value_at n (joined_lines q s e.lines)) here ∙ push_here q (record { session = Some s; waiting = [] }) e.lines none) in
+    ap session_in (is ∙ ap (λ n. value_at n (joined_lines q s e.lines)) here ∙ push_here q (fresh_line s) e.lines none) in
     subst (λ (o : Option Listener). IsLinked r o [] c) (sym kept) (record {
       needed = λ t is n h. (let one : s ≡ t = cc in both (needs_link s.state.phase) (ap (λ (x : Listener). needs_link x.state.phase) one ∙ n) unneeded);
       fresh = inl (λ h. cc);
@@ -306,7 +306,7 @@ connect_sound c e allowed sound over =
     let none = beyond q e.carrier.given e.lines s.known (omega arith) in
     let apart = apart_joins q (calls_with c) (record e { carrier = asked }) none s.apart in
     let l = asked_linked q (calls_with c) e asked none s.apart refl (links_linked e s.links over) (λ r. asks_opens calling to e.carrier r s.orderly) in
-    let stays = (λ (r : ℕ). used_at r asked.live (joined_lines q (calls_with c) e.lines) (apart_push q (record { session = Some (calls_with c); waiting = [] }) e.lines none s.apart)) in
+    let stays = (λ (r : ℕ). used_at r asked.live (joined_lines q (calls_with c) e.lines) (apart_push q (fresh_line (calls_with c)) e.lines none s.apart)) in
     record {
       orderly = orderly;
       apart = apart;

@@ -32,7 +32,7 @@ none_counted n rows e z = quiet_none rows (waits_counted rows ∙ ap (nat_lt 0) 
 
 -- what stands for a line where there is none
 abbrev pub nobody : ℕ × Line
-nobody = (0, record { session = None; waiting = [] })
+nobody = (0, record { session = None; waiting = []; selectors = None })
 
 counted_by : (b : Bool) (n : ℕ) → b ≡ true → 0 < cond b 1 0 + n
 counted_by true n e = omega arith
@@ -77,7 +77,7 @@ only_first rows i d one within here =
 -- ---- a line for which nothing waits
 
 any_waiting : ℕ × Line
-any_waiting = (0, record { session = None; waiting = Lost ∷ [] })
+any_waiting = (0, record { session = None; waiting = Lost ∷ []; selectors = None })
 
 room_at : (rows : Rows Line) (i : ℕ) (row : ℕ × Line) → i < length rows → row ≡ get_or rows i row → line_waits row.1 ≡ false → how_many_wait rows < length rows
 unfolding any_waiting

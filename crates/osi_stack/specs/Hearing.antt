@@ -61,7 +61,7 @@ shown_at_loss None = []
 shown_at_loss (Some session) = (react session broken).shown
 
 abbrev pub loses : Line → Line
-loses line = record { session = None; waiting = line.waiting ++ shown_at_loss line.session }
+loses line = record line { session = None; waiting = line.waiting ++ shown_at_loss line.session }
 
 -- each session is lost, the one of the lowest reference first
 abbrev pub all_lost : Rows Line → Rows Line

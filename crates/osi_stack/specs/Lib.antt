@@ -1,3 +1,4 @@
+pub mod Selectors
 pub mod State
 pub mod Transport
 pub mod Moving
@@ -9,6 +10,7 @@ pub mod Coming
 pub mod Messages
 pub mod Links
 pub mod Calls
+pub mod Addresses
 pub mod Fetching
 pub mod Folds
 pub mod Settled

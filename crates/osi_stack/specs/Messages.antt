@@ -24,7 +24,7 @@ use Rattle.osi_session.specs.Sizes.{limit_of}
 use Rattle.osi_session.specs.Shown.{Shown}
 use Rattle.osi_stack.specs.Coming.{carries_out}
 use Rattle.osi_stack.specs.Hearing.{with_events, concludes, shown_at_loss}
-use Rattle.osi_stack.specs.Moving.{limit_for, line_after}
+use Rattle.osi_stack.specs.Moving.{limit_for, line_by}
 use Rattle.osi_stack.specs.State.{Line, End, session_in, session_at, joins}
 
 -- a session unit, or a part of one Data; and of a transport connection that it is asked for, agreed to,
@@ -94,7 +94,7 @@ pub record Acts (r : ℕ) (input : Input) (old new : End) : Type 0 where
   pub session : Listener
   pub here : value_at r old.lines ≡ Some line
   pub is : line.session ≡ Some session
-  pub lines : new.lines ≡ put r (line_after line (react session input)) old.lines
+  pub lines : new.lines ≡ put r (line_by line (Some session) input) old.lines
   pub carrier : new.carrier ≡ puts r (put_by (react session input).closes (limit_for session input) (react session input).reply) old.carrier
 
 -- ---- a message that arrives

@@ -1,10 +1,11 @@
 -- What the move of a session does to the end that it belongs to.
-use Rattle.std.specs.Prelude.{ℕ, ◌++◌, Option, Some, None}
+use Rattle.std.specs.Prelude.{ℕ, ◌++◌, Option, Some, None, if◌then◌else◌}
 use Rattle.osi_carrier.specs.Rows.{value_at, put}
 use Rattle.osi_carrier.specs.State.{State as Carrier}
 use Rattle.osi_message.specs.Parting.{tsdus_sent}
 use Rattle.osi_session.specs.Listening.{Input, called, Listener, Move, react}
 use Rattle.osi_session.specs.Sizes.{limit_of}
+use Rattle.osi_stack.specs.Selectors.{selectors_told, shows_connect}
 use Rattle.osi_stack.specs.State.{Line, End}
 use Rattle.osi_stack.specs.Transport.{answers_by}
 
@@ -20,12 +21,16 @@ answers r limit move c = answers_by move.closes r (tsdus_sent limit move.reply) 
 
 -- what a move does to a line: what the session shows waits for its user
 abbrev pub line_after : Line → Move → Line
-line_after line move = record { session = Some move.next; waiting = line.waiting ++ move.shown }
+line_after line move = record line { session = Some move.next; waiting = line.waiting ++ move.shown }
+
+-- where the user is shown that a connection is asked for, its CN came
+abbrev pub noted : Listener → Input → Line → Line
+noted session input line = record line { selectors = if shows_connect (react session input).shown then selectors_told input else line.selectors }
 
 -- something happens to the session of a line, if there is one
 abbrev pub line_by : Line → Option Listener → Input → Line
 line_by line None input = line
-line_by line (Some session) input = line_after line (react session input)
+line_by line (Some session) input = line_after (noted session input line) (react session input)
 
 abbrev pub carrier_by : ℕ → Option Listener → Input → Carrier → Carrier
 carrier_by r None input c = c

@@ -9,12 +9,14 @@ use Rattle.osi_carrier.specs.State.{Connection, State as Carrier}
 use Rattle.osi_session.specs.Joining.{joined_octets}
 use Rattle.osi_session.specs.Listening.{Listener}
 use Rattle.osi_session.specs.Shown.{Shown}
+use Rattle.osi_stack.specs.Selectors.{Selectors, selectors_sent}
 
--- A connection: its session, none from the end of the carrier on; and what its user is still to be
--- shown, the oldest first.
+-- A connection: its session, none from the end of the carrier on; what its user is still to be shown,
+-- the oldest first; and the session selectors of its CN, none until that was sent here or shown.
 pub record Line : Type 0 where
   pub session : Option Listener
   pub waiting : List Shown
+  pub selectors : Option Selectors
 
 -- `lines`: by the references that this end gave, in the order in which it gave them
 pub record End : Type 0 where
@@ -82,9 +84,13 @@ is_used live row = is_some (value_at row.0 live) || line_waits row.1
 abbrev pub used_lines : Rows Connection → Rows Line → Rows Line
 used_lines live lines = filter (is_used live) lines
 
--- a new session, for which nothing waits; lines that are of no use are dropped
+-- of a new session, for which nothing waits
+abbrev pub fresh_line : Listener → Line
+fresh_line session = record { session = Some session; waiting = []; selectors = selectors_sent session.waiting }
+
+-- a new session; lines that are of no use are dropped
 abbrev pub joins : ℕ → Listener → End → End
-joins r session e = record e { lines = used_lines e.carrier.live (e.lines ++ (r, record { session = Some session; waiting = [] }) ∷ []) }
+joins r session e = record e { lines = used_lines e.carrier.live (e.lines ++ (r, fresh_line session) ∷ []) }
 
 -- an end that has not ended has heard all that its carrier told
 abbrev pub IsAttended : End → Type 0

@@ -1,14 +1,15 @@
 //! A session hears what happens to it: the carrier gets what it sends, and its user what it shows.
 
-ghost use Rattle.std.specs.Prelude.{◌≡◌, [], None, false, ◌<◌, ◌≤◌, ◌+◌, ◌++◌, map, length, OnOk, OnErr};
+ghost use Rattle.std.specs.Prelude.{◌≡◌, [], None, false, ◌<◌, ◌≤◌, ◌+◌, ◌++◌, map, length, IfOk, OnOk, OnErr};
 ghost use Rattle.std.specs.Vec.{vec_len};
 ghost use Rattle.std.specs.VecDeque.{deque_len, deque_capacity};
 ghost use Rattle.osi_session.specs.Listening.{react};
 ghost use Rattle.osi_session.specs.Phases.{shows_loss};
 ghost use Rattle.osi_session.specs.Sessions.{Takes};
 ghost use Rattle.osi_session.specs.Shown.{shown_by};
-ghost use Rattle.osi_session.specs.Steps.{all_shown};
+ghost use Rattle.osi_session.specs.Steps.{all_shown, shown_list};
 ghost use Rattle.osi_stack.specs.Moving.{limit_for, answers};
+ghost use Rattle.osi_stack.specs.Selectors.{shows_connect};
 ghost use Rattle.osi_stack.specs.Telling.{told_input};
 
 use crate::told::Told;
@@ -70,8 +71,17 @@ fn show(waiting: &mut VecDeque<Indication>, first: Option<Indication>, more: Vec
     };
 }
 
-/// A session hears what happens to it. Behind it there is room for one indication more. Want of memory
-/// leaves the indications that wait, and the carrier.
+/// Whether a connection is asked for.
+fn is_connect(shown: &Option<Indication>) -> bool
+    ensures { result ≡ shows_connect (shown_list shown.now) }
+{
+    matches!(shown, Some(Indication::Connect { .. }))
+}
+
+/// A session hears what happens to it; says whether its user is shown that a connection is asked for.
+/// Behind it there is room for one indication more. Want of memory leaves the indications that wait, and
+/// the carrier.
+#[tactic(auto, using(crate::proofs::Selecting::first_connects))]
 pub fn hear(
     alloc: Global,
     session: &mut Session,
@@ -79,7 +89,8 @@ pub fn hear(
     told: Told<'_>,
     carrier: &mut Carrier,
     reference: u16,
-) -> Result<(), AllocError>
+) -> Result<bool, AllocError>
+    ensures connects { IfOk result (λ b. b ≡ shows_connect (react session.old (told_input told.entry)).shown) }
     ensures session { OnOk result (session.new ≡ (react session.old (told_input told.entry)).next) }
     ensures shown { OnOk result (map shown_by waiting.new.items ≡ map shown_by waiting.old.items ++ (react session.old (told_input told.entry)).shown) }
     ensures room { OnOk result (deque_len waiting.new < deque_capacity waiting.new) }
@@ -97,6 +108,7 @@ pub fn hear(
     } = listen(alloc, session, told)?;
     waiting.reserve(more.len() + 2)?;
     answer(carrier, reference, reply, closes)?;
+    let connects = is_connect(&first);
     show(waiting, first, more);
-    Ok(())
+    Ok(connects)
 }

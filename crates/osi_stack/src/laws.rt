@@ -1,6 +1,6 @@
 //! Laws of one end. Each function does nothing: its clauses are the laws.
 
-ghost use Rattle.std.specs.Prelude.{◌≡◌, ◌≢◌, ◌<◌, ◌≤◌, ◌^◌, ◌⊎◌, ℕ, Bool, List, [], ◌++◌, None, Some, IsSome, is_some, false, true, length, map, take};
+ghost use Rattle.std.specs.Prelude.{◌≡◌, ◌≢◌, ◌<◌, ◌≤◌, ◌^◌, ◌+◌, ◌⊎◌, ℕ, Bool, List, [], ◌++◌, None, Some, IsSome, is_some, false, true, length, map, take};
 ghost use Rattle.std.specs.List.{flat_map};
 ghost use Rattle.osi_tpkt.specs.Held.{fresh};
 ghost use Rattle.osi_tpkt.specs.Packet.{IsPartial};
@@ -9,6 +9,7 @@ ghost use Rattle.osi_tpdu.specs.Value.{Value};
 ghost use Rattle.osi_tpdu.specs.Writing.{written};
 ghost use Rattle.osi_carrier.specs.Coming.{IsSendable, AreComing};
 ghost use Rattle.osi_carrier.specs.Course.{Place};
+ghost use Rattle.osi_carrier.specs.Named.{AreNamed};
 ghost use Rattle.osi_carrier.specs.Orderly.{RiseFrom};
 ghost use Rattle.osi_carrier.specs.React.{react as carrier_react};
 ghost use Rattle.osi_carrier.specs.Rows.{Rows, value_at};
@@ -25,6 +26,8 @@ ghost use Rattle.osi_session.specs.Joining.{joined_octets};
 ghost use Rattle.osi_session.specs.Kept.{IsNoFault};
 ghost use Rattle.osi_session.specs.Listening.{Input, Listener, called, came, react};
 ghost use Rattle.osi_session.specs.Parts.{Act, AreParts, HasProfile, act_in_octets, calls_in};
+ghost use Rattle.osi_stack.specs.Addresses.{addresses_at, asked_addresses, selectors_in};
+ghost use Rattle.osi_stack.specs.Selectors.{selectors_told, shows_connect};
 ghost use Rattle.osi_stack.specs.Calls.{call_error, table_error, connect_error, connects, carried, breaks, first_shown, without_first};
 ghost use Rattle.osi_stack.specs.Folds.{AllCameAbout};
 ghost use Rattle.osi_stack.specs.Inputs.{AreMadeBy, Past, Step, StepsAlong, no_past};
@@ -241,6 +244,19 @@ pub fn what_is_joined_has_a_connection()
     what_is_joined();
 }
 
+/// A connection that is asked for has the addresses that were asked for, and one that was not those of the CN, as
+/// soon as its user is shown a `Connect`. Nothing else that happens to a session changes its selectors, and what
+/// happens to another session does not. (Of the transport selectors `osi_carrier` says the same; each carrier is
+/// `AreNamed`.)
+pub fn what_addresses_a_connection_has()
+    ensures asked { (c : Connect) (e : End) → Soundness e → AreNamed e.carrier → addresses_at (e.carrier.given + 1) (connects c e) ≡ Some (asked_addresses c) }
+    ensures came { (r : ℕ) (input : Input) (session : Listener) (e : End) → kept_at r e.lines ≡ Some session → shows_connect (react session input).shown ≡ true →
+        selectors_in (value_at r (to_session r input e).lines) ≡ selectors_told input }
+    ensures kept { (r : ℕ) (input : Input) (session : Listener) (e : End) → kept_at r e.lines ≡ Some session → shows_connect (react session input).shown ≡ false →
+        selectors_in (value_at r (to_session r input e).lines) ≡ selectors_in (value_at r e.lines) }
+    ensures others { (q r : ℕ) (input : Input) (e : End) → q ≢ r → selectors_in (value_at q (to_session r input e).lines) ≡ selectors_in (value_at q e.lines) }
+{}
+
 /// Data that comes in parts does to an end what it does in one TSDU: over the parts in their order, with any
 /// calls of the user of their session between, where nothing is unfinished and the whole Data is no fault. Behind
 /// the last part the end is the same as behind these calls and the whole Data: the session, what waits for its
@@ -254,6 +270,8 @@ pub fn parts_are_one_data()
         ≡ to_session r (came (whole_octets (DT (front ++ last)))) (to_session_along r (calls_in acts) e) }
 {
     parts_are_the_whole();
+    what_is_sent_is_read();
+    what_a_part_says();
 }
 
 /// While the carrier of an end lasts, the sessions have heard all that it told, between any two calls.

@@ -3,15 +3,20 @@
 //! (X.225 version 2) for each of its connections.
 #![tactic(auto)]
 
+mod addresses;
 mod connecting;
 mod hearing;
 mod hub;
 pub mod laws;
 mod lines;
+mod names;
 mod places;
+mod selectors;
 mod stacks;
 mod told;
 mod transport;
 
+pub use addresses::Addresses;
 pub use connecting::{Connect, ConnectError};
+pub use selectors::SessionSelector;
 pub use stacks::Stack;

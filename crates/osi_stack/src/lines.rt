@@ -11,10 +11,13 @@ ghost use Rattle.osi_session.specs.Sizes.{limit_of};
 ghost use Rattle.osi_stack.specs.Calls.{move_refusal, session_refusal, session_error, Refuses, first_shown, without_first, TellsOf};
 ghost use Rattle.osi_stack.specs.Hearing.{loses, all_lost};
 ghost use Rattle.osi_stack.specs.Moving.{answers, line_by, carrier_by, to_session};
-ghost use Rattle.osi_stack.specs.State.{line_waits, waits, how_many_wait, is_used, used_lines, session_in, joined_live, joined_in};
+ghost use Rattle.osi_stack.specs.State.{line_waits, waits, how_many_wait, is_used, used_lines, fresh_line, session_in, joined_live, joined_in};
+ghost use Rattle.osi_stack.specs.Addresses.{selectors_in};
+ghost use Rattle.osi_stack.specs.Selectors.{selectors_sent, session_selectors};
 ghost use Rattle.osi_stack.specs.Telling.{told_input};
 
 use crate::hearing::{hear, shows_loss};
+use crate::names::SessionSelectors;
 use crate::places::{is_above, place_in};
 use crate::told::Told;
 use crate::transport::{send_call, send_owned_call};
@@ -34,17 +37,20 @@ pub struct Line {
     reference: u16,
     session: Option<Session>,
     waiting: VecDeque<Indication>,
+    /// Those of its CN, once that was sent here or shown.
+    selectors: Option<SessionSelectors>,
 }
 
 impl Model for Line {
-    ghost use Rattle.std.specs.Prelude.{ℕ, ◌<◌, ◌≡◌, true, map, is_some};
+    ghost use Rattle.std.specs.Prelude.{ℕ, ◌<◌, ◌≡◌, true, map, is_some, option_map};
     ghost use Rattle.std.specs.VecDeque.{deque_len, deque_capacity};
     ghost use Rattle.osi_session.specs.Shown.{shown_by};
+    ghost use Rattle.osi_stack.specs.Selectors.{session_selectors};
     ghost use Rattle.osi_stack.specs.State.{Line};
 
     ghost Value = { ℕ × Line };
 
-    ghost view = { λ l. (l.reference, record { session = l.session; waiting = map shown_by l.waiting.items }) };
+    ghost view = { λ l. (l.reference, record { session = l.session; waiting = map shown_by l.waiting.items; selectors = option_map session_selectors l.selectors }) };
 
     ghost invariant = { λ l. is_some l.session ≡ true → deque_len l.waiting < deque_capacity l.waiting };
 }
@@ -131,15 +137,22 @@ fn make_call(
 
 impl Line {
     /// A connection with this session, for which nothing waits yet.
-    pub fn new(reference: u16, session: Session, waiting: VecDeque<Indication>) -> Self
+    pub fn new(
+        reference: u16,
+        session: Session,
+        waiting: VecDeque<Indication>,
+        selectors: Option<SessionSelectors>,
+    ) -> Self
         requires empty { waiting.items ≡ [] }
         requires room { deque_len waiting < deque_capacity waiting }
-        ensures { result ≡ (reference, record { session = Some session; waiting = [] }) }
+        requires selectors { option_map session_selectors selectors ≡ selectors_sent session.waiting }
+        ensures { result ≡ (reference, fresh_line session) }
     {
         Line {
             reference,
             session: Some(session),
             waiting,
+            selectors,
         }
     }
 
@@ -178,6 +191,13 @@ impl Line {
         self.session.as_ref()
     }
 
+    /// The session selectors of its CN.
+    fn selectors(&self) -> Option<SessionSelectors>
+        ensures { option_map session_selectors result ≡ self.now.1.selectors }
+    {
+        self.selectors
+    }
+
     /// How many octets the session has joined of an unfinished SSDU, where the connection is live.
     fn joined(&self, carrier: &Carrier) -> usize
         ensures value { result ≡ joined_live carrier.now.state.live self.now }
@@ -214,7 +234,7 @@ impl Line {
             return Ok(());
         };
         let is_shown = shows_loss(session.phase());
-        let Ok(()) = hear(
+        let Ok(connects) = hear(
             alloc,
             session,
             &mut self.waiting,
@@ -228,6 +248,9 @@ impl Line {
             }
             return Err(AllocError);
         };
+        if connects {
+            self.selectors = SessionSelectors::told(told);
+        }
         Ok(())
     }
 
@@ -413,6 +436,16 @@ impl Lines {
             return None;
         };
         self.rows[place].session()
+    }
+
+    /// The session selectors of a reference.
+    pub fn selectors(&self, reference: u16) -> Option<SessionSelectors>
+        ensures { option_map session_selectors result ≡ selectors_in (value_at reference self.now) }
+    {
+        let Some(place) = place_in(self.rows.as_slice(), self.rises, reference) else {
+            return None;
+        };
+        self.rows[place].selectors()
     }
 
     /// The oldest indication of the first connection that has one.

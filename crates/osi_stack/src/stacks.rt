@@ -1,5 +1,6 @@
 //! One end of a byte connection: what a gateway holds.
 
+use crate::addresses::Addresses;
 use crate::connecting::{Connect, ConnectError};
 use crate::hub::Hub;
 use crate::laws::{
@@ -43,6 +44,7 @@ impl Stack {
     ghost use Rattle.osi_session.specs.Calls.{called_by};
     ghost use Rattle.osi_session.specs.Listening.{called};
     ghost use Rattle.osi_session.specs.Shown.{shown_by};
+    ghost use Rattle.osi_stack.specs.Addresses.{addresses, addresses_at};
     ghost use Rattle.osi_stack.specs.Calls.{connect_error, refusal, connects, call_error, table_error, Refuses, by_rule, held_by, phase_at, numbers_of, first_shown, without_first, carried, breaks};
     ghost use Rattle.osi_stack.specs.Feeding.{Feeds};
     ghost use Rattle.osi_stack.specs.Moving.{to_session};
@@ -224,6 +226,16 @@ impl Stack {
         ensures at_most { result ≤ 65535 + 2097148 * length self.now.end.carrier.live }
     {
         self.hub.kept()
+    }
+
+    /// The addresses of a live connection: those that were asked for here, or those that the peer's CR
+    /// and CN name, from the time at which the CN makes a [`Indication::Connect`], be that fetched or not
+    /// (X.224 section 13.3.4, X.225 section 8). None of a connection that is gone, and none of a reference
+    /// that was never given. Takes no memory.
+    pub fn addresses(&self, reference: Ref) -> Option<Addresses>
+        ensures { option_map addresses result ≡ addresses_at reference.0 self.now.end }
+    {
+        self.hub.addresses(reference)
     }
 
     /// How many octets of TSDUs were handed in at a connection and are not yet in [`Stack::outgoing`]:

@@ -13,11 +13,14 @@
 //! - `sessions`: plans, the greatest length of data, sizes, how data leaves in parts;
 //! - `stacks`: a selector that is too long, a called end that asks for a connection, the longest data in
 //!   parts, and that for want of memory no part of it is sent;
+//! - `addresses`: two connections that are told apart by whom they ask for;
 //! - `listings`: TSDUs of 1,048,576 octets and more;
 //!
 //! and in each of them one call at least of each public function that takes memory.
 #![tactic(auto)]
 
+#[cfg(test)]
+mod addresses;
 #[cfg(test)]
 mod carriers;
 #[cfg(test)]

@@ -20,7 +20,7 @@ fn class_0() -> Result<Local, Fail> {
     })
 }
 
-fn asking<'a>() -> Result<Connect<'a>, Fail> {
+pub fn asking<'a>() -> Result<Connect<'a>, Fail> {
     Ok(Connect {
         requirements: Requirements::from_bits_retain(ALL_UNITS),
         serial: Serial::new(1).ok_or("a serial number")?,
@@ -109,7 +109,7 @@ fn an_end_connects_and_sends_data(rt: HostRuntime) -> Result<(), Fail> {
 }
 
 /// Carries what one end has to send, up to an indication, which is answered with its octets of data.
-fn carry(from: &mut Stack, to: &mut Stack) -> Result<Option<usize>, Fail> {
+pub fn carry(from: &mut Stack, to: &mut Stack) -> Result<Option<usize>, Fail> {
     let fed = to.feed(from.outgoing());
     from.taken(fed.used);
     if to.ended() == Some(EndReason::NoMemory) {
@@ -124,9 +124,9 @@ fn carry(from: &mut Stack, to: &mut Stack) -> Result<Option<usize>, Fail> {
 
 /// Two ends.
 #[derive(Drop)]
-struct Ends {
-    left: Stack,
-    right: Stack,
+pub struct Ends {
+    pub left: Stack,
+    pub right: Stack,
 }
 
 /// A connection of class 0 whose TSDUs have at most 64 octets in both directions.

@@ -10,10 +10,12 @@ ghost use Rattle.osi_session.specs.Calls.{called_by};
 ghost use Rattle.osi_session.specs.Listening.{called};
 ghost use Rattle.osi_session.specs.Shown.{shown_by};
 ghost use Rattle.osi_stack.specs.Calls.{has_given, call_error, table_error, Refuses, held_by, phase_at, numbers_of, first_shown, without_first, carried};
+ghost use Rattle.osi_stack.specs.Addresses.{addresses, addresses_at};
 ghost use Rattle.osi_stack.specs.Moving.{to_session};
 ghost use Rattle.osi_stack.specs.State.{session_at, kept_octets};
 
 use super::Hub;
+use crate::addresses::Addresses;
 use osi_carrier::{EndReason, Ref};
 use osi_message::Tokens;
 use osi_session::{CallError, Indication, Phase, Request, Session};
@@ -113,6 +115,28 @@ impl Hub {
             None => 0,
             Some(session) => session.lowest_restart(),
         }
+    }
+
+    /// The addresses of a live connection.
+    pub fn addresses(&self, reference: Ref) -> Option<Addresses>
+        ensures { option_map addresses result ≡ addresses_at reference.0 self.now.end }
+    {
+        let is_live = self.carrier.is_live(reference);
+        if !is_live {
+            return None;
+        }
+        let Some(tsaps) = self.carrier.tsaps(reference) else {
+            return None;
+        };
+        let Some(selectors) = self.lines.selectors(reference.0) else {
+            return None;
+        };
+        Some(Addresses {
+            calling_tsap: tsaps.calling,
+            called_tsap: tsaps.called,
+            calling_selector: selectors.calling,
+            called_selector: selectors.called,
+        })
     }
 
     /// The octets to be carried to the peer.

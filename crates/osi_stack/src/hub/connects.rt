@@ -1,12 +1,14 @@
 //! Asking for a connection.
 
-ghost use Rattle.std.specs.Prelude.{◌≡◌, ◌+◌, true, false, None, OnOk, OnErr, IfOk, IfErr, option_map};
+ghost use Rattle.std.specs.Prelude.{◌≡◌, ◌+◌, true, false, None, Some, OnOk, OnErr, IfOk, IfErr, option_map};
 ghost use Rattle.osi_message.specs.Meanings.{selector_octets};
 ghost use Rattle.osi_stack.specs.Calls.{connect_error, refusal, connects, calls_with, terms_error, is_long_address};
+ghost use Rattle.osi_stack.specs.Selectors.{selectors_sent, session_selectors};
 
 use super::Hub;
 use crate::connecting::{Connect, ConnectError};
 use crate::lines::{Line, room};
+use crate::names::SessionSelectors;
 use osi_carrier::{OpenError, Ref};
 use osi_session::{CallError, Opening, Session, is_profile};
 use osi_spdu::Selector;
@@ -27,9 +29,13 @@ fn address(octets: Option<&[u8]>) -> Result<Option<Selector<'_>>, ConnectError>
     }
 }
 
-/// The session of a caller, with a CN that is to be sent.
-fn session_for(alloc: Global, connect: &Connect) -> Result<Session, ConnectError>
-    ensures ok { IfOk result (λ s. s ≡ calls_with connect.now) }
+/// The session of a caller, with a CN that is to be sent, and the session selectors of that.
+fn session_for(
+    alloc: Global,
+    connect: &Connect,
+) -> Result<(Session, SessionSelectors), ConnectError>
+    ensures ok { IfOk result (λ p. p.0 ≡ calls_with connect.now) }
+    ensures selectors { IfOk result (λ p. Some (session_selectors p.1) ≡ selectors_sent (calls_with connect.now).waiting) }
     ensures allowed { OnOk result (terms_error connect.now ≡ None) }
     ensures refused { IfErr result (λ e. refusal e ≡ terms_error connect.now) }
 {
@@ -48,7 +54,10 @@ fn session_for(alloc: Global, connect: &Connect) -> Result<Session, ConnectError
         user_data: connect.user_data,
     };
     match Session::caller(alloc, &opening) {
-        Ok(session) => Ok(session),
+        Ok(session) => {
+            let selectors = SessionSelectors::of(calling_selector, called_selector);
+            Ok((session, selectors))
+        }
         Err(CallError::OutOfMemory) => Err(ConnectError::Open(OpenError::OutOfMemory)),
         Err(_) => Err(ConnectError::TooLong),
     }
@@ -66,12 +75,13 @@ impl Hub {
         if let Err(error) = self.carrier.may_connect() {
             return Err(ConnectError::Open(error));
         }
-        let session = session_for(self.alloc, connect)?;
+        let (session, selectors) = session_for(self.alloc, connect)?;
         let Ok(waiting) = room(self.alloc) else {
             return Err(ConnectError::Open(OpenError::OutOfMemory));
         };
         let before = self.lines.len();
-        let line = Line::new(self.carrier.given() + 1, session, waiting);
+        let reference = self.carrier.given() + 1;
+        let line = Line::new(reference, session, waiting, Some(selectors));
         let Ok(()) = self.lines.push(line) else {
             return Err(ConnectError::Open(OpenError::OutOfMemory));
         };

@@ -26,7 +26,8 @@ impl Hub {
     {
         let waiting = room(self.alloc)?;
         let session = Session::called(self.alloc);
-        self.lines.push(Line::new(reference, session, waiting))?;
+        self.lines
+            .push(Line::new(reference, session, waiting, None))?;
         self.lines.sweep(&self.carrier);
         Ok(())
     }

@@ -7,6 +7,7 @@ use Rattle.osi_session.specs.Listening.{came, after_inputs}
 use Rattle.osi_session.specs.Parts.{act_in_octets, calls_in}
 use Rattle.osi_stack.proofs.Handing.{came_unbounded}
 use Rattle.osi_stack.proofs.Parted.{parts_as_whole}
+use Rattle.osi_stack.proofs.Selecting.{data_selectors}
 use Rattle.osi_stack.proofs.laws.parts_are_one_data.Goals as goal
 
 pub returns : goal.returns
@@ -16,3 +17,4 @@ returns c = λ r session acts front last e kept none profile fits short parts.
     (c.parts_are_the_whole.ensures.octets session acts front last none profile fits short parts)
     (came_unbounded (after_inputs session (map act_in_octets acts)) (part_octets Last last)
     ∙ sym (came_unbounded (after_inputs session (calls_in acts)) (written (DT (front ++ last)))))
+    (data_selectors (record { parts = c.what_a_part_says.ensures; read = c.what_is_sent_is_read.ensures.read; said = c.what_is_sent_is_read.ensures.said }) Last last (front ++ last))

@@ -8,6 +8,6 @@ pub returns-in-Ok-connect-clause-ok : goal.returns-in-Ok-connect-clause-ok
 returns-in-Ok-connect-clause-ok c =
     subst (λ (v : Holding). holds c.connect.new.self.state c.sweep.new.self c.connect.new.self.held ≡ record { end = connects c.args.connect.now v.end; held = v.held }) c.self.view_is
     (end_connects c.args.connect.now c.self.inside.carrier.state c.connect.new.self.state c.self.inside.carrier.held c.connect.new.self.held
-    c.self.inside.lines c.push.new.self c.sweep.new.self c.given.result c.new-line.result c.in_ok-session.session
-    c.given.ensures c.in_ok-session.ensures.ok c.new-line.ensures c.in-Ok-push.ensures.ok
+    c.self.inside.lines c.push.new.self c.sweep.new.self c.given-reference.result c.new-line.result c.in_ok-session.session
+    c.given-reference.ensures c.in_ok-session.ensures.ok c.new-line.ensures c.in-Ok-push.ensures.ok
     (ap (λ x. x.state) c.in-Ok-connect.ensures.ok) (ap (λ x. x.held) c.in-Ok-connect.ensures.ok) c.sweep.ensures)

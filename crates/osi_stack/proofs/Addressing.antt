@@ -1,0 +1,76 @@
+-- The addresses of a connection: what was asked for, what came, and what keeps them.
+use Rattle.std.proofs.Common.{◌≡◌, ◌≢◌, ℕ, ◌+◌, ◌≤◌, Bool, true, false, List, [], ◌∷◌, ◌++◌, Option, Some, None, is_some, option_map, refl, sym, ap, ◌∙◌, arith, if◌then◌else◌}
+use Rattle.osi_tpdu.specs.Limits.{tsap_octets}
+use Rattle.osi_carrier.specs.Calls.{tsaps_at, asks}
+use Rattle.osi_carrier.specs.Named.{AreNamed}
+use Rattle.osi_carrier.specs.Orderly.{IsOrderly}
+use Rattle.osi_carrier.specs.Rows.{Rows, value_at, put}
+use Rattle.osi_carrier.specs.State.{Connection, asked, TsapIds, State as Carrier}
+use Rattle.osi_carrier.proofs.Apart.{push_here, put_here, beyond}
+use Rattle.osi_carrier.proofs.AtReferences.{put_other}
+use Rattle.osi_carrier.proofs.Naming.{known_is}
+use Rattle.osi_session.specs.Listening.{Input, Listener, called, react}
+use Rattle.osi_stack.specs.Addresses.{Addresses, addressed, selectors_in, addresses_at, asked_addresses}
+use Rattle.osi_stack.specs.Calls.{calls_with, connects}
+use Rattle.osi_stack.specs.Links.{Soundness}
+use Rattle.osi_stack.specs.Messages.{kept_at}
+use Rattle.osi_stack.specs.Moving.{line_by, by_line, to_session}
+use Rattle.osi_stack.specs.Selectors.{Selectors, selectors_told, shows_connect}
+use Rattle.osi_stack.specs.State.{Line, End, session_in, fresh_line}
+use Rattle.osi_stack.specs.declared.connecting.Connect.{Connect}
+use Rattle.osi_stack.proofs.Moves.{used_live}
+
+-- ---- what is asked for
+
+addressed_by : (r : ℕ) (e : End) (c : Connection) (ids : TsapIds) (line : Line) (s : Selectors) → value_at r e.carrier.live ≡ Some c → tsaps_at r e.carrier ≡ Some ids →
+    value_at r e.lines ≡ Some line → line.selectors ≡ Some s → addresses_at r e ≡ addressed (Some ids) (Some s)
+addressed_by r e c ids line s live tsaps here is =
+    ap (λ (o : Option Connection). if is_some o then addressed (tsaps_at r e.carrier) (selectors_in (value_at r e.lines)) else None) live
+    ∙ ap (λ (o : Option TsapIds). addressed o (selectors_in (value_at r e.lines))) tsaps
+    ∙ ap (λ (o : Option Line). addressed (Some ids) (selectors_in o)) here
+    ∙ ap (addressed (Some ids)) is
+
+none_by : {X : Type 0} (o : Option X) → is_some o ≡ false → o ≡ None
+none_by None e = refl
+none_by (Some x) e = cc
+
+pub asked_known : (c : Connect) (e : End) → Soundness e → AreNamed e.carrier → addresses_at (e.carrier.given + 1) (connects c e) ≡ Some (asked_addresses c)
+asked_known c e s named =
+    let n = e.carrier.given + 1 in
+    let new = asks (option_map tsap_octets c.calling_tsap) (option_map tsap_octets c.called_tsap) e.carrier in
+    let gone : value_at n e.carrier.live ≡ None = beyond n e.carrier.given e.carrier.live s.orderly.up_to (omega arith) in
+    let unnamed : value_at n e.carrier.tsaps ≡ None = none_by (value_at n e.carrier.tsaps) (known_is n e.carrier named ∙ ap is_some gone) in
+    let ids : TsapIds = record { calling = option_map tsap_octets c.calling_tsap; called = option_map tsap_octets c.called_tsap } in
+    let line = fresh_line (calls_with c) in
+    let live : value_at n new.live ≡ Some asked = push_here n asked e.carrier.live gone in
+    addressed_by n (connects c e) asked ids line _ live (push_here n ids e.carrier.tsaps unnamed)
+    (used_live n new.live (e.lines ++ (n, line) ∷ []) (ap is_some live) ∙ push_here n line e.lines (beyond n e.carrier.given e.lines s.known (omega arith))) refl
+
+-- ---- what comes, and what keeps the selectors
+
+moved_by : (r : ℕ) (input : Input) (e : End) (o : Option Line) (s : Listener) → value_at r e.lines ≡ o → session_in o ≡ Some s →
+    selectors_in (value_at r (to_session r input e).lines) ≡ (if shows_connect (react s input).shown then selectors_told input else selectors_in o)
+moved_by r input e None s here is = cc
+moved_by r input e (Some line) s here is =
+    ap (λ (o : Option Line). selectors_in (value_at r (by_line r o input e).lines)) here
+    ∙ ap selectors_in (put_here r (line_by line line.session input) line e.lines here)
+    ∙ ap (λ (x : Option Listener). (line_by line x input).selectors) is
+
+pub came_known : (r : ℕ) (input : Input) (s : Listener) (e : End) → kept_at r e.lines ≡ Some s → shows_connect (react s input).shown ≡ true →
+    selectors_in (value_at r (to_session r input e).lines) ≡ selectors_told input
+came_known r input s e kept shows =
+    moved_by r input e (value_at r e.lines) s refl kept
+    ∙ ap (λ (b : Bool). if b then selectors_told input else selectors_in (value_at r e.lines)) shows
+
+pub else_kept : (r : ℕ) (input : Input) (s : Listener) (e : End) → kept_at r e.lines ≡ Some s → shows_connect (react s input).shown ≡ false →
+    selectors_in (value_at r (to_session r input e).lines) ≡ selectors_in (value_at r e.lines)
+else_kept r input s e kept shows =
+    moved_by r input e (value_at r e.lines) s refl kept
+    ∙ ap (λ (b : Bool). if b then selectors_told input else selectors_in (value_at r e.lines)) shows
+
+other_by : (q r : ℕ) (input : Input) (e : End) (o : Option Line) → q ≢ r → value_at q (by_line r o input e).lines ≡ value_at q e.lines
+other_by q r input e None other = refl
+other_by q r input e (Some line) other = put_other q r (line_by line line.session input) e.lines other
+
+pub other_kept : (q r : ℕ) (input : Input) (e : End) → q ≢ r → selectors_in (value_at q (to_session r input e).lines) ≡ selectors_in (value_at q e.lines)
+other_kept q r input e other = ap selectors_in (other_by q r input e (value_at r e.lines) other)

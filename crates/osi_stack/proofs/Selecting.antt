@@ -1,0 +1,72 @@
+-- The session selectors of what comes.
+use Rattle.std.proofs.Common.{◌≡◌, ℕ, List, [], ◌∷◌, ◌++◌, length, map, Option, Some, None, Bool, true, false, Result, Ok, Err, refl, sym, ap, ◌∙◌}
+use Rattle.osi_message.specs.Meanings.{DT, GT}
+use Rattle.osi_message.specs.Reading.{meaning, meaning_by, word, word_at, place_of, place_by, place_in, said_at, said_if_read}
+use Rattle.osi_message.specs.Words.{part_octets, as_message}
+use Rattle.osi_message.specs.Written.{written, is_second}
+use Rattle.osi_message.specs.declared.places.Place.{Place}
+use Rattle.osi_session.specs.Listening.{Input, came, came_as}
+use Rattle.osi_session.specs.Shown.{Shown, shown_by}
+use Rattle.osi_session.specs.Steps.{all_shown, shown_list}
+use Rattle.osi_session.specs.declared.indications.Indication.{Indication}
+use Rattle.osi_session.proofs.PartRuns.{data_sendable}
+use Rattle.osi_spdu.specs.Known.{Contents, Known, Units}
+use Rattle.osi_spdu.specs.Reading.{tsdu_at}
+use Rattle.osi_spdu.specs.declared.faults.SpduFault.{SpduFault}
+use Rattle.osi_spdu.specs.declared.kinds.Kind.{Kind}
+use Rattle.osi_spdu.specs.declared.kinds.Kind.TheVariants as kind
+use Rattle.osi_stack.specs.Selectors.{selectors_of, selectors_told, shows_connect}
+use Rattle.osi_stack.proofs.Moves.{Readings, came_is}
+
+-- ---- what is shown first
+
+pub first_connects : (first : Option Indication) (more : List Indication) → (first ≡ None → more ≡ []) →
+    shows_connect (all_shown first more) ≡ shows_connect (shown_list first)
+first_connects (Some i) more h = refl
+first_connects None more h = ap (λ (l : List Indication). shows_connect (map shown_by l)) (h refl)
+
+-- ---- the first unit that is read
+
+part_selectors : (k : Kind) (unit : Contents) (place : Place) → unit.kind ≡ k → place_by k unit.known ≡ Some place →
+    selectors_of (DT unit.information) ≡ selectors_of (meaning unit)
+unfolding meaning
+part_selectors kind.DataTransfer unit place e h = sym (ap (λ (k : Kind). selectors_of (meaning_by k unit.known unit.information)) e)
+part_selectors kind.GiveTokens unit place e h = absurd (cc)
+part_selectors kind.PleaseTokens unit place e h = absurd (cc)
+part_selectors kind.NotFinished unit place e h = absurd (cc)
+part_selectors kind.Finish unit place e h = absurd (cc)
+part_selectors kind.Disconnect unit place e h = absurd (cc)
+part_selectors kind.Refuse unit place e h = absurd (cc)
+part_selectors kind.Connect unit place e h = absurd (cc)
+part_selectors kind.Accept unit place e h = absurd (cc)
+part_selectors kind.Abort unit place e h = absurd (cc)
+part_selectors kind.AbortAccept unit place e h = absurd (cc)
+part_selectors kind.ResynchronizeAck unit place e h = absurd (cc)
+part_selectors kind.MajorSyncPoint unit place e h = absurd (cc)
+part_selectors kind.MajorSyncAck unit place e h = absurd (cc)
+part_selectors kind.MinorSyncPoint unit place e h = absurd (cc)
+part_selectors kind.MinorSyncAck unit place e h = absurd (cc)
+part_selectors kind.Resynchronize unit place e h = absurd (cc)
+
+first_selectors : (unit : Contents) (o : Option Place) → place_of unit ≡ o → selectors_of (as_message (word_at o unit)) ≡ selectors_of (meaning unit)
+first_selectors unit None e = refl
+first_selectors unit (Some place) e = part_selectors unit.kind unit place refl e
+
+word_selectors : (unit : Contents) → selectors_of (as_message (word unit)) ≡ selectors_of (meaning unit)
+unfolding word
+word_selectors unit = first_selectors unit (place_of unit) refl
+
+pub read_selectors : (octets : List ℕ) (first : Contents) (behind : Units) → tsdu_at octets ≡ Ok (first ∷ behind) → selectors_told (came octets) ≡ selectors_of (meaning first)
+unfolding said_at
+read_selectors octets first behind e = ap (λ (r : Result Units SpduFault). selectors_told (came_as (said_if_read r))) e ∙ word_selectors first
+
+pub bad_selectors : (octets : List ℕ) (fault : SpduFault) → tsdu_at octets ≡ Err fault → selectors_told (came octets) ≡ None
+unfolding said_at
+bad_selectors octets fault e = ap (λ (r : Result Units SpduFault). selectors_told (came_as (said_if_read r))) e
+
+-- ---- data has none, in one TSDU or in parts
+
+pub data_selectors : Readings → (place : Place) (part octets : List ℕ) → selectors_told (came (part_octets place part)) ≡ selectors_told (came (written (DT octets)))
+unfolding is_second
+data_selectors law place part octets =
+    ap (λ r. selectors_told (came_as r)) (law.parts place part) ∙ sym (ap selectors_told (came_is law (DT octets) (data_sendable octets)))

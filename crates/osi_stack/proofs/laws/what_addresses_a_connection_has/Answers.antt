@@ -1,0 +1,10 @@
+use Rattle.osi_stack.proofs.Addressing.{asked_known, came_known, else_kept, other_kept}
+use Rattle.osi_stack.proofs.laws.what_addresses_a_connection_has.Goals as goal
+
+pub returns : goal.returns
+returns c = record {
+  asked = asked_known;
+  came = came_known;
+  kept = else_kept;
+  others = other_kept;
+}

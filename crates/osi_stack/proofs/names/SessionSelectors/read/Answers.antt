@@ -1,0 +1,15 @@
+use Rattle.std.proofs.Common.{ap, sym, ◌∙◌}
+use Rattle.osi_message.specs.Reading.{meaning}
+use Rattle.osi_spdu.specs.Groups.{first_of, behind_of}
+use Rattle.osi_stack.specs.Selectors.{selectors_of}
+use Rattle.osi_stack.proofs.Selecting.{read_selectors, bad_selectors}
+use Rattle.osi_stack.proofs.names.SessionSelectors.read.Goals as goal
+
+pub returns-in-Ok : goal.returns-in-Ok
+returns-in-Ok c =
+    let group = c.in-Ok.group in
+    c.named.ensures ∙ ap selectors_of (c.of.ensures ∙ ap meaning c.first.ensures)
+    ∙ sym (read_selectors c.args.tsdu.now (first_of group) (behind_of group) c.in-Ok.ensures.exact)
+
+pub returns-in-Err : goal.returns-in-Err
+returns-in-Err c = sym (bad_selectors c.args.tsdu.now c.in-Err.field-0 c.in-Err.ensures.exact)

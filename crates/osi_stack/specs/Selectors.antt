@@ -1,0 +1,48 @@
+-- The session selectors of a connection: those of the CN.
+use Rattle.std.specs.Prelude.{ℕ, Bool, true, false, List, [], ◌∷◌, take, Option, Some, None, option_map}
+use Rattle.osi_message.specs.Meanings.{Meaning, CN}
+use Rattle.osi_message.specs.Words.{Words, as_message}
+use Rattle.osi_session.specs.Listening.{Input, taken}
+use Rattle.osi_session.specs.Shown.{Shown, Connect}
+use Rattle.osi_stack.specs.declared.selectors.SessionSelector.{SessionSelector}
+use Rattle.osi_stack.specs.declared.names.SessionSelectors.{SessionSelectors}
+
+pub record Selectors : Type 0 where
+  pub calling : Option (List ℕ)
+  pub called : Option (List ℕ)
+
+-- those that a unit names: a CN does
+abbrev pub selectors_of : Meaning → Option Selectors
+selectors_of (CN version requirements serial wishes calling called sizes octets) = Some (record { calling = calling; called = called })
+selectors_of _ = None
+
+-- those of a CN that waits for its transport connection
+abbrev pub selectors_sent : Option Meaning → Option Selectors
+selectors_sent None = None
+selectors_sent (Some unit) = selectors_of unit
+
+-- those of what comes: a CN is the first unit of its TSDU, and the only one
+abbrev pub selectors_said : Words → Option Selectors
+selectors_said [] = None
+selectors_said (word ∷ words) = selectors_of (as_message word)
+
+abbrev pub selectors_told : Input → Option Selectors
+selectors_told (taken words) = selectors_said words
+selectors_told _ = None
+
+-- the user is shown that a connection is asked for
+abbrev pub is_connect : Shown → Bool
+is_connect (Connect requirements serial wishes sizes octets) = true
+is_connect _ = false
+
+abbrev pub shows_connect : List Shown → Bool
+shows_connect [] = false
+shows_connect (shown ∷ more) = is_connect shown
+
+-- ---- in memory
+
+abbrev pub session_selector : SessionSelector → List ℕ
+session_selector s = take s.len s.octets
+
+abbrev pub session_selectors : SessionSelectors → Selectors
+session_selectors s = record { calling = option_map session_selector s.calling; called = option_map session_selector s.called }
