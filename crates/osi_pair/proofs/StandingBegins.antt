@@ -20,7 +20,7 @@ use Rattle.osi_session.specs.Moves.{Standing}
 use Rattle.osi_session.specs.Sessions.{awaits}
 use Rattle.osi_stack.specs.Links.{AreApart}
 use Rattle.osi_stack.specs.Messages.{told_all, kept_at}
-use Rattle.osi_stack.specs.State.{Line, session_in, is_used, used_lines}
+use Rattle.osi_stack.specs.State.{Line, session_in, is_used, used_lines, fresh_line}
 use Rattle.osi_stack.proofs.Linking.{used_by, used_at, Stays, apart_push}
 use Rattle.osi_stack.proofs.Moves.{used_live}
 use Rattle.osi_pair.specs.Ends.{TwoEnds, end_at}
@@ -41,7 +41,7 @@ use Rattle.osi_machine.specs.Worlds.{Message, unit, ask, agree, deny, bye, over}
 -- ---- lines with a new one, of which those are dropped that are of no use
 
 abbrev pub new_line : Line
-new_line = record { session = Some awaits; waiting = [] }
+new_line = fresh_line awaits
 
 abbrev pub joined : ℕ → Rows Line → Rows Line
 joined n lines = lines ++ (n, new_line) ∷ []

@@ -44,7 +44,7 @@ use Rattle.osi_stack.specs.Calls.{call_error}
 use Rattle.osi_stack.specs.Folds.{AllCameAbout}
 use Rattle.osi_stack.specs.Links.{IsSound}
 use Rattle.osi_stack.specs.Messages.{puts, put_by, Says, kept_at}
-use Rattle.osi_stack.specs.Moving.{line_after, to_session}
+use Rattle.osi_stack.specs.Moving.{line_by as line_then, to_session}
 use Rattle.osi_stack.specs.State.{End, Holding, session_in, session_at, IsAttended}
 use Rattle.osi_stack.specs.State as stack
 use Rattle.osi_stack.proofs.Handing.{puts_words}
@@ -265,7 +265,7 @@ called_is laws r call h none =
       kept = subst (StaysOpen r h.end.carrier) (sym is) (all_sent r (tsdus_of limit g.step.sent) h.end.carrier open_now.peer open_now.link open_now.lasts open_now.at);
       line = s.acts.line;
       found = s.acts.here;
-      line_now = line_after s.acts.line (words.react session (words.called call));
+      line_now = line_then s.acts.line (Some session) (words.called call);
       session_now = refl;
       waiting_now = ap (λ (l : List Shown). s.acts.line.waiting ++ l) g.shown ∙ append-nil s.acts.line.waiting;
       lines = s.acts.lines;

@@ -31,7 +31,7 @@ use Rattle.osi_stack.specs.Calls.{is_long, terms_error, after_open, connect_erro
 use Rattle.osi_stack.specs.Folds.{AllCameAbout}
 use Rattle.osi_stack.specs.Links.{Soundness, IsSound}
 use Rattle.osi_stack.specs.Messages.{kept_at}
-use Rattle.osi_stack.specs.State.{End, Holding, session_in, is_used, used_lines, IsAttended}
+use Rattle.osi_stack.specs.State.{End, Holding, session_in, is_used, used_lines, IsAttended, fresh_line}
 use Rattle.osi_stack.specs.State as stack
 use Rattle.osi_stack.specs.declared.connecting.Connect.{Connect}
 use Rattle.osi_stack.specs.declared.connecting.ConnectError.{ConnectError}
@@ -143,14 +143,14 @@ quiet_used : (live : Rows Connection) (lines : Rows stack.Line) → waiting_in l
 quiet_used live [] h = refl
 quiet_used live ((p, y) ∷ lines) h = quiet_used_by p y live lines (is_used live (p, y)) refl y.waiting refl h (quiet_used live lines)
 
-quiet_push : (n : ℕ) (s : Option Listener) (lines : Rows stack.Line) → waiting_in (lines ++ (n, record { session = s; waiting = [] }) ∷ []) ≡ waiting_in lines
+quiet_push : (n : ℕ) (s : Listener) (lines : Rows stack.Line) → waiting_in (lines ++ (n, fresh_line s) ∷ []) ≡ waiting_in lines
 quiet_push n s [] = refl
 quiet_push n s ((p, y) ∷ lines) = ap (λ (w : List (ℕ × Shown)). map (λ shown. (p, shown)) y.waiting ++ w) (quiet_push n s lines)
 
 -- ---- the end that asks
 
 abbrev line_of : Connect → stack.Line
-line_of c = record { session = Some (calls_with c); waiting = [] }
+line_of c = fresh_line (calls_with c)
 
 value_new : (c : Connect) (h : Holding) → Soundness h.end → value_at (next_of h) (asked_end c h).end.carrier.live ≡ Some asked
 value_new c h o = push_here (next_of h) asked h.end.carrier.live (beyond (next_of h) h.end.carrier.given h.end.carrier.live o.orderly.up_to (omega arith))
@@ -310,7 +310,7 @@ asks_stand laws c p b t a none s may can =
         came = laws.came c p.left.end o.came;
       };
       order_right = s.order_right;
-      quiet_left = quiet_used (asked_end c p.left).end.carrier.live (p.left.end.lines ++ (next_of p.left, line_of c) ∷ []) (quiet_push (next_of p.left) (Some (calls_with c)) p.left.end.lines ∙ s.quiet_left);
+      quiet_left = quiet_used (asked_end c p.left).end.carrier.live (p.left.end.lines ++ (next_of p.left, line_of c) ∷ []) (quiet_push (next_of p.left) (calls_with c) p.left.end.lines ∙ s.quiet_left);
       quiet_right = s.quiet_right;
     }
 

@@ -40,7 +40,7 @@ use Rattle.osi_spdu.specs.declared.kinds.Category.TheVariants.{Zero, One, Two}
 use Rattle.osi_spdu.specs.declared.faults.SpduFault.{SpduFault}
 use Rattle.osi_stack.specs.Hearing.{after_packet, attends, concludes, hears, hears_all, hears_first, hears_next, hears_times, all_lost, opens, starves, with_carrier, with_events, shown_at_loss, RunsOut, Starves}
 use Rattle.osi_stack.specs.Messages.{kept_at, told_all}
-use Rattle.osi_stack.specs.Moving.{line_after, line_by, to_session, by_line}
+use Rattle.osi_stack.specs.Moving.{noted, line_by, to_session, by_line}
 use Rattle.osi_stack.specs.State.{Line, End, joins, session_in}
 use Rattle.osi_stack.proofs.Events.{all_quiet, never_starved}
 use Rattle.osi_stack.proofs.Keeping.{hears_keep}
@@ -231,12 +231,12 @@ moved_few n input e live (Some line) is h shows = line_few line.session refl
         (subst (RiseFrom 0) (sym same) h.rise) (subst (λ (l : Rows Line). AreLive l live) (sym same) h.all) h.most
         (let none : length (waiting_in (by_line n (Some line) input e).lines) ≡ 0 = ap (λ (l : Rows Line). length (waiting_in l)) same ∙ ap length h.quiet in omega arith)
     line_few (Some x) f =
-        let there : (by_line n (Some line) input e).lines ≡ put n (line_after line (react x input)) e.lines = ap (λ (y : Option Listener). put n (line_by line y input) e.lines) f in
+        let there : (by_line n (Some line) input e).lines ≡ put n (line_by line (Some x) input) e.lines = ap (λ (y : Option Listener). put n (line_by line y input) e.lines) f in
         concluded_by (by_line n (Some line) input e) live (is_some (by_line n (Some line) input e).carrier.ended)
-        (subst (RiseFrom 0) (sym there) (put_rise 0 n (line_after line (react x input)) e.lines h.rise))
-        (subst (λ (l : Rows Line). AreLive l live) (sym there) (live_then n (line_after line (react x input)) e.lines live h.here h.all)) h.most
+        (subst (RiseFrom 0) (sym there) (put_rise 0 n (line_by line (Some x) input) e.lines h.rise))
+        (subst (λ (l : Rows Line). AreLive l live) (sym there) (live_then n (line_by line (Some x) input) e.lines live h.here h.all)) h.most
         (let many : length (waiting_in (by_line n (Some line) input e).lines) ≡ length (with_reference n (react x input).shown) =
-        ap (λ (l : Rows Line). length (waiting_in l)) there ∙ ap length (put_waits n line (react x input) e.lines h.quiet is) in
+        ap (λ (l : Rows Line). length (waiting_in l)) there ∙ ap length (put_waits n (noted x input line) line (react x input) e.lines refl h.quiet is) in
         let same = with_length n (react x input).shown in
         let few = shows x in
         omega arith)

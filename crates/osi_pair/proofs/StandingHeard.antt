@@ -64,20 +64,20 @@ lasting e h = lasts_by (is_some e.carrier.ended) e (ap is_some h)
 
 -- ---- the session then
 
-pub kept_then : (n : ℕ) (line : Line) (x : Standing) (input : Input) (lines : Rows Line) → value_at n lines ≡ Some line →
+pub kept_then : (n : ℕ) (line was : Line) (x : Standing) (input : Input) (lines : Rows Line) → value_at n lines ≡ Some was →
     kept_at n (quieted (lines_then n line x input lines)) ≡ Some (listening (react x input).next)
-kept_then n line x input lines here =
-    quiet_kept n (lines_then n line x input lines) ∙ ap session_in (put_here n (line_after line (as_made (react x input))) line lines here)
+kept_then n line was x input lines here =
+    quiet_kept n (lines_then n line x input lines) ∙ ap session_in (put_here n (line_after line (as_made (react x input))) was lines here)
 
 pub kept_other : (n q : ℕ) (line : Line) (x : Standing) (input : Input) (lines : Rows Line) → q ≢ n → kept_at q (quieted (lines_then n line x input lines)) ≡ kept_at q lines
 kept_other n q line x input lines apart =
     quiet_kept q (lines_then n line x input lines) ∙ ap session_in (put_other q n (line_after line (as_made (react x input))) lines apart)
 
-pub session_then : (n : ℕ) (line : Line) (x : Standing) (input : Input) (lines : Rows Line) (g : Progress) → value_at n lines ≡ Some line →
+pub session_then : (n : ℕ) (line was : Line) (x : Standing) (input : Input) (lines : Rows Line) (g : Progress) → value_at n lines ≡ Some was →
     (is_parting (transport_by g) ≡ true → is_ended (react x input).next.state.phase ≡ true) → (transport_by g ≡ worlds.not_yet → (react x input).next ≡ awaits) → IfSome (react x input).next.waiting IsInOctets →
     HasSession n (quieted (lines_then n line x input lines)) g (react x input).next
-session_then n line x input lines g here ended waits octets =
-    let k = kept_then n line x input lines here in
+session_then n line was x input lines g here ended waits octets =
+    let k = kept_then n line was x input lines here in
     record {
       joined = None;
       live = λ l. k;

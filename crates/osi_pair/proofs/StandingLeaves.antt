@@ -149,9 +149,9 @@ left_unit laws s p b t packet h reason old alive pa heard is a d same f out back
     let u = LeftTables s p b t n keep row a in
     let new = moved_then laws s p b t packet h old alive pa a d same f in
     finish s p b t u e h n move.shown a.seen move.next channel a.rest old alive d new.lasts new.local new.role pa.first.given (laws.packet.behind _ _ d.now d.between) new.order new.waits
-    (moved_others s p e n a.kept.line x m.input refl)
+    (moved_others s p e n m.line x m.input refl)
     (subst (λ (r : Row). HasSession n e.lines (after r) move.next) (sym same)
-    (session_then n a.kept.line x m.input (end_at s p).end.lines (after row) a.kept.here a.hears.ended a.hears.waits a.hears.goes.octets)) a.stands
+    (session_then n m.line a.kept.line x m.input (end_at s p).end.lines (after row) a.kept.here a.hears.ended a.hears.waits a.hears.goes.octets)) a.stands
     (record {
       out = out.way;
       back = subst (λ (r : Row). Goes (other s) s n (with_holding s e h p) d.now (after r) move.next.state a.rest) (sym same) back;
@@ -197,7 +197,7 @@ leaving_packet laws s p b t packet h reason old run alive pa v is =
     ∙ hands_none n e.carrier in
     let then : after_packet (end_at s p).end packet ≡ answered_end e.carrier lines =
     does_then s p b t packet h pa a f ∙ ap (λ (c : Carrier). concludes (answered_end c lines)) acts ∙ lasting (answered_end e.carrier lines) f.lasts in
-    let waits = put_waits n a.kept.line (as_made (move_of m)) (end_at s p).end.lines (quiet_of s p b t old) a.kept.here in
+    let waits = put_waits n m.line a.kept.line (as_made (move_of m)) (end_at s p).end.lines refl (quiet_of s p b t old) a.kept.here in
     let stands : Stands (turned_pair s e h n (move_of m).shown p) d.now (LeftTables s p b t n keep row a) =
     turned_stands s p b t e h d.now (LeftTables s p b t n keep row a) n (move_of m).shown old alive (left_unit laws s p b t packet h reason old alive pa heard is a d same f out (rest_then s p b t packet h pa v heard)) in
     subst (λ (x : End). StandsShown s p t x h) (sym then)

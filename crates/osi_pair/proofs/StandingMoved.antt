@@ -29,7 +29,7 @@ use Rattle.osi_session.specs.Moves.{Input, Standing, Move, taken, opened, refuse
 use Rattle.osi_session.specs.Whole.{listening}
 use Rattle.osi_stack.specs.Hearing.{after_packet, concludes}
 use Rattle.osi_stack.specs.Messages.{told_all, kept_at}
-use Rattle.osi_stack.specs.Moving.{answers}
+use Rattle.osi_stack.specs.Moving.{answers, noted}
 use Rattle.osi_stack.specs.State.{Line, End, session_in}
 use Rattle.osi_stack.proofs.Soundness.{packet_rises}
 use Rattle.osi_pair.specs.Ends.{TwoEnds, end_at}
@@ -135,7 +135,8 @@ pub record HasMoved (s : Side) (p : TwoEnds) (t : Tables) (packet : List ℕ) (h
   pub some : 0 < m.n
   pub given : m.n ≤ length t.lines
   -- how it stood
-  pub here : value_at m.n (end_at s p).end.lines ≡ Some m.line
+  pub was : Line
+  pub here : value_at m.n (end_at s p).end.lines ≡ Some was
   pub found : connection_at m.n t.lines ≡ Some (seen_from (side_in s) m.seen)
   pub first : m.seen.peer.channel ≡ m.first ∷ m.rest
   -- what the packet does to the end, and the delivery to the tables
@@ -453,12 +454,17 @@ arriving laws s p b t packet h old run alive pa heard =
     arriving_as laws s p b t packet h old run alive pa heard at was (comes_at s p b t packet h alive pa (got_in pa.did.row) at (one_in pa.did.row heard))
 
 -- the move
+-- the line of the end, with the selectors of a CN of which its session hears
+abbrev pub heard_line : (s : Side) (p : TwoEnds) (b : Between) (t : Tables) (n : ℕ) (row : Row) → Arriving s p b t n row → Line
+heard_line s p b t n row a = noted (joining a.joined a.seen.own.session) a.hears.heard a.kept.line
+
 abbrev pub moving : (s : Side) (p : TwoEnds) (b : Between) (t : Tables) (n : ℕ) (row : Row) → Arriving s p b t n row → Moving
-moving s p b t n row a = record { n = n; row = row; seen = a.seen; first = a.first; rest = a.rest; line = a.kept.line; input = heard_by row a.first }
+moving s p b t n row a = record { n = n; row = row; seen = a.seen; first = a.first; rest = a.rest; line = heard_line s p b t n row a; input = heard_by row a.first }
 
 abbrev pub moves_by : (s : Side) (p : TwoEnds) (b : Between) (t : Tables) (n : ℕ) (row : Row) → (a : Arriving s p b t n row) → MovesBy s p n a.seen.own.session row (heard_by row a.first)
 moves_by s p b t n row a = record {
-  line = a.kept.line;
+  line = heard_line s p b t n row a;
+  was = a.kept.line;
   here = a.kept.here;
   ended = a.hears.ended;
   waits = a.hears.waits;
@@ -582,7 +588,7 @@ rest_then s p b t packet h pa v heard =
     let lines = quieted (loud_lines s p m) in
     let x = v.a.seen.own.session in
     let next = after_message x.state v.a.first in
-    let now : kept_at n e.lines ≡ Some (listening (move_of m).next) = kept_then n v.a.kept.line x (heard_by row v.a.first) (end_at s p).end.lines v.a.kept.here in
+    let now : kept_at n e.lines ≡ Some (listening (move_of m).next) = kept_then n (heard_line s p b t n row v.a) v.a.kept.line x (heard_by row v.a.first) (end_at s p).end.lines v.a.kept.here in
     let held : HasJoined n (record { end = e; held = h }) None = λ y at. (let two : Some (listening (move_of m).next) ≡ Some y = sym now ∙ at in
     let is : listening (move_of m).next ≡ y = cc in
     inl (ap (λ (z : Listener). z.joined) (sym is))) in
@@ -648,15 +654,16 @@ has_moved laws s p b t packet h old run alive pa v move =
         row = move;
         some = pa.first.named;
         given = omega arith;
+        was = a.kept.line;
         here = a.kept.here;
         found = a.found;
         first = a.parts;
         does = does_then s p b t packet h pa a f;
-        waits = put_waits n a.kept.line (as_made (move_of m)) (end_at s p).end.lines (quiet_of s p b t old) a.kept.here;
+        waits = put_waits n m.line a.kept.line (as_made (move_of m)) (end_at s p).end.lines refl (quiet_of s p b t old) a.kept.here;
         steps = λ keep. step_moves t s n keep row a.seen a.first a.rest (got_in row) (lasting_in s p b t old alive) a.found a.parts a.transport move (one_in row heard) a.kind;
         lasts = f.lasts;
         local = f.local;
-        kept = kept_then n a.kept.line a.seen.own.session (heard_by row a.first) (end_at s p).end.lines a.kept.here;
+        kept = kept_then n m.line a.kept.line a.seen.own.session (heard_by row a.first) (end_at s p).end.lines a.kept.here;
         now = d.now;
         stands = stands_then laws s p b t packet h old alive pa move a d same f (rest_then s p b t packet h pa v heard);
         found_now = after_it.lines.found;

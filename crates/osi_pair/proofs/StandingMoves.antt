@@ -158,7 +158,9 @@ moved_others s p e n line x input is =
 -- the line of the end, its session, and what is known of it when it has moved
 pub record MovesBy (s : Side) (p : TwoEnds) (n : ℕ) (x : Standing) (row : Row) (input : Input) : Type 0 where
   pub line : Line
-  pub here : value_at n (end_at s p).end.lines ≡ Some line
+  -- the line that stood there
+  pub was : Line
+  pub here : value_at n (end_at s p).end.lines ≡ Some was
   pub ended : is_parting (transport_by (after row)) ≡ true → is_ended (react x input).next.state.phase ≡ true
   pub waits : transport_by (after row) ≡ worlds.not_yet → (react x input).next ≡ awaits
   pub octets : IfSome (react x input).next.waiting IsInOctets
@@ -191,7 +193,7 @@ move_unit s p b t packet h l m xs row input old alive pa found seen k d same mov
     let steady : leaves_use (before d.row) (after d.row) ≡ false = ap (λ (r : Row). leaves_use (before r) (after r)) same ∙ stays_in_use row move in
     finish s p b t u e h n (react x input).shown l (react x input).next l.own.channel xs old alive d new.lasts new.local new.role pa.first.given behind new.order new.waits
     (moved_others s p e n k.line x input refl)
-    (subst (λ (r : Row). HasSession n e.lines (after r) (react x input).next) (sym same) (session_then n k.line x input (end_at s p).end.lines (after row) k.here k.ended k.waits k.octets)) seen
+    (subst (λ (r : Row). HasSession n e.lines (after r) (react x input).next) (sym same) (session_then n k.line k.was x input (end_at s p).end.lines (after row) k.here k.ended k.waits k.octets)) seen
     (record {
       out = subst (λ (ms : List Message). Goes s (other s) n (with_holding s e h p) d.now (progress_of (place_at n (last_of (is_caller (other s)) d.now))) l.peer.session.state ms)
           (ap (λ (r : Row). sends_then r t.broken l.own.channel) same ∙ sends_none row t.broken l.own.channel move) (out_row s p b t e h n l old d seen steady alive);

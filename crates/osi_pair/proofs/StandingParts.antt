@@ -25,7 +25,7 @@ use Rattle.osi_session.specs.Parts.{part_comes}
 use Rattle.osi_session.specs.Runs.{HasNumbersInWords}
 use Rattle.osi_stack.specs.Hearing.{after_packet, concludes}
 use Rattle.osi_stack.specs.Messages.{told_all, kept_at}
-use Rattle.osi_stack.specs.Moving.{line_after, to_session}
+use Rattle.osi_stack.specs.Moving.{noted, line_after, to_session}
 use Rattle.osi_stack.specs.State.{Line, End, session_in}
 use Rattle.osi_stack.proofs.Folds.{came_numbers}
 use Rattle.osi_stack.proofs.Handing.{hands_none}
@@ -50,8 +50,11 @@ use Rattle.osi_pair.proofs.StandingTaken.{shown_nothing}
 use Rattle.osi_pair.proofs.StandingTurned.{with_holding, turned_pair, Turned, turned_stands}
 
 -- the line of the session then, and the end
+abbrev part_line : (s : Side) (p : TwoEnds) (b : Between) (t : Tables) (packet : List ℕ) (h : Held) (pa : PacketAt s p b packet h) → PartArrives s p b t packet h pa → Line
+part_line s p b t packet h pa v = noted (joining v.joined v.seen.own.session) (part_comes v.place v.octets) v.kept.line
+
 abbrev part_lines : (s : Side) (p : TwoEnds) (b : Between) (t : Tables) (packet : List ℕ) (h : Held) (pa : PacketAt s p b packet h) → PartArrives s p b t packet h pa → Rows Line
-part_lines s p b t packet h pa v = put (reference_of pa.unit) (line_after v.kept.line (rests (joining v.joins.now v.seen.own.session))) (end_at s p).end.lines
+part_lines s p b t packet h pa v = put (reference_of pa.unit) (line_after (part_line s p b t packet h pa v) (rests (joining v.joins.now v.seen.own.session))) (end_at s p).end.lines
 
 abbrev part_end : (s : Side) (p : TwoEnds) (b : Between) (t : Tables) (packet : List ℕ) (h : Held) (pa : PacketAt s p b packet h) → PartArrives s p b t packet h pa → End
 part_end s p b t packet h pa v = acted_end pa.unit (part_lines s p b t packet h pa v) (end_at s p).end
@@ -96,7 +99,7 @@ part_order laws s p b t packet h old alive pa v f =
 part_session : (s : Side) (p : TwoEnds) (b : Between) (t : Tables) (packet : List ℕ) (h : Held) (pa : PacketAt s p b packet h) → (v : PartArrives s p b t packet h pa) →
     kept_at (reference_of pa.unit) (part_lines s p b t packet h pa v) ≡ Some (joining v.joins.now v.seen.own.session)
 part_session s p b t packet h pa v =
-    ap session_in (put_here (reference_of pa.unit) (line_after v.kept.line (rests (joining v.joins.now v.seen.own.session))) v.kept.line (end_at s p).end.lines v.kept.here)
+    ap session_in (put_here (reference_of pa.unit) (line_after (part_line s p b t packet h pa v) (rests (joining v.joins.now v.seen.own.session))) v.kept.line (end_at s p).end.lines v.kept.here)
 
 same_listener : (a y : Listener) → Some a ≡ Some y → y ≡ a
 same_listener a y e = let same : a ≡ y = cc in sym same
@@ -123,7 +126,7 @@ part_others : (s : Side) (p : TwoEnds) (b : Between) (t : Tables) (packet : List
     OtherSessions s p (part_end s p b t packet h pa v) (reference_of pa.unit)
 part_others s p b t packet h pa v =
     let n = reference_of pa.unit in
-    let new = line_after v.kept.line (rests (joining v.joins.now v.seen.own.session)) in
+    let new = line_after (part_line s p b t packet h pa v) (rests (joining v.joins.now v.seen.own.session)) in
     record {
       sessions = λ q apart lives. ap session_in (put_other q n new (end_at s p).end.lines apart);
       kept = λ q apart y at. sym (ap session_in (put_other q n new (end_at s p).end.lines apart)) ∙ at;
@@ -142,7 +145,7 @@ part_unit laws s p b t packet h old alive pa v f =
     let same = same_row s p b packet h lines pa in
     let octets = part_octets v.place v.octets in
     let row : d.row ≡ tells octets = same ∙ v.is in
-    let waits : waiting_in lines ≡ [] = put_waits n v.kept.line (rests (joining v.joins.now x)) (end_at s p).end.lines (quiet_of s p b t old) v.kept.here in
+    let waits : waiting_in lines ≡ [] = put_waits n (part_line s p b t packet h pa v) v.kept.line (rests (joining v.joins.now x)) (end_at s p).end.lines refl (quiet_of s p b t old) v.kept.here in
     let steady : leaves_use (before d.row) (after d.row) ≡ false = ap (λ (r : Row). leaves_use (before r) (after r)) row in
     let tr : l.own.transport ≡ transport_by (after d.row) =
     seat_transport s p b t n pa.did.row l old alive (pa_stood s p b packet h pa) v.stands ∙ ap (λ (r : Row). transport_by (before r)) v.is ∙ ap (λ (r : Row). transport_by (after r)) (sym row) in
@@ -166,7 +169,7 @@ part_shown laws s p b t packet h old alive pa v =
     let e = part_end s p b t packet h pa v in
     let d = did_at s p b packet h lines pa in
     let f = acts_at s p b packet h pa in
-    let waits : waiting_in lines ≡ [] = put_waits n v.kept.line (rests (joining v.joins.now v.seen.own.session)) (end_at s p).end.lines (quiet_of s p b t old) v.kept.here in
+    let waits : waiting_in lines ≡ [] = put_waits n (part_line s p b t packet h pa v) v.kept.line (rests (joining v.joins.now v.seen.own.session)) (end_at s p).end.lines refl (quiet_of s p b t old) v.kept.here in
     let stands : Stands (turned_pair s e h n [] p) d.now t = turned_stands s p b t e h d.now t n [] old alive (part_unit laws s p b t packet h old alive pa v f) in
     subst (λ (y : End). StandsShown s p t y h) (sym (part_does laws s p b t packet h pa v f))
     (record {

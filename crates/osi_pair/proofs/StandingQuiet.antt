@@ -91,22 +91,23 @@ quiet_order e o = record {
 abbrev of_one : ℕ → List Shown → List (ℕ × Shown)
 of_one n shown = map (λ x. (n, x)) shown
 
-put_by : (n r : ℕ) (line there : Line) (move : Move) (lines : Rows Line) (b : Bool) → (r == n) ≡ b → waiting_in ((r, there) ∷ lines) ≡ [] → value_at n ((r, there) ∷ lines) ≡ Some line →
-    (value_at n lines ≡ Some line → waiting_in (put n (line_after line move) lines) ≡ of_one n move.shown) → waiting_in (put n (line_after line move) ((r, there) ∷ lines)) ≡ of_one n move.shown
-put_by n r line there move lines true e none is more =
+put_by : (n r : ℕ) (line was there : Line) (move : Move) (lines : Rows Line) (b : Bool) → (r == n) ≡ b → was.waiting ≡ line.waiting → waiting_in ((r, there) ∷ lines) ≡ [] → value_at n ((r, there) ∷ lines) ≡ Some was →
+    (value_at n lines ≡ Some was → waiting_in (put n (line_after line move) lines) ≡ of_one n move.shown) → waiting_in (put n (line_after line move) ((r, there) ∷ lines)) ≡ of_one n move.shown
+put_by n r line was there move lines true e waits none is more =
     let same : r ≡ n = eqb-true r n e in
-    let first : line.waiting ≡ [] = (let found : Some there ≡ Some line = rw e at is in let eq : there ≡ line = cc in ap (λ (l : Line). l.waiting) (sym eq) ∙ none_first (λ shown. (r, shown)) there.waiting (waiting_in lines) none) in
+    let first : line.waiting ≡ [] = (let found : Some there ≡ Some was = rw e at is in let eq : there ≡ was = cc in sym waits ∙ ap (λ (l : Line). l.waiting) (sym eq) ∙ none_first (λ shown. (r, shown)) there.waiting (waiting_in lines) none) in
     let rest = none_second (λ shown. (r, shown)) there.waiting (waiting_in lines) none in
     ap waiting_in (ap (λ (c : Bool). if◌then◌else◌ {A = Rows Line} c ((r, line_after line move) ∷ lines) ((r, there) ∷ put n (line_after line move) lines)) e)
     ∙ ap (λ (l : List (ℕ × Shown)). map (λ shown. (r, shown)) (line.waiting ++ move.shown) ++ l) rest ∙ append-nil (map (λ shown. (r, shown)) (line.waiting ++ move.shown))
     ∙ ap (λ (w : List Shown). map (λ shown. (r, shown)) (w ++ move.shown)) first ∙ ap (λ (q : ℕ). of_one q move.shown) same
-put_by n r line there move lines false e none is more =
+put_by n r line was there move lines false e waits none is more =
     let first = none_first (λ shown. (r, shown)) there.waiting (waiting_in lines) none in
-    let found : value_at n lines ≡ Some line = rw e at is in
+    let found : value_at n lines ≡ Some was = rw e at is in
     ap waiting_in (ap (λ (c : Bool). if◌then◌else◌ {A = Rows Line} c ((r, line_after line move) ∷ lines) ((r, there) ∷ put n (line_after line move) lines)) e)
     ∙ ap (λ (w : List Shown). map (λ shown. (r, shown)) w ++ waiting_in (put n (line_after line move) lines)) first ∙ more found
 
-pub put_waits : (n : ℕ) (line : Line) (move : Move) (lines : Rows Line) → waiting_in lines ≡ [] → value_at n lines ≡ Some line → waiting_in (put n (line_after line move) lines) ≡ of_one n move.shown
-put_waits n line move [] none is = cc
-put_waits n line move ((r, there) ∷ lines) none is =
-    put_by n r line there move lines (r == n) refl none is (λ f. put_waits n line move lines (none_second (λ shown. (r, shown)) there.waiting (waiting_in lines) none) f)
+-- the line that is put there has what waited in the one that stood there
+pub put_waits : (n : ℕ) (line was : Line) (move : Move) (lines : Rows Line) → was.waiting ≡ line.waiting → waiting_in lines ≡ [] → value_at n lines ≡ Some was → waiting_in (put n (line_after line move) lines) ≡ of_one n move.shown
+put_waits n line was move [] waits none is = cc
+put_waits n line was move ((r, there) ∷ lines) waits none is =
+    put_by n r line was there move lines (r == n) refl waits none is (λ f. put_waits n line was move lines waits (none_second (λ shown. (r, shown)) there.waiting (waiting_in lines) none) f)
