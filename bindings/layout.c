@@ -18,6 +18,9 @@ struct alignments {
     struct { char c; osi_fault at; } osi_fault;
     struct { char c; osi_indication at; } osi_indication;
     struct { char c; osi_fed at; } osi_fed;
+    struct { char c; osi_tsap at; } osi_tsap;
+    struct { char c; osi_selector at; } osi_selector;
+    struct { char c; osi_addressing at; } osi_addressing;
 };
 
 #define ALIGNMENT(type) (offsetof(struct alignments, type.at) - offsetof(struct alignments, type))
@@ -85,6 +88,21 @@ static void indication(void)
     FIELD(osi_indication, user_data);
     FIELD(osi_indication, size_from_asker);
     FIELD(osi_indication, size_from_answerer);
+}
+
+static void addresses(void)
+{
+    STRUCT(osi_tsap);
+    FIELD(osi_tsap, octets);
+    FIELD(osi_tsap, length);
+    STRUCT(osi_selector);
+    FIELD(osi_selector, octets);
+    FIELD(osi_selector, length);
+    STRUCT(osi_addressing);
+    FIELD(osi_addressing, calling_tsap);
+    FIELD(osi_addressing, called_tsap);
+    FIELD(osi_addressing, calling_selector);
+    FIELD(osi_addressing, called_selector);
 }
 
 static void codes(void)
@@ -204,6 +222,7 @@ int main(void)
     structs();
     opening();
     indication();
+    addresses();
     codes();
     terms_and_sets();
     indications();

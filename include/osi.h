@@ -80,7 +80,7 @@ typedef struct osi_end {
 #define OSI_BAD_ARGUMENT 2u         /* a number or a length is outside its range */
 #define OSI_NO_MEMORY 3u            /* malloc or realloc gave none; call again when there is some */
 #define OSI_IN_USE 4u               /* the slot holds an end already: free it first */
-#define OSI_NOTHING 5u              /* no indication waits */
+#define OSI_NOTHING 5u              /* no indication waits; there are no addresses */
 #define OSI_NO_SUCH_CONNECTION 10u  /* this end never gave the reference */
 #define OSI_ENDED 11u               /* the connection, or the end, is over */
 #define OSI_BAD_STATE 12u           /* the call is not allowed in this phase (X.225 annex A) */
@@ -420,6 +420,34 @@ uint8_t osi_held(osi_end *end, uint16_t reference);
 uint32_t osi_next_serial(osi_end *end, uint16_t reference);
 uint32_t osi_confirmed_below(osi_end *end, uint16_t reference);
 uint32_t osi_lowest_restart(osi_end *end, uint16_t reference);
+
+/* ---- addresses --------------------------------------------------------------------------------------- */
+
+/* A transport address: so many octets, the first; of no octets where there is no address. */
+typedef struct osi_tsap {
+    uint8_t octets[32];
+    uint8_t length;
+} osi_tsap;
+
+/* A session address, in the same way. */
+typedef struct osi_selector {
+    uint8_t octets[16];
+    uint8_t length;
+} osi_selector;
+
+/* The addresses of a connection: those of its CR (X.224 section 13.3.4) and of its CN (X.225 section 8). */
+typedef struct osi_addressing {
+    osi_tsap calling_tsap;         /* the transport address of the end that asks */
+    osi_tsap called_tsap;          /* that of the other end */
+    osi_selector calling_selector; /* the session address of the user that asks */
+    osi_selector called_selector;  /* that of the other user */
+} osi_addressing;
+
+/* Shows the addresses of a connection: where it was asked for here, what was asked for; else what came, as
+ * soon as OSI_CONNECT waits, and then until the connection is gone. So many associations of one port are told
+ * apart by the user that is asked for. The end stays as it is. OSI_OK, OSI_NOTHING (the connection is gone or
+ * never was, or its CN did not come yet: there is no address in the struct then), OSI_SLOT_EMPTY (the same). */
+uint32_t osi_addresses(osi_end *end, uint16_t reference, osi_addressing *shown);
 
 /* ---- names ------------------------------------------------------------------------------------------- */
 

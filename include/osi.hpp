@@ -483,6 +483,28 @@ constexpr std::string_view text(ending why) noexcept
     return "a reason without a name";
 }
 
+/* The addresses of a connection: the transport addresses of its CR (X.224 section 13.3.4) and the session
+ * addresses of its CN (X.225 section 8). One of no octets is none. Its views are there as long as it is. */
+class addresses {
+public:
+    addresses() noexcept : held_() {}
+    explicit addresses(const osi_addressing &held) noexcept : held_(held) {}
+
+    /* The transport address of the end that asks, and that of the other end. */
+    octets calling_tsap() const noexcept { return {held_.calling_tsap.octets, held_.calling_tsap.length}; }
+    octets called_tsap() const noexcept { return {held_.called_tsap.octets, held_.called_tsap.length}; }
+
+    /* The session address of the user that asks, and that of the other user. */
+    octets calling_selector() const noexcept
+    {
+        return {held_.calling_selector.octets, held_.calling_selector.length};
+    }
+    octets called_selector() const noexcept { return {held_.called_selector.octets, held_.called_selector.length}; }
+
+private:
+    osi_addressing held_;
+};
+
 /* That an end has ended. */
 struct ended {
     ending why = ending::broken;
@@ -793,6 +815,16 @@ public:
     std::uint32_t next_serial(osi::reference of) noexcept { return look(osi_next_serial, of); }
     std::uint32_t confirmed_below(osi::reference of) noexcept { return look(osi_confirmed_below, of); }
     std::uint32_t lowest_restart(osi::reference of) noexcept { return look(osi_lowest_restart, of); }
+
+    /* The addresses of a connection: those that were asked for, or those that came, as soon as tag::connect waits;
+     * nothing for a connection that is gone or never was. */
+    std::optional<osi::addresses> addresses(osi::reference of) noexcept
+    {
+        osi_addressing shown;
+        if (call(osi_addresses, of, &shown) != code::ok)
+            return std::nullopt;
+        return osi::addresses(shown);
+    }
 
 private:
     struct freed {

@@ -237,6 +237,39 @@ static void indications_of_other_headers(void)
     let_go(&pair);
 }
 
+/* ---- addresses */
+
+static bool is(const uint8_t *octets, uint8_t length, const char *text)
+{
+    return length == strlen(text) && memcmp(octets, text, length) == 0;
+}
+
+#define IS(address, text) is((address).octets, (address).length, text)
+
+static void addresses(void)
+{
+    osi_opening opening = OSI_OPENING;
+    opening.calling_tsap = (osi_octets){(const uint8_t *)"here", 4};
+    opening.called_tsap = (osi_octets){(const uint8_t *)"0123456789abcdef0123456789ABCDEF", 32};
+    opening.calling_selector = (osi_octets){(const uint8_t *)"me", 2};
+    opening.called_selector = (osi_octets){(const uint8_t *)"0123456789abcdef", 16};
+    struct pair pair = asked(&opening);
+    osi_end *const ends[] = {&pair.caller, &pair.called};
+    for (int i = 0; i < 2; i++) {
+        osi_addressing shown;
+        memset(&shown, 0x55, sizeof shown);
+        CHECK(osi_addresses(ends[i], pair.of, &shown) == OSI_OK);
+        CHECK(IS(shown.calling_tsap, "here") && IS(shown.called_tsap, "0123456789abcdef0123456789ABCDEF"));
+        CHECK(IS(shown.calling_selector, "me") && IS(shown.called_selector, "0123456789abcdef"));
+        CHECK(osi_addresses(ends[i], 2, &shown) == OSI_NOTHING && shown.calling_tsap.length == 0);
+        CHECK(IS(shown.called_tsap, "") && IS(shown.calling_selector, "") && IS(shown.called_selector, ""));
+    }
+    let_go(&pair);
+    osi_addressing shown;
+    memset(&shown, 0x55, sizeof shown);
+    CHECK(osi_addresses(&pair.called, pair.of, &shown) == OSI_SLOT_EMPTY && shown.called_selector.length == 0);
+}
+
 /* ---- names */
 
 static void names(void)
@@ -258,6 +291,7 @@ int main(void)
     a_slot_is_moved();
     openings_of_other_headers();
     indications_of_other_headers();
+    addresses();
     names();
     printf("%u passed, %u failed\n", passed, failed);
     return failed != 0;

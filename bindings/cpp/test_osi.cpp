@@ -432,6 +432,28 @@ static void what_credit_holds_back_is_unsent()
     CHECK(zero.caller.unsent(zero.of) == 0 && zero.caller.backlog() == 0 && zero.caller.live() == 1);
 }
 
+static void connections_have_addresses()
+{
+    pair two = opened(osi::classes::class_2);
+    osi::opening wanted;
+    wanted.called_selector = "another";
+    const auto second = two.caller.connect(wanted);
+    CHECK(second && !two.called.addresses(*second));
+    two.carry();
+    for (osi::end *const end : {&two.caller, &two.called}) {
+        const auto first = end->addresses(two.of), other = end->addresses(*second);
+        CHECK(first && first->calling_tsap() == opening().calling_tsap && first->called_tsap() == opening().called_tsap);
+        CHECK(first && first->calling_selector() == opening().calling_selector);
+        CHECK(first && first->called_selector() == opening().called_selector);
+        CHECK(other && other->called_selector() == "another" && other->calling_selector().empty());
+        CHECK(other && other->calling_tsap().empty() && other->called_tsap().empty() && !end->addresses(3));
+    }
+    CHECK(two.caller.abort(two.of) == code::ok);
+    two.carry();
+    CHECK(!two.caller.addresses(two.of) && !two.called.addresses(two.of) && two.called.addresses(*second));
+    CHECK(!osi::end().addresses(1));
+}
+
 static void data_in_parts_is_joined()
 {
     static const std::uint8_t first[] = {0x03, 0x00, 0x00, 0x0f, 0x02, 0xf0, 0x80, 0x01,
@@ -573,6 +595,7 @@ int main()
     losses_are_shown();
     bad_units_are_shown();
     what_credit_holds_back_is_unsent();
+    connections_have_addresses();
     data_in_parts_is_joined();
     bad_packets_end_an_end();
     connections_are_told_apart();

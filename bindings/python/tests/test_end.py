@@ -10,6 +10,7 @@ import weakref
 
 from osi_session import (
     Aborted,
+    Addresses,
     Asked,
     BadUnit,
     Classes,
@@ -335,6 +336,33 @@ class Backlog(Case):
         self.assertEqual((pair.caller.live(), pair.called.live()), (0, 0))
 
 
+class OfConnections(Case):
+    def test_two_connections_are_told_apart_by_whom_they_ask_for(self):
+        pair = Pair(Classes.CLASS_2, Classes.CLASS_2)
+        first = pair.caller.connect(Opening(calling_tsap=b"here", called_tsap=b"port", calling_selector=b"a", called_selector=b"one"))
+        pair.carry()
+        second = pair.caller.connect(Opening(calling_tsap=b"here", called_tsap=b"port", called_selector=b"two"))
+        self.assertEqual(pair.caller.addresses(second), Addresses(b"here", b"port", b"", b"two"))
+        self.assertIsNone(pair.called.addresses(second))
+        pair.carry()
+        for end in (pair.caller, pair.called):
+            self.assertEqual(end.addresses(first), Addresses(b"here", b"port", b"a", b"one"))
+            self.assertEqual(end.addresses(second), Addresses(b"here", b"port", b"", b"two"))
+            self.assertEqual((end.addresses(0), end.addresses(3), end.addresses(1 << 16)), (None, None, None))
+
+    def test_none_are_known_once_a_connection_is_gone(self):
+        pair = Pair.opened(Classes.CLASS_2)
+        self.assertEqual(pair.called.addresses(1), Addresses(b"here", b"there", b"caller", b"called"))
+        pair.caller.abort(1)
+        pair.carry()
+        self.assertEqual((pair.caller.addresses(1), pair.called.addresses(1)), (None, None))
+
+    def test_all_octets_of_an_address(self):
+        tsap, selector = bytes(range(32)), bytes(range(16))
+        pair = Pair.opened(Classes.CLASS_0, Opening(calling_tsap=tsap, called_selector=selector))
+        self.assertEqual(pair.called.addresses(1), Addresses(tsap, b"", b"", selector))
+
+
 class Ends(Case):
     def test_a_closed_end(self):
         pair = Pair.opened()
@@ -352,7 +380,7 @@ class Ends(Case):
         self.assertEqual((end.outgoing(), end.kept(), end.ended()), (b"", 0, None))
         self.assertEqual((end.unsent(1), end.backlog(), end.live()), (0, 0, 0))
         self.assertEqual((end.phase(1), end.held(1), end.next_serial(1)), (Phase.NONE, Tokens.NONE, 0))
-        self.assertIsNone(end.next_indication())
+        self.assertEqual((end.next_indication(), end.addresses(1)), (None, None))
 
     def test_an_end_is_freed_when_nobody_has_it(self):
         end = End.caller()

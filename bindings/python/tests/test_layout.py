@@ -38,7 +38,7 @@ def header():
 def structs():
     """The fields of each struct of osi.h."""
     found = re.findall(r"^typedef struct (\w+) \{(.*?)^\} \1;", header(), re.MULTILINE | re.DOTALL)
-    return {name: re.findall(r"(\w+);", re.sub(r"\{.*?\}", "", body, flags=re.DOTALL)) for name, body in found}
+    return {name: re.findall(r"(\w+)(?:\[\d+\])?;", re.sub(r"\{.*?\}", "", body, flags=re.DOTALL)) for name, body in found}
 
 
 def functions():

@@ -1,5 +1,6 @@
 //! One end of a byte connection.
 
+use crate::addresses::Addresses;
 use crate::codes::{Ending, Error};
 use crate::ffi;
 use crate::indications::Indication;
@@ -462,6 +463,15 @@ impl End {
     /// was.
     pub fn lowest_restart(&mut self, of: Reference) -> u32 {
         unsafe { ffi::osi_lowest_restart(self.at(), of.0) }
+    }
+
+    /// The addresses of a connection: those that were asked for here, or those that came, as soon as
+    /// [`Indication::Connect`] waits. `None` for a connection that is gone or never was, and where no CN
+    /// came yet.
+    pub fn addresses(&mut self, of: Reference) -> Option<Addresses> {
+        let mut shown = ffi::osi_addressing::default();
+        let code = unsafe { ffi::osi_addresses(self.at(), of.0, &mut shown) };
+        (code == ffi::OSI_OK).then_some(Addresses(shown))
     }
 }
 

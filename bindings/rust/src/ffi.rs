@@ -89,6 +89,29 @@ pub struct osi_fed {
     pub waits: bool,
 }
 
+#[repr(C)]
+#[derive(Clone, Copy, Default)]
+pub struct osi_tsap {
+    pub octets: [u8; 32],
+    pub length: u8,
+}
+
+#[repr(C)]
+#[derive(Clone, Copy, Default)]
+pub struct osi_selector {
+    pub octets: [u8; 16],
+    pub length: u8,
+}
+
+#[repr(C)]
+#[derive(Clone, Copy, Default)]
+pub struct osi_addressing {
+    pub calling_tsap: osi_tsap,
+    pub called_tsap: osi_tsap,
+    pub calling_selector: osi_selector,
+    pub called_selector: osi_selector,
+}
+
 pub const OSI_OK: u32 = 0;
 pub const OSI_END_NONE: u32 = 0;
 
@@ -174,6 +197,7 @@ extern "C" {
     pub fn osi_next_serial(end: *mut osi_end, reference: u16) -> u32;
     pub fn osi_confirmed_below(end: *mut osi_end, reference: u16) -> u32;
     pub fn osi_lowest_restart(end: *mut osi_end, reference: u16) -> u32;
+    pub fn osi_addresses(end: *mut osi_end, reference: u16, shown: *mut osi_addressing) -> u32;
     pub fn osi_version() -> *const c_char;
 }
 

@@ -77,6 +77,7 @@
 //! The build script finds `libosi-session.a` (or `libosi-session.so`) in the folder that `OSI_SESSION_DIR` names, or by
 //! `pkg-config osi-session`. `OSI_SESSION_SHARED=1` links the shared library also where both are there.
 
+mod addresses;
 mod codes;
 mod end;
 #[allow(missing_docs, non_camel_case_types)]
@@ -92,6 +93,7 @@ pub fn library_version() -> &'static str {
     text.to_str().unwrap_or("unknown")
 }
 
+pub use addresses::Addresses;
 pub use codes::{Ending, Error, Fault, Spelling};
 pub use end::{End, Fed};
 pub use indications::Indication;

@@ -315,6 +315,38 @@ fn what_credit_holds_back_is_unsent() {
     assert_eq!((pair.caller.unsent(pair.of), pair.caller.backlog(), pair.caller.live()), (0, 0, 1));
 }
 
+fn known(end: &mut End, of: Reference) -> Option<[String; 4]> {
+    let addresses = end.addresses(of)?;
+    let all = [
+        addresses.calling_tsap(),
+        addresses.called_tsap(),
+        addresses.calling_selector(),
+        addresses.called_selector(),
+    ];
+    Some(all.map(|octets| String::from_utf8_lossy(octets).into_owned()))
+}
+
+#[test]
+fn connections_are_told_apart_by_whom_they_ask_for() {
+    let mut pair = Pair::opened(Classes::CLASS_2, &opening());
+    let asked = Opening { called_selector: b"another", calling_tsap: &[b'x'; 32], ..Opening::default() };
+    let second = pair.caller.connect(&asked).unwrap();
+    assert_eq!(known(&mut pair.called, second), None);
+    pair.carry();
+    let first = ["here", "there", "caller", "called"].map(String::from);
+    let other = ["x".repeat(32), String::new(), String::new(), "another".into()];
+    for end in [&mut pair.caller, &mut pair.called] {
+        assert_eq!(known(end, pair.of).as_ref(), Some(&first));
+        assert_eq!(known(end, second).as_ref(), Some(&other));
+        assert_eq!(known(end, Reference::new(3)), None);
+    }
+    pair.caller.abort(pair.of, b"").unwrap();
+    pair.carry();
+    assert_eq!(known(&mut pair.called, pair.of), None);
+    assert_eq!(known(&mut pair.called, second).as_ref(), Some(&other));
+    assert!(format!("{:?}", pair.called.addresses(second)).contains("called_selector"));
+}
+
 #[test]
 fn data_in_parts_is_joined() {
     let mut pair = Pair::opened(Classes::CLASS_0, &opening());

@@ -3,4 +3,5 @@ pub mod Lent
 pub mod Codes
 pub mod Arguments
 pub mod Ends
+pub mod Addressed
 pub mod Told

@@ -3,6 +3,7 @@
 //! makes it do what it does not say.
 #![tactic(auto)]
 
+mod addresses;
 mod arguments;
 mod calls;
 mod codes;

@@ -28,6 +28,7 @@ from ._end import End
 from ._library import VERSION as __version__, LibraryNotFound, library_version
 from ._values import (
     Aborted,
+    Addresses,
     Asked,
     BadUnit,
     Connect,
@@ -60,6 +61,7 @@ from ._values import (
 
 __all__ = [
     "Aborted",
+    "Addresses",
     "Asked",
     "BadUnit",
     "Classes",

@@ -8,8 +8,8 @@ from ctypes import byref, c_uint16, c_uint64, sizeof
 from typing import Any, Callable, Iterator, NoReturn, Optional, Tuple, Type, TypeVar
 
 from ._codes import Code, Phase, Reason, SessionError, Tokens, Units
-from ._library import FedOfC, IndicationOfC, Octets, OpeningOfC, SidesOfC, Slot, TermsOfC, library
-from ._values import KINDS, Ending, Fed, Indication, Opening, Sides, Sizes, Terms
+from ._library import AddressingOfC, FedOfC, IndicationOfC, Octets, OpeningOfC, SidesOfC, Slot, TermsOfC, library
+from ._values import KINDS, Addresses, Ending, Fed, Indication, Opening, Sides, Sizes, Terms
 
 T = TypeVar("T", bound="End")
 
@@ -378,3 +378,15 @@ class End:
     def lowest_restart(self, reference: int) -> int:
         """V(R): the lowest number at which this end may restart, or 0 as above."""
         return self._look(self._osi.osi_lowest_restart, reference)
+
+    def addresses(self, reference: int) -> Optional[Addresses]:
+        """The addresses of a connection: those that were asked for here, or those that came, as soon as
+        ``Connect`` waits. None for a connection that is gone or never was, and where no CN came yet."""
+        shown = AddressingOfC()
+        if not 0 <= reference < 1 << 16:
+            return None
+        with self._lock:
+            if self._osi.osi_addresses(byref(self._slot), reference, byref(shown)) != Code.OK:
+                return None
+        held = (shown.calling_tsap, shown.called_tsap, shown.calling_selector, shown.called_selector)
+        return Addresses(*(bytes(address.octets[: address.length]) for address in held))

@@ -82,6 +82,23 @@ class FedOfC(ctypes.Structure):
     _fields_ = [("used", c_size_t), ("waits", c_bool)]
 
 
+class TsapOfC(ctypes.Structure):
+    _fields_ = [("octets", c_uint8 * 32), ("length", c_uint8)]
+
+
+class SelectorOfC(ctypes.Structure):
+    _fields_ = [("octets", c_uint8 * 16), ("length", c_uint8)]
+
+
+class AddressingOfC(ctypes.Structure):
+    _fields_ = [
+        ("calling_tsap", TsapOfC),
+        ("called_tsap", TsapOfC),
+        ("calling_selector", SelectorOfC),
+        ("called_selector", SelectorOfC),
+    ]
+
+
 STRUCTS = {
     "osi_end": Slot,
     "osi_octets": Octets,
@@ -91,6 +108,9 @@ STRUCTS = {
     "osi_fault": FaultOfC,
     "osi_indication": IndicationOfC,
     "osi_fed": FedOfC,
+    "osi_tsap": TsapOfC,
+    "osi_selector": SelectorOfC,
+    "osi_addressing": AddressingOfC,
 }
 
 _DATA = [c_void_p, c_size_t]
@@ -135,6 +155,7 @@ FUNCTIONS = {
     "osi_next_serial": ([c_uint16], c_uint32),
     "osi_confirmed_below": ([c_uint16], c_uint32),
     "osi_lowest_restart": ([c_uint16], c_uint32),
+    "osi_addresses": ([c_uint16, POINTER(AddressingOfC)], c_uint32),
 }
 # What those take that need no slot, and answer a text.
 TEXTS = {

@@ -63,6 +63,17 @@ class Opening:
 
 
 @dataclass(frozen=True)
+class Addresses:
+    """The addresses of a connection: the transport addresses of its CR (X.224 section 13.3.4) and the session
+    addresses of its CN (X.225 section 8). One that is empty is none."""
+
+    calling_tsap: bytes
+    called_tsap: bytes
+    calling_selector: bytes
+    called_selector: bytes
+
+
+@dataclass(frozen=True)
 class Fed:
     """What ``End.feed`` did."""
 

@@ -74,6 +74,9 @@ fn structs_are_laid_out_as_in_c() {
         osi_indication: tag number reference requirements has_number confirm tokens reason sides fault
             user_data size_from_asker size_from_answerer;
         osi_fed: used waits;
+        osi_tsap: octets length;
+        osi_selector: octets length;
+        osi_addressing: calling_tsap called_tsap calling_selector called_selector;
     };
     assert_eq!(here, of_c);
 }
