@@ -2,11 +2,11 @@
 use Rattle.std.proofs.Common.{◌≡◌, ℕ, ◌+◌, ◌-◌, ◌<◌, ◌≤◌, ◌^◌, ◌∷◌, ◌⊎◌, inl, inr, List, [], ◌++◌, length, take, drop, refl, sym, ◌∙◌, ap, subst, arith, Bool, true, false, Option, Some, None, Result, Ok, Err, IfOk, MatchBool}
 use Rattle.std.proofs.lemmas.List.{length-take-le}
 use Rattle.std.proofs.lemmas.Option.{none-some}
-use Rattle.osi_tpkt.specs.Packet.{IsPacket, IsOnePacket, IsPartial}
+use Rattle.osi_tpkt.specs.Packet.{IsPacket, IsOnePacket, IsPartial, IsFaultOf}
 use Rattle.osi_tpkt.specs.Stream.{offset_of}
 use Rattle.osi_tpkt.specs.Header.{IsFront, IsFull, IsUnfinished}
 use Rattle.osi_tpkt.specs.Held.{Held, IsHolding, fresh}
-use Rattle.osi_tpkt.specs.Cutter.{TakesPiece, Feeds, Passes, Advances}
+use Rattle.osi_tpkt.specs.Cutter.{Gains, TakesPiece, Feeds, Passes, Advances}
 use Rattle.osi_tpkt.specs.Runs.{CutterRun}
 use Rattle.osi_tpkt.specs.Runs.CutterCall.{Feed, Advance}
 use Rattle.osi_tpkt.specs.Progress.{fault_of, FitsProgress, IsKept}
@@ -15,24 +15,41 @@ use Rattle.osi_tpkt.specs.declared.faults.TpktFault.TheVariants.{BadVersion, Bad
 use Rattle.osi_tpkt.specs.declared.cutting.Fed.{Fed}
 use Rattle.osi_tpkt.specs.declared.headers.HeaderFault.TheVariants.{Version, Length}
 use Rattle.osi_tpkt.specs.declared.cutting.Progress.{Progress}
-use Rattle.osi_tpkt.specs.declared.cutting.Progress.TheVariants.{Partial, Whole, Refused}
-use Rattle.osi_tpkt.proofs.Fronts.{short_partial, full_packet, front_packet, partial_not_whole, belonging_some, holding, empty_partial}
+use Rattle.osi_tpkt.specs.declared.cutting.Progress.TheVariants.{Awaited, Partial, Stopped}
+use Rattle.osi_tpkt.specs.declared.cutting.Stop.TheVariants.{Whole, Refused}
+use Rattle.osi_tpkt.proofs.Fronts.{short_partial, full_packet, front_packet, partial_not_whole, belonging_some, belonging_no_fault, surveyed, one_fault, holding, empty_partial}
 
 -- what the fields of a cutter say, said of what contracts see
 pub holding_sound : (offset : ℕ) (octets : List ℕ) (progress : Progress) (room : ℕ) → IsKept offset octets progress →
     IsHolding (holding offset (fault_of offset progress) octets room)
+holding_sound offset octets Awaited room h = record { offset = h.offset; octets = inl (subst IsPartial (sym h.progress) empty_partial) }
 holding_sound offset octets Partial room h = record { offset = h.offset; octets = inl (short_partial octets h.progress.0 h.progress.1) }
-holding_sound offset octets Whole room h = record { offset = h.offset; octets = inr ((drop 4 octets, full_packet octets h.progress.0 h.progress.1), refl) }
-holding_sound offset octets (Refused f) room h = record { offset = h.offset; octets = inl (short_partial octets h.progress.0 h.progress.1) }
+holding_sound offset octets (Stopped Whole) room h = record { offset = h.offset; octets = inr ((drop 4 octets, full_packet octets h.progress.0 h.progress.1), refl) }
+holding_sound offset octets (Stopped (Refused f)) room h = record { offset = h.offset; octets = inl (short_partial octets h.progress.0 h.progress.1) }
 
--- a cutter whose packet goes on has no fault
-pub going_on : (offset : ℕ) (octets : List ℕ) (progress : Progress) (room : ℕ) (now : Held) → progress ≡ Partial → IsKept offset octets progress →
+-- the same of its value
+pub kept_sound : (offset : ℕ) (octets : List ℕ) (progress : Progress) (room : ℕ) (now : Held) → IsKept offset octets progress →
+    holding offset (fault_of offset progress) octets room ≡ now → IsHolding now
+kept_sound offset octets progress room now h same = subst IsHolding same (holding_sound offset octets progress room h)
+
+-- a cutter that awaits a packet, or whose packet goes on, has no fault
+goes_on : (offset : ℕ) (octets : List ℕ) (progress : Progress) → (progress ≡ Awaited) ⊎ (progress ≡ Partial) → IsKept offset octets progress →
+    (fault_of offset progress ≡ None) × IsPartial octets
+goes_on offset octets progress (inl is) fits =
+    (ap (λ p. fault_of offset p) is, subst IsPartial (sym (subst (λ p. FitsProgress octets p) is fits.progress)) empty_partial)
+goes_on offset octets progress (inr is) fits =
+    let front : IsFront octets × IsUnfinished octets × (0 < length octets) = subst (λ p. FitsProgress octets p) is fits.progress in
+    (ap (λ p. fault_of offset p) is, short_partial octets front.0 front.1)
+
+pub going_on : (offset : ℕ) (octets : List ℕ) (progress : Progress) (room : ℕ) (now : Held) → (progress ≡ Awaited) ⊎ (progress ≡ Partial) → IsKept offset octets progress →
     holding offset (fault_of offset progress) octets room ≡ now → (now.fault ≡ None) × IsPartial now.octets
 going_on offset octets progress room now is fits same =
-    let front : IsFront octets × IsUnfinished octets = subst (λ p. FitsProgress octets p) is fits.progress in (
-      sym (ap (λ (h : Held). h.fault) same) ∙ ap (λ p. fault_of offset p) is,
-      subst (λ (h : Held). IsPartial h.octets) same (short_partial octets front.0 front.1),
-    )
+    let on = goes_on offset octets progress is fits in
+    (sym (ap (λ (h : Held). h.fault) same) ∙ on.0, subst (λ (h : Held). IsPartial h.octets) same on.1)
+
+-- a cutter that awaits a packet holds nothing
+pub awaiting : (offset : ℕ) (octets : List ℕ) (progress : Progress) → progress ≡ Awaited → IsKept offset octets progress → octets ≡ []
+awaiting offset octets progress is fits = subst (λ p. FitsProgress octets p) is fits.progress
 
 -- where a piece was taken, it was fed
 taken_used : (old : Held) (piece : List ℕ) (result : Result Fed TpktFault) (new : Held) → IsPartial old.octets → TakesPiece old piece result new →
@@ -65,7 +82,7 @@ stands P false octets fault h e = inl h.0
 with_fault : (old new : Held) (fault : Option TpktFault) → IsHolding old → IsPartial old.octets → new ≡ record old { fault = fault } → IsHolding new
 with_fault old new fault h partial same = subst IsHolding (sym same) (record { offset = h.offset; octets = inl partial })
 
-taken_sound : (old : Held) (piece : List ℕ) (result : Result Fed TpktFault) (new : Held) → IsHolding old → old.fault ≡ None → IsPartial old.octets →
+pub taken_sound : (old : Held) (piece : List ℕ) (result : Result Fed TpktFault) (new : Held) → IsHolding old → old.fault ≡ None → IsPartial old.octets →
     TakesPiece old piece result new → IsHolding new
 taken_sound old piece (Ok fed) new h unfaulted partial t =
     let octets : new.octets ≡ old.octets ++ take fed.used piece = ap (λ (h : Held). h.octets) t.1.octets in
@@ -102,12 +119,56 @@ pub begins : (at room : ℕ) (octets : List ℕ) → octets ≡ [] → at < 2 ^ 
 begins at room octets none fits =
     subst (λ x. IsHolding (holding at None x room)) (sym none) (record { offset = fits; octets = inl empty_partial })
 
+-- where a piece was taken, its fault was answered, and no want of memory is kept
+pub taken_refused : (old : Held) (piece : List ℕ) (result : Result Fed TpktFault) (new : Held) (f : TpktFault) → TakesPiece old piece result new →
+    IsFaultOf old.offset (old.octets ++ piece) f → result ≡ Err f
+taken_refused old piece (Ok fed) new f t fault = absurd (belonging_no_fault old.octets piece fed old.offset f t.0 fault)
+taken_refused old piece (Err (BadVersion at)) new f t fault = ap Err (one_fault old.offset (old.octets ++ piece) (BadVersion at) f t.0 fault)
+taken_refused old piece (Err (BadLength at)) new f t fault = ap Err (one_fault old.offset (old.octets ++ piece) (BadLength at) f t.0 fault)
+taken_refused old piece (Err OutOfMemory) new f t fault = absurd (belonging_no_fault old.octets piece t.0 old.offset f t.1 fault)
+
+pub taken_lasting : (old : Held) (piece : List ℕ) (result : Result Fed TpktFault) (new : Held) → old.fault ≡ None → TakesPiece old piece result new →
+    new.fault ≡ Some OutOfMemory → ⊥
+taken_lasting old piece (Ok fed) new unfaulted t e = none-some OutOfMemory (sym unfaulted ∙ sym (ap (λ (h : Held). h.fault) t.1.octets) ∙ e)
+taken_lasting old piece (Err (BadVersion at)) new unfaulted t e = absurd (let f = ap (λ (h : Held). h.fault) t.1 in cc)
+taken_lasting old piece (Err (BadLength at)) new unfaulted t e = absurd (let f = ap (λ (h : Held). h.fault) t.1 in cc)
+taken_lasting old piece (Err OutOfMemory) new unfaulted t e = none-some OutOfMemory (sym unfaulted ∙ sym (ap (λ (h : Held). h.fault) t.3) ∙ e)
+
+-- ---- what the storage holds
+
+-- octets that were put behind those held
+pub gathered : (offset held used before after : ℕ) (fault : Option TpktFault) (old mid new part : List ℕ) → length part ≡ used →
+    take (held + length part) new ≡ take held mid ++ part → take held mid ≡ take held old → fault ≡ None → before ≤ after →
+    Gains (holding offset fault (take held old) before) part (holding offset None (take (held + used) new) after)
+gathered offset held used before after fault old mid new part count put stays unfaulted more =
+    let octets : take (held + used) new ≡ take held old ++ part = ap (λ n. take (held + n) new) (sym count) ∙ put ∙ ap (λ x. x ++ part) stays in
+    record {
+      octets = ap (λ x. holding offset None x after) octets ∙ ap (λ f. holding offset f (take held old ++ part) after) (sym unfaulted);
+      room = more;
+    }
+
+-- a packet that stands whole at the front of a piece, put where one was awaited
+pub taken_whole : (offset used before after : ℕ) (octets piece items : List ℕ) (progress : Progress) (now : Held) → progress ≡ Awaited → IsKept offset octets progress →
+    holding offset (fault_of offset progress) octets before ≡ now → used ≤ length piece → IsFront (take used piece) → IsFull (take used piece) →
+    take used items ≡ take used piece → after ≡ before →
+    TakesPiece now piece (Ok (record { used = used; whole = true })) (holding offset None (take used items) after)
+taken_whole offset used before after octets piece items progress now is kept same within front full put room =
+    let none : octets ≡ [] = awaiting offset octets progress is kept in
+    subst (λ (h : Held). TakesPiece h piece (Ok (record { used = used; whole = true })) (holding offset None (take used items) after)) same (
+      surveyed [] octets piece (record { used = used; whole = true }) (sym none) within front full,
+      record {
+        octets = ap (λ x. holding offset None x after) put ∙ ap (λ l. holding offset None (l ++ take used piece) after) (sym none)
+            ∙ ap (λ f. holding offset f (octets ++ take used piece) after) (sym (ap (fault_of offset) is));
+        room = omega arith;
+      },
+    )
+
 -- ---- a packet that is passed by
 
-pub passed : (offset sum room used : ℕ) (octets piece : List ℕ) (progress : Progress) (now : Held) → progress ≡ Partial → octets ≡ [] → used ≤ length piece →
+pub passed : (offset sum room used : ℕ) (octets piece : List ℕ) (progress : Progress) (now : Held) → progress ≡ Awaited → IsKept offset octets progress → used ≤ length piece →
     IsFront (take used piece) → IsFull (take used piece) → sum ≡ offset_of (offset + used) → holding offset (fault_of offset progress) octets room ≡ now →
     Passes now (take (used - 4) (drop 4 piece)) piece (holding sum (fault_of sum progress) octets room)
-passed offset sum room used octets piece progress now is none within front full end same =
+passed offset sum room used octets piece progress now is fits within front full end same =
     let packet = front_packet piece used within front full in
     let long = full.0 in
     let taken = length-take-le used piece within in
@@ -115,7 +176,7 @@ passed offset sum room used octets piece progress now is none within front full 
     let size : used ≡ 4 + length (take (used - 4) (drop 4 piece)) = omega arith in
     subst (λ (h : Held). Passes h (take (used - 4) (drop 4 piece)) piece (holding sum (fault_of sum progress) octets room)) same
     (record {
-      empty = none;
+      empty = awaiting offset octets progress is fits;
       faultless = ap (fault_of offset) is;
       within = omega arith;
       packet = subst (λ n. IsPacket (take (used - 4) (drop 4 piece)) (take n piece)) size packet;
@@ -123,10 +184,10 @@ passed offset sum room used octets piece progress now is none within front full 
           ∙ ap (λ n. holding n (fault_of offset progress) octets room) (end ∙ ap (λ n. offset_of (offset + n)) size);
     })
 
-pub passed_sound : (sum room : ℕ) (octets : List ℕ) (progress : Progress) → progress ≡ Partial → octets ≡ [] → sum < 2 ^ 64 →
+pub passed_sound : (offset sum room : ℕ) (octets : List ℕ) (progress : Progress) → progress ≡ Awaited → IsKept offset octets progress → sum < 2 ^ 64 →
     IsHolding (holding sum (fault_of sum progress) octets room)
-passed_sound sum room octets progress is none fits =
-    subst (λ f. IsHolding (holding sum f octets room)) (sym (ap (fault_of sum) is)) (begins sum room octets none fits)
+passed_sound offset sum room octets progress is kept fits =
+    subst (λ f. IsHolding (holding sum f octets room)) (sym (ap (fault_of sum) is)) (begins sum room octets (awaiting offset octets progress is kept) fits)
 
 passing_feeds : (old new : Held) (unit piece : List ℕ) → Passes old unit piece new →
     Feeds old piece (Ok (record { used = 4 + length unit; whole = true })) (record old { octets = take (4 + length unit) piece })
@@ -160,13 +221,16 @@ passing_runs old new unit piece p = (
 )
 
 -- a cutter that holds nothing and answered no fault awaits a packet
-pub awaits : (offset : ℕ) (octets : List ℕ) (progress : Progress) (room : ℕ) (now : Held) → (progress ≡ Partial → ⊥) → IsKept offset octets progress →
+pub awaits : (offset : ℕ) (octets : List ℕ) (progress : Progress) (room : ℕ) (now : Held) → (progress ≡ Awaited → ⊥) → IsKept offset octets progress →
     holding offset (fault_of offset progress) octets room ≡ now → now.octets ≡ [] → now.fault ≡ None → ⊥
-awaits offset octets Partial room now other fits same none unfaulted = other refl
-awaits offset octets Whole room now other fits same none unfaulted =
+awaits offset octets Awaited room now other fits same none unfaulted = other refl
+awaits offset octets Partial room now other fits same none unfaulted =
+    let empty : length octets ≡ 0 = ap length (ap (λ (h : Held). h.octets) same ∙ none) in
+    let some = fits.progress.2 in absurd (omega arith)
+awaits offset octets (Stopped Whole) room now other fits same none unfaulted =
     let empty : length octets ≡ 0 = ap length (ap (λ (h : Held). h.octets) same ∙ none) in
     let long = fits.progress.1.0 in absurd (omega arith)
-awaits offset octets (Refused Version) room now other fits same none unfaulted =
+awaits offset octets (Stopped (Refused Version)) room now other fits same none unfaulted =
     none-some (BadVersion offset) (sym unfaulted ∙ sym (ap (λ (h : Held). h.fault) same))
-awaits offset octets (Refused Length) room now other fits same none unfaulted =
+awaits offset octets (Stopped (Refused Length)) room now other fits same none unfaulted =
     none-some (BadLength offset) (sym unfaulted ∙ sym (ap (λ (h : Held). h.fault) same))

@@ -1,26 +1,29 @@
 -- How far a cutter is with the packet whose octets it holds.
-use Rattle.std.specs.Prelude.{ℕ, ◌<◌, ◌^◌, List, Option, Some, None}
+use Rattle.std.specs.Prelude.{◌≡◌, ℕ, ◌<◌, ◌^◌, List, [], length, Option, Some, None}
 use Rattle.osi_tpkt.specs.Header.{IsFront, IsFull, IsUnfinished}
 use Rattle.osi_tpkt.specs.declared.faults.TpktFault.{TpktFault}
 use Rattle.osi_tpkt.specs.declared.faults.TpktFault.TheVariants.{BadVersion, BadLength}
 use Rattle.osi_tpkt.specs.declared.headers.HeaderFault.TheVariants.{Version, Length}
 use Rattle.osi_tpkt.specs.declared.cutting.Progress.{Progress}
-use Rattle.osi_tpkt.specs.declared.cutting.Progress.TheVariants.{Partial, Whole, Refused}
+use Rattle.osi_tpkt.specs.declared.cutting.Progress.TheVariants.{Awaited, Partial, Stopped}
+use Rattle.osi_tpkt.specs.declared.cutting.Stop.TheVariants.{Whole, Refused}
 
 -- the fault that is kept, of octets that stand at this offset
 abbrev pub fault_of : ℕ → Progress → Option TpktFault
+fault_of at Awaited = None
 fault_of at Partial = None
-fault_of at Whole = None
-fault_of at (Refused Version) = Some (BadVersion at)
-fault_of at (Refused Length) = Some (BadLength at)
+fault_of at (Stopped Whole) = None
+fault_of at (Stopped (Refused Version)) = Some (BadVersion at)
+fault_of at (Stopped (Refused Length)) = Some (BadLength at)
 
--- what is true of the octets held: after a fault no packet stands
+-- what is true of the octets held: none while a packet is awaited, and after a fault no packet stands
 abbrev pub FitsProgress : List ℕ → Progress → Type 0
-FitsProgress octets Partial = IsFront octets × IsUnfinished octets
-FitsProgress octets Whole = IsFront octets × IsFull octets
-FitsProgress octets (Refused f) = IsFront octets × IsUnfinished octets
+FitsProgress octets Awaited = octets ≡ []
+FitsProgress octets Partial = IsFront octets × IsUnfinished octets × (0 < length octets)
+FitsProgress octets (Stopped Whole) = IsFront octets × IsFull octets
+FitsProgress octets (Stopped (Refused f)) = IsFront octets × IsUnfinished octets
 
--- what is true of the fields of a cutter
+-- what is true of what a cutter holds
 pub record IsKept (at : ℕ) (octets : List ℕ) (stage : Progress) : Type 0 where
   pub offset : at < 2 ^ 64
   pub progress : FitsProgress octets stage

@@ -4,7 +4,8 @@ ghost use Rattle.std.specs.Prelude.{◌≡◌, ◌≢◌, ◌+◌, ◌<◌, ◌�
 ghost use Rattle.osi_tpkt.specs.Packet.{IsPacket, IsOnePacket, IsPartial, IsFaultOf};
 
 use crate::faults::TpktFault;
-use crate::headers::{HeaderFault, survey};
+use crate::headers::{HeaderFault, survey, whole_length};
+use crate::storage::{make_room, put, put_first};
 use std::alloc::Global;
 use std::marker::Model;
 
@@ -17,12 +18,21 @@ pub struct Fed {
     pub whole: bool,
 }
 
-/// How far the packet is whose octets are held.
+/// How far a packet is.
 #[derive(Clone, Copy)]
 enum Progress {
-    /// Its end has not come.
+    /// None of its octets has come.
+    Awaited,
+    /// Some have come, and its end has not.
     Partial,
-    /// It stands whole.
+    /// No more octets are taken.
+    Stopped(Stop),
+}
+
+/// Why no more octets are taken.
+#[derive(Clone, Copy)]
+enum Stop {
+    /// The packet stands whole.
     Whole,
     /// The stream has none there.
     Refused(HeaderFault),
@@ -33,13 +43,16 @@ enum Progress {
 /// The octets of one packet are held, in storage that is kept for the next.
 #[derive(Drop)]
 pub struct Cutter {
-    held: Vec<u8>,
+    /// The octets held, and behind them room for more.
+    storage: Vec<u8>,
+    /// How many octets are held.
+    held: usize,
     offset: u64,
     progress: Progress,
 }
 
 impl Model for Cutter {
-    ghost use Rattle.std.specs.Prelude.{vec_capacity};
+    ghost use Rattle.std.specs.Prelude.{◌≤◌, take, vec_len};
     ghost use Rattle.osi_tpkt.specs.Held.{Held};
 
     ghost Value = { Held };
@@ -48,12 +61,12 @@ impl Model for Cutter {
 
     ghost view = { λ c. record {
       offset = c.offset;
-      octets = c.held.items;
+      octets = take c.held c.storage.items;
       fault = fault_of c.offset c.progress;
-      room = vec_capacity c.held;
+      room = vec_len c.storage;
     } };
 
-    ghost invariant = { λ c. IsKept c.offset c.held.items c.progress };
+    ghost invariant = { λ c. (c.held ≤ vec_len c.storage) × IsKept c.offset (take c.held c.storage.items) c.progress };
 }
 
 impl Cutter {
@@ -67,9 +80,10 @@ impl Cutter {
         ensures sound { IsHolding result }
     {
         Cutter {
-            held: Vec::new(alloc),
+            storage: Vec::new(alloc),
+            held: 0,
             offset: 0,
-            progress: Progress::Partial,
+            progress: Progress::Awaited,
         }
     }
 
@@ -81,7 +95,7 @@ impl Cutter {
     /// begins with the first octet, [`TpktFault::BadLength`] where none begins with the first four;
     /// either is answered from then on, and what was held stays. Want of memory changes nothing, and
     /// comes only where more octets are to be held than there is room for.
-    #[inline]
+    #[inline(always)]
     pub fn feed(&mut self, piece: &[u8]) -> Result<Fed, TpktFault>
         ensures used { IfOk result (λ fed. fed.used ≤ length piece.now) }
         ensures standing { IsOnePacket self.old.octets →
@@ -103,32 +117,64 @@ impl Cutter {
         ensures feeds { Feeds self.old piece.now result self.new }
         ensures sound { IsHolding self.new }
     {
-        match self.progress {
-            Progress::Refused(header) => return Err(header.at(self.offset)),
-            Progress::Whole => {
-                return Ok(Fed {
-                    used: 0,
-                    whole: true,
-                });
-            }
-            Progress::Partial => {}
+        if let Some(used) = self.take_whole(piece) {
+            return Ok(Fed { used, whole: true });
         }
-        let fed = match survey(self.held.as_slice(), piece) {
+        match self.progress {
+            Progress::Awaited | Progress::Partial => self.gather(piece),
+            Progress::Stopped(Stop::Whole) => Ok(Fed {
+                used: 0,
+                whole: true,
+            }),
+            Progress::Stopped(Stop::Refused(header)) => Err(header.at(self.offset)),
+        }
+    }
+
+    /// Takes the packet that stands whole at the front of a piece, where one is awaited and there is room
+    /// for it, and says how many octets it has. `None` in all other cases: then nothing has changed.
+    #[inline(always)]
+    fn take_whole(&mut self, piece: &[u8]) -> Option<usize>
+        ensures faultless { IfSome result (λ _. self.old.fault ≡ None) }
+        ensures partial { IfSome result (λ _. IsPartial self.old.octets) }
+        ensures taken { IfSome result (λ used. TakesPiece self.old piece.now (Ok (record { used = used; whole = true })) self.new) }
+        ensures none { IfNone result (self.new ≡ self.old) }
+        ensures sound { IfSome result (λ _. IsHolding self.new) }
+    {
+        let Progress::Awaited = self.progress else {
+            return None;
+        };
+        let used = put_first(&mut self.storage, piece)?;
+        self.held = used;
+        self.progress = Progress::Stopped(Stop::Whole);
+        Some(used)
+    }
+
+    /// What [`Cutter::feed`] does where no packet stands and no fault was answered.
+    #[inline(always)]
+    fn gather(&mut self, piece: &[u8]) -> Result<Fed, TpktFault>
+        requires faultless { self.old.fault ≡ None }
+        requires partial { IsPartial self.old.octets }
+        ensures empty { piece.now ≡ [] → IsOk result × (self.new ≡ self.old) }
+        ensures taken { TakesPiece self.old piece.now result self.new }
+    {
+        let fed = match survey(&self.storage.as_slice()[..self.held], piece) {
             Ok(fed) => fed,
             Err(header) => {
-                self.progress = Progress::Refused(header);
+                self.progress = Progress::Stopped(Stop::Refused(header));
                 return Err(header.at(self.offset));
             }
         };
         if fed.used == 0 {
             return Ok(fed);
         }
-        let Ok(()) = self.held.reserve(fed.used) else {
+        let Ok(()) = make_room(&mut self.storage, self.held, fed.used) else {
             return Err(TpktFault::OutOfMemory);
         };
-        self.held.extend_from_slice(&piece[..fed.used]).unwrap();
+        self.progress = Progress::Partial;
+        put(&mut self.storage, self.held, &piece[..fed.used]);
+        self.held += fed.used;
         if fed.whole {
-            self.progress = Progress::Whole;
+            self.progress = Progress::Stopped(Stop::Whole);
         }
         Ok(fed)
     }
@@ -142,8 +188,8 @@ impl Cutter {
         ensures sound { IsHolding self.now }
     {
         match self.progress {
-            Progress::Whole => Some(&self.held.as_slice()[4..]),
-            Progress::Partial | Progress::Refused(_) => None,
+            Progress::Stopped(Stop::Whole) => Some(&self.storage.as_slice()[4..self.held]),
+            Progress::Awaited | Progress::Partial | Progress::Stopped(Stop::Refused(_)) => None,
         }
     }
 
@@ -161,10 +207,14 @@ impl Cutter {
         ensures advances { Advances self.old self.new }
         ensures sound { IsHolding self.new }
     {
-        if let Progress::Whole = self.progress {
-            self.offset = self.offset.saturating_add(self.rest_len() as u64);
-            self.held.clear();
-            self.progress = Progress::Partial;
+        match self.progress {
+            Progress::Stopped(Stop::Whole) => {
+                self.offset = self.offset.saturating_add(self.held as u64);
+                self.held = 0;
+                self.progress = Progress::Awaited;
+            }
+            Progress::Stopped(Stop::Refused(_header)) => {}
+            Progress::Awaited | Progress::Partial => {}
         }
     }
 
@@ -180,21 +230,12 @@ impl Cutter {
         ensures all { IfNone result (self.old.octets ≡ [] → self.old.fault ≡ None → (u b rest : List ℕ) → IsPacket u b →
             piece.now ≢ b ++ rest) }
     {
-        let Progress::Partial = self.progress else {
+        let Progress::Awaited = self.progress else {
             return None;
         };
-        if !self.held.is_empty() {
-            return None;
-        }
-        let fed = match survey(&[], piece) {
-            Ok(fed) => fed,
-            Err(_header) => return None,
-        };
-        if !fed.whole {
-            return None;
-        }
-        self.offset = self.offset.saturating_add(fed.used as u64);
-        Some(&piece[4..fed.used])
+        let used = whole_length(piece)?;
+        self.offset = self.offset.saturating_add(used as u64);
+        Some(&piece[4..used])
     }
 
     /// The number of octets held: those of a packet that stands, or of the packet under way.
@@ -202,6 +243,7 @@ impl Cutter {
     pub fn rest_len(&self) -> usize
         ensures { result ≡ length self.now.octets }
     {
-        self.held.len()
+        let Cutter { held, .. } = self;
+        *held
     }
 }

@@ -1,7 +1,7 @@
 //! Headers of packets, in one piece or in several.
 
-ghost use Rattle.std.specs.Prelude.{◌≡◌, ◌≢◌, ◌<◌, ◌≤◌, ◌+◌, ◌*◌, ◌++◌, ◌↔◌, length, take, Err, IfOk, OnOk, false, MatchBool, MatchOption, slice_index};
-ghost use Rattle.osi_tpkt.specs.Packet.{IsBadVersion, IsBadLength};
+ghost use Rattle.std.specs.Prelude.{◌≡◌, ◌≢◌, ◌<◌, ◌≤◌, ◌+◌, ◌*◌, ◌++◌, ◌↔◌, ℕ, List, length, take, Err, IfOk, IfSome, IfNone, OnOk, false, MatchBool, MatchOption, slice_index};
+ghost use Rattle.osi_tpkt.specs.Packet.{IsPacket, IsBadVersion, IsBadLength};
 ghost use Rattle.osi_tpkt.specs.Header.{IsFront, IsFull, IsUnfinished};
 
 use crate::cutting::Fed;
@@ -59,7 +59,25 @@ pub(crate) fn survey(held: &[u8], piece: &[u8]) -> Result<Fed, HeaderFault>
     }
 }
 
-/// The same where nothing is held.
+/// How many octets the packet has that stands whole at the front of a piece, or `None` where none does.
+#[inline]
+pub(crate) fn whole_length(piece: &[u8]) -> Option<usize>
+    ensures within { IfSome result (λ used. used ≤ length piece.now) }
+    ensures front { IfSome result (λ used. IsFront (take used piece.now)) }
+    ensures full { IfSome result (λ used. IsFull (take used piece.now)) }
+    ensures none { IfNone result ((u b rest : List ℕ) → IsPacket u b → piece.now ≢ b ++ rest) }
+{
+    let [3, _, high, low, ..] = piece else {
+        return None;
+    };
+    let length = usize::from(*high) * 256 + usize::from(*low);
+    if length < 7 || piece.len() < length {
+        return None;
+    }
+    Some(length)
+}
+
+/// What [`survey`] says where nothing is held.
 #[inline]
 fn survey_first(piece: &[u8]) -> Result<Fed, HeaderFault>
     ensures used { IfOk result (λ fed. fed.used ≤ length piece.now) }
@@ -77,7 +95,7 @@ fn survey_first(piece: &[u8]) -> Result<Fed, HeaderFault>
     }
 }
 
-/// The same where the first octets are held, of which the version is right.
+/// What [`survey`] says where the first octets are held, of which the version is right.
 #[inline]
 fn survey_next(held: &[u8], piece: &[u8]) -> Result<Fed, HeaderFault>
     requires front { IsFront held.now }

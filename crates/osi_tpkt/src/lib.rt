@@ -12,6 +12,7 @@ mod faults;
 mod headers;
 pub mod laws;
 mod packets;
+mod storage;
 mod units;
 
 pub use cutting::{Cutter, Fed};

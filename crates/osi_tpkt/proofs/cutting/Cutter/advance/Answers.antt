@@ -1,13 +1,25 @@
-use Rattle.std.proofs.Common.{subst, arith, vec_capacity}
-use Rattle.osi_tpkt.specs.Held.{IsHolding}
-use Rattle.osi_tpkt.proofs.Holding.{holding_sound, begins}
+use Rattle.std.proofs.Common.{[], take, refl, vec_len, arith}
+use Rattle.osi_tpkt.proofs.Fronts.{partial_not_whole}
+use Rattle.osi_tpkt.proofs.Holding.{kept_sound, going_on, begins}
 use Rattle.osi_tpkt.proofs.cutting.Cutter.advance.Goals as goal
 
-pub returns-in-Whole-clause-sound : goal.returns-in-Whole-clause-sound
-returns-in-Whole-clause-sound c =
-    begins c.saturating_add-self-inside.result (vec_capacity c.clear.new.self) c.clear.new.self.items c.clear.ensures.items (omega arith)
+pub returns-in-Stopped-Whole-clause-sound : goal.returns-in-Stopped-Whole-clause-sound
+returns-in-Stopped-Whole-clause-sound c =
+    begins c.saturating_add-self-inside.result (vec_len c.self.inside.storage) [] refl (omega arith)
 
-pub returns-in_default-clause-sound : goal.returns-in_default-clause-sound
-returns-in_default-clause-sound c =
-    subst IsHolding c.self.view_is
-    (holding_sound c.self.inside.offset c.self.inside.held.items c.self.inside.progress (vec_capacity c.self.inside.held) c.self.invariant)
+pub returns-in-Stopped-Refused-clause-sound : goal.returns-in-Stopped-Refused-clause-sound
+returns-in-Stopped-Refused-clause-sound c =
+    kept_sound c.self.inside.offset (take c.self.inside.held c.self.inside.storage.items) c.self.inside.progress (vec_len c.self.inside.storage)
+    c.args.self.now c.self.invariant.1 c.self.view_is
+
+pub returns-in-Awaited : goal.returns-in-Awaited
+returns-in-Awaited c =
+    let on = going_on c.self.inside.offset (take c.self.inside.held c.self.inside.storage.items) c.self.inside.progress (vec_len c.self.inside.storage)
+    c.args.self.now c.in-Awaited.is c.self.invariant.1 c.self.view_is in
+    record {
+      whole = λ u h. absurd (partial_not_whole c.args.self.now.octets on.1 (u, h));
+      partial = λ _. refl;
+      advances = record { whole = λ u h. absurd (partial_not_whole c.args.self.now.octets on.1 (u, h)); partial = λ _. refl };
+      sound = kept_sound c.self.inside.offset (take c.self.inside.held c.self.inside.storage.items) c.self.inside.progress (vec_len c.self.inside.storage)
+          c.args.self.now c.self.invariant.1 c.self.view_is;
+    }

@@ -1,6 +1,6 @@
-use Rattle.std.proofs.Common.{vec_capacity, arith}
+use Rattle.std.proofs.Common.{[], refl, vec_len, arith}
 use Rattle.osi_tpkt.proofs.Holding.{begins}
 use Rattle.osi_tpkt.proofs.cutting.Cutter.new.Goals as goal
 
 pub returns-clause-sound : goal.returns-clause-sound
-returns-clause-sound c = begins 0 (vec_capacity c.new.result) c.new.result.items c.new.ensures.items (omega arith)
+returns-clause-sound c = begins 0 (vec_len c.new.result) [] refl (omega arith)

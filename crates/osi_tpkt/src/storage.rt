@@ -1,0 +1,99 @@
+//! The storage of a packet: octets that are all set, of which the first are those of the packet.
+
+ghost use Rattle.std.specs.Prelude.{◌≡◌, ◌+◌, ◌<◌, ◌≤◌, ◌++◌, length, take, false, IsTrue, IfSome, IfNone, OnOk, OnErr, vec_len};
+ghost use Rattle.osi_tpkt.specs.Header.{IsFront, IsFull};
+
+use crate::headers::whole_length;
+use std::alloc::AllocError;
+
+/// The least number of octets that storage grows by.
+const LEAST: usize = 64;
+
+/// Puts the packet that stands whole at the front of a piece at the front of the storage, and says how
+/// many octets it has. `None` where no packet stands there, or there is no room for it.
+#[inline(always)]
+pub(crate) fn put_first(storage: &mut Vec<u8>, piece: &[u8]) -> Option<usize>
+    ensures within { IfSome result (λ used. used ≤ length piece.now) }
+    ensures front { IfSome result (λ used. IsFront (take used piece.now)) }
+    ensures full { IfSome result (λ used. IsFull (take used piece.now)) }
+    ensures octets { IfSome result (λ used. take used storage.new.items ≡ take used piece.now) }
+    ensures none { IfNone result (storage.new.items ≡ storage.old.items) }
+    ensures room { vec_len storage.new ≡ vec_len storage.old }
+{
+    let used = whole_length(piece)?;
+    if put_block(storage, piece, used) {
+        return Some(used);
+    }
+    if storage.len() < used {
+        return None;
+    }
+    put(storage, 0, &piece[..used]);
+    Some(used)
+}
+
+/// Puts at least so many octets of a piece at the front of the storage, in one block, and says whether
+/// it did: it does where they are few, and the piece and the storage have as many as a block.
+#[inline(always)]
+fn put_block(storage: &mut Vec<u8>, piece: &[u8], used: usize) -> bool
+    ensures octets { IsTrue result → take used storage.new.items ≡ take used piece.now }
+    ensures none { result ≡ false → storage.new.items ≡ storage.old.items }
+    ensures room { vec_len storage.new ≡ vec_len storage.old }
+{
+    if used > 32 {
+        return false;
+    }
+    let Some(block) = piece.first_chunk::<32>() else {
+        return false;
+    };
+    let Some(room) = storage.as_mut_slice().first_chunk_mut::<32>() else {
+        return false;
+    };
+    *room = *block;
+    true
+}
+
+/// Puts octets into the storage behind its first `at`.
+#[inline(always)]
+pub(crate) fn put(storage: &mut Vec<u8>, at: usize, octets: &[u8])
+    requires fits { at + length octets.now ≤ vec_len storage.old }
+    ensures octets { take (at + length octets.now) storage.new.items ≡ take at storage.old.items ++ octets.now }
+    ensures room { vec_len storage.new ≡ vec_len storage.old }
+{
+    if let [octet] = octets {
+        storage[at] = *octet;
+    } else {
+        storage
+            .slice_mut(at..at + octets.len())
+            .copy_from_slice(octets);
+    }
+}
+
+/// Makes room for so many octets behind the first `held`, which stay. Want of memory changes nothing, and
+/// comes only where there was no room for them.
+#[inline]
+pub(crate) fn make_room(storage: &mut Vec<u8>, held: usize, more: usize) -> Result<(), AllocError>
+    requires { held ≤ vec_len storage.old }
+    ensures ok { OnOk result (held + more ≤ vec_len storage.new) }
+    ensures err { OnErr result (vec_len storage.new ≡ vec_len storage.old) }
+    ensures full { OnErr result (vec_len storage.old < held + more) }
+    ensures octets { take held storage.new.items ≡ take held storage.old.items }
+    ensures room { vec_len storage.old ≤ vec_len storage.new }
+{
+    if more <= storage.len() - held {
+        return Ok(());
+    }
+    grow(storage, more)
+}
+
+/// Makes room for so many more octets. What stands in the storage stays.
+#[cold]
+#[inline(never)]
+fn grow(storage: &mut Vec<u8>, more: usize) -> Result<(), AllocError>
+    ensures ok { OnOk result (vec_len storage.old + more ≤ vec_len storage.new) }
+    ensures err { OnErr result (vec_len storage.new ≡ vec_len storage.old) }
+    ensures octets { take (vec_len storage.old) storage.new.items ≡ storage.old.items }
+    ensures room { vec_len storage.old ≤ vec_len storage.new }
+{
+    storage.reserve(more.max(LEAST))?;
+    storage.resize(storage.capacity(), 0)
+}
