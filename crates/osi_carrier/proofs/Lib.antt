@@ -39,7 +39,6 @@ pub mod Outcomes
 pub mod OnTheWay
 pub mod Acting
 pub mod Linked
-pub mod PlainUnits
 pub mod Providing
 pub mod Betweens
 pub mod HandedIn

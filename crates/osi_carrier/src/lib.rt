@@ -10,7 +10,6 @@ mod faults;
 pub mod laws;
 mod links;
 mod negotiation;
-mod plain;
 mod rows;
 mod selectors;
 mod stages;

@@ -3,8 +3,7 @@
 ghost use Rattle.std.specs.Prelude.{◌≡◌, ◌+◌, ◌≤◌, ◌<◌, ◌∷◌, ◌++◌, [], length, option_map, option_copied, IfSome, OnOk, OnErr};
 ghost use Rattle.osi_tpkt.specs.Octets.{IsOctets};
 ghost use Rattle.osi_tpdu.specs.Limits.{size_code, selector_octets};
-ghost use Rattle.osi_tpdu.specs.Spelling.{below_bit};
-ghost use Rattle.osi_tpdu.specs.Value.{data0, data2, acknowledge, user_data, request, confirm, disconnect, disconnected, AreParameters, IsConnect, IsReference};
+ghost use Rattle.osi_tpdu.specs.Value.{user_data, request, confirm, disconnect, disconnected, AreParameters, IsConnect, IsReference};
 ghost use Rattle.osi_tpdu.specs.View.{value, parameter_values, request_content, confirm_content};
 ghost use Rattle.osi_tpdu.specs.Writing.{Fits, HasFewClasses};
 ghost use Rattle.osi_class.specs.Link.{FitsAUnit, given, unit_of};
@@ -14,8 +13,8 @@ use bytes::BytesMut;
 use osi_class::Out;
 use osi_tpdu::laws::written_form;
 use osi_tpdu::{
-    ConnectConfirm, ConnectParameters, ConnectRequest, DisconnectConfirm, DisconnectRequest,
-    Selector, SizeCode, Tpdu,
+    ConnectConfirm, ConnectParameters, ConnectRequest, DataAcknowledgement, DataClass0, DataClass2,
+    DisconnectConfirm, DisconnectRequest, Selector, SizeCode, Tpdu,
 };
 use osi_tpkt::{WriteError, write_in_packet};
 use std::alloc::AllocError;
@@ -164,90 +163,9 @@ pub fn put_confirm(out: &mut BytesMut, unit: &ConnectConfirm<'_>) -> Result<(), 
     put(out, &unit)
 }
 
-// ---- the units that are written most, each at once with its packet header
-
-/// The octet of a DT that has its number, 0 to 127, and EOT.
-fn with_end(end: bool, number: u8) -> u8
-    requires { number < 128 }
-    ensures { result ≡ below_bit end number }
-{
-    if end { 0x80 + number } else { number }
-}
-
-/// Appends a DT of class 0.
-#[inline(always)]
-#[tactic(auto, using(crate::proofs::Units::one_packet_of))]
-fn put_data0(out: &mut BytesMut, end: bool, octets: &[u8]) -> Result<(), AllocError>
-    requires { length octets.now ≤ 8189 }
-    ensures ok { OnOk result (out.new.items ≡ out.old.items ++ packets (data0 end octets.now ∷ [])) }
-    ensures err { OnErr result (out.new.items ≡ out.old.items) }
-    ensures spare { OnOk result (out.old.spare ≤ out.new.spare + (7 + length octets.now)) }
-    ensures full { OnErr result (out.old.spare < 7 + length octets.now) }
-{
-    let size = 7 + octets.len();
-    out.reserve(size)?;
-    let [high, low] = (size as u16).to_be_bytes();
-    out.extend_reserved(&[3, 0, high, low, 2, 0xF0, with_end(end, 0)]);
-    out.extend_reserved(octets);
-    Ok(())
-}
-
-/// Appends a DT of class 2 with this number, 0 to 127, to this reference of the peer.
-#[inline(always)]
-#[tactic(auto, using(crate::proofs::Units::one_packet_of))]
-fn put_data2(
-    out: &mut BytesMut,
-    peer: u16,
-    number: u8,
-    end: bool,
-    octets: &[u8],
-) -> Result<(), AllocError>
-    requires number { number < 128 }
-    requires short { length octets.now ≤ 8189 }
-    ensures ok { OnOk result (out.new.items ≡ out.old.items ++ packets (data2 peer number end octets.now ∷ [])) }
-    ensures err { OnErr result (out.new.items ≡ out.old.items) }
-    ensures spare { OnOk result (out.old.spare ≤ out.new.spare + (9 + length octets.now)) }
-    ensures full { OnErr result (out.old.spare < 9 + length octets.now) }
-{
-    let size = 9 + octets.len();
-    out.reserve(size)?;
-    let [high, low] = (size as u16).to_be_bytes();
-    let [to_high, to_low] = peer.to_be_bytes();
-    out.extend_reserved(&[
-        3,
-        0,
-        high,
-        low,
-        4,
-        0xF0,
-        to_high,
-        to_low,
-        with_end(end, number),
-    ]);
-    out.extend_reserved(octets);
-    Ok(())
-}
-
-/// Appends an AK with this number, 0 to 127, and credit, 0 to 15, to this reference of the peer.
-#[inline(always)]
-#[tactic(auto, using(crate::proofs::Units::one_packet_of))]
-fn put_ack(out: &mut BytesMut, peer: u16, number: u8, credit: u8) -> Result<(), AllocError>
-    requires number { number < 128 }
-    requires credit { credit < 16 }
-    ensures ok { OnOk result (out.new.items ≡ out.old.items ++ packets (acknowledge credit peer number ∷ [])) }
-    ensures err { OnErr result (out.new.items ≡ out.old.items) }
-    ensures spare { OnOk result (out.old.spare ≤ out.new.spare + 9) }
-    ensures full { OnErr result (out.old.spare < 9) }
-{
-    out.reserve(9)?;
-    let [to_high, to_low] = peer.to_be_bytes();
-    out.extend_reserved(&[3, 0, 0, 9, 4, 0x60 + credit, to_high, to_low, number]);
-    Ok(())
-}
-
 /// Appends a unit that a link gave, to this reference of the peer.
 #[inline(always)]
-#[tactic(auto, using(crate::proofs::Units::given_size))]
+#[tactic(auto, using(crate::proofs::Units::one_packet_of, crate::proofs::Units::given_size))]
 pub fn put_given(out: &mut BytesMut, peer: u16, unit: &Out<'_>) -> Result<(), AllocError>
     requires { FitsAUnit unit.now }
     ensures ok { OnOk result (out.new.items ≡ out.old.items ++ packets (unit_of peer (given unit.now) ∷ [])) }
@@ -256,12 +174,27 @@ pub fn put_given(out: &mut BytesMut, peer: u16, unit: &Out<'_>) -> Result<(), Al
     ensures full { OnErr result (out.old.spare < length (packets (unit_of peer (given unit.now) ∷ []))) }
 {
     match *unit {
-        Out::Data0 { end, octets } => put_data0(out, end, octets),
+        Out::Data0 { end, octets } => DataClass0 { end, user: octets }.write_packet(out),
         Out::Data2 {
             number,
             end,
             octets,
-        } => put_data2(out, peer, number, end, octets),
-        Out::Ack { number, credit } => put_ack(out, peer, number, credit),
+        } => {
+            let data = DataClass2 {
+                destination: peer,
+                number,
+                end,
+                user: octets,
+            };
+            data.write_packet(out)
+        }
+        Out::Ack { number, credit } => {
+            let ack = DataAcknowledgement {
+                credit,
+                destination: peer,
+                number,
+            };
+            ack.write_packet(out)
+        }
     }
 }

@@ -2,5 +2,6 @@ pub mod FaultLaws
 mod LeadCodes
 pub mod Loops
 pub mod PacketLaws
+pub mod PlainUnits
 pub mod UnitFaults
 pub mod WrittenUnits

@@ -17,6 +17,7 @@ mod limits;
 mod octets;
 mod packet;
 mod parameters;
+mod plain;
 mod reading;
 mod report;
 mod tsaps;

@@ -1,10 +1,9 @@
 //! Reading one unit (X.224 section 13).
 
-ghost use Rattle.std.specs.Prelude.{◌≡◌, ◌+◌, ◌<◌, ◌≤◌, ◌^◌, length, slice_index, nat_le, Ok, IfOk, IsOk};
+ghost use Rattle.std.specs.Prelude.{◌≡◌, ◌+◌, ◌<◌, ◌≤◌, ◌^◌, length, Ok, IfOk, IsOk};
 ghost use Rattle.osi_tpkt.specs.Octets.{IsOctets};
 ghost use Rattle.osi_tpdu.specs.Reading.{ReadsAs, header_at, connect_of, request_of, confirm_of, disconnect_of, disconnected_of, transfer_of, acknowledge_of, error_of, value_of, is_lead_code, used_by, unit_at};
 ghost use Rattle.osi_tpdu.specs.View.{connect_content, value};
-ghost use Rattle.osi_tpdu.specs.Value.{data0};
 ghost use Rattle.osi_tpdu.specs.Writing.{Fits};
 
 use crate::acknowledgement::DataAcknowledgement;
@@ -16,7 +15,7 @@ use crate::data_class_2::DataClass2;
 use crate::disconnect_confirm::DisconnectConfirm;
 use crate::disconnect_request::DisconnectRequest;
 use crate::faults::TpduFault;
-use crate::octets::{high_half, low_half, number, reference};
+use crate::octets::{high_half, low_half, reference};
 use crate::parameters::{read_parameters, skip_parameters};
 use crate::report::ErrorReport;
 use crate::unit::Tpdu;
@@ -155,18 +154,6 @@ fn read_disconnected<'a>(at: usize, header: &[u8]) -> Result<Tpdu<'a>, TpduFault
     }))
 }
 
-// A DT of class 0.
-#[inline(always)]
-fn data_class_0<'a>(header: &[u8], user: &'a [u8]) -> Tpdu<'a>
-    requires { 2 ≤ length header.now }
-    ensures { value result ≡ data0 (nat_le 128 (slice_index header.now 1)) user.now }
-{
-    Tpdu::Dt0(DataClass0 {
-        end: header[1] >= 0x80,
-        user,
-    })
-}
-
 // The length of its header tells the class of a DT.
 #[inline(always)]
 #[tactic(auto, unfolding(crate::specs::Reading::transfer_of))]
@@ -174,13 +161,8 @@ fn read_transfer<'a>(at: usize, header: &[u8], user: &'a [u8]) -> Result<Tpdu<'a
     ensures { ReadsAs value result (transfer_of at header.now user.now) }
 {
     match header.len() {
-        2 => Ok(data_class_0(header, user)),
-        4 => Ok(Tpdu::Dt2(DataClass2 {
-            destination: reference(1, header),
-            number: number(header[3]),
-            end: header[3] >= 0x80,
-            user,
-        })),
+        2 => Ok(Tpdu::Dt0(DataClass0::from_header(header[1], user))),
+        4 => Ok(Tpdu::Dt2(DataClass2::from_header(header[1], header[2], header[3], user))),
         _ => Err(TpduFault::BadLi(at)),
     }
 }
@@ -193,11 +175,7 @@ fn read_acknowledge<'a>(at: usize, header: &[u8]) -> Result<Tpdu<'a>, TpduFault>
     if header.len() != 4 {
         return Err(TpduFault::BadLi(at));
     }
-    Ok(Tpdu::Ak(DataAcknowledgement {
-        credit: low_half(header[0]),
-        destination: reference(1, header),
-        number: number(header[3]),
-    }))
+    Ok(Tpdu::Ak(DataAcknowledgement::from_header(header[0], header[1], header[2], header[3])))
 }
 
 #[inline(always)]
@@ -269,7 +247,7 @@ pub(crate) fn known_fields<'a>(at: usize, header: &'a [u8], user: &'a [u8]) -> T
         _ => match code {
             0x80 => known(read_disconnect(at, header, user)),
             0xC0 => known(read_disconnected(at, header)),
-            0xF0 if header.len() == 2 => data_class_0(header, user),
+            0xF0 if header.len() == 2 => Tpdu::Dt0(DataClass0::from_header(header[1], user)),
             0xF0 => known(read_transfer(at, header, user)),
             _ => known(read_error(at, header)),
         },

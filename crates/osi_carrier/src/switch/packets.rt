@@ -13,10 +13,9 @@ ghost use Rattle.osi_carrier.specs.Stages.{stage_of, link_in};
 
 use super::Switch;
 use crate::ends::{CarrierFault, EndReason};
-use crate::plain::{plain_ack, plain_data0, plain_data2};
 use crate::stages::Stage;
 use osi_class::Class;
-use osi_tpdu::{DataClass2, Tpdu, Units, read_units};
+use osi_tpdu::{DataAcknowledgement, DataClass0, DataClass2, Tpdu, Units, read_units};
 use osi_tpkt::TpktFault;
 
 impl Switch {
@@ -42,7 +41,7 @@ impl Switch {
         requires class { self.old.class ≡ Some Class.Zero }
         ensures { Acts self.old packet.now self.new }
     {
-        let Some(data) = plain_data0(packet) else {
+        let Some(data) = DataClass0::from_packet(packet) else {
             return self.take_any(packet);
         };
         let Some(reference) = self.live.first() else {
@@ -62,10 +61,10 @@ impl Switch {
         requires class { self.old.class ≡ Some Class.Two }
         ensures { Acts self.old packet.now self.new }
     {
-        if let Some(unit) = plain_data2(packet) {
+        if let Some(unit) = DataClass2::from_packet(packet) {
             return self.take_data(packet, unit);
         }
-        let Some(ack) = plain_ack(packet) else {
+        let Some(ack) = DataAcknowledgement::from_packet(packet) else {
             return self.take_any(packet);
         };
         let reference = ack.destination;

@@ -1,0 +1,145 @@
+//! Packets of one DT or one AK, which are nearly all: read straight from their octets, and written at
+//! once with the header of the packet.
+
+ghost use Rattle.std.specs.Prelude.{◌≡◌, ◌+◌, ◌≤◌, ◌<◌, ◌∷◌, ◌++◌, [], length, ℕ, Bool, List, Ok, IfSome, IsSomeAnd, OnOk, OnErr};
+ghost use Rattle.bytes.specs.Filled.{UsesSpare};
+ghost use Rattle.osi_tpkt.specs.Packet.{IsPacket, packet_of};
+ghost use Rattle.osi_tpdu.specs.Packet.{units_of};
+ghost use Rattle.osi_tpdu.specs.Spelling.{Spells};
+ghost use Rattle.osi_tpdu.specs.Value.{data0, data2, acknowledge};
+ghost use Rattle.osi_tpdu.specs.View.{value};
+ghost use Rattle.osi_tpdu.specs.Writing.{written};
+ghost use Rattle.osi_tpdu.specs.declared.unit.Tpdu.TheVariants.{Dt0, Dt2, Ak};
+
+use crate::acknowledgement::DataAcknowledgement;
+use crate::data_class_0::DataClass0;
+use crate::data_class_2::DataClass2;
+use crate::octets::high_half;
+use crate::writing::put_octets;
+use bytes::BytesMut;
+use std::alloc::AllocError;
+
+impl<'a> DataClass0<'a> {
+    /// The DT of class 0 of a packet that holds it and nothing else (X.224 section 13.7); `None` for every
+    /// other packet, a bad one too.
+    #[inline(always)]
+    #[tactic(auto, using(crate::proofs::PlainUnits::data0_found, crate::proofs::PlainUnits::data0_read))]
+    pub fn from_packet(packet: &'a [u8]) -> Option<DataClass0<'a>>
+        // What is given is spelled so, and what is spelled so is given.
+        ensures found { IfSome result (λ d. Spells (value (Dt0 d)) packet.now) }
+        ensures only { (end : Bool) (user : List ℕ) → Spells (data0 end user) packet.now →
+            IsSomeAnd result (λ d. value (Dt0 d) ≡ data0 end user) }
+        ensures exact { IfSome result (λ d. units_of packet.now ≡ Ok (value (Dt0 d) ∷ [])) }
+    {
+        let [2, 0xF0, last, user @ ..] = packet else {
+            return None;
+        };
+        Some(DataClass0::from_header(*last, user))
+    }
+
+    /// Appends the unit, of at most 65,528 octets of user data, in a packet of its own. An `Err` leaves the
+    /// octets of `out` as they were, and comes only where `out` had no room and got none.
+    #[inline(always)]
+    #[tactic(auto, using(crate::proofs::PlainUnits::data0_spelled, crate::proofs::PlainUnits::data0_again))]
+    pub fn write_packet(&self, out: &mut BytesMut) -> Result<(), AllocError>
+        requires { length self.now.user.now ≤ 65528 }
+        ensures ok { OnOk result (out.new.items ≡ out.old.items ++ packet_of (written (value (Dt0 self.now)))) }
+        // What is appended is a packet, which spells the unit and is read as it.
+        ensures packet { OnOk result (IsPacket (written (value (Dt0 self.now))) (packet_of (written (value (Dt0 self.now))))) }
+        ensures spelled { OnOk result (Spells (value (Dt0 self.now)) (written (value (Dt0 self.now)))) }
+        ensures again { OnOk result (units_of (written (value (Dt0 self.now))) ≡ Ok (value (Dt0 self.now) ∷ [])) }
+        ensures err { OnErr result (out.new.items ≡ out.old.items) }
+        ensures full { OnErr result (out.old.spare < length (written (value (Dt0 self.now))) + 4) }
+        // The room that was there is used for what is written, and for nothing else.
+        ensures spare { UsesSpare result out.old.spare out.new.spare (length (written (value (Dt0 self.now))) + 4) }
+    {
+        let size = 7 + self.user.len();
+        out.reserve(size)?;
+        let [high, low] = (size as u16).to_be_bytes();
+        let [li, code, last] = self.header();
+        out.extend_reserved(&[3, 0, high, low, li, code, last]);
+        put_octets(out, self.user);
+        Ok(())
+    }
+}
+
+impl<'a> DataClass2<'a> {
+    /// The DT of class 2 of a packet that holds it and nothing else (X.224 section 13.7); `None` for every
+    /// other packet, a bad one too.
+    #[inline(always)]
+    #[tactic(auto, using(crate::proofs::PlainUnits::data2_found, crate::proofs::PlainUnits::data2_read))]
+    pub fn from_packet(packet: &'a [u8]) -> Option<DataClass2<'a>>
+        ensures found { IfSome result (λ d. Spells (value (Dt2 d)) packet.now) }
+        ensures only { (destination number : ℕ) (end : Bool) (user : List ℕ) → Spells (data2 destination number end user) packet.now →
+            IsSomeAnd result (λ d. value (Dt2 d) ≡ data2 destination number end user) }
+        ensures exact { IfSome result (λ d. units_of packet.now ≡ Ok (value (Dt2 d) ∷ [])) }
+    {
+        let [4, 0xF0, high, low, last, user @ ..] = packet else {
+            return None;
+        };
+        Some(DataClass2::from_header(*high, *low, *last, user))
+    }
+
+    /// Appends the unit, of at most 65,526 octets of user data, in a packet of its own. An `Err` leaves the
+    /// octets of `out` as they were, and comes only where `out` had no room and got none.
+    #[inline(always)]
+    #[tactic(auto, using(crate::proofs::PlainUnits::data2_spelled, crate::proofs::PlainUnits::data2_again))]
+    pub fn write_packet(&self, out: &mut BytesMut) -> Result<(), AllocError>
+        requires { length self.now.user.now ≤ 65526 }
+        ensures ok { OnOk result (out.new.items ≡ out.old.items ++ packet_of (written (value (Dt2 self.now)))) }
+        ensures packet { OnOk result (IsPacket (written (value (Dt2 self.now))) (packet_of (written (value (Dt2 self.now))))) }
+        ensures spelled { OnOk result (Spells (value (Dt2 self.now)) (written (value (Dt2 self.now)))) }
+        ensures again { OnOk result (units_of (written (value (Dt2 self.now))) ≡ Ok (value (Dt2 self.now) ∷ [])) }
+        ensures err { OnErr result (out.new.items ≡ out.old.items) }
+        ensures full { OnErr result (out.old.spare < length (written (value (Dt2 self.now))) + 4) }
+        ensures spare { UsesSpare result out.old.spare out.new.spare (length (written (value (Dt2 self.now))) + 4) }
+    {
+        let size = 9 + self.user.len();
+        out.reserve(size)?;
+        let [high, low] = (size as u16).to_be_bytes();
+        let [li, code, to_high, to_low, last] = self.header();
+        out.extend_reserved(&[3, 0, high, low, li, code, to_high, to_low, last]);
+        put_octets(out, self.user);
+        Ok(())
+    }
+}
+
+impl DataAcknowledgement {
+    /// The AK of a packet that holds it and nothing else (X.224 section 13.9); `None` for every other packet,
+    /// a bad one too.
+    #[inline(always)]
+    #[tactic(auto, using(crate::proofs::PlainUnits::ack_found, crate::proofs::PlainUnits::ack_read))]
+    pub fn from_packet(packet: &[u8]) -> Option<DataAcknowledgement>
+        ensures found { IfSome result (λ a. Spells (value (Ak a)) packet.now) }
+        ensures only { (credit destination number : ℕ) → Spells (acknowledge credit destination number) packet.now →
+            IsSomeAnd result (λ a. value (Ak a) ≡ acknowledge credit destination number) }
+        ensures exact { IfSome result (λ a. units_of packet.now ≡ Ok (value (Ak a) ∷ [])) }
+    {
+        let [4, first, high, low, last] = packet else {
+            return None;
+        };
+        if high_half(*first) != 0x6 {
+            return None;
+        }
+        Some(DataAcknowledgement::from_header(*first, *high, *low, *last))
+    }
+
+    /// Appends the unit in a packet of its own. An `Err` leaves the octets of `out` as they were, and comes
+    /// only where `out` had no room and got none.
+    #[inline(always)]
+    #[tactic(auto, using(crate::proofs::PlainUnits::ack_spelled, crate::proofs::PlainUnits::ack_again))]
+    pub fn write_packet(&self, out: &mut BytesMut) -> Result<(), AllocError>
+        ensures ok { OnOk result (out.new.items ≡ out.old.items ++ packet_of (written (value (Ak self.now)))) }
+        ensures packet { OnOk result (IsPacket (written (value (Ak self.now))) (packet_of (written (value (Ak self.now))))) }
+        ensures spelled { OnOk result (Spells (value (Ak self.now)) (written (value (Ak self.now)))) }
+        ensures again { OnOk result (units_of (written (value (Ak self.now))) ≡ Ok (value (Ak self.now) ∷ [])) }
+        ensures err { OnErr result (out.new.items ≡ out.old.items) }
+        ensures full { OnErr result (out.old.spare < length (written (value (Ak self.now))) + 4) }
+        ensures spare { UsesSpare result out.old.spare out.new.spare (length (written (value (Ak self.now))) + 4) }
+    {
+        out.reserve(9)?;
+        let [li, code, to_high, to_low, last] = self.header();
+        out.extend_reserved(&[3, 0, 0, 9, li, code, to_high, to_low, last]);
+        Ok(())
+    }
+}
