@@ -298,3 +298,7 @@ pub said_data : ((m : Meaning) → IsSendable m → tsdu_at (written m) ≡ Ok (
     → (octets : List ℕ) → said_at (written (DT octets)) ≡ Ok (says (GT no_token) ∷ says (DT octets) ∷ [])
 unfolding is_second user_data_of
 said_data read said octets = said_whole read said (DT octets) (record { version = refl; numbered = tt; sized = refl; addressed = tt; short = omega arith })
+
+pub data_said : ((m : Meaning) → IsSendable m → tsdu_at (written m) ≡ Ok (spelled m)) → ((m : Meaning) → IsSendable m → said_by_units (spelled m) ≡ words_of m)
+    → (octets tsdu : List ℕ) → tsdu ≡ data_octets octets → said_at tsdu ≡ Ok (says (GT no_token) ∷ says (DT octets) ∷ [])
+data_said read said octets tsdu e = ap said_at (e ∙ sym (data_written octets)) ∙ said_data read said octets

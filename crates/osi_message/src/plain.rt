@@ -2,12 +2,13 @@
 //! synchronization point or its confirmation with no parameter but its number, behind a GT that names
 //! no token.
 
-ghost use Rattle.std.specs.Prelude.{◌≡◌, ◌+◌, ◌%◌, ◌≤◌, true, [], Ok, IfOk, IfSome};
+ghost use Rattle.std.specs.Prelude.{◌≡◌, ◌+◌, ◌%◌, ◌≤◌, true, [], ◌∷◌, Ok, IfOk, IfSome};
 ghost use Rattle.osi_spdu.specs.Values.{digits_of};
-ghost use Rattle.osi_message.specs.Meanings.{DT, MIP, MIA, meant_by};
+ghost use Rattle.osi_message.specs.Meanings.{DT, GT, MIP, MIA, meant_by};
 ghost use Rattle.osi_message.specs.Plain.{plain_meaning, plain_octets, plain_said, data_octets, point_octets, has_zero_in_front};
 ghost use Rattle.osi_message.specs.Reading.{said_at};
-ghost use Rattle.osi_message.specs.Words.{part_head};
+ghost use Rattle.osi_message.specs.Tokens.{no_token};
+ghost use Rattle.osi_message.specs.Words.{part_head, says};
 ghost use Rattle.osi_message.specs.Written.{written};
 
 use crate::laws;
@@ -63,6 +64,7 @@ fn digit(number: u32) -> u8
 }
 
 /// The octets of a TSDU with a DT.
+#[inline(always)]
 #[tactic(auto, using(crate::proofs::PlainLaws::data_written))]
 pub(crate) fn data(alloc: Global, user_data: &[u8]) -> Result<Vec<u8>, AllocError>
     ensures { IfOk result (λ v. v.items ≡ written (DT user_data.now)) }
@@ -273,6 +275,17 @@ impl<'a> PlainUnit<'a> {
         laws::what_a_part_says();
         let unit = plain_unit(tsdu)?;
         Some(unit)
+    }
+
+    /// The user data of whole data, where the octets of a TSDU are its written form: what
+    /// [`PlainUnit::read`] finds there.
+    #[inline(always)]
+    pub fn data(tsdu: &'a [u8]) -> Option<&'a [u8]>
+        ensures { IfSome result (λ d. said_at tsdu.now ≡ Ok (says (GT no_token) ∷ says (DT d.now) ∷ [])) }
+    {
+        laws::what_is_sent_is_read();
+        let user_data = data_of(tsdu)?;
+        Some(user_data)
     }
 
     /// The message as which it is judged: a part as data.

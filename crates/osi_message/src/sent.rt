@@ -1,10 +1,10 @@
 //! A message as the octets in which it is sent.
 
-ghost use Rattle.std.specs.Prelude.{◌≡◌, ◌<◌, true, [], ◌∷◌, length, map, IfOk, IfErr, OnErr};
+ghost use Rattle.std.specs.Prelude.{◌≡◌, ◌<◌, true, false, [], ◌∷◌, length, map, IfOk, IfErr, OnErr};
 ghost use Rattle.osi_spdu.specs.Groups.{units_of};
 ghost use Rattle.osi_spdu.specs.Values.{is_size};
 ghost use Rattle.osi_spdu.specs.Writing.{tsdu_octets, TsduFits};
-ghost use Rattle.osi_message.specs.Meanings.{DT, meant_by};
+ghost use Rattle.osi_message.specs.Meanings.{DT, MIP, MIA, meant_by};
 ghost use Rattle.osi_message.specs.Parting.{in_one, is_whole, tsdus_of};
 ghost use Rattle.osi_message.specs.Written.{user_data_of};
 
@@ -13,7 +13,7 @@ use crate::parts::parts;
 use crate::plain;
 use crate::tsdus::Tsdus;
 use bytes::BytesMut;
-use osi_spdu::{Group, write_tsdu};
+use osi_spdu::{Group, Serial, write_tsdu};
 use std::alloc::{AllocError, Global};
 use std::marker::Model;
 use std::slice;
@@ -43,6 +43,37 @@ fn by_units(alloc: Global, message: &Message) -> Result<Sent, AllocError>
     ensures { IfOk result (λ s. s ≡ in_one (meant_by message.now)) }
 {
     Sent::written(alloc, &message.group())
+}
+
+/// A minor point by its units.
+#[inline(never)]
+#[tactic(auto, unfolding(crate::specs::Written::user_data_of))]
+fn point_by_units(
+    alloc: Global,
+    confirm: bool,
+    number: Serial,
+    user_data: &[u8],
+) -> Result<Sent, AllocError>
+    requires { length user_data.now < 65000 }
+    ensures { IfOk result (λ s. s ≡ in_one (MIP confirm number.number user_data.now)) }
+{
+    let message = Message::MinorPoint {
+        confirm,
+        number,
+        user_data,
+    };
+    by_units(alloc, &message)
+}
+
+/// The confirmation of a minor point by its units.
+#[inline(never)]
+#[tactic(auto, unfolding(crate::specs::Written::user_data_of))]
+fn ack_by_units(alloc: Global, number: Serial, user_data: &[u8]) -> Result<Sent, AllocError>
+    requires { length user_data.now < 65000 }
+    ensures { IfOk result (λ s. s ≡ in_one (MIA number.number user_data.now)) }
+{
+    let message = Message::MinorAck { number, user_data };
+    by_units(alloc, &message)
 }
 
 impl Sent {
@@ -108,7 +139,8 @@ impl Sent {
     /// Data (X.225 section 6.3.5, segmenting), where a TSDU has at most so many octets, 0 for no limit:
     /// whole where its TSDU is within the limit, else in parts, of which all but the last are as long
     /// as the limit. All of them are written, or none.
-    #[tactic(auto, using(crate::proofs::SentLaws::sent_whole, crate::proofs::SentLaws::sent_parted, crate::proofs::SentLaws::some_octets, crate::proofs::SentLaws::more_octets))]
+    #[inline(always)]
+    #[tactic(auto, using(crate::proofs::SentLaws::sent_whole))]
     pub fn data(alloc: Global, limit: u16, user_data: &[u8]) -> Result<Sent, AllocError>
         requires { is_size limit ≡ true }
         ensures { IfOk result (λ s. s ≡ tsdus_of limit (DT user_data.now)) }
@@ -117,10 +149,55 @@ impl Sent {
             let octets = plain::data(alloc, user_data)?;
             return Ok(Sent::one(octets));
         }
+        Sent::in_parts(alloc, limit, user_data)
+    }
+
+    /// Data that is longer than the limit, in parts. It stands out of line: else the room for them would
+    /// be made on the way of data that is whole, too.
+    #[inline(never)]
+    #[tactic(auto, using(crate::proofs::SentLaws::sent_parted, crate::proofs::SentLaws::some_octets, crate::proofs::SentLaws::more_octets))]
+    fn in_parts(alloc: Global, limit: u16, user_data: &[u8]) -> Result<Sent, AllocError>
+        requires sized { is_size limit ≡ true }
+        requires long { is_whole limit user_data.now ≡ false }
+        ensures { IfOk result (λ s. s ≡ tsdus_of limit (DT user_data.now)) }
+    {
         let tsdus = parts(alloc, limit as usize - 7, user_data)?;
         Ok(Sent {
             tsdus: Tsdus::Parts(tsdus),
         })
+    }
+
+    /// A minor point (MIP), in one TSDU. One that asks for its confirmation is written straight where it
+    /// has no user data.
+    #[inline]
+    pub fn minor_point(
+        alloc: Global,
+        confirm: bool,
+        number: Serial,
+        user_data: &[u8],
+    ) -> Result<Sent, AllocError>
+        requires { length user_data.now < 65000 }
+        ensures { IfOk result (λ s. s ≡ in_one (MIP confirm number.number user_data.now)) }
+    {
+        if confirm && user_data.is_empty() {
+            let octets = plain::minor_point(alloc, number)?;
+            return Ok(Sent::one(octets));
+        }
+        point_by_units(alloc, confirm, number, user_data)
+    }
+
+    /// The confirmation of a minor point (MIA), in one TSDU. It is written straight where it has no user
+    /// data.
+    #[inline]
+    pub fn minor_ack(alloc: Global, number: Serial, user_data: &[u8]) -> Result<Sent, AllocError>
+        requires { length user_data.now < 65000 }
+        ensures { IfOk result (λ s. s ≡ in_one (MIA number.number user_data.now)) }
+    {
+        if user_data.is_empty() {
+            let octets = plain::minor_ack(alloc, number)?;
+            return Ok(Sent::one(octets));
+        }
+        ack_by_units(alloc, number, user_data)
     }
 
     /// A message, where a TSDU has at most so many octets, 0 for no limit: data as [`Sent::data`] writes

@@ -8,16 +8,15 @@ use Rattle.osi_session.specs.declared.indications.Indication.{Indication}
 use Rattle.osi_session.specs.declared.phases.Phase.{Phase}
 use Rattle.osi_session.specs.declared.phases.Phase.TheVariants.{Ready, Releasing}
 use Rattle.osi_session.specs.declared.state.State.{State}
-use Rattle.osi_session.specs.declared.taken.Taken.{Taken}
 use Rattle.osi_session.specs.Joining.{Taker, Hearing, heard, kept_in, respond_came}
-use Rattle.osi_session.specs.Listening.{Listener, Move, moved, react, came_as, taker_of}
+use Rattle.osi_session.specs.Listening.{Listener, Move, react, came_as, taker_of}
 use Rattle.osi_session.specs.Phases.{takes_data}
 use Rattle.osi_session.specs.Respond.{respond_unit, shows, take_expected}
-use Rattle.osi_session.specs.Sessions.{Takes, takes_memory}
+use Rattle.osi_session.specs.Points.{only_shows}
+use Rattle.osi_session.specs.Sessions.{takes_memory}
 use Rattle.osi_session.specs.Shown.{Data, shown_by}
-use Rattle.osi_session.specs.Steps.{shown_list, takes_room}
+use Rattle.osi_session.specs.Steps.{takes_room}
 use Rattle.osi_session.proofs.MoveLaws.{came_is}
-use Rattle.osi_session.proofs.SessionMoves.{takes_as, takes_shown}
 use Rattle.osi_session.proofs.WordLaws.{kept_none, plain_word, word_behind}
 
 in_phase : (s : State) (octets : List ℕ) (p : Phase) → s.phase ≡ p → takes_data p ≡ true → s.held.data_token ≡ false → respond_unit s (DT octets) ≡ shows s (Data octets)
@@ -46,18 +45,17 @@ none_joined None b h k = refl
 none_joined (Some x) b h k = absurd (cc)
 
 -- and is shown, and changes nothing
-pub data_taken : {E : Type 0} (t : Taken) (l : Listener) (s : State) (j : Option (List ℕ)) (b : Bool) (read : Result Words SpduFault) (o : Option Indication) (i : Indication) → s ≡ l.state → j ≡ l.joined
+pub data_shows : (l : Listener) (s : State) (j : Option (List ℕ)) (b : Bool) (read : Result Words SpduFault) (o : Option Indication) (i : Indication) → s ≡ l.state → j ≡ l.joined
     → b ≡ is_some j → IfSome o (λ i. (b ≡ false) × (respond_came (record { state = s; joined = None }) read ≡ heard None (shows s (shown_by i)))) → o ≡ Some i
-    → t.first ≡ Some i → t.more.items ≡ [] → (t.reply ≡ None) × (t.closes ≡ false) → (let r : Result Taken E = Ok t in Takes r (react l (came_as read)) l l)
-data_taken t l s j b read o i e f n some is first more others =
+    → react l (came_as read) ≡ only_shows l (shown_by i)
+data_shows l s j b read o i e f n some is =
     let h = subst (λ (x : Option Indication). IfSome x (λ i. (b ≡ false) × (respond_came (record { state = s; joined = None }) read ≡ heard None (shows s (shown_by i))))) is some in
     let z : l.joined ≡ None = sym f ∙ none_joined j b n h.0 in
     let k : respond_came (taker_of l) read ≡ heard None (shows l.state (shown_by i)) =
     ap (λ (x : Option (List ℕ)). respond_came (record { state = l.state; joined = x }) read) z
     ∙ subst (λ (x : State). respond_came (record { state = x; joined = None }) read ≡ heard None (shows x (shown_by i))) e h.1 in
-    let g : l.joined ≡ kept_in l.state.phase None = z ∙ sym (kept_none l.state.phase) in
-    takes_as (Ok t) (moved l (heard None (shows l.state (shown_by i)))) (react l (came_as read)) l l (sym (came_is l read (heard None (shows l.state (shown_by i))) k))
-    (takes_shown t l l (heard None (shows l.state (shown_by i))) (λ i. record { state = l.state; waiting = l.waiting; joined = g i }) (ap shown_list first) more others refl refl)
+    let g : kept_in l.state.phase None ≡ l.joined = kept_none l.state.phase ∙ sym z in
+    came_is l read (heard None (shows l.state (shown_by i))) k ∙ (λ k. only_shows (record { state = l.state; waiting = l.waiting; joined = g k }) (shown_by i))
 
 -- where there is no memory for it
 pub data_refused : (l : Listener) (s : State) (j : Option (List ℕ)) (b : Bool) (read : Result Words SpduFault) → s ≡ l.state → j ≡ l.joined

@@ -30,6 +30,7 @@ pub mod RoomLaws
 pub mod FollowLaws
 pub mod SessionMoves
 pub mod DataLaws
+pub mod PointLaws
 pub mod HearingLaws
 pub mod WordLaws
 pub mod WordCases

@@ -8,6 +8,7 @@ pub mod Moves
 pub mod Numbers
 pub mod Openings
 pub mod Phases
+pub mod Points
 pub mod Respond
 pub mod Restarts
 pub mod Runs

@@ -19,7 +19,7 @@ use crate::phases::Phase;
 use crate::requests::Request;
 use crate::selected::{FunctionalUnits, is_profile};
 use crate::sides::{Sides, offered};
-use crate::sizes::{answered_sizes, fits_limit, fits_limit_of};
+use crate::sizes::{answered_sizes, fits_ack, fits_limit, fits_point};
 use crate::state::State;
 use osi_message::{Message, Tokens};
 use osi_spdu::{Requirements, ResyncType, Serial, TokenSet, TokenSetting, TsduSizes};
@@ -598,12 +598,7 @@ pub(crate) fn allow_minor(
     if user_data.len() > MOST_USER_DATA {
         return Err(CallError::TooLong);
     }
-    let sent = Message::MinorPoint {
-        confirm,
-        number,
-        user_data,
-    };
-    if !fits_limit_of(state, &sent) {
+    if !fits_point(state, confirm, number, user_data) {
         return Err(CallError::TooLong);
     }
     let numbers = state.numbers.point_sent();
@@ -639,11 +634,7 @@ pub(crate) fn allow_minor_confirm(
         return Err(CallError::TooLong);
     }
     let serial = Serial { number };
-    let sent = Message::MinorAck {
-        number: serial,
-        user_data,
-    };
-    if !fits_limit_of(state, &sent) {
+    if !fits_ack(state, serial, user_data) {
         return Err(CallError::TooLong);
     }
     Ok(Point {

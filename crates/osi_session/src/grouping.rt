@@ -19,9 +19,6 @@ use osi_message::{Octets, PlainUnit};
 use osi_spdu::{Group, SpduFault, read_tsdu};
 use std::alloc::{AllocError, Global};
 
-/// The SI of a DT, which stands behind a GT that names no token.
-const DATA_TRANSFER: u8 = 0x01;
-
 /// What the units of a TSDU do: the state after them, what they leave of the octets that are joined,
 /// the indications in their order, at most one unit that is sent, and whether the transport connection
 /// is closed.
@@ -206,6 +203,7 @@ fn expects_data(state: &State) -> bool
 
 /// The indication of a TSDU with whole data that is expected, where nothing is unfinished; none of any
 /// other.
+#[inline(always)]
 #[tactic(auto, using(crate::proofs::DataLaws::data_comes, crate::proofs::DataLaws::data_takes))]
 pub(crate) fn expected_data(
     alloc: Global,
@@ -218,10 +216,7 @@ pub(crate) fn expected_data(
     ensures err { OnErr result ((is_unfinished ≡ false)
         × (takes_room None (respond_came (record { state = state.now; joined = None }) (said_at tsdu.now)) ≡ true)) }
 {
-    let [_, _, DATA_TRANSFER, ..] = tsdu else {
-        return Ok(None);
-    };
-    let Some(PlainUnit::Data { user_data }) = PlainUnit::read(tsdu) else {
+    let Some(user_data) = PlainUnit::data(tsdu) else {
         return Ok(None);
     };
     if is_unfinished {

@@ -3,6 +3,7 @@
 #![tactic(auto)]
 
 mod calling;
+mod expected;
 mod faults;
 mod grouping;
 mod hearing;
@@ -27,9 +28,10 @@ mod words;
 
 pub use faults::{CallError, UnitFault};
 pub use indications::{AbortCause, Indication};
+pub use numbers::Numbers;
 pub use opening::Opening;
 pub use phases::Phase;
-pub use plans::Plan;
+pub use plans::{Plan, PlannedPoint};
 pub use requests::Request;
 pub use selected::is_profile;
 pub use sessions::Session;

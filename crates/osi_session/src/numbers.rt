@@ -6,7 +6,7 @@ ghost use Rattle.osi_session.specs.Numbers.{from_base, point_sent, point_taken, 
 /// The numbers of synchronization points (X.225 section 5.9): V(M), V(A), V(R), and whether the
 /// points were last taken, so that this end answers them.
 #[derive(Clone, Copy, PartialEq, Eq, Debug)]
-pub(crate) struct Numbers {
+pub struct Numbers {
     /// V(M): the number of the next point.
     pub(crate) next: u32,
     /// V(A): the lowest number that is not yet confirmed.

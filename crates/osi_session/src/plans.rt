@@ -2,6 +2,7 @@
 
 ghost use Rattle.std.specs.Prelude.{◌≡◌};
 
+use crate::numbers::Numbers;
 use crate::state::State;
 use osi_message::Sent;
 use std::marker::Model;
@@ -35,4 +36,14 @@ impl Plan {
     {
         &self.sent
     }
+}
+
+/// A minor point, or the confirmation of one, that may be sent: the numbers of the session are all that
+/// it changes. It is made by `Session::plan_minor` and `Session::plan_minor_confirm`.
+#[derive(Drop)]
+pub struct PlannedPoint {
+    /// What is to be sent.
+    pub sent: Sent,
+    /// The numbers behind it, for `Session::advance`.
+    pub numbers: Numbers,
 }

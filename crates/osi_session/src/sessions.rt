@@ -10,7 +10,7 @@ ghost use Rattle.osi_message.specs.Parting.{in_one, tsdus_sent};
 ghost use Rattle.osi_message.specs.Written.{user_data_of};
 ghost use Rattle.osi_session.specs.Sizes.{limit_of};
 
-use crate::calling::{MOST_USER_DATA, allow_data, allow_minor, allow_minor_confirm, decide};
+use crate::calling::{MOST_USER_DATA, allow_data, decide};
 use crate::faults::CallError;
 use crate::grouping::{Reactions, expected_data, take_all, take_read, unread};
 use crate::hearing::{Heard, Joined, take_says};
@@ -29,6 +29,8 @@ use osi_message::{Message, Octets, Place, PlainUnit, Sent, laws};
 use osi_spdu::{Group, SpduFault, TokenSet};
 use std::alloc::{AllocError, Global};
 use std::marker::Model;
+
+mod points;
 
 /// One side of one session connection (X.225 version 2): which call its user may make now, what
 /// each unit that comes does, who holds which token, and which number the next synchronization
@@ -100,9 +102,10 @@ impl Session {
     ghost use Rattle.osi_spdu.specs.Groups.{units_of};
     ghost use Rattle.osi_message.specs.Reading.{said_by_units};
     ghost use Rattle.osi_message.specs.Tokens.{named, token_octet};
-    ghost use Rattle.osi_session.specs.Calls.{Data, Minor, MinorConfirm, called_by};
+    ghost use Rattle.osi_session.specs.Calls.{Data, called_by};
     ghost use Rattle.osi_session.specs.Listening.{called, taken, unread, came, opened, refused, broken, in_state, moved, react, taker_of};
     ghost use Rattle.osi_session.specs.Phases.{is_wait_transport};
+    ghost use Rattle.osi_session.specs.Points.{only_shows};
     ghost use Rattle.osi_session.specs.Respond.{fine};
     ghost use Rattle.osi_session.specs.Sessions.{Refused, CanBeSent, IsPlanOf, opens, refusal_of, awaits, shown_in, takes_memory, Takes};
     ghost use Rattle.osi_session.specs.Shown.{shown_by};
@@ -237,6 +240,7 @@ impl Session {
     /// A call of the user (X.225 section 7): the TSDU that is to be sent, or the first error that
     /// applies. A call that is refused changes nothing, and `OutOfMemory` comes only where no other
     /// error does.
+    #[inline(always)]
     pub fn call(&mut self, request: Request) -> Result<Sent, CallError>
         ensures state { OnOk result (self.new ≡ (react self.old (called (called_by request.entry))).next) }
         ensures sent { IfOk result (λ s. s ≡ tsdus_sent (limit_of self.old.state) (react self.old (called (called_by request.entry))).reply) }
@@ -256,6 +260,7 @@ impl Session {
     }
 
     /// A call of the user for data, which changes nothing: what [`Session::call`] does with it.
+    #[inline(always)]
     #[tactic(auto, using(crate::proofs::CallLaws::refused, crate::proofs::CallLaws::wanting), unfolding(osi_message::specs::Written::user_data_of))]
     pub fn call_data(&self, user_data: &[u8]) -> Result<Sent, CallError>
         ensures state { OnOk result (self.now ≡ (react self.now (called (Data user_data.now))).next) }
@@ -267,57 +272,6 @@ impl Session {
         allow_data(&self.state, user_data)?;
         match Sent::data(self.alloc, limit_of(&self.state), user_data) {
             Ok(sent) => Ok(sent),
-            Err(_) => Err(CallError::OutOfMemory),
-        }
-    }
-
-    /// A call of the user for a minor point: only the numbers change, so that no whole state is made.
-    #[inline(never)]
-    #[tactic(auto, using(crate::proofs::CallLaws::refused, crate::proofs::CallLaws::wanting))]
-    fn call_minor(&mut self, confirm: bool, user_data: &[u8]) -> Result<Sent, CallError>
-        ensures state { OnOk result (self.new ≡ (react self.old (called (Minor confirm user_data.now))).next) }
-        ensures sent { IfOk result (λ s. s ≡ tsdus_sent (limit_of self.old.state) (react self.old (called (Minor confirm user_data.now))).reply) }
-        ensures accepted { OnOk result ((react self.old (called (Minor confirm user_data.now))).error ≡ None) }
-        ensures sendable { OnOk result (CanBeSent (react self.old (called (Minor confirm user_data.now))).reply) }
-        ensures refused { IfErr result (λ e. Refused e (react self.old (called (Minor confirm user_data.now))).error) }
-        ensures err { OnErr result (self.new ≡ self.old) }
-    {
-        let point = allow_minor(&self.state, confirm, user_data)?;
-        let message = Message::MinorPoint {
-            confirm,
-            number: point.number,
-            user_data,
-        };
-        match written_message(self.alloc, &message) {
-            Ok(sent) => {
-                self.state.numbers = point.numbers;
-                Ok(sent)
-            }
-            Err(_) => Err(CallError::OutOfMemory),
-        }
-    }
-
-    /// A call of the user for the confirmation of a minor point: only the numbers change.
-    #[inline(never)]
-    #[tactic(auto, using(crate::proofs::CallLaws::refused, crate::proofs::CallLaws::wanting))]
-    fn call_minor_confirm(&mut self, number: u32, user_data: &[u8]) -> Result<Sent, CallError>
-        ensures state { OnOk result (self.new ≡ (react self.old (called (MinorConfirm number user_data.now))).next) }
-        ensures sent { IfOk result (λ s. s ≡ tsdus_sent (limit_of self.old.state) (react self.old (called (MinorConfirm number user_data.now))).reply) }
-        ensures accepted { OnOk result ((react self.old (called (MinorConfirm number user_data.now))).error ≡ None) }
-        ensures sendable { OnOk result (CanBeSent (react self.old (called (MinorConfirm number user_data.now))).reply) }
-        ensures refused { IfErr result (λ e. Refused e (react self.old (called (MinorConfirm number user_data.now))).error) }
-        ensures err { OnErr result (self.new ≡ self.old) }
-    {
-        let point = allow_minor_confirm(&self.state, number, user_data)?;
-        let message = Message::MinorAck {
-            number: point.number,
-            user_data,
-        };
-        match written_message(self.alloc, &message) {
-            Ok(sent) => {
-                self.state.numbers = point.numbers;
-                Ok(sent)
-            }
             Err(_) => Err(CallError::OutOfMemory),
         }
     }
@@ -363,9 +317,27 @@ impl Session {
         }
     }
 
+    /// Whole data, a minor point or a confirmation without other parameters, of which the octets of a
+    /// TSDU are the written form, where it is expected: what the user is shown, which is all that
+    /// [`Session::take_tsdu`] would do beside the state. `None` changes nothing: the TSDU is any other.
+    #[inline(always)]
+    pub fn take_expected(&mut self, tsdu: &[u8]) -> Result<Option<Indication>, AllocError>
+        ensures shown { IfOk result (λ shown. IfSome shown (λ i. react self.old (came tsdu.now) ≡ only_shows self.new (shown_by i))) }
+        ensures rests { IfOk result (λ shown. shown ≡ None → self.new ≡ self.old) }
+        ensures err { OnErr result (self.new ≡ self.old) }
+        ensures memory { OnErr result (takes_memory self.old (react self.old (came tsdu.now)) ≡ true) }
+    {
+        match expected_data(self.alloc, &self.state, self.joined.is_some(), tsdu) {
+            Ok(Some(indication)) => Ok(Some(indication)),
+            Ok(None) => Ok(self.take_point(tsdu)),
+            Err(error) => Err(error),
+        }
+    }
+
     /// A TSDU that came, as octets: what [`Session::take`] does with its units, and
     /// [`Session::take_bad`] with octets that are none. Data, minor points and confirmations without
-    /// other parameters are read straight, and data where it is expected is shown straight.
+    /// other parameters are read straight, and where they are expected they are shown straight.
+    #[inline(always)]
     pub fn take_tsdu(&mut self, tsdu: &[u8]) -> Result<Taken, AllocError>
         ensures state { OnOk result (self.new ≡ (react self.old (came tsdu.now)).next) }
         ensures shown { IfOk result (λ t. shown_in t ≡ (react self.old (came tsdu.now)).shown) }
@@ -375,7 +347,7 @@ impl Session {
         ensures err { OnErr result (self.new ≡ self.old) }
         ensures memory { OnErr result (takes_memory self.old (react self.old (came tsdu.now)) ≡ true) }
     {
-        match expected_data(self.alloc, &self.state, self.joined.is_some(), tsdu) {
+        match self.take_expected(tsdu) {
             Ok(Some(indication)) => Ok(Taken::showing(self.alloc, Some(indication))),
             Ok(None) => self.take_other(tsdu),
             Err(error) => Err(error),

@@ -3,7 +3,7 @@
 ghost use Rattle.std.specs.Prelude.{◌≡◌, ◌<◌, ◌==◌, ◌||◌, nat_le, length};
 ghost use Rattle.osi_spdu.specs.Sizes.{are_sizes};
 ghost use Rattle.osi_spdu.specs.Values.{is_size};
-ghost use Rattle.osi_message.specs.Meanings.{meant_by};
+ghost use Rattle.osi_message.specs.Meanings.{MIP, MIA, meant_by};
 ghost use Rattle.osi_message.specs.Written.{user_data_of, written};
 ghost use Rattle.osi_session.specs.Calls.{called_by};
 ghost use Rattle.osi_session.specs.Sizes.{smaller, answered, smaller_sizes, answered_sizes, limit_of, fits_limit};
@@ -11,7 +11,7 @@ ghost use Rattle.osi_session.specs.Sizes.{smaller, answered, smaller_sizes, answ
 use crate::requests::Request;
 use crate::state::State;
 use osi_message::Message;
-use osi_spdu::TsduMaximumSize;
+use osi_spdu::{Serial, TsduMaximumSize};
 
 /// A user may give this size: no limit, or 64 octets and more.
 fn is_size(octets: u16) -> bool
@@ -87,13 +87,21 @@ pub(crate) fn limit_of(state: &State) -> u16
     }
 }
 
+/// Whether a message goes into a TSDU of so many octets.
+fn is_within(limit: u16, sent: &Message) -> bool
+    requires { length (user_data_of (meant_by sent.now)) < 65000 }
+    ensures { result ≡ nat_le (length (written (meant_by sent.now))) limit }
+{
+    sent.written_len() <= limit as usize
+}
+
 /// Whether the TSDU of a message is within the limit.
-pub(crate) fn fits_limit_of(state: &State, sent: &Message) -> bool
+fn fits_limit_of(state: &State, sent: &Message) -> bool
     requires { length (user_data_of (meant_by sent.now)) < 65000 }
     ensures { result ≡ (limit_of state.now == 0 || nat_le (length (written (meant_by sent.now))) (limit_of state.now)) }
 {
     let limit = limit_of(state);
-    limit == 0 || sent.written_len() <= limit as usize
+    limit == 0 || is_within(limit, sent)
 }
 
 /// Whether the TSDU in which a call is sent is within the limit. Data may be longer, and so may an
@@ -106,4 +114,49 @@ pub(crate) fn fits_limit(state: &State, request: &Request, sent: &Message) -> bo
         Request::Accept { .. } | Request::Refuse { .. } | Request::Data { .. } => true,
         _ => fits_limit_of(state, sent),
     }
+}
+
+/// Whether a minor point of these octets goes into a TSDU of so many. It stands out of line: else the
+/// room for its message would be made where there is no limit, too.
+#[inline(never)]
+#[tactic(auto, unfolding(osi_message::specs::Written::user_data_of))]
+fn is_point_within(limit: u16, confirm: bool, number: Serial, user_data: &[u8]) -> bool
+    requires { length user_data.now < 65000 }
+    ensures { result ≡ nat_le (length (written (MIP confirm number.number user_data.now))) limit }
+{
+    let sent = Message::MinorPoint {
+        confirm,
+        number,
+        user_data,
+    };
+    is_within(limit, &sent)
+}
+
+/// The same of a confirmation.
+#[inline(never)]
+#[tactic(auto, unfolding(osi_message::specs::Written::user_data_of))]
+fn is_ack_within(limit: u16, number: Serial, user_data: &[u8]) -> bool
+    requires { length user_data.now < 65000 }
+    ensures { result ≡ nat_le (length (written (MIA number.number user_data.now))) limit }
+{
+    let sent = Message::MinorAck { number, user_data };
+    is_within(limit, &sent)
+}
+
+/// Whether the TSDU of a minor point is within the limit.
+pub(crate) fn fits_point(state: &State, confirm: bool, number: Serial, user_data: &[u8]) -> bool
+    requires { length user_data.now < 65000 }
+    ensures { result ≡ (limit_of state.now == 0 || nat_le (length (written (MIP confirm number.number user_data.now))) (limit_of state.now)) }
+{
+    let limit = limit_of(state);
+    limit == 0 || is_point_within(limit, confirm, number, user_data)
+}
+
+/// Whether the TSDU of a confirmation is within the limit.
+pub(crate) fn fits_ack(state: &State, number: Serial, user_data: &[u8]) -> bool
+    requires { length user_data.now < 65000 }
+    ensures { result ≡ (limit_of state.now == 0 || nat_le (length (written (MIA number.number user_data.now))) (limit_of state.now)) }
+{
+    let limit = limit_of(state);
+    limit == 0 || is_ack_within(limit, number, user_data)
 }
