@@ -20,10 +20,10 @@ pub(crate) fn put_first(storage: &mut Vec<u8>, piece: &[u8]) -> Option<usize>
     ensures none { IfNone result (storage.new.items ≡ storage.old.items) }
     ensures room { vec_len storage.new ≡ vec_len storage.old }
 {
-    let used = whole_length(piece)?;
-    if put_block(storage, piece, used) {
+    if let Some(used) = put_block(storage, piece) {
         return Some(used);
     }
+    let used = whole_length(piece)?;
     if storage.len() < used {
         return None;
     }
@@ -31,25 +31,22 @@ pub(crate) fn put_first(storage: &mut Vec<u8>, piece: &[u8]) -> Option<usize>
     Some(used)
 }
 
-/// Puts at least so many octets of a piece at the front of the storage, in one block, and says whether
-/// it did: it does where they are few, and the piece and the storage have as many as a block.
+/// The same of a packet that stands whole in the first 32 octets of a piece, which are put there as one
+/// block. `None` where none does, or the piece or the storage has no such block.
 #[inline(always)]
-fn put_block(storage: &mut Vec<u8>, piece: &[u8], used: usize) -> bool
-    ensures octets { IsTrue result → take used storage.new.items ≡ take used piece.now }
-    ensures none { result ≡ false → storage.new.items ≡ storage.old.items }
+fn put_block(storage: &mut Vec<u8>, piece: &[u8]) -> Option<usize>
+    ensures within { IfSome result (λ used. used ≤ length piece.now) }
+    ensures front { IfSome result (λ used. IsFront (take used piece.now)) }
+    ensures full { IfSome result (λ used. IsFull (take used piece.now)) }
+    ensures octets { IfSome result (λ used. take used storage.new.items ≡ take used piece.now) }
+    ensures none { IfNone result (storage.new.items ≡ storage.old.items) }
     ensures room { vec_len storage.new ≡ vec_len storage.old }
 {
-    if used > 32 {
-        return false;
-    }
-    let Some(block) = piece.first_chunk::<32>() else {
-        return false;
-    };
-    let Some(room) = storage.as_mut_slice().first_chunk_mut::<32>() else {
-        return false;
-    };
+    let block = piece.first_chunk::<32>()?;
+    let used = whole_length(block)?;
+    let room = storage.as_mut_slice().first_chunk_mut::<32>()?;
     *room = *block;
-    true
+    Some(used)
 }
 
 /// Puts octets into the storage behind its first `at`.
