@@ -13,10 +13,9 @@ use Rattle.osi_tpkt.specs.Progress.{fault_of, FitsProgress, IsKept}
 use Rattle.osi_tpkt.specs.declared.faults.TpktFault.{TpktFault}
 use Rattle.osi_tpkt.specs.declared.faults.TpktFault.TheVariants.{BadVersion, BadLength, OutOfMemory}
 use Rattle.osi_tpkt.specs.declared.cutting.Fed.{Fed}
-use Rattle.osi_tpkt.specs.declared.headers.HeaderFault.TheVariants.{Version, Length}
 use Rattle.osi_tpkt.specs.declared.cutting.Progress.{Progress}
 use Rattle.osi_tpkt.specs.declared.cutting.Progress.TheVariants.{Awaited, Partial, Stopped}
-use Rattle.osi_tpkt.specs.declared.cutting.Stop.TheVariants.{Whole, Refused}
+use Rattle.osi_tpkt.specs.declared.cutting.Stop.TheVariants.{Whole, Version, Length}
 use Rattle.osi_tpkt.proofs.Fronts.{short_partial, full_packet, front_packet, partial_not_whole, belonging_some, belonging_no_fault, surveyed, one_fault, holding, empty_partial}
 
 -- what the fields of a cutter say, said of what contracts see
@@ -25,7 +24,8 @@ pub holding_sound : (offset : ℕ) (octets : List ℕ) (progress : Progress) (ro
 holding_sound offset octets Awaited room h = record { offset = h.offset; octets = inl (subst IsPartial (sym h.progress) empty_partial) }
 holding_sound offset octets Partial room h = record { offset = h.offset; octets = inl (short_partial octets h.progress.0 h.progress.1) }
 holding_sound offset octets (Stopped Whole) room h = record { offset = h.offset; octets = inr ((drop 4 octets, full_packet octets h.progress.0 h.progress.1), refl) }
-holding_sound offset octets (Stopped (Refused f)) room h = record { offset = h.offset; octets = inl (short_partial octets h.progress.0 h.progress.1) }
+holding_sound offset octets (Stopped Version) room h = record { offset = h.offset; octets = inl (short_partial octets h.progress.0 h.progress.1) }
+holding_sound offset octets (Stopped Length) room h = record { offset = h.offset; octets = inl (short_partial octets h.progress.0 h.progress.1) }
 
 -- the same of its value
 pub kept_sound : (offset : ℕ) (octets : List ℕ) (progress : Progress) (room : ℕ) (now : Held) → IsKept offset octets progress →
@@ -230,7 +230,7 @@ awaits offset octets Partial room now other fits same none unfaulted =
 awaits offset octets (Stopped Whole) room now other fits same none unfaulted =
     let empty : length octets ≡ 0 = ap length (ap (λ (h : Held). h.octets) same ∙ none) in
     let long = fits.progress.1.0 in absurd (omega arith)
-awaits offset octets (Stopped (Refused Version)) room now other fits same none unfaulted =
+awaits offset octets (Stopped Version) room now other fits same none unfaulted =
     none-some (BadVersion offset) (sym unfaulted ∙ sym (ap (λ (h : Held). h.fault) same))
-awaits offset octets (Stopped (Refused Length)) room now other fits same none unfaulted =
+awaits offset octets (Stopped Length) room now other fits same none unfaulted =
     none-some (BadLength offset) (sym unfaulted ∙ sym (ap (λ (h : Held). h.fault) same))

@@ -3,25 +3,25 @@ use Rattle.std.specs.Prelude.{◌≡◌, ℕ, ◌<◌, ◌^◌, List, [], length
 use Rattle.osi_tpkt.specs.Header.{IsFront, IsFull, IsUnfinished}
 use Rattle.osi_tpkt.specs.declared.faults.TpktFault.{TpktFault}
 use Rattle.osi_tpkt.specs.declared.faults.TpktFault.TheVariants.{BadVersion, BadLength}
-use Rattle.osi_tpkt.specs.declared.headers.HeaderFault.TheVariants.{Version, Length}
 use Rattle.osi_tpkt.specs.declared.cutting.Progress.{Progress}
 use Rattle.osi_tpkt.specs.declared.cutting.Progress.TheVariants.{Awaited, Partial, Stopped}
-use Rattle.osi_tpkt.specs.declared.cutting.Stop.TheVariants.{Whole, Refused}
+use Rattle.osi_tpkt.specs.declared.cutting.Stop.TheVariants.{Whole, Version, Length}
 
 -- the fault that is kept, of octets that stand at this offset
 abbrev pub fault_of : ℕ → Progress → Option TpktFault
 fault_of at Awaited = None
 fault_of at Partial = None
 fault_of at (Stopped Whole) = None
-fault_of at (Stopped (Refused Version)) = Some (BadVersion at)
-fault_of at (Stopped (Refused Length)) = Some (BadLength at)
+fault_of at (Stopped Version) = Some (BadVersion at)
+fault_of at (Stopped Length) = Some (BadLength at)
 
 -- what is true of the octets held: none while a packet is awaited, and after a fault no packet stands
 abbrev pub FitsProgress : List ℕ → Progress → Type 0
 FitsProgress octets Awaited = octets ≡ []
 FitsProgress octets Partial = IsFront octets × IsUnfinished octets × (0 < length octets)
 FitsProgress octets (Stopped Whole) = IsFront octets × IsFull octets
-FitsProgress octets (Stopped (Refused f)) = IsFront octets × IsUnfinished octets
+FitsProgress octets (Stopped Version) = IsFront octets × IsUnfinished octets
+FitsProgress octets (Stopped Length) = IsFront octets × IsUnfinished octets
 
 -- what is true of what a cutter holds
 pub record IsKept (at : ℕ) (octets : List ℕ) (stage : Progress) : Type 0 where

@@ -34,8 +34,10 @@ enum Progress {
 enum Stop {
     /// The packet stands whole.
     Whole,
-    /// The stream has none there.
-    Refused(HeaderFault),
+    /// The stream has none there: its first octet is not the version.
+    Version,
+    /// The stream has none there: its length is below 7.
+    Length,
 }
 
 /// Cuts a stream of octets, in whatever pieces it comes, into packets (RFC 1006 section 6).
@@ -126,7 +128,8 @@ impl Cutter {
                 used: 0,
                 whole: true,
             }),
-            Progress::Stopped(Stop::Refused(header)) => Err(header.at(self.offset)),
+            Progress::Stopped(Stop::Version) => Err(TpktFault::BadVersion(self.offset)),
+            Progress::Stopped(Stop::Length) => Err(TpktFault::BadLength(self.offset)),
         }
     }
 
@@ -159,9 +162,13 @@ impl Cutter {
     {
         let fed = match survey(&self.storage.as_slice()[..self.held], piece) {
             Ok(fed) => fed,
-            Err(header) => {
-                self.progress = Progress::Stopped(Stop::Refused(header));
-                return Err(header.at(self.offset));
+            Err(HeaderFault::Version) => {
+                self.progress = Progress::Stopped(Stop::Version);
+                return Err(TpktFault::BadVersion(self.offset));
+            }
+            Err(HeaderFault::Length) => {
+                self.progress = Progress::Stopped(Stop::Length);
+                return Err(TpktFault::BadLength(self.offset));
             }
         };
         if fed.used == 0 {
@@ -189,7 +196,7 @@ impl Cutter {
     {
         match self.progress {
             Progress::Stopped(Stop::Whole) => Some(&self.storage.as_slice()[4..self.held]),
-            Progress::Awaited | Progress::Partial | Progress::Stopped(Stop::Refused(_)) => None,
+            Progress::Awaited | Progress::Partial | Progress::Stopped(_) => None,
         }
     }
 
@@ -213,7 +220,8 @@ impl Cutter {
                 self.held = 0;
                 self.progress = Progress::Awaited;
             }
-            Progress::Stopped(Stop::Refused(_header)) => {}
+            Progress::Stopped(Stop::Version) => {}
+            Progress::Stopped(Stop::Length) => {}
             Progress::Awaited | Progress::Partial => {}
         }
     }

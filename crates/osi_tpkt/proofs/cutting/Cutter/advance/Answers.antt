@@ -7,8 +7,13 @@ pub returns-in-Stopped-Whole-clause-sound : goal.returns-in-Stopped-Whole-clause
 returns-in-Stopped-Whole-clause-sound c =
     begins c.saturating_add-self-inside.result (vec_len c.self.inside.storage) [] refl (omega arith)
 
-pub returns-in-Stopped-Refused-clause-sound : goal.returns-in-Stopped-Refused-clause-sound
-returns-in-Stopped-Refused-clause-sound c =
+pub returns-in-Stopped-Version-clause-sound : goal.returns-in-Stopped-Version-clause-sound
+returns-in-Stopped-Version-clause-sound c =
+    kept_sound c.self.inside.offset (take c.self.inside.held c.self.inside.storage.items) c.self.inside.progress (vec_len c.self.inside.storage)
+    c.args.self.now c.self.invariant.1 c.self.view_is
+
+pub returns-in-Stopped-Length-clause-sound : goal.returns-in-Stopped-Length-clause-sound
+returns-in-Stopped-Length-clause-sound c =
     kept_sound c.self.inside.offset (take c.self.inside.held c.self.inside.storage.items) c.self.inside.progress (vec_len c.self.inside.storage)
     c.args.self.now c.self.invariant.1 c.self.view_is
 

@@ -38,7 +38,12 @@ returns-in-Stopped-Whole-clause-sound c =
     kept_sound c.self.inside.offset (take c.self.inside.held c.self.inside.storage.items) c.self.inside.progress (vec_len c.self.inside.storage)
     c.take_whole.new.self c.self.invariant.1 c.self.view_is
 
-pub returns-in-Stopped-Refused-clause-sound : goal.returns-in-Stopped-Refused-clause-sound
-returns-in-Stopped-Refused-clause-sound c =
+pub returns-in-Stopped-Version-clause-sound : goal.returns-in-Stopped-Version-clause-sound
+returns-in-Stopped-Version-clause-sound c =
+    kept_sound c.self.inside.offset (take c.self.inside.held c.self.inside.storage.items) c.self.inside.progress (vec_len c.self.inside.storage)
+    c.take_whole.new.self c.self.invariant.1 c.self.view_is
+
+pub returns-in-Stopped-Length-clause-sound : goal.returns-in-Stopped-Length-clause-sound
+returns-in-Stopped-Length-clause-sound c =
     kept_sound c.self.inside.offset (take c.self.inside.held c.self.inside.storage.items) c.self.inside.progress (vec_len c.self.inside.storage)
     c.take_whole.new.self c.self.invariant.1 c.self.view_is
