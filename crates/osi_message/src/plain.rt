@@ -70,7 +70,10 @@ pub(crate) fn data(alloc: Global, user_data: &[u8]) -> Result<Vec<u8>, AllocErro
     ensures { IfOk result (λ v. v.items ≡ written (DT user_data.now)) }
 {
     let mut octets = Vec::with_capacity(alloc, 4 + user_data.len())?;
-    octets.extend_from_slice(&[0x01, 0x00, 0x01, 0x00])?;
+    octets.push_reserved(0x01);
+    octets.push_reserved(0x00);
+    octets.push_reserved(0x01);
+    octets.push_reserved(0x00);
     octets.extend_from_slice(user_data)?;
     Ok(octets)
 }

@@ -1,16 +1,15 @@
 -- The addresses of a connection: what was asked for, what came, and what keeps them.
-use Rattle.std.proofs.Common.{◌≡◌, ◌≢◌, ℕ, ◌+◌, ◌≤◌, Bool, true, false, List, [], ◌∷◌, ◌++◌, Option, Some, None, is_some, option_map, refl, sym, ap, ◌∙◌, arith, if◌then◌else◌}
+use Rattle.std.proofs.Common.{◌≡◌, ◌≢◌, ℕ, ◌+◌, Bool, true, false, [], ◌∷◌, ◌++◌, Option, Some, None, is_some, option_map, refl, ap, ◌∙◌, arith, if◌then◌else◌}
 use Rattle.osi_tpdu.specs.Limits.{tsap_octets}
 use Rattle.osi_carrier.specs.Calls.{tsaps_at, asks}
 use Rattle.osi_carrier.specs.Named.{AreNamed}
-use Rattle.osi_carrier.specs.Orderly.{IsOrderly}
-use Rattle.osi_carrier.specs.Rows.{Rows, value_at, put}
-use Rattle.osi_carrier.specs.State.{Connection, asked, TsapIds, State as Carrier}
+use Rattle.osi_carrier.specs.Rows.{value_at}
+use Rattle.osi_carrier.specs.State.{Connection, asked, TsapIds}
 use Rattle.osi_carrier.proofs.Apart.{push_here, put_here, beyond}
 use Rattle.osi_carrier.proofs.AtReferences.{put_other}
 use Rattle.osi_carrier.proofs.Naming.{known_is}
-use Rattle.osi_session.specs.Listening.{Input, Listener, called, react}
-use Rattle.osi_stack.specs.Addresses.{Addresses, addressed, selectors_in, addresses_at, asked_addresses}
+use Rattle.osi_session.specs.Listening.{Input, Listener, react}
+use Rattle.osi_stack.specs.Addresses.{addressed, selectors_in, addresses_at, asked_addresses}
 use Rattle.osi_stack.specs.Calls.{calls_with, connects}
 use Rattle.osi_stack.specs.Links.{Soundness}
 use Rattle.osi_stack.specs.Messages.{kept_at}

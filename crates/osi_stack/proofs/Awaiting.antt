@@ -1,39 +1,35 @@
 -- Each session that waits for its transport connection has one that was asked for.
-use Rattle.std.proofs.Common.{◌≡◌, ◌≢◌, ℕ, zero, suc, ◌+◌, ◌==◌, Bool, true, false, ◌||◌, List, [], ◌∷◌, ◌++◌, length, Option, Some, None, Result, Ok, Err, is_some, IsSome, option_map, refl, sym, ap, subst, ◌∙◌, inl, inr, ◌⊎◌, arith, if◌then◌else◌}
+use Rattle.std.proofs.Common.{◌≡◌, ◌≢◌, ℕ, ◌+◌, ◌==◌, Bool, true, false, ◌||◌, List, [], ◌∷◌, ◌++◌, length, Option, Some, None, is_some, refl, sym, ap, subst, ◌∙◌, inl, inr, ◌⊎◌, arith, if◌then◌else◌}
 use Rattle.std.proofs.lemmas.Bool.{eqb-true, eq-eqb}
 use Rattle.osi_tpkt.specs.Stream.{ArePackets}
 use Rattle.osi_tpkt.specs.declared.cutting.Fed.{Fed}
-use Rattle.osi_tpdu.specs.Limits.{tsap_octets}
 use Rattle.osi_class.specs.Link.{Standing as Link}
 use Rattle.osi_class.specs.declared.terms.Class.{Class}
 use Rattle.osi_class.specs.declared.terms.Class.TheVariants.{Zero, Two}
 use Rattle.osi_class.specs.declared.terms.Local.{Local}
 use Rattle.osi_carrier.proofs.Apart.{beyond, push_here}
 use Rattle.osi_carrier.proofs.AtReferences.{put_other, push_other}
-use Rattle.osi_carrier.specs.Calls.{may_connect, asks, open_link, link_of, sent, sent_all, sent_on, send_all_error, closes, closed_on}
+use Rattle.osi_carrier.specs.Calls.{open_link, link_of, sent, sent_all, sent_on, send_all_error, closes, closed_on}
 use Rattle.osi_carrier.specs.Happenings.{Happening}
 use Rattle.osi_carrier.specs.Happenings as told
 use Rattle.osi_carrier.specs.Orderly.{IsOrderly, told_of}
 use Rattle.osi_carrier.specs.Packets as carriers
-use Rattle.osi_carrier.specs.Rows.{Rows, value_at}
+use Rattle.osi_carrier.specs.Rows.{value_at}
 use Rattle.osi_carrier.specs.State.{Connection, asked, closing, State as Carrier}
 use Rattle.osi_carrier.specs.declared.ends.EndReason.{EndReason}
 use Rattle.osi_carrier.specs.declared.ends.EndReason.TheVariants.{Broken, NoMemory}
 use Rattle.osi_carrier.specs.declared.faults.SendError.{SendError}
-use Rattle.osi_message.specs.Words.{Words}
-use Rattle.osi_message.specs.Reading.{said_at}
-use Rattle.osi_spdu.specs.declared.faults.SpduFault.{SpduFault}
 use Rattle.osi_session.specs.Calls.{Call}
-use Rattle.osi_session.specs.Listening.{Input, Listener, called, opened, refused, broken, came, came_as, begun, denied, rests, react}
+use Rattle.osi_session.specs.Listening.{Input, Listener, called, opened, refused, broken, came, begun, denied, rests, react}
 use Rattle.osi_session.specs.Phases.{is_wait_transport}
 use Rattle.osi_session.specs.Sessions.{awaits}
-use Rattle.osi_stack.specs.Calls.{connects, connect_error, terms_error, calls_with, breaks, carried, without_first}
+use Rattle.osi_stack.specs.Calls.{connects, calls_with, breaks, carried, without_first}
 use Rattle.osi_stack.specs.Feeding.{TakesPackets, Goes, Feeds}
 use Rattle.osi_stack.specs.Hearing.{opens, hears, hears_next, hears_times, hears_all, with_events, with_carrier, after_packet, ends, Starves}
 use Rattle.osi_stack.specs.Links.{AreApart, HasAsked, Soundness, IsSound}
 use Rattle.osi_stack.specs.Messages.{kept_at}
 use Rattle.osi_stack.specs.Moving.{carrier_by, by_line, to_session}
-use Rattle.osi_stack.specs.State.{Line, End, Holding, IsAttended, fresh_end, session_in, waits}
+use Rattle.osi_stack.specs.State.{Line, End, Holding, IsAttended, fresh_end, waits}
 use Rattle.osi_stack.specs.Transport.{sent_unless, answers_by}
 use Rattle.osi_stack.specs.declared.connecting.Connect.{Connect}
 use Rattle.osi_stack.proofs.Answered.{answered, answered_other, stays_packet}

@@ -3,7 +3,7 @@ use Rattle.std.proofs.Common.{◌≡◌, ℕ, ◌==◌, Bool, true, false, List,
 use Rattle.std.proofs.lemmas.List.{append-nil}
 use Rattle.osi_carrier.specs.Rows.{Rows, value_at, put}
 use Rattle.osi_session.specs.Calls.{Call as SessionCall}
-use Rattle.osi_session.specs.Listening.{Input, Listener, called, react}
+use Rattle.osi_session.specs.Listening.{Input, Listener, called}
 use Rattle.osi_session.specs.Shown.{Shown}
 use Rattle.osi_stack.specs.Calls.{call_error}
 use Rattle.osi_stack.specs.Messages.{shown_of, all_waiting}

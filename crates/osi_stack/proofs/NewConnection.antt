@@ -1,5 +1,5 @@
 -- What an end is once a connection was asked for, from what each step of asking did.
-use Rattle.std.proofs.Common.{◌≡◌, ◌∙◌, ℕ, ◌+◌, [], ◌∷◌, ◌++◌, Some, option_map, ap}
+use Rattle.std.proofs.Common.{◌≡◌, ◌∙◌, ℕ, ◌+◌, [], ◌∷◌, ◌++◌, option_map, ap}
 use Rattle.osi_tpdu.specs.Limits.{tsap_octets}
 use Rattle.osi_tpkt.specs.Held.{Held}
 use Rattle.osi_carrier.specs.Calls.{asks}

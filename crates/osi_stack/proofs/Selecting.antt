@@ -1,16 +1,16 @@
 -- The session selectors of what comes.
-use Rattle.std.proofs.Common.{◌≡◌, ℕ, List, [], ◌∷◌, ◌++◌, length, map, Option, Some, None, Bool, true, false, Result, Ok, Err, refl, sym, ap, ◌∙◌}
-use Rattle.osi_message.specs.Meanings.{DT, GT}
-use Rattle.osi_message.specs.Reading.{meaning, meaning_by, word, word_at, place_of, place_by, place_in, said_at, said_if_read}
+use Rattle.std.proofs.Common.{◌≡◌, ℕ, List, [], ◌∷◌, map, Option, Some, None, Result, Ok, Err, refl, sym, ap, ◌∙◌}
+use Rattle.osi_message.specs.Meanings.{DT}
+use Rattle.osi_message.specs.Reading.{meaning, meaning_by, word, word_at, place_of, place_by, said_at, said_if_read}
 use Rattle.osi_message.specs.Words.{part_octets, as_message}
 use Rattle.osi_message.specs.Written.{written, is_second}
 use Rattle.osi_message.specs.declared.places.Place.{Place}
-use Rattle.osi_session.specs.Listening.{Input, came, came_as}
-use Rattle.osi_session.specs.Shown.{Shown, shown_by}
+use Rattle.osi_session.specs.Listening.{came, came_as}
+use Rattle.osi_session.specs.Shown.{shown_by}
 use Rattle.osi_session.specs.Steps.{all_shown, shown_list}
 use Rattle.osi_session.specs.declared.indications.Indication.{Indication}
 use Rattle.osi_session.proofs.PartRuns.{data_sendable}
-use Rattle.osi_spdu.specs.Known.{Contents, Known, Units}
+use Rattle.osi_spdu.specs.Known.{Contents, Units}
 use Rattle.osi_spdu.specs.Reading.{tsdu_at}
 use Rattle.osi_spdu.specs.declared.faults.SpduFault.{SpduFault}
 use Rattle.osi_spdu.specs.declared.kinds.Kind.{Kind}

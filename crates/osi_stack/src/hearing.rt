@@ -1,15 +1,15 @@
 //! A session hears what happens to it: the carrier gets what it sends, and its user what it shows.
 
-ghost use Rattle.std.specs.Prelude.{◌≡◌, [], None, false, ◌<◌, ◌≤◌, ◌+◌, ◌++◌, map, length, IfOk, OnOk, OnErr};
+ghost use Rattle.std.specs.Prelude.{◌≡◌, [], ◌∷◌, None, false, ◌<◌, ◌≤◌, ◌+◌, ◌++◌, map, length, IfOk, OnOk, OnErr};
 ghost use Rattle.std.specs.Vec.{vec_len};
 ghost use Rattle.std.specs.VecDeque.{deque_len, deque_capacity};
-ghost use Rattle.osi_session.specs.Listening.{react};
+ghost use Rattle.osi_session.specs.Listening.{came, react};
 ghost use Rattle.osi_session.specs.Phases.{shows_loss};
 ghost use Rattle.osi_session.specs.Sessions.{Takes};
 ghost use Rattle.osi_session.specs.Shown.{shown_by};
 ghost use Rattle.osi_session.specs.Steps.{all_shown, shown_list};
 ghost use Rattle.osi_stack.specs.Moving.{limit_for, answers};
-ghost use Rattle.osi_stack.specs.Selectors.{shows_connect};
+ghost use Rattle.osi_stack.specs.Selectors.{is_connect, shows_connect};
 ghost use Rattle.osi_stack.specs.Telling.{told_input};
 
 use crate::told::Told;
@@ -71,18 +71,41 @@ fn show(waiting: &mut VecDeque<Indication>, first: Option<Indication>, more: Vec
     };
 }
 
-/// Whether a connection is asked for.
-fn is_connect(shown: &Option<Indication>) -> bool
-    ensures { result ≡ shows_connect (shown_list shown.now) }
+/// One indication waits more, and there is room for one behind it. Want of memory changes no indication.
+fn show_one(waiting: &mut VecDeque<Indication>, indication: Indication) -> Result<(), AllocError>
+    ensures items { OnOk result (map shown_by waiting.new.items ≡ map shown_by waiting.old.items ++ shown_by indication ∷ []) }
+    ensures room { OnOk result (deque_len waiting.new < deque_capacity waiting.new) }
+    ensures kept { OnErr result (waiting.new.items ≡ waiting.old.items) }
+    ensures len { OnErr result (deque_len waiting.new ≡ deque_len waiting.old) }
+    ensures capacity { OnErr result (deque_capacity waiting.old ≤ deque_capacity waiting.new) }
 {
-    matches!(shown, Some(Indication::Connect { .. }))
+    waiting.reserve(2)?;
+    waiting.push_back_reserved(indication);
+    Ok(())
 }
 
-/// A session hears what happens to it; says whether its user is shown that a connection is asked for.
-/// Behind it there is room for one indication more. Want of memory leaves the indications that wait, and
-/// the carrier.
+/// Whether a connection is asked for.
+fn is_connect(shown: &Indication) -> bool
+    ensures { result ≡ is_connect (shown_by shown.now) }
+{
+    matches!(shown, Indication::Connect { .. })
+}
+
+/// Whether a connection is asked for, if anything is shown.
+fn shows_connect(shown: &Option<Indication>) -> bool
+    ensures { result ≡ shows_connect (shown_list shown.now) }
+{
+    match shown {
+        Some(indication) => is_connect(indication),
+        None => false,
+    }
+}
+
+/// A session hears anything. It stands out of line: else the room for all that it may do would be made on
+/// the way of data, too.
+#[inline(never)]
 #[tactic(auto, using(crate::proofs::Selecting::first_connects))]
-pub fn hear(
+fn hear_any(
     alloc: Global,
     session: &mut Session,
     waiting: &mut VecDeque<Indication>,
@@ -108,7 +131,67 @@ pub fn hear(
     } = listen(alloc, session, told)?;
     waiting.reserve(more.len() + 2)?;
     answer(carrier, reference, reply, closes)?;
-    let connects = is_connect(&first);
+    let connects = shows_connect(&first);
     show(waiting, first, more);
     Ok(connects)
+}
+
+/// A session takes a TSDU. Data, points and confirmations that it expects are shown straight.
+fn hear_tsdu(
+    alloc: Global,
+    session: &mut Session,
+    waiting: &mut VecDeque<Indication>,
+    octets: &[u8],
+    carrier: &mut Carrier,
+    reference: u16,
+) -> Result<bool, AllocError>
+    ensures connects { IfOk result (λ b. b ≡ shows_connect (react session.old (came octets.now)).shown) }
+    ensures session { OnOk result (session.new ≡ (react session.old (came octets.now)).next) }
+    ensures shown { OnOk result (map shown_by waiting.new.items ≡ map shown_by waiting.old.items ++ (react session.old (came octets.now)).shown) }
+    ensures room { OnOk result (deque_len waiting.new < deque_capacity waiting.new) }
+    ensures carrier { OnOk result (carrier.new ≡ record carrier.old { state = answers reference (limit_for session.old (came octets.now)) (react session.old (came octets.now)) carrier.old.state }) }
+    ensures kept { OnErr result (waiting.new.items ≡ waiting.old.items) }
+    ensures len { OnErr result (deque_len waiting.new ≡ deque_len waiting.old) }
+    ensures capacity { OnErr result (deque_capacity waiting.old ≤ deque_capacity waiting.new) }
+    ensures err { OnErr result (carrier.new ≡ carrier.old) }
+{
+    match session.take_expected(octets) {
+        Ok(Some(indication)) => {
+            let connects = is_connect(&indication);
+            show_one(waiting, indication)?;
+            Ok(connects)
+        }
+        Ok(None) => {
+            let told = Told::Tsdu(octets);
+            hear_any(alloc, session, waiting, told, carrier, reference)
+        }
+        Err(error) => Err(error),
+    }
+}
+
+/// A session hears what happens to it; says whether its user is shown that a connection is asked for.
+/// Behind it there is room for one indication more. Want of memory leaves the indications that wait, and
+/// the carrier.
+pub fn hear(
+    alloc: Global,
+    session: &mut Session,
+    waiting: &mut VecDeque<Indication>,
+    told: Told<'_>,
+    carrier: &mut Carrier,
+    reference: u16,
+) -> Result<bool, AllocError>
+    ensures connects { IfOk result (λ b. b ≡ shows_connect (react session.old (told_input told.entry)).shown) }
+    ensures session { OnOk result (session.new ≡ (react session.old (told_input told.entry)).next) }
+    ensures shown { OnOk result (map shown_by waiting.new.items ≡ map shown_by waiting.old.items ++ (react session.old (told_input told.entry)).shown) }
+    ensures room { OnOk result (deque_len waiting.new < deque_capacity waiting.new) }
+    ensures carrier { OnOk result (carrier.new ≡ record carrier.old { state = answers reference (limit_for session.old (told_input told.entry)) (react session.old (told_input told.entry)) carrier.old.state }) }
+    ensures kept { OnErr result (waiting.new.items ≡ waiting.old.items) }
+    ensures len { OnErr result (deque_len waiting.new ≡ deque_len waiting.old) }
+    ensures capacity { OnErr result (deque_capacity waiting.old ≤ deque_capacity waiting.new) }
+    ensures err { OnErr result (carrier.new ≡ carrier.old) }
+{
+    match told {
+        Told::Tsdu(octets) => hear_tsdu(alloc, session, waiting, octets, carrier, reference),
+        _ => hear_any(alloc, session, waiting, told, carrier, reference),
+    }
 }

@@ -4,6 +4,7 @@
 #![tactic(auto)]
 
 mod addresses;
+mod calls;
 mod connecting;
 mod hearing;
 mod hub;

@@ -1,10 +1,10 @@
 //! The sessions of one end, each with what its user is still to be shown.
 
-ghost use Rattle.std.specs.Prelude.{◌≡◌, ◌+◌, ◌*◌, ◌<◌, ◌≤◌, ◌++◌, ◌∷◌, ◌==◌, [], true, false, cond, length, take, position, is_some, Some, None, IfOk, IfErr, IfSome, OnOk, OnErr, option_map};
+ghost use Rattle.std.specs.Prelude.{◌≡◌, ◌+◌, ◌*◌, ◌<◌, ◌≤◌, ◌++◌, ◌∷◌, ◌==◌, [], true, false, cond, length, take, position, is_some, map, Some, None, IfOk, IfErr, IfSome, OnOk, OnErr, option_map, if◌then◌else◌};
 ghost use Rattle.std.specs.VecDeque.{deque_len, deque_capacity};
 ghost use Rattle.osi_carrier.specs.Orderly.{RiseFrom};
 ghost use Rattle.osi_carrier.specs.Rows.{value_at, place_of};
-ghost use Rattle.osi_session.specs.Calls.{Data, called_by};
+ghost use Rattle.osi_session.specs.Calls.{called_by};
 ghost use Rattle.osi_session.specs.Listening.{called, react};
 ghost use Rattle.osi_session.specs.Shown.{Lost, shown_by};
 ghost use Rattle.osi_session.specs.Sizes.{limit_of};
@@ -13,14 +13,14 @@ ghost use Rattle.osi_stack.specs.Hearing.{loses, all_lost};
 ghost use Rattle.osi_stack.specs.Moving.{answers, line_by, carrier_by, to_session};
 ghost use Rattle.osi_stack.specs.State.{line_waits, waits, how_many_wait, is_used, used_lines, fresh_line, session_in, joined_live, joined_in};
 ghost use Rattle.osi_stack.specs.Addresses.{selectors_in};
-ghost use Rattle.osi_stack.specs.Selectors.{selectors_sent, session_selectors};
+ghost use Rattle.osi_stack.specs.Selectors.{selectors_sent, selectors_told, session_selectors};
 ghost use Rattle.osi_stack.specs.Telling.{told_input};
 
+use crate::calls::make_call;
 use crate::hearing::{hear, shows_loss};
 use crate::names::SessionSelectors;
 use crate::places::{is_above, place_in};
 use crate::told::Told;
-use crate::transport::{send_call, send_owned_call};
 use osi_carrier::{Carrier, Ref};
 use osi_session::{AbortCause, CallError, Indication, Request, Session};
 use std::alloc::{AllocError, Global};
@@ -73,66 +73,27 @@ fn lost() -> Indication
     }
 }
 
-/// Sends data, which leaves the session as it is. Each error changes nothing.
-fn make_data_call(
-    session: &Session,
-    carrier: &mut Carrier,
-    reference: u16,
-    user_data: &[u8],
-) -> Result<(), CallError>
-    ensures session { OnOk result (session.now ≡ (react session.now (called (Data user_data.now))).next) }
-    ensures carrier { OnOk result (carrier.new ≡ record carrier.old { state = answers reference (limit_of session.now.state) (react session.now (called (Data user_data.now))) carrier.old.state }) }
-    ensures allowed { OnOk result (move_refusal reference (limit_of session.now.state) (react session.now (called (Data user_data.now))) carrier.old.state ≡ None) }
-    ensures refused { IfErr result (λ e. Refuses e (react session.now (called (Data user_data.now))).error (move_refusal reference (limit_of session.now.state) (react session.now (called (Data user_data.now))) carrier.old.state)) }
-    ensures err { OnErr result (carrier.new ≡ carrier.old) }
-{
-    let sent = session.call_data(user_data)?;
-    send_owned_call(carrier, reference, sent)
-}
-
-/// Sends what a call of the user does, and then the session does it. Each error changes nothing. It
-/// stands out of line: else the room for its plan would be made on the way to data, too.
+/// The session of a line is gone, and its user is shown that or not. It stands out of line: else the
+/// room for a session would be made on the way of data, too.
 #[inline(never)]
-fn make_planned_call(
-    session: &mut Session,
-    carrier: &mut Carrier,
-    reference: u16,
-    request: Request,
-) -> Result<(), CallError>
-    ensures session { OnOk result (session.new ≡ (react session.old (called (called_by request.entry))).next) }
-    ensures carrier { OnOk result (carrier.new ≡ record carrier.old { state = answers reference (limit_of session.old.state) (react session.old (called (called_by request.entry))) carrier.old.state }) }
-    ensures allowed { OnOk result (move_refusal reference (limit_of session.old.state) (react session.old (called (called_by request.entry))) carrier.old.state ≡ None) }
-    ensures refused { IfErr result (λ e. Refuses e (react session.old (called (called_by request.entry))).error (move_refusal reference (limit_of session.old.state) (react session.old (called (called_by request.entry))) carrier.old.state)) }
-    ensures err { OnErr result ((session.new ≡ session.old) × (carrier.new ≡ carrier.old)) }
+fn forget(session: &mut Option<Session>, waiting: &mut VecDeque<Indication>, is_shown: bool)
+    requires { deque_len waiting.old < deque_capacity waiting.old }
+    ensures session { session.new ≡ None }
+    ensures waiting { map shown_by waiting.new.items ≡ map shown_by waiting.old.items ++ (if is_shown then Lost ∷ [] else []) }
 {
-    let plan = session.plan(request)?;
-    match send_call(carrier, reference, plan.sent()) {
-        Ok(()) => {}
-        Err(error) => return Err(error),
+    *session = None;
+    if is_shown {
+        waiting.push_back_reserved(lost());
     }
-    let Some(_sent) = session.commit(plan) else {
-        unreachable!()
-    };
-    Ok(())
 }
 
-/// Sends what a call of the user does, and then the session does it. Each error changes nothing.
-fn make_call(
-    session: &mut Session,
-    carrier: &mut Carrier,
-    reference: u16,
-    request: Request,
-) -> Result<(), CallError>
-    ensures session { OnOk result (session.new ≡ (react session.old (called (called_by request.entry))).next) }
-    ensures carrier { OnOk result (carrier.new ≡ record carrier.old { state = answers reference (limit_of session.old.state) (react session.old (called (called_by request.entry))) carrier.old.state }) }
-    ensures allowed { OnOk result (move_refusal reference (limit_of session.old.state) (react session.old (called (called_by request.entry))) carrier.old.state ≡ None) }
-    ensures refused { IfErr result (λ e. Refuses e (react session.old (called (called_by request.entry))).error (move_refusal reference (limit_of session.old.state) (react session.old (called (called_by request.entry))) carrier.old.state)) }
-    ensures err { OnErr result ((session.new ≡ session.old) × (carrier.new ≡ carrier.old)) }
+/// Keeps the session selectors of a CN. It stands out of line: else the room for them would be made on
+/// the way of data, too.
+#[inline(never)]
+fn note(selectors: &mut Option<SessionSelectors>, told: Told<'_>)
+    ensures { option_map session_selectors selectors.new ≡ selectors_told (told_input told.entry) }
 {
-    match request {
-        Request::Data { user_data } => make_data_call(session, carrier, reference, user_data),
-        _ => make_planned_call(session, carrier, reference, request),
-    }
+    *selectors = SessionSelectors::told(told);
 }
 
 impl Line {
@@ -233,7 +194,7 @@ impl Line {
         let Some(session) = &mut self.session else {
             return Ok(());
         };
-        let is_shown = shows_loss(session.phase());
+        let phase = session.phase();
         let Ok(connects) = hear(
             alloc,
             session,
@@ -242,14 +203,11 @@ impl Line {
             carrier,
             self.reference,
         ) else {
-            self.session = None;
-            if is_shown {
-                self.waiting.push_back_reserved(lost());
-            }
+            forget(&mut self.session, &mut self.waiting, shows_loss(phase));
             return Err(AllocError);
         };
         if connects {
-            self.selectors = SessionSelectors::told(told);
+            note(&mut self.selectors, told);
         }
         Ok(())
     }
@@ -262,10 +220,7 @@ impl Line {
             return;
         };
         let is_shown = shows_loss(session.phase());
-        self.session = None;
-        if is_shown {
-            self.waiting.push_back_reserved(lost());
-        }
+        forget(&mut self.session, &mut self.waiting, is_shown);
     }
 
     /// A call of the user. Each error changes nothing.

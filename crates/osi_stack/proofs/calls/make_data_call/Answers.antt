@@ -2,7 +2,7 @@ use Rattle.std.proofs.Common.{refl}
 use Rattle.osi_session.specs.Calls.{Data}
 use Rattle.osi_session.specs.Sizes.{limit_of}
 use Rattle.osi_stack.proofs.Calling.{call_handed, call_allowed, call_refused}
-use Rattle.osi_stack.proofs.lines.make_data_call.Goals as goal
+use Rattle.osi_stack.proofs.calls.make_data_call.Goals as goal
 
 pub returns-clause-carrier : goal.returns-clause-carrier
 returns-clause-carrier c =

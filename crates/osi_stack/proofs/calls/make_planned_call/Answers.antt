@@ -3,7 +3,7 @@ use Rattle.osi_session.specs.Calls.{called_by}
 use Rattle.osi_session.specs.Sizes.{limit_of}
 use Rattle.osi_session.specs.declared.faults.CallError.{CallError}
 use Rattle.osi_stack.proofs.Calling.{call_handed, call_allowed, call_refused}
-use Rattle.osi_stack.proofs.lines.make_planned_call.Goals as goal
+use Rattle.osi_stack.proofs.calls.make_planned_call.Goals as goal
 
 pub returns-in-Err-clause-refused : goal.returns-in-Err-clause-refused
 returns-in-Err-clause-refused c =

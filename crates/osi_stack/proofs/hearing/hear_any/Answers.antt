@@ -4,7 +4,7 @@ use Rattle.osi_message.specs.Parting.{in_one}
 use Rattle.osi_session.specs.Listening.{react}
 use Rattle.osi_stack.specs.Telling.{told_input}
 use Rattle.osi_stack.proofs.Handing.{answer_heard}
-use Rattle.osi_stack.proofs.hearing.hear.Goals as goal
+use Rattle.osi_stack.proofs.hearing.hear_any.Goals as goal
 
 pub returns-clause-carrier : goal.returns-clause-carrier
 returns-clause-carrier c =

@@ -1,25 +1,18 @@
-use Rattle.std.proofs.Common.{◌≡◌, ℕ, [], ◌∷◌, ◌++◌, map, None, true, false, sym, ap, subst, ◌∙◌, option_map}
+use Rattle.std.proofs.Common.{◌≡◌, ℕ, [], ◌∷◌, ◌++◌, map, Option, None, ap, subst, ◌∙◌, option_map, if◌then◌else◌}
+use Rattle.osi_session.specs.Listening.{Listener}
 use Rattle.osi_session.specs.Phases.{shows_loss}
 use Rattle.osi_session.specs.Shown.{Lost, shown_by}
 use Rattle.osi_stack.specs.Hearing.{loses}
 use Rattle.osi_stack.specs.Selectors.{session_selectors}
 use Rattle.osi_stack.specs.State.{Line}
-use Rattle.osi_stack.proofs.Losing.{lost_line, one_more, none_more}
+use Rattle.osi_stack.proofs.Losing.{lost_line}
 use Rattle.osi_stack.proofs.lines.Line.hear.Goals as goal
 
-pub returns-then-is_shown-clause-lost : goal.returns-then-is_shown-clause-lost
-returns-then-is_shown-clause-lost c =
+pub returns-in_default-hear-clause-lost : goal.returns-in_default-hear-clause-lost
+returns-in_default-hear-clause-lost c =
     let line : Line = record { session = c.self.inside.session; waiting = map shown_by c.self.inside.waiting.items; selectors = option_map session_selectors c.self.inside.selectors } in
-    let shows : true ≡ shows_loss c.in-Some.session.state.phase = sym c.if-is_shown.true ∙ c.shows_loss-is_shown.ensures ∙ ap shows_loss c.phase.ensures.value in
-    subst (λ (v : ℕ × Line). (c.self.inside.reference, record line { session = None; waiting = map shown_by c.push_back_reserved.new.self.items }) ≡ (v.0, loses v.1)) c.self.view_is
-    (ap (λ (l : Line). (c.self.inside.reference, l)) (lost_line c.in-Some.session line true (map shown_by c.push_back_reserved.new.self.items) c.in-Some.is shows
-    (one_more c.self.inside.waiting.items c.push_back_reserved.new.self.items c.lost.result Lost
-    (c.push_back_reserved.ensures.items ∙ ap (λ l. l ++ c.lost.result ∷ []) c.in_default-hear.ensures.kept) c.lost.ensures)))
-
-pub returns-else-is_shown-clause-lost : goal.returns-else-is_shown-clause-lost
-returns-else-is_shown-clause-lost c =
-    let line : Line = record { session = c.self.inside.session; waiting = map shown_by c.self.inside.waiting.items; selectors = option_map session_selectors c.self.inside.selectors } in
-    let shows : false ≡ shows_loss c.in-Some.session.state.phase = sym c.if-is_shown.false ∙ c.shows_loss-is_shown.ensures ∙ ap shows_loss c.phase.ensures.value in
-    subst (λ (v : ℕ × Line). (c.self.inside.reference, record line { session = None; waiting = map shown_by c.hear.new.waiting.items }) ≡ (v.0, loses v.1)) c.self.view_is
-    (ap (λ (l : Line). (c.self.inside.reference, l)) (lost_line c.in-Some.session line false (map shown_by c.hear.new.waiting.items) c.in-Some.is shows
-    (ap (map shown_by) c.in_default-hear.ensures.kept ∙ none_more (map shown_by c.self.inside.waiting.items))))
+    ap (λ (o : Option Listener). (c.self.inside.reference, record line { session = o; waiting = map shown_by c.forget.new.waiting.items })) c.forget.ensures.session
+    ∙ subst (λ (v : ℕ × Line). (c.self.inside.reference, record line { session = None; waiting = map shown_by c.forget.new.waiting.items }) ≡ (v.0, loses v.1)) c.self.view_is
+    (ap (λ (l : Line). (c.self.inside.reference, l)) (lost_line c.in-Some.session line c.shows_loss.result (map shown_by c.forget.new.waiting.items) c.in-Some.is
+    (c.shows_loss.ensures ∙ ap shows_loss c.phase-phase.ensures.value)
+    (c.forget.ensures.waiting ∙ ap (λ (l : _). map shown_by l ++ (if c.shows_loss.result then Lost ∷ [] else [])) c.in_default-hear.ensures.kept)))

@@ -1,0 +1,150 @@
+//! A call of the user: what it sends is handed to the carrier, and then the session does it.
+
+ghost use Rattle.std.specs.Prelude.{◌≡◌, None, IfErr, OnOk, OnErr};
+ghost use Rattle.osi_carrier.specs.Calls.{send_all_error, open_link};
+ghost use Rattle.osi_session.specs.Calls.{Data, Minor, MinorConfirm, called_by};
+ghost use Rattle.osi_session.specs.Listening.{called, react};
+ghost use Rattle.osi_session.specs.Points.{in_numbers};
+ghost use Rattle.osi_session.specs.Sizes.{limit_of};
+ghost use Rattle.osi_session.specs.Sound.{IsSound};
+ghost use Rattle.osi_stack.specs.Calls.{move_refusal, send_refusal, Refuses};
+ghost use Rattle.osi_stack.specs.Moving.{answers};
+ghost use Rattle.osi_stack.specs.Transport.{hands};
+
+use crate::transport::{send_call, send_owned_call};
+use osi_carrier::Carrier;
+use osi_session::{CallError, PlannedPoint, Request, Session};
+
+/// Sends data, which leaves the session as it is. Each error changes nothing.
+fn make_data_call(
+    session: &Session,
+    carrier: &mut Carrier,
+    reference: u16,
+    user_data: &[u8],
+) -> Result<(), CallError>
+    ensures session { OnOk result (session.now ≡ (react session.now (called (Data user_data.now))).next) }
+    ensures carrier { OnOk result (carrier.new ≡ record carrier.old { state = answers reference (limit_of session.now.state) (react session.now (called (Data user_data.now))) carrier.old.state }) }
+    ensures allowed { OnOk result (move_refusal reference (limit_of session.now.state) (react session.now (called (Data user_data.now))) carrier.old.state ≡ None) }
+    ensures refused { IfErr result (λ e. Refuses e (react session.now (called (Data user_data.now))).error (move_refusal reference (limit_of session.now.state) (react session.now (called (Data user_data.now))) carrier.old.state)) }
+    ensures err { OnErr result (carrier.new ≡ carrier.old) }
+{
+    let sent = session.call_data(user_data)?;
+    send_owned_call(carrier, reference, sent)
+}
+
+/// Sends a point, and then the session has the numbers behind it. Each error changes nothing.
+fn send_point(
+    session: &mut Session,
+    carrier: &mut Carrier,
+    reference: u16,
+    point: PlannedPoint,
+) -> Result<(), CallError>
+    requires { IsSound (record session.old.state { numbers = point.numbers }) }
+    ensures session { OnOk result (session.new ≡ in_numbers session.old point.numbers) }
+    ensures carrier { OnOk result (carrier.new ≡ record carrier.old { state = hands reference point.sent carrier.old.state }) }
+    ensures allowed { OnOk result (send_refusal (send_all_error point.sent (open_link reference carrier.old.state)) ≡ None) }
+    ensures refused { IfErr result (λ e. Refuses e None (send_refusal (send_all_error point.sent (open_link reference carrier.old.state)))) }
+    ensures err { OnErr result ((session.new ≡ session.old) × (carrier.new ≡ carrier.old)) }
+{
+    let PlannedPoint {
+        sent: tsdus,
+        numbers,
+    } = point;
+    match send_owned_call(carrier, reference, tsdus) {
+        Ok(()) => {
+            session.advance(numbers);
+            Ok(())
+        }
+        Err(error) => Err(error),
+    }
+}
+
+/// Sends a minor point, which changes the numbers of the session alone. Each error changes nothing. It
+/// stands out of line: data is sent more often.
+#[inline(never)]
+fn make_minor_call(
+    session: &mut Session,
+    carrier: &mut Carrier,
+    reference: u16,
+    confirm: bool,
+    user_data: &[u8],
+) -> Result<(), CallError>
+    ensures session { OnOk result (session.new ≡ (react session.old (called (Minor confirm user_data.now))).next) }
+    ensures carrier { OnOk result (carrier.new ≡ record carrier.old { state = answers reference (limit_of session.old.state) (react session.old (called (Minor confirm user_data.now))) carrier.old.state }) }
+    ensures allowed { OnOk result (move_refusal reference (limit_of session.old.state) (react session.old (called (Minor confirm user_data.now))) carrier.old.state ≡ None) }
+    ensures refused { IfErr result (λ e. Refuses e (react session.old (called (Minor confirm user_data.now))).error (move_refusal reference (limit_of session.old.state) (react session.old (called (Minor confirm user_data.now))) carrier.old.state)) }
+    ensures err { OnErr result ((session.new ≡ session.old) × (carrier.new ≡ carrier.old)) }
+{
+    let point = session.plan_minor(confirm, user_data)?;
+    send_point(session, carrier, reference, point)
+}
+
+/// Sends the confirmation of a minor point, in the same way.
+#[inline(never)]
+fn make_minor_confirm_call(
+    session: &mut Session,
+    carrier: &mut Carrier,
+    reference: u16,
+    number: u32,
+    user_data: &[u8],
+) -> Result<(), CallError>
+    ensures session { OnOk result (session.new ≡ (react session.old (called (MinorConfirm number user_data.now))).next) }
+    ensures carrier { OnOk result (carrier.new ≡ record carrier.old { state = answers reference (limit_of session.old.state) (react session.old (called (MinorConfirm number user_data.now))) carrier.old.state }) }
+    ensures allowed { OnOk result (move_refusal reference (limit_of session.old.state) (react session.old (called (MinorConfirm number user_data.now))) carrier.old.state ≡ None) }
+    ensures refused { IfErr result (λ e. Refuses e (react session.old (called (MinorConfirm number user_data.now))).error (move_refusal reference (limit_of session.old.state) (react session.old (called (MinorConfirm number user_data.now))) carrier.old.state)) }
+    ensures err { OnErr result ((session.new ≡ session.old) × (carrier.new ≡ carrier.old)) }
+{
+    let point = session.plan_minor_confirm(number, user_data)?;
+    send_point(session, carrier, reference, point)
+}
+
+/// Sends what a call of the user does, and then the session does it. Each error changes nothing. It
+/// stands out of line: else the room for its plan would be made on the way to data, too.
+#[inline(never)]
+fn make_planned_call(
+    session: &mut Session,
+    carrier: &mut Carrier,
+    reference: u16,
+    request: Request,
+) -> Result<(), CallError>
+    ensures session { OnOk result (session.new ≡ (react session.old (called (called_by request.entry))).next) }
+    ensures carrier { OnOk result (carrier.new ≡ record carrier.old { state = answers reference (limit_of session.old.state) (react session.old (called (called_by request.entry))) carrier.old.state }) }
+    ensures allowed { OnOk result (move_refusal reference (limit_of session.old.state) (react session.old (called (called_by request.entry))) carrier.old.state ≡ None) }
+    ensures refused { IfErr result (λ e. Refuses e (react session.old (called (called_by request.entry))).error (move_refusal reference (limit_of session.old.state) (react session.old (called (called_by request.entry))) carrier.old.state)) }
+    ensures err { OnErr result ((session.new ≡ session.old) × (carrier.new ≡ carrier.old)) }
+{
+    let plan = session.plan(request)?;
+    match send_call(carrier, reference, plan.sent()) {
+        Ok(()) => {}
+        Err(error) => return Err(error),
+    }
+    let Some(_sent) = session.commit(plan) else {
+        unreachable!()
+    };
+    Ok(())
+}
+
+/// Sends what a call of the user does, and then the session does it. Each error changes nothing.
+pub fn make_call(
+    session: &mut Session,
+    carrier: &mut Carrier,
+    reference: u16,
+    request: Request,
+) -> Result<(), CallError>
+    ensures session { OnOk result (session.new ≡ (react session.old (called (called_by request.entry))).next) }
+    ensures carrier { OnOk result (carrier.new ≡ record carrier.old { state = answers reference (limit_of session.old.state) (react session.old (called (called_by request.entry))) carrier.old.state }) }
+    ensures allowed { OnOk result (move_refusal reference (limit_of session.old.state) (react session.old (called (called_by request.entry))) carrier.old.state ≡ None) }
+    ensures refused { IfErr result (λ e. Refuses e (react session.old (called (called_by request.entry))).error (move_refusal reference (limit_of session.old.state) (react session.old (called (called_by request.entry))) carrier.old.state)) }
+    ensures err { OnErr result ((session.new ≡ session.old) × (carrier.new ≡ carrier.old)) }
+{
+    match request {
+        Request::Data { user_data } => make_data_call(session, carrier, reference, user_data),
+        Request::Minor { confirm, user_data } => {
+            make_minor_call(session, carrier, reference, confirm, user_data)
+        }
+        Request::MinorConfirm { number, user_data } => {
+            make_minor_confirm_call(session, carrier, reference, number, user_data)
+        }
+        _ => make_planned_call(session, carrier, reference, request),
+    }
+}
