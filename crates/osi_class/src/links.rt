@@ -32,10 +32,12 @@ pub trait Link {
         ensures limit { (standing self.new).ends.limit ≡ (standing self.old).ends.limit };
 
     /// Hands in TSDUs together, the first of them first, as [`Link::send_tsdu`] does with each: all of
-    /// them or none. Where no memory is found, nothing has changed.
+    /// them or none. Where no memory is found, nothing has changed; where there are no TSDUs, none is
+    /// needed.
     fn send_tsdus(&mut self, tsdus: &[Vec<u8>]) -> Result<(), AllocError>
         ensures ok { OnOk result (standing self.new ≡ with_tsdus (standing self.old) (map (λ v. v.items) tsdus.now)) }
         ensures err { OnErr result (self.new ≡ self.old) }
+        ensures nothing { tsdus.now ≡ [] → IsOk result }
         ensures limit { (standing self.new).ends.limit ≡ (standing self.old).ends.limit };
 
     /// Hands in a TSDU as [`Link::send_tsdu`] does, with the room that its octets are in: none is copied.
@@ -48,10 +50,11 @@ pub trait Link {
         ensures limit { (standing self.new).ends.limit ≡ (standing self.old).ends.limit };
 
     /// Hands in TSDUs together as [`Link::send_tsdus`] does, with the room that their octets are in: none is
-    /// copied. Where no memory is found, nothing has changed.
+    /// copied. Where no memory is found, nothing has changed; where there are no TSDUs, none is needed.
     fn send_owned_tsdus(&mut self, tsdus: Vec<Vec<u8>>) -> Result<(), AllocError>
         ensures ok { OnOk result (standing self.new ≡ with_tsdus (standing self.old) (map (λ v. v.items) tsdus.items)) }
         ensures err { OnErr result (self.new ≡ self.old) }
+        ensures nothing { tsdus.items ≡ [] → IsOk result }
         ensures limit { (standing self.new).ends.limit ≡ (standing self.old).ends.limit };
 
     /// The first part of a TSDU that goes at once, since nothing else is to be given: as many octets as

@@ -131,11 +131,16 @@ impl Outgoing {
         Ok(())
     }
 
-    /// Puts copies of TSDUs behind those that are to be sent: of all or of none.
+    /// Puts copies of TSDUs behind those that are to be sent: of all or of none. Where there are none,
+    /// no memory is needed.
     pub fn add_all(&mut self, tsdus: &[Vec<u8>]) -> Result<(), AllocError>
         ensures ok { OnOk result (self.new.unsent ≡ self.old.unsent ++ map (λ v. v.items) tsdus.now) }
         ensures err { OnErr result (self.new ≡ self.old) }
+        ensures nothing { tsdus.now ≡ [] → IsOk result }
     {
+        if tsdus.is_empty() {
+            return Ok(());
+        }
         let queued = queued_with(self.queued, octets_of(tsdus)?, self.current.len())?;
         let mut copies = copy_all(self.alloc, tsdus)?;
         self.queue.append(&mut copies)?;
@@ -144,11 +149,15 @@ impl Outgoing {
     }
 
     /// Puts TSDUs themselves behind those that are to be sent: all or none. Their octets stay where they
-    /// are.
+    /// are. Where there are no TSDUs, no memory is needed.
     pub fn add_owned_all(&mut self, tsdus: Vec<Vec<u8>>) -> Result<(), AllocError>
         ensures ok { OnOk result (self.new.unsent ≡ self.old.unsent ++ map (λ v. v.items) tsdus.items) }
         ensures err { OnErr result (self.new ≡ self.old) }
+        ensures nothing { tsdus.items ≡ [] → IsOk result }
     {
+        if tsdus.is_empty() {
+            return Ok(());
+        }
         let queued = queued_with(
             self.queued,
             octets_of(tsdus.as_slice())?,
