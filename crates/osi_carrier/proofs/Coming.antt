@@ -201,7 +201,7 @@ finds_none old new outgoing coming k used less c h =
     (subst (λ l. ArePackets h.units (old.held.octets ++ l) h.rest) (same_part outgoing n k within) h.packets) in
     let ended : new.state ≡ ends NoMemory h.before =
     elim h.how [
-      | inl e ↦ e
+      | inl e ↦ e.ended
       | inr p ↦ starved_by h.before new.state p.0 f.left [] (drop n outgoing)
           (units_front (p.0 ∷ []) f.left h.rest [] (drop n outgoing) f.rest.sendable p.1 f.rest.octets) p.2
     ] in

@@ -1,15 +1,15 @@
 -- What the cutter answered, as the carrier's look at the stream.
-use Rattle.std.proofs.Common.{◌≡◌, ℕ, ◌+◌, ◌<◌, Bool, true, false, List, [], ◌++◌, length, take, None, Result, Ok, Err, MatchBool, refl, sym, ap, subst, ◌∙◌, inl, inr, arith}
-use Rattle.std.proofs.lemmas.List.{take_all, length-take-le}
-use Rattle.osi_tpkt.specs.Cutter.{TakesPiece, Passes}
+use Rattle.std.proofs.Common.{◌≡◌, ℕ, zero, suc, ◌+◌, ◌<◌, ◌≤◌, Bool, true, false, List, [], ◌++◌, length, take, drop, None, Result, Ok, Err, MatchBool, refl, sym, ap, subst, ◌∙◌, inl, inr, arith}
+use Rattle.std.proofs.lemmas.List.{append-nil, take-append-drop, take_all, length-take-le}
+use Rattle.osi_tpkt.specs.Cutter.{TakesPiece, Belongs, Passes}
 use Rattle.osi_tpkt.specs.Held.{Held, IsHolding}
 use Rattle.osi_tpkt.specs.Packet.{IsPacket, IsOnePacket, IsPartial, IsFaultOf}
 use Rattle.osi_tpkt.specs.Stream.{offset_of}
 use Rattle.osi_tpkt.specs.declared.cutting.Fed.{Fed}
 use Rattle.osi_tpkt.specs.declared.faults.TpktFault.{TpktFault}
 use Rattle.osi_tpkt.specs.declared.faults.TpktFault.TheVariants.{BadVersion, BadLength, OutOfMemory}
-use Rattle.osi_carrier.specs.Fetching.{PacketActs, PartHeld, EndsOver}
-use Rattle.osi_carrier.specs.Packets.{Carrying, IsReading, Acts, after_refusal}
+use Rattle.osi_carrier.specs.Fetching.{PacketActs, PartHeld, EndsOver, IsNoFront}
+use Rattle.osi_carrier.specs.Packets.{Carrying, IsReading, HasToHold, Acts, after_refusal}
 
 -- a proper prefix of a packet is no packet
 abbrev pub Proper : Type 0
@@ -35,13 +35,42 @@ Refuses fault = Err fault
 pub same_fault : (f fault : TpktFault) → Refuses fault ≡ Refuses f → f ≡ fault
 same_fault f fault e = cc
 
-pub ended_over : (old new : Carrying) (octets : List ℕ) (fault : TpktFault) (held : Held) → TakesPiece old.held octets (Err fault) held →
+-- what belongs to the packet is some of the octets
+some_belongs : Proper → (held octets : List ℕ) (used : ℕ) (whole : Bool) → IsPartial held → 0 < length octets →
+    MatchBool whole (IsOnePacket (held ++ take used octets)) (IsPartial (held ++ take used octets) × (used ≡ length octets)) → 0 < used
+some_belongs proper held octets zero true partial some h = absurd (proper held partial (subst IsOnePacket (append-nil held) h))
+some_belongs proper held octets (suc n) true partial some h = omega arith
+some_belongs proper held octets used false partial some h = let all = h.1 in omega arith
+
+-- it does not lie whole in them
+parted_belongs : (octets : List ℕ) (used : ℕ) (whole : Bool) → IsNoFront octets →
+    MatchBool whole (IsOnePacket (take used octets)) (IsPartial (take used octets) × (used ≡ length octets)) → whole ≡ false
+parted_belongs octets used true apart h = absurd (apart h.0 (take used octets) (drop used octets) h.1 (sym (take-append-drop used octets)))
+parted_belongs octets used false apart h = refl
+
+has_to_hold : Proper → (room : ℕ) (held octets : List ℕ) → IsPartial held → 0 < length octets → (held ≡ [] → IsNoFront octets) →
+    (fed : Fed) → Belongs held octets fed → room < length held + fed.used → HasToHold room held octets
+has_to_hold proper room held octets partial some parted fed belongs more = record {
+  next = fed;
+  belongs = belongs;
+  some = some_belongs proper held octets fed.used fed.whole partial some belongs.whole;
+  parted = λ none. parted_belongs octets fed.used fed.whole (parted none)
+      (subst (λ h. MatchBool fed.whole (IsOnePacket (h ++ take fed.used octets)) (IsPartial (h ++ take fed.used octets) × (fed.used ≡ length octets))) none belongs.whole);
+  more = more;
+}
+
+pub ended_over : Proper → (old new : Carrying) (octets : List ℕ) (fault : TpktFault) (held : Held) → IsPartial old.held.octets → 0 < length octets →
+    (old.held.octets ≡ [] → IsNoFront octets) → TakesPiece old.held octets (Err fault) held →
     ((f : TpktFault) → IsFaultOf old.held.offset (old.held.octets ++ octets) f → f ≡ fault) →
     new.state ≡ after_refusal fault old.state → new.held.octets ≡ [] → EndsOver old octets new
-ended_over old new octets (BadVersion at) held taken only h none = record { how = inl (record { fault = BadVersion at; is = taken.0; ended = h }); held = none }
-ended_over old new octets (BadLength at) held taken only h none = record { how = inl (record { fault = BadLength at; is = taken.0; ended = h }); held = none }
-ended_over old new octets OutOfMemory held taken only h none = record {
-  how = inr (record { faultless = never_faulty old.held.offset (old.held.octets ++ octets) only; ended = h });
+ended_over proper old new octets (BadVersion at) held partial some parted taken only h none = record { how = inl (record { fault = BadVersion at; is = taken.0; ended = h }); held = none }
+ended_over proper old new octets (BadLength at) held partial some parted taken only h none = record { how = inl (record { fault = BadLength at; is = taken.0; ended = h }); held = none }
+ended_over proper old new octets OutOfMemory held partial some parted taken only h none = record {
+  how = inr (record {
+    faultless = never_faulty old.held.offset (old.held.octets ++ octets) only;
+    holds = has_to_hold proper old.held.room old.held.octets octets partial some parted taken.0 taken.1 taken.2;
+    ended = h;
+  });
   held = none;
 }
 
@@ -58,6 +87,7 @@ fetched_part proper old new octets fed taken partial same =
       held = held ∙ ap (λ n. old.held.octets ++ take n octets) part.1 ∙ ap (λ l. old.held.octets ++ l) (take_all (length octets) octets (omega arith));
       partial = partial;
       offset = ap (λ (h : Held). h.offset) gains.octets;
+      room = gains.room;
     }
 
 pub fetched_packet : Proper → IsPartial [] → (old new : Carrying) (octets : List ℕ) (fed : Fed) (held : Held) (packet : List ℕ) → TakesPiece old.held octets (Ok fed) held →
@@ -80,6 +110,7 @@ fetched_packet proper nothing old new octets fed held packet taken stands progre
       reading = record { holding = holding; partial = subst IsPartial (sym (ap (λ (h : Held). h.octets) advanced)) nothing; fault = ap (λ (h : Held). h.fault) advanced };
       offset = ap (λ (h : Held). h.offset) advanced ∙ ap (λ n. offset_of (n + length held.octets)) (ap (λ (h : Held). h.offset) gains.octets)
           ∙ ap (λ l. offset_of (old.held.offset + length l)) joined;
+      room = subst (λ n. old.held.room ≤ n) (sym (ap (λ (h : Held). h.room) advanced)) gains.room;
     }
 
 -- ---- a packet that is passed by
@@ -105,4 +136,5 @@ passed_packet nothing old new octets packet p holding acted =
       reading = passed_reading nothing old.held new.held packet octets p holding;
       offset = ap (λ (h : Held). h.offset) p.after ∙ ap (λ n. offset_of (old.held.offset + n)) (sym size)
           ∙ ap (λ l. offset_of (old.held.offset + length (l ++ take (4 + length packet) octets))) (sym p.empty);
+      room = (let same = ap (λ (h : Held). h.room) p.after in omega arith);
     }

@@ -163,7 +163,7 @@ over_goes laws old piece fed new later lasts (inr (inl refused)) over =
     (subst (λ l. ArePackets lasts.units l lasts.rest) same lasts.packets) refused.cut.1 in
     absurd (no_fault laws _ parted.more refused.cut.0 later lasts.rest refused.fault refused.cut.2 lasts.partial parted.packets)
 over_goes laws old piece fed new later lasts (inr (inr starved)) over =
-    elim starved.how [ inl none ↦ ap (λ (x : State). x.ended) none | inr h ↦ ap (λ (x : State). x.ended) h.2.2.ended ]
+    elim starved.how [ inl none ↦ ap (λ (x : State). x.ended) none.ended | inr h ↦ ap (λ (x : State). x.ended) h.2.2.ended ]
 
 over_feed : PacketLaws → (old : Carrying) (piece : List ℕ) (fed : Fed) (new : Carrying) (later : List ℕ) (waiting : Bool) → waits old.state ≡ waiting → old.state.ended ≡ None →
     Lasts old (old.held.octets ++ (take fed.used piece ++ later)) → Feeds old piece fed new → is_some new.state.ended ≡ true → new.state.ended ≡ Some NoMemory

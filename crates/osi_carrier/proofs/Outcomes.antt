@@ -216,7 +216,7 @@ ends_goes old piece fed new later (inr (inl refused)) over full =
       nothing = refused.held;
     }
 ends_goes old piece fed new later (inr (inr starved)) over full =
-    absurd (full (elim starved.how [ inl none ↦ ap (λ (x : State). x.ended) none | inr h ↦ ap (λ (x : State). x.ended) h.2.2.ended ]))
+    absurd (full (elim starved.how [ inl none ↦ ap (λ (x : State). x.ended) none.ended | inr h ↦ ap (λ (x : State). x.ended) h.2.2.ended ]))
 
 ends_feed : (old : Carrying) (piece : List ℕ) (fed : Fed) (new : Carrying) (later : List ℕ) (waiting : Bool) → waits old.state ≡ waiting → old.state.ended ≡ None → Feeds old piece fed new → is_some new.state.ended ≡ true →
     (new.state.ended ≡ Some NoMemory → ⊥) → Outcome old (old.held.octets ++ (take fed.used piece ++ later)) new.state new.held.octets

@@ -154,7 +154,7 @@ reads_goes nothing old piece fed new (inl (inr stop)) lasts = reads_stopped noth
 reads_goes nothing old piece fed new (inr (inl refused)) lasts = over_none new.state.ended _ (ap (λ (x : State). x.ended) refused.ended) lasts
 reads_goes nothing old piece fed new (inr (inr starved)) lasts =
     elim starved.how [
-      | inl none ↦ over_none new.state.ended _ (ap (λ (x : State). x.ended) none) lasts
+      | inl none ↦ over_none new.state.ended _ (ap (λ (x : State). x.ended) none.ended) lasts
       | inr h ↦ over_none new.state.ended _ (ap (λ (x : State). x.ended) h.2.2.ended) lasts
     ]
 

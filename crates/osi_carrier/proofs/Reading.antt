@@ -9,8 +9,8 @@ use Rattle.osi_tpkt.specs.declared.faults.TpktFault.TheVariants.{BadVersion, Bad
 use Rattle.osi_tpdu.specs.Packet.{units_of}
 use Rattle.osi_tpdu.specs.Value.{Value}
 use Rattle.osi_tpdu.specs.declared.faults.TpduFault.{TpduFault}
-use Rattle.osi_carrier.specs.Fetching.{PacketActs, PartHeld, Faults, FindsNoRoom, EndsOver}
-use Rattle.osi_carrier.specs.Packets.{Carrying, IsReading, Acts, ActsBy, acts_by, after_packet, stops, waits, is_spoilt, TakesPackets, StopsBehind, Starves, FindsNoMemory, Goes, RunsOut}
+use Rattle.osi_carrier.specs.Fetching.{PacketActs, PartHeld, Faults, LacksRoom, EndsOver}
+use Rattle.osi_carrier.specs.Packets.{Carrying, IsReading, Acts, ActsBy, acts_by, after_packet, stops, waits, is_spoilt, TakesPackets, StopsBehind, Starves, HasToHold, FindsNoMemory, Goes, RunsOut}
 use Rattle.osi_carrier.specs.State.{State}
 use Rattle.osi_carrier.specs.declared.ends.EndReason.{EndReason}
 
@@ -60,6 +60,9 @@ pub record IsRead (old : Carrying) (piece : List ℕ) (now : Carrying) (rest : L
   pub quiet : stops now.state ≡ false
   pub reading : IsReading now.held
   pub offset : now.held.offset ≡ offset_of (old.held.offset + (length (old.held.octets ++ front) - length now.held.octets))
+  -- of the piece nothing is held
+  pub first : (front ≡ []) ⊎ (now.held.octets ≡ [])
+  pub room : old.held.room ≤ now.held.room
 
 pub read_first : (old : Carrying) (piece : List ℕ) → stops old.state ≡ false → IsReading old.held → IsRead old piece old piece
 read_first old piece quiet reading =
@@ -74,6 +77,8 @@ read_first old piece quiet reading =
       quiet = quiet;
       reading = reading;
       offset = omega arith;
+      first = inl refl;
+      room = omega arith;
     }
 
 -- ---- the next packet
@@ -109,6 +114,8 @@ read_next old piece now rest used new read acts quiet =
     elim (acts_cases now.state new.state acts.packet acts.acted) [ inl h ↦ h | inr h ↦ (let over : stops new.state ≡ true = ap stops h.2.ended in cc) ] in
     let none = ap length acts.held in
     let far = b.offset in
+    let before = read.room in
+    let after = acts.room in
     record {
       front = read.front ++ take used rest;
       units = read.units ++ acts.packet ∷ [];
@@ -118,6 +125,8 @@ read_next old piece now rest used new read acts quiet =
       quiet = quiet;
       reading = acts.reading;
       offset = omega arith;
+      first = inr acts.held;
+      room = omega arith;
     }
 
 -- so much of the piece was looked at
@@ -135,6 +144,8 @@ stopped_by old piece now rest used uses new read acts same stopped e =
     let seen = looked piece read.front rest used b.cut in
     let some = acts.some in
     let within = acts.within in
+    let before = read.room in
+    let after = acts.room in
     let looked_at = length-append read.front (take used rest) in
     let here = length-take used rest in
     let counted = length-append read.units (acts.packet ∷ []) in
@@ -150,6 +161,7 @@ stopped_by old piece now rest used uses new read acts same stopped e =
       uses = e;
       held = acts.held;
       offset = subst (λ l. new.held.offset ≡ offset_of (old.held.offset + length (old.held.octets ++ l))) (sym seen.0) b.offset;
+      room = omega arith;
     }
 
 pub read_stops : (old : Carrying) (piece : List ℕ) (now : Carrying) (rest : List ℕ) (used : ℕ) (new : Carrying) → IsRead old piece now rest →
@@ -235,6 +247,8 @@ whole_offset old piece now rest read =
 pub read_part : (old : Carrying) (piece : List ℕ) (now : Carrying) (rest : List ℕ) (new : Carrying) → IsRead old piece now rest →
     PartHeld now rest new → Goes old piece (length piece) new
 read_part old piece now rest new read part =
+    let before = read.room in
+    let after = part.room in
     inl (inl (record {
       units = read.units;
       all = refl;
@@ -243,10 +257,17 @@ read_part old piece now rest new read part =
       taken = subst (TakesPackets old.state read.units) (sym part.state) read.taken;
       quiet = ap stops part.state ∙ read.quiet;
       offset = part.offset ∙ whole_offset old piece now rest read ∙ ap (λ l. offset_of (old.held.offset + (length (old.held.octets ++ piece) - length l))) (sym part.held);
+      room = omega arith;
     }))
 
+-- with less room they have to be held too
+less_room : (room less : ℕ) (held left : List ℕ) → less ≤ room → HasToHold room held left → HasToHold less held left
+less_room room less held left bound h =
+    let more = h.more in
+    record { next = h.next; belongs = h.belongs; some = h.some; parted = h.parted; more = omega arith }
+
 over_by : (old : Carrying) (piece : List ℕ) (now : Carrying) (rest : List ℕ) (new : Carrying) → IsRead old piece now rest →
-    new.held.octets ≡ [] → Faults now rest new ⊎ FindsNoRoom now rest new → Goes old piece (length piece) new
+    new.held.octets ≡ [] → Faults now rest new ⊎ LacksRoom now rest new → Goes old piece (length piece) new
 over_by old piece now rest new read held (inl fault) =
     inr (inl (record {
       units = read.units;
@@ -277,7 +298,11 @@ over_by old piece now rest new read held (inr none) =
       packets = subst (λ l. ArePackets read.units (old.held.octets ++ l) now.held.octets) (sym seen) read.packets;
       taken = read.taken;
       quiet = read.quiet;
-      how = inl none.ended;
+      how = inl (record {
+        ended = none.ended;
+        first = elim read.first [ inl nothing ↦ inl (ap length nothing) | inr nothing ↦ inr nothing ];
+        holds = subst (HasToHold old.held.room now.held.octets) (sym behind) (less_room now.held.room old.held.room now.held.octets rest read.room none.holds);
+      });
       held = held;
       faultless = subst (λ l. (at : ℕ) (fault : TpktFault) → IsFaultOf at (now.held.octets ++ l) fault → ⊥) (sym behind) none.faultless;
     }))

@@ -1,9 +1,9 @@
 -- What one look at the stream does: up to the end of the first packet that stands whole.
-use Rattle.std.specs.Prelude.{◌≡◌, ℕ, ◌+◌, ◌<◌, ◌≤◌, List, [], ◌++◌, length, take, ◌⊎◌}
+use Rattle.std.specs.Prelude.{◌≡◌, ◌≢◌, ℕ, ◌+◌, ◌<◌, ◌≤◌, List, [], ◌++◌, length, take, ◌⊎◌}
 use Rattle.osi_tpkt.specs.Packet.{IsPacket, IsPartial, IsFaultOf}
 use Rattle.osi_tpkt.specs.Stream.{offset_of}
 use Rattle.osi_tpkt.specs.declared.faults.TpktFault.{TpktFault}
-use Rattle.osi_carrier.specs.Packets.{Carrying, IsReading, Acts}
+use Rattle.osi_carrier.specs.Packets.{Carrying, IsReading, HasToHold, Acts}
 use Rattle.osi_carrier.specs.State.{ends, fails}
 use Rattle.osi_carrier.specs.declared.carrier.feeding.Fetched.{Fetched}
 use Rattle.osi_carrier.specs.declared.carrier.feeding.Fetched.TheVariants.{Packet, Part, Over}
@@ -20,6 +20,7 @@ pub record PacketActs (old : Carrying) (octets : List ℕ) (used : ℕ) (new : C
   pub held : new.held.octets ≡ []
   pub reading : IsReading new.held
   pub offset : new.held.offset ≡ offset_of (old.held.offset + length (old.held.octets ++ take used octets))
+  pub room : old.held.room ≤ new.held.room
 
 -- the octets are held, and the packet's end has not come
 pub record PartHeld (old : Carrying) (octets : List ℕ) (new : Carrying) : Type 0 where
@@ -27,23 +28,29 @@ pub record PartHeld (old : Carrying) (octets : List ℕ) (new : Carrying) : Type
   pub held : new.held.octets ≡ old.held.octets ++ octets
   pub partial : IsPartial new.held.octets
   pub offset : new.held.offset ≡ old.held.offset
+  pub room : old.held.room ≤ new.held.room
 
 pub record Faults (old : Carrying) (octets : List ℕ) (new : Carrying) : Type 0 where
   pub fault : TpktFault
   pub is : IsFaultOf old.held.offset (old.held.octets ++ octets) fault
   pub ended : new.state ≡ fails (Tpkt fault) old.state
 
--- there was no memory to hold the octets, which have no fault behind what was held
-pub record FindsNoRoom (old : Carrying) (octets : List ℕ) (new : Carrying) : Type 0 where
+-- there was no memory to hold octets that have to be held, and no fault behind what was
+pub record LacksRoom (old : Carrying) (octets : List ℕ) (new : Carrying) : Type 0 where
   pub faultless : (at : ℕ) (fault : TpktFault) → IsFaultOf at (old.held.octets ++ octets) fault → ⊥
+  pub holds : HasToHold old.held.room old.held.octets octets
   pub ended : new.state ≡ ends NoMemory old.state
 
 -- what was held and the octets are no packet, or there was no memory; nothing is held any more
 pub record EndsOver (old : Carrying) (octets : List ℕ) (new : Carrying) : Type 0 where
-  pub how : Faults old octets new ⊎ FindsNoRoom old octets new
+  pub how : Faults old octets new ⊎ LacksRoom old octets new
   pub held : new.held.octets ≡ []
 
 abbrev pub Fetches : Carrying → List ℕ → Fetched → Carrying → Type 0
 Fetches old octets (Packet used) new = PacketActs old octets used new
 Fetches old octets Part new = PartHeld old octets new
 Fetches old octets Over new = EndsOver old octets new
+
+-- no packet stands whole at the front of these octets
+abbrev pub IsNoFront : List ℕ → Type 0
+IsNoFront octets = (unit packet rest : List ℕ) → IsPacket unit packet → octets ≢ packet ++ rest

@@ -1,5 +1,6 @@
 -- What packets do to a carrier, and what feeding a piece of the stream does.
 use Rattle.std.specs.Prelude.{◌≡◌, ℕ, ◌+◌, ◌-◌, ◌<◌, ◌≤◌, ◌||◌, ◌==◌, not, Bool, true, false, List, [], ◌∷◌, ◌++◌, length, take, drop, Option, Some, None, is_some, IsSome, Result, Ok, Err, ◌⊎◌, if◌then◌else◌}
+use Rattle.osi_tpkt.specs.Cutter.{Belongs}
 use Rattle.osi_tpkt.specs.Held.{Held, IsHolding}
 use Rattle.osi_tpkt.specs.Packet.{IsPartial, IsFaultOf}
 use Rattle.osi_tpkt.specs.Stream.{ArePackets, CutsFrom, offset_of}
@@ -102,6 +103,8 @@ pub record RunsDry (old : Carrying) (piece : List ℕ) (used : ℕ) (new : Carry
   pub taken : TakesPackets old.state units new.state
   pub quiet : stops new.state ≡ false
   pub offset : new.held.offset ≡ offset_of (old.held.offset + (length (old.held.octets ++ piece) - length new.held.octets))
+  -- the room stays
+  pub room : old.held.room ≤ new.held.room
 
 -- The piece up to `within` was cut into packets, of which the last stopped. All of the piece is
 -- used where the carrier ended by a fault.
@@ -118,6 +121,7 @@ pub record StopsBehind (old : Carrying) (piece : List ℕ) (used : ℕ) (new : C
   pub uses : used ≡ (if is_spoilt new.state.ended then length piece else within)
   pub held : new.held.octets ≡ []
   pub offset : new.held.offset ≡ offset_of (old.held.offset + length (old.held.octets ++ take within piece))
+  pub room : old.held.room ≤ new.held.room
 
 -- What was held and the piece have a fault behind packets of which none stopped.
 pub record Refuses (old : Carrying) (piece : List ℕ) (used : ℕ) (new : Carrying) : Type 0 where
@@ -135,6 +139,21 @@ pub record Refuses (old : Carrying) (piece : List ℕ) (used : ℕ) (new : Carry
 abbrev pub Starves : State → List ℕ → State → Type 0
 Starves old packet new = (units : List Value) × (units_of packet ≡ Ok units) × RunsOut old units new
 
+-- Octets are left that belong to the packet of which these are held, and with them it is more than
+-- there is room for. A packet that lies whole in what is left is not held.
+pub record HasToHold (room : ℕ) (held left : List ℕ) : Type 0 where
+  pub next : Fed
+  pub belongs : Belongs held left next
+  pub some : 0 < next.used
+  pub parted : held ≡ [] → next.whole ≡ false
+  pub more : room < length held + next.used
+
+-- There was no memory to hold what is left of the piece. Behind a packet none of it is held yet.
+pub record FindsNoRoom (old : Carrying) (piece : List ℕ) (within : ℕ) (rest : List ℕ) (before new : State) : Type 0 where
+  pub ended : new ≡ ends NoMemory before
+  pub first : (within ≡ 0) ⊎ (rest ≡ [])
+  pub holds : HasToHold old.held.room rest (drop within piece)
+
 -- There was no memory to hold what belongs to a packet, or for a unit of the next packet. What stands
 -- behind the packets that acted has no fault: else the carrier would have ended by that.
 pub record FindsNoMemory (old : Carrying) (piece : List ℕ) (used : ℕ) (new : Carrying) : Type 0 where
@@ -147,7 +166,7 @@ pub record FindsNoMemory (old : Carrying) (piece : List ℕ) (used : ℕ) (new :
   pub packets : ArePackets units (old.held.octets ++ take within piece) rest
   pub taken : TakesPackets old.state units before
   pub quiet : stops before ≡ false
-  pub how : (new.state ≡ ends NoMemory before) ⊎ ((packet : List ℕ) × ArePackets (packet ∷ []) rest [] × Starves before packet new.state)
+  pub how : FindsNoRoom old piece within rest before new.state ⊎ ((packet : List ℕ) × ArePackets (packet ∷ []) rest [] × Starves before packet new.state)
   pub held : new.held.octets ≡ []
   pub faultless : (at : ℕ) (fault : TpktFault) → IsFaultOf at (rest ++ drop within piece) fault → ⊥
 

@@ -1,7 +1,7 @@
 //! The octets of the stream, cut into packets that act one after the other (RFC 1006 section 6).
 
-ghost use Rattle.std.specs.Prelude.{◌≡◌, ◌≤◌, false, length};
-ghost use Rattle.osi_carrier.specs.Fetching.{Fetches};
+ghost use Rattle.std.specs.Prelude.{◌≡◌, ◌<◌, ◌≤◌, false, [], length};
+ghost use Rattle.osi_carrier.specs.Fetching.{Fetches, IsNoFront};
 ghost use Rattle.osi_carrier.specs.Packets.{Goes, stops};
 
 use super::Carrier;
@@ -44,7 +44,9 @@ impl Carrier {
     /// The same, where octets are held or the packet goes on behind these.
     #[inline(never)]
     fn gather(&mut self, octets: &[u8]) -> Fetched
-        requires { stops self.old.state ≡ false }
+        requires quiet { stops self.old.state ≡ false }
+        requires some { 0 < length octets.now }
+        requires parted { self.old.held.octets ≡ [] → IsNoFront octets.now }
         ensures { Fetches self.old octets.now result self.new }
     {
         a_prefix_of_a_packet();

@@ -1,4 +1,5 @@
-use Rattle.std.proofs.Common.{◌+◌, length, subst}
+use Rattle.std.proofs.Common.{◌+◌, length, sym, ap, ◌∙◌, subst}
+use Rattle.osi_tpkt.specs.Held.{Held}
 use Rattle.osi_carrier.specs.Fetching.{PacketActs}
 use Rattle.osi_carrier.specs.Packets.{Carrying}
 use Rattle.osi_carrier.specs.contracts.carrier.Carrier.{the_view}
@@ -11,3 +12,7 @@ returns c =
     subst (λ (x : Carrying). PacketActs x c.args.octets.now (4 + length c.in-Some.packet.now) new) c.self.view_is
     (passed_packet c.a_prefix_of_a_packet.ensures.nothing (the_view c.self.inside) new c.args.octets.now c.in-Some.packet.now c.in-Some.ensures.passes
     c.in-Some.ensures.sound c.take_packet.ensures)
+
+pub gather-requires-clause-parted : goal.gather-requires-clause-parted
+gather-requires-clause-parted c none =
+    c.in_default.ensures.all (ap (λ (h : Held). h.octets) (sym c.in_default.ensures.none) ∙ none) c.self.invariant.fault

@@ -1,6 +1,6 @@
-use Rattle.std.proofs.Common.{subst, ap}
+use Rattle.std.proofs.Common.{◌≡◌, [], subst, sym, ap}
 use Rattle.osi_tpkt.specs.Held.{Held}
-use Rattle.osi_carrier.specs.Fetching.{EndsOver, PacketActs}
+use Rattle.osi_carrier.specs.Fetching.{EndsOver, PacketActs, IsNoFront}
 use Rattle.osi_carrier.specs.Packets.{Carrying}
 use Rattle.osi_carrier.specs.contracts.carrier.Carrier.{the_view}
 use Rattle.osi_carrier.proofs.Fetched.{ended_over, fetched_packet, same_fault}
@@ -10,7 +10,8 @@ pub returns-in-Err : goal.returns-in-Err
 returns-in-Err c =
     let new = the_view (record c.self.inside { switch = c.end_for.new.self; cutter = c.new.result }) in
     subst (λ (x : Carrying). EndsOver x c.args.octets.now new) c.self.view_is
-    (ended_over (the_view c.self.inside) new c.args.octets.now c.in-Err.fault c.feed.new.self
+    (ended_over c.a_prefix_of_a_packet.ensures.proper (the_view c.self.inside) new c.args.octets.now c.in-Err.fault c.feed.new.self
+    c.self.invariant.partial c.requires.some (subst (λ (x : Carrying). x.held.octets ≡ [] → IsNoFront c.args.octets.now) (sym c.self.view_is) c.requires.parted)
     (c.in-Err.ensures.taken c.self.invariant.fault c.self.invariant.partial)
     (λ f is. same_fault f c.in-Err.fault (c.in-Err.ensures.refused c.self.invariant.fault c.self.invariant.partial f is)) c.end_for.ensures (ap (λ (h : Held). h.octets) c.new.ensures.value))
 

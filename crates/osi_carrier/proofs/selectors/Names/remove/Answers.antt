@@ -1,5 +1,4 @@
 use Rattle.std.proofs.Common.{None, ap, sym, ◌∙◌}
-use Rattle.std.specs.List.{remove}
 use Rattle.osi_carrier.specs.Rows.{place_of, without}
 use Rattle.osi_carrier.specs.State.{TsapIds}
 use Rattle.osi_carrier.proofs.Places.{placed}
