@@ -39,7 +39,7 @@ nothing_by old used told quiet (inr (inl g)) same =
     (ap (λ (c : Carrier). is_some c.ended) g.ended)
 nothing_by old used told quiet (inr (inr g)) same =
     ended_not old.end.carrier told.state g.before (or_first (is_some old.end.carrier.ended) (waits old.end.lines) quiet) (ap (λ (x : Carrying). x.state) same)
-    (elim (g.how) [ inl is ↦ ap (λ (c : Carrier). is_some c.ended) is | inr p ↦ ap (λ (c : Carrier). is_some c.ended) p.2.2.ended ])
+    (elim (g.how) [ inl none ↦ ap (λ (c : Carrier). is_some c.ended) none.ended | inr p ↦ ap (λ (c : Carrier). is_some c.ended) p.2.2.ended ])
 
 -- nothing was used, nothing has changed, and it is what feeding says
 pub record IsIdle (old : Holding) (piece : List ℕ) (used : ℕ) (new : Holding) : Type 0 where

@@ -302,8 +302,8 @@ starved_how now rest fed told new g heard =
     let q = quiet_is g.before g.quiet in
     elim (g.how) [
       | inl over ↦ elim heard [
-        | inl is ↦ inl (is ∙ ended_attends g.before told.state now.end.lines NoMemory over q)
-        | inr out ↦ never_starved (with_carrier told.state now.end) new.end (ap (λ (c : Carrier). c.events) over ∙ q.events) out
+        | inl is ↦ inl (is ∙ ended_attends g.before told.state now.end.lines NoMemory over.ended q)
+        | inr out ↦ never_starved (with_carrier told.state now.end) new.end (ap (λ (c : Carrier). c.events) over.ended ∙ q.events) out
       ]
       | inr starved ↦ elim heard [
         | inl is ↦ inr (starved.0, starved.1, inl (told.state, starved.2, is))
