@@ -37,6 +37,15 @@ abbrev pub error_by_rule : PairError → Option PairError
 error_by_rule OutOfMemory = None
 error_by_rule error = Some error
 
+-- Want of memory comes only where something is to be noted in the journal, or to be carried: not at a break, nor where
+-- there is nothing to carry, nor where the side that is told of a break has ended.
+abbrev pub WantsMemory : Event → TwoEnds → Type 0
+WantsMemory (Connect asked) p = Unit {0}
+WantsMemory (Call side reference request) p = Unit {0}
+WantsMemory (Carry side most) p = 0 < min most (reachable side p)
+WantsMemory (Break left right) p = ⊥
+WantsMemory (Told side) p = (end_at side p).end.carrier.ended ≡ None
+
 -- an end that has not ended hears of the break: its users are shown what they have lost
 pub record HearsOfBreak (side : Side) (old : Holding) (before : List Entry) (new : Holding) (after : List Entry) : Type 0 where
   pub first : List (ℕ × Shown)

@@ -6,13 +6,14 @@ use Rattle.osi_session.specs.Calls.{called_by}
 use Rattle.osi_pair.specs.Advancing.{StandsAfter}
 use Rattle.osi_pair.specs.Asked.{asked_of}
 use Rattle.osi_pair.specs.Ends.{TwoEnds}
-use Rattle.osi_pair.specs.Events.{misfit, error_by_rule, Does, CarriesAsMuch}
+use Rattle.osi_pair.specs.Events.{misfit, error_by_rule, WantsMemory, Does, CarriesAsMuch}
 use Rattle.osi_pair.specs.Promises.{IsSafe}
 use Rattle.osi_pair.specs.Sides.{other}
 use Rattle.osi_pair.specs.Standing.{side_in, offer_in, StandsAt, AreArrivals}
 use Rattle.osi_pair.specs.declared.events.Applied.{Applied}
 use Rattle.osi_pair.specs.declared.events.Event.{Event}
 use Rattle.osi_pair.specs.declared.events.Event.TheVariants.{Connect, Call, Carry, Break, Told}
+use Rattle.osi_pair.specs.declared.faults.PairError.TheVariants.{OutOfMemory}
 use Rattle.osi_pair.specs.declared.faults.RunError.{RunError}
 
 -- An event that fits is applied: a carry carries as much as there is, up to what it was asked to. Where the
@@ -74,8 +75,9 @@ pub record RunsThrough (events : List Event) (old new : TwoEnds) : Type 0 where
   pub all : HappenAll events old new
   pub stands : (steps : List Step) → StandsAt old steps → StandsBehind events new steps
 
--- all events before one happen, and that one is refused
+-- all events before one happen, and that one is refused, for want of memory only where it wants some
 pub record StopsAt (events : List Event) (old : TwoEnds) (error : RunError) (new : TwoEnds) : Type 0 where
   pub within : error.place < length events
   pub before : RunsThrough (take error.place events) old new
   pub refused : IfSome (slice_get events error.place) (λ event. error_by_rule error.error ≡ misfit event new)
+  pub needed : IfSome (slice_get events error.place) (λ event. error.error ≡ OutOfMemory → WantsMemory event new)

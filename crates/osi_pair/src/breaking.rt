@@ -1,6 +1,6 @@
 //! An end is told that the byte connection is broken.
 
-ghost use Rattle.std.specs.Prelude.{◌≡◌, map, OnOk, OnErr, IfErr};
+ghost use Rattle.std.specs.Prelude.{◌≡◌, None, map, OnOk, OnErr, IfErr};
 ghost use Rattle.osi_pair.specs.Entries.{entry_by};
 ghost use Rattle.osi_pair.specs.Events.{IsToldOfBreak};
 
@@ -18,6 +18,7 @@ pub(crate) fn tell_break(
 ) -> Result<(), PairError>
     ensures told { OnOk result (IsToldOfBreak side stack.old (map entry_by journal.old.items) stack.new (map entry_by journal.new.items)) }
     ensures memory { IfErr result (λ error. error ≡ PairError.OutOfMemory) }
+    ensures lasts { OnErr result (stack.old.end.carrier.ended ≡ None) }
     ensures err { OnErr result (stack.new ≡ stack.old) }
     ensures silent { OnErr result (journal.new.items ≡ journal.old.items) }
 {

@@ -69,6 +69,7 @@ pub(crate) fn carry(
         (vec_capacity journal.new ≤ vec_len journal.new + 81)
         ⊎ TakesNothing side (record { from = from.new; to = to.new; journal = map entry_by journal.new.items })) }
     ensures memory { IfErr result (λ error. error ≡ PairError.OutOfMemory) }
+    ensures some { OnErr result (0 < octets) }
     ensures from { OnErr result (from.new ≡ from.old) }
     ensures to { OnErr result (to.new ≡ to.old) }
     ensures journal { OnErr result (journal.new.items ≡ journal.old.items) }

@@ -26,12 +26,12 @@ pub(crate) struct Ends {
 }
 
 impl Ends {
-    ghost use Rattle.std.specs.Prelude.{◌≡◌, ◌≤◌, true, false, not, min, is_some, IfOk, IfErr, OnOk, OnErr};
+    ghost use Rattle.std.specs.Prelude.{◌≡◌, ◌<◌, ◌≤◌, None, true, false, not, min, is_some, IfOk, IfErr, OnOk, OnErr};
     ghost use Rattle.osi_session.specs.Calls.{called_by};
     ghost use Rattle.osi_stack.specs.State.{waits};
     ghost use Rattle.osi_pair.specs.Carrying.{CarriesFrom};
     ghost use Rattle.osi_pair.specs.Ends.{fresh_ends, end_at, after_connect, after_call, after_break, sent_by, reachable};
-    ghost use Rattle.osi_pair.specs.Events.{misfit, misfit_told, error_by_rule, TellsBreak, Does, CarriesWhereQuiet, Moves};
+    ghost use Rattle.osi_pair.specs.Events.{misfit, misfit_told, error_by_rule, WantsMemory, TellsBreak, Does, CarriesWhereQuiet, Moves};
     ghost use Rattle.osi_pair.specs.Memory.{ends_in};
     ghost use Rattle.osi_pair.specs.Sides.{other};
 
@@ -111,6 +111,7 @@ impl Ends {
         ensures moves { IfOk result (λ applied. Moves (not (waits (end_at (other side) (ends_in self.old)).end.lines))
             (min octets (reachable side (ends_in self.old))) applied) }
         ensures memory { IfErr result (λ error. error ≡ PairError.OutOfMemory) }
+        ensures some { OnErr result (0 < min octets (reachable side (ends_in self.old))) }
         ensures err { OnErr result (ends_in self.new ≡ ends_in self.old) }
     {
         let most = octets.min(self.reachable(side));
@@ -149,6 +150,7 @@ impl Ends {
         ensures ok { OnOk result (TellsBreak side (ends_in self.old) (ends_in self.new)) }
         ensures broken { OnOk result (is_some self.old.reach ≡ true) }
         ensures refused { IfErr result (λ error. error_by_rule error ≡ misfit_told self.old.reach) }
+        ensures lasts { IfErr result (λ error. error ≡ PairError.OutOfMemory → (end_at side (ends_in self.old)).end.carrier.ended ≡ None) }
         ensures err { OnErr result (ends_in self.new ≡ ends_in self.old) }
     {
         if self.reach.is_none() {
@@ -166,6 +168,7 @@ impl Ends {
         ensures does { IfOk result (λ applied. Does event.now (ends_in self.old) applied.carried (ends_in self.new)) }
         ensures fits { OnOk result (misfit event.now (ends_in self.old) ≡ None) }
         ensures refused { IfErr result (λ error. error_by_rule error ≡ misfit event.now (ends_in self.old)) }
+        ensures needed { IfErr result (λ error. error ≡ PairError.OutOfMemory → WantsMemory event.now (ends_in self.old)) }
         ensures err { OnErr result (ends_in self.new ≡ ends_in self.old) }
         ensures carried { IfOk result (λ applied. CarriesWhereQuiet event.now (ends_in self.old) applied) }
     {

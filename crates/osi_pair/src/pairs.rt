@@ -39,7 +39,7 @@ impl Pair {
     ghost use Rattle.osi_pair.specs.Advancing.{StandsAfter};
     ghost use Rattle.osi_pair.specs.Ends.{fresh_ends, end_at};
     ghost use Rattle.osi_pair.specs.Entries.{entry_by};
-    ghost use Rattle.osi_pair.specs.Events.{misfit, error_by_rule, Does, CarriesAsMuch, Adds};
+    ghost use Rattle.osi_pair.specs.Events.{misfit, error_by_rule, WantsMemory, Does, CarriesAsMuch, Adds};
     ghost use Rattle.osi_pair.specs.Promises.{AgreeUnlessDuplex, AllWereAskedFor, ConfirmedIsSeen, EndsForFewReasons, HasNoFault, HaveOneHolder, IsLegalJournal, IsSafe, IsShownAsAsked, LoseAsTheyEnd, OfEachConnection, TakeWhatWasSent};
     ghost use Rattle.osi_pair.specs.Reached.{IsReached};
     ghost use Rattle.osi_pair.specs.Running.{RunsThrough, StopsAt};
@@ -77,7 +77,8 @@ impl Pair {
         let _ends = &self.ends;
     }
 
-    /// Applies an event. An error changes nothing.
+    /// Applies an event. An error changes nothing. Want of memory comes only where the journal is to say
+    /// something, or octets are carried.
     ///
     /// The octets that a side has sent and the other has not been fed are under way. A
     /// [`Event::Carry`] carries the first of them, and the users of the other end are shown what
@@ -97,6 +98,7 @@ impl Pair {
         ensures carried { IfOk result (λ applied. CarriesAsMuch event.now self.old applied) }
         ensures fits { OnOk result (misfit event.now self.old ≡ None) }
         ensures refused { IfErr result (λ error. error_by_rule error ≡ misfit event.now self.old) }
+        ensures needed { IfErr result (λ error. error ≡ PairError.OutOfMemory → WantsMemory event.now self.old) }
         ensures err { OnErr result (self.new ≡ self.old) }
         ensures journal { OnOk result (Adds self.old.journal self.new.journal) }
         ensures stands { OnOk result ((steps : List Step) → StandsAt self.old steps → StandsAfter event.now self.old self.new steps) }

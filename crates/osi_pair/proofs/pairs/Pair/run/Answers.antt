@@ -2,9 +2,10 @@ use Rattle.std.proofs.Common.{◌≡◌, ◌∙◌, ◌<◌, List, [], ◌∷◌
 use Rattle.std.proofs.lemmas.List.{take_more, take_all}
 use Rattle.std.proofs.lemmas.Option.{slice_get_read}
 use Rattle.osi_pair.specs.Ends.{TwoEnds}
-use Rattle.osi_pair.specs.Events.{misfit, error_by_rule}
+use Rattle.osi_pair.specs.Events.{misfit, error_by_rule, WantsMemory}
 use Rattle.osi_pair.specs.Running.{HappenAll}
 use Rattle.osi_pair.specs.declared.events.Event.{Event}
+use Rattle.osi_pair.specs.declared.faults.PairError.TheVariants.{OutOfMemory}
 use Rattle.osi_pair.proofs.Running.{happen_more, runs_through}
 use Rattle.osi_pair.proofs.pairs.Pair.run.Goals as goal
 
@@ -34,6 +35,9 @@ returns-in-Err-clause-stops c =
       refused = subst (λ (o : Option Event). IfSome o (λ event. error_by_rule c.in-Err.error ≡ misfit event c.apply.new.self))
           (sym (slice_get_read c.args.events.now (length c.args.events.now) c.events.place c.index-events-place.result refl within c.index-events-place.is))
           (subst (λ (p : TwoEnds). error_by_rule c.in-Err.error ≡ misfit c.index-events-place.result p) (sym c.in-Err.ensures.err) c.in-Err.ensures.refused);
+      needed = subst (λ (o : Option Event). IfSome o (λ event. c.in-Err.error ≡ OutOfMemory → WantsMemory event c.apply.new.self))
+          (sym (slice_get_read c.args.events.now (length c.args.events.now) c.events.place c.index-events-place.result refl within c.index-events-place.is))
+          (subst (λ (p : TwoEnds). c.in-Err.error ≡ OutOfMemory → WantsMemory c.index-events-place.result p) (sym c.in-Err.ensures.err) c.in-Err.ensures.needed);
     }
 
 pub returns-clause-all : goal.returns-clause-all
