@@ -1,7 +1,7 @@
 /* The calling side of client.c, in C++: it sends messages with a minor point behind each, whose
  * confirmation it awaits, gives the tokens and accepts the release.
  *
- *   client [--port 4000] [--classes 0|2|20] [--tsdu OCTETS] [--messages 5] [--log FILE|-]
+ *   client [--port 4000] [--classes 0|2|20] [--tsdu OCTETS] [--wait SECONDS] [--messages 5] [--log FILE|-]
  *
  * The status is 0 where the connection was released, and 3 where it was lost. */
 #include "line.hpp"
@@ -75,6 +75,7 @@ int main(int count, char **words)
     }
     client one(std::move(*made), std::move(socket), option(count, words, "--log", "-"),
                std::stoul(option(count, words, "--messages", "5")));
+    one.patience = std::chrono::seconds(std::stoi(option(count, words, "--wait", "10")));
     if (one.ask(sizes_of(option(count, words, "--tsdu", "0"))))
         one.run();
     return one.status();

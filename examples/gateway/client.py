@@ -2,8 +2,8 @@
 """The calling side of client.c, over ctypes: it sends messages with a minor point behind each, whose
 confirmation it awaits, gives the tokens and accepts the release.
 
-    client.py --library build/libosi-session.so [--port 4000] [--classes 0|2|20] [--tsdu OCTETS] [--messages 5]
-              [--log FILE]
+    client.py --library build/libosi-session.so [--port 4000] [--classes 0|2|20] [--tsdu OCTETS] [--wait SECONDS]
+              [--messages 5] [--log FILE]
 """
 import argparse
 import ctypes
@@ -152,11 +152,12 @@ def text(i):
 
 
 class Client:
-    def __init__(self, library, classes, tsdu, messages, log):
-        self.osi, self.tsdu, self.messages, self.log = library, tsdu, messages, log
+    def __init__(self, library, words):
+        self.osi, self.tsdu, self.messages, self.log = library, words.tsdu, words.messages, words.log
+        self.patience = words.wait
         self.end, self.reference = End(), c_uint16()
         self.said, self.released, self.lost = 0, False, False
-        terms = Terms(("0" in classes) | ("2" in classes) << 1, 13, 15)
+        terms = Terms(("0" in words.classes) | ("2" in words.classes) << 1, 13, 15)
         assert self.osi.osi_caller(byref(self.end), byref(terms)) == OK
 
     def did(self, call, code):
@@ -218,7 +219,7 @@ class Client:
         waiting = self.outgoing()
         if not waiting and self.osi.osi_live(byref(self.end)) == 0:
             return False
-        readable, writable, _ = select.select([connection], [connection] if waiting else [], [], 10)
+        readable, writable, _ = select.select([connection], [connection] if waiting else [], [], self.patience)
         if writable:
             self.osi.osi_taken(byref(self.end), connection.send(waiting))
         if readable:
@@ -243,10 +244,11 @@ def main():
     words.add_argument("--port", type=int, default=4000)
     words.add_argument("--classes", default="0")
     words.add_argument("--tsdu", type=int, default=0)
+    words.add_argument("--wait", type=int, default=10)
     words.add_argument("--messages", type=int, default=5)
     words.add_argument("--log", type=argparse.FileType("w"), default=sys.stdout)
     words = words.parse_args()
-    client = Client(load(words.library), words.classes, words.tsdu, words.messages, words.log)
+    client = Client(load(words.library), words)
     with socket.create_connection(("127.0.0.1", words.port)) as connection:
         connection.setblocking(False)
         if client.ask():

@@ -2,7 +2,7 @@
 //! each, whose confirmation it awaits, gives the tokens and accepts the release.
 //!
 //!     rustc -O --edition 2021 -L build -l static=osi-session client.rs
-//!     client [--port 4000] [--classes 0|2|20] [--tsdu OCTETS] [--messages 5] [--log FILE]
+//!     client [--port 4000] [--classes 0|2|20] [--tsdu OCTETS] [--wait SECONDS] [--messages 5] [--log FILE]
 
 use std::env;
 use std::ffi::c_void;
@@ -373,7 +373,7 @@ fn main() -> io::Result<ExitCode> {
     };
     let mut stream = TcpStream::connect(format!("127.0.0.1:{}", option("--port", "4000")))?;
     stream.set_nodelay(true)?;
-    stream.set_read_timeout(Some(Duration::from_secs(10)))?;
+    stream.set_read_timeout(Some(Duration::from_secs(option("--wait", "10").parse().unwrap_or(10))))?;
     let Some(caller) = Caller::new(classes) else {
         return Ok(ExitCode::from(2));
     };

@@ -2,7 +2,7 @@
 """The calling side of a gateway over asyncio: it sends messages with a minor point behind each, whose
 confirmation it awaits, gives the tokens and accepts the release.
 
-    client.py [--port 4000] [--classes 0|2|20] [--tsdu OCTETS] [--messages 5] [--log FILE]
+    client.py [--port 4000] [--classes 0|2|20] [--tsdu OCTETS] [--wait SECONDS] [--messages 5] [--log FILE]
 
 The status is 0 where the connection was released, and 3 where it was lost.
 """
@@ -132,13 +132,14 @@ async def main():
     options.add_argument("--port", type=int, default=4000)
     options.add_argument("--classes", default="0")
     options.add_argument("--tsdu", type=int, default=0)
+    options.add_argument("--wait", type=int, default=10)
     options.add_argument("--messages", type=int, default=5)
     options.add_argument("--log", type=argparse.FileType("w"), default=sys.stdout)
     options = options.parse_args()
     classes = Classes(("0" in options.classes) | ("2" in options.classes) << 1)
     async with aio.dial("127.0.0.1", options.port, Terms(classes=classes)) as line:
         client = Client(line, Sizes(options.tsdu, options.tsdu), options.messages, options.log)
-        return await asyncio.wait_for(client.run(), 20)
+        return await asyncio.wait_for(client.run(), options.wait)
 
 
 if __name__ == "__main__":

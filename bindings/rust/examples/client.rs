@@ -2,7 +2,7 @@
 //! whose confirmation it awaits, gives the tokens and accepts the release.
 //!
 //! ```text
-//! client [--port 4000] [--classes 0|2|20] [--tsdu OCTETS] [--messages 5] [--log FILE]
+//! client [--port 4000] [--classes 0|2|20] [--tsdu OCTETS] [--wait SECONDS] [--messages 5] [--log FILE]
 //! ```
 //!
 //! The status is 0 where the connection was released, and 3 where it was lost.
@@ -187,7 +187,7 @@ fn main() -> Result<ExitCode, Box<dyn error::Error>> {
     };
     let mut stream = TcpStream::connect(format!("127.0.0.1:{}", option("--port", "4000")))?;
     stream.set_nodelay(true)?;
-    stream.set_read_timeout(Some(Duration::from_secs(10)))?;
+    stream.set_read_timeout(Some(Duration::from_secs(option("--wait", "10").parse()?)))?;
     let end = End::caller(Terms { classes, ..Terms::default() })?;
     let messages = option("--messages", "5").parse()?;
     let mut client = Client { end, messages, said: 0, released: false, lost: false, log };
