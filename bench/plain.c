@@ -10,13 +10,13 @@
 #include "timer.h"
 
 #include <arpa/inet.h>
-#include <fcntl.h>
 #include <netinet/in.h>
 #include <netinet/tcp.h>
 #include <poll.h>
 #include <stdint.h>
 #include <stdlib.h>
 #include <sys/socket.h>
+#include <sys/time.h>
 #include <sys/wait.h>
 #include <unistd.h>
 
@@ -47,10 +47,11 @@ static short wait_for(int socket, short events)
 
 static int settled(int socket)
 {
-    int yes = 1;
+    const int yes = 1;
+    const struct timeval patience = {10, 0};
     must(socket >= 0, "socket");
     setsockopt(socket, IPPROTO_TCP, TCP_NODELAY, &yes, sizeof yes);
-    fcntl(socket, F_SETFL, fcntl(socket, F_GETFL) | O_NONBLOCK);
+    setsockopt(socket, SOL_SOCKET, SO_RCVTIMEO, &patience, sizeof patience);
     return socket;
 }
 
@@ -74,7 +75,7 @@ static void frame(struct waiting *w, const uint8_t *message, size_t octets)
 /* Writes what can be written, once. What waits is moved to the front where half of its room is used up. */
 static void transmit(int socket, struct waiting *w)
 {
-    const ssize_t count = send(socket, w->octets + w->begin, w->end - w->begin, MSG_NOSIGNAL);
+    const ssize_t count = send(socket, w->octets + w->begin, w->end - w->begin, MSG_NOSIGNAL | MSG_DONTWAIT);
     w->begin += count > 0 ? (size_t)count : 0;
     if (w->begin < MOST_WAITING && w->begin < w->end)
         return;
@@ -100,11 +101,11 @@ static void send_all(int socket, const struct task *t)
         if (waiting.end > 0)
             transmit(socket, &waiting);
         const int goes_on = waiting.end > 0 || may_say(t, &waiting, said, came / ANSWER);
-        if (wait_for(socket, goes_on ? POLLIN | POLLOUT : POLLIN) & POLLIN) {
-            const ssize_t more = recv(socket, answers, sizeof answers, 0);
-            must(more > 0, "recv");
-            came += (unsigned long)more;
-        }
+        if (goes_on && (wait_for(socket, POLLIN | POLLOUT) & POLLIN) == 0)
+            continue;
+        const ssize_t more = recv(socket, answers, sizeof answers, 0);
+        must(more > 0, "recv");
+        came += (unsigned long)more;
     }
 }
 
@@ -146,7 +147,6 @@ static void take_all(int socket, const struct task *t)
     static uint8_t piece[PIECE], answers[PIECE];
     static struct packet packet;
     for (unsigned long taken = 0; taken < t->count;) {
-        wait_for(socket, POLLIN);
         const ssize_t came = recv(socket, piece, sizeof piece, 0);
         must(came > 0, "recv");
         const unsigned long more = gather(&packet, piece, (size_t)came);

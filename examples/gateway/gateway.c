@@ -1,14 +1,14 @@
-/* One end over a TCP socket, which does not block: octets are read and written as they come and go,
- * in any pieces, and each indication is told to the user of the program. */
+/* One end over a TCP socket: octets are read and written as they come and go, in any pieces, and each
+ * indication is told to the user of the program. It never waits for the peer to read. */
 #define _POSIX_C_SOURCE 200809L
 #include "gateway.h"
 
 #include <errno.h>
-#include <fcntl.h>
 #include <poll.h>
 #include <stdlib.h>
 #include <string.h>
 #include <sys/socket.h>
+#include <sys/time.h>
 #include <unistd.h>
 
 #define PIECE 65536
@@ -161,18 +161,21 @@ static void feed_all(struct gateway *g, const uint8_t *piece, size_t length)
     }
 }
 
-/* Reads what there is, once. */
-static void receive(struct gateway *g)
+/* Reads what there is, once. Without a flag it waits for something to come; false where nothing came. */
+static bool receive(struct gateway *g, int flags)
 {
     static uint8_t piece[PIECE];
-    ssize_t count = recv(g->socket, piece, sizeof piece, 0);
+    ssize_t count = recv(g->socket, piece, sizeof piece, flags);
+    if (count < 0 && (errno == EAGAIN || errno == EWOULDBLOCK))
+        return false;
     if (count > 0) {
         if (g->came != NULL)
             write_octets(g->came, piece, (size_t)count);
         feed_all(g, piece, (size_t)count);
-    } else if (count == 0 || (errno != EAGAIN && errno != EWOULDBLOCK && errno != EINTR)) {
+    } else if (count == 0 || errno != EINTR) {
         is_over(g);
     }
+    return true;
 }
 
 /* Stands still in the middle of what it sends, until somebody ends it. */
@@ -192,7 +195,7 @@ static void transmit(struct gateway *g)
     size_t most = octets.length;
     if (g->stall_at > 0 && g->sent_octets + most > g->stall_at)
         most = g->stall_at - g->sent_octets;
-    ssize_t count = send(g->socket, octets.at, most, MSG_NOSIGNAL);
+    ssize_t count = send(g->socket, octets.at, most, MSG_NOSIGNAL | MSG_DONTWAIT);
     if (count >= 0) {
         if (g->sent != NULL)
             write_octets(g->sent, octets.at, (size_t)count);
@@ -228,21 +231,30 @@ static void give_up(struct gateway *g, const char *why)
     is_over(g);
 }
 
+/* Waits for the socket once, and reads. Where nothing may be sent the read itself waits: so it is where the peer
+ * gives no credit, which in class 2 is the rule. False where nothing happened for too long. */
+static bool wait_and_read(struct gateway *g)
+{
+    const size_t left = outgoing_length(g);
+    const bool goes_on = g->has_more && gateway_waiting(g) < MOST_WAITING;
+    if (left == 0 && !goes_on)
+        return receive(g, 0);
+    struct pollfd waits = {g->socket, 0, 0};
+    waits.events = (short)((left <= MOST_WAITING ? POLLIN : 0) | (left > 0 ? POLLOUT : 0));
+    const int came = poll(&waits, 1, goes_on ? 0 : (int)g->patience * 1000);
+    if (waits.revents & (POLLIN | POLLERR | POLLHUP))
+        receive(g, MSG_DONTWAIT);
+    return came > 0 || goes_on;
+}
+
 bool gateway_turn(struct gateway *g)
 {
     if (has_said_all(g)) {
         is_over(g);
         return false;
     }
-    const size_t left = outgoing_length(g);
-    struct pollfd waits = {g->socket, 0, 0};
-    waits.events = (short)((left <= MOST_WAITING ? POLLIN : 0) | (left > 0 ? POLLOUT : 0));
-    const bool goes_on = g->has_more && gateway_waiting(g) < MOST_WAITING;
-    const int came = poll(&waits, 1, goes_on ? 0 : (int)g->patience * 1000);
-    if (came <= 0 && !goes_on)
+    if (!wait_and_read(g))
         give_up(g, "the peer is silent");
-    else if (waits.revents & (POLLIN | POLLERR | POLLHUP))
-        receive(g);
     if (g->socket >= 0 && outgoing_length(g) > 0)
         transmit(g);
     if (g->socket >= 0 && !g->was_shown && time(NULL) - g->began > g->patience)
@@ -278,7 +290,8 @@ bool gateway_open(struct gateway *g, int socket, bool calls, int count, char **w
     g->log = log == NULL ? NULL : strcmp(log, "-") == 0 ? stdout : fopen(log, "w");
     g->sent = capture_file(capture, g->side);
     g->came = capture_file(capture, calls ? "right" : "left");
-    fcntl(socket, F_SETFL, fcntl(socket, F_GETFL) | O_NONBLOCK);
+    const struct timeval patience = {g->patience, 0};
+    setsockopt(socket, SOL_SOCKET, SO_RCVTIMEO, &patience, sizeof patience);
     return (calls ? osi_caller(&g->end, &terms) : osi_called(&g->end, &terms)) == OSI_OK;
 }
 
