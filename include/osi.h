@@ -4,7 +4,7 @@
  *
  * Nothing here opens a socket, starts a thread, reads a clock or keeps a state of its own: all that
  * there is of an end is in its osi_end. What each function answers and does is proved: it is what
- * crates/osi_c states of it. docs/EMBEDDING.md is a guide, from an empty folder to a gateway.
+ * crates/osi_c states of it. docs/GUIDE.md is a guide, from an empty folder to a gateway.
  *
  * An end in ten lines, the socket left out:
  *

@@ -35,7 +35,7 @@ void end_fetch(osi_end *end, shown_to *shown, void *to);
 void end_check(osi_end *end);
 /* All that can be asked of an end, as text: two ends that answer alike give the same. */
 void end_state(osi_end *end, struct text *text);
-/* What is shown, as docs/SCRIPTS.md writes it, without a line end. */
+/* What is shown, as docs/TOOL.md writes it, without a line end. */
 void text_shown(struct text *text, const osi_indication *shown);
 
 #endif

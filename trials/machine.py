@@ -1,4 +1,4 @@
-"""Plays a script and its transcript on the machine of docs/MACHINE.md, by plain Python: each call is answered as the
+"""Plays a script and its transcript on the machine of docs/PROMISES.md, by plain Python: each call is answered as the
 table of calls says, and each indication is what the table of units says of the next message of the other side. A
 message here is a tuple; nothing is known of octets, packets, classes or credit, and so of what a carry brings only
 that it is the front of what was sent.

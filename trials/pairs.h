@@ -1,4 +1,4 @@
-/* Two ends that are carried each other's octets, as a script says (docs/HEADLINE.md). */
+/* Two ends that are carried each other's octets, as a script says (docs/PROMISES.md). */
 #ifndef TRIALS_PAIRS_H
 #define TRIALS_PAIRS_H
 

@@ -1,4 +1,4 @@
-/* The lines of a script (docs/SCRIPTS.md), and more for one end by itself:
+/* The lines of a script (docs/TOOL.md), and more for one end by itself:
  *   feed SIDE DATA    this side is fed octets that no end of the script has sent
  *   drop SIDE         what this side has to send is taken away and carried to nobody
  *   wants SIDE DATA   what this side has to send is just this

@@ -143,7 +143,7 @@ def sizes(i):
 
 
 def text(i):
-    """The words of an indication (docs/SCRIPTS.md)."""
+    """The words of an indication (docs/TOOL.md)."""
     words, user_data = NAMES[i.tag] + fields(i), data(of(i.user_data))
     if i.tag == DATA:
         return f"{words} {user_data}"

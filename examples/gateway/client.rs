@@ -227,7 +227,7 @@ fn sides(sides: osi::Sides) -> String {
     sides.0.iter().map(|side| ['a', 'r', 'c'][usize::from(*side)]).collect()
 }
 
-/// The words of an indication (docs/SCRIPTS.md).
+/// The words of an indication (docs/TOOL.md).
 fn text(shown: &Shown) -> String {
     let (i, data) = (&shown.said, hex(&shown.user_data));
     let number = if i.has_number == 0 { "-".to_string() } else { i.number.to_string() };

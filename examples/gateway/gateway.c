@@ -42,7 +42,7 @@ static void write_octets(FILE *file, const uint8_t *at, size_t length)
     }
 }
 
-/* ---- the log, in the words of a transcript (docs/SCRIPTS.md) */
+/* ---- the log, in the words of a transcript (docs/TOOL.md) */
 
 static void write_data(FILE *log, const char *word, osi_octets data)
 {
@@ -208,7 +208,7 @@ static void transmit(struct gateway *g)
     }
 }
 
-/* ---- when it is over (docs/EMBEDDING.md, Who closes TCP) */
+/* ---- when it is over (docs/GUIDE.md, Who closes TCP) */
 
 /* Whether this side is to close: all is sent, and the end has ended, or its last connection is gone. */
 static bool has_said_all(struct gateway *g)

@@ -72,7 +72,7 @@ inline osi::tsdu_sizes sizes_of(const std::string &octets)
     return {size, size};
 }
 
-/* ---- the log, in the words of a transcript (docs/SCRIPTS.md) */
+/* ---- the log, in the words of a transcript (docs/TOOL.md) */
 
 inline std::string hex(osi::octets octets)
 {

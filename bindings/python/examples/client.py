@@ -77,7 +77,7 @@ NAMES = {
 
 
 def words(shown):
-    """The words of an indication in a transcript (docs/SCRIPTS.md)."""
+    """The words of an indication in a transcript (docs/TOOL.md)."""
     text = NAMES.get(type(shown), type(shown).__name__) + fields(shown)
     if not hasattr(shown, "user_data"):
         return text

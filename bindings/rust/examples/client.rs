@@ -47,7 +47,7 @@ fn named(sizes: Sizes) -> String {
     }
 }
 
-/// The words of an indication in a transcript (docs/SCRIPTS.md).
+/// The words of an indication in a transcript (docs/TOOL.md).
 fn words(indication: &Indication<&[u8]>) -> String {
     let data = hex(indication.user_data().unwrap_or(&b"".as_slice()));
     match *indication {
