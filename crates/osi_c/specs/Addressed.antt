@@ -1,5 +1,5 @@
--- The addresses of a connection as C is told of them.
-use Rattle.std.specs.Prelude.{◌≡◌, ℕ, List, [], take, Option, Some, None, unwrap_or}
+-- The addresses of a connection as C is told of them: the whole of what it is given.
+use Rattle.std.specs.Prelude.{ℕ, ◌-◌, List, [], ◌++◌, length, replicate, Option, Some, None, unwrap_or}
 use Rattle.osi_stack.specs.Addresses.{Addresses, addresses_at}
 use Rattle.osi_c.specs.Codes.{Fetching, NoEnd, Nothing, Fetched}
 use Rattle.osi_c.specs.declared.addresses.OsiTsap.{OsiTsap}
@@ -7,24 +7,26 @@ use Rattle.osi_c.specs.declared.addresses.OsiSelector.{OsiSelector}
 use Rattle.osi_c.specs.declared.addresses.OsiAddressing.{OsiAddressing}
 use Rattle.osi_c.specs.declared.handles.Contents.{Contents}
 
--- the octets of an address, none where there is no address
-abbrev pub tsap_said : OsiTsap → List ℕ
-tsap_said t = take t.length t.octets
+-- an address with zeros behind it; of no octets where there is none
+abbrev pub tsap_told : List ℕ → OsiTsap
+tsap_told octets = record { octets = octets ++ replicate (32 - length octets) 0; length = length octets }
 
-abbrev pub selector_said : OsiSelector → List ℕ
-selector_said s = take s.length s.octets
+abbrev pub selector_told : List ℕ → OsiSelector
+selector_told octets = record { octets = octets ++ replicate (16 - length octets) 0; length = length octets }
 
--- which octets each address has
-pub record AreSaid (a : OsiAddressing) (from_tsap to_tsap from_selector to_selector : List ℕ) : Type 0 where
-  pub calling_tsap : tsap_said a.calling_tsap ≡ from_tsap
-  pub called_tsap : tsap_said a.called_tsap ≡ to_tsap
-  pub calling_selector : selector_said a.calling_selector ≡ from_selector
-  pub called_selector : selector_said a.called_selector ≡ to_selector
+abbrev pub telling : (from_tsap to_tsap from_selector to_selector : List ℕ) → OsiAddressing
+telling from_tsap to_tsap from_selector to_selector = record {
+  calling_tsap = tsap_told from_tsap;
+  called_tsap = tsap_told to_tsap;
+  calling_selector = selector_told from_selector;
+  called_selector = selector_told to_selector;
+}
 
-abbrev pub Says : OsiAddressing → Option Addresses → Type 0
-Says a None = AreSaid a [] [] [] []
-Says a (Some known) =
-    AreSaid a (unwrap_or known.calling_tsap []) (unwrap_or known.called_tsap []) (unwrap_or known.calling_selector []) (unwrap_or known.called_selector [])
+-- what C is told of addresses
+abbrev pub told : Option Addresses → OsiAddressing
+told None = telling [] [] [] []
+told (Some known) =
+    telling (unwrap_or known.calling_tsap []) (unwrap_or known.called_tsap []) (unwrap_or known.calling_selector []) (unwrap_or known.called_selector [])
 
 -- those of a connection; a slot that holds no end is as one that has none
 abbrev pub addresses : ℕ → Option Contents → Option Addresses

@@ -1,10 +1,10 @@
 //! The addresses of a connection, for C.
 
-ghost use Rattle.std.specs.Prelude.{◌≡◌, ◌≤◌, ◌-◌, ◌++◌, [], Some, length, option_map, unwrap_or};
+ghost use Rattle.std.specs.Prelude.{◌≡◌, ◌≤◌, [], None, Some, length, option_map, unwrap_or};
 ghost use Rattle.osi_tpdu.specs.Limits.{tsap_octets};
 ghost use Rattle.osi_stack.specs.Addresses.{addresses as known_by};
 ghost use Rattle.osi_stack.specs.Selectors.{session_selector};
-ghost use Rattle.osi_c.specs.Addressed.{tsap_said, selector_said, Says, addresses, asks};
+ghost use Rattle.osi_c.specs.Addressed.{tsap_told, selector_told, told, addresses, asks};
 ghost use Rattle.osi_c.specs.Codes.{fetched_of};
 
 use crate::codes::{CLOSED, NOTHING, OK};
@@ -13,7 +13,7 @@ use osi_carrier::Ref;
 use osi_stack::{Addresses, SessionSelector};
 use osi_tpdu::Tsap;
 
-/// A transport address: its first octets, so many, and none where there is no address.
+/// A transport address: its first octets, so many, and zeros behind them; of no octets where there is no address.
 #[repr(C)]
 #[derive(Clone, Copy)]
 pub struct OsiTsap {
@@ -41,7 +41,7 @@ pub struct OsiAddressing {
 
 fn tsap(address: &[u8]) -> OsiTsap
     requires { length address.now ≤ 32 }
-    ensures { tsap_said result ≡ address.now }
+    ensures { result ≡ tsap_told address.now }
 {
     let length = address.len();
     let mut octets = [0; 32];
@@ -53,7 +53,7 @@ fn tsap(address: &[u8]) -> OsiTsap
 }
 
 fn tsap_or_none(address: &Option<Tsap>) -> OsiTsap
-    ensures { tsap_said result ≡ unwrap_or (option_map tsap_octets address.now) [] }
+    ensures { result ≡ tsap_told (unwrap_or (option_map tsap_octets address.now) []) }
 {
     match address {
         None => tsap(&[]),
@@ -63,7 +63,7 @@ fn tsap_or_none(address: &Option<Tsap>) -> OsiTsap
 
 fn selector(address: &[u8]) -> OsiSelector
     requires { length address.now ≤ 16 }
-    ensures { selector_said result ≡ address.now }
+    ensures { result ≡ selector_told address.now }
 {
     let length = address.len();
     let mut octets = [0; 16];
@@ -75,7 +75,7 @@ fn selector(address: &[u8]) -> OsiSelector
 }
 
 fn selector_or_none(address: &Option<SessionSelector>) -> OsiSelector
-    ensures { selector_said result ≡ unwrap_or (option_map session_selector address.now) [] }
+    ensures { result ≡ selector_told (unwrap_or (option_map session_selector address.now) []) }
 {
     match address {
         None => selector(&[]),
@@ -85,7 +85,7 @@ fn selector_or_none(address: &Option<SessionSelector>) -> OsiSelector
 
 /// No address.
 fn none() -> OsiAddressing
-    ensures { Says result None }
+    ensures { result ≡ told None }
 {
     OsiAddressing {
         calling_tsap: tsap(&[]),
@@ -97,7 +97,7 @@ fn none() -> OsiAddressing
 
 /// These.
 fn tell(known: &Addresses) -> OsiAddressing
-    ensures { Says result (Some (known_by known.now)) }
+    ensures { result ≡ told (Some (known_by known.now)) }
 {
     OsiAddressing {
         calling_tsap: tsap_or_none(&known.calling_tsap),
@@ -111,7 +111,7 @@ fn tell(known: &Addresses) -> OsiAddressing
 #[unsafe(no_mangle)]
 pub extern "C" fn osi_addresses(end: &mut OsiEnd, reference: u16, shown: &mut OsiAddressing) -> u32
     ensures code { fetched_of result ≡ Some (asks reference end.old.inner.value) }
-    ensures value { Says shown.new (addresses reference end.old.inner.value) }
+    ensures value { shown.new ≡ told (addresses reference end.old.inner.value) }
     ensures same { end.new.inner.value ≡ end.old.inner.value }
 {
     *shown = none();

@@ -1,0 +1,5 @@
+use Rattle.osi_c.proofs.Padded.{tsap_padded}
+use Rattle.osi_c.proofs.addresses.tsap.Goals as goal
+
+pub returns : goal.returns
+returns c = tsap_padded c.copy_from_slice.new.self c.args.address.now c.copy_from_slice.ensures.after
