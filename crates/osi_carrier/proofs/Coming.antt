@@ -3,12 +3,12 @@ use Rattle.std.proofs.Common.{◌≡◌, ℕ, ◌+◌, ◌-◌, ◌<◌, ◌≤�
 use Rattle.std.specs.List.{AllByRecursion}
 use Rattle.std.proofs.lemmas.List.{append-nil, append_cancel_left, get_or_append_left, take-append-drop, length-take-le, take-take}
 use Rattle.osi_tpkt.specs.Packet.{IsPacket, IsFaultOf, IsBadVersion, IsBadLength, packet_of}
-use Rattle.osi_tpkt.specs.PacketLaws.{one_packet, packet_front, written_packet, stated_length-append}
+use Rattle.osi_tpkt.proofs.PacketLaws.{one_packet, packet_front, written_packet, stated_length-append}
 use Rattle.osi_tpkt.specs.Stream.{ArePackets, offset_of}
 use Rattle.osi_tpkt.specs.declared.faults.TpktFault.{TpktFault}
 use Rattle.osi_tpkt.specs.declared.faults.TpktFault.TheVariants.{BadVersion, BadLength, OutOfMemory}
 use Rattle.osi_tpkt.proofs.Fronts.{front_version, front_length}
-use Rattle.osi_tpdu.specs.Laws.Written.{written_spells}
+use Rattle.osi_tpdu.proofs.WrittenLaws.{written_spells}
 use Rattle.osi_tpdu.specs.Packet.{units_of}
 use Rattle.osi_tpdu.specs.Value.{Value}
 use Rattle.osi_tpdu.specs.Writing.{written}

@@ -3,7 +3,7 @@ use Rattle.std.proofs.Common.{◌≡◌, ℕ, ◌≤◌, ◌||◌, Bool, true, f
 use Rattle.std.proofs.lemmas.List.{append-nil, take_all, take-append-drop, get_or_append_left}
 use Rattle.std.specs.List.{flat_map}
 use Rattle.osi_tpkt.specs.Packet.{IsPacket, IsOnePacket, IsPartial, IsFaultOf}
-use Rattle.osi_tpkt.specs.PacketLaws.{stated_length-append}
+use Rattle.osi_tpkt.proofs.PacketLaws.{stated_length-append}
 use Rattle.osi_tpkt.specs.Stream.{ArePackets}
 use Rattle.osi_tpkt.specs.Stream.Ending.{Faulty}
 use Rattle.osi_tpkt.specs.declared.cutting.Fed.{Fed}

@@ -4,7 +4,7 @@ use Rattle.std.specs.List.{AllByRecursion}
 use Rattle.std.proofs.lemmas.Bool.{leb-true, leb-false}
 use Rattle.std.proofs.lemmas.List.{append-nil, append_cancel_left, take-append-drop, take-append-le, length-take-le, length-drop, take-take, drop-take}
 use Rattle.osi_tpkt.specs.Packet.{IsPacket, IsPartial, packet_of}
-use Rattle.osi_tpkt.specs.PacketLaws.{one_packet}
+use Rattle.osi_tpkt.proofs.PacketLaws.{one_packet}
 use Rattle.osi_tpkt.proofs.Fronts.{completed_partial, partial_not_whole, empty_partial}
 use Rattle.osi_tpdu.specs.Value.{Value}
 use Rattle.osi_tpdu.specs.Writing.{written}

@@ -3,7 +3,7 @@ use Rattle.std.proofs.Common.{◌≡◌, ℕ, ◌<◌, Bool, false, ◌^◌, ◌
 use Rattle.std.specs.List.{AllByRecursion}
 use Rattle.std.proofs.Math.Nat.{pow-le-pow_right}
 use Rattle.osi_tpkt.specs.Octets.{IsOctets}
-use Rattle.osi_tpdu.specs.Laws.Steps.{IsOctets-cons}
+use Rattle.osi_tpdu.proofs.StepLaws.{IsOctets-cons}
 use Rattle.osi_tpdu.specs.Limits.{size_code, window_units}
 use Rattle.osi_tpdu.specs.Value.{Connect, IsConnect, request, confirm}
 use Rattle.osi_class.specs.Between.{opened_pair, under_way, IsShortTsdu}

@@ -16,6 +16,7 @@ use osi_tpdu::{
     ConnectConfirm, ConnectParameters, ConnectRequest, DataAcknowledgement, DataClass0, DataClass2,
     DisconnectConfirm, DisconnectRequest, Selector, SizeCode, Tpdu,
 };
+use osi_tpkt::laws::are_octets;
 use osi_tpkt::{WriteError, write_in_packet};
 use std::alloc::AllocError;
 
@@ -69,13 +70,6 @@ pub fn put_disconnected(out: &mut BytesMut, destination: u16, source: u16) -> Re
 
 // ---- what a CR or CC holds is in the range of its fields. These functions do nothing: to name a
 // value gives a proof the facts of its type.
-
-// What a slice holds are octets.
-fn are_octets(octets: &[u8])
-    ensures { IsOctets octets.now }
-{
-    let _octets = octets;
-}
 
 fn check_size(size: Option<SizeCode>)
     ensures { IfSome (option_map size_code size) (λ code. (7 ≤ code) × (code ≤ 13)) }

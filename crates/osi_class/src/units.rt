@@ -1,12 +1,12 @@
 //! Units that a link gives.
 
 ghost use Rattle.std.specs.Prelude.{◌≡◌, ◌<◌, ◌+◌, length};
-ghost use Rattle.osi_tpkt.specs.Octets.{IsOctets};
 ghost use Rattle.osi_tpdu.specs.Value.{data0, data2, acknowledge};
 ghost use Rattle.osi_tpdu.specs.View.{value};
 ghost use Rattle.osi_tpdu.specs.Writing.{written, Fits};
 
 use osi_tpdu::{DataAcknowledgement, DataClass0, DataClass2, Tpdu};
+use osi_tpkt::laws::are_octets;
 
 /// A unit that a link gives, to be written for its peer.
 #[derive(Clone, Copy, PartialEq, Eq, Debug)]
@@ -71,14 +71,6 @@ impl<'a> Out<'a> {
             Out::Ack { .. } => 0,
         }
     }
-}
-
-/// What a slice holds are octets. The function does nothing: to name a slice gives a proof the facts
-/// of its type.
-fn are_octets(octets: &[u8])
-    ensures { IsOctets octets.now }
-{
-    let _octets = octets;
 }
 
 /// A DT of class 0.

@@ -22,7 +22,7 @@ use Rattle.osi_spdu.specs.Sizes.{written_sizes}
 use Rattle.osi_spdu.specs.Known.{Known, Contents, nothing, put, some_octets}
 use Rattle.osi_spdu.specs.Spelling.{HasInformation, EndsTsdu, MayFollow, StandTogether}
 use Rattle.osi_spdu.specs.Writing.{IsCanonical, IsFormedUnit, IsFormedTsdu, UnitFits, TsduFits, value_len, free_len, is_formed}
-use Rattle.osi_spdu.specs.Laws.Steps.{same_true}
+use Rattle.osi_spdu.proofs.StepLaws.{same_true}
 use Rattle.osi_message.specs.declared.tokens.Tokens.{Tokens}
 use Rattle.osi_message.specs.Tokens.{token_octet}
 use Rattle.osi_message.specs.Meanings.{Meaning, CN, AC, RF, DT, GT, PT, MIP, MIA, MAP, MAA, RS, RA, FN, DN, NF, AB, AA}

@@ -1,3 +1,4 @@
+pub mod NumberLaws
 pub mod FittingLaws
 pub mod OctetLaws
 pub mod PartLaws

@@ -5,7 +5,7 @@ use Rattle.std.proofs.lemmas.Nat.{and_le_r}
 use Rattle.std.specs.List.{AllByRecursion, flat_map}
 use Rattle.std.specs.Prelude.{IfSome}
 use Rattle.osi_tpkt.specs.Octets.{IsOctets}
-use Rattle.osi_tpkt.specs.OctetLaws.{octets_nil, octets_cons, octets_append}
+use Rattle.osi_tpkt.proofs.OctetLaws.{octets_nil, octets_cons, octets_append}
 use Rattle.osi_spdu.specs.declared.codes.Code.{Code}
 use Rattle.osi_spdu.specs.declared.codes.Code.TheVariants.{ConnectionIdentifier, ConnectAcceptItem, SyncType, TokenItem, TransportDisconnect, ProtocolOptions, UserRequirements, Version, InitialNumber, Number, Reason, CallingSelector, CalledSelector, UserData}
 use Rattle.osi_spdu.specs.declared.codes.Code.TheVariants as code

@@ -4,7 +4,7 @@ use Rattle.std.specs.List.{AllByRecursion}
 use Rattle.std.proofs.lemmas.Bool.{leb-true, leb-false, and_parts, ne_eqb}
 use Rattle.std.proofs.lemmas.List.{append-nil, take-append-drop, length-drop, length-take}
 use Rattle.osi_tpkt.specs.Octets.{IsOctets}
-use Rattle.osi_tpkt.specs.OctetLaws.{octets_cons, octets_take, octets_drop}
+use Rattle.osi_tpkt.proofs.OctetLaws.{octets_cons, octets_take, octets_drop}
 use Rattle.osi_spdu.specs.Values.{is_size}
 use Rattle.osi_spdu.specs.Reading.{tsdu_at}
 use Rattle.osi_spdu.specs.declared.faults.SpduFault.{SpduFault}

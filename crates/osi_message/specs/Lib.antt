@@ -9,4 +9,3 @@ pub mod Written
 pub mod Words
 pub mod Parting
 pub mod Tsdus
-pub mod Laws

@@ -14,16 +14,9 @@ use crate::owned::user_data;
 use osi_session::Request;
 use osi_stack::Connect;
 use osi_tpdu::Tsap;
+use osi_tpkt::laws::are_octets;
 
-/// What a slice of octets holds are octets. The function does nothing: to name a slice gives a proof
-/// the facts of its type.
-fn are_octets(octets: &[u8])
-    ensures { IsOctets octets.now }
-{
-    let _octets = octets;
-}
-
-/// So are those of an address of a session, where one is given.
+/// What an address of a session holds are octets, where one is given.
 fn some_are_octets(octets: Option<&[u8]>)
     ensures { IfSome (option_map (λ s. s.now) octets.entry) IsOctets }
 {

@@ -11,8 +11,8 @@ use Rattle.osi_spdu.specs.Kinds.{category_of}
 use Rattle.osi_spdu.specs.Known.{Known, Contents, Units}
 use Rattle.osi_spdu.specs.Reading.{Placed, unit_at, contents_of, behind_at, ended, continued, tsdu_at}
 use Rattle.osi_spdu.specs.Spelling.{AreBehind}
-use Rattle.osi_spdu.specs.Laws.Steps.{bind_ok, ok_is}
-use Rattle.osi_spdu.specs.Laws.Tsdus.{behind_stands}
+use Rattle.osi_spdu.proofs.StepLaws.{bind_ok, ok_is}
+use Rattle.osi_spdu.proofs.UnitsLaws.{behind_stands}
 use Rattle.osi_message.specs.Meanings.{Meaning, RF, DN, AB, AA}
 use Rattle.osi_message.specs.declared.places.Place.{Place}
 use Rattle.osi_message.specs.Reading.{meaning_by, meaning, place_of, word_at, word, said_by_units, said_if_read, said_at}

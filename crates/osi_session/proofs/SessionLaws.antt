@@ -16,7 +16,7 @@ use Rattle.osi_message.specs.Tokens.{no_token}
 use Rattle.osi_session.specs.Units.{functional_units, has_points}
 use Rattle.osi_spdu.specs.Known.{Units}
 use Rattle.osi_message.specs.Words.{Words}
-use Rattle.osi_message.specs.Laws.Numbers.{units_numbered}
+use Rattle.osi_message.proofs.NumberLaws.{units_numbered}
 use Rattle.osi_message.specs.Meanings.{Meaning}
 use Rattle.osi_session.specs.Joining.{Taker, Hearing, respond_tsdu}
 use Rattle.osi_spdu.specs.Reading.{tsdu_at}

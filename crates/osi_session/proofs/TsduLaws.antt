@@ -9,7 +9,7 @@ use Rattle.osi_message.specs.Meanings.{Meaning}
 use Rattle.osi_message.specs.Numbered.{IsNumbered, IsNumberedWord, AreNumberedWords}
 use Rattle.osi_message.specs.Reading.{said_by_units, said_if_read, said_at}
 use Rattle.osi_message.specs.Words.{Word, Words, says, part}
-use Rattle.osi_message.specs.Laws.Numbers.{units_numbered}
+use Rattle.osi_message.proofs.NumberLaws.{units_numbered}
 use Rattle.osi_spdu.specs.Known.{Units}
 use Rattle.osi_spdu.specs.Reading.{tsdu_at}
 use Rattle.osi_session.specs.Joining.{Taker, Hearing, respond_word, respond_tsdu, respond_came}

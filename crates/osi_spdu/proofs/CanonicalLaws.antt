@@ -33,8 +33,8 @@ use Rattle.osi_spdu.specs.Units.{said_by}
 use Rattle.osi_spdu.specs.Behind.{left_at, AreLeft, is_behind}
 use Rattle.osi_spdu.specs.Groups.{units_from, units_behind, units_of}
 use Rattle.osi_spdu.specs.Writing.{is_informed, is_joined, is_zero, IsCanonical, IsFormedUnit, IsFormedTsdu, TsduFits, tsdu_octets}
-use Rattle.osi_spdu.specs.Laws.Tsdus.{left_stands, tsdu_read}
-use Rattle.osi_spdu.specs.Laws.Written.{units_written, tsdu_written}
+use Rattle.osi_spdu.proofs.UnitsLaws.{left_stands, tsdu_read}
+use Rattle.osi_spdu.proofs.WrittenLaws.{units_written, tsdu_written}
 use Rattle.std.proofs.lemmas.List.{nil_from_length}
 use Rattle.osi_spdu.proofs.Digits.{numeral_digits}
 use Rattle.osi_spdu.proofs.OneOctet.{token_bits_again}

@@ -15,11 +15,11 @@ use Rattle.osi_spdu.specs.Known.{Known, nothing, put}
 use Rattle.osi_spdu.specs.Reading.{◌>>=◌, Measured, counted_at, long_at, measured_at, Taking, params_at, params_of, code_among, judged, stored, member_taken, in_group, parameter_taken, in_unit, all_there}
 use Rattle.osi_spdu.specs.Spelling.{length_octets, Part, part_octets, Sole, IsPart, MeansInGroup, MeansInUnit}
 use Rattle.osi_spdu.specs.Faults.{indicator_len, HasNoValue, IsValueFault, Failing, IsItemFault, IsLevelFault, FailsInGroup, FailsInUnit, IsFirstMissing}
-use Rattle.osi_spdu.specs.Laws.Options.{merged, sole_one, sole_same, sole_back, sole_step, sole_joins}
-use Rattle.osi_spdu.specs.Laws.Steps.{bind_of, ok_is, guard_ok, is_none_of, none_is}
-use Rattle.osi_spdu.specs.Laws.Lengths.{IsMeasured, octets-tail, octets-drop, measured_ok, measured_again, chosen}
-use Rattle.osi_spdu.specs.Laws.Lengths as lengths
-use Rattle.osi_spdu.specs.Laws.Levels.{JoinsAll, Follows, group_follows, unit_follows, group_form}
+use Rattle.osi_spdu.proofs.OptionLaws.{merged, sole_one, sole_same, sole_back, sole_step, sole_joins}
+use Rattle.osi_spdu.proofs.StepLaws.{bind_of, ok_is, guard_ok, is_none_of, none_is}
+use Rattle.osi_spdu.proofs.LengthLaws.{IsMeasured, octets-tail, octets-drop, measured_ok, measured_again, chosen}
+use Rattle.osi_spdu.proofs.LengthLaws as lengths
+use Rattle.osi_spdu.proofs.LevelLaws.{JoinsAll, Follows, group_follows, unit_follows, group_form}
 
 -- ---- failures
 

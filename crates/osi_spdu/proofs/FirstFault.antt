@@ -1,5 +1,5 @@
 -- The first fault of a unit is the one that reading answers.
-use Rattle.std.proofs.Common.{◌⊎◌, inl, inr, ◌≡◌, ℕ, ◌+◌, ◌/◌, ◌%◌, Bool, true, false, cond, List, [], ◌∷◌, ◌++◌, length, Option, Some, None, Result, Ok, Err, refl, sym, ap, subst, ◌∙◌, arith}
+use Rattle.std.proofs.Common.{inl, inr, ◌≡◌, ℕ, ◌+◌, Bool, true, false, cond, List, [], ◌∷◌, ◌++◌, length, Option, Some, None, Result, Ok, Err, refl, sym, ap, subst, ◌∙◌, arith}
 use Rattle.std.specs.List.{flat_map}
 use Rattle.std.proofs.lemmas.Bool.{cases_Bool}
 use Rattle.std.proofs.lemmas.List.{length-append}
@@ -12,10 +12,10 @@ use Rattle.osi_spdu.specs.Known.{Known, nothing, settled}
 use Rattle.osi_spdu.specs.Reading.{◌>>=◌, Measured, measured_at, params_of, in_unit, all_there, Placed, placed_kind, unit_at}
 use Rattle.osi_spdu.specs.Spelling.{length_octets, part_octets, Spells, MeansInUnit}
 use Rattle.osi_spdu.specs.Faults.{indicator_len, FailsInUnit, IsLevelFault, IsBodyFault, IsNamedFault, IsUnitFault}
-use Rattle.osi_spdu.specs.Laws.Steps.{bind_ok, bind_of, ok_is}
-use Rattle.osi_spdu.specs.Laws.Lengths.{octets-tail, measured_ok, measured_again}
-use Rattle.osi_spdu.specs.Laws.Lengths as lengths
-use Rattle.osi_spdu.specs.Laws.Levels.{params_found, params_only, unit_follows}
+use Rattle.osi_spdu.proofs.StepLaws.{bind_ok, bind_of, ok_is}
+use Rattle.osi_spdu.proofs.LengthLaws.{octets-tail, measured_ok, measured_again}
+use Rattle.osi_spdu.proofs.LengthLaws as lengths
+use Rattle.osi_spdu.proofs.LevelLaws.{params_found, params_only, unit_follows}
 use Rattle.osi_spdu.proofs.FaultLaws.{failed, fault_is, never, no_value, measured_bad, value_of_no, counted_is, same_len, bind_bad, unit_level_found, unit_level_only, missing_found, missing_only}
 
 -- a unit of this kind whose parameters are these

@@ -13,11 +13,11 @@ use Rattle.osi_spdu.specs.Known.{Known, nothing, some_octets, settled, Contents,
 use Rattle.osi_spdu.specs.Reading.{code_among}
 use Rattle.osi_spdu.specs.Spelling.{length_octets, HasLength, Part, part_octets, Sole, IsPart, Spells, only, MemberOf, MeansInGroup, GroupOf, ParameterOf, KnownOf, MeansInUnit, SpellsUnit, AreUnits, SpellsTsdu}
 use Rattle.osi_spdu.specs.Writing.{written_item, among, written_code, member_octets, group_octets, value_octets, parameter_octets, body_octets, UnitFits, TsduFits}
-use Rattle.osi_spdu.specs.Laws.Options.{Joins, first, sole_one, sole_same, sole_split}
-use Rattle.osi_spdu.specs.Laws.Steps.{same_true, same_refl}
-use Rattle.osi_spdu.specs.Laws.Levels.{JoinsAll}
-use Rattle.osi_spdu.specs.Laws.Owners.{owns, once, code_once, member_once, every_passes, group_apart, among_named}
-use Rattle.osi_spdu.specs.Laws.Written.{tail_once, once_tail}
+use Rattle.osi_spdu.proofs.OptionLaws.{Joins, first, sole_one, sole_same, sole_split}
+use Rattle.osi_spdu.proofs.StepLaws.{same_true, same_refl}
+use Rattle.osi_spdu.proofs.LevelLaws.{JoinsAll}
+use Rattle.osi_spdu.proofs.OwnerLaws.{owns, once, code_once, member_once, every_passes, group_apart, among_named}
+use Rattle.osi_spdu.proofs.WrittenLaws.{tail_once, once_tail}
 use Rattle.osi_spdu.proofs.FormedLaws.{IsOwned, owned, any_at, inner_source, option_cases, only_slot}
 use Rattle.osi_spdu.proofs.Shorter.{canonical_shorter, canonical_from}
 

@@ -15,10 +15,10 @@ use Rattle.osi_spdu.specs.Known.{Known, settled, Contents}
 use Rattle.osi_spdu.specs.Reading.{code_among, Placed, contents_of, unit_at}
 use Rattle.osi_spdu.specs.Spelling.{Part, Sole, IsPart, Spells, only, MemberOf, MeansInGroup, GroupOf, ParameterOf, KnownOf, MeansInUnit, SpellsUnit}
 use Rattle.osi_spdu.specs.Writing.{among, may_be_there, is_enclosed, is_formed}
-use Rattle.osi_spdu.specs.Laws.Options.{Joins, first, sole_same, sole_split}
-use Rattle.osi_spdu.specs.Laws.Steps.{same_true, same_refl}
-use Rattle.osi_spdu.specs.Laws.Owners.{among_named, any_weaker}
-use Rattle.osi_spdu.specs.Laws.Tsdus.{unit_found}
+use Rattle.osi_spdu.proofs.OptionLaws.{Joins, first, sole_same, sole_split}
+use Rattle.osi_spdu.proofs.StepLaws.{same_true, same_refl}
+use Rattle.osi_spdu.proofs.OwnerLaws.{among_named, any_weaker}
+use Rattle.osi_spdu.proofs.UnitsLaws.{unit_found}
 
 -- ---- where a value comes from
 

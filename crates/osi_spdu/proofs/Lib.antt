@@ -1,3 +1,11 @@
+pub mod OptionLaws
+pub mod StepLaws
+pub mod LengthLaws
+pub mod LevelLaws
+pub mod OwnerLaws
+pub mod UnitsLaws
+pub mod WrittenLaws
+pub mod GrammarLaws
 pub mod Named
 pub mod Lookup
 pub mod Digits

@@ -12,8 +12,8 @@ use Rattle.osi_spdu.specs.Values.{canonical_in}
 use Rattle.osi_spdu.specs.Known.{Known}
 use Rattle.osi_spdu.specs.Reading.{◌>>=◌, Measured, counted_at, long_at, measured_at, parameter_at, Taking, params_at, params_of, judged, stored}
 use Rattle.osi_spdu.specs.Params.{place_of, cells_of, filled, slots_of}
-use Rattle.osi_spdu.specs.Laws.Steps.{bind_ok, bind_of, ok_is, guard_ok}
-use Rattle.osi_spdu.specs.Laws.Lengths.{chosen}
+use Rattle.osi_spdu.proofs.StepLaws.{bind_ok, bind_of, ok_is, guard_ok}
+use Rattle.osi_spdu.proofs.LengthLaws.{chosen}
 use Rattle.osi_spdu.proofs.ParamsLaws.{slots_put}
 
 -- ---- a slot

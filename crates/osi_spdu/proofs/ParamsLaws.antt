@@ -13,7 +13,7 @@ use Rattle.osi_spdu.specs.Fields.{token_octets, tokens_alone}
 use Rattle.osi_spdu.specs.Values.{token_bits}
 use Rattle.osi_spdu.proofs.OneOctet.{token_bits_again}
 use Rattle.std.specs.Prelude.{is_some}
-use Rattle.osi_spdu.specs.Laws.Steps.{same_true, same_refl}
+use Rattle.osi_spdu.proofs.StepLaws.{same_true, same_refl}
 
 at_place : ℕ → Option Code
 at_place n = slice_get every_code n

@@ -1,5 +1,5 @@
 -- How the reader of a TSDU goes on behind the first unit.
-use Rattle.std.proofs.Common.{◌≡◌, ℕ, Bool, true, false, ◌&&◌, List, [], ◌∷◌, length, Some, None, Result, Ok, Err, refl, sym, ap, ◌∙◌, arith}
+use Rattle.std.proofs.Common.{◌≡◌, ℕ, Bool, true, false, ◌&&◌, List, [], ◌∷◌, length, Some, Result, Ok, Err, refl, sym, ◌∙◌, arith}
 use Rattle.std.specs.Prelude.{IfOk, IsOkAnd}
 use Rattle.osi_tpkt.specs.Octets.{IsOctets}
 use Rattle.osi_spdu.specs.declared.faults.SpduFault.{SpduFault}
@@ -15,15 +15,15 @@ use Rattle.osi_spdu.specs.Known.{Contents, Units}
 use Rattle.osi_spdu.specs.declared.params.Params.{Params}
 use Rattle.osi_spdu.specs.Params.{known_of}
 use Rattle.osi_spdu.specs.Writing.{is_formed, is_joined, IsFormedTsdu, TsduFits}
-use Rattle.osi_spdu.specs.Reading.{Gives, Placed, unit_at, contents_of, takes_rest, Next, next_if, next_at, behind_at, ended, continued, tsdu_at}
+use Rattle.osi_spdu.specs.Reading.{Gives, Placed, unit_at, contents_of, behind_at, ended, continued, tsdu_at}
 use Rattle.osi_spdu.specs.Spelling.{SpellsTsdu}
 use Rattle.osi_spdu.specs.Found.{placed_of}
 use Rattle.osi_spdu.specs.Groups.{units_behind, units_of}
-use Rattle.osi_spdu.specs.Laws.Steps.{ok_is}
+use Rattle.osi_spdu.proofs.StepLaws.{ok_is}
 use Rattle.osi_spdu.proofs.FormedLaws.{placed_formed}
 use Rattle.osi_spdu.proofs.CanonicalLaws.{group_formed}
 use Rattle.osi_spdu.proofs.FitsLaws.{tsdu_fits}
-use Rattle.osi_spdu.specs.Laws.Tsdus.{tsdu_found, tsdu_only}
+use Rattle.osi_spdu.proofs.UnitsLaws.{tsdu_found, tsdu_only}
 
 pub found_formed : (params : Params) (r : Result Found SpduFault) (second : Bool) (at : ℕ) (octets : List ℕ) → IsOctets octets → Gives (placed_of params) r (unit_at second at octets)
     → IfOk r (λ f. is_formed f.kind (known_of params) ≡ true)

@@ -1,13 +1,12 @@
 -- Writing units one after the other, as a loop does.
-use Rattle.std.proofs.Common.{◌≡◌, ℕ, ◌+◌, ◌-◌, ◌*◌, ◌^◌, ◌<◌, ◌≤◌, Bool, true, false, List, [], ◌∷◌, ◌++◌, length, refl, sym, ap, subst, ◌∙◌, append_assoc, arith}
+use Rattle.std.proofs.Common.{◌≡◌, ℕ, ◌+◌, ◌*◌, ◌<◌, ◌≤◌, List, [], ◌∷◌, ◌++◌, length, refl, sym, ap, subst, ◌∙◌, append_assoc, arith}
 use Rattle.std.specs.List.{AllByRecursion}
 use Rattle.std.proofs.lemmas.List.{length-append, append-nil, drop_at}
 use Rattle.osi_tpkt.specs.Octets.{IsOctets}
-use Rattle.osi_spdu.specs.Laws.Lengths.{octets-drop}
+use Rattle.osi_spdu.proofs.LengthLaws.{octets-drop}
 use Rattle.osi_spdu.specs.declared.kinds.Kind.{Kind}
 use Rattle.osi_spdu.specs.declared.kinds.Kind.TheVariants.{DataTransfer}
 use Rattle.osi_spdu.specs.Known.{Contents, Units}
-use Rattle.osi_spdu.specs.Reading.{takes_rest}
 use Rattle.osi_spdu.specs.Spelling.{HasInformation, EndsTsdu, AreBehind}
 use Rattle.osi_spdu.specs.Writing.{unit_octets, tsdu_octets, IsFormedUnit, UnitFits, TsduFits}
 

@@ -1,5 +1,5 @@
 -- What the units of a TSDU in memory say.
-use Rattle.std.specs.Prelude.{◌≡◌, List, [], ◌∷◌, Option, Some, None}
+use Rattle.std.specs.Prelude.{◌≡◌, [], ◌∷◌, Option, Some, None}
 use Rattle.osi_spdu.specs.declared.behind.Behind.{Behind}
 use Rattle.osi_spdu.specs.declared.groups.Group.{Group}
 use Rattle.osi_spdu.specs.declared.units.Spdu.{Spdu}

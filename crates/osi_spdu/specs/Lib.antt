@@ -17,4 +17,3 @@ pub mod Units
 pub mod Made
 pub mod Found
 pub mod Faults
-pub mod Laws

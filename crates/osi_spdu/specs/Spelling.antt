@@ -129,3 +129,7 @@ AreUnits (unit ∷ units) octets =
 -- The octets are a TSDU of these units.
 unfoldable pub SpellsTsdu : Units → List ℕ → Type 0
 SpellsTsdu units octets = IsOctets octets × StandTogether units × AreUnits units octets
+
+-- nothing stands behind a TSDU: it is all of its octets
+abbrev pub IsAll : Units → List ℕ → Type 0
+IsAll units rest = rest ≡ []

@@ -1,14 +1,14 @@
 //! Session units as a grammar of units: a TSDU is read whole.
 
-ghost use Rattle.std.specs.Prelude.{◌≡◌, ◌<◌, ◌++◌, [], length, Err, OnOk, OnErr, refl};
+ghost use Rattle.std.specs.Prelude.{◌≡◌, ◌<◌, ◌++◌, ℕ, List, [], length, Err, OnOk, OnErr};
 ghost use Rattle.bytes.specs.Filled.{UsesSpare};
 ghost use Rattle.osi_tpkt.specs.Octets.{IsOctets};
 ghost use Rattle.osi_spdu.specs.Known.{Units};
 ghost use Rattle.osi_spdu.specs.Groups.{units_of};
 ghost use Rattle.osi_spdu.specs.Reading.{tsdu_at};
-ghost use Rattle.osi_spdu.specs.Spelling.{SpellsTsdu};
+ghost use Rattle.osi_spdu.specs.Spelling.{SpellsTsdu, IsAll};
 ghost use Rattle.osi_spdu.specs.Writing.{tsdu_octets, IsFormedTsdu, TsduFits};
-ghost use Rattle.osi_spdu.specs.Laws.Grammar.{grammar_spelled, grammar_one};
+ghost use Rattle.osi_tpkt.specs.Unit.{IsAtFront};
 
 use crate::faults::SpduFault;
 use crate::groups::Group;
@@ -25,9 +25,9 @@ impl<'a> Unit<'a> for Group<'a> {
 
     ghost value = { λ g. units_of g };
 
-    ghost spells = { λ units octets. SpellsTsdu units octets };
+    ghost spells = { SpellsTsdu };
 
-    ghost follows = { λ units octets. octets ≡ [] };
+    ghost follows = { IsAll };
 
     ghost begins = { λ octets. ⊥ };
 
@@ -62,9 +62,11 @@ impl<'a> Unit<'a> for Group<'a> {
         written_len(self)
     }
 
-    ghost is_spelled = { grammar_spelled };
-
-    ghost stands_alone = { λ units. refl };
-
-    ghost one_reading = { grammar_one };
+    fn laws()
+        ensures is_spelled { (units : Units) → IsFormedTsdu units × TsduFits units × IsOctets (tsdu_octets units) → SpellsTsdu units (tsdu_octets units) }
+        ensures stands_alone { (units : Units) → IsAll units [] }
+        ensures one_reading { (v w : Units) (m n : ℕ) (octets : List ℕ) → IsOctets octets →
+            IsAtFront SpellsTsdu IsAll v m octets → IsAtFront SpellsTsdu IsAll w n octets →
+            (v ≡ w) × (m ≡ n) }
+    {}
 }

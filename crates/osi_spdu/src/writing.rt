@@ -3,7 +3,6 @@
 ghost use Rattle.std.specs.Prelude.{◌≡◌, ◌≤◌, ◌<◌, ◌^◌, ◌+◌, ◌*◌, ◌++◌, [], ◌∷◌, true, length, get_or, set, nat_lt, is_some, Ok, OnOk, OnErr, if◌then◌else◌};
 ghost use Rattle.std.specs.List.{flat_map};
 ghost use Rattle.bytes.specs.Filled.{UsesSpare};
-ghost use Rattle.osi_tpkt.specs.Octets.{IsOctets};
 ghost use Rattle.osi_spdu.specs.declared.kinds.Category.TheVariants.{Two};
 ghost use Rattle.osi_spdu.specs.Codes.{number_of, is_group};
 ghost use Rattle.osi_spdu.specs.Kinds.{codes_of, category_of};
@@ -25,6 +24,7 @@ use crate::octets::Value;
 use crate::params::Params;
 use crate::units::Spdu;
 use bytes::BytesMut;
+use osi_tpkt::laws::are_octets;
 use std::alloc::AllocError;
 
 /// How many octets a code or SI, a length indicator and these many octets are.
@@ -457,14 +457,6 @@ fn put_group(out: &mut BytesMut, group: &Group, lengths: &Lengths)
 {
     put_unit(out, group.first(), lengths.first.groups, lengths.first.body);
     put_behind(out, group.others(), &lengths.behind);
-}
-
-/// What a slice of octets holds are octets. The function does nothing: to name a slice gives a proof
-/// the facts of its type.
-fn are_octets(octets: &[u8])
-    ensures { IsOctets octets.now }
-{
-    let _octets = octets;
 }
 
 /// Appends the written form of the units of a TSDU (X.225 section 8).

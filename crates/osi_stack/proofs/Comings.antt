@@ -3,10 +3,10 @@ use Rattle.std.proofs.Common.{◌≡◌, ℕ, ◌+◌, ◌-◌, ◌<◌, ◌≤�
 use Rattle.std.specs.List.{AllByRecursion}
 use Rattle.std.proofs.lemmas.List.{append_cancel_left, take-append-drop, length-take-le, take-take}
 use Rattle.osi_tpkt.specs.Packet.{IsPacket, packet_of}
-use Rattle.osi_tpkt.specs.PacketLaws.{one_packet, written_packet}
+use Rattle.osi_tpkt.proofs.PacketLaws.{one_packet, written_packet}
 use Rattle.osi_tpkt.specs.Stream.{ArePackets, offset_of}
 use Rattle.osi_tpkt.specs.declared.cutting.Fed.{Fed}
-use Rattle.osi_tpdu.specs.Laws.Written.{written_spells}
+use Rattle.osi_tpdu.proofs.WrittenLaws.{written_spells}
 use Rattle.osi_tpdu.specs.Packet.{units_of}
 use Rattle.osi_tpdu.specs.Value.{Value}
 use Rattle.osi_tpdu.specs.Writing.{written}

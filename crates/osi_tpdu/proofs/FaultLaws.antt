@@ -11,8 +11,8 @@ use Rattle.osi_tpdu.specs.Value.{Parameters, AreParameters}
 use Rattle.osi_tpdu.specs.Spelling.{Item, item_octets, values_of, single}
 use Rattle.osi_tpdu.specs.Reading.{◌>>=◌, parameter_at, no_parameters, with_size, with_calling, with_called, with_additional, with_alternative, with_parameter, parameters_at, known_at, skipped_at, all_skipped_at}
 use Rattle.osi_tpdu.specs.Faults.{Kind, LooksAtParameters, Parameter, Size, Calling, Called, Additional, Alternative, code_of, MayBeLong, MayHold, HasNoItem, BeginsWith, HasBadLength, IsRepeated, HasBadValue, HasItemFault, HasParameterFault, place_of, StandsBefore, IsFirst}
-use Rattle.osi_tpdu.specs.Laws.Steps.{chosen, ok_is}
-use Rattle.osi_tpdu.specs.Laws.Items.{Adds, Adds-then, Adds-none, with_found, parameter_found, parameter_again}
+use Rattle.osi_tpdu.proofs.StepLaws.{chosen, ok_is}
+use Rattle.osi_tpdu.proofs.ItemLaws.{Adds, Adds-then, Adds-none, with_found, parameter_found, parameter_again}
 
 -- ---- an answer is the first fault, or there is none
 

@@ -1,3 +1,7 @@
+pub mod ItemLaws
+pub mod UnitLaws
+pub mod StepLaws
+pub mod WrittenLaws
 pub mod FaultLaws
 mod LeadCodes
 pub mod Loops

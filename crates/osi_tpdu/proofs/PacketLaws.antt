@@ -14,10 +14,10 @@ use Rattle.osi_tpdu.specs.Spelling.{Spells}
 use Rattle.osi_tpdu.specs.Reading.{◌>>=◌, header_at, value_of, unit_at}
 use Rattle.osi_tpdu.specs.Packet.{AreUnits, AreLeads, IsFirstFault, Follows, units_at, units_of}
 use Rattle.osi_tpdu.specs.Writing.{Fits}
-use Rattle.osi_tpdu.specs.Laws.Written.{spelled_fits}
+use Rattle.osi_tpdu.proofs.WrittenLaws.{spelled_fits}
 use Rattle.osi_tpdu.specs.Rest.{can_be_read, rest_at}
-use Rattle.osi_tpdu.specs.Laws.Steps.{bind_ok, chosen, ok_is, IsOctets-back, IsOctets-drop}
-use Rattle.osi_tpdu.specs.Laws.OneUnit.{unit_takes, unit_found, unit_spelled, stands_alone}
+use Rattle.osi_tpdu.proofs.StepLaws.{bind_ok, chosen, ok_is, IsOctets-back, IsOctets-drop}
+use Rattle.osi_tpdu.proofs.UnitLaws.{unit_takes, unit_found, unit_spelled, stands_alone}
 use Rattle.osi_tpdu.proofs.UnitFaults.{unit_fault_found, unit_fault_only}
 
 abbrev Read : Type 0

@@ -3,8 +3,8 @@ use Rattle.std.proofs.Common.{◌≡◌, ℕ, ◌+◌, ◌-◌, ◌*◌, ◌/◌
 use Rattle.std.proofs.lemmas.Bool.{eq-eqb}
 use Rattle.std.proofs.lemmas.List.{length-drop, take_all}
 use Rattle.osi_tpkt.specs.Octets.{IsOctets}
-use Rattle.osi_tpdu.specs.Laws.OneUnit.{header_again}
-use Rattle.osi_tpdu.specs.Laws.Written.{written_spells}
+use Rattle.osi_tpdu.proofs.UnitLaws.{header_again}
+use Rattle.osi_tpdu.proofs.WrittenLaws.{written_spells}
 use Rattle.osi_tpdu.specs.Packet.{units_at, units_of}
 use Rattle.osi_tpdu.specs.Reading.{header_at, unit_at, value_of, transfer_of, acknowledge_of}
 use Rattle.osi_tpdu.specs.Spelling.{Spells}

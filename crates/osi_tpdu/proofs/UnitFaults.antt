@@ -9,8 +9,8 @@ use Rattle.osi_tpdu.specs.declared.faults.TpduFault.TheVariants.{BadLi, UnknownC
 use Rattle.osi_tpdu.specs.Value.{Parameters, Connect, Value, request, confirm, disconnect, disconnected, data0, data2, acknowledge, error, may_be_followed}
 use Rattle.osi_tpdu.specs.Reading.{header_at, reference_at, known_at, all_skipped_at, connect_of, request_of, confirm_of, disconnect_of, disconnected_of, transfer_of, acknowledge_of, error_of, value_of, unit_at}
 use Rattle.osi_tpdu.specs.Faults.{Kind, Request, Confirm, Disconnect, Disconnected, Transfer, Acknowledge, Report, HasCode, MayCount, HasParametersBehind, LooksAtParameters, HasParameterFault, HasHeader, HasNoHeader, BeginsUnit, HasBadIndicator, HasUnknownCode, HasFault, StandsBefore, IsFirst, IsUnitFault}
-use Rattle.osi_tpdu.specs.Laws.Steps.{chosen, ok_is, IsOctets-drop, IsOctets-front, IsOctets-rest}
-use Rattle.osi_tpdu.specs.Laws.OneUnit.{header_found, header_again}
+use Rattle.osi_tpdu.proofs.StepLaws.{chosen, ok_is, IsOctets-drop, IsOctets-front, IsOctets-rest}
+use Rattle.osi_tpdu.proofs.UnitLaws.{header_found, header_again}
 use Rattle.osi_tpdu.proofs.FaultLaws.{Judges, judges_same, judges_bind, judges_map, judges_cond, parameters_judged, skips_judged, parameter_place}
 
 abbrev Parts : Type 0

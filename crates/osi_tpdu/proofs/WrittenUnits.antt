@@ -6,7 +6,7 @@ use Rattle.osi_tpdu.specs.Spelling.{Spells}
 use Rattle.osi_tpdu.specs.Writing.{written, HasRoom}
 use Rattle.osi_tpdu.specs.Packet.{units_of}
 use Rattle.osi_tpdu.specs.View.{value}
-use Rattle.osi_tpdu.specs.Laws.Written.{written_spells}
+use Rattle.osi_tpdu.proofs.WrittenLaws.{written_spells}
 use Rattle.osi_tpdu.proofs.PacketLaws.{units_only}
 
 pub unit_spelled : (u t : Tpdu) → u ≡ t → HasFieldsInRange (value t) → HasRoom (value u) → Spells (value u) (written (value u))

@@ -1,5 +1,4 @@
 pub mod Faults
-pub mod Laws
 pub mod Limits
 pub mod Packet
 pub mod Reading

@@ -1,9 +1,9 @@
 //! Transport units as a grammar of units.
 
-ghost use Rattle.std.specs.Prelude.{◌≡◌, ◌<◌, ◌++◌, length, Err, OnOk, OnErr};
+ghost use Rattle.std.specs.Prelude.{◌≡◌, ◌<◌, ◌++◌, ℕ, List, [], length, Err, OnOk, OnErr};
 ghost use Rattle.bytes.specs.Filled.{UsesSpare};
-ghost use Rattle.osi_tpdu.specs.Laws.OneUnit.{stands_alone, one_reading};
-ghost use Rattle.osi_tpdu.specs.Laws.Written.{written_spells};
+ghost use Rattle.osi_tpkt.specs.Octets.{IsOctets};
+ghost use Rattle.osi_tpkt.specs.Unit.{IsAtFront};
 ghost use Rattle.osi_tpdu.specs.Packet.{Follows};
 ghost use Rattle.osi_tpdu.specs.Reading.{unit_at};
 ghost use Rattle.osi_tpdu.specs.Spelling.{Spells};
@@ -38,11 +38,13 @@ impl<'a> Unit<'a> for Tpdu<'a> {
 
     ghost fits = { Fits };
 
-    ghost is_spelled = { written_spells };
-
-    ghost stands_alone = { stands_alone };
-
-    ghost one_reading = { one_reading };
+    fn laws()
+        ensures is_spelled { (unit : Value) → Fits unit → Spells unit (written unit) }
+        ensures stands_alone { (unit : Value) → Follows unit [] }
+        ensures one_reading { (v w : Value) (m n : ℕ) (octets : List ℕ) → IsOctets octets →
+            IsAtFront Spells Follows v m octets → IsAtFront Spells Follows w n octets →
+            (v ≡ w) × (m ≡ n) }
+    {}
 
     /// The first unit of the octets, as a packet has it, and the length of its spelling: AK, DC and
     /// ER may be followed by anything, CR, CC, DR and DT go to the end. Never `Ok(None)`.

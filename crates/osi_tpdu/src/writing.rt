@@ -1,6 +1,6 @@
 //! Writing one unit, in the one form that this product writes (X.224 section 13).
 
-ghost use Rattle.std.specs.Prelude.{◌≡◌, ◌+◌, ◌*◌, ◌<◌, ◌≤◌, ◌^◌, ◌++◌, ◌∷◌, [], length, Ok, IsOk, IfSome, OnOk, OnErr, option_copied, option_map};
+ghost use Rattle.std.specs.Prelude.{ℕ, ◌≡◌, ◌+◌, ◌*◌, ◌<◌, ◌≤◌, ◌^◌, ◌++◌, ◌∷◌, [], length, Ok, IsOk, IfSome, OnOk, OnErr, option_copied, option_map};
 ghost use Rattle.std.specs.List.{flat_map};
 ghost use Rattle.bytes.specs.Filled.{UsesSpare};
 ghost use Rattle.osi_tpkt.specs.Octets.{IsOctets};
@@ -40,8 +40,8 @@ fn size_len(size: Option<SizeCode>) -> usize
     }
 }
 
-fn selector_len(code: u8, selector: Option<Selector<'_>>) -> usize
-    ensures value { result ≡ length (flat_map item_octets (items_of code (option_map selector_octets selector.entry))) }
+fn selector_len(selector: Option<Selector<'_>>) -> usize
+    ensures value { (code : ℕ) → result ≡ length (flat_map item_octets (items_of code (option_map selector_octets selector.entry))) }
     ensures most { result ≤ 34 }
 {
     match selector {
@@ -75,8 +75,8 @@ fn parameters_len(p: &ConnectParameters<'_>) -> usize
     ensures most { result ≤ 2 ^ 63 + 80 }
 {
     size_len(p.size)
-        + selector_len(CALLING, p.calling)
-        + selector_len(CALLED, p.called)
+        + selector_len(p.calling)
+        + selector_len(p.called)
         + options_len(p.additional_options)
         + classes_len(p.alternative_classes)
 }

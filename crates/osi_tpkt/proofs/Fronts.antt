@@ -11,8 +11,8 @@ use Rattle.osi_tpkt.specs.Held.{Held}
 use Rattle.osi_tpkt.specs.Cutter.{Belongs}
 use Rattle.osi_tpkt.specs.declared.cutting.Fed.{Fed}
 use Rattle.osi_tpkt.specs.declared.headers.HeaderFault.{HeaderFault}
-use Rattle.osi_tpkt.specs.PacketLaws.{stated_length-append, packet_front, written_packet}
-use Rattle.osi_tpkt.specs.OctetLaws.{octets_nil, octets_cons, octets_append, octets_left, octets_right, octets_zeros}
+use Rattle.osi_tpkt.proofs.PacketLaws.{stated_length-append, packet_front, written_packet}
+use Rattle.osi_tpkt.proofs.OctetLaws.{octets_nil, octets_cons, octets_append, octets_left, octets_right, octets_zeros}
 
 -- the front part of octets with a good header, up to the length that it states
 pub front_part : (r more : List ℕ) → IsOctets (r ++ more) → get_or (r ++ more) 0 0 ≡ 3 → 7 ≤ stated_length (r ++ more) →

@@ -1,3 +1,5 @@
+pub mod OctetLaws
+pub mod PacketLaws
 pub mod Fronts
 pub mod Streams
 pub mod Holding

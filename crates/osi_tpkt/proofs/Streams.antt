@@ -3,10 +3,10 @@ use Rattle.std.proofs.Common.{◌≡◌, ℕ, zero, suc, ◌+◌, ◌-◌, ◌<�
 use Rattle.std.proofs.lemmas.Bool.{cases_lt, cases_eq}
 use Rattle.std.proofs.lemmas.List.{append_cancel_left, length-append, length-take-le, take-append-drop, append-nil}
 use Rattle.osi_tpkt.specs.Octets.{IsOctets}
-use Rattle.osi_tpkt.specs.OctetLaws.{octets_right}
+use Rattle.osi_tpkt.proofs.OctetLaws.{octets_right}
 use Rattle.osi_tpkt.specs.Packet.{IsPacket, IsPartial, IsBadVersion, IsBadLength, IsFaultOf, stated_length}
 use Rattle.osi_tpkt.specs.Header.{IsFront}
-use Rattle.osi_tpkt.specs.PacketLaws.{packet_front, one_packet, stated_length-append}
+use Rattle.osi_tpkt.proofs.PacketLaws.{packet_front, one_packet, stated_length-append}
 use Rattle.osi_tpkt.specs.Stream.{ArePackets, EndsAt, Cuts, offset_of, Ending}
 use Rattle.osi_tpkt.specs.Stream.Ending.{Faulty, Rest}
 use Rattle.osi_tpkt.specs.declared.cutting.Fed.{Fed}

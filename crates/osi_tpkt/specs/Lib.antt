@@ -1,9 +1,7 @@
 pub mod Octets
-pub mod OctetLaws
 pub mod Packet
 pub mod Header
 pub mod Unit
-pub mod PacketLaws
 pub mod PacketValue
 pub mod Stream
 pub mod Held

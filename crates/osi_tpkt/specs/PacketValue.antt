@@ -5,3 +5,7 @@ use Rattle.osi_tpkt.specs.declared.packets.Packet.{Packet}
 -- the octets of its transport unit
 abbrev pub unit_of : Packet → List ℕ
 unit_of p = p.unit.now
+
+-- any octets may follow a packet
+abbrev pub Anything : List ℕ → List ℕ → Type 0
+Anything v rest = Unit {0}

@@ -9,6 +9,14 @@ ghost use Rattle.osi_tpkt.specs.Runs.{CutterCall, CutterRun, CutterReads, Cutter
 ghost use Rattle.osi_tpkt.specs.Runs.CutterCall.{Feed, Advance};
 ghost use Rattle.osi_tpkt.specs.Cutter.{Passes};
 
+/// What a slice of octets holds are octets: to name a slice gives a proof the facts of its type.
+#[inline(always)]
+pub fn are_octets(octets: &[u8])
+    ensures { IsOctets octets.now }
+{
+    let _octets = octets;
+}
+
 /// No spelling of a packet begins another: where two packets stand at the front of the same
 /// octets, they are one, with one transport unit.
 pub fn no_packet_begins_another()

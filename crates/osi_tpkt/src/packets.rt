@@ -7,6 +7,7 @@ ghost use Rattle.osi_tpkt.specs.Packet.{IsPacket, packet_of};
 
 use crate::faults::TpktFault;
 use crate::headers::survey;
+use crate::laws::are_octets;
 use crate::units::Unit;
 use bytes::BytesMut;
 use std::alloc::AllocError;
@@ -25,7 +26,9 @@ pub struct Packet<'a> {
 }
 
 impl<'a> Packet<'a> {
-    ghost use Rattle.osi_tpkt.specs.PacketValue.{unit_of};
+    ghost use Rattle.osi_tpkt.specs.Octets.{IsOctets};
+    ghost use Rattle.osi_tpkt.specs.PacketValue.{unit_of, Anything};
+    ghost use Rattle.osi_tpkt.specs.Unit.{IsAtFront};
 
     /// The packet that carries a transport unit, or `None` for a unit of under 3 or over 65,531
     /// octets.
@@ -56,8 +59,9 @@ impl<'a> Unit<'a> for Packet<'a> {
     ghost use Rattle.std.specs.Prelude.{◌≡◌, ◌++◌, ◌<◌, ℕ, List, [], length, OnOk, OnErr, IfOk, IfSome, IsOkAnd, IsSomeAnd, ◌↔◌};
     ghost use Rattle.bytes.specs.Filled.{UsesSpare};
     ghost use Rattle.osi_tpkt.specs.Packet.{IsPacket, IsPartial, IsFaultOf, IsUnit, packet_of};
-    ghost use Rattle.osi_tpkt.specs.PacketValue.{unit_of};
-    ghost use Rattle.osi_tpkt.specs.PacketLaws.{Anything, written_packet, packet_reading};
+    ghost use Rattle.osi_tpkt.specs.Octets.{IsOctets};
+    ghost use Rattle.osi_tpkt.specs.PacketValue.{unit_of, Anything};
+    ghost use Rattle.osi_tpkt.specs.Unit.{IsAtFront};
 
     ghost Value = { List ℕ };
 
@@ -75,11 +79,13 @@ impl<'a> Unit<'a> for Packet<'a> {
 
     ghost fits = { IsUnit };
 
-    ghost is_spelled = { written_packet };
-
-    ghost stands_alone = { λ _. tt };
-
-    ghost one_reading = { packet_reading };
+    fn laws()
+        ensures is_spelled { (unit : List ℕ) → IsUnit unit → IsPacket unit (packet_of unit) }
+        ensures stands_alone { (unit : List ℕ) → Anything unit [] }
+        ensures one_reading { (v w : List ℕ) (m n : ℕ) (octets : List ℕ) → IsOctets octets →
+            IsAtFront IsPacket Anything v m octets → IsAtFront IsPacket Anything w n octets →
+            (v ≡ w) × (m ≡ n) }
+    {}
 
     fn read(octets: &'a [u8]) -> Result<Option<(Packet<'a>, usize)>, TpktFault> {
         let fed = match survey(&[], octets) {
@@ -146,14 +152,6 @@ fn put_header(out: &mut BytesMut, octets: usize)
 {
     out.extend_reserved(&[3, 0]);
     out.extend_reserved(&(octets as u16).to_be_bytes());
-}
-
-// What a slice holds are octets. The function does nothing: to name a slice gives a proof the facts
-// of its type.
-fn are_octets(octets: &[u8])
-    ensures { IsOctets octets.now }
-{
-    let _octets = octets;
 }
 
 /// Appends the packet that carries a unit of any grammar (RFC 1006 section 6): its header and the

@@ -68,14 +68,12 @@ pub trait Unit<'a>: Sized + Drop {
         requires { fits (value self.now) }
         ensures { result ≡ length (written (value self.now)) };
 
-    /// The written form spells its value.
-    ghost is_spelled: { (v : Value) → fits v → spells v (written v) };
-
-    /// A unit may be the last of its octets.
-    ghost stands_alone: { (v : Value) → follows v [] };
-
-    /// At most one unit stands at the front of octets.
-    ghost one_reading: { (v w : Value) (m n : ℕ) (octets : List ℕ) → IsOctets octets →
-        IsAtFront spells follows v m octets → IsAtFront spells follows w n octets →
-        (v ≡ w) × (m ≡ n) };
+    /// Laws of the grammar; this does nothing. The written form of a value spells it, a unit may be the last
+    /// of its octets, and at most one unit stands at the front of octets.
+    fn laws()
+        ensures is_spelled { (v : Value) → fits v → spells v (written v) }
+        ensures stands_alone { (v : Value) → follows v [] }
+        ensures one_reading { (v w : Value) (m n : ℕ) (octets : List ℕ) → IsOctets octets →
+            IsAtFront spells follows v m octets → IsAtFront spells follows w n octets →
+            (v ≡ w) × (m ≡ n) };
 }

@@ -1,4 +1,4 @@
-use Rattle.osi_message.specs.Laws.Numbers.{units_numbered}
+use Rattle.osi_message.proofs.NumberLaws.{units_numbered}
 use Rattle.osi_session.proofs.SessionLaws.{request_small}
 use Rattle.osi_session.proofs.laws.what_happens_has_numbers.Goals as goal
 

@@ -1,4 +1,4 @@
-use Rattle.osi_spdu.specs.Laws.Tsdus.{tsdu_found}
+use Rattle.osi_spdu.proofs.UnitsLaws.{tsdu_found}
 use Rattle.osi_spdu.proofs.laws.found.Goals as goal
 
 pub returns : goal.returns

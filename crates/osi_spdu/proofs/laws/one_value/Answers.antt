@@ -1,6 +1,6 @@
 use Rattle.std.proofs.Common.{sym, ◌∙◌}
-use Rattle.osi_spdu.specs.Laws.Steps.{ok_is}
-use Rattle.osi_spdu.specs.Laws.Tsdus.{tsdu_only}
+use Rattle.osi_spdu.proofs.StepLaws.{ok_is}
+use Rattle.osi_spdu.proofs.UnitsLaws.{tsdu_only}
 use Rattle.osi_spdu.proofs.laws.one_value.Goals as goal
 
 pub returns : goal.returns

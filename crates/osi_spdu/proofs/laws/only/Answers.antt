@@ -1,4 +1,4 @@
-use Rattle.osi_spdu.specs.Laws.Tsdus.{tsdu_only}
+use Rattle.osi_spdu.proofs.UnitsLaws.{tsdu_only}
 use Rattle.osi_spdu.proofs.laws.only.Goals as goal
 
 pub returns : goal.returns

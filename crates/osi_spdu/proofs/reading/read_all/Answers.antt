@@ -1,4 +1,4 @@
-use Rattle.std.proofs.Common.{◌≡◌, ◌∙◌, true, length, ap, sym, subst, rules, option_map}
+use Rattle.std.proofs.Common.{◌≡◌, ◌∙◌, true, length, sym, subst, rules, option_map}
 use Rattle.osi_spdu.specs.declared.kinds.Category.TheVariants.{Zero}
 use Rattle.osi_spdu.specs.declared.kinds.Kind.{Kind}
 use Rattle.osi_spdu.specs.Kinds.{category_of}

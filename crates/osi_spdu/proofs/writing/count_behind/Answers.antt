@@ -1,4 +1,4 @@
-use Rattle.std.proofs.Common.{◌≡◌, ℕ, length, ap, sym, ◌∙◌, arith}
+use Rattle.std.proofs.Common.{length, ap, arith}
 use Rattle.osi_spdu.specs.Groups.{units_behind}
 use Rattle.osi_spdu.specs.Units.{said_by}
 use Rattle.osi_spdu.proofs.WritingUnits.{one_len, one_fits}

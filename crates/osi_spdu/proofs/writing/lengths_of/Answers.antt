@@ -1,4 +1,4 @@
-use Rattle.std.proofs.Common.{◌∙◌, ap, length, subst, ℕ, arith}
+use Rattle.std.proofs.Common.{◌∙◌, ap, length, subst, arith}
 use Rattle.osi_spdu.specs.Known.{Contents, Units}
 use Rattle.osi_spdu.specs.Units.{said_by}
 use Rattle.osi_spdu.specs.Groups.{units_behind}

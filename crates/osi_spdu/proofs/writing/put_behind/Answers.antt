@@ -1,4 +1,4 @@
-use Rattle.std.proofs.Common.{◌≡◌, ◌++◌, ℕ, List, [], length, ap, sym, ◌∙◌, subst, append_assoc, arith}
+use Rattle.std.proofs.Common.{◌++◌, ℕ, List, [], length, ap, sym, ◌∙◌, append_assoc, arith}
 use Rattle.osi_spdu.specs.Groups.{units_behind}
 use Rattle.osi_spdu.specs.Kinds.{category_of}
 use Rattle.osi_spdu.specs.Units.{said_by}

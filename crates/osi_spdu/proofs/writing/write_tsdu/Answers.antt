@@ -1,5 +1,4 @@
-use Rattle.std.proofs.Common.{◌++◌, ◌∙◌, ap, subst}
-use Rattle.std.proofs.lemmas.List.{drop_at}
+use Rattle.std.proofs.Common.{◌∙◌, subst}
 use Rattle.osi_tpkt.specs.Octets.{IsOctets}
 use Rattle.osi_spdu.proofs.CanonicalLaws.{group_spelled, group_read}
 use Rattle.osi_spdu.proofs.WritingUnits.{octets_behind}

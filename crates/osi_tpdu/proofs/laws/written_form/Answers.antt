@@ -1,4 +1,4 @@
-use Rattle.osi_tpdu.specs.Laws.Written.{written_spells, spelled_fits, few_fit}
+use Rattle.osi_tpdu.proofs.WrittenLaws.{written_spells, spelled_fits, few_fit}
 use Rattle.osi_tpdu.specs.Writing.{written}
 use Rattle.osi_tpdu.proofs.PacketLaws.{behind_read}
 use Rattle.osi_tpdu.proofs.laws.written_form.Goals as goal

@@ -7,7 +7,7 @@ use Rattle.osi_session.specs.Sessions.{unit_in, takes_memory}
 use Rattle.osi_spdu.specs.Groups.{units_of}
 use Rattle.osi_message.specs.Reading.{said_by_units}
 use Rattle.osi_message.specs.Words.{Words}
-use Rattle.osi_message.specs.Laws.Numbers.{units_numbered}
+use Rattle.osi_message.proofs.NumberLaws.{units_numbered}
 use Rattle.osi_session.proofs.MoveLaws.{taken_is}
 use Rattle.osi_session.proofs.SessionMoves.{Holds, holds, leaves_words, leaves_as, of_value, room_of_value, takes_as}
 use Rattle.osi_session.proofs.sessions.Session.take.Goals as goal

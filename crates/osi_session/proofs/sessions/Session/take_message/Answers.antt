@@ -5,7 +5,7 @@ use Rattle.osi_session.specs.Joining.{Taker, Hearing, respond_word}
 use Rattle.osi_session.specs.Steps.{hearing_of_all}
 use Rattle.osi_session.specs.Sessions.{unit_in}
 use Rattle.osi_message.specs.Meanings.{meant_by}
-use Rattle.osi_message.specs.Laws.Numbers.{meant_numbered}
+use Rattle.osi_message.proofs.NumberLaws.{meant_numbered}
 use Rattle.osi_message.specs.Words.{Word, says}
 use Rattle.osi_session.proofs.SessionMoves.{Holds, holds, leaves_word, leaves_as, of_heard, of_value, room_of_value, takes_as, takes_nothing}
 use Rattle.osi_session.proofs.sessions.Session.take_message.Goals as goal

@@ -1,4 +1,4 @@
-use Rattle.std.proofs.Common.{◌∷◌, [], ap, refl}
+use Rattle.std.proofs.Common.{◌∷◌, ap, refl}
 use Rattle.osi_spdu.specs.Units.{said_by}
 use Rattle.osi_spdu.proofs.BehindLaws.{left_none, left_empty, one_stands}
 use Rattle.osi_spdu.proofs.behind.Behind.one.Goals as goal

@@ -1,4 +1,4 @@
-use Rattle.std.proofs.Common.{◌≡◌, ◌≤◌, ◌∙◌, ◌∷◌, [], length, ap, sym, arith, rules}
+use Rattle.std.proofs.Common.{◌≡◌, ◌≤◌, ◌∙◌, ◌∷◌, length, ap, arith, rules}
 use Rattle.osi_spdu.specs.Found.{later_of}
 use Rattle.osi_spdu.specs.Units.{said_by}
 use Rattle.osi_spdu.specs.Behind.{left_at}

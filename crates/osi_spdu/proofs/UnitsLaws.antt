@@ -1,5 +1,5 @@
 -- Units and TSDUs: what is read is spelled so, and what is spelled so is read.
-use Rattle.std.proofs.Common.{◌⊎◌, inl, inr, ◌≡◌, ℕ, zero, suc, ◌+◌, ◌≤◌, Bool, true, false, List, [], ◌∷◌, ◌++◌, length, Option, Some, None, Result, Ok, Err, refl, sym, ap, subst, ◌∙◌, eqb, arith}
+use Rattle.std.proofs.Common.{inl, inr, ◌≡◌, ℕ, zero, suc, ◌+◌, ◌≤◌, Bool, true, false, List, [], ◌∷◌, ◌++◌, length, Option, Some, None, Result, Ok, Err, refl, sym, ap, subst, ◌∙◌, eqb, arith}
 use Rattle.std.specs.Prelude.{is_some, is_ok, IsSome}
 use Rattle.std.specs.Result.{result_unwrap_or}
 use Rattle.std.specs.List.{flat_map, find, AllByRecursion}
@@ -19,9 +19,9 @@ use Rattle.osi_spdu.specs.Known.{Known, nothing, settled, Contents, Units}
 use Rattle.osi_spdu.specs.Reading.{◌>>=◌, Measured, measured_at, params_of, in_unit, all_there, Placed, placed_kind, unit_at, contents_of, takes_rest, Next, next_if, next_at, behind_at, ended, continued, tsdu_at}
 use Rattle.osi_spdu.specs.Spelling.{length_octets, part_octets, item_octets, Spells, MeansInUnit, SpellsUnit, HasInformation, EndsTsdu, AreBehind, MayFollow, StandTogether, AreUnits, SpellsTsdu}
 use Rattle.osi_spdu.specs.Behind.{left_at}
-use Rattle.osi_spdu.specs.Laws.Steps.{bind_ok, bind_of, ok_is}
-use Rattle.osi_spdu.specs.Laws.Lengths.{octets-tail, measured_ok, measured_again, indicator_len, chosen}
-use Rattle.osi_spdu.specs.Laws.Levels.{params_found, params_only, unit_follows}
+use Rattle.osi_spdu.proofs.StepLaws.{bind_ok, bind_of, ok_is}
+use Rattle.osi_spdu.proofs.LengthLaws.{octets-tail, measured_ok, measured_again, indicator_len, chosen}
+use Rattle.osi_spdu.proofs.LevelLaws.{params_found, params_only, unit_follows}
 
 -- ---- kinds
 

@@ -2,9 +2,10 @@
 use Rattle.std.proofs.Common.{◌≡◌, ℕ, ◌+◌, ◌*◌, ◌/◌, ◌%◌, ◌≤◌, List, ◌∷◌, ◌++◌, length, get_or, take, drop, refl, sym, ◌∙◌, ap, subst, arith}
 use Rattle.std.proofs.lemmas.List.{get_or_append_left, length-take-le, take_at, take-append-drop}
 use Rattle.osi_tpkt.specs.Octets.{IsOctets}
-use Rattle.osi_tpkt.specs.OctetLaws.{octets_cons}
+use Rattle.osi_tpkt.proofs.OctetLaws.{octets_cons}
 use Rattle.osi_tpkt.specs.Packet.{IsPacket, IsUnit, packet_of, stated_length}
 use Rattle.osi_tpkt.specs.Header.{IsFront, IsFull}
+use Rattle.osi_tpkt.specs.PacketValue.{Anything}
 use Rattle.osi_tpkt.specs.Unit.{IsAtFront}
 
 -- what the header states is in its four octets, whatever follows
@@ -69,10 +70,6 @@ written_packet u h =
       at_least = h.at_least;
       at_most = h.at_most;
     }
-
--- any octets may follow a packet
-abbrev pub Anything : List ℕ → List ℕ → Type 0
-Anything v rest = Unit {0}
 
 pub packet_reading : (v w : List ℕ) (m n : ℕ) (octets : List ℕ) → IsOctets octets →
     IsAtFront IsPacket Anything v m octets → IsAtFront IsPacket Anything w n octets → (v ≡ w) × (m ≡ n)

@@ -14,10 +14,10 @@ use Rattle.osi_spdu.specs.Values.{canonical, may_enclose, canonical_in}
 use Rattle.osi_spdu.specs.Known.{Known, some_octets, settled, Contents, Units}
 use Rattle.osi_spdu.specs.Spelling.{length_octets, HasLength, Part, part_octets, Sole, IsPart, Spells, only, MemberOf, MeansInGroup, GroupOf, ParameterOf, KnownOf, MeansInUnit, SpellsUnit, AreUnits, SpellsTsdu}
 use Rattle.osi_spdu.specs.Writing.{written_item, among, written_code, member_octets, group_octets, value_octets, parameter_octets, body_octets, unit_octets, tsdu_octets, may_be_there, is_enclosed, is_formed, IsCanonical, IsFormedUnit, UnitFits, IsFormedTsdu, TsduFits}
-use Rattle.osi_spdu.specs.Laws.Options.{sole_one}
-use Rattle.osi_spdu.specs.Laws.Steps.{same_true, same_refl}
-use Rattle.osi_spdu.specs.Laws.Levels.{group_form}
-use Rattle.osi_spdu.specs.Laws.Owners.{every_passes, number_octet, among_found, any_weaker, owns, once, code_once, member_once, group_apart, members_none}
+use Rattle.osi_spdu.proofs.OptionLaws.{sole_one}
+use Rattle.osi_spdu.proofs.StepLaws.{same_true, same_refl}
+use Rattle.osi_spdu.proofs.LevelLaws.{group_form}
+use Rattle.osi_spdu.proofs.OwnerLaws.{every_passes, number_octet, among_found, any_weaker, owns, once, code_once, member_once, group_apart, members_none}
 
 -- ---- the parts that a level writes
 

@@ -14,9 +14,9 @@ use Rattle.osi_spdu.specs.Values.{canonical, may_enclose, canonical_in}
 use Rattle.osi_spdu.specs.Known.{Known, nothing, put}
 use Rattle.osi_spdu.specs.Reading.{◌>>=◌, Measured, measured_at, Taking, params_at, params_of, code_among, judged, stored, member_taken, in_group, parameter_taken, in_unit}
 use Rattle.osi_spdu.specs.Spelling.{length_octets, Part, part_octets, Sole, IsPart, Spells, only, MemberOf, MeansInGroup, GroupOf, ParameterOf, KnownOf, MeansInUnit}
-use Rattle.osi_spdu.specs.Laws.Options.{Joins, merged, first, sole_one, sole_same, sole_step, sole_back, sole_joins, sole_split, sole_join, joins_both, joins_apart, put_joins, joins_put, joins_free, joins_merged}
-use Rattle.osi_spdu.specs.Laws.Steps.{bind_ok, bind_of, ok_is, guard_ok, is_none_of, none_is, same_true, same_refl}
-use Rattle.osi_spdu.specs.Laws.Lengths.{octets-tail, measured_ok, measured_again, indicator_len}
+use Rattle.osi_spdu.proofs.OptionLaws.{Joins, merged, first, sole_one, sole_same, sole_step, sole_back, sole_joins, sole_split, sole_join, joins_both, joins_apart, put_joins, joins_put, joins_free, joins_merged}
+use Rattle.osi_spdu.proofs.StepLaws.{bind_ok, bind_of, ok_is, guard_ok, is_none_of, none_is, same_true, same_refl}
+use Rattle.osi_spdu.proofs.LengthLaws.{octets-tail, measured_ok, measured_again, indicator_len}
 
 -- each slot is as before with what is given
 abbrev pub JoinsAll : Known → Known → Known → Type 0

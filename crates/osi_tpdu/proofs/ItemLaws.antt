@@ -12,7 +12,7 @@ use Rattle.osi_tpdu.specs.declared.faults.TpduFault.TheVariants.{BadParameterLen
 use Rattle.osi_tpdu.specs.Value.{Parameters, AreParameters}
 use Rattle.osi_tpdu.specs.Spelling.{Item, item_octets, values_of, single, Means}
 use Rattle.osi_tpdu.specs.Reading.{parameter_at, no_parameters, with_size, with_calling, with_called, with_additional, with_alternative, with_parameter, parameters_at, known_at, skipped_at, all_skipped_at}
-use Rattle.osi_tpdu.specs.Laws.Steps.{bind_ok, unless_ok, when_ok, chosen, ok_is, IsOctets-take, IsOctets-drop, one_long}
+use Rattle.osi_tpdu.proofs.StepLaws.{bind_ok, unless_ok, when_ok, chosen, ok_is, IsOctets-take, IsOctets-drop, one_long}
 
 -- ---- what items add to a slot
 

@@ -14,8 +14,8 @@ use Rattle.osi_tpdu.specs.declared.unit.Tpdu.{Tpdu}
 use Rattle.osi_tpdu.specs.declared.unit.Tpdu.TheVariants.{Cr, Cc, Dr, Dc, Dt0, Dt2, Ak, Er}
 use Rattle.osi_tpdu.specs.Limits.{selector_octets}
 use Rattle.osi_tpdu.specs.View.{parameter_values, value}
-use Rattle.osi_tpdu.specs.Laws.Steps.{IsOctets-nil, IsOctets-cons, IsOctets-append}
-use Rattle.osi_tpdu.specs.Laws.Items.{values_of-append, test_eq}
+use Rattle.osi_tpdu.proofs.StepLaws.{IsOctets-nil, IsOctets-cons, IsOctets-append}
+use Rattle.osi_tpdu.proofs.ItemLaws.{values_of-append, test_eq}
 
 -- ---- the written parameters mean theirs
 

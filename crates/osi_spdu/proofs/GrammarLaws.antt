@@ -1,20 +1,20 @@
 -- A TSDU as a unit of a grammar: it is all of its octets.
-use Rattle.std.proofs.Common.{◌≡◌, ℕ, List, [], length, sym, ap, subst, ◌∙◌, arith}
+use Rattle.std.proofs.Common.{◌≡◌, ℕ, List, length, sym, ap, subst, ◌∙◌, arith}
 use Rattle.std.proofs.lemmas.List.{take_all, drop_all, length-drop}
 use Rattle.osi_tpkt.specs.Octets.{IsOctets}
 use Rattle.osi_tpkt.specs.Unit.{IsAtFront}
 use Rattle.osi_spdu.specs.Known.{Units}
-use Rattle.osi_spdu.specs.Spelling.{SpellsTsdu}
+use Rattle.osi_spdu.specs.Spelling.{SpellsTsdu, IsAll}
 use Rattle.osi_spdu.specs.Writing.{tsdu_octets, IsFormedTsdu, TsduFits}
-use Rattle.osi_spdu.specs.Laws.Steps.{ok_is}
-use Rattle.osi_spdu.specs.Laws.Tsdus.{tsdu_only}
-use Rattle.osi_spdu.specs.Laws.Written.{tsdu_written}
+use Rattle.osi_spdu.proofs.StepLaws.{ok_is}
+use Rattle.osi_spdu.proofs.UnitsLaws.{tsdu_only}
+use Rattle.osi_spdu.proofs.WrittenLaws.{tsdu_written}
 
 pub grammar_spelled : (units : Units) → IsFormedTsdu units × TsduFits units × IsOctets (tsdu_octets units) → SpellsTsdu units (tsdu_octets units)
 grammar_spelled units h = tsdu_written units h.0 h.1 h.2
 
 abbrev AtFront : Units → ℕ → List ℕ → Type 0
-AtFront units n octets = IsAtFront {V = Units} (λ u o. SpellsTsdu u o) (λ u o. o ≡ []) units n octets
+AtFront units n octets = IsAtFront {V = Units} SpellsTsdu IsAll units n octets
 
 pub front_whole : (units : Units) (n : ℕ) (octets : List ℕ) → AtFront units n octets → (n ≡ length octets) × SpellsTsdu units octets
 front_whole units n octets h =

@@ -6,7 +6,7 @@ use Rattle.osi_tpkt.specs.Octets.{IsOctets}
 use Rattle.osi_spdu.specs.declared.faults.SpduFault.TheVariants.{LengthPastEnd}
 use Rattle.osi_spdu.specs.Reading.{Measured, counted_at, long_at, measured_at}
 use Rattle.osi_spdu.specs.Spelling.{length_octets, HasLength}
-use Rattle.osi_spdu.specs.Laws.Steps.{guard_ok, ok_is}
+use Rattle.osi_spdu.proofs.StepLaws.{guard_ok, ok_is}
 
 pub octets-drop : (n : ℕ) (octets : List ℕ) → IsOctets octets → IsOctets (drop n octets)
 octets-drop n octets h i = rw get_or-drop (h (n + i))

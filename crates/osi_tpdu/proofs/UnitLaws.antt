@@ -12,8 +12,8 @@ use Rattle.osi_tpdu.specs.Value.{Parameters, Connect, Value, request, confirm, d
 use Rattle.osi_tpdu.specs.Spelling.{Item, Means, item_octets, two, below_bit, connect_part, IsHeader, Spells}
 use Rattle.osi_tpdu.specs.Reading.{header_at, reference_at, known_at, all_skipped_at, connect_of, request_of, confirm_of, disconnect_of, disconnected_of, transfer_of, acknowledge_of, error_of, value_of, unit_at}
 use Rattle.osi_tpdu.specs.Packet.{Follows}
-use Rattle.osi_tpdu.specs.Laws.Steps.{bind_ok, unless_ok, when_ok, chosen, ok_is, IsOctets-take, IsOctets-drop, IsOctets-front, IsOctets-back, IsOctets-rest}
-use Rattle.osi_tpdu.specs.Laws.Items.{known_found, known_only, skipped_found, skipped_only}
+use Rattle.osi_tpdu.proofs.StepLaws.{bind_ok, unless_ok, when_ok, chosen, ok_is, IsOctets-take, IsOctets-drop, IsOctets-front, IsOctets-back, IsOctets-rest}
+use Rattle.osi_tpdu.proofs.ItemLaws.{known_found, known_only, skipped_found, skipped_only}
 
 -- ---- the length indicator
 

@@ -10,8 +10,8 @@ use Rattle.osi_spdu.specs.Codes.{number_of, is_same, is_group, every_code}
 use Rattle.osi_spdu.specs.Kinds.{codes_of, members_of, references_of}
 use Rattle.osi_spdu.specs.Reading.{code_among}
 use Rattle.osi_spdu.specs.Writing.{among}
-use Rattle.osi_spdu.specs.Laws.Steps.{same_true, same_refl, number_one}
-use Rattle.osi_spdu.specs.Laws.Lengths.{chosen}
+use Rattle.osi_spdu.proofs.StepLaws.{same_true, same_refl, number_one}
+use Rattle.osi_spdu.proofs.LengthLaws.{chosen}
 
 -- ---- every code
 
