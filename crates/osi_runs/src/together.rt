@@ -1,8 +1,9 @@
 //! Scripts of two ends whose events are given in one list.
 
-use crate::again::{asks, event_of, pair_in, push_entry, state_of, unreadable};
+use crate::again::{asks, pair_in, push_entry, state_of, unreadable};
 use osi_pair::{Event, Pair, RunError};
 use osi_script::Line;
+use osi_transcript::event_of;
 use std::alloc::{AllocError, Global};
 use std::io;
 

@@ -8,4 +8,5 @@ mod standings;
 mod transcripts;
 mod walks;
 
+pub use asking::{event_of, named, side_of};
 pub use transcripts::{Transcript, transcribe};
