@@ -9,7 +9,7 @@ use Rattle.osi_class.specs.declared.faults.LinkFault.{LinkFault}
 use Rattle.osi_class.specs.declared.terms.Class.{Class}
 use Rattle.osi_class.specs.declared.terms.Class.TheVariants.{Zero, Two}
 use Rattle.osi_class.specs.declared.terms.Local.{Local}
-use Rattle.osi_carrier.specs.Addresses.{references, dropped}
+use Rattle.osi_carrier.specs.References.{references, dropped}
 use Rattle.osi_carrier.specs.Calls.{fresh_state, asks, sent_on, sent, open_link, closes, closed_on, closed_with, ended_by, tsaps_at}
 use Rattle.osi_carrier.specs.Named.{AreNamed, KeepsTsaps}
 use Rattle.osi_carrier.specs.Negotiation.{confirmed}

@@ -1,6 +1,6 @@
 -- Which connections have transport selectors.
 use Rattle.std.specs.Prelude.{◌≡◌, ℕ, ◌≤◌, IsSome}
-use Rattle.osi_carrier.specs.Addresses.{references}
+use Rattle.osi_carrier.specs.References.{references}
 use Rattle.osi_carrier.specs.Calls.{tsaps_at}
 use Rattle.osi_carrier.specs.Rows.{value_at}
 use Rattle.osi_carrier.specs.State.{State}

@@ -14,7 +14,6 @@ mod rows;
 mod selectors;
 mod stages;
 mod switch;
-pub mod two_carriers;
 mod writing;
 
 pub use carrier::Carrier;

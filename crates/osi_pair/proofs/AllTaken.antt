@@ -7,16 +7,17 @@ use Rattle.osi_tpkt.specs.Packet.{IsPartial, packet_of}
 use Rattle.osi_tpdu.specs.Value.{Value}
 use Rattle.osi_tpdu.specs.Writing.{written}
 use Rattle.osi_carrier.proofs.Coming.{unit_packet}
-use Rattle.osi_carrier.specs.Between.{Both, Between, AreBetween, IsOnTheWay, AreJoinedBy, arriving, reach_of, within_reach, last_of, lost_from, units_from, under_way, IsStill, IsAllThere, is_cut}
 use Rattle.osi_carrier.specs.Coming.{IsSendable}
 use Rattle.osi_carrier.specs.Calls.{begun_by, kept_in, link_of}
-use Rattle.osi_carrier.specs.Course.{was_given, place_at, progress_of}
-use Rattle.osi_carrier.specs.Messages as carrier
-use Rattle.osi_carrier.specs.Progress.{Progress}
+use Rattle.osi_carrier.specs.Place.{was_given, place_at}
 use Rattle.osi_carrier.specs.Rows.{value_at}
 use Rattle.osi_carrier.specs.State.{Connection, State, asked, linked, closing, packets}
+use Rattle.osi_between.specs.Between.{Both, Between, AreBetween, IsOnTheWay, AreJoinedBy, arriving, reach_of, within_reach, last_of, lost_from, units_from, under_way, IsStill, IsAllThere, is_cut}
+use Rattle.osi_between.specs.Course.{progress_of}
+use Rattle.osi_between.specs.Messages as carrier
+use Rattle.osi_between.specs.Progress.{Progress}
 use Rattle.osi_session.specs.declared.state.State.{State as Session}
-use Rattle.osi_carrier.specs.Terms.{Terms, terms_of}
+use Rattle.osi_between.specs.Terms.{Terms, terms_of}
 use Rattle.osi_class.specs.Link.{Standing}
 use Rattle.osi_machine.specs.Core as machine
 use Rattle.osi_machine.specs.Floor.{Meaning}

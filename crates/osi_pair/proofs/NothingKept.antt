@@ -8,18 +8,19 @@ use Rattle.osi_class.specs.Between.{swapped}
 use Rattle.osi_class.specs.Link.{Standing}
 use Rattle.osi_class.specs.declared.terms.Local.{Local}
 use Rattle.osi_carrier.proofs.Apart.{absent}
-use Rattle.osi_carrier.proofs.JoinedMoves.{given_live, within_given}
-use Rattle.osi_carrier.proofs.Refusals.{none_open}
-use Rattle.osi_carrier.proofs.ZeroLaws.{at_one, not_here, not_asked}
-use Rattle.osi_carrier.specs.Between.{AreJoinedBy}
 use Rattle.osi_carrier.specs.Calls.{begun_by, kept_in}
-use Rattle.osi_carrier.specs.Course.{Place, never, was_given, place_at, Course, unasked, asking, accepting, withdrawing, met, at_end, from_end}
-use Rattle.osi_carrier.specs.Meeting.{talking, left_here, left_there, left_both, waiting_here, waiting_there, parted}
+use Rattle.osi_carrier.specs.Place.{Place, never, was_given, place_at}
 use Rattle.osi_carrier.specs.Orderly.{RiseFrom}
 use Rattle.osi_carrier.specs.Rows.{Rows, value_at}
 use Rattle.osi_carrier.specs.State.{Connection, State, linked}
-use Rattle.osi_carrier.specs.Terms.{Terms, by_two, by_zero, refusing}
-use Rattle.osi_carrier.specs.Zero as zero
+use Rattle.osi_between.proofs.JoinedMoves.{given_live, within_given}
+use Rattle.osi_between.proofs.Refusals.{none_open}
+use Rattle.osi_between.proofs.ZeroLaws.{at_one, not_here, not_asked}
+use Rattle.osi_between.specs.Between.{AreJoinedBy}
+use Rattle.osi_between.specs.Course.{Course, unasked, asking, accepting, withdrawing, met, at_end, from_end}
+use Rattle.osi_between.specs.Meeting.{talking, left_here, left_there, left_both, waiting_here, waiting_there, parted}
+use Rattle.osi_between.specs.Terms.{Terms, by_two, by_zero, refusing}
+use Rattle.osi_between.specs.Zero as zero
 use Rattle.osi_session.specs.Joining.{joined_octets}
 use Rattle.osi_session.specs.Listening.{Listener}
 use Rattle.osi_stack.specs.Messages.{kept_at}

@@ -3,16 +3,17 @@
 use Rattle.std.proofs.Common.{◌≡◌, ◌≢◌, ℕ, ◌<◌, ◌≤◌, Bool, true, false, nat_lt, if◌then◌else◌, List, [], ◌++◌, length, Option, Some, None, option_map, refl, sym, ap, subst, ◌∙◌, arith}
 use Rattle.std.proofs.lemmas.Bool.Decides.{nat_tests}
 use Rattle.std.proofs.lemmas.List.{append-nil}
-use Rattle.osi_carrier.specs.Between.{Between, AreBetween, Carries, last_of, under_way, put_in, is_cut}
-use Rattle.osi_carrier.specs.Course.{Place, never, was_given, place_at, connection_in, progress_of}
-use Rattle.osi_carrier.specs.Messages.{AreLike}
-use Rattle.osi_carrier.specs.Messages as carrier
+use Rattle.osi_carrier.specs.Place.{Place, never, was_given, place_at, connection_in}
 use Rattle.osi_carrier.specs.Orderly.{IsOrderly}
-use Rattle.osi_carrier.specs.Progress.{Progress, in_use, progress_in, leaves_use}
 use Rattle.osi_carrier.specs.Rows.{value_at, put}
 use Rattle.osi_carrier.specs.State.{Connection, State}
 use Rattle.osi_carrier.proofs.Apart.{beyond, put_here}
 use Rattle.osi_carrier.proofs.AtReferences.{put_other}
+use Rattle.osi_between.specs.Between.{Between, AreBetween, Carries, last_of, under_way, put_in, is_cut}
+use Rattle.osi_between.specs.Course.{progress_of}
+use Rattle.osi_between.specs.Messages.{AreLike}
+use Rattle.osi_between.specs.Messages as carrier
+use Rattle.osi_between.specs.Progress.{Progress, in_use, progress_in, leaves_use}
 use Rattle.osi_machine.specs.Machine.{connection_at}
 use Rattle.osi_machine.specs.Tables.{Line, Tables, seen_from, stays}
 use Rattle.osi_machine.specs.Worlds.{Message}

@@ -4,13 +4,14 @@ use Rattle.std.proofs.lemmas.Bool.{lt-ltb, leb-true, leb-false}
 use Rattle.std.proofs.lemmas.Bool.Decides.{nat_tests}
 use Rattle.std.proofs.lemmas.List.{map-append}
 use Rattle.std.specs.List.{AllByRecursion}
-use Rattle.osi_carrier.specs.Between.{Between, Carries, last_of, under_way, put_in, is_cut}
-use Rattle.osi_carrier.specs.Course.{Place, never, was_given, place_at, progress_of}
-use Rattle.osi_carrier.specs.Messages as carrier
-use Rattle.osi_carrier.specs.Progress.{Progress}
+use Rattle.osi_carrier.specs.Place.{Place, never, was_given, place_at}
 use Rattle.osi_carrier.specs.Rows.{value_at}
 use Rattle.osi_carrier.specs.State.{State as Carrier}
-use Rattle.osi_carrier.specs.Terms.{Terms, terms_of}
+use Rattle.osi_between.specs.Between.{Between, Carries, last_of, under_way, put_in, is_cut}
+use Rattle.osi_between.specs.Course.{progress_of}
+use Rattle.osi_between.specs.Messages as carrier
+use Rattle.osi_between.specs.Progress.{Progress}
+use Rattle.osi_between.specs.Terms.{Terms, terms_of}
 use Rattle.osi_machine.specs.Machine.{connection_at, Step, HasNumber}
 use Rattle.osi_machine.specs.Machine as entries
 use Rattle.osi_machine.specs.Tables.{Seat, Line, Tables, noted as noted_in, step, run, start}

@@ -2,11 +2,11 @@
 use Rattle.std.proofs.Common.{◌≡◌, refl, sym, ◌∙◌, ap, subst, ℕ, zero, suc, ◌<◌, ◌≤◌, ◌&&◌, Bool, true, false, not, nat_le, nat_lt, if◌then◌else◌, length, Option, Some, None, is_some, IsSome, Err, arith}
 use Rattle.std.proofs.lemmas.Bool.{lt-ltb, le-leb, leb-true, leb-false}
 use Rattle.std.proofs.lemmas.Bool.Decides.{nat_tests}
-use Rattle.osi_carrier.specs.Between.{Between}
-use Rattle.osi_carrier.specs.Course.{was_given, place_at}
+use Rattle.osi_carrier.specs.Place.{was_given, place_at}
 use Rattle.osi_carrier.specs.Rows.{value_at}
 use Rattle.osi_carrier.specs.State.{Connection, asked, linked, closing, State as Carrier}
 use Rattle.osi_carrier.specs.declared.ends.EndReason.{EndReason}
+use Rattle.osi_between.specs.Between.{Between}
 use Rattle.osi_machine.specs.Machine.{connection_at, is_given}
 use Rattle.osi_machine.specs.Tables.{Seat, Line, Tables, seen_from, side_of}
 use Rattle.osi_machine.specs.Worlds.{gone, not_yet}

@@ -2,14 +2,15 @@
 -- answers, or closes its connection of class 2.
 use Rattle.std.proofs.Common.{◌≡◌, ℕ, Bool, true, false, if◌then◌else◌, List, Option, Some, None, option_map, refl, sym, ap, subst, ◌∙◌, ◌⊎◌, inl, inr}
 use Rattle.osi_tpkt.specs.Held.{Held}
-use Rattle.osi_carrier.specs.Addresses.{reference_of}
-use Rattle.osi_carrier.specs.Between.{Between, last_of}
-use Rattle.osi_carrier.specs.Course.{Place, never, was_given, place_at, progress_of}
+use Rattle.osi_carrier.specs.Place.{Place, never, was_given, place_at}
 use Rattle.osi_carrier.specs.Packets as carriers
-use Rattle.osi_carrier.specs.Progress.{in_use}
 use Rattle.osi_carrier.specs.React.{react as carrier_react}
 use Rattle.osi_carrier.specs.State.{asked, linked, closing}
-use Rattle.osi_carrier.specs.Terms.{Terms, by_two, by_zero, refusing, class_of}
+use Rattle.osi_between.specs.Addresses.{reference_of}
+use Rattle.osi_between.specs.Between.{Between, last_of}
+use Rattle.osi_between.specs.Course.{progress_of}
+use Rattle.osi_between.specs.Progress.{in_use}
+use Rattle.osi_between.specs.Terms.{Terms, by_two, by_zero, refusing, class_of}
 use Rattle.osi_machine.specs.Machine.{learns}
 use Rattle.osi_machine.specs.Tables.{Tables}
 use Rattle.osi_machine.specs.Worlds.{Message, Transport, unit, ask, agree, deny, bye, over, accepts}

@@ -5,11 +5,11 @@ use Rattle.std.proofs.lemmas.List.{append-nil}
 use Rattle.osi_tpkt.specs.Held.{Held}
 use Rattle.osi_carrier.specs.Calls.{open_link, sent, sent_on, closes, closed_on, closed_with}
 use Rattle.osi_carrier.specs.Orderly.{AreUpTo}
-use Rattle.osi_carrier.specs.Progress.{in_use, gone}
 use Rattle.osi_carrier.specs.Rows.{Rows}
 use Rattle.osi_carrier.specs.State.{State as Carrier}
-use Rattle.osi_carrier.specs.Terms.{by_two}
 use Rattle.osi_carrier.specs.declared.ends.EndReason.{EndReason}
+use Rattle.osi_between.specs.Progress.{in_use, gone}
+use Rattle.osi_between.specs.Terms.{by_two}
 use Rattle.osi_class.specs.Link.{Standing as Link}
 use Rattle.osi_class.specs.declared.terms.Class.{Class}
 use Rattle.osi_class.specs.declared.terms.Class.TheVariants.{Zero, Two}

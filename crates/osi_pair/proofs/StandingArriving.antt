@@ -7,19 +7,20 @@ use Rattle.osi_tpdu.specs.Value.{Value, Connect, request, confirm, disconnect, d
 use Rattle.osi_class.specs.Link.{Given, part0, part2, ack, unit_of}
 use Rattle.osi_class.specs.declared.terms.Class.TheVariants.{Zero, Two}
 use Rattle.osi_class.specs.declared.terms.Local.{Local}
-use Rattle.osi_carrier.specs.Addresses.{reference_of, units_of}
-use Rattle.osi_carrier.specs.Between.{Both, Between, last_of, units_from, AreJoinedBy, AreBetween}
-use Rattle.osi_carrier.specs.Course.{Place, never, was_given, place_at, Course, unasked, asking, accepting, withdrawing, met, at_end, from_end, Holds}
-use Rattle.osi_carrier.specs.Joined.{AreJoined}
-use Rattle.osi_carrier.specs.Meeting.{Meeting, talking, left_here, left_there, left_both, waiting_here, waiting_there, parted, mirror, here, addressed, leaving, out}
+use Rattle.osi_carrier.specs.Place.{Place, never, was_given, place_at}
 use Rattle.osi_carrier.specs.Negotiation.{proposal_by, proposes_two}
-use Rattle.osi_carrier.specs.Refusing.{AreRefusing, Refusal, rows_in}
-use Rattle.osi_carrier.specs.Refusing as refusal
 use Rattle.osi_carrier.specs.Rows.{Rows, value_at}
 use Rattle.osi_carrier.specs.State.{Connection, asked, linked, closing, State}
-use Rattle.osi_carrier.specs.Terms.{Terms, by_two, by_zero, refusing, accepts_in, class_of, IsProposed}
-use Rattle.osi_carrier.specs.Zero.{AreJoinedZero, ZeroCourse, HasOne, given_in}
-use Rattle.osi_carrier.specs.Zero as zero_class
+use Rattle.osi_between.specs.Addresses.{reference_of, units_of}
+use Rattle.osi_between.specs.Between.{Both, Between, last_of, units_from, AreJoinedBy, AreBetween}
+use Rattle.osi_between.specs.Course.{Course, unasked, asking, accepting, withdrawing, met, at_end, from_end, Holds}
+use Rattle.osi_between.specs.Joined.{AreJoined}
+use Rattle.osi_between.specs.Meeting.{Meeting, talking, left_here, left_there, left_both, waiting_here, waiting_there, parted, mirror, here, addressed, leaving, out}
+use Rattle.osi_between.specs.Refusing.{AreRefusing, Refusal, rows_in}
+use Rattle.osi_between.specs.Refusing as refusal
+use Rattle.osi_between.specs.Terms.{Terms, by_two, by_zero, refusing, accepts_in, class_of, IsProposed}
+use Rattle.osi_between.specs.Zero.{AreJoinedZero, ZeroCourse, HasOne, given_in}
+use Rattle.osi_between.specs.Zero as zero_class
 
 -- ---- by place
 

@@ -3,15 +3,16 @@ use Rattle.std.proofs.Common.{◌≡◌, ◌≢◌, ℕ, ◌<◌, ◌≤◌, Boo
 use Rattle.std.proofs.lemmas.Bool.Decides.{nat_tests}
 use Rattle.osi_tpkt.specs.Held.{Held}
 use Rattle.osi_tpdu.specs.Value.{Value}
-use Rattle.osi_carrier.specs.Addresses.{reference_of}
-use Rattle.osi_carrier.specs.Between.{Between}
-use Rattle.osi_carrier.specs.Course.{Place, never, was_given, place_at, progress_of}
-use Rattle.osi_carrier.specs.Messages as carrier
-use Rattle.osi_carrier.specs.Progress.{not_yet, in_use, leaves_use}
+use Rattle.osi_carrier.specs.Place.{Place, never, was_given, place_at}
 use Rattle.osi_carrier.specs.Rows.{Rows, value_at}
 use Rattle.osi_carrier.specs.State.{Connection, State, asked, linked, closing}
 use Rattle.osi_carrier.proofs.Apart.{push_here, beyond}
 use Rattle.osi_carrier.proofs.AtReferences.{push_other}
+use Rattle.osi_between.specs.Addresses.{reference_of}
+use Rattle.osi_between.specs.Between.{Between}
+use Rattle.osi_between.specs.Course.{progress_of}
+use Rattle.osi_between.specs.Messages as carrier
+use Rattle.osi_between.specs.Progress.{not_yet, in_use, leaves_use}
 use Rattle.osi_machine.specs.Machine.{delivers, learns}
 use Rattle.osi_machine.specs.Tables.{Tables, seen_from, end_of, step, unseen}
 use Rattle.osi_machine.specs.Tables as tables
@@ -35,7 +36,7 @@ use Rattle.osi_pair.proofs.StandingRows.{Row, begins, before, after, arrived_in}
 use Rattle.osi_pair.proofs.StandingSeats.{transport_by, lives_in, live_there, HasSession}
 use Rattle.osi_session.specs.declared.state.State.{State as SessionState}
 use Rattle.osi_machine.specs.Calm.{after_message, StaysCalm}
-use Rattle.osi_carrier.specs.Messages.{kind_of}
+use Rattle.osi_between.specs.Messages.{kind_of}
 use Rattle.osi_machine.specs.Worlds.{Message, unit, ask, agree, deny, bye, over}
 
 -- ---- lines with a new one, of which those are dropped that are of no use

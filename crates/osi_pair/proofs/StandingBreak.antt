@@ -2,12 +2,13 @@
 use Rattle.std.proofs.Common.{◌≡◌, refl, sym, ◌∙◌, ap, subst, ℕ, zero, suc, ◌+◌, ◌≤◌, Bool, true, false, if◌then◌else◌, List, [], ◌∷◌, ◌++◌, length, map, take, min, Option, Some, None, option_map, is_some, arith, ◌<◌, inl, inr}
 use Rattle.std.specs.List.{AllByRecursion, slice_get}
 use Rattle.osi_class.specs.declared.terms.Local.{Local}
-use Rattle.osi_carrier.specs.Between.{Between, Both, AreBetween, Lost, under_way, broken_at, fresh_both, fresh_between, is_cut}
-use Rattle.osi_carrier.specs.Course.{progress_of, place_at}
-use Rattle.osi_carrier.specs.Messages.{kind_of}
-use Rattle.osi_carrier.specs.Messages as carrier
-use Rattle.osi_carrier.specs.Progress.{Progress}
-use Rattle.osi_carrier.specs.Terms.{Terms, terms_of}
+use Rattle.osi_carrier.specs.Place.{place_at}
+use Rattle.osi_between.specs.Between.{Between, Both, AreBetween, Lost, under_way, broken_at, fresh_both, fresh_between, is_cut}
+use Rattle.osi_between.specs.Course.{progress_of}
+use Rattle.osi_between.specs.Messages.{kind_of}
+use Rattle.osi_between.specs.Messages as carrier
+use Rattle.osi_between.specs.Progress.{Progress}
+use Rattle.osi_between.specs.Terms.{Terms, terms_of}
 use Rattle.osi_machine.specs.Machine.{connection_at, Step, breaks, HasNumber}
 use Rattle.osi_machine.specs.AsTables.{IsTableRun}
 use Rattle.osi_machine.specs.Tables.{Seat, Line, Tables, turned, cut_channels, step, run, start}

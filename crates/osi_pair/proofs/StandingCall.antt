@@ -6,19 +6,20 @@ use Rattle.std.specs.List.{AllByRecursion}
 use Rattle.osi_tpkt.specs.Octets.{IsOctets}
 use Rattle.osi_class.specs.Between.{IsShortTsdu}
 use Rattle.osi_class.specs.Link.{Standing as Link}
-use Rattle.osi_carrier.specs.Between.{Both, Between, AreBetween, Acted, Carries, becomes, last_of}
-use Rattle.osi_carrier.specs.Between as two
 use Rattle.osi_carrier.specs.Calls.{open_link, link_of, sent, sent_on, sent_all}
-use Rattle.osi_carrier.specs.Course.{Place, never, was_given, place_at, progress_of}
-use Rattle.osi_carrier.specs.Messages as carrier
+use Rattle.osi_carrier.specs.Place.{Place, never, was_given, place_at}
 use Rattle.osi_carrier.specs.Orderly.{RiseFrom}
-use Rattle.osi_carrier.specs.Progress.{Progress, in_use, leaves_use}
 use Rattle.osi_carrier.specs.Rows.{Rows, value_at, put}
 use Rattle.osi_carrier.specs.State.{Connection, asked, linked, closing, State as Carrier}
-use Rattle.osi_carrier.specs.Terms.{Terms, terms_of}
 use Rattle.osi_carrier.specs.declared.ends.EndReason.{EndReason}
 use Rattle.osi_carrier.proofs.Apart.{put_here}
 use Rattle.osi_carrier.proofs.AtReferences.{put_other}
+use Rattle.osi_between.specs.Between.{Both, Between, AreBetween, Acted, Carries, becomes, last_of}
+use Rattle.osi_between.specs.Between as two
+use Rattle.osi_between.specs.Course.{progress_of}
+use Rattle.osi_between.specs.Messages as carrier
+use Rattle.osi_between.specs.Progress.{Progress, in_use, leaves_use}
+use Rattle.osi_between.specs.Terms.{Terms, terms_of}
 use Rattle.osi_machine.specs.AsTables.{IsTableRun, AreSoundLines}
 use Rattle.osi_machine.specs.Machine.{connection_at, with_connection, call_answered, is_given}
 use Rattle.osi_machine.specs.Machine as entries

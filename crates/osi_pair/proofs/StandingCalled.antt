@@ -4,10 +4,10 @@ use Rattle.std.proofs.lemmas.Bool.{leb-true}
 use Rattle.std.specs.List.{AllByRecursion}
 use Rattle.osi_tpkt.specs.Octets.{IsOctets}
 use Rattle.osi_class.specs.declared.terms.Local.{Local}
-use Rattle.osi_carrier.specs.Between.{Between, AreBetween}
 use Rattle.osi_carrier.specs.State.{State as Carrier}
-use Rattle.osi_carrier.specs.Terms.{terms_of}
 use Rattle.osi_carrier.specs.declared.ends.EndReason.{EndReason}
+use Rattle.osi_between.specs.Between.{Between, AreBetween}
+use Rattle.osi_between.specs.Terms.{terms_of}
 use Rattle.osi_machine.specs.AsTables.{IsTableRun, IsSoundSeat, IsSoundLine}
 use Rattle.osi_machine.specs.Machine.{connection_at, with_connection, call_answered, is_given, Step}
 use Rattle.osi_machine.specs.Machine as entries

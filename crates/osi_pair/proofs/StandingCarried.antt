@@ -5,9 +5,9 @@ use Rattle.std.proofs.lemmas.List.{length-drop}
 use Rattle.std.proofs.lemmas.List.Sums.{sum_by-cons}
 use Rattle.osi_tpkt.specs.Packet.{IsFaultOf}
 use Rattle.osi_tpkt.specs.declared.faults.TpktFault.{TpktFault}
-use Rattle.osi_carrier.specs.Between.{Both, Between, AreBetween, side}
-use Rattle.osi_carrier.specs.Terms.{Terms}
 use Rattle.osi_carrier.specs.declared.ends.EndReason.{EndReason}
+use Rattle.osi_between.specs.Between.{Both, Between, AreBetween, side}
+use Rattle.osi_between.specs.Terms.{Terms}
 use Rattle.osi_machine.specs.Machine.{Step}
 use Rattle.osi_stack.specs.Calls.{carried}
 use Rattle.osi_stack.specs.State.{Holding}

@@ -4,14 +4,15 @@ use Rattle.std.proofs.Common.{◌≡◌, ℕ, Bool, true, false, List, [], ◌�
 use Rattle.osi_class.specs.Link.{Standing as Link}
 use Rattle.osi_class.specs.declared.terms.Class.{Class}
 use Rattle.osi_class.specs.declared.terms.Class.TheVariants.{Zero, Two}
-use Rattle.osi_carrier.specs.Between.{Between, AreBetween, Acted, last_of, under_way, put_in, is_cut}
 use Rattle.osi_carrier.specs.Calls.{closes, closed_on, closed_with}
-use Rattle.osi_carrier.specs.Course.{place_at, progress_of}
-use Rattle.osi_carrier.specs.Messages as carrier
-use Rattle.osi_carrier.specs.Progress.{in_use, shutting}
+use Rattle.osi_carrier.specs.Place.{place_at}
 use Rattle.osi_carrier.specs.Rows.{value_at}
 use Rattle.osi_carrier.specs.State.{State, linked, closing}
-use Rattle.osi_carrier.specs.Terms.{Terms, by_two}
+use Rattle.osi_between.specs.Between.{Between, AreBetween, Acted, last_of, under_way, put_in, is_cut}
+use Rattle.osi_between.specs.Course.{progress_of}
+use Rattle.osi_between.specs.Messages as carrier
+use Rattle.osi_between.specs.Progress.{in_use, shutting}
+use Rattle.osi_between.specs.Terms.{Terms, by_two}
 use Rattle.osi_machine.specs.Machine.{connection_at}
 use Rattle.osi_machine.specs.Tables.{Line, Tables, seen_from, stays, closed}
 use Rattle.osi_machine.specs.Worlds.{Message, bye, put}

@@ -3,20 +3,21 @@ use Rattle.std.proofs.Common.{◌≡◌, ◌≢◌, refl, sym, ◌∙◌, ap, su
 use Rattle.std.proofs.lemmas.Bool.{eqb-true, eq-eqb}
 use Rattle.std.proofs.lemmas.Bool.Decides.{nat_tests}
 use Rattle.osi_tpdu.specs.Limits.{tsap_octets}
-use Rattle.osi_carrier.specs.Between.{Both, Between, AreBetween, Acted, becomes, under_way, is_cut}
 use Rattle.osi_carrier.specs.Calls.{may_connect, asks}
-use Rattle.osi_carrier.specs.Course.{was_given, place_at, progress_of, IsTsap}
-use Rattle.osi_carrier.specs.Messages as carrier
+use Rattle.osi_carrier.specs.Place.{was_given, place_at}
 use Rattle.osi_carrier.specs.Orderly.{RiseFrom}
-use Rattle.osi_carrier.specs.Progress.{Progress, not_yet, awaiting, leaves_use}
 use Rattle.osi_carrier.specs.Rows.{Rows, value_at}
 use Rattle.osi_carrier.specs.State.{Connection, asked, State as Carrier}
-use Rattle.osi_carrier.specs.Terms.{Terms, terms_of}
 use Rattle.osi_carrier.specs.declared.ends.EndReason.{EndReason}
 use Rattle.osi_carrier.specs.declared.faults.OpenError.{OpenError}
 use Rattle.osi_carrier.proofs.Apart.{push_here, absent, beyond}
 use Rattle.osi_carrier.proofs.AtReferences.{push_other}
 use Rattle.osi_carrier.proofs.Effects.{free_of}
+use Rattle.osi_between.specs.Between.{Both, Between, AreBetween, Acted, becomes, under_way, is_cut}
+use Rattle.osi_between.specs.Course.{progress_of, IsTsap}
+use Rattle.osi_between.specs.Messages as carrier
+use Rattle.osi_between.specs.Progress.{Progress, not_yet, awaiting, leaves_use}
+use Rattle.osi_between.specs.Terms.{Terms, terms_of}
 use Rattle.osi_machine.specs.Core.{Offer}
 use Rattle.osi_machine.specs.Machine.{Step, connects as connecting, connection_at, connect_answered, Refusal}
 use Rattle.osi_machine.specs.Tables.{Line, Tables, asked_with, refusal, asked_in, calling, step, run}

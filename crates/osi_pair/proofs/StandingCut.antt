@@ -1,7 +1,7 @@
 -- Where something of what is under way was cut off.
 use Rattle.std.proofs.Common.{◌≡◌, refl, sym, ap, ◌∙◌, ℕ, zero, suc, ◌<◌, ◌≤◌, nat_le, ◌⊎◌, inl, inr, Bool, true, false, ◌||◌, Option, Some, None, option_map, is_some, arith}
 use Rattle.std.proofs.lemmas.Bool.{leb-true, leb-false}
-use Rattle.osi_carrier.specs.Between.{is_cut}
+use Rattle.osi_between.specs.Between.{is_cut}
 use Rattle.osi_stack.specs.State.{Holding}
 use Rattle.osi_pair.specs.Ends.{TwoEnds, end_at, with_end}
 use Rattle.osi_pair.specs.Sides.{other}

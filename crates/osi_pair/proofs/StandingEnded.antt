@@ -3,12 +3,13 @@ use Rattle.std.proofs.Common.{◌≡◌, refl, sym, ◌∙◌, ap, subst, ℕ, �
 use Rattle.std.specs.Prelude.{IfSome}
 use Rattle.std.proofs.lemmas.List.{append-nil}
 use Rattle.osi_tpkt.specs.Held.{Held}
-use Rattle.osi_carrier.specs.Between.{Between, Both, AreBetween, IsOnTheWay, under_way, side, last_of, units_from, lost_from, arriving, reach_of, is_cut}
-use Rattle.osi_carrier.specs.Course.{place_at, connection_in, progress_of}
+use Rattle.osi_carrier.specs.Place.{place_at, connection_in}
 use Rattle.osi_carrier.specs.Rows.{Rows}
 use Rattle.osi_carrier.specs.State.{State}
 use Rattle.osi_carrier.specs.State as carriers
-use Rattle.osi_carrier.specs.Terms.{Terms, terms_of}
+use Rattle.osi_between.specs.Between.{Between, Both, AreBetween, IsOnTheWay, under_way, side, last_of, units_from, lost_from, arriving, reach_of, is_cut}
+use Rattle.osi_between.specs.Course.{progress_of}
+use Rattle.osi_between.specs.Terms.{Terms, terms_of}
 use Rattle.osi_class.specs.declared.terms.Local.{Local}
 use Rattle.osi_carrier.specs.declared.ends.EndReason.{EndReason}
 use Rattle.osi_machine.specs.Core as machine

@@ -4,15 +4,15 @@ use Rattle.std.specs.List.{slice_get}
 use Rattle.std.specs.Prelude.{IfSome}
 use Rattle.std.proofs.lemmas.List.{append-nil}
 use Rattle.osi_tpdu.specs.Value.{Value}
-use Rattle.osi_carrier.specs.Addresses.{units_of}
-use Rattle.osi_carrier.specs.Between.{Between, Both, is_cut, to_come, under_way, side, last_of, units_from}
-use Rattle.osi_carrier.specs.Course.{Place, never, was_given, place_at, connection_in}
-use Rattle.osi_carrier.specs.Messages.{kind_of, messages_after, begun_at}
-use Rattle.osi_carrier.specs.Messages as between
-use Rattle.osi_carrier.specs.Progress.{Progress}
+use Rattle.osi_carrier.specs.Place.{Place, never, was_given, place_at, connection_in}
 use Rattle.osi_carrier.specs.Rows.{Rows, value_at}
 use Rattle.osi_carrier.specs.State.{Connection, asked, linked, closing, State}
-use Rattle.osi_carrier.proofs.MessageLaws.{messages_front}
+use Rattle.osi_between.specs.Addresses.{units_of}
+use Rattle.osi_between.specs.Between.{Between, Both, is_cut, to_come, under_way, side, last_of, units_from}
+use Rattle.osi_between.specs.Messages.{kind_of, messages_after, begun_at}
+use Rattle.osi_between.specs.Messages as between
+use Rattle.osi_between.specs.Progress.{Progress}
+use Rattle.osi_between.proofs.MessageLaws.{messages_front}
 use Rattle.osi_machine.specs.Core as machine
 use Rattle.osi_machine.specs.Machine.{connection_at, is_given}
 use Rattle.osi_machine.specs.Tables.{Seat, Line, awaits, seen_from, ends_there, ended_lines}

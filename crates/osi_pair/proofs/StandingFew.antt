@@ -5,20 +5,21 @@ use Rattle.std.proofs.lemmas.List.{length-append, length-map}
 use Rattle.osi_tpkt.specs.Held.{Held}
 use Rattle.osi_tpkt.specs.Packet.{IsPacket}
 use Rattle.osi_tpdu.specs.Value.{Value}
-use Rattle.osi_carrier.specs.Addresses.{reference_of}
-use Rattle.osi_carrier.specs.Between.{Both, Between, AreBetween, side}
-use Rattle.osi_carrier.specs.Course.{never, was_given, place_at, progress_of}
+use Rattle.osi_carrier.specs.Place.{never, was_given, place_at}
 use Rattle.osi_carrier.specs.Happenings.{Happening, opened, refused, tsdu, closed}
 use Rattle.osi_carrier.specs.Orderly.{RiseFrom}
 use Rattle.osi_carrier.specs.Packets as carriers
-use Rattle.osi_carrier.specs.Progress.{Progress, awaiting, in_use, shutting}
 use Rattle.osi_carrier.specs.React.{react as carrier_react}
 use Rattle.osi_carrier.specs.Rows.{Rows, value_at, put}
 use Rattle.osi_carrier.specs.State.{Connection, asked, linked, closing, State as Carrier}
 use Rattle.osi_carrier.specs.State as states
-use Rattle.osi_carrier.specs.Terms.{Terms}
 use Rattle.osi_carrier.specs.declared.ends.EndReason.TheVariants.{NoMemory}
 use Rattle.osi_carrier.proofs.AtReferences.{put_other, put_rise}
+use Rattle.osi_between.specs.Addresses.{reference_of}
+use Rattle.osi_between.specs.Between.{Both, Between, AreBetween, side}
+use Rattle.osi_between.specs.Course.{progress_of}
+use Rattle.osi_between.specs.Progress.{Progress, awaiting, in_use, shutting}
+use Rattle.osi_between.specs.Terms.{Terms}
 use Rattle.osi_machine.specs.Tables.{Tables}
 use Rattle.osi_message.specs.Reading.{word, said_at, said_if_read}
 use Rattle.osi_message.specs.Words.{Words}

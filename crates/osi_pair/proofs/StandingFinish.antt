@@ -3,14 +3,15 @@ use Rattle.std.proofs.Common.{◌≡◌, ◌≢◌, ℕ, ◌<◌, ◌≤◌, Boo
 use Rattle.std.proofs.lemmas.Bool.Decides.{nat_tests}
 use Rattle.osi_tpkt.specs.Held.{Held}
 use Rattle.osi_class.specs.declared.terms.Class.{Class}
-use Rattle.osi_carrier.specs.Between.{Between, last_of}
-use Rattle.osi_carrier.specs.Course.{Place, never, was_given, place_at, progress_of}
-use Rattle.osi_carrier.specs.Messages.{bye, over}
-use Rattle.osi_carrier.specs.Messages as carrier
-use Rattle.osi_carrier.specs.Progress.{Progress, not_yet, references_for, class_behind_all}
+use Rattle.osi_carrier.specs.Place.{Place, never, was_given, place_at}
 use Rattle.osi_carrier.specs.Rows.{value_at}
 use Rattle.osi_carrier.specs.State.{Connection, State, asked, linked, closing}
-use Rattle.osi_carrier.specs.Terms.{Terms, by_two, by_zero, refusing, accepts_in, class_of, terms_of}
+use Rattle.osi_between.specs.Between.{Between, last_of}
+use Rattle.osi_between.specs.Course.{progress_of}
+use Rattle.osi_between.specs.Messages.{bye, over}
+use Rattle.osi_between.specs.Messages as carrier
+use Rattle.osi_between.specs.Progress.{Progress, not_yet, references_for, class_behind_all}
+use Rattle.osi_between.specs.Terms.{Terms, by_two, by_zero, refusing, accepts_in, class_of, terms_of}
 use Rattle.osi_machine.specs.Machine.{shown_at}
 use Rattle.osi_machine.specs.Tables.{Line, Tables}
 use Rattle.osi_machine.specs.Worlds.{Message}

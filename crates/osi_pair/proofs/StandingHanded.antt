@@ -2,9 +2,9 @@
 use Rattle.std.proofs.Common.{◌≡◌, ℕ, ◌≤◌, Bool, true, false, not, List, ◌++◌, length, take, Option, Some, None, is_some, option_map, IfSome, refl, sym, ap, subst, ◌∙◌, arith, ◌||◌}
 use Rattle.std.proofs.lemmas.List.{length-take}
 use Rattle.osi_tpkt.specs.Held.{Held}
-use Rattle.osi_carrier.specs.Between.{Between, Both, AreBetween, IsOnTheWay, Same, side, with_side, last_of, units_from, lost_from, arriving, reach_of, within_reach, reach_less, under_way, handed_over, is_cut}
-use Rattle.osi_carrier.specs.Course.{progress_of}
-use Rattle.osi_carrier.specs.Terms.{Terms}
+use Rattle.osi_between.specs.Between.{Between, Both, AreBetween, IsOnTheWay, Same, side, with_side, last_of, units_from, lost_from, arriving, reach_of, within_reach, reach_less, under_way, handed_over, is_cut}
+use Rattle.osi_between.specs.Course.{progress_of}
+use Rattle.osi_between.specs.Terms.{Terms}
 use Rattle.osi_machine.specs.Machine.{Step}
 use Rattle.osi_machine.specs.Tables.{Seat, Tables, run, start}
 use Rattle.osi_stack.specs.Calls.{carried}

@@ -3,10 +3,10 @@ use Rattle.std.proofs.Common.{◌≡◌, ◌≢◌, ℕ, Bool, true, false, if�
 use Rattle.osi_tpdu.specs.Value.{Value}
 use Rattle.osi_carrier.specs.Happenings.{Happening}
 use Rattle.osi_carrier.specs.Packets as carriers
-use Rattle.osi_carrier.specs.Progress.{Progress}
 use Rattle.osi_carrier.specs.React.{react as carrier_react}
 use Rattle.osi_carrier.specs.Rows.{Rows, value_at, put}
 use Rattle.osi_carrier.specs.State.{State as Carrier}
+use Rattle.osi_between.specs.Progress.{Progress}
 use Rattle.osi_message.specs.InOctets.{IsInOctets}
 use Rattle.osi_session.specs.Moves.{Input, Standing, react}
 use Rattle.osi_session.specs.Phases.{is_ended}

@@ -2,9 +2,9 @@
 use Rattle.std.proofs.Common.{◌≡◌, ℕ, true, false, List, [], ◌∷◌, Option, Some, None, IfSome, refl, sym, ap, subst, ◌∙◌, ◌⊎◌, inl, inr, ◌++◌}
 use Rattle.osi_spdu.specs.Known.{Units}
 use Rattle.osi_carrier.specs.Happenings.{Happening, opened, refused, tsdu, closed}
-use Rattle.osi_carrier.specs.Messages as carrier
-use Rattle.osi_carrier.specs.Progress.{in_use, gone}
 use Rattle.osi_carrier.specs.Rows.{value_at}
+use Rattle.osi_between.specs.Messages as carrier
+use Rattle.osi_between.specs.Progress.{in_use, gone}
 use Rattle.osi_machine.specs.Core.{offer_sent}
 use Rattle.osi_machine.specs.Tables.{Seat, awaits}
 use Rattle.osi_machine.specs.Worlds.{Message, unit, ask, agree, deny, bye, over}

@@ -3,13 +3,14 @@ use Rattle.std.proofs.Common.{◌≡◌, ℕ, ◌≤◌, true, false, [], ◌∷
 use Rattle.osi_tpkt.specs.Held.{Held}
 use Rattle.osi_tpdu.specs.Value.{Value}
 use Rattle.osi_class.specs.declared.terms.Class.{Class}
-use Rattle.osi_carrier.specs.Between.{Between, last_of}
-use Rattle.osi_carrier.specs.Course.{Place, never, was_given, place_at, progress_of}
-use Rattle.osi_carrier.specs.Messages as carrier
-use Rattle.osi_carrier.specs.Progress.{awaiting, in_use, class_behind_all}
-use Rattle.osi_carrier.specs.Progress as progress
+use Rattle.osi_carrier.specs.Place.{Place, never, was_given, place_at}
 use Rattle.osi_carrier.specs.State.{State, asked, linked, closing}
-use Rattle.osi_carrier.specs.Terms.{Terms, by_two, by_zero, refusing, class_of}
+use Rattle.osi_between.specs.Between.{Between, last_of}
+use Rattle.osi_between.specs.Course.{progress_of}
+use Rattle.osi_between.specs.Messages as carrier
+use Rattle.osi_between.specs.Progress.{awaiting, in_use, class_behind_all}
+use Rattle.osi_between.specs.Progress as progress
+use Rattle.osi_between.specs.Terms.{Terms, by_two, by_zero, refusing, class_of}
 use Rattle.osi_machine.specs.Machine.{learns}
 use Rattle.osi_machine.specs.Tables.{Line, Tables}
 use Rattle.osi_machine.specs.Worlds.{Message, unit, ask, agree, deny, bye, over, Transport}
@@ -26,7 +27,7 @@ use Rattle.osi_pair.proofs.StandingRests.{is_awaited, learns_row}
 use Rattle.osi_pair.proofs.StandingRows.{Row, agrees, denies, before, after, arrived_in, is_row}
 use Rattle.osi_pair.proofs.StandingSeats.{transport_by}
 use Rattle.osi_pair.proofs.StandingTurned.{with_holding}
-use Rattle.osi_carrier.specs.Messages.{kind_of}
+use Rattle.osi_between.specs.Messages.{kind_of}
 
 -- ---- places
 

@@ -2,11 +2,12 @@
 -- way from it may be.
 use Rattle.std.proofs.Common.{◌≡◌, ℕ, Bool, true, false, List, [], ◌∷◌, map, take, Option, None, is_some, refl, sym, ap, subst, ◌∙◌}
 use Rattle.osi_tpkt.specs.Held.{Held}
-use Rattle.osi_carrier.specs.Addresses.{reference_of}
-use Rattle.osi_carrier.specs.Between.{Between, last_of, under_way, put_in, is_cut}
-use Rattle.osi_carrier.specs.Course.{Place, place_at, progress_of}
-use Rattle.osi_carrier.specs.Messages as carrier
+use Rattle.osi_carrier.specs.Place.{Place, place_at}
 use Rattle.osi_carrier.specs.State.{State as Carrier}
+use Rattle.osi_between.specs.Addresses.{reference_of}
+use Rattle.osi_between.specs.Between.{Between, last_of, under_way, put_in, is_cut}
+use Rattle.osi_between.specs.Course.{progress_of}
+use Rattle.osi_between.specs.Messages as carrier
 use Rattle.osi_machine.specs.AsTables.{IsTableRun}
 use Rattle.osi_machine.specs.Machine.{delivers, learns}
 use Rattle.osi_machine.specs.Tables.{Seat, Line as TableLine, Turn, Tables, seen_from, step, without_first, message_taken}
@@ -47,7 +48,7 @@ use Rattle.osi_pair.proofs.StandingShown.{StandsShown, shown_pair}
 use Rattle.osi_pair.proofs.StandingTurned.{IsSeen, with_holding, turned_pair, Turned, turned_stands, out_there, GoesTo}
 use Rattle.osi_pair.proofs.StandingWays.{out_cuts}
 use Rattle.osi_pair.proofs.StandingCut.{cut_broken, reach_same}
-use Rattle.osi_carrier.specs.Messages.{kind_of}
+use Rattle.osi_between.specs.Messages.{kind_of}
 use Rattle.osi_pair.proofs.StandingAhead.{takes_from}
 use Rattle.osi_pair.proofs.StandingWays.{Takes}
 

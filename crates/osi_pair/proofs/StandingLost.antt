@@ -5,13 +5,13 @@ use Rattle.std.specs.List.{slice_get}
 use Rattle.std.proofs.lemmas.Bool.{eqb-true, eq-eqb}
 use Rattle.std.proofs.lemmas.Bool.Decides.{nat_tests}
 use Rattle.std.proofs.lemmas.List.{append-nil, length-map, map-append, length-append}
-use Rattle.osi_carrier.specs.Between.{side}
-use Rattle.osi_carrier.specs.Course.{never, was_given, place_at}
+use Rattle.osi_carrier.specs.Place.{never, was_given, place_at}
 use Rattle.osi_carrier.specs.Orderly.{RiseFrom, AreUpTo}
 use Rattle.osi_carrier.specs.Rows.{Rows, value_at, without}
 use Rattle.osi_carrier.specs.State.{Connection}
 use Rattle.osi_carrier.proofs.Apart.{absent, beyond}
 use Rattle.osi_carrier.proofs.AtReferences.{without_other}
+use Rattle.osi_between.specs.Between.{side}
 use Rattle.osi_machine.specs.Machine.{connection_at, shown_at}
 use Rattle.osi_machine.specs.Machine as entries
 use Rattle.osi_machine.specs.Tables.{Seat, Line, Tables, awaits, seen_from, shown_in_order}

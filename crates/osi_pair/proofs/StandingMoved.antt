@@ -4,19 +4,20 @@ use Rattle.std.proofs.Common.{◌≡◌, ◌≢◌, ℕ, ◌<◌, ◌≤◌, Boo
 use Rattle.osi_tpkt.specs.Held.{Held}
 use Rattle.osi_tpdu.specs.Value.{Value}
 use Rattle.osi_class.specs.Link.{Standing as Link}
-use Rattle.osi_carrier.specs.Addresses.{reference_of}
-use Rattle.osi_carrier.specs.Between.{Between, under_way, is_cut, last_of}
 use Rattle.osi_carrier.specs.Calls.{link_of}
-use Rattle.osi_carrier.specs.Course.{Place, never, was_given, place_at, progress_of}
+use Rattle.osi_carrier.specs.Place.{Place, never, was_given, place_at}
 use Rattle.osi_carrier.specs.Orderly.{IsOrderly}
-use Rattle.osi_carrier.specs.Progress.{not_yet, in_use, gone, Progress, awaiting}
 use Rattle.osi_carrier.specs.React.{react as carrier_react}
 use Rattle.osi_carrier.specs.Rows.{Rows, value_at}
 use Rattle.osi_carrier.specs.State.{Connection, State as Carrier, asked, linked, closing}
-use Rattle.osi_carrier.specs.Terms.{class_of}
 use Rattle.osi_carrier.specs.Told.{is_open}
 use Rattle.osi_carrier.specs.declared.ends.EndReason.{EndReason}
 use Rattle.osi_carrier.proofs.Effects.{orderly_unit, orderly_same}
+use Rattle.osi_between.specs.Addresses.{reference_of}
+use Rattle.osi_between.specs.Between.{Between, under_way, is_cut, last_of}
+use Rattle.osi_between.specs.Course.{progress_of}
+use Rattle.osi_between.specs.Progress.{not_yet, in_use, gone, Progress, awaiting}
+use Rattle.osi_between.specs.Terms.{class_of}
 use Rattle.osi_machine.specs.AsTables.{IsTableRun, AreSoundLines, IsSoundLine, AreSendable, is_leaving}
 use Rattle.osi_machine.specs.Core as machine
 use Rattle.osi_machine.specs.Machine.{connection_at, delivers, learns}
@@ -57,9 +58,9 @@ use Rattle.osi_pair.proofs.StandingWaiting.{is_calling}
 use Rattle.osi_session.specs.Kept.{IsNoFault, IsJoinedAs}
 use Rattle.osi_session.specs.Listening.{Listener}
 use Rattle.osi_message.specs.declared.places.Place.{Place as PartPlace}
-use Rattle.osi_carrier.specs.Messages as carrier
+use Rattle.osi_between.specs.Messages as carrier
 use Rattle.osi_pair.proofs.StandingWays.{NextOf, Comes, BehindFirst, IsAlone, IsLast, Begins, GoesOn, is_tsdu, no_part}
-use Rattle.osi_carrier.specs.Messages.{kind_of}
+use Rattle.osi_between.specs.Messages.{kind_of}
 use Rattle.osi_message.specs.InOctets.{IsInOctets}
 use Rattle.osi_message.specs.Words.{part_octets}
 use Rattle.osi_message.specs.declared.places.Place.TheVariants.{First, Middle, Last}

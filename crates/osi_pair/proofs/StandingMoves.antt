@@ -1,12 +1,13 @@
 -- A message arrives, and a session makes its move: what it sends is not handed over yet, and nothing is closed yet.
 use Rattle.std.proofs.Common.{◌≡◌, ◌≢◌, ℕ, ◌≤◌, Bool, true, false, List, [], ◌∷◌, Option, Some, None, IfSome, option_map, refl, sym, ap, subst, ◌∙◌}
 use Rattle.osi_tpkt.specs.Held.{Held}
-use Rattle.osi_carrier.specs.Addresses.{reference_of}
-use Rattle.osi_carrier.specs.Between.{Between, last_of}
-use Rattle.osi_carrier.specs.Course.{place_at, progress_of}
-use Rattle.osi_carrier.specs.Messages as carrier
-use Rattle.osi_carrier.specs.Progress.{leaves_use}
+use Rattle.osi_carrier.specs.Place.{place_at}
 use Rattle.osi_carrier.specs.Rows.{Rows, value_at}
+use Rattle.osi_between.specs.Addresses.{reference_of}
+use Rattle.osi_between.specs.Between.{Between, last_of}
+use Rattle.osi_between.specs.Course.{progress_of}
+use Rattle.osi_between.specs.Messages as carrier
+use Rattle.osi_between.specs.Progress.{leaves_use}
 use Rattle.osi_machine.specs.Machine.{connection_at, delivers, learns}
 use Rattle.osi_machine.specs.Tables.{Seat, Line as TableLine, Turn, Tables, awaits, seen_from, end_of, after_turn, step, hears, without_first, message_taken}
 use Rattle.osi_machine.specs.Worlds.{Message, unit, ask, agree, deny, bye, over, put, replied}
@@ -31,7 +32,7 @@ use Rattle.osi_pair.proofs.StandingResting.{acted_end, EndThen, NextFor, out_row
 use Rattle.osi_pair.proofs.StandingRows.{Row, quiet, still, begins, refuses, agrees, denies, tells, leaves, ignores, ends, before, after, arrived_in}
 use Rattle.osi_pair.proofs.StandingSeats.{transport_by, HasSession}
 use Rattle.osi_pair.proofs.StandingTurned.{IsSeen, with_holding}
-use Rattle.osi_carrier.specs.Messages.{kind_of}
+use Rattle.osi_between.specs.Messages.{kind_of}
 
 -- ---- the turn of the tables
 

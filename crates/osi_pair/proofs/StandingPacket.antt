@@ -6,19 +6,20 @@ use Rattle.std.proofs.lemmas.List.{append-nil}
 use Rattle.osi_tpkt.specs.Held.{Held}
 use Rattle.osi_tpkt.specs.Packet.{IsPacket}
 use Rattle.osi_tpdu.specs.Value.{Value}
-use Rattle.osi_carrier.specs.Addresses.{reference_of}
-use Rattle.osi_carrier.specs.Between.{Both, side, Between, last_of, AreBetween, is_cut, under_way}
 use Rattle.osi_carrier.specs.Coming.{IsSendable}
-use Rattle.osi_carrier.specs.Course.{place_at, progress_of}
+use Rattle.osi_carrier.specs.Place.{place_at}
 use Rattle.osi_carrier.specs.Happenings.{opened}
 use Rattle.osi_carrier.specs.Packets as carriers
-use Rattle.osi_carrier.specs.Messages as carrier
 use Rattle.osi_carrier.specs.Orderly.{RiseFrom}
-use Rattle.osi_carrier.specs.Progress.{leaves_use, not_yet, shutting}
 use Rattle.osi_carrier.specs.React.{react as carrier_react}
 use Rattle.osi_carrier.specs.Rows.{Rows, value_at}
 use Rattle.osi_carrier.specs.State.{State}
-use Rattle.osi_carrier.specs.Terms.{Terms, terms_of, by_two, by_zero, refusing}
+use Rattle.osi_between.specs.Addresses.{reference_of}
+use Rattle.osi_between.specs.Between.{Both, side, Between, last_of, AreBetween, is_cut, under_way}
+use Rattle.osi_between.specs.Course.{progress_of}
+use Rattle.osi_between.specs.Messages as carrier
+use Rattle.osi_between.specs.Progress.{leaves_use, not_yet, shutting}
+use Rattle.osi_between.specs.Terms.{Terms, terms_of, by_two, by_zero, refusing}
 use Rattle.osi_class.specs.declared.terms.Local.{Local}
 use Rattle.osi_carrier.proofs.Apart.{beyond}
 use Rattle.osi_machine.specs.Core as machine
@@ -52,7 +53,7 @@ use Rattle.osi_pair.proofs.StandingWays.{Alone, is_tsdu}
 use Rattle.osi_pair.proofs.StandingSeats.{session_of_seat}
 use Rattle.osi_machine.specs.AsTables.{is_leaving}
 use Rattle.osi_pair.specs.Sides.{other}
-use Rattle.osi_carrier.specs.Messages.{kind_of as message_kind}
+use Rattle.osi_between.specs.Messages.{kind_of as message_kind}
 use Rattle.osi_session.specs.declared.state.State.{State as SessionState}
 use Rattle.osi_machine.specs.Calm.{after_message, StaysCalm}
 

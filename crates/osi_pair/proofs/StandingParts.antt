@@ -2,18 +2,19 @@
 -- under way until its last part arrives, so that they stay.
 use Rattle.std.proofs.Common.{◌≡◌, ℕ, ◌≤◌, false, true, List, [], Some, None, refl, sym, ap, subst, ◌∙◌}
 use Rattle.osi_tpkt.specs.Held.{Held}
-use Rattle.osi_carrier.specs.Addresses.{reference_of}
-use Rattle.osi_carrier.specs.Between.{Between, last_of}
-use Rattle.osi_carrier.specs.Course.{place_at, progress_of}
+use Rattle.osi_carrier.specs.Place.{place_at}
 use Rattle.osi_carrier.specs.Happenings.{tsdu}
 use Rattle.osi_carrier.specs.Orderly.{IsOrderly}
-use Rattle.osi_carrier.specs.Progress.{leaves_use}
 use Rattle.osi_carrier.specs.React.{react as carrier_react}
 use Rattle.osi_carrier.specs.Rows.{Rows, put}
 use Rattle.osi_carrier.specs.State.{State as Carrier}
 use Rattle.osi_carrier.proofs.Apart.{put_here}
 use Rattle.osi_carrier.proofs.AtReferences.{put_other}
 use Rattle.osi_carrier.proofs.Effects.{orderly_unit, orderly_same}
+use Rattle.osi_between.specs.Addresses.{reference_of}
+use Rattle.osi_between.specs.Between.{Between, last_of}
+use Rattle.osi_between.specs.Course.{progress_of}
+use Rattle.osi_between.specs.Progress.{leaves_use}
 use Rattle.osi_machine.specs.Tables.{Line as TableLine, Tables}
 use Rattle.osi_machine.specs.Worlds.{Message}
 use Rattle.osi_machine.specs.Worlds as worlds

@@ -6,15 +6,15 @@ use Rattle.osi_tpkt.specs.Held.{Held}
 use Rattle.osi_tpkt.specs.Packet.{IsPacket, IsFaultOf}
 use Rattle.osi_tpkt.specs.Stream.{ArePackets, offset_of}
 use Rattle.osi_tpkt.specs.declared.faults.TpktFault.{TpktFault}
-use Rattle.osi_carrier.specs.Between.{Both, Between, AreBetween, side}
 use Rattle.osi_carrier.specs.Packets as carriers
 use Rattle.osi_carrier.specs.Packets.{is_spoilt}
 use Rattle.osi_carrier.specs.State.{State}
 use Rattle.osi_carrier.specs.State as states
-use Rattle.osi_carrier.specs.Terms.{Terms}
 use Rattle.osi_carrier.specs.Rows.{Rows}
 use Rattle.osi_carrier.specs.declared.ends.EndReason.{EndReason}
 use Rattle.osi_carrier.specs.declared.ends.EndReason.TheVariants.{NoMemory}
+use Rattle.osi_between.specs.Between.{Both, Between, AreBetween, side}
+use Rattle.osi_between.specs.Terms.{Terms}
 use Rattle.osi_machine.specs.Machine.{Step}
 use Rattle.osi_machine.specs.Tables.{run, start}
 use Rattle.osi_session.specs.Shown.{Shown}

@@ -5,9 +5,9 @@ use Rattle.std.specs.List.{list_any}
 use Rattle.osi_carrier.proofs.Apart.{absent, beyond}
 use Rattle.osi_carrier.specs.Rows.{Rows, value_at}
 use Rattle.osi_carrier.specs.State.{Connection}
-use Rattle.osi_carrier.specs.Terms.{terms_of}
 use Rattle.osi_carrier.specs.declared.ends.EndReason.{EndReason}
 use Rattle.osi_carrier.specs.declared.ends.EndReason.TheVariants as why
+use Rattle.osi_between.specs.Terms.{terms_of}
 use Rattle.osi_machine.specs.AsTables.{IsTableRun, OfEachLine, HoldNoneTwice, AreAgreed, IsSeenInBoth, TellsNoFault, LosesAsItEnds, AreOffered, offers_in}
 use Rattle.osi_machine.specs.AsTables as tables
 use Rattle.osi_machine.specs.Floor.{State, Token, data_token, minor, major, release, has, no_token}

@@ -6,17 +6,17 @@ use Rattle.std.proofs.lemmas.List.{length-map}
 use Rattle.std.specs.List.{list_any, slice_get}
 use Rattle.osi_class.specs.declared.terms.Class.{Class}
 use Rattle.osi_class.specs.declared.terms.Class.TheVariants.{Zero, Two}
-use Rattle.osi_carrier.specs.Between.{Both, Between, AreBetween}
 use Rattle.osi_carrier.specs.Calls.{may_connect, class_error, room_error, or_else}
-use Rattle.osi_carrier.specs.Course.{was_given}
+use Rattle.osi_carrier.specs.Place.{was_given}
 use Rattle.osi_carrier.specs.Orderly.{RiseFrom, AreUpTo}
 use Rattle.osi_carrier.specs.Rows.{Rows, value_at}
 use Rattle.osi_carrier.specs.State.{Connection, asked, linked, closing, State as Carrier}
-use Rattle.osi_carrier.specs.Terms.{Terms, terms_of}
 use Rattle.osi_carrier.specs.declared.ends.EndReason.{EndReason}
 use Rattle.osi_carrier.specs.declared.faults.OpenError.{OpenError}
 use Rattle.osi_carrier.specs.declared.faults.OpenError.TheVariants as opening
 use Rattle.osi_carrier.proofs.Apart.{absent}
+use Rattle.osi_between.specs.Between.{Both, Between, AreBetween}
+use Rattle.osi_between.specs.Terms.{Terms, terms_of}
 use Rattle.osi_machine.specs.Machine.{Ending, Refusal, has_ended, negotiating, one_connection, too_many, references_used_up, not_selected, too_long, connection_at, is_waiting, is_live, is_known, is_class_0, live_count, is_long_selector, refusal_by}
 use Rattle.osi_machine.specs.Machine as machine
 use Rattle.osi_machine.specs.Tables.{Line, Tables, refusal, transport_of}

@@ -3,14 +3,15 @@ use Rattle.std.proofs.Common.{◌≡◌, ℕ, ◌<◌, ◌≤◌, Bool, true, fa
 use Rattle.std.proofs.lemmas.List.{append-nil}
 use Rattle.osi_tpkt.specs.Held.{Held}
 use Rattle.osi_tpdu.specs.Value.{Value}
-use Rattle.osi_carrier.specs.Addresses.{reference_of}
-use Rattle.osi_carrier.specs.Between.{Between, last_of, under_way, put_in, is_cut}
-use Rattle.osi_carrier.specs.Course.{Place, place_at, connection_in, progress_of}
-use Rattle.osi_carrier.specs.Messages.{AreLike, kind_of}
-use Rattle.osi_carrier.specs.Messages as carrier
-use Rattle.osi_carrier.specs.Progress.{Progress, leaves_use}
+use Rattle.osi_carrier.specs.Place.{Place, place_at, connection_in}
 use Rattle.osi_carrier.specs.Rows.{Rows}
 use Rattle.osi_carrier.specs.State.{State}
+use Rattle.osi_between.specs.Addresses.{reference_of}
+use Rattle.osi_between.specs.Between.{Between, last_of, under_way, put_in, is_cut}
+use Rattle.osi_between.specs.Course.{progress_of}
+use Rattle.osi_between.specs.Messages.{AreLike, kind_of}
+use Rattle.osi_between.specs.Messages as carrier
+use Rattle.osi_between.specs.Progress.{Progress, leaves_use}
 use Rattle.osi_machine.specs.Machine.{connection_at, delivers, learns}
 use Rattle.osi_machine.specs.Tables.{Line as TableLine, Tables, seen_from, end_of, step, unseen}
 use Rattle.osi_machine.specs.Worlds.{Message}

@@ -2,9 +2,9 @@
 -- a CR that is refused.
 use Rattle.std.proofs.Common.{◌≡◌, ℕ, Bool, true, false, if◌then◌else◌, List, [], ◌∷◌, ◌++◌, length, map, Option, Some, None, is_some, refl, sym, ap, subst, ◌∙◌, ◌⊎◌, inl, inr}
 use Rattle.std.proofs.lemmas.List.{append-nil}
-use Rattle.osi_carrier.specs.Messages.{kind_of, AreLike}
-use Rattle.osi_carrier.specs.Messages as carrier
-use Rattle.osi_carrier.specs.Terms.{Terms, by_two, by_zero, refusing}
+use Rattle.osi_between.specs.Messages.{kind_of, AreLike}
+use Rattle.osi_between.specs.Messages as carrier
+use Rattle.osi_between.specs.Terms.{Terms, by_two, by_zero, refusing}
 use Rattle.osi_machine.specs.Core as machine
 use Rattle.osi_machine.specs.Machine.{Ending, delivers, shown_at, connection_at, with_connection, learns}
 use Rattle.osi_machine.specs.Tables.{Seat, Line, Turn, Tables, seen_from, side_of, unseen, without_first, message_taken, taken_in, delivered_to, after_turn, closes_by, stays, noted, end_of, step}

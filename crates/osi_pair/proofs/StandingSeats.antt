@@ -2,13 +2,14 @@
 use Rattle.std.proofs.Common.{◌≡◌, ℕ, ◌<◌, Bool, true, false, nat_lt, if◌then◌else◌, List, Option, Some, None, is_some, IfSome, refl, sym, ap, ◌∙◌, arith}
 use Rattle.std.proofs.lemmas.Bool.Decides.{nat_tests}
 use Rattle.osi_tpkt.specs.Held.{Held}
-use Rattle.osi_carrier.specs.Course.{Place, never, was_given, place_at, progress_of}
+use Rattle.osi_carrier.specs.Place.{Place, never, was_given, place_at}
 use Rattle.osi_carrier.specs.Orderly.{IsOrderly}
-use Rattle.osi_carrier.specs.Progress.{Progress, not_yet, awaiting, in_use, shutting}
-use Rattle.osi_carrier.specs.Progress as progress
 use Rattle.osi_carrier.specs.Rows.{Rows, value_at}
 use Rattle.osi_carrier.specs.State.{Connection, asked, linked, closing, State}
 use Rattle.osi_carrier.proofs.Apart.{beyond}
+use Rattle.osi_between.specs.Course.{progress_of}
+use Rattle.osi_between.specs.Progress.{Progress, not_yet, awaiting, in_use, shutting}
+use Rattle.osi_between.specs.Progress as progress
 use Rattle.osi_machine.specs.Tables.{Seat, awaits}
 use Rattle.osi_machine.specs.Worlds.{Message, Transport}
 use Rattle.osi_machine.specs.Worlds as worlds

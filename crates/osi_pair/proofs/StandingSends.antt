@@ -3,13 +3,14 @@ use Rattle.std.proofs.Common.{◌≡◌, ℕ, Bool, true, false, List, [], ◌�
 use Rattle.osi_tpkt.specs.Octets.{IsOctets}
 use Rattle.osi_class.specs.Between.{IsShortTsdu}
 use Rattle.osi_class.specs.Link.{Standing as Link}
-use Rattle.osi_carrier.specs.Between.{Between, last_of, under_way, put_in, is_cut}
 use Rattle.osi_carrier.specs.Calls.{sent}
-use Rattle.osi_carrier.specs.Course.{place_at, progress_of}
-use Rattle.osi_carrier.specs.Messages as carrier
-use Rattle.osi_carrier.specs.Progress.{Progress, in_use, leaves_use}
+use Rattle.osi_carrier.specs.Place.{place_at}
 use Rattle.osi_carrier.specs.Rows.{value_at}
 use Rattle.osi_carrier.specs.State.{State, linked}
+use Rattle.osi_between.specs.Between.{Between, last_of, under_way, put_in, is_cut}
+use Rattle.osi_between.specs.Course.{progress_of}
+use Rattle.osi_between.specs.Messages as carrier
+use Rattle.osi_between.specs.Progress.{Progress, in_use, leaves_use}
 use Rattle.osi_machine.specs.Machine.{connection_at}
 use Rattle.osi_machine.specs.Tables.{Line, Tables, seen_from, stays, puts}
 use Rattle.osi_machine.specs.Worlds.{Message, Transport, unit, put}

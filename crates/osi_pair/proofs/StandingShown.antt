@@ -1,7 +1,7 @@
 -- An end took a packet, or ended: how two ends stand when its users were shown all that came of it.
 use Rattle.std.specs.Prelude.{◌≡◌, List, None}
 use Rattle.osi_tpkt.specs.Held.{Held}
-use Rattle.osi_carrier.specs.Between.{Between}
+use Rattle.osi_between.specs.Between.{Between}
 use Rattle.osi_machine.specs.Machine.{Step}
 use Rattle.osi_machine.specs.Tables.{Tables, run}
 use Rattle.osi_stack.specs.State.{End}

@@ -4,16 +4,16 @@ use Rattle.std.proofs.Common.{◌≡◌, ℕ, ◌≤◌, Bool, true, false, List
 use Rattle.std.proofs.lemmas.List.{append-nil, append_assoc, map-append}
 use Rattle.osi_tpkt.specs.Held.{Held}
 use Rattle.osi_class.specs.Link.{Standing as Link}
-use Rattle.osi_carrier.specs.Between.{Both, Between, AreBetween, last_of}
 use Rattle.osi_carrier.specs.Calls.{closed_with}
-use Rattle.osi_carrier.specs.Course.{Place, never, was_given}
+use Rattle.osi_carrier.specs.Place.{Place, never, was_given}
 use Rattle.osi_carrier.specs.Orderly.{RiseFrom, AreUpTo}
 use Rattle.osi_carrier.specs.Rows.{Rows, value_at}
 use Rattle.osi_carrier.specs.State.{State, linked}
 use Rattle.osi_carrier.specs.State as carriers
-use Rattle.osi_carrier.specs.Terms.{Terms, by_zero}
-use Rattle.osi_carrier.specs.Zero.{given_in}
 use Rattle.osi_carrier.specs.declared.ends.EndReason.TheVariants.{Closed}
+use Rattle.osi_between.specs.Between.{Both, Between, AreBetween, last_of}
+use Rattle.osi_between.specs.Terms.{Terms, by_zero}
+use Rattle.osi_between.specs.Zero.{given_in}
 use Rattle.osi_machine.specs.Machine.{closed_here, delivers, shown_at}
 use Rattle.osi_machine.specs.Tables.{Tables, closes_by, noted as noted_in, stays, after_end, step}
 use Rattle.osi_machine.specs.Worlds.{Message}

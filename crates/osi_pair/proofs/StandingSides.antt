@@ -2,15 +2,16 @@
 use Rattle.std.proofs.Common.{◌≡◌, ◌≢◌, refl, sym, ◌∙◌, ap, subst, ℕ, zero, suc, Bool, true, false, if◌then◌else◌, List, [], ◌∷◌, map, Option, Some, None, is_some}
 use Rattle.std.specs.List.{slice_get}
 use Rattle.osi_tpdu.specs.Value.{Value}
-use Rattle.osi_carrier.specs.Between.{Between, Carries}
-use Rattle.osi_carrier.specs.Course.{Place, never, was_given, place_at, connection_in, progress_of}
-use Rattle.osi_carrier.specs.Messages.{AreLike, kind_of}
-use Rattle.osi_carrier.specs.Messages as carrier
-use Rattle.osi_carrier.specs.Progress.{Progress, not_yet, awaiting, in_use, shutting}
-use Rattle.osi_carrier.specs.Progress as progress
+use Rattle.osi_carrier.specs.Place.{Place, never, was_given, place_at, connection_in}
 use Rattle.osi_carrier.specs.Rows.{value_at}
 use Rattle.osi_carrier.specs.State.{asked, linked, closing}
-use Rattle.osi_carrier.specs.Terms.{Terms}
+use Rattle.osi_between.specs.Between.{Between, Carries}
+use Rattle.osi_between.specs.Course.{progress_of}
+use Rattle.osi_between.specs.Messages.{AreLike, kind_of}
+use Rattle.osi_between.specs.Messages as carrier
+use Rattle.osi_between.specs.Progress.{Progress, not_yet, awaiting, in_use, shutting}
+use Rattle.osi_between.specs.Progress as progress
+use Rattle.osi_between.specs.Terms.{Terms}
 use Rattle.osi_machine.specs.Machine.{replaced}
 use Rattle.osi_machine.specs.Tables.{Seat, Line, seen_from}
 use Rattle.osi_session.specs.Listening.{Listener}

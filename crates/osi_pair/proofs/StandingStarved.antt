@@ -4,14 +4,15 @@ use Rattle.std.specs.List.{list_any}
 use Rattle.std.proofs.lemmas.List.{append-nil}
 use Rattle.osi_tpkt.specs.Held.{Held}
 use Rattle.osi_tpkt.specs.Packet.{IsPacket}
-use Rattle.osi_carrier.specs.Addresses.{reference_of}
-use Rattle.osi_carrier.specs.Between.{Between, last_of}
-use Rattle.osi_carrier.specs.Course.{place_at, progress_of}
+use Rattle.osi_carrier.specs.Place.{place_at}
 use Rattle.osi_carrier.specs.Happenings.{Happening}
-use Rattle.osi_carrier.specs.Messages as carrier
-use Rattle.osi_carrier.specs.Progress.{leaves_use}
 use Rattle.osi_carrier.specs.declared.ends.EndReason.TheVariants.{NoMemory}
 use Rattle.osi_carrier.specs.State.{State}
+use Rattle.osi_between.specs.Addresses.{reference_of}
+use Rattle.osi_between.specs.Between.{Between, last_of}
+use Rattle.osi_between.specs.Course.{progress_of}
+use Rattle.osi_between.specs.Messages as carrier
+use Rattle.osi_between.specs.Progress.{leaves_use}
 use Rattle.osi_machine.specs.AsTables.{IsTableRun, LosesAsItEnds}
 use Rattle.osi_machine.specs.Core as machine
 use Rattle.osi_machine.specs.Machine.{Entry, delivers, learns, shown_at, is_given}
@@ -57,7 +58,7 @@ use Rattle.osi_pair.proofs.StandingTurned.{with_holding}
 use Rattle.osi_pair.proofs.StandingUnheard.{placed_then, acted_may_end}
 use Rattle.osi_pair.proofs.StandingWant.{alone_shown, behind_shown, ended_shown, says_then, WantLaws, has_starved}
 use Rattle.osi_pair.proofs.StandingLeaves.{out_leaves}
-use Rattle.osi_carrier.specs.Messages.{kind_of}
+use Rattle.osi_between.specs.Messages.{kind_of}
 
 -- ---- what the tables say of the other side
 

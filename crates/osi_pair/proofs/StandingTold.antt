@@ -14,7 +14,7 @@ use Rattle.osi_stack.specs.Calls.{breaks}
 use Rattle.osi_stack.specs.Hearing as hearing
 use Rattle.osi_stack.specs.State.{End, Holding}
 use Rattle.osi_stack.specs.State as stack
-use Rattle.osi_carrier.specs.Terms.{terms_of}
+use Rattle.osi_between.specs.Terms.{terms_of}
 use Rattle.osi_pair.specs.Ends.{TwoEnds, end_at}
 use Rattle.osi_pair.specs.Entries.{Entry, ends}
 use Rattle.osi_pair.specs.Events.{HearsOfBreak, TellsBreak}

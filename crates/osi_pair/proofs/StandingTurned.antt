@@ -3,10 +3,11 @@ use Rattle.std.proofs.Common.{◌≡◌, ◌≢◌, ℕ, ◌≤◌, ◌==◌, Bo
 use Rattle.std.proofs.lemmas.Bool.{eqb-true, eq-eqb}
 use Rattle.std.proofs.lemmas.List.{map-append}
 use Rattle.osi_tpkt.specs.Held.{Held}
-use Rattle.osi_carrier.specs.Between.{Between, AreBetween, last_of, under_way, is_cut}
-use Rattle.osi_carrier.specs.Course.{place_at, progress_of}
+use Rattle.osi_carrier.specs.Place.{place_at}
 use Rattle.osi_carrier.specs.Rows.{value_at}
-use Rattle.osi_carrier.specs.Terms.{terms_of}
+use Rattle.osi_between.specs.Between.{Between, AreBetween, last_of, under_way, is_cut}
+use Rattle.osi_between.specs.Course.{progress_of}
+use Rattle.osi_between.specs.Terms.{terms_of}
 use Rattle.osi_class.specs.declared.terms.Local.{Local}
 use Rattle.osi_machine.specs.Core as machine
 use Rattle.osi_machine.specs.Machine.{shown_at, connection_at}
@@ -25,7 +26,7 @@ use Rattle.osi_pair.specs.declared.sides.Side.{Side}
 use Rattle.osi_pair.specs.declared.sides.Side.TheVariants.{Left, Right}
 use Rattle.osi_pair.proofs.StandingCut.{end_out, end_back}
 use Rattle.osi_pair.proofs.StandingWays.{way_same}
-use Rattle.osi_carrier.specs.Progress.{Progress}
+use Rattle.osi_between.specs.Progress.{Progress}
 use Rattle.osi_machine.specs.Worlds.{Message}
 use Rattle.osi_session.specs.declared.state.State.{State as SessionState}
 

@@ -3,11 +3,12 @@ use Rattle.std.proofs.Common.{◌≡◌, ◌≢◌, ℕ, ◌≤◌, ◌==◌, Bo
 use Rattle.std.proofs.lemmas.Bool.{eqb-true, eq-eqb}
 use Rattle.std.proofs.lemmas.List.{append-nil}
 use Rattle.osi_tpkt.specs.Held.{Held}
-use Rattle.osi_carrier.specs.Addresses.{reference_of}
-use Rattle.osi_carrier.specs.Between.{Between, is_cut, under_way, last_of}
-use Rattle.osi_carrier.specs.Course.{place_at, progress_of}
-use Rattle.osi_carrier.specs.Progress.{not_yet}
+use Rattle.osi_carrier.specs.Place.{place_at}
 use Rattle.osi_carrier.specs.State.{State}
+use Rattle.osi_between.specs.Addresses.{reference_of}
+use Rattle.osi_between.specs.Between.{Between, is_cut, under_way, last_of}
+use Rattle.osi_between.specs.Course.{progress_of}
+use Rattle.osi_between.specs.Progress.{not_yet}
 use Rattle.osi_machine.specs.Machine.{is_given}
 use Rattle.osi_machine.specs.Tables.{Seat, Line, Tables, awaits, seen_from}
 use Rattle.osi_machine.specs.Worlds as worlds

@@ -5,8 +5,6 @@ use Rattle.std.proofs.lemmas.Bool.{eqb-true, eq-eqb}
 use Rattle.osi_tpkt.specs.Held.{Held}
 use Rattle.osi_tpkt.specs.Packet.{IsPacket}
 use Rattle.osi_tpdu.specs.Value.{Value}
-use Rattle.osi_carrier.specs.Addresses.{reference_of}
-use Rattle.osi_carrier.specs.Between.{Both, side, Between, AreBetween}
 use Rattle.osi_carrier.specs.Calls.{ended_by}
 use Rattle.osi_carrier.specs.Happenings.{Happening}
 use Rattle.osi_carrier.specs.Packets as packets
@@ -14,9 +12,11 @@ use Rattle.osi_carrier.specs.React.{react as carrier_react}
 use Rattle.osi_carrier.specs.Rows.{Rows}
 use Rattle.osi_carrier.specs.State.{State}
 use Rattle.osi_carrier.specs.State as carriers
-use Rattle.osi_carrier.specs.Terms.{Terms}
 use Rattle.osi_carrier.specs.declared.ends.EndReason.{EndReason}
 use Rattle.osi_carrier.specs.declared.ends.EndReason.TheVariants.{NoMemory}
+use Rattle.osi_between.specs.Addresses.{reference_of}
+use Rattle.osi_between.specs.Between.{Both, side, Between, AreBetween}
+use Rattle.osi_between.specs.Terms.{Terms}
 use Rattle.osi_machine.specs.Core as machine
 use Rattle.osi_machine.specs.Machine.{Ending, no_memory, connection_at, delivers, shown_at}
 use Rattle.osi_machine.specs.Machine as entries

@@ -2,12 +2,13 @@
 use Rattle.std.proofs.Common.{◌≡◌, ℕ, zero, suc, Bool, true, false, ◌||◌, ◌≤◌, ◌⊎◌, inl, inr, List, [], ◌∷◌, ◌++◌, length, map, take, drop, Option, Some, None, refl, sym, ap, subst, ◌∙◌, append_assoc}
 use Rattle.std.proofs.Math.Seq.{take-append_seam}
 use Rattle.std.proofs.lemmas.List.{length-map, map-append, append-nil, take-append-drop}
-use Rattle.osi_carrier.specs.Course.{Place, never, was_given, connection_in, progress_of}
-use Rattle.osi_carrier.specs.Messages.{kind_of, AreLike}
-use Rattle.osi_carrier.specs.Messages as carrier
-use Rattle.osi_carrier.specs.Progress.{Progress, not_yet, awaiting, in_use, shutting}
-use Rattle.osi_carrier.specs.Progress as progress
+use Rattle.osi_carrier.specs.Place.{Place, never, was_given, connection_in}
 use Rattle.osi_carrier.specs.State.{asked, linked, closing}
+use Rattle.osi_between.specs.Course.{progress_of}
+use Rattle.osi_between.specs.Messages.{kind_of, AreLike}
+use Rattle.osi_between.specs.Messages as carrier
+use Rattle.osi_between.specs.Progress.{Progress, not_yet, awaiting, in_use, shutting}
+use Rattle.osi_between.specs.Progress as progress
 use Rattle.osi_machine.specs.Worlds.{Message, unit, ask, agree, deny, bye, over}
 use Rattle.osi_carrier.specs.declared.ends.EndReason.{EndReason}
 use Rattle.osi_pair.specs.Standing.{AreAlike, message_in, word_in, AreUnderWay}

@@ -1,7 +1,7 @@
 -- The words in which a message leaves are that message.
 use Rattle.std.proofs.Common.{◌≡◌, refl, sym, ap, subst, ◌∙◌, ℕ, ◌-◌, ◌≤◌, Bool, true, false, not, if◌then◌else◌, List, [], ◌∷◌, ◌++◌, length, map, Some, None, append_assoc, arith}
 use Rattle.std.proofs.lemmas.List.{append-nil, length-append}
-use Rattle.osi_carrier.specs.Messages as carrier
+use Rattle.osi_between.specs.Messages as carrier
 use Rattle.osi_machine.specs.Worlds.{unit}
 use Rattle.osi_message.specs.Meanings.{Meaning, DT}
 use Rattle.osi_message.specs.Parting.{pieces, parts_of, is_whole, is_parted, words_sent, AreLater, AreParts, joined}

@@ -1,7 +1,7 @@
 -- What users ask for, and copies of it in memory.
 use Rattle.std.specs.Prelude.{◌≡◌, ◌<◌, ℕ, true, List, [], Option, option_map, IfSome}
 use Rattle.osi_tpkt.specs.Octets.{IsOctets}
-use Rattle.osi_carrier.specs.Course.{IsTsap}
+use Rattle.osi_between.specs.Course.{IsTsap}
 use Rattle.osi_message.specs.Tokens.{named}
 use Rattle.osi_spdu.specs.Fields.{bits_of, unit_bits}
 use Rattle.osi_spdu.specs.Sizes.{named_by, are_sizes}

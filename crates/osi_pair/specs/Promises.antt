@@ -5,9 +5,9 @@ use Rattle.std.specs.List.{list_any}
 use Rattle.osi_carrier.specs.Calls.{begun_by}
 use Rattle.osi_carrier.specs.Rows.{value_at}
 use Rattle.osi_carrier.specs.State.{Connection, linked}
-use Rattle.osi_carrier.specs.Terms.{terms_of}
 use Rattle.osi_carrier.specs.declared.ends.EndReason.{EndReason}
 use Rattle.osi_carrier.specs.declared.ends.EndReason.TheVariants as why
+use Rattle.osi_between.specs.Terms.{terms_of}
 use Rattle.osi_class.specs.Link.{Standing}
 use Rattle.osi_machine.specs.AsTables.{offers_in}
 use Rattle.osi_machine.specs.Core.{Offer}

@@ -3,20 +3,21 @@
 use Rattle.std.specs.Prelude.{◌≡◌, ℕ, ◌<◌, ◌≤◌, Bool, true, false, List, [], ◌∷◌, ◌++◌, map, length, Option, Some, None, option_map, is_some, IsSome, IfSome, Result, Ok, Err}
 use Rattle.std.specs.List.{AllByRecursion}
 use Rattle.osi_tpkt.specs.Held.{Held}
-use Rattle.osi_carrier.specs.Between.{Between, Both, AreBetween, last_of, is_cut, under_way}
-use Rattle.osi_carrier.specs.Course.{Place, never, was_given, place_at, progress_of}
-use Rattle.osi_carrier.specs.Messages.{kind_of}
-use Rattle.osi_carrier.specs.Messages as carrier
+use Rattle.osi_carrier.specs.Place.{Place, never, was_given, place_at}
 use Rattle.osi_carrier.specs.Orderly.{RiseFrom}
-use Rattle.osi_carrier.specs.Progress.{Progress, shutting}
-use Rattle.osi_carrier.specs.Progress as progress
 use Rattle.osi_carrier.specs.Rows.{value_at}
 use Rattle.osi_carrier.specs.State.{asked, linked, closing}
-use Rattle.osi_carrier.specs.Terms.{terms_of}
-use Rattle.osi_carrier.specs.Terms as between
 use Rattle.osi_carrier.specs.declared.ends.EndReason.{EndReason}
 use Rattle.osi_carrier.specs.declared.ends.EndReason.TheVariants as why
 use Rattle.osi_carrier.specs.declared.faults.OpenError.TheVariants as opening
+use Rattle.osi_between.specs.Between.{Between, Both, AreBetween, last_of, is_cut, under_way}
+use Rattle.osi_between.specs.Course.{progress_of}
+use Rattle.osi_between.specs.Messages.{kind_of}
+use Rattle.osi_between.specs.Messages as carrier
+use Rattle.osi_between.specs.Progress.{Progress, shutting}
+use Rattle.osi_between.specs.Progress as progress
+use Rattle.osi_between.specs.Terms.{terms_of}
+use Rattle.osi_between.specs.Terms as between
 use Rattle.osi_class.specs.declared.terms.Class.{Class}
 use Rattle.osi_class.specs.declared.terms.Class.TheVariants as classes
 use Rattle.osi_machine.specs.Calm.{StaysCalm}

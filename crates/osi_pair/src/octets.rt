@@ -3,7 +3,7 @@
 ghost use Rattle.std.specs.Prelude.{◌≤◌, length, IfSome, option_map};
 ghost use Rattle.osi_tpkt.specs.Octets.{IsOctets};
 ghost use Rattle.osi_tpdu.specs.Limits.{tsap_octets};
-ghost use Rattle.osi_carrier.specs.Course.{IsTsap};
+ghost use Rattle.osi_between.specs.Course.{IsTsap};
 ghost use Rattle.osi_session.specs.Allowed.{octets_of};
 ghost use Rattle.osi_session.specs.Calls.{HasSerial, called_by};
 ghost use Rattle.osi_pair.specs.Advancing.{CanHappen};

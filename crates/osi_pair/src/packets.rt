@@ -10,7 +10,7 @@ ghost use Rattle.osi_pair.specs.Ends.{TwoEnds, end_at};
 ghost use Rattle.osi_pair.specs.Standing.{packet_taken, StandsAt, StandsAtDeliveries};
 ghost use Rattle.osi_pair.specs.declared.sides.Side.{Side};
 
-use osi_carrier::two_carriers::{what_two_carriers_have, whatever_becomes_of_two_carriers};
+use osi_between::laws::{what_two_carriers_have, whatever_becomes_of_two_carriers};
 use osi_stack::laws::{
     a_session_is_what_its_inputs_made_it, a_session_that_is_called_has_a_connection,
 };

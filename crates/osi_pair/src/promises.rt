@@ -8,7 +8,7 @@ ghost use Rattle.osi_pair.specs.Reached.{HoldLess, IsReached};
 ghost use Rattle.osi_pair.specs.Standing.{StandsAt};
 ghost use Rattle.osi_pair.specs.declared.sides.Side.{Side};
 
-use osi_carrier::two_carriers::whatever_becomes_of_two_carriers;
+use osi_between::laws::whatever_becomes_of_two_carriers;
 use osi_machine::laws::{the_tables_are_the_machine, what_is_heard_was_said, what_two_tables_tell};
 
 /// What the users of two ends that stand at a list of steps may rely on, read from the journal and from what

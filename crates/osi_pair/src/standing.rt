@@ -16,7 +16,7 @@ ghost use Rattle.osi_pair.specs.Sides.{other};
 ghost use Rattle.osi_pair.specs.Standing.{side_in, offer_in, StandsAt, StandsAtArrivals, StandsAtBreak, StandsAtTold};
 ghost use Rattle.osi_pair.specs.declared.sides.Side.{Side};
 
-use osi_carrier::two_carriers::{
+use osi_between::laws::{
     what_an_end_holds, what_two_carriers_have, whatever_becomes_of_two_carriers,
 };
 use osi_machine::laws::{

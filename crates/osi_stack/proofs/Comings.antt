@@ -1,27 +1,21 @@
 -- Octets that the other end wrote are read as the units that it wrote.
-use Rattle.std.proofs.Common.{◌≡◌, ℕ, ◌+◌, ◌-◌, ◌<◌, ◌≤◌, Bool, true, false, ◌||◌, not, is_some, List, [], ◌∷◌, ◌++◌, length, map, take, drop, Option, None, Some, Result, Ok, refl, sym, ap, subst, ◌∙◌, inl, inr, ◌⊎◌, arith, append_assoc, length-append, if◌then◌else◌}
+use Rattle.std.proofs.Common.{◌≡◌, ℕ, ◌+◌, ◌-◌, ◌≤◌, Bool, true, false, ◌||◌, not, is_some, List, [], ◌∷◌, ◌++◌, length, map, take, drop, Option, None, Some, Result, Ok, refl, sym, ap, subst, ◌∙◌, inl, inr, ◌⊎◌, arith, if◌then◌else◌}
 use Rattle.std.specs.List.{AllByRecursion}
-use Rattle.std.proofs.lemmas.List.{append_cancel_left, take-append-drop, length-take-le, take-take}
-use Rattle.osi_tpkt.specs.Packet.{IsPacket, packet_of}
-use Rattle.osi_tpkt.proofs.PacketLaws.{one_packet, written_packet}
+use Rattle.std.proofs.lemmas.List.{length-take-le, take-take}
 use Rattle.osi_tpkt.specs.Stream.{ArePackets, offset_of}
 use Rattle.osi_tpkt.specs.declared.cutting.Fed.{Fed}
-use Rattle.osi_tpdu.proofs.WrittenLaws.{written_spells}
-use Rattle.osi_tpdu.specs.Packet.{units_of}
 use Rattle.osi_tpdu.specs.Value.{Value}
 use Rattle.osi_tpdu.specs.Writing.{written}
 use Rattle.osi_tpdu.specs.declared.faults.TpduFault.{TpduFault}
-use Rattle.osi_tpdu.proofs.PacketLaws.{units_only}
 use Rattle.osi_carrier.specs.Coming.{IsSendable, AreComing}
 use Rattle.osi_carrier.specs.Happenings.{Happening}
 use Rattle.osi_carrier.specs.Packets as carriers
-use Rattle.osi_carrier.specs.React.{react, reacts}
-use Rattle.osi_carrier.specs.State.{State as Carrier, packets}
+use Rattle.osi_carrier.specs.React.{react}
+use Rattle.osi_carrier.specs.State.{State as Carrier}
 use Rattle.osi_carrier.specs.State as states
 use Rattle.osi_carrier.specs.declared.ends.EndReason.{EndReason}
 use Rattle.osi_carrier.specs.declared.ends.EndReason.TheVariants.{NoMemory}
-use Rattle.osi_carrier.proofs.Coming.{packet_reacts, fault_free}
-use Rattle.osi_carrier.proofs.Units.{written_least}
+use Rattle.osi_carrier.proofs.Coming.{unit_read, packet_reacts, Fronts, units_front, fault_free, alone_starved, starved_unit, reads_part}
 use Rattle.osi_stack.specs.Coming.{after_unit, carries_out, TakesUnits, IsUnheard, TakesSome}
 use Rattle.osi_stack.specs.Feeding.{stops, uses_all, TakesPackets, RunsDry, StopsBehind, Refuses, FindsNoMemory, Goes, Feeds}
 use Rattle.osi_stack.specs.Hearing.{attends, after_packet, with_carrier, with_events, hears_all, hears_times, hears_first, hears_next, ends, concludes, RunsOut, Starves}
@@ -32,60 +26,11 @@ use Rattle.osi_stack.proofs.Lifting.{packet_is}
 
 -- ---- one unit
 
-unit_packet : (unit : Value) → IsSendable unit → IsPacket (written unit) (packet_of (written unit))
-unit_packet unit h = written_packet (written unit) (record { at_least = written_least unit; at_most = h.most; octets = (written_spells unit h.fits).are_octets })
-
-unit_read : (unit : Value) → IsSendable unit → units_of (written unit) ≡ Ok (unit ∷ [])
-unit_read unit h = units_only (written unit) (unit ∷ []) (written_spells unit h.fits)
-
 -- a packet of one unit does what the unit does
 pub packet_is_unit : (e : End) (unit : Value) → IsSendable unit → after_packet e (written unit) ≡ after_unit e unit
 packet_is_unit e unit h = packet_is e (written unit) ∙ ap (λ (c : Carrier). attends (with_carrier c e)) (packet_reacts e.carrier unit h)
 
 -- ---- packets
-
--- packets at the front of what was written
-record Fronts (units : List (List ℕ)) (coming : List Value) (r t : List ℕ) : Type 0 where
-  done : List Value
-  left : List Value
-  parts : coming ≡ done ++ left
-  are : units ≡ map written done
-  sendable : AllByRecursion IsSendable done
-  rest : AreComing r t left
-
-some_octets : (u b : List ℕ) → IsPacket u b → 0 < length b
-some_octets u b p = let e = ap length p.spelled in omega arith
-
-units_front : (units : List (List ℕ)) (coming : List Value) (s r t : List ℕ) → AllByRecursion IsSendable coming → ArePackets units s r → s ++ t ≡ packets coming →
-    Fronts units coming r t
-units_front [] coming s r t all h e = record {
-  done = [];
-  left = coming;
-  parts = refl;
-  are = refl;
-  sendable = tt;
-  rest = record { octets = ap (λ l. l ++ t) (sym h) ∙ e; sendable = all };
-}
-units_front (u ∷ us) [] s r t all h e =
-    let some = some_octets u h.0 h.2 in
-    let total = length-append s t in
-    let parts = ap length h.3 ∙ length-append h.0 h.1 in
-    let none = ap length e in
-    absurd (omega arith)
-units_front (u ∷ us) (v ∷ vs) s r t all h e =
-    let packet = unit_packet v all.0 in
-    let same : h.0 ++ (h.1 ++ t) ≡ packet_of (written v) ++ packets vs = sym (append_assoc h.0 h.1 t) ∙ ap (λ l. l ++ t) (sym h.3) ∙ e in
-    let one = one_packet u (written v) h.0 (packet_of (written v)) (h.1 ++ t) (packets vs) h.2 packet same in
-    let behind : h.1 ++ t ≡ packets vs = append_cancel_left (packet_of (written v)) (h.1 ++ t) (packets vs) (ap (λ l. l ++ (h.1 ++ t)) (sym one.0) ∙ same) in
-    let more = units_front us vs h.1 r t all.1 h.4 behind in
-    record {
-      done = v ∷ more.done;
-      left = more.left;
-      parts = ap (λ l. v ∷ l) more.parts;
-      are = ap (λ x. x ∷ us) one.1 ∙ ap (λ l. written v ∷ l) more.are;
-      sendable = (all.0, more.sendable);
-      rest = more.rest;
-    }
 
 -- packets that are taken are units that are taken
 units_taken : (done : List Value) (s t : End) → AllByRecursion IsSendable done → TakesPackets s (map written done) t → TakesUnits s done t
@@ -93,19 +38,8 @@ units_taken [] s t all h = h
 units_taken (u ∷ us) s t all h =
     (h.0, units_taken us (after_unit s u) t all.1 (subst (λ (x : End). TakesPackets x (map written us) t) (packet_is_unit s u all.0) h.1))
 
-whole_piece : (held outgoing : List ℕ) (n : ℕ) → (held ++ take n outgoing) ++ drop n outgoing ≡ held ++ outgoing
-whole_piece held outgoing n = append_assoc held (take n outgoing) (drop n outgoing) ∙ ap (λ l. held ++ l) (take-append-drop n outgoing)
-
--- the packets of a part of what comes
-reads_part : (held outgoing : List ℕ) (coming : List Value) (n : ℕ) (units : List (List ℕ)) (r : List ℕ) → AreComing held outgoing coming →
-    ArePackets units (held ++ take n outgoing) r → Fronts units coming r (drop n outgoing)
-reads_part held outgoing coming n units r c h = units_front units coming (held ++ take n outgoing) r (drop n outgoing) c.sendable h (whole_piece held outgoing n ∙ c.octets)
-
 front_taken : (s t : End) (units : List (List ℕ)) (coming : List Value) (r behind : List ℕ) (f : Fronts units coming r behind) → TakesPackets s units t → TakesUnits s f.done t
 front_taken s t units coming r behind f h = units_taken f.done s t f.sendable (subst (λ (l : List (List ℕ)). TakesPackets s l t) f.are h)
-
-same_part : (outgoing : List ℕ) (n k : ℕ) → n ≤ k → take n (take k outgoing) ≡ take n outgoing
-same_part outgoing n k less = take-take n k outgoing less
 
 -- ---- what is attended stays so along packets
 
@@ -124,33 +58,19 @@ ended_quiet e c none is =
     let over : End = record e { carrier = states.ends NoMemory e.carrier } in
     ap (λ (x : Carrier). attends (with_carrier x e)) is ∙ ap concludes (all_quiet over none)
 
-alone_starved : (old new : Carrier) (unit : Value) (done more : List Value) (next : Value) → unit ∷ [] ≡ done ++ (next ∷ more) → new ≡ states.ends NoMemory (reacts done old) → new ≡ states.ends NoMemory old
-alone_starved old new unit [] more next e is = is
-alone_starved old new unit (d ∷ []) more next e is = cc
-alone_starved old new unit (d ∷ f ∷ ds) more next e is = cc
-
-carrier_starved : (old new : Carrier) (unit : Value) → carriers.RunsOut old (unit ∷ []) new → new ≡ states.ends NoMemory old
-carrier_starved old new unit h = alone_starved old new unit h.done h.more h.next h.all h.ended
-
-starved_unit : (old : Carrier) (new : Carrier) (unit : Value) → IsSendable unit → carriers.Starves old (written unit) new → new ≡ states.ends NoMemory old
-starved_unit old new unit sendable h =
-    let same : Ok (unit ∷ []) ≡ Ok h.0 = sym (unit_read unit sendable) ∙ h.1 in
-    let us : unit ∷ [] ≡ h.0 = cc in
-    carrier_starved old new unit (subst (λ (l : List Value). carriers.RunsOut old l new) (sym us) h.2)
-
 acted_unit : (old : Carrier) (new : Carrier) (unit : Value) → IsSendable unit → carriers.Acts old (written unit) new → (new ≡ react unit old) ⊎ (new ≡ states.ends NoMemory old)
 acted_unit old new unit sendable h =
     let acts : carriers.ActsBy (Ok (unit ∷ [])) old new = subst (λ (r : Result (List Value) TpduFault). carriers.ActsBy r old new) (unit_read unit sendable) h in
     elim acts [
       | inl is ↦ inl is
-      | inr out ↦ inr (carrier_starved old new unit out)
+      | inr out ↦ inr (alone_starved old new unit out.done out.more out.next out.all out.ended)
     ]
 
 abbrev Starved : End → List Value → End → Type 0
 Starved e left new = (new ≡ ends NoMemory e) ⊎ IsUnheard e left new
 
 unit_starved : (e new : End) (unit : Value) (rest : List Value) → IsSendable unit → e.carrier.events ≡ [] → Starves e (written unit) new → Starved e (unit ∷ rest) new
-unit_starved e new unit rest sendable none (inl h) = inl (h.2 ∙ ended_quiet e h.0 none (starved_unit e.carrier h.0 unit sendable h.1))
+unit_starved e new unit rest sendable none (inl h) = inl (h.2 ∙ ended_quiet e h.0 none (starved_unit e.carrier h.0 (written unit) unit sendable refl h.1))
 unit_starved e new unit rest sendable none (inr h) = elim (acted_unit e.carrier h.0 unit sendable h.1) [
   | inl is ↦ inr (record { unit = unit; rest = rest; first = refl; starved = subst (λ (c : Carrier). RunsOut (with_carrier c e) new) is h.2 })
   | inr is ↦ never_starved (with_carrier h.0 e) new (ap (λ (c : Carrier). c.events) is ∙ none) h.2
@@ -227,7 +147,7 @@ stops_behind old new outgoing coming k used less c h =
     let n = h.within in
     let within : n ≤ k = (let bound = h.bound in let size = length-take-le k outgoing less in omega arith) in
     let f = reads_part old.held.octets outgoing coming n h.units [] c
-    (subst (λ l. ArePackets h.units (old.held.octets ++ l) []) (same_part outgoing n k within) h.packets) in
+    (subst (λ l. ArePackets h.units (old.held.octets ++ l) []) (take-take n k outgoing within) h.packets) in
     record {
       done = f.done;
       left = f.left;
@@ -252,7 +172,7 @@ finds_none old new outgoing coming k used less c attended h =
     let n = h.within in
     let within : n ≤ k = (let bound = h.bound in let size = length-take-le k outgoing less in omega arith) in
     let f = reads_part old.held.octets outgoing coming n h.units h.rest c
-    (subst (λ l. ArePackets h.units (old.held.octets ++ l) h.rest) (same_part outgoing n k within) h.packets) in
+    (subst (λ l. ArePackets h.units (old.held.octets ++ l) h.rest) (take-take n k outgoing within) h.packets) in
     let none = no_events h.before h.quiet (attended_along h.units old.end h.before h.taken attended) in
     let starved : Starved h.before f.left new.end =
     elim h.how [

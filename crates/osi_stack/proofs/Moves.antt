@@ -5,7 +5,7 @@ use Rattle.std.proofs.lemmas.Bool.Decides.{nat_tests}
 use Rattle.std.specs.List.{list_any}
 use Rattle.osi_tpdu.specs.Value.{Value}
 use Rattle.osi_carrier.specs.Calls.{send_all_error, open_link}
-use Rattle.osi_carrier.specs.Course.{Place, never, was_given}
+use Rattle.osi_carrier.specs.Place.{Place, never, was_given}
 use Rattle.osi_carrier.specs.Happenings.{Happening}
 use Rattle.osi_carrier.specs.Happenings as told
 use Rattle.osi_carrier.specs.React as carriers

@@ -10,10 +10,9 @@ use Rattle.osi_message.specs.Written.{written}
 use Rattle.osi_message.specs.declared.places.Place.{Place as PartPlace}
 use Rattle.osi_tpdu.specs.Value.{Value}
 use Rattle.osi_carrier.specs.Calls.{open_link, sent, closed_with}
-use Rattle.osi_carrier.specs.Course.{Place, never, was_given}
+use Rattle.osi_carrier.specs.Place.{Place, never, was_given}
 use Rattle.osi_carrier.specs.Happenings.{Happening}
 use Rattle.osi_carrier.specs.Happenings as told
-use Rattle.osi_carrier.specs.Messages as between
 use Rattle.osi_carrier.specs.Rows.{Rows, value_at, put}
 use Rattle.osi_carrier.specs.State.{asked, linked, State as Carrier}
 use Rattle.osi_session.specs.Allowed.{Step, allowed}
@@ -37,16 +36,6 @@ pub data Message : Type 0 where
   deny : (reason : ℕ) → Message
   bye : (reason : ℕ) → Message
   over : Message
-
--- a message between the carriers: a unit is a TSDU, and so is a part
-abbrev pub carried : Message → between.Message
-carried (unit m) = between.message (written m)
-carried (part place octets) = between.message (part_octets place octets)
-carried ask = between.ask
-carried agree = between.agree
-carried (deny reason) = between.deny reason
-carried (bye reason) = between.bye reason
-carried over = between.over
 
 -- a unit is one that can be sent, so that its octets are read as it
 abbrev pub IsWhole : Message → Type 0

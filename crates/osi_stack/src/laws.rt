@@ -8,7 +8,7 @@ ghost use Rattle.osi_tpkt.specs.declared.cutting.Fed.{Fed};
 ghost use Rattle.osi_tpdu.specs.Value.{Value};
 ghost use Rattle.osi_tpdu.specs.Writing.{written};
 ghost use Rattle.osi_carrier.specs.Coming.{IsSendable, AreComing};
-ghost use Rattle.osi_carrier.specs.Course.{Place};
+ghost use Rattle.osi_carrier.specs.Place.{Place};
 ghost use Rattle.osi_carrier.specs.Named.{AreNamed};
 ghost use Rattle.osi_carrier.specs.Orderly.{RiseFrom};
 ghost use Rattle.osi_carrier.specs.React.{react as carrier_react};

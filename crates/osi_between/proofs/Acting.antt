@@ -1,0 +1,344 @@
+-- Where an end acts, two carriers stand between as they should, whatever has become of them.
+use Rattle.std.proofs.Common.{◌≡◌, ◌≢◌, ℕ, ◌+◌, ◌≤◌, ◌||◌, Bool, true, false, not, List, [], ◌++◌, length, Option, Some, None, is_some, IfSome, if◌then◌else◌, refl, sym, ap, subst, ◌∙◌, append_assoc}
+use Rattle.std.specs.List.{flat_map, AllByRecursion}
+use Rattle.std.proofs.lemmas.List.{append-nil, append_cancel_right}
+use Rattle.osi_tpdu.specs.Value.{Value}
+use Rattle.osi_carrier.specs.Coming.{IsSendable}
+use Rattle.osi_carrier.specs.Place.{place_at, connection_in}
+use Rattle.osi_carrier.specs.State.{Connection, State, packets}
+use Rattle.osi_carrier.specs.declared.ends.EndReason.{EndReason}
+use Rattle.osi_between.specs.Addresses.{units_of, AreFor}
+use Rattle.osi_between.specs.Between.{Both, side, reach_of, within_reach, arriving, Between, last_of, units_from, lost_from, IsOnTheWay, AreJoinedBy, AreBetween, is_cut, to_come, under_way, told_of, put_in, Carries, Acted, becomes}
+use Rattle.osi_between.specs.Course.{progress_of, BringsTo}
+use Rattle.osi_between.specs.Joined.{under_way_for, ActsFor}
+use Rattle.osi_between.specs.Messages.{Message, messages_to, messages_after, begun_at, AreLike}
+use Rattle.osi_between.specs.Progress.{references_for, class_behind_all, leaves_use}
+use Rattle.osi_between.specs.Terms.{Terms, by_two, accepts_in, class_of}
+use Rattle.osi_between.proofs.Addressing.{units_join, units_same, units_other}
+use Rattle.osi_between.proofs.Bringing.{same_like}
+use Rattle.osi_between.proofs.OnTheWay.{going_then, lost_then, all_then, way_out, bound_out}
+
+-- ---- with all units
+
+-- What an end (`this`, and then `next`) did for a connection, where `going` are the units on the way
+-- from it and `coming` those to it.
+pub record Steps (terms : Terms) (n : ℕ) (this other next : State) (going coming rest taken : List Value) (put : List Message) : Type 0 where
+  pub units : List Value
+  pub arrived : List Message
+  pub stays : List Message
+  pub lost : List Message
+  pub sendable : AllByRecursion IsSendable units
+  pub outgoing : next.outgoing ≡ this.outgoing ++ packets units
+  pub told : next.events ≡ this.events ++ flat_map (told_of terms n (place_at n this)) arrived
+  pub cut : coming ≡ taken ++ rest
+  pub all_for : AreFor n taken
+  pub written_for : AreFor n units
+  pub before : AreLike (connection_in (place_at n other)) (under_way_for n this other going) (stays ++ lost)
+  pub after : AreLike (connection_in (place_at n other)) (under_way_for n next other (going ++ units)) (stays ++ put)
+  pub brings : BringsTo (accepts_in terms) (place_at n this) (place_at n next) taken arrived put
+  pub others_stay : (q : ℕ) → q ≢ n → place_at q next ≡ place_at q this
+  pub given : next.given ≡ this.given + references_for (accepts_in terms) arrived put
+  pub class : next.class ≡ class_behind_all (class_of terms) this.class arrived
+  pub local : next.local ≡ this.local
+  pub keeps : leaves_use (progress_of (place_at n this)) (progress_of (place_at n next)) ≡ false → lost ≡ []
+  pub lasts : next.ended ≡ None
+
+-- joined, seen from an end
+abbrev pub JoinedAt : Bool → Terms → State → State → List Value → List Value → Type 0
+JoinedAt true terms this other going coming = AreJoinedBy terms this other going coming
+JoinedAt false terms this other going coming = AreJoinedBy terms other this coming going
+
+pub record Does (terms : Terms) (end : Bool) (n : ℕ) (this other next : State) (going coming rest taken : List Value) (put : List Message) : Type 0 where
+  pub steps : Steps terms n this other next going coming rest taken put
+  pub joined : JoinedAt end terms next other (going ++ steps.units) rest
+
+-- in class 2
+abbrev pub steps_two : (n : ℕ) (this other next : State) (going coming behind rest taken : List Value) (put : List Message) → coming ≡ taken ++ rest → next.ended ≡ None →
+    (a : ActsFor n this other next going coming behind rest put) → Steps by_two n this other next going coming rest taken put
+steps_two n this other next going coming behind rest taken put cut lasts a =
+    let same : a.taken ≡ taken = append_cancel_right a.taken taken rest (sym a.cut ∙ cut) in
+    record {
+      units = a.units;
+      arrived = a.arrived;
+      stays = a.stays;
+      lost = a.lost;
+      sendable = a.sendable;
+      outgoing = a.outgoing;
+      told = a.told_events ∙ ap (λ l. this.events ++ l) a.told;
+      cut = cut;
+      all_for = subst (λ (l : List Value). AreFor n l) same a.all_for;
+      written_for = a.written_for;
+      before = a.before;
+      after = subst (λ (l : List Value). AreLike (connection_in (place_at n other)) (under_way_for n next other l) (a.stays ++ put)) a.written a.after;
+      brings = subst (λ (l : List Value). BringsTo true (place_at n this) (place_at n next) l a.arrived put) same a.brings;
+      others_stay = a.others_stay;
+      given = a.given;
+      class = a.class;
+      local = a.local;
+      keeps = a.keeps;
+      lasts = lasts;
+    }
+
+-- ---- both ways
+
+pub by_end : (end : Bool) (P : Bool → Type 0) → P end → P (not end) → (e : Bool) → P e
+by_end true P a b true = a
+by_end true P a b false = b
+by_end false P a b true = b
+by_end false P a b false = a
+
+pub unreached : (end : Bool) (reach : Option (ℕ × ℕ)) → reach_of end reach ≡ None → reach ≡ None
+unreached end None e = refl
+unreached true (Some r) e = cc
+unreached false (Some r) e = cc
+
+cut_alive : (broken : Bool) (ended : Option EndReason) → ended ≡ None → (broken || is_some ended) ≡ broken
+cut_alive true ended e = refl
+cut_alive false ended e = ap is_some e
+
+-- what is under way from the end that acts
+record OutPart (o : Option Connection) (old new lost put : List Message) : Type 0 where
+  stays : List Message
+  gone : List Message
+  none : lost ≡ [] → gone ≡ []
+  before : AreLike o old (stays ++ gone)
+  after : AreLike o new (stays ++ put)
+
+-- messages of units and of what is to come behind them
+abbrev sum_of : Option Connection → ℕ → List Value → Bool → Option Connection → List Message
+sum_of o n units cut c = messages_after (begun_at o) (units_of n units ++ to_come cut c)
+
+abbrev if_whole : Option (ℕ × ℕ) → List Message → List Message
+if_whole None put = put
+if_whole (Some r) put = []
+
+out_part : (end : Bool) (reach : Option (ℕ × ℕ)) (o c d : Option Connection) (n : ℕ) (going lost units : List Value) (stays gone put : List Message) → (reach ≡ None → lost ≡ []) →
+    AreLike o (messages_to c (units_of n (going ++ lost)) o) (stays ++ gone) → AreLike o (messages_to d (units_of n ((going ++ lost) ++ units)) o) (stays ++ put) →
+    OutPart o (sum_of o n going (is_some reach) c) (sum_of o n (going_then (reach_of end reach) going units) (is_some reach) d) gone (if_whole reach put)
+out_part end None o c d n going lost units stays gone put none before after =
+    let e : going ++ lost ≡ going = ap (λ (l : List Value). going ++ l) (none refl) ∙ append-nil going in
+    record {
+      stays = stays;
+      gone = gone;
+      none = λ h. h;
+      before = subst (λ (l : List Value). AreLike o (messages_to c (units_of n l) o) (stays ++ gone)) e before;
+      after = subst (λ (l : List Value). AreLike o (messages_to d (units_of n (l ++ units)) o) (stays ++ put)) e after;
+    }
+out_part true (Some r) o c d n going lost units stays gone put none before after = record {
+  stays = sum_of o n going true c;
+  gone = [];
+  none = λ h. refl;
+  before = same_like o (sum_of o n going true c) (sum_of o n going true c ++ []) (sym (append-nil (sum_of o n going true c)));
+  after = same_like o (sum_of o n going true d) (sum_of o n going true c ++ []) (sym (append-nil (sum_of o n going true c)));
+}
+out_part false (Some r) o c d n going lost units stays gone put none before after = record {
+  stays = sum_of o n going true c;
+  gone = [];
+  none = λ h. refl;
+  before = same_like o (sum_of o n going true c) (sum_of o n going true c ++ []) (sym (append-nil (sum_of o n going true c)));
+  after = same_like o (sum_of o n going true d) (sum_of o n going true c ++ []) (sym (append-nil (sum_of o n going true c)));
+}
+
+abbrev whole_or : Option (ℕ × ℕ) → List Message → List Message
+whole_or reach put = if is_some reach then [] else put
+
+put_is : (both : Both) (put : List Message) (reach : Option (ℕ × ℕ)) → both.reach ≡ reach → if_whole reach put ≡ put_in both put
+put_is both put None e = sym (ap (λ (r : Option (ℕ × ℕ)). whole_or r put) e)
+put_is both put (Some r) e = sym (ap (λ (r : Option (ℕ × ℕ)). whole_or r put) e)
+
+-- what came to it
+came_part : (n : ℕ) (old new there : Option Connection) (cut : Bool) (coming taken left : List Value) (arrived : List Message) → coming ≡ taken ++ left → AreFor n taken →
+    ((units : List Value) → AreLike new (messages_after (begun_at old) (taken ++ units)) (arrived ++ messages_after (begun_at new) units)) →
+    AreLike new (sum_of old n coming cut there) (arrived ++ sum_of new n left cut there)
+came_part n old new there cut coming taken left arrived parts all more =
+    let rest = to_come cut there in
+    let same : units_of n coming ++ rest ≡ taken ++ (units_of n left ++ rest) =
+    ap (λ (l : List Value). units_of n l ++ rest) parts
+    ∙ ap (λ (l : List Value). l ++ rest) (units_join n taken left ∙ ap (λ (l : List Value). l ++ units_of n left) (units_same n taken all))
+    ∙ append_assoc taken (units_of n left) rest in
+    subst (λ (l : List Value). AreLike new (messages_after (begun_at old) l) (arrived ++ sum_of new n left cut there)) (sym same) (more (units_of n left ++ rest))
+
+-- of another connection
+other_out : (end : Bool) (reach : Option (ℕ × ℕ)) (q n : ℕ) (going units : List Value) → q ≢ n → AreFor n units → units_of q going ≡ units_of q (going_then (reach_of end reach) going units)
+other_out end None q n going units apart all = sym (units_join q going units ∙ ap (λ (l : List Value). units_of q going ++ l) (units_other q n units apart all) ∙ append-nil (units_of q going))
+other_out true (Some r) q n going units apart all = refl
+other_out false (Some r) q n going units apart all = refl
+
+other_in : (q n : ℕ) (coming taken left : List Value) → q ≢ n → coming ≡ taken ++ left → AreFor n taken → units_of q coming ≡ units_of q left
+other_in q n coming taken left apart parts all =
+    ap (units_of q) parts ∙ units_join q taken left ∙ ap (λ (l : List Value). l ++ units_of q left) (units_other q n taken apart all)
+
+same_sum : (o p c d : Option Connection) (q : ℕ) (us vs : List Value) (a b : Bool) → o ≡ p → units_of q us ≡ units_of q vs → a ≡ b → c ≡ d → sum_of o q us a c ≡ sum_of p q vs b d
+same_sum o p c d q us vs a b x y z w =
+    ap (λ (r : Option Connection). sum_of r q us a c) x
+    ∙ ap (λ (l : List Value). messages_after (begun_at p) (l ++ to_come a c)) y
+    ∙ ap (λ (t : Bool). sum_of p q vs t c) z
+    ∙ ap (λ (r : Option Connection). sum_of p q vs b r) w
+
+-- ---- the caller acts
+
+abbrev now_caller : Both → Between → State → List Value → List Value → Between
+now_caller both b next units left = record b {
+  caller = next;
+  going = going_then (reach_of true both.reach) b.going units;
+  going_lost = lost_then (reach_of true both.reach) b.going_lost units;
+  coming = left;
+}
+
+stands_caller : (terms : Terms) (n : ℕ) (both : Both) (b : Between) (next : State) (behind : List ℕ) (left taken : List Value) (put : List Message) → AreBetween terms both b → both.caller.state.ended ≡ None →
+    IsOnTheWay behind (arriving false both) left b.coming_lost →
+    (d : Does terms true n b.caller b.called next (b.going ++ b.going_lost) (b.coming ++ b.coming_lost) (left ++ b.coming_lost) taken put) →
+    AreBetween terms (becomes true next behind both) (now_caller both b next d.steps.units left)
+stands_caller terms n both b next behind left taken put a alive way d =
+    let units = d.steps.units in
+    let reach = reach_of true both.reach in
+    let none : reach ≡ None → b.going_lost ≡ [] = λ e. a.unbroken (unreached true both.reach e) true in
+    let new = becomes true next behind both in
+    let now = now_caller both b next units left in
+    let same = a.lives true alive in
+    let out : next.outgoing ≡ both.caller.state.outgoing ++ packets units = d.steps.outgoing ∙ ap (λ (s : State). s.outgoing ++ packets units) (sym same) in
+    record {
+      lives = by_end true (λ e. (side e new).state.ended ≡ None → (side e new).state ≡ last_of e now) (λ _. refl) (λ h. a.lives false h);
+      joined = subst (λ (l : List Value). JoinedAt true terms next b.called l (left ++ b.coming_lost)) (all_then reach b.going b.going_lost units none) d.joined;
+      comes = by_end true (λ e. (side (not e) new).state.ended ≡ None → IsOnTheWay (side (not e) new).held (arriving e new) (units_from e now) (lost_from e now))
+          (λ h. subst (λ (l : List ℕ). IsOnTheWay both.called.held (within_reach reach l) now.going now.going_lost) (sym out)
+          (way_out reach both.called.held both.caller.state.outgoing b.going b.going_lost units none (a.bound true) (a.comes true h) d.steps.sendable))
+          (λ h. way);
+      unbroken = λ e. by_end true (λ x. lost_from x now ≡ []) (ap (λ (r : Option (ℕ × ℕ)). lost_then (reach_of true r) b.going_lost units) e ∙ a.unbroken e true) (a.unbroken e false);
+      bound = by_end true (λ e. IfSome (reach_of e both.reach) (λ k. k ≤ length (side e new).state.outgoing))
+          (subst (λ (l : List ℕ). IfSome reach (λ k. k ≤ length l)) (sym out) (bound_out reach both.caller.state.outgoing (packets units) (a.bound true)))
+          (a.bound false);
+    }
+
+carries_caller : (terms : Terms) (n : ℕ) (both : Both) (b : Between) (next : State) (behind : List ℕ) (left taken : List Value) (put : List Message) → AreBetween terms both b → both.caller.state.ended ≡ None →
+    b.coming ≡ taken ++ left →
+    (d : Does terms true n b.caller b.called next (b.going ++ b.going_lost) (b.coming ++ b.coming_lost) (left ++ b.coming_lost) taken put) →
+    Carries terms true n both (becomes true next behind both) b (now_caller both b next d.steps.units left) taken put
+carries_caller terms n both b next behind left taken put a alive cut d =
+    let st = d.steps in
+    let c = connection_in (place_at n b.caller) in
+    let e = connection_in (place_at n next) in
+    let o = connection_in (place_at n b.called) in
+    let going = going_then (reach_of true both.reach) b.going st.units in
+    let was = cut_alive (is_some both.reach) both.caller.state.ended alive in
+    let is = cut_alive (is_some both.reach) next.ended st.lasts in
+    let p = out_part true both.reach o c e n b.going b.going_lost st.units st.stays st.lost put (λ none. a.unbroken none true) st.before st.after in
+    record {
+      arrived = st.arrived;
+      stays = p.stays;
+      gone = p.gone;
+      told = st.told;
+      came = came_part n c e o (is_cut false both) b.coming taken left st.arrived cut st.all_for st.brings.more;
+      before = subst (λ (t : Bool). AreLike o (sum_of o n b.going t c) (p.stays ++ p.gone)) (sym was) p.before;
+      after = subst (λ (t : Bool). AreLike o (sum_of o n going t e) (p.stays ++ put_in both put)) (sym is)
+          (subst (λ (l : List Message). AreLike o (sum_of o n going (is_some both.reach) e) (p.stays ++ l)) (put_is both put both.reach refl) p.after);
+      brings = st.brings;
+      others = λ q apart. by_end true (λ x. under_way x q both b ≡ under_way x q (becomes true next behind both) (now_caller both b next st.units left))
+          (same_sum (connection_in (place_at q b.called)) (connection_in (place_at q b.called)) (connection_in (place_at q b.caller)) (connection_in (place_at q next)) q b.going going
+          (is_cut true both) (is_some both.reach || is_some next.ended) refl (other_out true both.reach q n b.going st.units apart st.written_for) (was ∙ sym is) (ap connection_in (sym (st.others_stay q apart))))
+          (same_sum (connection_in (place_at q b.caller)) (connection_in (place_at q next)) (connection_in (place_at q b.called)) (connection_in (place_at q b.called)) q b.coming left
+          (is_cut false both) (is_cut false both) (ap connection_in (sym (st.others_stay q apart))) (other_in q n b.coming taken left apart cut st.all_for) refl refl);
+      other_places = st.others_stay;
+      given = st.given;
+      class = st.class;
+      local = st.local;
+      keeps = λ e. p.none (st.keeps e);
+      there = refl;
+      cut = cut;
+      lost_still = refl;
+    }
+
+pub acted_caller : (terms : Terms) (n : ℕ) (both : Both) (b : Between) (next : State) (behind : List ℕ) (left taken : List Value) (put : List Message) → AreBetween terms both b → both.caller.state.ended ≡ None →
+    IsOnTheWay behind (arriving false both) left b.coming_lost → b.coming ≡ taken ++ left →
+    Does terms true n b.caller b.called next (b.going ++ b.going_lost) (b.coming ++ b.coming_lost) (left ++ b.coming_lost) taken put →
+    Acted terms true n both (becomes true next behind both) b taken put
+acted_caller terms n both b next behind left taken put a alive way cut d = record {
+  now = now_caller both b next d.steps.units left;
+  between = stands_caller terms n both b next behind left taken put a alive way d;
+  carries = carries_caller terms n both b next behind left taken put a alive cut d;
+  lasts = d.steps.lasts;
+}
+
+-- ---- the called acts
+
+abbrev now_called : Both → Between → State → List Value → List Value → Between
+now_called both b next units left = record b {
+  called = next;
+  coming = going_then (reach_of false both.reach) b.coming units;
+  coming_lost = lost_then (reach_of false both.reach) b.coming_lost units;
+  going = left;
+}
+
+stands_called : (terms : Terms) (n : ℕ) (both : Both) (b : Between) (next : State) (behind : List ℕ) (left taken : List Value) (put : List Message) → AreBetween terms both b → both.called.state.ended ≡ None →
+    IsOnTheWay behind (arriving true both) left b.going_lost →
+    (d : Does terms false n b.called b.caller next (b.coming ++ b.coming_lost) (b.going ++ b.going_lost) (left ++ b.going_lost) taken put) →
+    AreBetween terms (becomes false next behind both) (now_called both b next d.steps.units left)
+stands_called terms n both b next behind left taken put a alive way d =
+    let units = d.steps.units in
+    let reach = reach_of false both.reach in
+    let none : reach ≡ None → b.coming_lost ≡ [] = λ e. a.unbroken (unreached false both.reach e) false in
+    let new = becomes false next behind both in
+    let now = now_called both b next units left in
+    let same = a.lives false alive in
+    let out : next.outgoing ≡ both.called.state.outgoing ++ packets units = d.steps.outgoing ∙ ap (λ (s : State). s.outgoing ++ packets units) (sym same) in
+    record {
+      lives = by_end false (λ e. (side e new).state.ended ≡ None → (side e new).state ≡ last_of e now) (λ _. refl) (λ h. a.lives true h);
+      joined = subst (λ (l : List Value). JoinedAt false terms next b.caller l (left ++ b.going_lost)) (all_then reach b.coming b.coming_lost units none) d.joined;
+      comes = by_end false (λ e. (side (not e) new).state.ended ≡ None → IsOnTheWay (side (not e) new).held (arriving e new) (units_from e now) (lost_from e now))
+          (λ h. subst (λ (l : List ℕ). IsOnTheWay both.caller.held (within_reach reach l) now.coming now.coming_lost) (sym out)
+          (way_out reach both.caller.held both.called.state.outgoing b.coming b.coming_lost units none (a.bound false) (a.comes false h) d.steps.sendable))
+          (λ h. way);
+      unbroken = λ e. by_end false (λ x. lost_from x now ≡ []) (ap (λ (r : Option (ℕ × ℕ)). lost_then (reach_of false r) b.coming_lost units) e ∙ a.unbroken e false) (a.unbroken e true);
+      bound = by_end false (λ e. IfSome (reach_of e both.reach) (λ k. k ≤ length (side e new).state.outgoing))
+          (subst (λ (l : List ℕ). IfSome reach (λ k. k ≤ length l)) (sym out) (bound_out reach both.called.state.outgoing (packets units) (a.bound false)))
+          (a.bound true);
+    }
+
+carries_called : (terms : Terms) (n : ℕ) (both : Both) (b : Between) (next : State) (behind : List ℕ) (left taken : List Value) (put : List Message) → AreBetween terms both b → both.called.state.ended ≡ None →
+    b.going ≡ taken ++ left →
+    (d : Does terms false n b.called b.caller next (b.coming ++ b.coming_lost) (b.going ++ b.going_lost) (left ++ b.going_lost) taken put) →
+    Carries terms false n both (becomes false next behind both) b (now_called both b next d.steps.units left) taken put
+carries_called terms n both b next behind left taken put a alive cut d =
+    let st = d.steps in
+    let c = connection_in (place_at n b.called) in
+    let e = connection_in (place_at n next) in
+    let o = connection_in (place_at n b.caller) in
+    let coming = going_then (reach_of false both.reach) b.coming st.units in
+    let was = cut_alive (is_some both.reach) both.called.state.ended alive in
+    let is = cut_alive (is_some both.reach) next.ended st.lasts in
+    let p = out_part false both.reach o c e n b.coming b.coming_lost st.units st.stays st.lost put (λ none. a.unbroken none false) st.before st.after in
+    record {
+      arrived = st.arrived;
+      stays = p.stays;
+      gone = p.gone;
+      told = st.told;
+      came = came_part n c e o (is_cut true both) b.going taken left st.arrived cut st.all_for st.brings.more;
+      before = subst (λ (t : Bool). AreLike o (sum_of o n b.coming t c) (p.stays ++ p.gone)) (sym was) p.before;
+      after = subst (λ (t : Bool). AreLike o (sum_of o n coming t e) (p.stays ++ put_in both put)) (sym is)
+          (subst (λ (l : List Message). AreLike o (sum_of o n coming (is_some both.reach) e) (p.stays ++ l)) (put_is both put both.reach refl) p.after);
+      brings = st.brings;
+      others = λ q apart. by_end false (λ x. under_way x q both b ≡ under_way x q (becomes false next behind both) (now_called both b next st.units left))
+          (same_sum (connection_in (place_at q b.caller)) (connection_in (place_at q b.caller)) (connection_in (place_at q b.called)) (connection_in (place_at q next)) q b.coming coming
+          (is_cut false both) (is_some both.reach || is_some next.ended) refl (other_out false both.reach q n b.coming st.units apart st.written_for) (was ∙ sym is) (ap connection_in (sym (st.others_stay q apart))))
+          (same_sum (connection_in (place_at q b.called)) (connection_in (place_at q next)) (connection_in (place_at q b.caller)) (connection_in (place_at q b.caller)) q b.going left
+          (is_cut true both) (is_cut true both) (ap connection_in (sym (st.others_stay q apart))) (other_in q n b.going taken left apart cut st.all_for) refl refl);
+      other_places = st.others_stay;
+      given = st.given;
+      class = st.class;
+      local = st.local;
+      keeps = λ e. p.none (st.keeps e);
+      there = refl;
+      cut = cut;
+      lost_still = refl;
+    }
+
+pub acted_called : (terms : Terms) (n : ℕ) (both : Both) (b : Between) (next : State) (behind : List ℕ) (left taken : List Value) (put : List Message) → AreBetween terms both b → both.called.state.ended ≡ None →
+    IsOnTheWay behind (arriving true both) left b.going_lost → b.going ≡ taken ++ left →
+    Does terms false n b.called b.caller next (b.coming ++ b.coming_lost) (b.going ++ b.going_lost) (left ++ b.going_lost) taken put →
+    Acted terms false n both (becomes false next behind both) b taken put
+acted_called terms n both b next behind left taken put a alive way cut d = record {
+  now = now_called both b next d.steps.units left;
+  between = stands_called terms n both b next behind left taken put a alive way d;
+  carries = carries_called terms n both b next behind left taken put a alive cut d;
+  lasts = d.steps.lasts;
+}

@@ -1,0 +1,469 @@
+-- What becomes of two carriers: packets are taken, octets handed over, an end comes, and the byte
+-- connection breaks.
+use Rattle.std.proofs.Common.{◌≡◌, ℕ, ◌+◌, ◌<◌, ◌≤◌, ◌||◌, Bool, true, false, not, List, [], ◌∷◌, ◌++◌, length, take, drop, Option, Some, None, is_some, IfSome, refl, sym, ap, subst, ◌∙◌, append_assoc}
+use Rattle.std.proofs.lemmas.List.{append-nil}
+use Rattle.osi_tpkt.specs.Octets.{IsOctets}
+use Rattle.osi_tpkt.specs.Packet.{IsPacket, packet_of}
+use Rattle.osi_tpdu.specs.Value.{Value}
+use Rattle.osi_tpdu.specs.Writing.{written}
+use Rattle.osi_class.specs.Between.{IsShortTsdu}
+use Rattle.osi_class.specs.Link.{Standing}
+use Rattle.osi_carrier.specs.Calls.{may_connect, asks, sent, closed_with}
+use Rattle.osi_carrier.specs.Place.{place_at, connection_in}
+use Rattle.osi_carrier.specs.Happenings.{Happening}
+use Rattle.osi_carrier.specs.Packets.{after_packet}
+use Rattle.osi_carrier.specs.React.{react}
+use Rattle.osi_carrier.specs.Rows.{value_at}
+use Rattle.osi_carrier.specs.State.{Connection, linked, State, ends}
+use Rattle.osi_carrier.specs.declared.ends.EndReason.{EndReason}
+use Rattle.osi_carrier.specs.declared.ends.EndReason.TheVariants.{Closed}
+use Rattle.osi_carrier.proofs.Coming.{packet_reacts}
+use Rattle.osi_between.specs.Addresses.{reference_of, units_of}
+use Rattle.osi_between.specs.Between.{Both, side, reach_of, within_reach, arriving, Between, last_of, units_from, lost_from, IsOnTheWay, AreJoinedBy, AreBetween, is_cut, to_come, under_way, answers_in, Acted, becomes, Took, Same, reach_less, handed_over, still_to_tell, ended_at, broken_at, Loses, Lost}
+use Rattle.osi_between.specs.Course.{IsTsap}
+use Rattle.osi_between.specs.Messages.{Message, ask, message, bye, messages_after, begun_at}
+use Rattle.osi_between.specs.Terms.{Terms, by_two, by_zero, refusing}
+use Rattle.osi_between.proofs.Acting.{Does, by_end, acted_caller, acted_called}
+use Rattle.osi_between.proofs.Addressing.{units_join}
+use Rattle.osi_between.proofs.Linked.{with_queues}
+use Rattle.osi_between.proofs.MessageLaws.{messages_front}
+use Rattle.osi_between.proofs.OnTheWay.{less_by, way_over, bound_over, way_takes, way_unit, way_breaks}
+use Rattle.osi_between.proofs.Providing.{Provides, closes_two}
+use Rattle.osi_between.proofs.Refusals.{none_open}
+use Rattle.osi_between.proofs.ZeroLaws.{closes_zero}
+
+-- ---- reach
+
+less_own : (end : Bool) (k : ℕ) (reach : Option (ℕ × ℕ)) → less_by k (reach_of end reach) ≡ reach_of end (reach_less end k reach)
+less_own true k None = refl
+less_own false k None = refl
+less_own true k (Some r) = refl
+less_own false k (Some r) = refl
+
+less_other : (end : Bool) (k : ℕ) (reach : Option (ℕ × ℕ)) → reach_of (not end) reach ≡ reach_of (not end) (reach_less end k reach)
+less_other true k None = refl
+less_other false k None = refl
+less_other true k (Some r) = refl
+less_other false k (Some r) = refl
+
+less_none : (end : Bool) (k : ℕ) (reach : Option (ℕ × ℕ)) → reach_less end k reach ≡ None → reach ≡ None
+less_none end k None e = refl
+less_none true k (Some r) e = cc
+less_none false k (Some r) e = cc
+
+pub less_some : (end : Bool) (k : ℕ) (reach : Option (ℕ × ℕ)) → is_some reach ≡ is_some (reach_less end k reach)
+less_some true k None = refl
+less_some false k None = refl
+less_some true k (Some r) = refl
+less_some false k (Some r) = refl
+
+-- ---- messages
+
+abbrev sum_of : Option Connection → ℕ → List Value → Bool → Option Connection → List Message
+sum_of o n units cut c = messages_after (begun_at o) (units_of n units ++ to_come cut c)
+
+record Front (all first : List Message) : Type 0 where
+  gone : List Message
+  parts : all ≡ first ++ gone
+
+front_same : (all first : List Message) → all ≡ first → Front all first
+front_same all first e = record { gone = []; parts = e ∙ sym (append-nil first) }
+
+front_parts : (o : Option Connection) (n : ℕ) (units done left tail : List Value) → units ≡ done ++ left → Front (messages_after (begun_at o) (units_of n units ++ tail)) (messages_after (begun_at o) (units_of n done ++ []))
+front_parts o n units done left tail parts =
+    let us = units_of n done in
+    let vs = units_of n left ++ tail in
+    let f = messages_front us (begun_at o) vs in
+    record {
+      gone = f.0;
+      parts = ap (λ (l : List Value). messages_after (begun_at o) (l ++ tail)) (ap (units_of n) parts ∙ units_join n done left)
+          ∙ ap (messages_after (begun_at o)) (append_assoc us (units_of n left) tail) ∙ f.1
+          ∙ ap (λ (l : List Value). messages_after (begun_at o) l ++ f.0) (sym (append-nil us));
+    }
+
+or_true : (b : Bool) → true ≡ (b || true)
+or_true true = refl
+or_true false = refl
+
+-- what is still to be cut is lost
+front_cut : (o : Option Connection) (n : ℕ) (units : List Value) (cut after : Bool) (c : Option Connection) → true ≡ after → Front (sum_of o n units cut c) (sum_of o n units after c)
+front_cut o n units cut after c e =
+    subst (λ (t : Bool). Front (sum_of o n units cut c) (sum_of o n units t c)) e
+    (front_parts o n units units [] (to_come cut c) (sym (append-nil units)))
+
+-- ---- the byte connection breaks
+
+record BreakOf (held outgoing : List ℕ) (k : ℕ) (ended : Option EndReason) (units : List Value) : Type 0 where
+  done : List Value
+  left : List Value
+  parts : units ≡ done ++ left
+  way : ended ≡ None → IsOnTheWay held (take k outgoing) done left
+
+break_by : (held outgoing : List ℕ) (k : ℕ) (ended : Option EndReason) (units lost : List Value) → lost ≡ [] → (ended ≡ None → IsOnTheWay held outgoing units lost) → BreakOf held outgoing k ended units
+break_by held outgoing k None units lost none h =
+    let c = way_breaks held outgoing k units lost none (h refl) in
+    record { done = c.done; left = c.left; parts = c.parts; way = λ e. c.way }
+break_by held outgoing k (Some reason) units lost none h = record { done = units; left = []; parts = sym (append-nil units); way = λ e. cc }
+
+unbroken_way : (held outgoing : List ℕ) (reach : Option ℕ) (units lost : List Value) → reach ≡ None → IsOnTheWay held (within_reach reach outgoing) units lost → IsOnTheWay held outgoing units lost
+unbroken_way held outgoing reach units lost e w = subst (λ (r : Option ℕ). IsOnTheWay held (within_reach r outgoing) units lost) e w
+
+all_parts : (units lost done left : List Value) → lost ≡ [] → units ≡ done ++ left → units ++ lost ≡ done ++ left
+all_parts units lost done left none parts = ap (λ (l : List Value). units ++ l) none ∙ append-nil units ∙ parts
+
+loses_of : (end : Bool) (n : ℕ) (old new : Both) (b c : Between) → Front (under_way end n old b) (under_way end n new c) → Loses end n old new b c
+loses_of end n old new b c f = record { gone = f.gone; all = f.parts }
+
+pub breaks : (terms : Terms) (both : Both) (b : Between) (k l : ℕ) → AreBetween terms both b → both.reach ≡ None → k ≤ length both.caller.state.outgoing → l ≤ length both.called.state.outgoing →
+    Lost terms both (broken_at k l both) b
+breaks terms both b k l a whole less less_called =
+    let out = break_by both.called.held both.caller.state.outgoing k both.called.state.ended b.going b.going_lost (a.unbroken whole true)
+    (λ h. unbroken_way both.called.held both.caller.state.outgoing (reach_of true both.reach) b.going b.going_lost (ap (reach_of true) whole) (a.comes true h)) in
+    let back = break_by both.caller.held both.called.state.outgoing l both.caller.state.ended b.coming b.coming_lost (a.unbroken whole false)
+    (λ h. unbroken_way both.caller.held both.called.state.outgoing (reach_of false both.reach) b.coming b.coming_lost (ap (reach_of false) whole) (a.comes false h)) in
+    let new = broken_at k l both in
+    let now : Between = record b { going = out.done; going_lost = out.left; coming = back.done; coming_lost = back.left } in
+    record {
+      now = now;
+      between = record {
+        lives = by_end true (λ e. (side e new).state.ended ≡ None → (side e new).state ≡ last_of e now) (λ h. a.lives true h) (λ h. a.lives false h);
+        joined = subst (λ (us : List Value). AreJoinedBy terms b.caller b.called us (back.done ++ back.left)) (all_parts b.going b.going_lost out.done out.left (a.unbroken whole true) out.parts)
+            (subst (λ (us : List Value). AreJoinedBy terms b.caller b.called (b.going ++ b.going_lost) us) (all_parts b.coming b.coming_lost back.done back.left (a.unbroken whole false) back.parts) a.joined);
+        comes = by_end true (λ e. (side (not e) new).state.ended ≡ None → IsOnTheWay (side (not e) new).held (arriving e new) (units_from e now) (lost_from e now)) (λ h. out.way h) (λ h. back.way h);
+        unbroken = λ e x. cc;
+        bound = by_end true (λ e. IfSome (reach_of e new.reach) (λ m. m ≤ length (side e new).state.outgoing)) less less_called;
+      };
+      units = λ e. by_end true (λ x. units_from x b ++ lost_from x b ≡ units_from x now ++ lost_from x now)
+          (all_parts b.going b.going_lost out.done out.left (a.unbroken whole true) out.parts) (all_parts b.coming b.coming_lost back.done back.left (a.unbroken whole false) back.parts) e;
+      loses = λ e n. by_end true (λ x. Loses x n both new b now)
+          (loses_of true n both new b now (front_parts (connection_in (place_at n b.called)) n b.going out.done out.left (to_come (is_cut true both) (connection_in (place_at n b.caller))) out.parts))
+          (loses_of false n both new b now (front_parts (connection_in (place_at n b.caller)) n b.coming back.done back.left (to_come (is_cut false both) (connection_in (place_at n b.called))) back.parts)) e;
+      cut = λ e h. refl;
+      whole = λ e n h. cc;
+      stays = λ e n. by_end true (λ x. place_at n (last_of x now) ≡ place_at n (last_of x b)) refl refl e;
+      given = λ e. by_end true (λ x. (last_of x now).given ≡ (last_of x b).given) refl refl e;
+      class = λ e. by_end true (λ x. (last_of x now).class ≡ (last_of x b).class) refl refl e;
+    }
+
+-- ---- at the caller
+
+-- the packet that is held first is taken
+took_caller : (terms : Terms) (p : Provides terms) (both : Both) (b : Between) (packet octets behind : List ℕ) → AreBetween terms both b → both.caller.state.ended ≡ None → IsPacket packet octets → both.caller.held ≡ octets ++ behind →
+    Took terms true packet behind both b
+took_caller terms p both b packet octets behind a alive is cut =
+    let w = way_takes packet octets behind both.caller.held (arriving false both) b.coming b.coming_lost is cut (a.comes false alive) in
+    let u = w.unit in
+    let put = answers_in terms (place_at (reference_of u) b.caller) u in
+    let d = p.takes_one true b.caller b.called (b.going ++ b.going_lost) (b.coming ++ b.coming_lost) (w.left ++ b.coming_lost) u a.joined (ap (λ (l : List Value). l ++ b.coming_lost) w.parts) in
+    record {
+      unit = u;
+      is = w.is;
+      acts = ap (after_packet both.caller.state) w.is ∙ packet_reacts both.caller.state u w.sendable;
+      acted = subst (λ (s : State). Acted terms true (reference_of u) both (becomes true (react u s) behind both) b (u ∷ []) put) (sym (a.lives true alive))
+          (acted_caller terms (reference_of u) both b (react u b.caller) behind w.left (u ∷ []) put a alive w.way w.parts d);
+    }
+
+-- the unit that comes first is taken
+unit_caller : (terms : Terms) (p : Provides terms) (both : Both) (b : Between) (u : Value) (rest : List Value) (behind : List ℕ) → AreBetween terms both b → both.caller.state.ended ≡ None → b.coming ≡ u ∷ rest →
+    both.caller.held ≡ packet_of (written u) ++ behind →
+    Acted terms true (reference_of u) both (becomes true (react u both.caller.state) behind both) b (u ∷ []) (answers_in terms (place_at (reference_of u) b.caller) u)
+unit_caller terms p both b u rest behind a alive first cut =
+    let put = answers_in terms (place_at (reference_of u) b.caller) u in
+    let d = p.takes_one true b.caller b.called (b.going ++ b.going_lost) (b.coming ++ b.coming_lost) (rest ++ b.coming_lost) u a.joined (ap (λ (l : List Value). l ++ b.coming_lost) first) in
+    subst (λ (s : State). Acted terms true (reference_of u) both (becomes true (react u s) behind both) b (u ∷ []) put) (sym (a.lives true alive))
+    (acted_caller terms (reference_of u) both b (react u b.caller) behind rest (u ∷ []) put a alive (way_unit u rest behind both.caller.held (arriving false both) b.coming b.coming_lost first cut (a.comes false alive)) first d)
+
+-- a call
+call_caller : (terms : Terms) (n : ℕ) (both : Both) (b : Between) (next : State) (put : List Message) → AreBetween terms both b → both.caller.state.ended ≡ None →
+    Does terms true n b.caller b.called next (b.going ++ b.going_lost) (b.coming ++ b.coming_lost) (b.coming ++ b.coming_lost) [] put →
+    Acted terms true n both (becomes true next both.caller.held both) b [] put
+call_caller terms n both b next put a alive d = acted_caller terms n both b next both.caller.held b.coming [] put a alive (a.comes false alive) refl d
+
+sends_caller : (terms : Terms) (p : Provides terms) (both : Both) (b : Between) (n peer : ℕ) (link : Standing) (tsdu : List ℕ) → AreBetween terms both b → both.caller.state.ended ≡ None →
+    value_at n both.caller.state.live ≡ Some (linked peer link) → IsShortTsdu tsdu → IsOctets tsdu →
+    Acted terms true n both (becomes true (sent n tsdu both.caller.state) both.caller.held both) b [] (message tsdu ∷ [])
+sends_caller terms p both b n peer link tsdu a alive at short are =
+    let same = a.lives true alive in
+    subst (λ (s : State). Acted terms true n both (becomes true (sent n tsdu s) both.caller.held both) b [] (message tsdu ∷ [])) (sym same)
+    (call_caller terms n both b (sent n tsdu b.caller) (message tsdu ∷ []) a alive
+    (p.hands_in true b.caller b.called (b.going ++ b.going_lost) (b.coming ++ b.coming_lost) n peer link tsdu a.joined (ap (λ (s : State). value_at n s.live) (sym same) ∙ at) short are))
+
+closes_caller : (both : Both) (b : Between) (n peer : ℕ) (link : Standing) (reason : ℕ) → AreBetween by_two both b → both.caller.state.ended ≡ None →
+    value_at n both.caller.state.live ≡ Some (linked peer link) → reason < 256 →
+    Acted by_two true n both (becomes true (closed_with n reason both.caller.state) both.caller.held both) b [] (bye reason ∷ [])
+closes_caller both b n peer link reason a alive at small =
+    let same = a.lives true alive in
+    subst (λ (s : State). Acted by_two true n both (becomes true (closed_with n reason s) both.caller.held both) b [] (bye reason ∷ [])) (sym same)
+    (call_caller by_two n both b (closed_with n reason b.caller) (bye reason ∷ []) a alive
+    (closes_two true b.caller b.called (b.going ++ b.going_lost) (b.coming ++ b.coming_lost) n peer link reason a.joined (ap (λ (s : State). value_at n s.live) (sym same) ∙ at) small))
+
+-- octets are handed over
+over_caller : (terms : Terms) (p : Provides terms) (both : Both) (b : Between) (k : ℕ) → AreBetween terms both b → k ≤ length (arriving true both) → Same terms both (handed_over true k both) b
+over_caller terms p both b k a less =
+    let new = handed_over true k both in
+    let rest = drop k both.caller.state.outgoing in
+    let now : Between = record b { caller = with_queues rest b.caller.events b.caller } in
+    let some = less_some true k both.reach in
+    record {
+      now = now;
+      between = record {
+        lives = by_end true (λ e. (side e new).state.ended ≡ None → (side e new).state ≡ last_of e now) (λ h. ap (λ (s : State). record s { outgoing = rest }) (a.lives true h)) (λ h. a.lives false h);
+        joined = p.queued true b.caller b.called rest b.caller.events (b.going ++ b.going_lost) (b.coming ++ b.coming_lost) a.joined;
+        comes = by_end true (λ e. (side (not e) new).state.ended ≡ None → IsOnTheWay (side (not e) new).held (arriving e new) (units_from e now) (lost_from e now))
+            (λ h. subst (λ (r : Option ℕ). IsOnTheWay (both.called.held ++ take k both.caller.state.outgoing) (within_reach r rest) b.going b.going_lost) (less_own true k both.reach)
+            (way_over (reach_of true both.reach) k both.called.held both.caller.state.outgoing b.going b.going_lost less (a.bound true) (a.comes true h)))
+            (λ h. subst (λ (r : Option ℕ). IsOnTheWay both.caller.held (within_reach r both.called.state.outgoing) b.coming b.coming_lost) (less_other true k both.reach) (a.comes false h));
+        unbroken = λ e x. by_end true (λ y. lost_from y now ≡ []) (a.unbroken (less_none true k both.reach e) true) (a.unbroken (less_none true k both.reach e) false) x;
+        bound = by_end true (λ e. IfSome (reach_of e new.reach) (λ m. m ≤ length (side e new).state.outgoing))
+            (subst (λ (r : Option ℕ). IfSome r (λ m. m ≤ length rest)) (less_own true k both.reach) (bound_over (reach_of true both.reach) k both.caller.state.outgoing (a.bound true)))
+            (subst (λ (r : Option ℕ). IfSome r (λ m. m ≤ length both.called.state.outgoing)) (less_other true k both.reach) (a.bound false));
+      };
+      units = λ e. by_end true (λ x. units_from x now ≡ units_from x b) refl refl e;
+      lost = λ e. by_end true (λ x. lost_from x now ≡ lost_from x b) refl refl e;
+      under = λ e n. by_end true (λ x. under_way x n both b ≡ under_way x n new now)
+          (ap (λ (t : Bool). sum_of (connection_in (place_at n b.called)) n b.going (t || is_some both.caller.state.ended) (connection_in (place_at n b.caller))) some)
+          (ap (λ (t : Bool). sum_of (connection_in (place_at n b.caller)) n b.coming (t || is_some both.called.state.ended) (connection_in (place_at n b.called))) some) e;
+      stays = λ e n. by_end true (λ x. place_at n (last_of x now) ≡ place_at n (last_of x b)) refl refl e;
+      given = λ e. by_end true (λ x. (last_of x now).given ≡ (last_of x b).given) refl refl e;
+      class = λ e. by_end true (λ x. (last_of x now).class ≡ (last_of x b).class) refl refl e;
+    }
+
+-- events are told
+tells_caller : (terms : Terms) (p : Provides terms) (both : Both) (b : Between) (events : List Happening) → AreBetween terms both b → Same terms both (still_to_tell true events both) b
+tells_caller terms p both b events a =
+    let new = still_to_tell true events both in
+    let now : Between = record b { caller = with_queues b.caller.outgoing events b.caller } in
+    record {
+      now = now;
+      between = record {
+        lives = by_end true (λ e. (side e new).state.ended ≡ None → (side e new).state ≡ last_of e now) (λ h. ap (λ (s : State). record s { events = events }) (a.lives true h)) (λ h. a.lives false h);
+        joined = p.queued true b.caller b.called b.caller.outgoing events (b.going ++ b.going_lost) (b.coming ++ b.coming_lost) a.joined;
+        comes = by_end true (λ e. (side (not e) new).state.ended ≡ None → IsOnTheWay (side (not e) new).held (arriving e new) (units_from e now) (lost_from e now)) (λ h. a.comes true h) (λ h. a.comes false h);
+        unbroken = λ e x. by_end true (λ y. lost_from y now ≡ []) (a.unbroken e true) (a.unbroken e false) x;
+        bound = by_end true (λ e. IfSome (reach_of e new.reach) (λ m. m ≤ length (side e new).state.outgoing)) (a.bound true) (a.bound false);
+      };
+      units = λ e. by_end true (λ x. units_from x now ≡ units_from x b) refl refl e;
+      lost = λ e. by_end true (λ x. lost_from x now ≡ lost_from x b) refl refl e;
+      under = λ e n. by_end true (λ x. under_way x n both b ≡ under_way x n new now) refl refl e;
+      stays = λ e n. by_end true (λ x. place_at n (last_of x now) ≡ place_at n (last_of x b)) refl refl e;
+      given = λ e. by_end true (λ x. (last_of x now).given ≡ (last_of x b).given) refl refl e;
+      class = λ e. by_end true (λ x. (last_of x now).class ≡ (last_of x b).class) refl refl e;
+    }
+
+-- it ends
+ends_caller : (terms : Terms) (both : Both) (b : Between) (reason : EndReason) → AreBetween terms both b → Lost terms both (ended_at true reason both) b
+ends_caller terms both b reason a =
+    let new = ended_at true reason both in
+    record {
+      now = b;
+      between = record {
+        lives = by_end true (λ e. (side e new).state.ended ≡ None → (side e new).state ≡ last_of e b) (λ h. cc) (λ h. a.lives false h);
+        joined = a.joined;
+        comes = by_end true (λ e. (side (not e) new).state.ended ≡ None → IsOnTheWay (side (not e) new).held (arriving e new) (units_from e b) (lost_from e b)) (λ h. a.comes true h) (λ h. cc);
+        unbroken = a.unbroken;
+        bound = by_end true (λ e. IfSome (reach_of e new.reach) (λ m. m ≤ length (side e new).state.outgoing)) (a.bound true) (a.bound false);
+      };
+      units = λ e. refl;
+      loses = λ e n. by_end true (λ x. Loses x n both new b b)
+          (loses_of true n both new b b (front_cut (connection_in (place_at n b.called)) n b.going (is_cut true both) (is_some both.reach || true) (connection_in (place_at n b.caller)) (or_true (is_some both.reach))))
+          (loses_of false n both new b b (front_same (under_way false n both b) (under_way false n new b) refl)) e;
+      cut = λ e. by_end true (λ x. is_cut x both ≡ true → is_cut x new ≡ true) (λ h. sym (or_true (is_some both.reach))) (λ h. h) e;
+      whole = λ e n. by_end true (λ x. is_cut x new ≡ false → under_way x n both b ≡ under_way x n new b) (λ h. (let no : true ≡ false = or_true (is_some both.reach) ∙ h in cc)) (λ h. refl) e;
+      stays = λ e n. refl;
+      given = λ e. refl;
+      class = λ e. refl;
+    }
+
+-- ---- at the called
+
+-- the packet that is held first is taken
+took_called : (terms : Terms) (p : Provides terms) (both : Both) (b : Between) (packet octets behind : List ℕ) → AreBetween terms both b → both.called.state.ended ≡ None → IsPacket packet octets → both.called.held ≡ octets ++ behind →
+    Took terms false packet behind both b
+took_called terms p both b packet octets behind a alive is cut =
+    let w = way_takes packet octets behind both.called.held (arriving true both) b.going b.going_lost is cut (a.comes true alive) in
+    let u = w.unit in
+    let put = answers_in terms (place_at (reference_of u) b.called) u in
+    let d = p.takes_one false b.called b.caller (b.coming ++ b.coming_lost) (b.going ++ b.going_lost) (w.left ++ b.going_lost) u a.joined (ap (λ (l : List Value). l ++ b.going_lost) w.parts) in
+    record {
+      unit = u;
+      is = w.is;
+      acts = ap (after_packet both.called.state) w.is ∙ packet_reacts both.called.state u w.sendable;
+      acted = subst (λ (s : State). Acted terms false (reference_of u) both (becomes false (react u s) behind both) b (u ∷ []) put) (sym (a.lives false alive))
+          (acted_called terms (reference_of u) both b (react u b.called) behind w.left (u ∷ []) put a alive w.way w.parts d);
+    }
+
+-- the unit that comes first is taken
+unit_called : (terms : Terms) (p : Provides terms) (both : Both) (b : Between) (u : Value) (rest : List Value) (behind : List ℕ) → AreBetween terms both b → both.called.state.ended ≡ None → b.going ≡ u ∷ rest →
+    both.called.held ≡ packet_of (written u) ++ behind →
+    Acted terms false (reference_of u) both (becomes false (react u both.called.state) behind both) b (u ∷ []) (answers_in terms (place_at (reference_of u) b.called) u)
+unit_called terms p both b u rest behind a alive first cut =
+    let put = answers_in terms (place_at (reference_of u) b.called) u in
+    let d = p.takes_one false b.called b.caller (b.coming ++ b.coming_lost) (b.going ++ b.going_lost) (rest ++ b.going_lost) u a.joined (ap (λ (l : List Value). l ++ b.going_lost) first) in
+    subst (λ (s : State). Acted terms false (reference_of u) both (becomes false (react u s) behind both) b (u ∷ []) put) (sym (a.lives false alive))
+    (acted_called terms (reference_of u) both b (react u b.called) behind rest (u ∷ []) put a alive (way_unit u rest behind both.called.held (arriving true both) b.going b.going_lost first cut (a.comes true alive)) first d)
+
+-- a call
+call_called : (terms : Terms) (n : ℕ) (both : Both) (b : Between) (next : State) (put : List Message) → AreBetween terms both b → both.called.state.ended ≡ None →
+    Does terms false n b.called b.caller next (b.coming ++ b.coming_lost) (b.going ++ b.going_lost) (b.going ++ b.going_lost) [] put →
+    Acted terms false n both (becomes false next both.called.held both) b [] put
+call_called terms n both b next put a alive d = acted_called terms n both b next both.called.held b.going [] put a alive (a.comes true alive) refl d
+
+sends_called : (terms : Terms) (p : Provides terms) (both : Both) (b : Between) (n peer : ℕ) (link : Standing) (tsdu : List ℕ) → AreBetween terms both b → both.called.state.ended ≡ None →
+    value_at n both.called.state.live ≡ Some (linked peer link) → IsShortTsdu tsdu → IsOctets tsdu →
+    Acted terms false n both (becomes false (sent n tsdu both.called.state) both.called.held both) b [] (message tsdu ∷ [])
+sends_called terms p both b n peer link tsdu a alive at short are =
+    let same = a.lives false alive in
+    subst (λ (s : State). Acted terms false n both (becomes false (sent n tsdu s) both.called.held both) b [] (message tsdu ∷ [])) (sym same)
+    (call_called terms n both b (sent n tsdu b.called) (message tsdu ∷ []) a alive
+    (p.hands_in false b.called b.caller (b.coming ++ b.coming_lost) (b.going ++ b.going_lost) n peer link tsdu a.joined (ap (λ (s : State). value_at n s.live) (sym same) ∙ at) short are))
+
+closes_called : (both : Both) (b : Between) (n peer : ℕ) (link : Standing) (reason : ℕ) → AreBetween by_two both b → both.called.state.ended ≡ None →
+    value_at n both.called.state.live ≡ Some (linked peer link) → reason < 256 →
+    Acted by_two false n both (becomes false (closed_with n reason both.called.state) both.called.held both) b [] (bye reason ∷ [])
+closes_called both b n peer link reason a alive at small =
+    let same = a.lives false alive in
+    subst (λ (s : State). Acted by_two false n both (becomes false (closed_with n reason s) both.called.held both) b [] (bye reason ∷ [])) (sym same)
+    (call_called by_two n both b (closed_with n reason b.called) (bye reason ∷ []) a alive
+    (closes_two false b.called b.caller (b.coming ++ b.coming_lost) (b.going ++ b.going_lost) n peer link reason a.joined (ap (λ (s : State). value_at n s.live) (sym same) ∙ at) small))
+
+-- octets are handed over
+over_called : (terms : Terms) (p : Provides terms) (both : Both) (b : Between) (k : ℕ) → AreBetween terms both b → k ≤ length (arriving false both) → Same terms both (handed_over false k both) b
+over_called terms p both b k a less =
+    let new = handed_over false k both in
+    let rest = drop k both.called.state.outgoing in
+    let now : Between = record b { called = with_queues rest b.called.events b.called } in
+    let some = less_some false k both.reach in
+    record {
+      now = now;
+      between = record {
+        lives = by_end false (λ e. (side e new).state.ended ≡ None → (side e new).state ≡ last_of e now) (λ h. ap (λ (s : State). record s { outgoing = rest }) (a.lives false h)) (λ h. a.lives true h);
+        joined = p.queued false b.called b.caller rest b.called.events (b.coming ++ b.coming_lost) (b.going ++ b.going_lost) a.joined;
+        comes = by_end false (λ e. (side (not e) new).state.ended ≡ None → IsOnTheWay (side (not e) new).held (arriving e new) (units_from e now) (lost_from e now))
+            (λ h. subst (λ (r : Option ℕ). IsOnTheWay (both.caller.held ++ take k both.called.state.outgoing) (within_reach r rest) b.coming b.coming_lost) (less_own false k both.reach)
+            (way_over (reach_of false both.reach) k both.caller.held both.called.state.outgoing b.coming b.coming_lost less (a.bound false) (a.comes false h)))
+            (λ h. subst (λ (r : Option ℕ). IsOnTheWay both.called.held (within_reach r both.caller.state.outgoing) b.going b.going_lost) (less_other false k both.reach) (a.comes true h));
+        unbroken = λ e x. by_end false (λ y. lost_from y now ≡ []) (a.unbroken (less_none false k both.reach e) false) (a.unbroken (less_none false k both.reach e) true) x;
+        bound = by_end false (λ e. IfSome (reach_of e new.reach) (λ m. m ≤ length (side e new).state.outgoing))
+            (subst (λ (r : Option ℕ). IfSome r (λ m. m ≤ length rest)) (less_own false k both.reach) (bound_over (reach_of false both.reach) k both.called.state.outgoing (a.bound false)))
+            (subst (λ (r : Option ℕ). IfSome r (λ m. m ≤ length both.caller.state.outgoing)) (less_other false k both.reach) (a.bound true));
+      };
+      units = λ e. by_end true (λ x. units_from x now ≡ units_from x b) refl refl e;
+      lost = λ e. by_end true (λ x. lost_from x now ≡ lost_from x b) refl refl e;
+      under = λ e n. by_end false (λ x. under_way x n both b ≡ under_way x n new now)
+          (ap (λ (t : Bool). sum_of (connection_in (place_at n b.caller)) n b.coming (t || is_some both.called.state.ended) (connection_in (place_at n b.called))) some)
+          (ap (λ (t : Bool). sum_of (connection_in (place_at n b.called)) n b.going (t || is_some both.caller.state.ended) (connection_in (place_at n b.caller))) some) e;
+      stays = λ e n. by_end false (λ x. place_at n (last_of x now) ≡ place_at n (last_of x b)) refl refl e;
+      given = λ e. by_end false (λ x. (last_of x now).given ≡ (last_of x b).given) refl refl e;
+      class = λ e. by_end false (λ x. (last_of x now).class ≡ (last_of x b).class) refl refl e;
+    }
+
+-- events are told
+tells_called : (terms : Terms) (p : Provides terms) (both : Both) (b : Between) (events : List Happening) → AreBetween terms both b → Same terms both (still_to_tell false events both) b
+tells_called terms p both b events a =
+    let new = still_to_tell false events both in
+    let now : Between = record b { called = with_queues b.called.outgoing events b.called } in
+    record {
+      now = now;
+      between = record {
+        lives = by_end false (λ e. (side e new).state.ended ≡ None → (side e new).state ≡ last_of e now) (λ h. ap (λ (s : State). record s { events = events }) (a.lives false h)) (λ h. a.lives true h);
+        joined = p.queued false b.called b.caller b.called.outgoing events (b.coming ++ b.coming_lost) (b.going ++ b.going_lost) a.joined;
+        comes = by_end false (λ e. (side (not e) new).state.ended ≡ None → IsOnTheWay (side (not e) new).held (arriving e new) (units_from e now) (lost_from e now)) (λ h. a.comes false h) (λ h. a.comes true h);
+        unbroken = λ e x. by_end false (λ y. lost_from y now ≡ []) (a.unbroken e false) (a.unbroken e true) x;
+        bound = by_end false (λ e. IfSome (reach_of e new.reach) (λ m. m ≤ length (side e new).state.outgoing)) (a.bound false) (a.bound true);
+      };
+      units = λ e. by_end true (λ x. units_from x now ≡ units_from x b) refl refl e;
+      lost = λ e. by_end true (λ x. lost_from x now ≡ lost_from x b) refl refl e;
+      under = λ e n. by_end false (λ x. under_way x n both b ≡ under_way x n new now) refl refl e;
+      stays = λ e n. by_end false (λ x. place_at n (last_of x now) ≡ place_at n (last_of x b)) refl refl e;
+      given = λ e. by_end false (λ x. (last_of x now).given ≡ (last_of x b).given) refl refl e;
+      class = λ e. by_end false (λ x. (last_of x now).class ≡ (last_of x b).class) refl refl e;
+    }
+
+-- it ends
+ends_called : (terms : Terms) (both : Both) (b : Between) (reason : EndReason) → AreBetween terms both b → Lost terms both (ended_at false reason both) b
+ends_called terms both b reason a =
+    let new = ended_at false reason both in
+    record {
+      now = b;
+      between = record {
+        lives = by_end false (λ e. (side e new).state.ended ≡ None → (side e new).state ≡ last_of e b) (λ h. cc) (λ h. a.lives true h);
+        joined = a.joined;
+        comes = by_end false (λ e. (side (not e) new).state.ended ≡ None → IsOnTheWay (side (not e) new).held (arriving e new) (units_from e b) (lost_from e b)) (λ h. a.comes false h) (λ h. cc);
+        unbroken = a.unbroken;
+        bound = by_end false (λ e. IfSome (reach_of e new.reach) (λ m. m ≤ length (side e new).state.outgoing)) (a.bound false) (a.bound true);
+      };
+      units = λ e. refl;
+      loses = λ e n. by_end false (λ x. Loses x n both new b b)
+          (loses_of false n both new b b (front_cut (connection_in (place_at n b.caller)) n b.coming (is_cut false both) (is_some both.reach || true) (connection_in (place_at n b.called)) (or_true (is_some both.reach))))
+          (loses_of true n both new b b (front_same (under_way true n both b) (under_way true n new b) refl)) e;
+      cut = λ e. by_end false (λ x. is_cut x both ≡ true → is_cut x new ≡ true) (λ h. sym (or_true (is_some both.reach))) (λ h. h) e;
+      whole = λ e n. by_end false (λ x. is_cut x new ≡ false → under_way x n both b ≡ under_way x n new b) (λ h. (let no : true ≡ false = or_true (is_some both.reach) ∙ h in cc)) (λ h. refl) e;
+      stays = λ e n. refl;
+      given = λ e. refl;
+      class = λ e. refl;
+    }
+
+-- ---- at either end
+
+pub took : (terms : Terms) (p : Provides terms) (end : Bool) (both : Both) (b : Between) (packet octets behind : List ℕ) → AreBetween terms both b → (side end both).state.ended ≡ None → IsPacket packet octets → (side end both).held ≡ octets ++ behind →
+    Took terms end packet behind both b
+took terms p true both b packet octets behind a alive is cut = took_caller terms p both b packet octets behind a alive is cut
+took terms p false both b packet octets behind a alive is cut = took_called terms p both b packet octets behind a alive is cut
+
+pub took_unit : (terms : Terms) (p : Provides terms) (end : Bool) (both : Both) (b : Between) (u : Value) (rest : List Value) (behind : List ℕ) → AreBetween terms both b → (side end both).state.ended ≡ None →
+    units_from (not end) b ≡ u ∷ rest → (side end both).held ≡ packet_of (written u) ++ behind →
+    Acted terms end (reference_of u) both (becomes end (react u (side end both).state) behind both) b (u ∷ []) (answers_in terms (place_at (reference_of u) (last_of end b)) u)
+took_unit terms p true both b u rest behind a alive first cut = unit_caller terms p both b u rest behind a alive first cut
+took_unit terms p false both b u rest behind a alive first cut = unit_called terms p both b u rest behind a alive first cut
+
+pub sends : (terms : Terms) (p : Provides terms) (end : Bool) (both : Both) (b : Between) (n peer : ℕ) (link : Standing) (tsdu : List ℕ) → AreBetween terms both b → (side end both).state.ended ≡ None →
+    value_at n (side end both).state.live ≡ Some (linked peer link) → IsShortTsdu tsdu → IsOctets tsdu →
+    Acted terms end n both (becomes end (sent n tsdu (side end both).state) (side end both).held both) b [] (message tsdu ∷ [])
+sends terms p true both b n peer link tsdu a alive at short are = sends_caller terms p both b n peer link tsdu a alive at short are
+sends terms p false both b n peer link tsdu a alive at short are = sends_called terms p both b n peer link tsdu a alive at short are
+
+pub closes : (end : Bool) (both : Both) (b : Between) (n peer : ℕ) (link : Standing) (reason : ℕ) → AreBetween by_two both b → (side end both).state.ended ≡ None →
+    value_at n (side end both).state.live ≡ Some (linked peer link) → reason < 256 →
+    Acted by_two end n both (becomes end (closed_with n reason (side end both).state) (side end both).held both) b [] (bye reason ∷ [])
+closes true both b n peer link reason a alive at small = closes_caller both b n peer link reason a alive at small
+closes false both b n peer link reason a alive at small = closes_called both b n peer link reason a alive at small
+
+pub connects : (terms : Terms) (p : Provides terms) (both : Both) (b : Between) (calling to : Option (List ℕ)) → AreBetween terms both b → both.caller.state.ended ≡ None →
+    may_connect both.caller.state ≡ None → IsTsap calling → IsTsap to →
+    Acted terms true (both.caller.state.given + 1) both (becomes true (asks calling to both.caller.state) both.caller.held both) b [] (ask ∷ [])
+connects terms p both b calling to a alive may fits fits_called =
+    let same = a.lives true alive in
+    subst (λ (s : State). Acted terms true (s.given + 1) both (becomes true (asks calling to s) both.caller.held both) b [] (ask ∷ [])) (sym same)
+    (call_caller terms (b.caller.given + 1) both b (asks calling to b.caller) (ask ∷ []) a alive
+    (p.connects b.caller b.called (b.going ++ b.going_lost) (b.coming ++ b.coming_lost) calling to a.joined (ap may_connect (sym same) ∙ may) fits fits_called))
+
+pub hands_over : (terms : Terms) (p : Provides terms) (end : Bool) (both : Both) (b : Between) (k : ℕ) → AreBetween terms both b → k ≤ length (arriving end both) → Same terms both (handed_over end k both) b
+hands_over terms p true both b k a less = over_caller terms p both b k a less
+hands_over terms p false both b k a less = over_called terms p both b k a less
+
+pub tells : (terms : Terms) (p : Provides terms) (end : Bool) (both : Both) (b : Between) (events : List Happening) → AreBetween terms both b → Same terms both (still_to_tell end events both) b
+tells terms p true both b events a = tells_caller terms p both b events a
+tells terms p false both b events a = tells_called terms p both b events a
+
+pub ends_at : (terms : Terms) (end : Bool) (both : Both) (b : Between) (reason : EndReason) → AreBetween terms both b → Lost terms both (ended_at end reason both) b
+ends_at terms true both b reason a = ends_caller terms both b reason a
+ends_at terms false both b reason a = ends_called terms both b reason a
+
+-- in class 0 a close ends the carrier
+pub closes_ends : (end : Bool) (both : Both) (b : Between) (n peer : ℕ) (link : Standing) (reason : ℕ) → AreBetween by_zero both b → (side end both).state.ended ≡ None →
+    value_at n (side end both).state.live ≡ Some (linked peer link) → closed_with n reason (side end both).state ≡ ends Closed (side end both).state
+closes_ends true both b n peer link reason a alive at =
+    let same = a.lives true alive in
+    subst (λ (s : State). closed_with n reason s ≡ ends Closed s) (sym same)
+    (closes_zero true b.caller b.called (b.going ++ b.going_lost) (b.coming ++ b.coming_lost) n peer link reason a.joined (ap (λ (s : State). value_at n s.live) (sym same) ∙ at))
+closes_ends false both b n peer link reason a alive at =
+    let same = a.lives false alive in
+    subst (λ (s : State). closed_with n reason s ≡ ends Closed s) (sym same)
+    (closes_zero false b.called b.caller (b.coming ++ b.coming_lost) (b.going ++ b.going_lost) n peer link reason a.joined (ap (λ (s : State). value_at n s.live) (sym same) ∙ at))
+
+-- where CRs are refused none is open
+pub no_open : (reason : ℕ) (end : Bool) (both : Both) (b : Between) (n peer : ℕ) (link : Standing) → AreBetween (refusing reason) both b → (side end both).state.ended ≡ None →
+    value_at n (side end both).state.live ≡ Some (linked peer link) → ⊥
+no_open reason true both b n peer link a alive at = none_open b.caller a.joined.stage n peer link a.joined.live (ap (λ (s : State). value_at n s.live) (sym (a.lives true alive)) ∙ at)
+no_open reason false both b n peer link a alive at =
+    let no : None ≡ Some (linked peer link) = sym (ap (value_at n) a.joined.live_called) ∙ ap (λ (s : State). value_at n s.live) (sym (a.lives false alive)) ∙ at in cc

@@ -1,0 +1,363 @@
+-- Two joined carriers stay joined where one of them acts.
+use Rattle.std.proofs.Common.{◌≡◌, ◌≢◌, ℕ, zero, suc, ◌+◌, ◌<◌, ◌≤◌, ◌==◌, Bool, true, false, List, [], ◌∷◌, ◌++◌, length, Option, Some, None, refl, sym, ap, subst, ◌∙◌, arith, length-append, nat_lt, if◌then◌else◌}
+use Rattle.std.specs.List.{AllByRecursion}
+use Rattle.std.proofs.lemmas.Bool.{eq-eqb, ne_eqb, ltb-true, ltb-false}
+use Rattle.std.proofs.lemmas.List.{append_cancel_left}
+use Rattle.osi_tpkt.specs.Octets.{IsOctets}
+use Rattle.osi_tpdu.specs.Value.{Value, Connect, request, confirm}
+use Rattle.osi_class.specs.Between.{IsShortTsdu}
+use Rattle.osi_class.specs.Link.{Standing}
+use Rattle.osi_class.specs.declared.terms.Local.{Local}
+use Rattle.osi_carrier.specs.References.{references}
+use Rattle.osi_carrier.specs.Calls.{sent, closed_with}
+use Rattle.osi_carrier.specs.Place.{Place, never, was_given, place_at}
+use Rattle.osi_carrier.specs.Orderly.{RiseFrom, IsOrderly}
+use Rattle.osi_carrier.specs.React.{react, is_of_peer, has_peer}
+use Rattle.osi_carrier.specs.Rows.{Rows, value_at}
+use Rattle.osi_carrier.specs.State.{Connection, asked, linked, closing, State}
+use Rattle.osi_carrier.proofs.Apart.{absent, beyond}
+use Rattle.osi_carrier.proofs.Effects.{orderly_unit, orderly_sent, orderly_closed}
+use Rattle.osi_carrier.proofs.Selecting.{has_room}
+use Rattle.osi_between.specs.Addresses.{reference_of, units_of, AreFor, requests, behind, live_after}
+use Rattle.osi_between.specs.Course.{Course, unasked, asking, accepting, withdrawing, met, answer_of, at_end, from_end, IsAskedBy, Holds, answers_at, CourseMoves}
+use Rattle.osi_between.specs.Joined.{StandsBetween, HasPlaces, AreJoined, ActsFor, CallerDid, CalledDid}
+use Rattle.osi_between.specs.Meeting.{Meeting, talking, left_here, left_there, left_both, waiting_here, waiting_there, parted, mirror, here, out}
+use Rattle.osi_between.specs.Messages.{Message, agree, message, bye}
+use Rattle.osi_between.proofs.Addressing.{first_of_all, requests_join, behind_join, places_join, places_rest, places_for}
+use Rattle.osi_between.proofs.Courses.{given_place, is_given, met_caller, met_called, answers_plain}
+use Rattle.osi_between.proofs.CourseOpening.{accepts_moves, accepted_sends, accepted_closes, confirm_moves, withdrawn_moves}
+use Rattle.osi_between.proofs.JoinedSteps.{all_stand, acts_for, stands_flip, stands_flip_back}
+use Rattle.osi_between.proofs.Meetings.{take_here, send_here, close_here, mirror_twice, mirror_stands}
+
+-- ---- units with references
+
+abbrev AreNamed : List Value → Type 0
+AreNamed units = AllByRecursion (λ unit. 0 < reference_of unit) units
+
+named_join : (us vs : List Value) → AreNamed us → AreNamed vs → AreNamed (us ++ vs)
+named_join [] vs a b = b
+named_join (u ∷ us) vs a b = (a.0, named_join us vs a.1 b)
+
+named_rest : (us vs : List Value) → AreNamed (us ++ vs) → AreNamed vs
+named_rest [] vs h = h
+named_rest (u ∷ us) vs h = named_rest us vs h.1
+
+named_for : (n : ℕ) (us : List Value) → 0 < n → AreFor n us → AreNamed us
+named_for n [] some h = tt
+named_for n (u ∷ us) some h = (subst (λ (m : ℕ). 0 < m) (sym h.0) some, named_for n us some h.1)
+
+length_behind : (g k : ℕ) → length (behind g k) ≡ k
+length_behind g zero = refl
+length_behind g (suc k) = let more = length_behind (g + 1) k in omega arith
+
+-- ---- the caller acts
+
+pub joined_caller : (s r t : State) (going coming rest taken : List Value) (put : List Message) (n count : ℕ) (some : 0 < n) (j : AreJoined s r going coming) (st : StandsBetween true n s r going coming) → coming ≡ taken ++ rest → AreFor n taken → IsOrderly t →
+    (mv : CourseMoves true n st.course s r t taken count put) → HasPlaces (live_after (references r.live) going) mv.units → AreJoined t r (going ++ mv.units) rest
+joined_caller s r t going coming rest taken put n count some j st cut all orderly mv fits =
+    let before = j.given in
+    let after = mv.given in
+    record {
+      is_caller = mv.acts.is_caller ∙ j.is_caller;
+      is_called = j.is_called;
+      lasts = mv.acts.ended ∙ j.lasts;
+      lasts_called = j.lasts_called;
+      orderly = orderly;
+      orderly_called = j.orderly_called;
+      supports = ap (λ (x : Local). x.class2) mv.acts.local ∙ j.supports;
+      supports_called = j.supports_called;
+      class = mv.acts.may j.class;
+      class_called = j.class_called;
+      named = named_join going mv.units j.named (named_for n mv.units some mv.acts.all_for);
+      named_back = named_rest taken rest (subst (λ (l : List Value). AreNamed l) cut j.named_back);
+      stands = all_stand true n count s r t going coming rest taken put j.stands st cut all mv;
+      ahead = j.ahead + count;
+      given = omega arith;
+      numbers = requests_join going mv.units ∙ ap (λ (l : List ℕ). l ++ requests mv.units) j.numbers
+          ∙ ap (λ (l : List ℕ). behind r.given j.ahead ++ l) (mv.numbers ∙ ap (λ (g : ℕ). behind g count) j.given) ∙ sym (behind_join r.given j.ahead count);
+      places = places_join (references r.live) going mv.units j.places fits;
+    }
+
+-- ---- the called end acts
+
+pub joined_called : (s r t : State) (going coming rest taken : List Value) (put : List Message) (n count : ℕ) (some : 0 < n) (j : AreJoined s r going coming) → going ≡ taken ++ rest → AreFor n taken → IsOrderly t →
+    (mv : CourseMoves false n (j.stands n some).course r s t taken count put) → AreJoined s t rest (coming ++ mv.units)
+joined_called s r t going coming rest taken put n count some j cut all orderly mv =
+    let before = j.given in
+    let after = mv.given in
+    let left = length (requests rest) in
+    let parts : behind r.given j.ahead ≡ behind r.given count ++ requests rest =
+    sym j.numbers ∙ ap requests cut ∙ requests_join taken rest ∙ ap (λ (l : List ℕ). l ++ requests rest) mv.numbers in
+    let sizes = sym (length_behind r.given j.ahead) ∙ ap length parts ∙ length-append (behind r.given count) (requests rest) in
+    let one = length_behind r.given count in
+    let total : j.ahead ≡ count + left = omega arith in
+    let more : behind (r.given + count) left ≡ requests rest =
+    append_cancel_left (behind r.given count) (behind (r.given + count) left) (requests rest)
+    (sym (behind_join r.given count left) ∙ ap (λ (k : ℕ). behind r.given k) (sym total) ∙ parts) in
+    record {
+      is_caller = j.is_caller;
+      is_called = mv.acts.is_caller ∙ j.is_called;
+      lasts = j.lasts;
+      lasts_called = mv.acts.ended ∙ j.lasts_called;
+      orderly = j.orderly;
+      orderly_called = orderly;
+      supports = j.supports;
+      supports_called = ap (λ (x : Local). x.class2) mv.acts.local ∙ j.supports_called;
+      class = j.class;
+      class_called = mv.acts.may j.class_called;
+      named = named_rest taken rest (subst (λ (l : List Value). AreNamed l) cut j.named);
+      named_back = named_join coming mv.units j.named_back (named_for n mv.units some mv.acts.all_for);
+      stands = λ q above. stands_flip_back q s t rest (coming ++ mv.units)
+          (all_stand false n count r s t coming going rest taken put (λ m up. stands_flip m s r going coming (j.stands m up)) (stands_flip n s r going coming (j.stands n some)) cut all mv q above);
+      ahead = left;
+      given = omega arith;
+      numbers = sym more ∙ ap (λ (g : ℕ). behind g left) (sym after);
+      places = subst (λ (l : List ℕ). HasPlaces l rest) (sym mv.places)
+          (places_rest (references r.live) taken rest (subst (λ (l : List Value). HasPlaces (references r.live) l) cut j.places));
+    }
+
+-- ---- the caller takes a unit
+
+caller_takes : (n : ℕ) (s r : State) (going coming : List Value) (g : Course) (u : Value) (more : List Value) → 0 < n → AreJoined s r going coming → place_at n s ≡ at_end true n g → Holds n s r g →
+    from_end false n r.local g ≡ u ∷ more → CourseMoves true n g s r (react u s) (u ∷ []) 0 (answers_at (at_end true n g) u)
+caller_takes n s r going coming unasked u more some j at h e = cc
+caller_takes n s r going coming (asking c) u more some j at h e = cc
+caller_takes n s r going coming (accepting c p) u more some j at h e =
+    let here = is_given n s (Some asked) at in
+    let same : confirm n (answer_of n r.local c) ≡ u = cc in
+    subst (λ (x : Value). CourseMoves true n (accepting c p) s r (react x s) (x ∷ []) 0 []) same
+    (confirm_moves n c p s r h j.lasts j.is_caller j.class j.supports here.within here.is)
+caller_takes n s r going coming (withdrawing c p reason) u more some j at h e =
+    let here = is_given n s (Some asked) at in
+    let same : confirm n (answer_of n r.local c) ≡ u = cc in
+    subst (λ (x : Value). CourseMoves true n (withdrawing c p reason) s r (react x s) (x ∷ []) 0 []) same
+    (withdrawn_moves n c p reason s r h j.lasts j.is_caller j.class j.supports here.within here.is)
+caller_takes n s r going coming (met m) u more some j at h e =
+    let place = is_given n s (here n m) at in
+    met_caller n m s r (react u s) (u ∷ []) (answers_at (was_given (here n m)) u) h place.within (answers_plain (here n m) u)
+    (take_here n s m u more some (let most = j.orderly.given in let le = place.within in omega arith) j.lasts h.class j.orderly place.is h.stands e)
+
+pub caller_takes_one : (s r : State) (going coming rest : List Value) (u : Value) → AreJoined s r going coming → coming ≡ u ∷ rest →
+    CallerDid (reference_of u) s r (react u s) going coming rest (answers_at (place_at (reference_of u) s) u)
+caller_takes_one s r going coming rest u j cut =
+    let n = reference_of u in
+    let some : 0 < n = (subst (λ (l : List Value). AreNamed l) cut j.named_back).0 in
+    let st = j.stands n some in
+    let head : from_end false n r.local st.course ≡ u ∷ units_of n rest = sym st.back ∙ ap (units_of n) cut ∙ first_of_all u rest in
+    let mv = caller_takes n s r going coming st.course u (units_of n rest) some j st.place st.holds head in
+    record {
+      behind = going ++ mv.units;
+      acts = subst (λ (p : Place). ActsFor n s r (react u s) going coming (going ++ mv.units) rest (answers_at p u)) (sym st.place)
+          (acts_for true n 0 s r (react u s) going coming rest (u ∷ []) (answers_at (at_end true n st.course) u) st cut (refl, tt) mv);
+      joined = joined_caller s r (react u s) going coming rest (u ∷ []) (answers_at (at_end true n st.course) u) n 0 some j st cut (refl, tt) (orderly_unit u s j.orderly) mv
+          (places_for (live_after (references r.live) going) mv.units mv.numbers);
+    }
+
+-- ---- the called end takes a unit
+
+-- no live connection has this number of the peer
+found : {X : Type 0} (m q : ℕ) (y : X) (rows : Rows X) (b : Bool) → (q == m) ≡ b → value_at m ((q, y) ∷ rows) ≡ (if b then Some y else value_at m rows)
+found {X} m q y rows b e = ap (λ (c : Bool). if◌then◌else◌ {A = Option X} c (Some y) (value_at m rows)) e
+
+no_peer : (n m : ℕ) (rows : Rows Connection) → RiseFrom m rows → ((q : ℕ) (x : Connection) → m < q → value_at q rows ≡ Some x → is_of_peer n x ≡ false) → has_peer n rows ≡ false
+no_peer n m [] rise h = refl
+no_peer n m ((r, x) ∷ rows) rise h =
+    let first : is_of_peer n x ≡ false = h r x rise.0 (found r r x rows true (eq-eqb r r refl)) in
+    let others : has_peer n rows ≡ false = no_peer n r rows rise.1
+    (λ q y above at. h q y (let low = rise.0 in omega arith) (found q r x rows false (ne_eqb r q (λ same. omega arith)) ∙ at)) in
+    rw first others
+
+-- a live connection was given
+given_live_by : (q : ℕ) (r : State) (x : Connection) (b : Bool) → nat_lt r.given q ≡ b → IsOrderly r → value_at q r.live ≡ Some x → place_at q r ≡ was_given (Some x)
+given_live_by q r x true e orderly at = let none = beyond q r.given r.live orderly.up_to (ltb-true r.given q e) in cc
+given_live_by q r x false e orderly at = given_place q r (ltb-false r.given q e) ∙ ap was_given at
+
+pub given_live : (q : ℕ) (r : State) (x : Connection) → IsOrderly r → value_at q r.live ≡ Some x → place_at q r ≡ was_given (Some x)
+given_live q r x orderly at = given_live_by q r x (nat_lt r.given q) refl orderly at
+
+own_here : (n q : ℕ) (x : Connection) (m : Meeting) → q ≢ n → Some x ≡ here q m → is_of_peer n x ≡ false
+own_here n q x (talking p) other e = let same : x ≡ linked q p.left = cc in ap (is_of_peer n) same ∙ ne_eqb q n other
+own_here n q x (left_here p us reason) other e = let same : x ≡ closing q = cc in ap (is_of_peer n) same ∙ ne_eqb q n other
+own_here n q x (left_there p us reason) other e = let same : x ≡ linked q p.left = cc in ap (is_of_peer n) same ∙ ne_eqb q n other
+own_here n q x (left_both us reason vs last) other e = let same : x ≡ closing q = cc in ap (is_of_peer n) same ∙ ne_eqb q n other
+own_here n q x (waiting_here us last) other e = let same : x ≡ closing q = cc in ap (is_of_peer n) same ∙ ne_eqb q n other
+own_here n q x (waiting_there us last) other e = cc
+own_here n q x parted other e = cc
+
+-- at the called end each connection has its own number
+own_number : (n q : ℕ) (x : Connection) (g : Course) → q ≢ n → was_given (Some x) ≡ at_end false q g → is_of_peer n x ≡ false
+own_number n q x unasked other e = cc
+own_number n q x (asking c) other e = cc
+own_number n q x (accepting c p) other e = let same : x ≡ linked q p.right = cc in ap (is_of_peer n) same ∙ ne_eqb q n other
+own_number n q x (withdrawing c p reason) other e = let same : x ≡ closing q = cc in ap (is_of_peer n) same ∙ ne_eqb q n other
+own_number n q x (met m) other e = own_here n q x (mirror m) other (let same : Some x ≡ here q (mirror m) = cc in same)
+
+-- the CR is for the next reference, and there is a place for it
+first_number : (g k n : ℕ) (more : List ℕ) → behind g k ≡ n ∷ more → (n ≡ g + 1) × (0 < k)
+first_number g zero n more e = cc
+first_number g (suc k) n more e = (let same : g + 1 ≡ n = cc in sym same, omega arith)
+
+references_length : (rows : Rows Connection) → length (references rows) ≡ length rows
+references_length [] = refl
+references_length (row ∷ rows) = let more = references_length rows in omega arith
+
+request_moves : (n : ℕ) (s r : State) (going coming rest : List Value) (c : Connect) → 0 < n → AreJoined s r going coming → place_at n r ≡ never → IsAskedBy n s.local c → going ≡ request c ∷ rest →
+    CourseMoves false n (asking c) r s (react (request c) r) (request c ∷ []) 1 (agree ∷ [])
+request_moves n s r going coming rest c some j at a cut =
+    let source : c.source ≡ n = ap (λ (x : Connect). x.source) a.is in
+    let first = first_number r.given j.ahead c.source (requests rest) (sym j.numbers ∙ ap requests cut) in
+    let next : n ≡ r.given + 1 = sym source ∙ first.0 in
+    let more = first.1 in
+    let total = j.given in
+    let most = j.orderly.given in
+    let few : length (references r.live) < 64 = (subst (λ (l : List Value). HasPlaces (references r.live) l) cut j.places).0 in
+    let size = references_length r.live in
+    let free : has_peer c.source r.live ≡ false =
+    no_peer c.source 0 r.live j.orderly_called.rise (λ q x above live.
+    let st = j.stands q above in
+    own_number c.source q x st.course (λ same. let there : place_at n r ≡ was_given (Some x) = subst (λ (m : ℕ). place_at m r ≡ was_given (Some x)) (same ∙ source) (given_live q r x j.orderly_called live) in cc)
+    (sym (given_live q r x j.orderly_called live) ∙ st.place_there)) in
+    accepts_moves n c s r next a j.orderly_called j.lasts_called j.is_called j.class_called free (has_room r (omega arith) (omega arith)) (omega arith) j.supports_called
+
+record CalledMoves (n : ℕ) (g : Course) (s r : State) (u : Value) : Type 0 where
+  count : ℕ
+  moves : CourseMoves false n g r s (react u r) (u ∷ []) count (answers_at (at_end false n g) u)
+
+called_takes : (n : ℕ) (s r : State) (going coming rest : List Value) (g : Course) (u : Value) (more : List Value) → 0 < n → AreJoined s r going coming → place_at n r ≡ at_end false n g → Holds n s r g →
+    going ≡ u ∷ rest → from_end true n r.local g ≡ u ∷ more → CalledMoves n g s r u
+called_takes n s r going coming rest unasked u more some j at h cut e = cc
+called_takes n s r going coming rest (accepting c p) u more some j at h cut e = cc
+called_takes n s r going coming rest (withdrawing c p reason) u more some j at h cut e = cc
+called_takes n s r going coming rest (asking c) u more some j at h cut e =
+    let same : request c ≡ u = cc in
+    record {
+      count = 1;
+      moves = subst (λ (x : Value). CourseMoves false n (asking c) r s (react x r) (x ∷ []) 1 (agree ∷ [])) same
+          (request_moves n s r going coming rest c some j at h (cut ∙ ap (λ (x : Value). x ∷ rest) (sym same)));
+    }
+called_takes n s r going coming rest (met m) u more some j at h cut e =
+    let place = is_given n r (here n (mirror m)) at in
+    record {
+      count = 0;
+      moves = met_called n m r s (react u r) (u ∷ []) (answers_at (was_given (here n (mirror m))) u) h place.within tt (answers_plain (here n (mirror m)) u)
+          (take_here n r (mirror m) u more some (let most = j.orderly_called.given in let le = place.within in omega arith) j.lasts_called h.class_called j.orderly_called place.is (mirror_stands m h.stands) (ap (out n) (mirror_twice m) ∙ e));
+    }
+
+pub called_takes_one : (s r : State) (going coming rest : List Value) (u : Value) → AreJoined s r going coming → going ≡ u ∷ rest →
+    CalledDid (reference_of u) s r (react u r) going coming rest (answers_at (place_at (reference_of u) r) u)
+called_takes_one s r going coming rest u j cut =
+    let n = reference_of u in
+    let some : 0 < n = (subst (λ (l : List Value). AreNamed l) cut j.named).0 in
+    let st = j.stands n some in
+    let head : from_end true n r.local st.course ≡ u ∷ units_of n rest = sym st.out ∙ ap (units_of n) cut ∙ first_of_all u rest in
+    let mv = called_takes n s r going coming rest st.course u (units_of n rest) some j st.place_there st.holds cut head in
+    record {
+      behind = coming ++ mv.moves.units;
+      acts = subst (λ (p : Place). ActsFor n r s (react u r) coming going (coming ++ mv.moves.units) rest (answers_at p u)) (sym st.place_there)
+          (acts_for false n mv.count r s (react u r) coming going rest (u ∷ []) (answers_at (at_end false n st.course) u) (stands_flip n s r going coming st) cut (refl, tt) mv.moves);
+      joined = joined_called s r (react u r) going coming rest (u ∷ []) (answers_at (at_end false n st.course) u) n mv.count some j cut (refl, tt) (orderly_unit u r j.orderly_called) mv.moves;
+    }
+
+-- ---- calls
+
+caller_sends_by : (n : ℕ) (s r : State) (g : Course) (link : Standing) (octets : List ℕ) → s.ended ≡ None → IsOrderly s → place_at n s ≡ at_end true n g → Holds n s r g → value_at n s.live ≡ Some (linked n link) →
+    n ≤ s.given → IsShortTsdu octets → IsOctets octets → CourseMoves true n g s r (sent n octets s) [] 0 (message octets ∷ [])
+caller_sends_by n s r unasked link octets quiet orderly at h live le short are = let e = given_place n s le ∙ ap was_given live in cc
+caller_sends_by n s r (asking c) link octets quiet orderly at h live le short are = let e = given_place n s le ∙ ap was_given live in cc
+caller_sends_by n s r (accepting c p) link octets quiet orderly at h live le short are = let e = given_place n s le ∙ ap was_given live in cc
+caller_sends_by n s r (withdrawing c p reason) link octets quiet orderly at h live le short are = let e = given_place n s le ∙ ap was_given live in cc
+caller_sends_by n s r (met m) link octets quiet orderly at h live le short are =
+    let place = is_given n s (here n m) at in
+    met_caller n m s r (sent n octets s) [] (message octets ∷ []) h le refl (send_here n s m link octets (let most = orderly.given in omega arith) quiet orderly place.is (sym place.is ∙ live) h.stands short are)
+
+caller_closes_by : (n : ℕ) (s r : State) (g : Course) (link : Standing) (reason : ℕ) → 0 < n → reason < 256 → s.ended ≡ None → IsOrderly s → place_at n s ≡ at_end true n g → Holds n s r g → value_at n s.live ≡ Some (linked n link) →
+    n ≤ s.given → CourseMoves true n g s r (closed_with n reason s) [] 0 (bye reason ∷ [])
+caller_closes_by n s r unasked link reason some small quiet orderly at h live le = let e = given_place n s le ∙ ap was_given live in cc
+caller_closes_by n s r (asking c) link reason some small quiet orderly at h live le = let e = given_place n s le ∙ ap was_given live in cc
+caller_closes_by n s r (accepting c p) link reason some small quiet orderly at h live le = let e = given_place n s le ∙ ap was_given live in cc
+caller_closes_by n s r (withdrawing c p last) link reason some small quiet orderly at h live le = let e = given_place n s le ∙ ap was_given live in cc
+caller_closes_by n s r (met m) link reason some small quiet orderly at h live le =
+    let place = is_given n s (here n m) at in
+    met_caller n m s r (closed_with n reason s) [] (bye reason ∷ []) h le refl (close_here n s m link reason some (let most = orderly.given in omega arith) small quiet h.class orderly place.is (sym place.is ∙ live) h.stands)
+
+called_sends_by : (n : ℕ) (s r : State) (g : Course) (link : Standing) (octets : List ℕ) → r.ended ≡ None → IsOrderly r → place_at n r ≡ at_end false n g → Holds n s r g → value_at n r.live ≡ Some (linked n link) →
+    n ≤ r.given → IsShortTsdu octets → IsOctets octets → CourseMoves false n g r s (sent n octets r) [] 0 (message octets ∷ [])
+called_sends_by n s r unasked link octets quiet orderly at h live le short are = let e = given_place n r le ∙ ap was_given live in cc
+called_sends_by n s r (asking c) link octets quiet orderly at h live le short are = let e = given_place n r le ∙ ap was_given live in cc
+called_sends_by n s r (accepting c p) link octets quiet orderly at h live le short are =
+    accepted_sends n c p s r octets h quiet orderly le (is_given n r (Some (linked n p.right)) at).is short are
+called_sends_by n s r (withdrawing c p reason) link octets quiet orderly at h live le short are = let e = given_place n r le ∙ ap was_given live in cc
+called_sends_by n s r (met m) link octets quiet orderly at h live le short are =
+    let place = is_given n r (here n (mirror m)) at in
+    met_called n m r s (sent n octets r) [] (message octets ∷ []) h le tt refl
+    (send_here n r (mirror m) link octets (let most = orderly.given in omega arith) quiet orderly place.is (sym place.is ∙ live) (mirror_stands m h.stands) short are)
+
+called_closes_by : (n : ℕ) (s r : State) (g : Course) (link : Standing) (reason : ℕ) → 0 < n → reason < 256 → r.ended ≡ None → IsOrderly r → place_at n r ≡ at_end false n g → Holds n s r g → value_at n r.live ≡ Some (linked n link) →
+    n ≤ r.given → CourseMoves false n g r s (closed_with n reason r) [] 0 (bye reason ∷ [])
+called_closes_by n s r unasked link reason some small quiet orderly at h live le = let e = given_place n r le ∙ ap was_given live in cc
+called_closes_by n s r (asking c) link reason some small quiet orderly at h live le = let e = given_place n r le ∙ ap was_given live in cc
+called_closes_by n s r (accepting c p) link reason some small quiet orderly at h live le =
+    accepted_closes n c p s r reason some small h quiet orderly le (is_given n r (Some (linked n p.right)) at).is
+called_closes_by n s r (withdrawing c p last) link reason some small quiet orderly at h live le = let e = given_place n r le ∙ ap was_given live in cc
+called_closes_by n s r (met m) link reason some small quiet orderly at h live le =
+    let place = is_given n r (here n (mirror m)) at in
+    met_called n m r s (closed_with n reason r) [] (bye reason ∷ []) h le tt refl
+    (close_here n r (mirror m) link reason some (let most = orderly.given in omega arith) small quiet h.class_called orderly place.is (sym place.is ∙ live) (mirror_stands m h.stands))
+
+-- a live connection has a reference that was given, and its peer's number is that one
+above_zero : (n : ℕ) (s : State) (x : Connection) (b : Bool) → nat_lt 0 n ≡ b → IsOrderly s → value_at n s.live ≡ Some x → 0 < n
+above_zero n s x true e orderly at = ltb-true 0 n e
+above_zero n s x false e orderly at = let none = absent n 0 s.live (ltb-false 0 n e) orderly.rise in cc
+
+pub within_given : (n : ℕ) (s : State) (x : Connection) → IsOrderly s → value_at n s.live ≡ Some x → (0 < n) × (n ≤ s.given)
+within_given n s x orderly at = (above_zero n s x (nat_lt 0 n) refl orderly at, (is_given n s (Some x) (given_live n s x orderly at)).within)
+
+pub caller_sends : (s r : State) (going coming : List Value) (n : ℕ) (link : Standing) (octets : List ℕ) → AreJoined s r going coming → value_at n s.live ≡ Some (linked n link) → IsShortTsdu octets → IsOctets octets →
+    CallerDid n s r (sent n octets s) going coming coming (message octets ∷ [])
+caller_sends s r going coming n link octets j live short are =
+    let within = within_given n s (linked n link) j.orderly live in
+    let st = j.stands n within.0 in
+    let mv = caller_sends_by n s r st.course link octets j.lasts j.orderly st.place st.holds live within.1 short are in
+    record {
+      behind = going ++ mv.units;
+      acts = acts_for true n 0 s r (sent n octets s) going coming coming [] (message octets ∷ []) st refl tt mv;
+      joined = joined_caller s r (sent n octets s) going coming coming [] (message octets ∷ []) n 0 within.0 j st refl tt (orderly_sent n octets s j.orderly) mv
+          (places_for (live_after (references r.live) going) mv.units mv.numbers);
+    }
+
+pub caller_closes : (s r : State) (going coming : List Value) (n : ℕ) (link : Standing) (reason : ℕ) → AreJoined s r going coming → value_at n s.live ≡ Some (linked n link) → reason < 256 →
+    CallerDid n s r (closed_with n reason s) going coming coming (bye reason ∷ [])
+caller_closes s r going coming n link reason j live small =
+    let within = within_given n s (linked n link) j.orderly live in
+    let st = j.stands n within.0 in
+    let mv = caller_closes_by n s r st.course link reason within.0 small j.lasts j.orderly st.place st.holds live within.1 in
+    record {
+      behind = going ++ mv.units;
+      acts = acts_for true n 0 s r (closed_with n reason s) going coming coming [] (bye reason ∷ []) st refl tt mv;
+      joined = joined_caller s r (closed_with n reason s) going coming coming [] (bye reason ∷ []) n 0 within.0 j st refl tt (orderly_closed n reason s j.orderly) mv
+          (places_for (live_after (references r.live) going) mv.units mv.numbers);
+    }
+
+pub called_sends : (s r : State) (going coming : List Value) (n : ℕ) (link : Standing) (octets : List ℕ) → AreJoined s r going coming → value_at n r.live ≡ Some (linked n link) → IsShortTsdu octets → IsOctets octets →
+    CalledDid n s r (sent n octets r) going coming going (message octets ∷ [])
+called_sends s r going coming n link octets j live short are =
+    let within = within_given n r (linked n link) j.orderly_called live in
+    let st = j.stands n within.0 in
+    let mv = called_sends_by n s r st.course link octets j.lasts_called j.orderly_called st.place_there st.holds live within.1 short are in
+    record {
+      behind = coming ++ mv.units;
+      acts = acts_for false n 0 r s (sent n octets r) coming going going [] (message octets ∷ []) (stands_flip n s r going coming st) refl tt mv;
+      joined = joined_called s r (sent n octets r) going coming going [] (message octets ∷ []) n 0 within.0 j refl tt (orderly_sent n octets r j.orderly_called) mv;
+    }
+
+pub called_closes : (s r : State) (going coming : List Value) (n : ℕ) (link : Standing) (reason : ℕ) → AreJoined s r going coming → value_at n r.live ≡ Some (linked n link) → reason < 256 →
+    CalledDid n s r (closed_with n reason r) going coming going (bye reason ∷ [])
+called_closes s r going coming n link reason j live small =
+    let within = within_given n r (linked n link) j.orderly_called live in
+    let st = j.stands n within.0 in
+    let mv = called_closes_by n s r st.course link reason within.0 small j.lasts_called j.orderly_called st.place_there st.holds live within.1 in
+    record {
+      behind = coming ++ mv.units;
+      acts = acts_for false n 0 r s (closed_with n reason r) coming going going [] (bye reason ∷ []) (stands_flip n s r going coming st) refl tt mv;
+      joined = joined_called s r (closed_with n reason r) going coming going [] (bye reason ∷ []) n 0 within.0 j refl tt (orderly_closed n reason r j.orderly_called) mv;
+    }

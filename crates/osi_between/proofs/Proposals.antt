@@ -1,0 +1,257 @@
+-- The CR of a caller before a class holds: that it can be written, and what it is answered.
+use Rattle.std.proofs.Common.{◌≡◌, ℕ, ◌<◌, ◌≤◌, ◌^◌, ◌-◌, Bool, true, false, not, ◌&&◌, ◌||◌, List, min, Option, Some, None, option_map, refl, sym, ap, subst, ◌∙◌, ◌⊎◌, inl, inr, arith, if◌then◌else◌}
+use Rattle.std.proofs.Math.Nat.{pow-le-pow_right}
+use Rattle.osi_tpdu.specs.Limits.{size_code}
+use Rattle.osi_tpdu.specs.Value.{Connect, IsConnect, request, confirm}
+use Rattle.osi_class.specs.Between.{opened_pair, under_way}
+use Rattle.osi_class.specs.Ends.{fresh_ends}
+use Rattle.osi_class.specs.Link.{Standing, zero_standing}
+use Rattle.osi_class.specs.Negotiation.{accept, refuse, selected_by, selected_size}
+use Rattle.osi_class.specs.declared.terms.Class.{Class}
+use Rattle.osi_class.specs.declared.terms.Class.TheVariants.{Zero}
+use Rattle.osi_class.specs.declared.terms.Local.{Local}
+use Rattle.osi_class.proofs.Ways.{begins}
+use Rattle.osi_carrier.specs.Coming.{IsSendable}
+use Rattle.osi_carrier.specs.Negotiation.{proposal_by, proposal, proposes_zero, confirmed, agreed_size, opened_link}
+use Rattle.osi_between.specs.Course.{IsTsap}
+use Rattle.osi_between.specs.OpenLinks.{AreOpen, IsSettled}
+use Rattle.osi_between.specs.Terms.{by_two, by_zero, refusing, terms_of, IsProposed}
+use Rattle.osi_between.specs.Zero.{answer_of}
+use Rattle.osi_between.proofs.Openings.{asked_sendable, no_octets, none_short}
+use Rattle.osi_between.proofs.Sendables.{request_sendable, confirm_sendable}
+
+-- ---- it can be written
+
+zero_connect : (caller : Local) (class : Option Class) (calling called : Option (List ℕ)) (n : ℕ) → n < 65536 → IsTsap calling → IsTsap called → IsConnect (proposal_by false caller class calling called n)
+zero_connect caller class calling called n few fits fits_called = record {
+  credit = omega arith;
+  source = few;
+  class = omega arith;
+  options = omega arith;
+  parameters = record {
+    size = (caller.size.at_least, caller.size.at_most);
+    calling = fits;
+    called = fits_called;
+    additional = tt;
+    alternative = tt;
+  };
+  user = no_octets;
+}
+
+sendable_by : (b : Bool) (caller : Local) (calling called : Option (List ℕ)) (n : ℕ) → n < 65536 → IsTsap calling → IsTsap called → IsSendable (request (proposal_by b caller None calling called n))
+sendable_by true caller calling called n few fits fits_called = asked_sendable caller None calling called n few fits fits_called
+sendable_by false caller calling called n few fits fits_called =
+    request_sendable (proposal_by false caller None calling called n) (zero_connect caller None calling called n few fits fits_called) tt refl
+
+pub proposal_sendable : (caller : Local) (calling called : Option (List ℕ)) (n : ℕ) → n < 65536 → IsTsap calling → IsTsap called → IsSendable (request (proposal caller None calling called n))
+proposal_sendable caller calling called n few fits fits_called = sendable_by caller.class2 caller calling called n few fits fits_called
+
+source_by : (b : Bool) (caller : Local) (class : Option Class) (calling called : Option (List ℕ)) (n : ℕ) → (proposal_by b caller class calling called n).source ≡ n
+source_by true caller class calling called n = refl
+source_by false caller class calling called n = refl
+
+pub source_is : (n : ℕ) (caller : Local) (c : Connect) → IsProposed n caller c → c.source ≡ n
+source_is n caller c a = ap (λ (x : Connect). x.source) a.is ∙ source_by caller.class2 caller None a.calling a.called n
+
+pub proposed_source : (caller : Local) (calling called : Option (List ℕ)) (n : ℕ) → (proposal caller None calling called n).source ≡ n
+proposed_source caller calling called n = source_by caller.class2 caller None calling called n
+
+size_by : (b : Bool) (caller : Local) (class : Option Class) (calling called : Option (List ℕ)) (n : ℕ) → (proposal_by b caller class calling called n).parameters.size ≡ Some (size_code caller.size)
+size_by true caller class calling called n = refl
+size_by false caller class calling called n = refl
+
+pub size_is : (n : ℕ) (caller : Local) (c : Connect) → IsProposed n caller c → c.parameters.size ≡ Some (size_code caller.size)
+size_is n caller c a = ap (λ (x : Connect). x.parameters.size) a.is ∙ size_by caller.class2 caller None a.calling a.called n
+
+-- ---- class 2
+
+two_by : (a2 a0 b2 b0 : Bool) → (if a2 && b2 then by_two else (if (a0 || not a2) && b0 then by_zero else refusing (if a2 then 130 else 0))) ≡ by_two → (a2 ≡ true) × (b2 ≡ true)
+two_by true a0 true b0 e = (refl, refl)
+two_by true true false true e = cc
+two_by true true false false e = cc
+two_by true false false b0 e = cc
+two_by false true b2 true e = cc
+two_by false true b2 false e = cc
+two_by false false b2 true e = cc
+two_by false false b2 false e = cc
+
+pub come_to_two : (caller called : Local) → terms_of caller called ≡ by_two → (caller.class2 ≡ true) × (called.class2 ≡ true)
+come_to_two caller called e = two_by caller.class2 caller.class0 called.class2 called.class0 e
+
+-- ---- class 0
+
+-- what is supported where class 0 is come to
+pub record ComeToZero (a2 a0 b2 b0 : Bool) : Type 0 where
+  pub there : b0 ≡ true
+  pub how : (a2 ≡ false) ⊎ ((a2 ≡ true) × (a0 ≡ true) × (b2 ≡ false))
+
+zero_by : (a2 a0 b2 b0 : Bool) → (if a2 && b2 then by_two else (if (a0 || not a2) && b0 then by_zero else refusing (if a2 then 130 else 0))) ≡ by_zero → ComeToZero a2 a0 b2 b0
+zero_by true true true b0 e = cc
+zero_by true false true b0 e = cc
+zero_by true true false true e = record { there = refl; how = inr (refl, refl, refl) }
+zero_by true true false false e = cc
+zero_by true false false b0 e = cc
+zero_by false true b2 true e = record { there = refl; how = inl refl }
+zero_by false true b2 false e = cc
+zero_by false false b2 true e = record { there = refl; how = inl refl }
+zero_by false false b2 false e = cc
+
+pub come_to_zero : (caller called : Local) → terms_of caller called ≡ by_zero → ComeToZero caller.class2 caller.class0 called.class2 called.class0
+come_to_zero caller called e = zero_by caller.class2 caller.class0 called.class2 called.class0 e
+
+and_false : (b : Bool) → (b && false) ≡ false
+and_false true = refl
+and_false false = refl
+
+or_true : (b : Bool) → (b || true) ≡ true
+or_true true = refl
+or_true false = refl
+
+selects_by : (caller called : Local) (calling to : Option (List ℕ)) (n : ℕ) → called.class0 ≡ true → (caller.class2 ≡ false) ⊎ ((caller.class2 ≡ true) × (caller.class0 ≡ true) × (called.class2 ≡ false)) →
+    selected_by (proposal caller None calling to n) called ≡ accept Zero (selected_size (proposal caller None calling to n) called)
+selects_by caller called calling to n there (inl alone) = rw (alone, there, and_false called.class2) refl
+selects_by caller called calling to n there (inr both) = rw (both.0, both.1, both.2, there) refl
+
+pub selects_zero : (caller called : Local) (n : ℕ) (c : Connect) → terms_of caller called ≡ by_zero → IsProposed n caller c → selected_by c called ≡ accept Zero (selected_size c called)
+selects_zero caller called n c terms a =
+    let z = come_to_zero caller called terms in
+    subst (λ (x : Connect). selected_by x called ≡ accept Zero (selected_size x called)) (sym a.is) (selects_by caller called a.calling a.called n z.there z.how)
+
+proposes_by : (caller : Local) (b2 : Bool) → (caller.class2 ≡ false) ⊎ ((caller.class2 ≡ true) × (caller.class0 ≡ true) × (b2 ≡ false)) → proposes_zero caller None ≡ true
+proposes_by caller b2 (inl alone) = ap (λ (b : Bool). caller.class0 || not b) alone ∙ or_true caller.class0
+proposes_by caller b2 (inr both) = ap (λ (b : Bool). b || not caller.class2) both.1
+
+pub confirms_zero : (caller called : Local) (c : Connect) → terms_of caller called ≡ by_zero → confirmed (answer_of called c) caller None ≡ Some Zero
+confirms_zero caller called c terms =
+    let z = come_to_zero caller called terms in
+    ap (λ (b : Bool). if◌then◌else◌ {A = Option Class} b (Some Zero) None) (proposes_by caller called.class2 z.how)
+
+-- the CC
+answer_by : (b : Bool) (caller called : Local) (calling to : Option (List ℕ)) → IsTsap calling → IsTsap to → IsConnect (answer_of called (proposal_by b caller None calling to 1))
+answer_by true caller called calling to fits fits_called =
+    let x = caller.size.at_least in
+    let y = called.size.at_least in
+    let v = caller.size.at_most in
+    record {
+      credit = omega arith;
+      source = omega arith;
+      class = omega arith;
+      options = omega arith;
+      parameters = record { size = (omega arith, omega arith); calling = fits; called = fits_called; additional = tt; alternative = tt };
+      user = no_octets;
+    }
+answer_by false caller called calling to fits fits_called =
+    let x = caller.size.at_least in
+    let y = called.size.at_least in
+    let v = caller.size.at_most in
+    record {
+      credit = omega arith;
+      source = omega arith;
+      class = omega arith;
+      options = omega arith;
+      parameters = record { size = (omega arith, omega arith); calling = fits; called = fits_called; additional = tt; alternative = tt };
+      user = no_octets;
+    }
+
+pub answer_zero_sendable : (caller called : Local) (c : Connect) → IsProposed 1 caller c → IsSendable (confirm 1 (answer_of called c))
+answer_zero_sendable caller called c a =
+    subst (λ (x : Connect). IsSendable (confirm 1 (answer_of called x))) (sym a.is)
+    (confirm_sendable 1 (answer_of called (proposal caller None a.calling a.called 1)) (omega arith) (answer_by caller.class2 caller called a.calling a.called a.calling_fits a.called_fits) tt refl)
+
+-- the links
+abbrev zero_link : ℕ → Standing
+zero_link code = zero_standing (fresh_ends (2 ^ code - 3))
+
+zero_settled : (code : ℕ) → 7 ≤ code → code ≤ 13 → IsSettled (zero_link code)
+zero_settled code least most =
+    let largest : 2 ^ code ≤ 8192 = pow-le-pow_right {n = 2} (omega arith) most in
+    let size : 128 ≤ 2 ^ code = pow-le-pow_right {n = 2} (omega arith) least in
+    record {
+      limit = omega arith;
+      handed = refl;
+      given = refl;
+      well = record {
+        sound = record { least = omega arith; most = omega arith; begun = omega arith; flow = tt };
+        octets = tt;
+      };
+    }
+
+zero_open : (i j : ℕ) → 7 ≤ i → i ≤ 13 → 7 ≤ j → j ≤ 13 → AreOpen false (opened_pair (zero_link i) (zero_link j))
+zero_open i j least most least_j most_j =
+    let left = zero_link i in
+    let right = zero_link j in
+    let there = begins left right (refl, refl, refl) (refl, refl, refl) in
+    let back = begins right left (refl, refl, refl) (refl, refl, refl) in
+    record {
+      agree = record { agree = record { left = refl; right = refl; class = tt }; agree_back = record { left = refl; right = refl; class = tt } };
+      whole = there.0;
+      whole_back = back.0;
+      short = none_short (under_way (opened_pair left right)) there.1;
+      short_back = none_short (under_way (opened_pair right left)) back.1;
+      range = tt;
+      range_back = tt;
+      left = zero_settled i least most;
+      right = zero_settled j least_j most_j;
+    }
+
+-- with the size of this proposal
+abbrev size_chosen : Local → Option ℕ → Option ℕ
+size_chosen called size = option_map (λ code. min code (size_code called.size)) size
+
+abbrev links_of : Local → Local → Option ℕ → ℕ → ℕ → Type 0
+links_of caller called size x y =
+    AreOpen false (opened_pair (opened_link Zero (agreed_size (size_chosen called size) caller) caller x) (opened_link Zero (size_chosen called size) called y))
+
+pub opens_zero : (caller called : Local) (n : ℕ) (c : Connect) → IsProposed n caller c →
+    AreOpen false (opened_pair (opened_link Zero (agreed_size (answer_of called c).parameters.size caller) caller (answer_of called c).credit) (opened_link Zero (selected_size c called) called c.credit))
+opens_zero caller called n c a =
+    let x = caller.size.at_least in
+    let y = called.size.at_least in
+    let v = caller.size.at_most in
+    let w = called.size.at_most in
+    subst (λ (size : Option ℕ). links_of caller called size 0 c.credit) (sym (size_is n caller c a))
+    (zero_open (min (min (size_code caller.size) (size_code called.size)) (size_code caller.size)) (min (size_code caller.size) (size_code called.size)) (omega arith) (omega arith) (omega arith) (omega arith))
+
+-- ---- a refusal
+
+pub record ComeToNone (a2 a0 b2 b0 : Bool) (reason : ℕ) : Type 0 where
+  pub no_two : (a2 && b2) ≡ false
+  pub no_zero : ((a0 || not a2) && b0) ≡ false
+  pub is : reason ≡ (if a2 then 130 else 0)
+
+none_by : (a2 a0 b2 b0 : Bool) (reason : ℕ) → (if a2 && b2 then by_two else (if (a0 || not a2) && b0 then by_zero else refusing (if a2 then 130 else 0))) ≡ refusing reason → ComeToNone a2 a0 b2 b0 reason
+none_by true a0 true b0 reason e = cc
+none_by true true false true reason e = cc
+none_by true true false false reason e = record { no_two = refl; no_zero = refl; is = let same : 130 ≡ reason = cc in sym same }
+none_by true false false b0 reason e = record { no_two = refl; no_zero = refl; is = let same : 130 ≡ reason = cc in sym same }
+none_by false true b2 true reason e = cc
+none_by false true b2 false reason e = record { no_two = refl; no_zero = refl; is = let same : 0 ≡ reason = cc in sym same }
+none_by false false b2 true reason e = cc
+none_by false false b2 false reason e = record { no_two = refl; no_zero = refl; is = let same : 0 ≡ reason = cc in sym same }
+
+refuses_by : (caller called : Local) (calling to : Option (List ℕ)) (n reason : ℕ) (a2 a0 b2 b0 : Bool) → caller.class2 ≡ a2 → caller.class0 ≡ a0 → called.class2 ≡ b2 → called.class0 ≡ b0 → ComeToNone a2 a0 b2 b0 reason →
+    selected_by (proposal caller None calling to n) called ≡ refuse reason
+refuses_by caller called calling to n reason true a0 true b0 x y z w h = let no = h.no_two in cc
+refuses_by caller called calling to n reason true true false true x y z w h = let no = h.no_zero in cc
+refuses_by caller called calling to n reason true true false false x y z w h = rw (x, y, z, w) (ap refuse (sym h.is))
+refuses_by caller called calling to n reason true false false true x y z w h = rw (x, y, z, w) (ap refuse (sym h.is))
+refuses_by caller called calling to n reason true false false false x y z w h = rw (x, y, z, w) (ap refuse (sym h.is))
+refuses_by caller called calling to n reason false true b2 true x y z w h = let no = h.no_zero in cc
+refuses_by caller called calling to n reason false false b2 true x y z w h = let no = h.no_zero in cc
+refuses_by caller called calling to n reason false a0 true false x y z w h = rw (x, z, w) (ap refuse (sym h.is))
+refuses_by caller called calling to n reason false a0 false false x y z w h = rw (x, z, w) (ap refuse (sym h.is))
+
+pub selects_none : (caller called : Local) (n reason : ℕ) (c : Connect) → terms_of caller called ≡ refusing reason → IsProposed n caller c → selected_by c called ≡ refuse reason
+selects_none caller called n reason c terms a =
+    subst (λ (x : Connect). selected_by x called ≡ refuse reason) (sym a.is)
+    (refuses_by caller called a.calling a.called n reason caller.class2 caller.class0 called.class2 called.class0 refl refl refl refl
+    (none_by caller.class2 caller.class0 called.class2 called.class0 reason terms))
+
+reason_by : (a2 : Bool) → (if a2 then 130 else 0) < 256
+reason_by true = omega arith
+reason_by false = omega arith
+
+pub reason_small : (caller called : Local) (reason : ℕ) → terms_of caller called ≡ refusing reason → reason < 256
+reason_small caller called reason terms =
+    let h = none_by caller.class2 caller.class0 called.class2 called.class0 reason terms in
+    subst (λ (r : ℕ). r < 256) (sym h.is) (reason_by caller.class2)

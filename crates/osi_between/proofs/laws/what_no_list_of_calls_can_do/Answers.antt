@@ -1,0 +1,18 @@
+use Rattle.osi_between.specs.Between.{fresh_both, fresh_between}
+use Rattle.osi_between.specs.Terms.{terms_of}
+use Rattle.osi_between.proofs.Journeys.{all_stay}
+use Rattle.osi_between.proofs.Tellings.{told_from, told_fresh}
+use Rattle.osi_between.proofs.Terms.{begins}
+use Rattle.osi_between.proofs.laws.what_no_list_of_calls_can_do.Goals as goal
+
+pub returns-clause-stays : goal.returns-clause-stays
+returns-clause-stays c = λ caller called moves may. all_stay (terms_of caller called) moves (fresh_both caller called) (fresh_between caller called) (begins caller called) may
+
+pub returns-clause-goes_on : goal.returns-clause-goes_on
+returns-clause-goes_on c = all_stay
+
+pub returns-clause-told : goal.returns-clause-told
+returns-clause-told c = told_fresh
+
+pub returns-clause-told_on : goal.returns-clause-told_on
+returns-clause-told_on c = λ terms moves both b from n. told_from terms from n moves both b

@@ -1,0 +1,15 @@
+pub mod OpenLinks
+pub mod Messages
+pub mod Taking
+pub mod Addresses
+pub mod Progress
+pub mod Meeting
+pub mod Terms
+pub mod Course
+pub mod Joined
+pub mod Linked
+pub mod Zero
+pub mod Refusing
+pub mod Between
+pub mod Journey
+pub mod Carried
