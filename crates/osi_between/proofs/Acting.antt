@@ -56,26 +56,27 @@ pub record Does (terms : Terms) (end : Bool) (n : ℕ) (this other next : State)
 abbrev pub steps_two : (n : ℕ) (this other next : State) (going coming behind rest taken : List Value) (put : List Message) → coming ≡ taken ++ rest → next.ended ≡ None →
     (a : ActsFor n this other next going coming behind rest put) → Steps by_two n this other next going coming rest taken put
 steps_two n this other next going coming behind rest taken put cut lasts a =
-    let same : a.taken ≡ taken = append_cancel_right a.taken taken rest (sym a.cut ∙ cut) in
+    let w = a.writes in
+    let same : a.takes.units ≡ taken = append_cancel_right a.takes.units taken rest (sym a.takes.cut ∙ cut) in
     record {
-      units = a.units;
-      arrived = a.arrived;
-      stays = a.stays;
-      lost = a.lost;
-      sendable = a.sendable;
-      outgoing = a.outgoing;
-      told = a.told_events ∙ ap (λ l. this.events ++ l) a.told;
+      units = w.units;
+      arrived = a.takes.arrived;
+      stays = w.stays;
+      lost = w.lost;
+      sendable = w.sendable;
+      outgoing = w.outgoing;
+      told = a.takes.told;
       cut = cut;
-      all_for = subst (λ (l : List Value). AreFor n l) same a.all_for;
-      written_for = a.written_for;
-      before = a.before;
-      after = subst (λ (l : List Value). AreLike (connection_in (place_at n other)) (under_way_for n next other l) (a.stays ++ put)) a.written a.after;
-      brings = subst (λ (l : List Value). BringsTo true (place_at n this) (place_at n next) l a.arrived put) same a.brings;
-      others_stay = a.others_stay;
+      all_for = subst (λ (l : List Value). AreFor n l) same a.takes.all_for;
+      written_for = w.all_for;
+      before = w.before;
+      after = subst (λ (l : List Value). AreLike (connection_in (place_at n other)) (under_way_for n next other l) (w.stays ++ put)) w.written w.after;
+      brings = subst (λ (l : List Value). BringsTo true (place_at n this) (place_at n next) l a.takes.arrived put) same a.takes.brings;
+      others_stay = a.others.places;
       given = a.given;
       class = a.class;
       local = a.local;
-      keeps = a.keeps;
+      keeps = w.keeps;
       lasts = lasts;
     }
 
@@ -248,7 +249,7 @@ carries_caller terms n both b next behind left taken put a alive cut d =
       lost_still = refl;
     }
 
-pub acted_caller : (terms : Terms) (n : ℕ) (both : Both) (b : Between) (next : State) (behind : List ℕ) (left taken : List Value) (put : List Message) → AreBetween terms both b → both.caller.state.ended ≡ None →
+acted_caller : (terms : Terms) (n : ℕ) (both : Both) (b : Between) (next : State) (behind : List ℕ) (left taken : List Value) (put : List Message) → AreBetween terms both b → both.caller.state.ended ≡ None →
     IsOnTheWay behind (arriving false both) left b.coming_lost → b.coming ≡ taken ++ left →
     Does terms true n b.caller b.called next (b.going ++ b.going_lost) (b.coming ++ b.coming_lost) (left ++ b.coming_lost) taken put →
     Acted terms true n both (becomes true next behind both) b taken put
@@ -332,7 +333,7 @@ carries_called terms n both b next behind left taken put a alive cut d =
       lost_still = refl;
     }
 
-pub acted_called : (terms : Terms) (n : ℕ) (both : Both) (b : Between) (next : State) (behind : List ℕ) (left taken : List Value) (put : List Message) → AreBetween terms both b → both.called.state.ended ≡ None →
+acted_called : (terms : Terms) (n : ℕ) (both : Both) (b : Between) (next : State) (behind : List ℕ) (left taken : List Value) (put : List Message) → AreBetween terms both b → both.called.state.ended ≡ None →
     IsOnTheWay behind (arriving true both) left b.going_lost → b.going ≡ taken ++ left →
     Does terms false n b.called b.caller next (b.coming ++ b.coming_lost) (b.going ++ b.going_lost) (left ++ b.going_lost) taken put →
     Acted terms false n both (becomes false next behind both) b taken put
@@ -342,3 +343,16 @@ acted_called terms n both b next behind left taken put a alive way cut d = recor
   carries = carries_called terms n both b next behind left taken put a alive cut d;
   lasts = d.steps.lasts;
 }
+
+-- ---- either end acts
+
+-- all units from an end, also those that a break took away
+abbrev pub all_from : Bool → Between → List Value
+all_from end b = units_from end b ++ lost_from end b
+
+pub acted : (terms : Terms) (end : Bool) (n : ℕ) (both : Both) (b : Between) (next : State) (behind : List ℕ) (left taken : List Value) (put : List Message) → AreBetween terms both b → (side end both).state.ended ≡ None →
+    IsOnTheWay behind (arriving (not end) both) left (lost_from (not end) b) → units_from (not end) b ≡ taken ++ left →
+    Does terms end n (last_of end b) (last_of (not end) b) next (all_from end b) (all_from (not end) b) (left ++ lost_from (not end) b) taken put →
+    Acted terms end n both (becomes end next behind both) b taken put
+acted terms true n both b next behind left taken put a alive way cut d = acted_caller terms n both b next behind left taken put a alive way cut d
+acted terms false n both b next behind left taken put a alive way cut d = acted_called terms n both b next behind left taken put a alive way cut d

@@ -23,7 +23,7 @@ use Rattle.osi_between.specs.Between.{Both, side, reach_of, within_reach, arrivi
 use Rattle.osi_between.specs.Course.{IsTsap}
 use Rattle.osi_between.specs.Messages.{Message, ask, message, bye, messages_after, begun_at}
 use Rattle.osi_between.specs.Terms.{Terms, by_two, by_zero, refusing}
-use Rattle.osi_between.proofs.Acting.{Does, by_end, acted_caller, acted_called}
+use Rattle.osi_between.proofs.Acting.{JoinedAt, Does, by_end, all_from, acted}
 use Rattle.osi_between.proofs.Addressing.{units_join}
 use Rattle.osi_between.proofs.Linked.{with_queues}
 use Rattle.osi_between.proofs.MessageLaws.{messages_front}
@@ -145,57 +145,93 @@ breaks terms both b k l a whole less less_called =
       class = λ e. by_end true (λ x. (last_of x now).class ≡ (last_of x b).class) refl refl e;
     }
 
--- ---- at the caller
+-- ---- at either end
+
+-- what an end holds and what will arrive there
+comes_to : (terms : Terms) (end : Bool) (both : Both) (b : Between) → AreBetween terms both b → (side end both).state.ended ≡ None →
+    IsOnTheWay (side end both).held (arriving (not end) both) (units_from (not end) b) (lost_from (not end) b)
+comes_to terms true both b a alive = a.comes false alive
+comes_to terms false both b a alive = a.comes true alive
+
+joined_at : (terms : Terms) (end : Bool) (both : Both) (b : Between) → AreBetween terms both b →
+    JoinedAt end terms (last_of end b) (last_of (not end) b) (all_from end b) (all_from (not end) b)
+joined_at terms true both b a = a.joined
+joined_at terms false both b a = a.joined
+
+-- a unit is taken
+takes : (terms : Terms) (p : Provides terms) (end : Bool) (both : Both) (b : Between) (u : Value) (rest : List Value) (behind : List ℕ) → AreBetween terms both b → (side end both).state.ended ≡ None →
+    units_from (not end) b ≡ u ∷ rest → IsOnTheWay behind (arriving (not end) both) rest (lost_from (not end) b) →
+    Acted terms end (reference_of u) both (becomes end (react u (side end both).state) behind both) b (u ∷ []) (answers_in terms (place_at (reference_of u) (last_of end b)) u)
+takes terms p end both b u rest behind a alive first way =
+    let this = last_of end b in
+    let put = answers_in terms (place_at (reference_of u) this) u in
+    let lost = lost_from (not end) b in
+    let d = p.takes_one end this (last_of (not end) b) (all_from end b) (all_from (not end) b) (rest ++ lost) u (joined_at terms end both b a) (ap (λ (l : List Value). l ++ lost) first) in
+    subst (λ (s : State). Acted terms end (reference_of u) both (becomes end (react u s) behind both) b (u ∷ []) put) (sym (a.lives end alive))
+    (acted terms end (reference_of u) both b (react u this) behind rest (u ∷ []) put a alive way first d)
 
 -- the packet that is held first is taken
-took_caller : (terms : Terms) (p : Provides terms) (both : Both) (b : Between) (packet octets behind : List ℕ) → AreBetween terms both b → both.caller.state.ended ≡ None → IsPacket packet octets → both.caller.held ≡ octets ++ behind →
-    Took terms true packet behind both b
-took_caller terms p both b packet octets behind a alive is cut =
-    let w = way_takes packet octets behind both.caller.held (arriving false both) b.coming b.coming_lost is cut (a.comes false alive) in
-    let u = w.unit in
-    let put = answers_in terms (place_at (reference_of u) b.caller) u in
-    let d = p.takes_one true b.caller b.called (b.going ++ b.going_lost) (b.coming ++ b.coming_lost) (w.left ++ b.coming_lost) u a.joined (ap (λ (l : List Value). l ++ b.coming_lost) w.parts) in
+pub took : (terms : Terms) (p : Provides terms) (end : Bool) (both : Both) (b : Between) (packet octets behind : List ℕ) → AreBetween terms both b → (side end both).state.ended ≡ None → IsPacket packet octets → (side end both).held ≡ octets ++ behind →
+    Took terms end packet behind both b
+took terms p end both b packet octets behind a alive is cut =
+    let w = way_takes packet octets behind (side end both).held (arriving (not end) both) (units_from (not end) b) (lost_from (not end) b) is cut (comes_to terms end both b a alive) in
     record {
-      unit = u;
+      unit = w.unit;
       is = w.is;
-      acts = ap (after_packet both.caller.state) w.is ∙ packet_reacts both.caller.state u w.sendable;
-      acted = subst (λ (s : State). Acted terms true (reference_of u) both (becomes true (react u s) behind both) b (u ∷ []) put) (sym (a.lives true alive))
-          (acted_caller terms (reference_of u) both b (react u b.caller) behind w.left (u ∷ []) put a alive w.way w.parts d);
+      acts = ap (after_packet (side end both).state) w.is ∙ packet_reacts (side end both).state w.unit w.sendable;
+      acted = takes terms p end both b w.unit w.left behind a alive w.parts w.way;
     }
 
 -- the unit that comes first is taken
-unit_caller : (terms : Terms) (p : Provides terms) (both : Both) (b : Between) (u : Value) (rest : List Value) (behind : List ℕ) → AreBetween terms both b → both.caller.state.ended ≡ None → b.coming ≡ u ∷ rest →
-    both.caller.held ≡ packet_of (written u) ++ behind →
-    Acted terms true (reference_of u) both (becomes true (react u both.caller.state) behind both) b (u ∷ []) (answers_in terms (place_at (reference_of u) b.caller) u)
-unit_caller terms p both b u rest behind a alive first cut =
-    let put = answers_in terms (place_at (reference_of u) b.caller) u in
-    let d = p.takes_one true b.caller b.called (b.going ++ b.going_lost) (b.coming ++ b.coming_lost) (rest ++ b.coming_lost) u a.joined (ap (λ (l : List Value). l ++ b.coming_lost) first) in
-    subst (λ (s : State). Acted terms true (reference_of u) both (becomes true (react u s) behind both) b (u ∷ []) put) (sym (a.lives true alive))
-    (acted_caller terms (reference_of u) both b (react u b.caller) behind rest (u ∷ []) put a alive (way_unit u rest behind both.caller.held (arriving false both) b.coming b.coming_lost first cut (a.comes false alive)) first d)
+pub took_unit : (terms : Terms) (p : Provides terms) (end : Bool) (both : Both) (b : Between) (u : Value) (rest : List Value) (behind : List ℕ) → AreBetween terms both b → (side end both).state.ended ≡ None →
+    units_from (not end) b ≡ u ∷ rest → (side end both).held ≡ packet_of (written u) ++ behind →
+    Acted terms end (reference_of u) both (becomes end (react u (side end both).state) behind both) b (u ∷ []) (answers_in terms (place_at (reference_of u) (last_of end b)) u)
+took_unit terms p end both b u rest behind a alive first cut =
+    takes terms p end both b u rest behind a alive first
+    (way_unit u rest behind (side end both).held (arriving (not end) both) (units_from (not end) b) (lost_from (not end) b) first cut (comes_to terms end both b a alive))
 
 -- a call
-call_caller : (terms : Terms) (n : ℕ) (both : Both) (b : Between) (next : State) (put : List Message) → AreBetween terms both b → both.caller.state.ended ≡ None →
-    Does terms true n b.caller b.called next (b.going ++ b.going_lost) (b.coming ++ b.coming_lost) (b.coming ++ b.coming_lost) [] put →
-    Acted terms true n both (becomes true next both.caller.held both) b [] put
-call_caller terms n both b next put a alive d = acted_caller terms n both b next both.caller.held b.coming [] put a alive (a.comes false alive) refl d
+call : (terms : Terms) (end : Bool) (n : ℕ) (both : Both) (b : Between) (next : State) (put : List Message) → AreBetween terms both b → (side end both).state.ended ≡ None →
+    Does terms end n (last_of end b) (last_of (not end) b) next (all_from end b) (all_from (not end) b) (all_from (not end) b) [] put →
+    Acted terms end n both (becomes end next (side end both).held both) b [] put
+call terms end n both b next put a alive d = acted terms end n both b next (side end both).held (units_from (not end) b) [] put a alive (comes_to terms end both b a alive) refl d
 
-sends_caller : (terms : Terms) (p : Provides terms) (both : Both) (b : Between) (n peer : ℕ) (link : Standing) (tsdu : List ℕ) → AreBetween terms both b → both.caller.state.ended ≡ None →
-    value_at n both.caller.state.live ≡ Some (linked peer link) → IsShortTsdu tsdu → IsOctets tsdu →
-    Acted terms true n both (becomes true (sent n tsdu both.caller.state) both.caller.held both) b [] (message tsdu ∷ [])
-sends_caller terms p both b n peer link tsdu a alive at short are =
-    let same = a.lives true alive in
-    subst (λ (s : State). Acted terms true n both (becomes true (sent n tsdu s) both.caller.held both) b [] (message tsdu ∷ [])) (sym same)
-    (call_caller terms n both b (sent n tsdu b.caller) (message tsdu ∷ []) a alive
-    (p.hands_in true b.caller b.called (b.going ++ b.going_lost) (b.coming ++ b.coming_lost) n peer link tsdu a.joined (ap (λ (s : State). value_at n s.live) (sym same) ∙ at) short are))
+pub sends : (terms : Terms) (p : Provides terms) (end : Bool) (both : Both) (b : Between) (n peer : ℕ) (link : Standing) (tsdu : List ℕ) → AreBetween terms both b → (side end both).state.ended ≡ None →
+    value_at n (side end both).state.live ≡ Some (linked peer link) → IsShortTsdu tsdu → IsOctets tsdu →
+    Acted terms end n both (becomes end (sent n tsdu (side end both).state) (side end both).held both) b [] (message tsdu ∷ [])
+sends terms p end both b n peer link tsdu a alive at short are =
+    let same = a.lives end alive in
+    subst (λ (s : State). Acted terms end n both (becomes end (sent n tsdu s) (side end both).held both) b [] (message tsdu ∷ [])) (sym same)
+    (call terms end n both b (sent n tsdu (last_of end b)) (message tsdu ∷ []) a alive
+    (p.hands_in end (last_of end b) (last_of (not end) b) (all_from end b) (all_from (not end) b) n peer link tsdu (joined_at terms end both b a) (ap (λ (s : State). value_at n s.live) (sym same) ∙ at) short are))
 
-closes_caller : (both : Both) (b : Between) (n peer : ℕ) (link : Standing) (reason : ℕ) → AreBetween by_two both b → both.caller.state.ended ≡ None →
-    value_at n both.caller.state.live ≡ Some (linked peer link) → reason < 256 →
-    Acted by_two true n both (becomes true (closed_with n reason both.caller.state) both.caller.held both) b [] (bye reason ∷ [])
-closes_caller both b n peer link reason a alive at small =
+pub closes : (end : Bool) (both : Both) (b : Between) (n peer : ℕ) (link : Standing) (reason : ℕ) → AreBetween by_two both b → (side end both).state.ended ≡ None →
+    value_at n (side end both).state.live ≡ Some (linked peer link) → reason < 256 →
+    Acted by_two end n both (becomes end (closed_with n reason (side end both).state) (side end both).held both) b [] (bye reason ∷ [])
+closes end both b n peer link reason a alive at small =
+    let same = a.lives end alive in
+    subst (λ (s : State). Acted by_two end n both (becomes end (closed_with n reason s) (side end both).held both) b [] (bye reason ∷ [])) (sym same)
+    (call by_two end n both b (closed_with n reason (last_of end b)) (bye reason ∷ []) a alive
+    (closes_two end (last_of end b) (last_of (not end) b) (all_from end b) (all_from (not end) b) n peer link reason (joined_at by_two end both b a) (ap (λ (s : State). value_at n s.live) (sym same) ∙ at) small))
+
+-- in class 0 a close ends the carrier
+pub closes_ends : (end : Bool) (both : Both) (b : Between) (n peer : ℕ) (link : Standing) (reason : ℕ) → AreBetween by_zero both b → (side end both).state.ended ≡ None →
+    value_at n (side end both).state.live ≡ Some (linked peer link) → closed_with n reason (side end both).state ≡ ends Closed (side end both).state
+closes_ends end both b n peer link reason a alive at =
+    let same = a.lives end alive in
+    subst (λ (s : State). closed_with n reason s ≡ ends Closed s) (sym same)
+    (closes_zero end (last_of end b) (last_of (not end) b) (all_from end b) (all_from (not end) b) n peer link reason (joined_at by_zero end both b a) (ap (λ (s : State). value_at n s.live) (sym same) ∙ at))
+
+pub connects : (terms : Terms) (p : Provides terms) (both : Both) (b : Between) (calling to : Option (List ℕ)) → AreBetween terms both b → both.caller.state.ended ≡ None →
+    may_connect both.caller.state ≡ None → IsTsap calling → IsTsap to →
+    Acted terms true (both.caller.state.given + 1) both (becomes true (asks calling to both.caller.state) both.caller.held both) b [] (ask ∷ [])
+connects terms p both b calling to a alive may fits fits_called =
     let same = a.lives true alive in
-    subst (λ (s : State). Acted by_two true n both (becomes true (closed_with n reason s) both.caller.held both) b [] (bye reason ∷ [])) (sym same)
-    (call_caller by_two n both b (closed_with n reason b.caller) (bye reason ∷ []) a alive
-    (closes_two true b.caller b.called (b.going ++ b.going_lost) (b.coming ++ b.coming_lost) n peer link reason a.joined (ap (λ (s : State). value_at n s.live) (sym same) ∙ at) small))
+    subst (λ (s : State). Acted terms true (s.given + 1) both (becomes true (asks calling to s) both.caller.held both) b [] (ask ∷ [])) (sym same)
+    (call terms true (b.caller.given + 1) both b (asks calling to b.caller) (ask ∷ []) a alive
+    (p.connects b.caller b.called (all_from true b) (all_from false b) calling to a.joined (ap may_connect (sym same) ∙ may) fits fits_called))
+
+-- ---- octets, events and ends
 
 -- octets are handed over
 over_caller : (terms : Terms) (p : Provides terms) (both : Both) (b : Between) (k : ℕ) → AreBetween terms both b → k ≤ length (arriving true both) → Same terms both (handed_over true k both) b
@@ -274,58 +310,6 @@ ends_caller terms both b reason a =
       class = λ e. refl;
     }
 
--- ---- at the called
-
--- the packet that is held first is taken
-took_called : (terms : Terms) (p : Provides terms) (both : Both) (b : Between) (packet octets behind : List ℕ) → AreBetween terms both b → both.called.state.ended ≡ None → IsPacket packet octets → both.called.held ≡ octets ++ behind →
-    Took terms false packet behind both b
-took_called terms p both b packet octets behind a alive is cut =
-    let w = way_takes packet octets behind both.called.held (arriving true both) b.going b.going_lost is cut (a.comes true alive) in
-    let u = w.unit in
-    let put = answers_in terms (place_at (reference_of u) b.called) u in
-    let d = p.takes_one false b.called b.caller (b.coming ++ b.coming_lost) (b.going ++ b.going_lost) (w.left ++ b.going_lost) u a.joined (ap (λ (l : List Value). l ++ b.going_lost) w.parts) in
-    record {
-      unit = u;
-      is = w.is;
-      acts = ap (after_packet both.called.state) w.is ∙ packet_reacts both.called.state u w.sendable;
-      acted = subst (λ (s : State). Acted terms false (reference_of u) both (becomes false (react u s) behind both) b (u ∷ []) put) (sym (a.lives false alive))
-          (acted_called terms (reference_of u) both b (react u b.called) behind w.left (u ∷ []) put a alive w.way w.parts d);
-    }
-
--- the unit that comes first is taken
-unit_called : (terms : Terms) (p : Provides terms) (both : Both) (b : Between) (u : Value) (rest : List Value) (behind : List ℕ) → AreBetween terms both b → both.called.state.ended ≡ None → b.going ≡ u ∷ rest →
-    both.called.held ≡ packet_of (written u) ++ behind →
-    Acted terms false (reference_of u) both (becomes false (react u both.called.state) behind both) b (u ∷ []) (answers_in terms (place_at (reference_of u) b.called) u)
-unit_called terms p both b u rest behind a alive first cut =
-    let put = answers_in terms (place_at (reference_of u) b.called) u in
-    let d = p.takes_one false b.called b.caller (b.coming ++ b.coming_lost) (b.going ++ b.going_lost) (rest ++ b.going_lost) u a.joined (ap (λ (l : List Value). l ++ b.going_lost) first) in
-    subst (λ (s : State). Acted terms false (reference_of u) both (becomes false (react u s) behind both) b (u ∷ []) put) (sym (a.lives false alive))
-    (acted_called terms (reference_of u) both b (react u b.called) behind rest (u ∷ []) put a alive (way_unit u rest behind both.called.held (arriving true both) b.going b.going_lost first cut (a.comes true alive)) first d)
-
--- a call
-call_called : (terms : Terms) (n : ℕ) (both : Both) (b : Between) (next : State) (put : List Message) → AreBetween terms both b → both.called.state.ended ≡ None →
-    Does terms false n b.called b.caller next (b.coming ++ b.coming_lost) (b.going ++ b.going_lost) (b.going ++ b.going_lost) [] put →
-    Acted terms false n both (becomes false next both.called.held both) b [] put
-call_called terms n both b next put a alive d = acted_called terms n both b next both.called.held b.going [] put a alive (a.comes true alive) refl d
-
-sends_called : (terms : Terms) (p : Provides terms) (both : Both) (b : Between) (n peer : ℕ) (link : Standing) (tsdu : List ℕ) → AreBetween terms both b → both.called.state.ended ≡ None →
-    value_at n both.called.state.live ≡ Some (linked peer link) → IsShortTsdu tsdu → IsOctets tsdu →
-    Acted terms false n both (becomes false (sent n tsdu both.called.state) both.called.held both) b [] (message tsdu ∷ [])
-sends_called terms p both b n peer link tsdu a alive at short are =
-    let same = a.lives false alive in
-    subst (λ (s : State). Acted terms false n both (becomes false (sent n tsdu s) both.called.held both) b [] (message tsdu ∷ [])) (sym same)
-    (call_called terms n both b (sent n tsdu b.called) (message tsdu ∷ []) a alive
-    (p.hands_in false b.called b.caller (b.coming ++ b.coming_lost) (b.going ++ b.going_lost) n peer link tsdu a.joined (ap (λ (s : State). value_at n s.live) (sym same) ∙ at) short are))
-
-closes_called : (both : Both) (b : Between) (n peer : ℕ) (link : Standing) (reason : ℕ) → AreBetween by_two both b → both.called.state.ended ≡ None →
-    value_at n both.called.state.live ≡ Some (linked peer link) → reason < 256 →
-    Acted by_two false n both (becomes false (closed_with n reason both.called.state) both.called.held both) b [] (bye reason ∷ [])
-closes_called both b n peer link reason a alive at small =
-    let same = a.lives false alive in
-    subst (λ (s : State). Acted by_two false n both (becomes false (closed_with n reason s) both.called.held both) b [] (bye reason ∷ [])) (sym same)
-    (call_called by_two n both b (closed_with n reason b.called) (bye reason ∷ []) a alive
-    (closes_two false b.called b.caller (b.coming ++ b.coming_lost) (b.going ++ b.going_lost) n peer link reason a.joined (ap (λ (s : State). value_at n s.live) (sym same) ∙ at) small))
-
 -- octets are handed over
 over_called : (terms : Terms) (p : Provides terms) (both : Both) (b : Between) (k : ℕ) → AreBetween terms both b → k ≤ length (arriving false both) → Same terms both (handed_over false k both) b
 over_called terms p both b k a less =
@@ -403,40 +387,6 @@ ends_called terms both b reason a =
       class = λ e. refl;
     }
 
--- ---- at either end
-
-pub took : (terms : Terms) (p : Provides terms) (end : Bool) (both : Both) (b : Between) (packet octets behind : List ℕ) → AreBetween terms both b → (side end both).state.ended ≡ None → IsPacket packet octets → (side end both).held ≡ octets ++ behind →
-    Took terms end packet behind both b
-took terms p true both b packet octets behind a alive is cut = took_caller terms p both b packet octets behind a alive is cut
-took terms p false both b packet octets behind a alive is cut = took_called terms p both b packet octets behind a alive is cut
-
-pub took_unit : (terms : Terms) (p : Provides terms) (end : Bool) (both : Both) (b : Between) (u : Value) (rest : List Value) (behind : List ℕ) → AreBetween terms both b → (side end both).state.ended ≡ None →
-    units_from (not end) b ≡ u ∷ rest → (side end both).held ≡ packet_of (written u) ++ behind →
-    Acted terms end (reference_of u) both (becomes end (react u (side end both).state) behind both) b (u ∷ []) (answers_in terms (place_at (reference_of u) (last_of end b)) u)
-took_unit terms p true both b u rest behind a alive first cut = unit_caller terms p both b u rest behind a alive first cut
-took_unit terms p false both b u rest behind a alive first cut = unit_called terms p both b u rest behind a alive first cut
-
-pub sends : (terms : Terms) (p : Provides terms) (end : Bool) (both : Both) (b : Between) (n peer : ℕ) (link : Standing) (tsdu : List ℕ) → AreBetween terms both b → (side end both).state.ended ≡ None →
-    value_at n (side end both).state.live ≡ Some (linked peer link) → IsShortTsdu tsdu → IsOctets tsdu →
-    Acted terms end n both (becomes end (sent n tsdu (side end both).state) (side end both).held both) b [] (message tsdu ∷ [])
-sends terms p true both b n peer link tsdu a alive at short are = sends_caller terms p both b n peer link tsdu a alive at short are
-sends terms p false both b n peer link tsdu a alive at short are = sends_called terms p both b n peer link tsdu a alive at short are
-
-pub closes : (end : Bool) (both : Both) (b : Between) (n peer : ℕ) (link : Standing) (reason : ℕ) → AreBetween by_two both b → (side end both).state.ended ≡ None →
-    value_at n (side end both).state.live ≡ Some (linked peer link) → reason < 256 →
-    Acted by_two end n both (becomes end (closed_with n reason (side end both).state) (side end both).held both) b [] (bye reason ∷ [])
-closes true both b n peer link reason a alive at small = closes_caller both b n peer link reason a alive at small
-closes false both b n peer link reason a alive at small = closes_called both b n peer link reason a alive at small
-
-pub connects : (terms : Terms) (p : Provides terms) (both : Both) (b : Between) (calling to : Option (List ℕ)) → AreBetween terms both b → both.caller.state.ended ≡ None →
-    may_connect both.caller.state ≡ None → IsTsap calling → IsTsap to →
-    Acted terms true (both.caller.state.given + 1) both (becomes true (asks calling to both.caller.state) both.caller.held both) b [] (ask ∷ [])
-connects terms p both b calling to a alive may fits fits_called =
-    let same = a.lives true alive in
-    subst (λ (s : State). Acted terms true (s.given + 1) both (becomes true (asks calling to s) both.caller.held both) b [] (ask ∷ [])) (sym same)
-    (call_caller terms (b.caller.given + 1) both b (asks calling to b.caller) (ask ∷ []) a alive
-    (p.connects b.caller b.called (b.going ++ b.going_lost) (b.coming ++ b.coming_lost) calling to a.joined (ap may_connect (sym same) ∙ may) fits fits_called))
-
 pub hands_over : (terms : Terms) (p : Provides terms) (end : Bool) (both : Both) (b : Between) (k : ℕ) → AreBetween terms both b → k ≤ length (arriving end both) → Same terms both (handed_over end k both) b
 hands_over terms p true both b k a less = over_caller terms p both b k a less
 hands_over terms p false both b k a less = over_called terms p both b k a less
@@ -448,18 +398,6 @@ tells terms p false both b events a = tells_called terms p both b events a
 pub ends_at : (terms : Terms) (end : Bool) (both : Both) (b : Between) (reason : EndReason) → AreBetween terms both b → Lost terms both (ended_at end reason both) b
 ends_at terms true both b reason a = ends_caller terms both b reason a
 ends_at terms false both b reason a = ends_called terms both b reason a
-
--- in class 0 a close ends the carrier
-pub closes_ends : (end : Bool) (both : Both) (b : Between) (n peer : ℕ) (link : Standing) (reason : ℕ) → AreBetween by_zero both b → (side end both).state.ended ≡ None →
-    value_at n (side end both).state.live ≡ Some (linked peer link) → closed_with n reason (side end both).state ≡ ends Closed (side end both).state
-closes_ends true both b n peer link reason a alive at =
-    let same = a.lives true alive in
-    subst (λ (s : State). closed_with n reason s ≡ ends Closed s) (sym same)
-    (closes_zero true b.caller b.called (b.going ++ b.going_lost) (b.coming ++ b.coming_lost) n peer link reason a.joined (ap (λ (s : State). value_at n s.live) (sym same) ∙ at))
-closes_ends false both b n peer link reason a alive at =
-    let same = a.lives false alive in
-    subst (λ (s : State). closed_with n reason s ≡ ends Closed s) (sym same)
-    (closes_zero false b.called b.caller (b.coming ++ b.coming_lost) (b.going ++ b.going_lost) n peer link reason a.joined (ap (λ (s : State). value_at n s.live) (sym same) ∙ at))
 
 -- where CRs are refused none is open
 pub no_open : (reason : ℕ) (end : Bool) (both : Both) (b : Between) (n peer : ℕ) (link : Standing) → AreBetween (refusing reason) both b → (side end both).state.ended ≡ None →

@@ -18,7 +18,7 @@ use Rattle.osi_between.specs.Terms.{Terms, by_two, by_zero, refusing}
 use Rattle.osi_between.specs.Zero.{ZeroCourse, unasked, asking, accepting, talking, at_end, from_end, Holds, HasOne}
 use Rattle.osi_between.proofs.JoinedCalls.{still, still_messages, none_addressed}
 use Rattle.osi_between.proofs.Meetings.{open_mirror}
-use Rattle.osi_between.proofs.Providing.{peer_caller, peer_called}
+use Rattle.osi_between.proofs.Providing.{linked_own}
 use Rattle.osi_between.proofs.Refusals.{none_open}
 use Rattle.osi_between.proofs.ZeroLaws.{at_one, not_here, not_asked}
 use Rattle.osi_between.proofs.Zeros.{one_place, under_is}
@@ -68,8 +68,8 @@ done_by s r n p q x y (talking l) one other is back h at at_there =
 
 done_at : (terms : Terms) (s r : State) (n p q : ℕ) (x y : Standing) → AreJoinedBy terms s r [] [] → value_at n s.live ≡ Some (linked p x) → value_at n r.live ≡ Some (linked q y) → IsDone n s r x y
 done_at by_two s r n p q x y j at at_there =
-    let here = at ∙ ap (λ (m : ℕ). Some (linked m x)) (peer_caller n p x s r [] [] j at) in
-    let there = at_there ∙ ap (λ (m : ℕ). Some (linked m y)) (peer_called n q y s r [] [] j at_there) in
+    let here = linked_own true s r [] [] n p x j at in
+    let there = linked_own false r s [] [] n q y j at_there in
     let ms = still_messages s r n x y j here there in
     record { links = still s r n x y j here there; there = ms.0; back = ms.1 }
 done_at by_zero s r n p q x y j at at_there = done_by s r n p q x y j.course j.one j.one_called j.going j.coming j.holds at at_there

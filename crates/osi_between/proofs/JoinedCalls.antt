@@ -15,7 +15,7 @@ use Rattle.osi_carrier.specs.State.{linked, State}
 use Rattle.osi_carrier.proofs.Effects.{free_of, orderly_asks, orderly_fresh}
 use Rattle.osi_between.specs.Addresses.{live_after}
 use Rattle.osi_between.specs.Course.{Course, unasked, asking, accepting, withdrawing, met, at_end, from_end, IsTsap, Holds}
-use Rattle.osi_between.specs.Joined.{StandsBetween, AreJoined, CallerDid, under_way_for, IsEmpty}
+use Rattle.osi_between.specs.Joined.{StandsBetween, AreJoined, Did, under_way_for, IsEmpty}
 use Rattle.osi_between.specs.Meeting.{talking, left_here, left_there, left_both, waiting_here, waiting_there, parted, addressed}
 use Rattle.osi_between.specs.Messages.{ask, messages_to, messages_after, uncut_units}
 use Rattle.osi_between.specs.OpenLinks.{AreOpen}
@@ -48,7 +48,7 @@ fresh_course n s r going coming at h e = record {
 }
 
 pub caller_asks : (s r : State) (going coming : List Value) (calling called : Option (List ℕ)) → AreJoined s r going coming → may_connect s ≡ None → IsTsap calling → IsTsap called →
-    CallerDid (s.given + 1) s r (asks calling called s) going coming coming (ask ∷ [])
+    Did true (s.given + 1) s r (asks calling called s) going coming coming (ask ∷ [])
 caller_asks s r going coming calling called j may fits fits_called =
     let n = s.given + 1 in
     let some : 0 < n = omega arith in

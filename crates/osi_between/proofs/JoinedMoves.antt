@@ -1,5 +1,5 @@
 -- Two joined carriers stay joined where one of them acts.
-use Rattle.std.proofs.Common.{◌≡◌, ◌≢◌, ℕ, zero, suc, ◌+◌, ◌<◌, ◌≤◌, ◌==◌, Bool, true, false, List, [], ◌∷◌, ◌++◌, length, Option, Some, None, refl, sym, ap, subst, ◌∙◌, arith, length-append, nat_lt, if◌then◌else◌}
+use Rattle.std.proofs.Common.{◌≡◌, ◌≢◌, ℕ, zero, suc, ◌+◌, ◌<◌, ◌≤◌, ◌==◌, Bool, true, false, not, List, [], ◌∷◌, ◌++◌, length, Option, Some, None, refl, sym, ap, subst, ◌∙◌, arith, length-append, nat_lt, if◌then◌else◌}
 use Rattle.std.specs.List.{AllByRecursion}
 use Rattle.std.proofs.lemmas.Bool.{eq-eqb, ne_eqb, ltb-true, ltb-false}
 use Rattle.std.proofs.lemmas.List.{append_cancel_left}
@@ -19,8 +19,8 @@ use Rattle.osi_carrier.proofs.Apart.{absent, beyond}
 use Rattle.osi_carrier.proofs.Effects.{orderly_unit, orderly_sent, orderly_closed}
 use Rattle.osi_carrier.proofs.Selecting.{has_room}
 use Rattle.osi_between.specs.Addresses.{reference_of, units_of, AreFor, requests, behind, live_after}
-use Rattle.osi_between.specs.Course.{Course, unasked, asking, accepting, withdrawing, met, answer_of, at_end, from_end, IsAskedBy, Holds, answers_at, CourseMoves}
-use Rattle.osi_between.specs.Joined.{StandsBetween, HasPlaces, AreJoined, ActsFor, CallerDid, CalledDid}
+use Rattle.osi_between.specs.Course.{Course, unasked, asking, accepting, withdrawing, met, answer_of, at_end, from_end, IsAskedBy, Holds, HoldsAt, called_local, asked_in, answers_at, CourseMoves}
+use Rattle.osi_between.specs.Joined.{StandsBetween, HasPlaces, AreJoined, JoinedFrom, Did}
 use Rattle.osi_between.specs.Meeting.{Meeting, talking, left_here, left_there, left_both, waiting_here, waiting_there, parted, mirror, here, out}
 use Rattle.osi_between.specs.Messages.{Message, agree, message, bye}
 use Rattle.osi_between.proofs.Addressing.{first_of_all, requests_join, behind_join, places_join, places_rest, places_for}
@@ -80,7 +80,7 @@ joined_caller s r t going coming rest taken put n count some j st cut all orderl
 
 -- ---- the called end acts
 
-pub joined_called : (s r t : State) (going coming rest taken : List Value) (put : List Message) (n count : ℕ) (some : 0 < n) (j : AreJoined s r going coming) → going ≡ taken ++ rest → AreFor n taken → IsOrderly t →
+joined_called : (s r t : State) (going coming rest taken : List Value) (put : List Message) (n count : ℕ) (some : 0 < n) (j : AreJoined s r going coming) → going ≡ taken ++ rest → AreFor n taken → IsOrderly t →
     (mv : CourseMoves false n (j.stands n some).course r s t taken count put) → AreJoined s t rest (coming ++ mv.units)
 joined_called s r t going coming rest taken put n count some j cut all orderly mv =
     let before = j.given in
@@ -116,7 +116,47 @@ joined_called s r t going coming rest taken put n count some j cut all orderly m
           (places_rest (references r.live) taken rest (subst (λ (l : List Value). HasPlaces (references r.live) l) cut j.places));
     }
 
+-- ---- an end acts
+
+-- the two, seen from an end
+pub record Seen (end : Bool) (this other : State) (going coming : List Value) : Type 0 where
+  pub lasts : this.ended ≡ None
+  pub orderly : IsOrderly this
+  pub named : AreNamed coming
+  pub stands : (n : ℕ) → 0 < n → StandsBetween end n this other going coming
+
+abbrev pub seen : (end : Bool) (this other : State) (going coming : List Value) → JoinedFrom end this other going coming → Seen end this other going coming
+seen true s r going coming j = record { lasts = j.lasts; orderly = j.orderly; named = j.named_back; stands = j.stands }
+seen false r s coming going j = record { lasts = j.lasts_called; orderly = j.orderly_called; named = j.named; stands = λ n some. stands_flip n s r going coming (j.stands n some) }
+
+-- the CRs that it writes find a place
+abbrev Fits : Bool → State → List Value → List Value → Type 0
+Fits true other going units = HasPlaces (live_after (references other.live) going) units
+Fits false other going units = Unit {0}
+
+fits_none : (end : Bool) (other : State) (going units taken : List Value) → requests (asked_in end units taken) ≡ [] → Fits end other going units
+fits_none true other going units taken e = places_for (live_after (references other.live) going) units e
+fits_none false other going units taken e = tt
+
+joined_after : (end : Bool) (this other next : State) (going coming rest taken : List Value) (put : List Message) (n count : ℕ) (some : 0 < n) (j : JoinedFrom end this other going coming) → coming ≡ taken ++ rest → AreFor n taken → IsOrderly next →
+    (mv : CourseMoves end n ((seen end this other going coming j).stands n some).course this other next taken count put) → Fits end other going mv.units → JoinedFrom end next other (going ++ mv.units) rest
+joined_after true s r t going coming rest taken put n count some j cut all orderly mv fits = joined_caller s r t going coming rest taken put n count some j (j.stands n some) cut all orderly mv fits
+joined_after false r s t coming going rest taken put n count some j cut all orderly mv fits = joined_called s r t going coming rest taken put n count some j cut all orderly mv
+
+did : (end : Bool) (this other next : State) (going coming rest taken : List Value) (put : List Message) (n count : ℕ) (some : 0 < n) (j : JoinedFrom end this other going coming) → coming ≡ taken ++ rest → AreFor n taken → IsOrderly next →
+    (mv : CourseMoves end n ((seen end this other going coming j).stands n some).course this other next taken count put) → Fits end other going mv.units → Did end n this other next going coming rest put
+did end this other next going coming rest taken put n count some j cut all orderly mv fits = record {
+  behind = going ++ mv.units;
+  acts = acts_for end n count this other next going coming rest taken put ((seen end this other going coming j).stands n some) cut all mv;
+  joined = joined_after end this other next going coming rest taken put n count some j cut all orderly mv fits;
+}
+
 -- ---- the caller takes a unit
+
+record Moved (end : Bool) (n : ℕ) (g : Course) (this other : State) (going : List Value) (u : Value) : Type 0 where
+  count : ℕ
+  moves : CourseMoves end n g this other (react u this) (u ∷ []) count (answers_at (at_end end n g) u)
+  fits : Fits end other going moves.units
 
 caller_takes : (n : ℕ) (s r : State) (going coming : List Value) (g : Course) (u : Value) (more : List Value) → 0 < n → AreJoined s r going coming → place_at n s ≡ at_end true n g → Holds n s r g →
     from_end false n r.local g ≡ u ∷ more → CourseMoves true n g s r (react u s) (u ∷ []) 0 (answers_at (at_end true n g) u)
@@ -136,22 +176,6 @@ caller_takes n s r going coming (met m) u more some j at h e =
     let place = is_given n s (here n m) at in
     met_caller n m s r (react u s) (u ∷ []) (answers_at (was_given (here n m)) u) h place.within (answers_plain (here n m) u)
     (take_here n s m u more some (let most = j.orderly.given in let le = place.within in omega arith) j.lasts h.class j.orderly place.is h.stands e)
-
-pub caller_takes_one : (s r : State) (going coming rest : List Value) (u : Value) → AreJoined s r going coming → coming ≡ u ∷ rest →
-    CallerDid (reference_of u) s r (react u s) going coming rest (answers_at (place_at (reference_of u) s) u)
-caller_takes_one s r going coming rest u j cut =
-    let n = reference_of u in
-    let some : 0 < n = (subst (λ (l : List Value). AreNamed l) cut j.named_back).0 in
-    let st = j.stands n some in
-    let head : from_end false n r.local st.course ≡ u ∷ units_of n rest = sym st.back ∙ ap (units_of n) cut ∙ first_of_all u rest in
-    let mv = caller_takes n s r going coming st.course u (units_of n rest) some j st.place st.holds head in
-    record {
-      behind = going ++ mv.units;
-      acts = subst (λ (p : Place). ActsFor n s r (react u s) going coming (going ++ mv.units) rest (answers_at p u)) (sym st.place)
-          (acts_for true n 0 s r (react u s) going coming rest (u ∷ []) (answers_at (at_end true n st.course) u) st cut (refl, tt) mv);
-      joined = joined_caller s r (react u s) going coming rest (u ∷ []) (answers_at (at_end true n st.course) u) n 0 some j st cut (refl, tt) (orderly_unit u s j.orderly) mv
-          (places_for (live_after (references r.live) going) mv.units mv.numbers);
-    }
 
 -- ---- the called end takes a unit
 
@@ -219,12 +243,8 @@ request_moves n s r going coming rest c some j at a cut =
     (sym (given_live q r x j.orderly_called live) ∙ st.place_there)) in
     accepts_moves n c s r next a j.orderly_called j.lasts_called j.is_called j.class_called free (has_room r (omega arith) (omega arith)) (omega arith) j.supports_called
 
-record CalledMoves (n : ℕ) (g : Course) (s r : State) (u : Value) : Type 0 where
-  count : ℕ
-  moves : CourseMoves false n g r s (react u r) (u ∷ []) count (answers_at (at_end false n g) u)
-
 called_takes : (n : ℕ) (s r : State) (going coming rest : List Value) (g : Course) (u : Value) (more : List Value) → 0 < n → AreJoined s r going coming → place_at n r ≡ at_end false n g → Holds n s r g →
-    going ≡ u ∷ rest → from_end true n r.local g ≡ u ∷ more → CalledMoves n g s r u
+    going ≡ u ∷ rest → from_end true n r.local g ≡ u ∷ more → Moved false n g r s coming u
 called_takes n s r going coming rest unasked u more some j at h cut e = cc
 called_takes n s r going coming rest (accepting c p) u more some j at h cut e = cc
 called_takes n s r going coming rest (withdrawing c p reason) u more some j at h cut e = cc
@@ -234,6 +254,7 @@ called_takes n s r going coming rest (asking c) u more some j at h cut e =
       count = 1;
       moves = subst (λ (x : Value). CourseMoves false n (asking c) r s (react x r) (x ∷ []) 1 (agree ∷ [])) same
           (request_moves n s r going coming rest c some j at h (cut ∙ ap (λ (x : Value). x ∷ rest) (sym same)));
+      fits = tt;
     }
 called_takes n s r going coming rest (met m) u more some j at h cut e =
     let place = is_given n r (here n (mirror m)) at in
@@ -241,68 +262,31 @@ called_takes n s r going coming rest (met m) u more some j at h cut e =
       count = 0;
       moves = met_called n m r s (react u r) (u ∷ []) (answers_at (was_given (here n (mirror m))) u) h place.within tt (answers_plain (here n (mirror m)) u)
           (take_here n r (mirror m) u more some (let most = j.orderly_called.given in let le = place.within in omega arith) j.lasts_called h.class_called j.orderly_called place.is (mirror_stands m h.stands) (ap (out n) (mirror_twice m) ∙ e));
+      fits = tt;
     }
 
-pub called_takes_one : (s r : State) (going coming rest : List Value) (u : Value) → AreJoined s r going coming → going ≡ u ∷ rest →
-    CalledDid (reference_of u) s r (react u r) going coming rest (answers_at (place_at (reference_of u) r) u)
-called_takes_one s r going coming rest u j cut =
+-- ---- either takes a unit
+
+takes_by : (end : Bool) (n : ℕ) (this other : State) (going coming rest : List Value) (g : Course) (u : Value) (more : List Value) → 0 < n → JoinedFrom end this other going coming → place_at n this ≡ at_end end n g → HoldsAt end n this other g →
+    coming ≡ u ∷ rest → from_end (not end) n (called_local end this other) g ≡ u ∷ more → Moved end n g this other going u
+takes_by true n s r going coming rest g u more some j at h cut e =
+    let mv = caller_takes n s r going coming g u more some j at h e in
+    record { count = 0; moves = mv; fits = fits_none true r going mv.units (u ∷ []) mv.numbers }
+takes_by false n r s coming going rest g u more some j at h cut e = called_takes n s r going coming rest g u more some j at h cut e
+
+pub takes_one : (end : Bool) (this other : State) (going coming rest : List Value) (u : Value) → JoinedFrom end this other going coming → coming ≡ u ∷ rest →
+    Did end (reference_of u) this other (react u this) going coming rest (answers_at (place_at (reference_of u) this) u)
+takes_one end this other going coming rest u j cut =
     let n = reference_of u in
-    let some : 0 < n = (subst (λ (l : List Value). AreNamed l) cut j.named).0 in
-    let st = j.stands n some in
-    let head : from_end true n r.local st.course ≡ u ∷ units_of n rest = sym st.out ∙ ap (units_of n) cut ∙ first_of_all u rest in
-    let mv = called_takes n s r going coming rest st.course u (units_of n rest) some j st.place_there st.holds cut head in
-    record {
-      behind = coming ++ mv.moves.units;
-      acts = subst (λ (p : Place). ActsFor n r s (react u r) coming going (coming ++ mv.moves.units) rest (answers_at p u)) (sym st.place_there)
-          (acts_for false n mv.count r s (react u r) coming going rest (u ∷ []) (answers_at (at_end false n st.course) u) (stands_flip n s r going coming st) cut (refl, tt) mv.moves);
-      joined = joined_called s r (react u r) going coming rest (u ∷ []) (answers_at (at_end false n st.course) u) n mv.count some j cut (refl, tt) (orderly_unit u r j.orderly_called) mv.moves;
-    }
+    let v = seen end this other going coming j in
+    let some : 0 < n = (subst (λ (l : List Value). AreNamed l) cut v.named).0 in
+    let st = v.stands n some in
+    let head : from_end (not end) n (called_local end this other) st.course ≡ u ∷ units_of n rest = sym st.back ∙ ap (units_of n) cut ∙ first_of_all u rest in
+    let mv = takes_by end n this other going coming rest st.course u (units_of n rest) some j st.place st.holds cut head in
+    subst (λ (p : Place). Did end n this other (react u this) going coming rest (answers_at p u)) (sym st.place)
+    (did end this other (react u this) going coming rest (u ∷ []) (answers_at (at_end end n st.course) u) n mv.count some j cut (refl, tt) (orderly_unit u this v.orderly) mv.moves mv.fits)
 
 -- ---- calls
-
-caller_sends_by : (n : ℕ) (s r : State) (g : Course) (link : Standing) (octets : List ℕ) → s.ended ≡ None → IsOrderly s → place_at n s ≡ at_end true n g → Holds n s r g → value_at n s.live ≡ Some (linked n link) →
-    n ≤ s.given → IsShortTsdu octets → IsOctets octets → CourseMoves true n g s r (sent n octets s) [] 0 (message octets ∷ [])
-caller_sends_by n s r unasked link octets quiet orderly at h live le short are = let e = given_place n s le ∙ ap was_given live in cc
-caller_sends_by n s r (asking c) link octets quiet orderly at h live le short are = let e = given_place n s le ∙ ap was_given live in cc
-caller_sends_by n s r (accepting c p) link octets quiet orderly at h live le short are = let e = given_place n s le ∙ ap was_given live in cc
-caller_sends_by n s r (withdrawing c p reason) link octets quiet orderly at h live le short are = let e = given_place n s le ∙ ap was_given live in cc
-caller_sends_by n s r (met m) link octets quiet orderly at h live le short are =
-    let place = is_given n s (here n m) at in
-    met_caller n m s r (sent n octets s) [] (message octets ∷ []) h le refl (send_here n s m link octets (let most = orderly.given in omega arith) quiet orderly place.is (sym place.is ∙ live) h.stands short are)
-
-caller_closes_by : (n : ℕ) (s r : State) (g : Course) (link : Standing) (reason : ℕ) → 0 < n → reason < 256 → s.ended ≡ None → IsOrderly s → place_at n s ≡ at_end true n g → Holds n s r g → value_at n s.live ≡ Some (linked n link) →
-    n ≤ s.given → CourseMoves true n g s r (closed_with n reason s) [] 0 (bye reason ∷ [])
-caller_closes_by n s r unasked link reason some small quiet orderly at h live le = let e = given_place n s le ∙ ap was_given live in cc
-caller_closes_by n s r (asking c) link reason some small quiet orderly at h live le = let e = given_place n s le ∙ ap was_given live in cc
-caller_closes_by n s r (accepting c p) link reason some small quiet orderly at h live le = let e = given_place n s le ∙ ap was_given live in cc
-caller_closes_by n s r (withdrawing c p last) link reason some small quiet orderly at h live le = let e = given_place n s le ∙ ap was_given live in cc
-caller_closes_by n s r (met m) link reason some small quiet orderly at h live le =
-    let place = is_given n s (here n m) at in
-    met_caller n m s r (closed_with n reason s) [] (bye reason ∷ []) h le refl (close_here n s m link reason some (let most = orderly.given in omega arith) small quiet h.class orderly place.is (sym place.is ∙ live) h.stands)
-
-called_sends_by : (n : ℕ) (s r : State) (g : Course) (link : Standing) (octets : List ℕ) → r.ended ≡ None → IsOrderly r → place_at n r ≡ at_end false n g → Holds n s r g → value_at n r.live ≡ Some (linked n link) →
-    n ≤ r.given → IsShortTsdu octets → IsOctets octets → CourseMoves false n g r s (sent n octets r) [] 0 (message octets ∷ [])
-called_sends_by n s r unasked link octets quiet orderly at h live le short are = let e = given_place n r le ∙ ap was_given live in cc
-called_sends_by n s r (asking c) link octets quiet orderly at h live le short are = let e = given_place n r le ∙ ap was_given live in cc
-called_sends_by n s r (accepting c p) link octets quiet orderly at h live le short are =
-    accepted_sends n c p s r octets h quiet orderly le (is_given n r (Some (linked n p.right)) at).is short are
-called_sends_by n s r (withdrawing c p reason) link octets quiet orderly at h live le short are = let e = given_place n r le ∙ ap was_given live in cc
-called_sends_by n s r (met m) link octets quiet orderly at h live le short are =
-    let place = is_given n r (here n (mirror m)) at in
-    met_called n m r s (sent n octets r) [] (message octets ∷ []) h le tt refl
-    (send_here n r (mirror m) link octets (let most = orderly.given in omega arith) quiet orderly place.is (sym place.is ∙ live) (mirror_stands m h.stands) short are)
-
-called_closes_by : (n : ℕ) (s r : State) (g : Course) (link : Standing) (reason : ℕ) → 0 < n → reason < 256 → r.ended ≡ None → IsOrderly r → place_at n r ≡ at_end false n g → Holds n s r g → value_at n r.live ≡ Some (linked n link) →
-    n ≤ r.given → CourseMoves false n g r s (closed_with n reason r) [] 0 (bye reason ∷ [])
-called_closes_by n s r unasked link reason some small quiet orderly at h live le = let e = given_place n r le ∙ ap was_given live in cc
-called_closes_by n s r (asking c) link reason some small quiet orderly at h live le = let e = given_place n r le ∙ ap was_given live in cc
-called_closes_by n s r (accepting c p) link reason some small quiet orderly at h live le =
-    accepted_closes n c p s r reason some small h quiet orderly le (is_given n r (Some (linked n p.right)) at).is
-called_closes_by n s r (withdrawing c p last) link reason some small quiet orderly at h live le = let e = given_place n r le ∙ ap was_given live in cc
-called_closes_by n s r (met m) link reason some small quiet orderly at h live le =
-    let place = is_given n r (here n (mirror m)) at in
-    met_called n m r s (closed_with n reason r) [] (bye reason ∷ []) h le tt refl
-    (close_here n r (mirror m) link reason some (let most = orderly.given in omega arith) small quiet h.class_called orderly place.is (sym place.is ∙ live) (mirror_stands m h.stands))
 
 -- a live connection has a reference that was given, and its peer's number is that one
 above_zero : (n : ℕ) (s : State) (x : Connection) (b : Bool) → nat_lt 0 n ≡ b → IsOrderly s → value_at n s.live ≡ Some x → 0 < n
@@ -312,52 +296,54 @@ above_zero n s x false e orderly at = let none = absent n 0 s.live (ltb-false 0 
 pub within_given : (n : ℕ) (s : State) (x : Connection) → IsOrderly s → value_at n s.live ≡ Some x → (0 < n) × (n ≤ s.given)
 within_given n s x orderly at = (above_zero n s x (nat_lt 0 n) refl orderly at, (is_given n s (Some x) (given_live n s x orderly at)).within)
 
-pub caller_sends : (s r : State) (going coming : List Value) (n : ℕ) (link : Standing) (octets : List ℕ) → AreJoined s r going coming → value_at n s.live ≡ Some (linked n link) → IsShortTsdu octets → IsOctets octets →
-    CallerDid n s r (sent n octets s) going coming coming (message octets ∷ [])
-caller_sends s r going coming n link octets j live short are =
-    let within = within_given n s (linked n link) j.orderly live in
-    let st = j.stands n within.0 in
-    let mv = caller_sends_by n s r st.course link octets j.lasts j.orderly st.place st.holds live within.1 short are in
-    record {
-      behind = going ++ mv.units;
-      acts = acts_for true n 0 s r (sent n octets s) going coming coming [] (message octets ∷ []) st refl tt mv;
-      joined = joined_caller s r (sent n octets s) going coming coming [] (message octets ∷ []) n 0 within.0 j st refl tt (orderly_sent n octets s j.orderly) mv
-          (places_for (live_after (references r.live) going) mv.units mv.numbers);
-    }
+sends_by : (end : Bool) (n : ℕ) (this other : State) (g : Course) (link : Standing) (octets : List ℕ) → this.ended ≡ None → IsOrderly this → place_at n this ≡ at_end end n g → HoldsAt end n this other g → value_at n this.live ≡ Some (linked n link) →
+    n ≤ this.given → IsShortTsdu octets → IsOctets octets → CourseMoves end n g this other (sent n octets this) [] 0 (message octets ∷ [])
+sends_by end n this other unasked link octets quiet orderly at h live le short are = let e = given_place n this le ∙ ap was_given live in cc
+sends_by true n this other (asking c) link octets quiet orderly at h live le short are = let e = given_place n this le ∙ ap was_given live in cc
+sends_by false n this other (asking c) link octets quiet orderly at h live le short are = let e = given_place n this le ∙ ap was_given live in cc
+sends_by true n this other (accepting c p) link octets quiet orderly at h live le short are = let e = given_place n this le ∙ ap was_given live in cc
+sends_by false n r s (accepting c p) link octets quiet orderly at h live le short are = accepted_sends n c p s r octets h quiet orderly le (is_given n r (Some (linked n p.right)) at).is short are
+sends_by true n this other (withdrawing c p reason) link octets quiet orderly at h live le short are = let e = given_place n this le ∙ ap was_given live in cc
+sends_by false n this other (withdrawing c p reason) link octets quiet orderly at h live le short are = let e = given_place n this le ∙ ap was_given live in cc
+sends_by true n s r (met m) link octets quiet orderly at h live le short are =
+    let place = is_given n s (here n m) at in
+    met_caller n m s r (sent n octets s) [] (message octets ∷ []) h le refl (send_here n s m link octets (let most = orderly.given in omega arith) quiet orderly place.is (sym place.is ∙ live) h.stands short are)
+sends_by false n r s (met m) link octets quiet orderly at h live le short are =
+    let place = is_given n r (here n (mirror m)) at in
+    met_called n m r s (sent n octets r) [] (message octets ∷ []) h le tt refl
+    (send_here n r (mirror m) link octets (let most = orderly.given in omega arith) quiet orderly place.is (sym place.is ∙ live) (mirror_stands m h.stands) short are)
 
-pub caller_closes : (s r : State) (going coming : List Value) (n : ℕ) (link : Standing) (reason : ℕ) → AreJoined s r going coming → value_at n s.live ≡ Some (linked n link) → reason < 256 →
-    CallerDid n s r (closed_with n reason s) going coming coming (bye reason ∷ [])
-caller_closes s r going coming n link reason j live small =
-    let within = within_given n s (linked n link) j.orderly live in
-    let st = j.stands n within.0 in
-    let mv = caller_closes_by n s r st.course link reason within.0 small j.lasts j.orderly st.place st.holds live within.1 in
-    record {
-      behind = going ++ mv.units;
-      acts = acts_for true n 0 s r (closed_with n reason s) going coming coming [] (bye reason ∷ []) st refl tt mv;
-      joined = joined_caller s r (closed_with n reason s) going coming coming [] (bye reason ∷ []) n 0 within.0 j st refl tt (orderly_closed n reason s j.orderly) mv
-          (places_for (live_after (references r.live) going) mv.units mv.numbers);
-    }
+pub sends : (end : Bool) (this other : State) (going coming : List Value) (n : ℕ) (link : Standing) (octets : List ℕ) → JoinedFrom end this other going coming → value_at n this.live ≡ Some (linked n link) → IsShortTsdu octets → IsOctets octets →
+    Did end n this other (sent n octets this) going coming coming (message octets ∷ [])
+sends end this other going coming n link octets j live short are =
+    let v = seen end this other going coming j in
+    let within = within_given n this (linked n link) v.orderly live in
+    let st = v.stands n within.0 in
+    let mv = sends_by end n this other st.course link octets v.lasts v.orderly st.place st.holds live within.1 short are in
+    did end this other (sent n octets this) going coming coming [] (message octets ∷ []) n 0 within.0 j refl tt (orderly_sent n octets this v.orderly) mv (fits_none end other going mv.units [] mv.numbers)
 
-pub called_sends : (s r : State) (going coming : List Value) (n : ℕ) (link : Standing) (octets : List ℕ) → AreJoined s r going coming → value_at n r.live ≡ Some (linked n link) → IsShortTsdu octets → IsOctets octets →
-    CalledDid n s r (sent n octets r) going coming going (message octets ∷ [])
-called_sends s r going coming n link octets j live short are =
-    let within = within_given n r (linked n link) j.orderly_called live in
-    let st = j.stands n within.0 in
-    let mv = called_sends_by n s r st.course link octets j.lasts_called j.orderly_called st.place_there st.holds live within.1 short are in
-    record {
-      behind = coming ++ mv.units;
-      acts = acts_for false n 0 r s (sent n octets r) coming going going [] (message octets ∷ []) (stands_flip n s r going coming st) refl tt mv;
-      joined = joined_called s r (sent n octets r) going coming going [] (message octets ∷ []) n 0 within.0 j refl tt (orderly_sent n octets r j.orderly_called) mv;
-    }
+closes_by : (end : Bool) (n : ℕ) (this other : State) (g : Course) (link : Standing) (reason : ℕ) → 0 < n → reason < 256 → this.ended ≡ None → IsOrderly this → place_at n this ≡ at_end end n g → HoldsAt end n this other g → value_at n this.live ≡ Some (linked n link) →
+    n ≤ this.given → CourseMoves end n g this other (closed_with n reason this) [] 0 (bye reason ∷ [])
+closes_by end n this other unasked link reason some small quiet orderly at h live le = let e = given_place n this le ∙ ap was_given live in cc
+closes_by true n this other (asking c) link reason some small quiet orderly at h live le = let e = given_place n this le ∙ ap was_given live in cc
+closes_by false n this other (asking c) link reason some small quiet orderly at h live le = let e = given_place n this le ∙ ap was_given live in cc
+closes_by true n this other (accepting c p) link reason some small quiet orderly at h live le = let e = given_place n this le ∙ ap was_given live in cc
+closes_by false n r s (accepting c p) link reason some small quiet orderly at h live le = accepted_closes n c p s r reason some small h quiet orderly le (is_given n r (Some (linked n p.right)) at).is
+closes_by true n this other (withdrawing c p last) link reason some small quiet orderly at h live le = let e = given_place n this le ∙ ap was_given live in cc
+closes_by false n this other (withdrawing c p last) link reason some small quiet orderly at h live le = let e = given_place n this le ∙ ap was_given live in cc
+closes_by true n s r (met m) link reason some small quiet orderly at h live le =
+    let place = is_given n s (here n m) at in
+    met_caller n m s r (closed_with n reason s) [] (bye reason ∷ []) h le refl (close_here n s m link reason some (let most = orderly.given in omega arith) small quiet h.class orderly place.is (sym place.is ∙ live) h.stands)
+closes_by false n r s (met m) link reason some small quiet orderly at h live le =
+    let place = is_given n r (here n (mirror m)) at in
+    met_called n m r s (closed_with n reason r) [] (bye reason ∷ []) h le tt refl
+    (close_here n r (mirror m) link reason some (let most = orderly.given in omega arith) small quiet h.class_called orderly place.is (sym place.is ∙ live) (mirror_stands m h.stands))
 
-pub called_closes : (s r : State) (going coming : List Value) (n : ℕ) (link : Standing) (reason : ℕ) → AreJoined s r going coming → value_at n r.live ≡ Some (linked n link) → reason < 256 →
-    CalledDid n s r (closed_with n reason r) going coming going (bye reason ∷ [])
-called_closes s r going coming n link reason j live small =
-    let within = within_given n r (linked n link) j.orderly_called live in
-    let st = j.stands n within.0 in
-    let mv = called_closes_by n s r st.course link reason within.0 small j.lasts_called j.orderly_called st.place_there st.holds live within.1 in
-    record {
-      behind = coming ++ mv.units;
-      acts = acts_for false n 0 r s (closed_with n reason r) coming going going [] (bye reason ∷ []) (stands_flip n s r going coming st) refl tt mv;
-      joined = joined_called s r (closed_with n reason r) going coming going [] (bye reason ∷ []) n 0 within.0 j refl tt (orderly_closed n reason r j.orderly_called) mv;
-    }
+pub closes : (end : Bool) (this other : State) (going coming : List Value) (n : ℕ) (link : Standing) (reason : ℕ) → JoinedFrom end this other going coming → value_at n this.live ≡ Some (linked n link) → reason < 256 →
+    Did end n this other (closed_with n reason this) going coming coming (bye reason ∷ [])
+closes end this other going coming n link reason j live small =
+    let v = seen end this other going coming j in
+    let within = within_given n this (linked n link) v.orderly live in
+    let st = v.stands n within.0 in
+    let mv = closes_by end n this other st.course link reason within.0 small v.lasts v.orderly st.place st.holds live within.1 in
+    did end this other (closed_with n reason this) going coming coming [] (bye reason ∷ []) n 0 within.0 j refl tt (orderly_closed n reason this v.orderly) mv (fits_none end other going mv.units [] mv.numbers)

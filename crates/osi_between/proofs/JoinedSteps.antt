@@ -147,49 +147,53 @@ acts_for end n asked this other next going coming rest taken put s cut all mv =
     let back = back_after end n asked this other next going coming rest taken put s cut all mv in
     let there = s.place_there ∙ sym mv.there in
     record {
-      units = mv.units;
-      events = mv.events;
-      arrived = c.arrived;
-      stays = c.stays;
-      lost = c.lost;
-      written = refl;
-      sendable = mv.sendable;
-      outgoing = mv.acts.outgoing;
-      told_events = mv.acts.events;
-      told = c.told ∙ ap (λ (p : Place). flat_map (told_opening n p) c.arrived) (sym s.place);
-      came = like_over (connection_in (place_at n next)) (connection_in (at_end end n mv.new)) (under_way_for n other this coming) (messages_from (not end) n local s.course)
-          (c.arrived ++ under_way_for n other next rest) (c.arrived ++ messages_from (not end) n local mv.new)
-          (ap connection_in mv.place)
-          (same_way (place_at n other) (at_end (not end) n s.course) (place_at n this) (at_end (not (not end)) n s.course) (units_of n coming) (from_end (not end) n local s.course) s.place_there s.back (s.place ∙ sym (at_twice end n s.course)))
-          (ap (λ (l : List Message). c.arrived ++ l)
-          (same_way (place_at n other) (at_end (not end) n mv.new) (place_at n next) (at_end (not (not end)) n mv.new) (units_of n rest) (from_end (not end) n local mv.new) there back (mv.place ∙ sym (at_twice end n mv.new))))
-          c.came;
-      before = like_over (connection_in (place_at n other)) (connection_in (at_end (not end) n s.course)) (under_way_for n this other going) (messages_from end n local s.course)
-          (c.stays ++ c.lost) (c.stays ++ c.lost) (ap connection_in s.place_there)
-          (same_way (place_at n this) (at_end end n s.course) (place_at n other) (at_end (not end) n s.course) (units_of n going) (from_end end n local s.course) s.place s.out s.place_there)
-          refl c.before;
-      after = like_over (connection_in (place_at n other)) (connection_in (at_end (not end) n s.course)) (under_way_for n next other (going ++ mv.units)) (messages_from end n local mv.new)
-          (c.stays ++ put) (c.stays ++ put) (ap connection_in s.place_there)
-          (same_way (place_at n next) (at_end end n mv.new) (place_at n other) (at_end (not end) n mv.new) (units_of n (going ++ mv.units)) (from_end end n local mv.new) mv.place out there)
-          refl c.after;
-      others = λ q apart. same_way (place_at q this) (place_at q next) (place_at q other) (place_at q other) (units_of q going) (units_of q (going ++ mv.units))
-          (sym (mv.acts.others q apart))
-          (sym (units_join q going mv.units ∙ ap (λ (l : List Value). units_of q going ++ l) (units_other q n mv.units apart mv.acts.all_for) ∙ append-nil (units_of q going)))
-          refl;
-      others_back = λ q apart. same_way (place_at q other) (place_at q other) (place_at q this) (place_at q next) (units_of q coming) (units_of q rest)
-          refl
-          (ap (units_of q) cut ∙ units_join q taken rest ∙ ap (λ (l : List Value). l ++ units_of q rest) (units_other q n taken apart all))
-          (sym (mv.acts.others q apart));
-      others_stay = mv.acts.others;
-      taken = taken;
-      cut = cut;
-      all_for = all;
-      written_for = mv.acts.all_for;
-      brings = subst (λ (x : Place). BringsTo true x (place_at n next) taken c.arrived put) (sym s.place)
-          (subst (λ (x : Place). BringsTo true (at_end end n s.course) x taken c.arrived put) (sym mv.place) mv.brings);
+      takes = record {
+        units = taken;
+        arrived = c.arrived;
+        cut = cut;
+        all_for = all;
+        told = mv.acts.events ∙ ap (λ (l : List Happening). this.events ++ l) (c.told ∙ ap (λ (p : Place). flat_map (told_opening n p) c.arrived) (sym s.place));
+        came = like_over (connection_in (place_at n next)) (connection_in (at_end end n mv.new)) (under_way_for n other this coming) (messages_from (not end) n local s.course)
+            (c.arrived ++ under_way_for n other next rest) (c.arrived ++ messages_from (not end) n local mv.new)
+            (ap connection_in mv.place)
+            (same_way (place_at n other) (at_end (not end) n s.course) (place_at n this) (at_end (not (not end)) n s.course) (units_of n coming) (from_end (not end) n local s.course) s.place_there s.back (s.place ∙ sym (at_twice end n s.course)))
+            (ap (λ (l : List Message). c.arrived ++ l)
+            (same_way (place_at n other) (at_end (not end) n mv.new) (place_at n next) (at_end (not (not end)) n mv.new) (units_of n rest) (from_end (not end) n local mv.new) there back (mv.place ∙ sym (at_twice end n mv.new))))
+            c.came;
+        brings = subst (λ (x : Place). BringsTo true x (place_at n next) taken c.arrived put) (sym s.place)
+            (subst (λ (x : Place). BringsTo true (at_end end n s.course) x taken c.arrived put) (sym mv.place) mv.brings);
+      };
+      writes = record {
+        units = mv.units;
+        written = refl;
+        outgoing = mv.acts.outgoing;
+        sendable = mv.sendable;
+        all_for = mv.acts.all_for;
+        stays = c.stays;
+        lost = c.lost;
+        before = like_over (connection_in (place_at n other)) (connection_in (at_end (not end) n s.course)) (under_way_for n this other going) (messages_from end n local s.course)
+            (c.stays ++ c.lost) (c.stays ++ c.lost) (ap connection_in s.place_there)
+            (same_way (place_at n this) (at_end end n s.course) (place_at n other) (at_end (not end) n s.course) (units_of n going) (from_end end n local s.course) s.place s.out s.place_there)
+            refl c.before;
+        after = like_over (connection_in (place_at n other)) (connection_in (at_end (not end) n s.course)) (under_way_for n next other (going ++ mv.units)) (messages_from end n local mv.new)
+            (c.stays ++ put) (c.stays ++ put) (ap connection_in s.place_there)
+            (same_way (place_at n next) (at_end end n mv.new) (place_at n other) (at_end (not end) n mv.new) (units_of n (going ++ mv.units)) (from_end end n local mv.new) mv.place out there)
+            refl c.after;
+        keeps = subst (λ (x : Place). leaves_use (progress_of x) (progress_of (place_at n next)) ≡ false → c.lost ≡ []) (sym s.place)
+            (subst (λ (x : Place). leaves_use (progress_of (at_end end n s.course)) (progress_of x) ≡ false → c.lost ≡ []) (sym mv.place) mv.keeps);
+      };
+      others = record {
+        out = λ q apart. same_way (place_at q this) (place_at q next) (place_at q other) (place_at q other) (units_of q going) (units_of q (going ++ mv.units))
+            (sym (mv.acts.others q apart))
+            (sym (units_join q going mv.units ∙ ap (λ (l : List Value). units_of q going ++ l) (units_other q n mv.units apart mv.acts.all_for) ∙ append-nil (units_of q going)))
+            refl;
+        back = λ q apart. same_way (place_at q other) (place_at q other) (place_at q this) (place_at q next) (units_of q coming) (units_of q rest)
+            refl
+            (ap (units_of q) cut ∙ units_join q taken rest ∙ ap (λ (l : List Value). l ++ units_of q rest) (units_other q n taken apart all))
+            (sym (mv.acts.others q apart));
+        places = mv.acts.others;
+      };
       given = mv.given ∙ ap (λ (k : ℕ). this.given + k) mv.gives;
       class = mv.settles;
       local = mv.acts.local;
-      keeps = subst (λ (x : Place). leaves_use (progress_of x) (progress_of (place_at n next)) ≡ false → c.lost ≡ []) (sym s.place)
-          (subst (λ (x : Place). leaves_use (progress_of (at_end end n s.course)) (progress_of x) ≡ false → c.lost ≡ []) (sym mv.place) mv.keeps);
     }

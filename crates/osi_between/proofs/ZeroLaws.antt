@@ -43,12 +43,12 @@ use Rattle.osi_between.proofs.Zeros.{one_place, zero_for, under_is, brings_at, a
 
 -- ---- open links
 
-abbrev talks_caller : (s r : State) (going coming : List Value) (p : LinkPair) → HasOne s (was_given (Some (linked 1 p.left))) → HasOne r (was_given (Some (linked 1 p.right))) → going ≡ addressed 1 p.rightward → AreOpen false p → Talks s r going coming p
-talks_caller s r going coming p a b c d = record { here = a; there = b; going_is = c; open_links = d }
+abbrev talks : (s r : State) (going coming : List Value) (p : LinkPair) → HasOne s (was_given (Some (linked 1 p.left))) → HasOne r (was_given (Some (linked 1 p.right))) → going ≡ addressed 1 p.rightward → AreOpen false p → Talks s r going coming p
+talks s r going coming p a b c d = record { here = a; there = b; going_is = c; open_links = d }
 
-does_caller : (s r t : State) (going coming rest taken : List Value) (put : List Message) (p : LinkPair) → AreJoinedZero s r going coming → HasOne r (was_given (Some (linked 1 p.right))) → coming ≡ addressed 1 p.leftward →
-    Talked s r t going coming rest taken put p → Does by_zero true 1 s r t going coming rest taken put
-does_caller s r t going coming rest taken put p j other is h = record {
+does_zero : (end : Bool) (this other next : State) (going coming rest taken : List Value) (put : List Message) (p : LinkPair) → JoinedAt end by_zero this other going coming → HasOne other (was_given (Some (linked 1 p.right))) → coming ≡ addressed 1 p.leftward →
+    Talked this other next going coming rest taken put p → Does by_zero end 1 this other next going coming rest taken put
+does_zero true s r t going coming rest taken put p j other is h = record {
   steps = h.steps;
   joined = record {
     is_caller = h.is_caller ∙ j.is_caller;
@@ -62,10 +62,7 @@ does_caller s r t going coming rest taken put p j other is h = record {
     holds = h.open_links;
   };
 }
-
-does_called : (r s t : State) (going coming rest taken : List Value) (put : List Message) (p : LinkPair) → AreJoinedZero s r coming going → HasOne s (was_given (Some (linked 1 p.right))) → coming ≡ addressed 1 p.leftward →
-    Talked r s t going coming rest taken put p → Does by_zero false 1 r s t going coming rest taken put
-does_called r s t going coming rest taken put p j other is h = record {
+does_zero false r s t going coming rest taken put p j other is h = record {
   steps = h.steps;
   joined = record {
     is_caller = j.is_caller;
@@ -103,25 +100,15 @@ given_answer link (part0 end octets) = refl
 given_answer link (part2 number end octets) = refl
 given_answer link (ack number credit) = refl
 
-talking_caller : (s r : State) (going coming rest : List Value) (unit : Value) (p : LinkPair) (gs : List Given) → AreJoinedZero s r going coming → HasOne s (was_given (Some (linked 1 p.left))) → HasOne r (was_given (Some (linked 1 p.right))) →
+talking_takes : (end : Bool) (this other : State) (going coming rest : List Value) (unit : Value) (p : LinkPair) (gs : List Given) → JoinedAt end by_zero this other going coming → HasOne this (was_given (Some (linked 1 p.left))) → HasOne other (was_given (Some (linked 1 p.right))) →
     going ≡ addressed 1 p.rightward → coming ≡ addressed 1 p.leftward → AreOpen false p → p.leftward ≡ gs → coming ≡ unit ∷ rest →
-    Does by_zero true (reference_of unit) s r (react unit s) going coming rest (unit ∷ []) (answers_in by_zero (place_at (reference_of unit) s) unit)
-talking_caller s r going coming rest unit p [] j one other is back a e cut = absurd (none_left coming rest unit (back ∙ ap (addressed 1) e) cut)
-talking_caller s r going coming rest unit p (g ∷ gs) j one other is back a e cut =
+    Does by_zero end (reference_of unit) this other (react unit this) going coming rest (unit ∷ []) (answers_in by_zero (place_at (reference_of unit) this) unit)
+talking_takes end this other going coming rest unit p [] j one there is back a e cut = absurd (none_left coming rest unit (back ∙ ap (addressed 1) e) cut)
+talking_takes end this other going coming rest unit p (g ∷ gs) j one there is back a e cut =
     let head : unit_of 1 g ≡ unit = (let x = sym (back ∙ ap (addressed 1) e) ∙ cut in cc) in
-    finish true s r going coming rest (unit_of 1 g) unit [] head (given_one g) (ap (λ (x : Place). answers_at x (unit_of 1 g)) (one_place s (was_given (Some (linked 1 p.left))) one) ∙ given_answer p.left g)
-    (does_caller s r (react (unit_of 1 g) s) going coming rest (unit_of 1 g ∷ []) [] p j other back
-    (talk_takes s r going coming rest p g gs (talks_caller s r going coming p one other is a) (cut ∙ ap (λ (x : Value). x ∷ rest) (sym head)) e))
-
-talking_called : (r s : State) (going coming rest : List Value) (unit : Value) (p : LinkPair) (gs : List Given) → AreJoinedZero s r coming going → HasOne r (was_given (Some (linked 1 p.left))) → HasOne s (was_given (Some (linked 1 p.right))) →
-    going ≡ addressed 1 p.rightward → coming ≡ addressed 1 p.leftward → AreOpen false p → p.leftward ≡ gs → coming ≡ unit ∷ rest →
-    Does by_zero false (reference_of unit) r s (react unit r) going coming rest (unit ∷ []) (answers_in by_zero (place_at (reference_of unit) r) unit)
-talking_called r s going coming rest unit p [] j one other is back a e cut = absurd (none_left coming rest unit (back ∙ ap (addressed 1) e) cut)
-talking_called r s going coming rest unit p (g ∷ gs) j one other is back a e cut =
-    let head : unit_of 1 g ≡ unit = (let x = sym (back ∙ ap (addressed 1) e) ∙ cut in cc) in
-    finish false r s going coming rest (unit_of 1 g) unit [] head (given_one g) (ap (λ (x : Place). answers_at x (unit_of 1 g)) (one_place r (was_given (Some (linked 1 p.left))) one) ∙ given_answer p.left g)
-    (does_called r s (react (unit_of 1 g) r) going coming rest (unit_of 1 g ∷ []) [] p j other back
-    (talk_takes r s going coming rest p g gs (talks_caller r s going coming p one other is a) (cut ∙ ap (λ (x : Value). x ∷ rest) (sym head)) e))
+    finish end this other going coming rest (unit_of 1 g) unit [] head (given_one g) (ap (λ (x : Place). answers_at x (unit_of 1 g)) (one_place this (was_given (Some (linked 1 p.left))) one) ∙ given_answer p.left g)
+    (does_zero end this other (react (unit_of 1 g) this) going coming rest (unit_of 1 g ∷ []) [] p j there back
+    (talk_takes this other going coming rest p g gs (talks this other going coming p one there is a) (cut ∙ ap (λ (x : Value). x ∷ rest) (sym head)) e))
 
 caller_by : (s r : State) (going coming rest : List Value) (unit : Value) (g : ZeroCourse) → AreJoinedZero s r going coming → HasOne s (at_end true g) → HasOne r (at_end false g) → going ≡ from_end true r.local g → coming ≡ from_end false r.local g →
     Holds s.local r.local g → coming ≡ unit ∷ rest →
@@ -133,7 +120,7 @@ caller_by s r going coming rest unit (accepting c p) j one other is back h cut =
     let head : u ≡ unit = (let x = sym back ∙ cut in cc) in
     finish true s r going coming rest u unit [] head refl (ap (λ (x : Place). answers_at x u) (one_place s (was_given (Some asked)) one))
     (confirm_taken s r going coming rest c p j.is_caller j.is_called j.terms one other is back h (cut ∙ ap (λ (x : Value). x ∷ rest) (sym head)))
-caller_by s r going coming rest unit (talking p) j one other is back h cut = talking_caller s r going coming rest unit p p.leftward j one other is back h refl cut
+caller_by s r going coming rest unit (talking p) j one other is back h cut = talking_takes true s r going coming rest unit p p.leftward j one other is back h refl cut
 
 called_by : (s r : State) (going coming rest : List Value) (unit : Value) (g : ZeroCourse) → AreJoinedZero s r going coming → HasOne s (at_end true g) → HasOne r (at_end false g) → going ≡ from_end true r.local g → coming ≡ from_end false r.local g →
     Holds s.local r.local g → going ≡ unit ∷ rest →
@@ -145,7 +132,7 @@ called_by s r going coming rest unit (asking c) j one other is back h cut =
     finish false r s coming going rest (request c) unit (agree ∷ []) head source (ap (λ (x : Place). answers_at x (request c)) (one_place r never other))
     (request_taken s r going coming rest c j.is_caller j.is_called j.terms one other is back h (cut ∙ ap (λ (x : Value). x ∷ rest) (sym head)))
 called_by s r going coming rest unit (accepting c p) j one other is back h cut = absurd (none_left going rest unit is cut)
-called_by s r going coming rest unit (talking p) j one other is back h cut = talking_called r s coming going rest unit (swapped p) p.rightward j other one back is (open_mirror false p h) refl cut
+called_by s r going coming rest unit (talking p) j one other is back h cut = talking_takes false r s coming going rest unit (swapped p) p.rightward j other one back is (open_mirror false p h) refl cut
 
 takes_zero : (end : Bool) (this other : State) (going coming rest : List Value) (unit : Value) → JoinedAt end by_zero this other going coming → coming ≡ unit ∷ rest →
     Does by_zero end (reference_of unit) this other (react unit this) going coming rest (unit ∷ []) (answers_in by_zero (place_at (reference_of unit) this) unit)
@@ -242,7 +229,7 @@ caller_sends s r going coming n peer link octets (asking c) j one other is back 
 caller_sends s r going coming n peer link octets (accepting c p) j one other is back h at short are = absurd (not_asked s n peer link one at)
 caller_sends s r going coming n peer link octets (talking p) j one other is back h at short are =
     subst (λ (m : ℕ). Does by_zero true m s r (sent m octets s) going coming coming [] (message octets ∷ [])) (sym (at_one s n (linked 1 p.left) (linked peer link) one at).reference)
-    (does_caller s r (sent 1 octets s) going coming coming [] (message octets ∷ []) p j other back (talk_sends s r going coming p octets (talks_caller s r going coming p one other is h) short are))
+    (does_zero true s r (sent 1 octets s) going coming coming [] (message octets ∷ []) p j other back (talk_sends s r going coming p octets (talks s r going coming p one other is h) short are))
 
 called_sends : (s r : State) (going coming : List Value) (n peer : ℕ) (link : Standing) (octets : List ℕ) (g : ZeroCourse) → AreJoinedZero s r going coming → HasOne s (at_end true g) → HasOne r (at_end false g) → going ≡ from_end true r.local g → coming ≡ from_end false r.local g →
     Holds s.local r.local g → value_at n r.live ≡ Some (linked peer link) → IsShortTsdu octets → IsOctets octets → Does by_zero false n r s (sent n octets r) coming going going [] (message octets ∷ [])
@@ -253,8 +240,8 @@ called_sends s r going coming n peer link octets (accepting c p) j one other is 
     (accept_sends s r going coming c p octets j one other is back h short are)
 called_sends s r going coming n peer link octets (talking p) j one other is back h at short are =
     subst (λ (m : ℕ). Does by_zero false m r s (sent m octets r) coming going going [] (message octets ∷ [])) (sym (at_one r n (linked 1 p.right) (linked peer link) other at).reference)
-    (does_called r s (sent 1 octets r) coming going going [] (message octets ∷ []) (swapped p) j one is
-    (talk_sends r s coming going (swapped p) octets (talks_caller r s coming going (swapped p) other one back (open_mirror false p h)) short are))
+    (does_zero false r s (sent 1 octets r) coming going going [] (message octets ∷ []) (swapped p) j one is
+    (talk_sends r s coming going (swapped p) octets (talks r s coming going (swapped p) other one back (open_mirror false p h)) short are))
 
 sends_zero : (end : Bool) (this other : State) (going coming : List Value) (n peer : ℕ) (link : Standing) (octets : List ℕ) → JoinedAt end by_zero this other going coming →
     value_at n this.live ≡ Some (linked peer link) → IsShortTsdu octets → IsOctets octets → Does by_zero end n this other (sent n octets this) going coming coming [] (message octets ∷ [])

@@ -107,8 +107,10 @@ AreJoinedBy (refusing reason) caller called going coming = AreRefusing reason ca
 pub record AreBetween (terms : Terms) (both : Both) (b : Between) : Type 0 where
   pub lives : (end : Bool) → (side end both).state.ended ≡ None → (side end both).state ≡ last_of end b
   pub joined : AreJoinedBy terms b.caller b.called (b.going ++ b.going_lost) (b.coming ++ b.coming_lost)
+  -- what an end that has not ended holds and what will arrive there are these units
   pub comes : (end : Bool) → (side (not end) both).state.ended ≡ None →
       IsOnTheWay (side (not end) both).held (arriving end both) (units_from end b) (lost_from end b)
+  -- only a break loses units, and no more can arrive than there is to hand over
   pub unbroken : both.reach ≡ None → (end : Bool) → lost_from end b ≡ []
   pub bound : (end : Bool) → IfSome (reach_of end both.reach) (λ k. k ≤ length (side end both).state.outgoing)
 
@@ -156,11 +158,15 @@ pub record Carries (terms : Terms) (end : Bool) (n : ℕ) (old new : Both) (b c 
   pub arrived : List Message
   pub stays : List Message
   pub gone : List Message
+  -- what its user is told, and what was under way to it: what arrived, and then what still is
   pub told : (last_of end c).events ≡ (last_of end b).events ++ flat_map (told_of terms n (place_at n (last_of end b))) arrived
   pub came : AreLike (connection_in (place_at n (last_of end c))) (under_way (not end) n old b) (arrived ++ under_way (not end) n new c)
+  -- what was under way from it, and what is
   pub before : AreLike (connection_in (place_at n (last_of (not end) b))) (under_way end n old b) (stays ++ gone)
   pub after : AreLike (connection_in (place_at n (last_of (not end) b))) (under_way end n new c) (stays ++ put_in old put)
+  -- what the units that it took brought to the connection
   pub brings : BringsTo (accepts_in terms) (place_at n (last_of end b)) (place_at n (last_of end c)) taken arrived put
+  -- all others stay
   pub others : (q : ℕ) → q ≢ n → (from : Bool) → under_way from q old b ≡ under_way from q new c
   pub other_places : (q : ℕ) → q ≢ n → place_at q (last_of end c) ≡ place_at q (last_of end b)
   -- it gave a reference for each connection that it asked for or accepted, and agreed the class
@@ -169,8 +175,8 @@ pub record Carries (terms : Terms) (end : Bool) (n : ℕ) (old new : Both) (b c 
   pub local : (last_of end c).local ≡ (last_of end b).local
   -- of what is under way from it some is lost only where the connection is open no more
   pub keeps : leaves_use (progress_of (place_at n (last_of end b))) (progress_of (place_at n (last_of end c))) ≡ false → gone ≡ []
+  -- the other end is as it was; the units that are on the way to it are those behind what it took
   pub there : last_of (not end) c ≡ last_of (not end) b
-  -- the units that are on the way to it are those behind what it took
   pub cut : units_from (not end) b ≡ taken ++ units_from (not end) c
   pub lost_still : lost_from (not end) c ≡ lost_from (not end) b
 
@@ -220,16 +226,10 @@ with_behind octets s = record s { held = s.held ++ octets }
 
 -- so many octets from this end are handed over to the other
 abbrev pub handed_over : Bool → ℕ → Both → Both
-handed_over true k both = record {
-  caller = without_front k both.caller;
-  called = with_behind (take k both.caller.state.outgoing) both.called;
-  reach = reach_less true k both.reach;
-}
-handed_over false k both = record {
-  caller = with_behind (take k both.called.state.outgoing) both.caller;
-  called = without_front k both.called;
-  reach = reach_less false k both.reach;
-}
+handed_over end k both =
+    with_side end (without_front k (side end both))
+    (with_side (not end) (with_behind (take k (side end both).state.outgoing) (side (not end) both))
+    (record both { reach = reach_less end k both.reach }))
 
 -- these events are still to be told at an end
 abbrev pub still_to_tell : Bool → List Happening → Both → Both

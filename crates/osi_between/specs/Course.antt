@@ -136,8 +136,11 @@ pub record CourseCarries (end : Bool) (n : ℕ) (called : Local) (old new : Cour
   pub arrived : List Message
   pub stays : List Message
   pub lost : List Message
+  -- the events are what is told of what arrived
   pub told : events ≡ flat_map (told_opening n (at_end end n old)) arrived
+  -- what was under way to it: what arrived, and then what still is
   pub came : AreLike (connection_in (at_end end n new)) (messages_from (not end) n called old) (arrived ++ messages_from (not end) n called new)
+  -- what was under way from it, and what is
   pub before : AreLike (connection_in (at_end (not end) n old)) (messages_from end n called old) (stays ++ lost)
   pub after : AreLike (connection_in (at_end (not end) n old)) (messages_from end n called new) (stays ++ put)
 
@@ -185,24 +188,30 @@ abbrev pub answers_at : Place → Value → List Message
 answers_at never unit = agree ∷ []
 answers_at (was_given connection) unit = answers_of connection unit
 
--- One end (`this` and then `next`) acted: these units to it were taken (one, or none), and so many
--- references were given.
+-- One end (`this` and then `next`) acted for a connection, which stood so: these units to it were taken
+-- (one, or none), so many references were given, and `put` was put behind what is under way from it.
 pub record CourseMoves (end : Bool) (n : ℕ) (old : Course) (this other next : State) (taken : List Value) (asked : ℕ) (put : List Message) : Type 0 where
+  -- how it stands then, and there as it did
   pub new : Course
+  pub place : place_at n next ≡ at_end end n new
+  pub there : at_end (not end) n new ≡ at_end (not end) n old
+  pub holds : HoldsAt end n next other new
+  -- the units that were written and the events that were told
   pub units : List Value
   pub events : List Happening
   pub acts : Acts n this next units events
   pub sendable : AllByRecursion IsSendable units
-  pub place : place_at n next ≡ at_end end n new
-  pub there : at_end (not end) n new ≡ at_end (not end) n old
+  -- what is under way in units, from it and to it
   pub out : from_end end n (called_local end this other) new ≡ from_end end n (called_local end this other) old ++ units
   pub back : from_end (not end) n (called_local end this other) old ≡ taken ++ from_end (not end) n (called_local end this other) new
-  pub holds : HoldsAt end n next other new
+  -- references: so many are given, and each CR has the next one; which are live at the called end
   pub given : next.given ≡ this.given + asked
   pub numbers : requests (asked_in end units taken) ≡ behind this.given asked
   pub places : KeepsPlaces end this next taken
+  -- and in messages: what is under way; what the units brought; nothing is lost while it stays open
   pub carries : CourseCarries end n (called_local end this other) old new events put
   pub brings : BringsTo true (at_end end n old) (at_end end n new) taken carries.arrived put
   pub keeps : leaves_use (progress_of (at_end end n old)) (progress_of (at_end end n new)) ≡ false → carries.lost ≡ []
+  -- so the messages say how many references are given, and which class holds
   pub gives : asked ≡ asks_in carries.arrived + asks_in put
   pub settles : next.class ≡ class_behind_all (Some Two) this.class carries.arrived

@@ -7,7 +7,6 @@ use Rattle.osi_class.specs.declared.terms.Class.TheVariants.{Two}
 use Rattle.osi_carrier.specs.References.{references}
 use Rattle.osi_carrier.specs.Coming.{IsSendable}
 use Rattle.osi_carrier.specs.Place.{place_at, connection_in}
-use Rattle.osi_carrier.specs.Happenings.{Happening}
 use Rattle.osi_carrier.specs.Orderly.{IsOrderly}
 use Rattle.osi_carrier.specs.State.{State, packets}
 use Rattle.osi_between.specs.Addresses.{AreFor, reference_of, units_of, live_behind, requests, behind}
@@ -42,19 +41,24 @@ HasPlaces refs (unit ∷ units) = HasPlace refs unit × HasPlaces (live_behind r
 
 -- `going`: the units on the way to the called end; `coming`: those on the way to the caller
 pub record AreJoined (caller called : State) (going coming : List Value) : Type 0 where
+  -- a caller and a called end, which have not ended and keep their rules
   pub is_caller : caller.is_caller ≡ true
   pub is_called : called.is_caller ≡ false
   pub lasts : caller.ended ≡ None
   pub lasts_called : called.ended ≡ None
   pub orderly : IsOrderly caller
   pub orderly_called : IsOrderly called
+  -- both support class 2, and no other holds
   pub supports : caller.local.class2 ≡ true
   pub supports_called : called.local.class2 ≡ true
   pub class : MayTakeTwo caller.class
   pub class_called : MayTakeTwo called.class
+  -- each unit names a connection, and each connection stands between them as it may
   pub named : AllByRecursion (λ unit. 0 < reference_of unit) going
   pub named_back : AllByRecursion (λ unit. 0 < reference_of unit) coming
   pub stands : (n : ℕ) → 0 < n → StandsBetween true n caller called going coming
+  -- the caller has given so many references more than the called end: they are those of the CRs that are
+  -- on the way, and for each there is a place
   pub ahead : ℕ
   pub given : caller.given ≡ called.given + ahead
   pub numbers : requests going ≡ behind called.given ahead
@@ -64,48 +68,64 @@ pub record AreJoined (caller called : State) (going coming : List Value) : Type 
 abbrev pub under_way_for : ℕ → State → State → List Value → List Message
 under_way_for n sender taker units = messages_to (connection_in (place_at n sender)) (units_of n units) (connection_in (place_at n taker))
 
--- One end (`this`, and then `next`) acted for a connection: `going` are the units on the way from it
--- and `coming` those to it, and then `behind` and `rest`. What was under way to it arrived or still
--- is, and of what arrived its user was told; what was under way from it stays, but for what was
--- `lost`, and `put` comes behind it. What is under way for all other connections is the same.
-pub record ActsFor (n : ℕ) (this other next : State) (going coming behind rest : List Value) (put : List Message) : Type 0 where
+-- joined, seen from an end: `true` for the caller
+abbrev pub JoinedFrom : Bool → State → State → List Value → List Value → Type 0
+JoinedFrom true this other going coming = AreJoined this other going coming
+JoinedFrom false this other going coming = AreJoined other this coming going
+
+-- ---- an end, which was `this` and is `next`, acted for a connection
+
+-- Some of the units on the way to it were taken. What was under way to it arrived, of which its user
+-- was told, or still is.
+pub record TakenFor (n : ℕ) (this other next : State) (coming rest : List Value) (put : List Message) : Type 0 where
+  -- the units, all for this connection, and the messages that they brought
   pub units : List Value
-  pub events : List Happening
   pub arrived : List Message
+  pub cut : coming ≡ units ++ rest
+  pub all_for : AreFor n units
+  pub told : next.events ≡ this.events ++ flat_map (told_opening n (place_at n this)) arrived
+  pub came : AreLike (connection_in (place_at n next)) (under_way_for n other this coming) (arrived ++ under_way_for n other next rest)
+  pub brings : BringsTo true (place_at n this) (place_at n next) units arrived put
+
+-- It wrote units. What was under way from it stays, but for what was `lost` where the connection is
+-- open no more, and `put` comes behind.
+pub record WrittenFor (n : ℕ) (this other next : State) (going behind : List Value) (put : List Message) : Type 0 where
+  -- the units, all for this connection, behind those on the way from it
+  pub units : List Value
+  pub written : behind ≡ going ++ units
+  pub outgoing : next.outgoing ≡ this.outgoing ++ packets units
+  pub sendable : AllByRecursion IsSendable units
+  pub all_for : AreFor n units
+  -- the messages that were under way: those that stay, and those that were lost
   pub stays : List Message
   pub lost : List Message
-  pub written : behind ≡ going ++ units
-  pub sendable : AllByRecursion IsSendable units
-  pub outgoing : next.outgoing ≡ this.outgoing ++ packets units
-  pub told_events : next.events ≡ this.events ++ events
-  pub told : events ≡ flat_map (told_opening n (place_at n this)) arrived
-  pub came : AreLike (connection_in (place_at n next)) (under_way_for n other this coming) (arrived ++ under_way_for n other next rest)
   pub before : AreLike (connection_in (place_at n other)) (under_way_for n this other going) (stays ++ lost)
   pub after : AreLike (connection_in (place_at n other)) (under_way_for n next other behind) (stays ++ put)
-  pub others : (q : ℕ) → q ≢ n → under_way_for q this other going ≡ under_way_for q next other behind
-  pub others_back : (q : ℕ) → q ≢ n → under_way_for q other this coming ≡ under_way_for q other next rest
-  pub others_stay : (q : ℕ) → q ≢ n → place_at q next ≡ place_at q this
-  pub taken : List Value
-  pub cut : coming ≡ taken ++ rest
-  pub all_for : AreFor n taken
-  pub written_for : AreFor n units
-  pub brings : BringsTo true (place_at n this) (place_at n next) taken arrived put
-  pub given : next.given ≡ this.given + references_for true arrived put
-  pub class : next.class ≡ class_behind_all (Some Two) this.class arrived
-  pub local : next.local ≡ this.local
   pub keeps : leaves_use (progress_of (place_at n this)) (progress_of (place_at n next)) ≡ false → lost ≡ []
 
--- what the caller did (it was `caller` and is `next`), and that the two are joined then
-pub record CallerDid (n : ℕ) (caller called next : State) (going coming rest : List Value) (put : List Message) : Type 0 where
-  pub behind : List Value
-  pub acts : ActsFor n caller called next going coming behind rest put
-  pub joined : AreJoined next called behind rest
+-- What is under way for all other connections is the same, from it and to it, and where they stand.
+pub record OthersStay (n : ℕ) (this other next : State) (going coming behind rest : List Value) : Type 0 where
+  pub out : (q : ℕ) → q ≢ n → under_way_for q this other going ≡ under_way_for q next other behind
+  pub back : (q : ℕ) → q ≢ n → under_way_for q other this coming ≡ under_way_for q other next rest
+  pub places : (q : ℕ) → q ≢ n → place_at q next ≡ place_at q this
 
--- what the called end did (it was `called` and is `next`)
-pub record CalledDid (n : ℕ) (caller called next : State) (going coming rest : List Value) (put : List Message) : Type 0 where
+-- `going` are the units on the way from it and `coming` those to it, and then `behind` and `rest`. It
+-- gave a reference for each connection that it asked for or accepted, and agreed the class.
+pub record ActsFor (n : ℕ) (this other next : State) (going coming behind rest : List Value) (put : List Message) : Type 0 where
+  pub takes : TakenFor n this other next coming rest put
+  pub writes : WrittenFor n this other next going behind put
+  pub others : OthersStay n this other next going coming behind rest
+  pub given : next.given ≡ this.given + references_for true takes.arrived put
+  pub class : next.class ≡ class_behind_all (Some Two) this.class takes.arrived
+  pub local : next.local ≡ this.local
+
+-- and the two are joined then
+pub record Did (end : Bool) (n : ℕ) (this other next : State) (going coming rest : List Value) (put : List Message) : Type 0 where
   pub behind : List Value
-  pub acts : ActsFor n called caller next coming going behind rest put
-  pub joined : AreJoined caller next rest behind
+  pub acts : ActsFor n this other next going coming behind rest put
+  pub joined : JoinedFrom end next other behind rest
+
+-- ---- nothing is on the way
 
 -- nothing of a connection that is open at both ends is left behind at either
 pub record IsEmpty (here there : Standing) : Type 0 where

@@ -1,5 +1,5 @@
 -- Two carriers that both support class 2, with the octets between them.
-use Rattle.std.specs.Prelude.{◌≡◌, ℕ, List, [], ◌∷◌, drop, ◌⊎◌}
+use Rattle.std.specs.Prelude.{◌≡◌, ℕ, Bool, List, [], ◌∷◌, drop, ◌⊎◌}
 use Rattle.osi_tpdu.specs.Value.{Value}
 use Rattle.osi_carrier.specs.Coming.{AreComing}
 use Rattle.osi_carrier.specs.Place.{place_at}
@@ -10,14 +10,14 @@ use Rattle.osi_carrier.specs.State.{State, ends}
 use Rattle.osi_carrier.specs.declared.ends.EndReason.TheVariants.{NoMemory}
 use Rattle.osi_between.specs.Addresses.{reference_of}
 use Rattle.osi_between.specs.Course.{answers_at}
-use Rattle.osi_between.specs.Joined.{AreJoined, ActsFor}
+use Rattle.osi_between.specs.Joined.{JoinedFrom, ActsFor}
 
--- What each holds of a packet and what the other has still to hand over are the packets of the units
--- on the way to it.
-pub record AreLinked (caller called : Carrying) (going coming : List Value) : Type 0 where
-  pub joined : AreJoined caller.state called.state going coming
-  pub going_octets : AreComing called.held.octets caller.state.outgoing going
-  pub coming_octets : AreComing caller.held.octets called.state.outgoing coming
+-- Seen from an end (`this`, the caller where `end` is true): what each holds of a packet and what the
+-- other has still to hand over are the packets of the units on the way to it.
+pub record AreLinked (end : Bool) (this other : Carrying) (going coming : List Value) : Type 0 where
+  pub joined : JoinedFrom end this.state other.state going coming
+  pub going_octets : AreComing other.held.octets this.state.outgoing going
+  pub coming_octets : AreComing this.held.octets other.state.outgoing coming
 
 -- so many of the octets were handed over
 abbrev pub handed_over : List ℕ → Carrying → Carrying
@@ -39,23 +39,13 @@ TakesFor this other going coming (unit ∷ units) next behind rest =
     × ActsFor (reference_of unit) this other (react unit this) going coming after left (answers_at (place_at (reference_of unit) this) unit)
     × TakesFor (react unit this) other after left units next behind rest
 
--- The called end was fed some of the octets that the caller has to hand over, and used so many of
--- them: it took units, one after the other, and then the two are linked, or there was no memory.
-pub record CalledFed (caller called next : Carrying) (going coming : List Value) (used : ℕ) : Type 0 where
+-- An end was fed some of the octets that the other has to hand over, and used so many of them: it took
+-- units, one after the other, and then the two are linked, or there was no memory.
+pub record WasFed (end : Bool) (this other next : Carrying) (going coming : List Value) (used : ℕ) : Type 0 where
   pub done : List Value
   pub left : List Value
   pub behind : List Value
   pub reached : State
-  pub takes : TakesFor called.state caller.state coming going done reached behind left
+  pub takes : TakesFor this.state other.state going coming done reached behind left
   pub linked : (next.state ≡ ends NoMemory reached) ⊎
-      ((next.state ≡ reached) × AreLinked (handed_over (drop used caller.state.outgoing) caller) next left behind)
-
--- and the caller, of the called end's
-pub record CallerFed (caller called next : Carrying) (going coming : List Value) (used : ℕ) : Type 0 where
-  pub done : List Value
-  pub left : List Value
-  pub behind : List Value
-  pub reached : State
-  pub takes : TakesFor caller.state called.state going coming done reached behind left
-  pub linked : (next.state ≡ ends NoMemory reached) ⊎
-      ((next.state ≡ reached) × AreLinked next (handed_over (drop used called.state.outgoing) called) behind left)
+      ((next.state ≡ reached) × AreLinked end next (handed_over (drop used other.state.outgoing) other) behind left)

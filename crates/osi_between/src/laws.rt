@@ -28,9 +28,9 @@ ghost use Rattle.osi_carrier.specs.State.{Connection, asked, State, linked, pack
 ghost use Rattle.osi_between.specs.Carried.{tsdus_in, all_told, all_handed_in, AreFirstOf};
 ghost use Rattle.osi_between.specs.Taking.{TakesSome};
 ghost use Rattle.osi_between.specs.Course.{progress_of, answers_at, IsTsap};
-ghost use Rattle.osi_between.specs.Joined.{AreJoined, CallerDid, CalledDid, IsEmpty, under_way_for};
+ghost use Rattle.osi_between.specs.Joined.{AreJoined, JoinedFrom, Did, IsEmpty, under_way_for};
 ghost use Rattle.osi_between.specs.Journey.{Move, MayAll, StayBetween};
-ghost use Rattle.osi_between.specs.Linked.{AreLinked, CalledFed, CallerFed, with_state, with_events};
+ghost use Rattle.osi_between.specs.Linked.{AreLinked, WasFed, with_state, with_events};
 ghost use Rattle.osi_between.specs.Meeting.{Meeting, mirror, here, there, out, back, Stands, IsAt, answers_of, Moves};
 ghost use Rattle.osi_between.specs.Messages.{Message, ask, message, bye};
 ghost use Rattle.osi_between.specs.Progress.{in_use};
@@ -65,36 +65,30 @@ pub fn what_was_written_is_taken()
         TakesSome old outgoing coming fed.used new }
 {}
 
-/// Two carriers that both support class 2, from the beginning on, and the units on the way between
-/// them (`going` to the called end, `coming` to the caller): whatever unit is taken, the oldest first,
-/// and whatever is called, they stay joined. So neither ends by what the other wrote: no fault of a
-/// link, no unknown reference, no bad answer, no unexpected unit; each CR is accepted, with the number
-/// that the caller gave; and what is under way for each connection is what `ActsFor` says. Where
-/// nothing is on the way, nothing of a connection that is open at both is under way or left behind.
+/// Two carriers that both support class 2, from the beginning on, and the units on the way between them,
+/// seen from an end (`going` from it, `coming` to it; `end` is true for the caller): whatever unit is
+/// taken, the oldest first, and whatever is called, they stay joined. So neither ends by what the other
+/// wrote: no fault of a link, no unknown reference, no bad answer, no unexpected unit; each CR is
+/// accepted, with the number that the caller gave; and what is under way for each connection is what
+/// `ActsFor` says. Where nothing is on the way, nothing of a connection that is open at both is under way
+/// or left behind.
 pub fn two_carriers_stay_joined()
     ensures begins { (caller called : Local) → caller.class2 ≡ true → called.class2 ≡ true →
         AreJoined (fresh_state true caller) (fresh_state false called) [] [] }
-    ensures caller_takes { (caller called : State) (going coming rest : List Value) (unit : Value) → AreJoined caller called going coming →
+    ensures turned { (end : Bool) (this other : State) (going coming : List Value) → JoinedFrom end this other going coming →
+        JoinedFrom (not end) other this coming going }
+    ensures taken { (end : Bool) (this other : State) (going coming rest : List Value) (unit : Value) → JoinedFrom end this other going coming →
         coming ≡ unit ∷ rest →
-        CallerDid (reference_of unit) caller called (react unit caller) going coming rest (answers_at (place_at (reference_of unit) caller) unit) }
-    ensures called_takes { (caller called : State) (going coming rest : List Value) (unit : Value) → AreJoined caller called going coming →
-        going ≡ unit ∷ rest →
-        CalledDid (reference_of unit) caller called (react unit called) going coming rest (answers_at (place_at (reference_of unit) called) unit) }
-    ensures caller_asks { (caller called : State) (going coming : List Value) (calling to : Option (List ℕ)) → AreJoined caller called going coming →
+        Did end (reference_of unit) this other (react unit this) going coming rest (answers_at (place_at (reference_of unit) this) unit) }
+    ensures asked { (caller called : State) (going coming : List Value) (calling to : Option (List ℕ)) → AreJoined caller called going coming →
         may_connect caller ≡ None → IsTsap calling → IsTsap to →
-        CallerDid (caller.given + 1) caller called (asks calling to caller) going coming coming (ask ∷ []) }
-    ensures caller_sends { (caller called : State) (going coming : List Value) (n : ℕ) (link : Standing) (tsdu : List ℕ) →
-        AreJoined caller called going coming → value_at n caller.live ≡ Some (linked n link) → IsShortTsdu tsdu → IsOctets tsdu →
-        CallerDid n caller called (sent n tsdu caller) going coming coming (message tsdu ∷ []) }
-    ensures caller_closes { (caller called : State) (going coming : List Value) (n : ℕ) (link : Standing) (reason : ℕ) →
-        AreJoined caller called going coming → value_at n caller.live ≡ Some (linked n link) → reason < 256 →
-        CallerDid n caller called (closed_with n reason caller) going coming coming (bye reason ∷ []) }
-    ensures called_sends { (caller called : State) (going coming : List Value) (n : ℕ) (link : Standing) (tsdu : List ℕ) →
-        AreJoined caller called going coming → value_at n called.live ≡ Some (linked n link) → IsShortTsdu tsdu → IsOctets tsdu →
-        CalledDid n caller called (sent n tsdu called) going coming going (message tsdu ∷ []) }
-    ensures called_closes { (caller called : State) (going coming : List Value) (n : ℕ) (link : Standing) (reason : ℕ) →
-        AreJoined caller called going coming → value_at n called.live ≡ Some (linked n link) → reason < 256 →
-        CalledDid n caller called (closed_with n reason called) going coming going (bye reason ∷ []) }
+        Did true (caller.given + 1) caller called (asks calling to caller) going coming coming (ask ∷ []) }
+    ensures handed_in { (end : Bool) (this other : State) (going coming : List Value) (n : ℕ) (link : Standing) (tsdu : List ℕ) →
+        JoinedFrom end this other going coming → value_at n this.live ≡ Some (linked n link) → IsShortTsdu tsdu → IsOctets tsdu →
+        Did end n this other (sent n tsdu this) going coming coming (message tsdu ∷ []) }
+    ensures closed { (end : Bool) (this other : State) (going coming : List Value) (n : ℕ) (link : Standing) (reason : ℕ) →
+        JoinedFrom end this other going coming → value_at n this.live ≡ Some (linked n link) → reason < 256 →
+        Did end n this other (closed_with n reason this) going coming coming (bye reason ∷ []) }
     ensures empty { (caller called : State) (n : ℕ) (here there : Standing) → AreJoined caller called [] [] →
         value_at n caller.live ≡ Some (linked n here) → value_at n called.live ≡ Some (linked n there) → IsEmpty here there }
     ensures nothing_under_way { (caller called : State) (n : ℕ) (here there : Standing) → AreJoined caller called [] [] →
@@ -102,27 +96,22 @@ pub fn two_carriers_stay_joined()
         (under_way_for n caller called [] ≡ []) × (under_way_for n called caller [] ≡ []) }
 {}
 
-/// Two carriers that both support class 2, with the octets between them: new ones are linked, and stay
-/// so however many of the octets that one has to hand over are fed to the other, wherever they are
-/// cut, unless that one finds no memory; in each call of [`two_carriers_stay_joined`], and where an
-/// event is told. What each feeding does is to take units, one after the other.
+/// Two carriers that both support class 2, with the octets between them, seen from an end: new ones are
+/// linked, and stay so however many of the octets that one has to hand over are fed to the other, wherever
+/// they are cut, unless that one finds no memory; in each call of [`two_carriers_stay_joined`], and where
+/// an event is told. What each feeding does is to take units, one after the other.
 pub fn two_carriers_stay_linked()
     ensures begins { (caller called : Carrying) (a b : Local) → a.class2 ≡ true → b.class2 ≡ true → caller.state ≡ fresh_state true a →
-        called.state ≡ fresh_state false b → caller.held.octets ≡ [] → called.held.octets ≡ [] → AreLinked caller called [] [] }
-    ensures called_fed { (caller called next : Carrying) (going coming : List Value) (k : ℕ) (fed : Fed) → AreLinked caller called going coming →
-        k ≤ length caller.state.outgoing → Feeds called (take k caller.state.outgoing) fed next → CalledFed caller called next going coming fed.used }
-    ensures caller_fed { (caller called next : Carrying) (going coming : List Value) (k : ℕ) (fed : Fed) → AreLinked caller called going coming →
-        k ≤ length called.state.outgoing → Feeds caller (take k called.state.outgoing) fed next → CallerFed caller called next going coming fed.used }
-    ensures caller_calls { (caller called : Carrying) (next : State) (n : ℕ) (going coming : List Value) (put : List Message) →
-        AreLinked caller called going coming → (did : CallerDid n caller.state called.state next going coming coming put) →
-        AreLinked (with_state next caller) called did.behind coming }
-    ensures called_calls { (caller called : Carrying) (next : State) (n : ℕ) (going coming : List Value) (put : List Message) →
-        AreLinked caller called going coming → (did : CalledDid n caller.state called.state next going coming going put) →
-        AreLinked caller (with_state next called) going did.behind }
-    ensures caller_tells { (caller called : Carrying) (events : List Happening) (going coming : List Value) → AreLinked caller called going coming →
-        AreLinked (with_events events caller) called going coming }
-    ensures called_tells { (caller called : Carrying) (events : List Happening) (going coming : List Value) → AreLinked caller called going coming →
-        AreLinked caller (with_events events called) going coming }
+        called.state ≡ fresh_state false b → caller.held.octets ≡ [] → called.held.octets ≡ [] → AreLinked true caller called [] [] }
+    ensures turned { (end : Bool) (this other : Carrying) (going coming : List Value) → AreLinked end this other going coming →
+        AreLinked (not end) other this coming going }
+    ensures fed { (end : Bool) (this other next : Carrying) (going coming : List Value) (k : ℕ) (fed : Fed) → AreLinked end this other going coming →
+        k ≤ length other.state.outgoing → Feeds this (take k other.state.outgoing) fed next → WasFed end this other next going coming fed.used }
+    ensures called { (end : Bool) (this other : Carrying) (next : State) (n : ℕ) (going coming : List Value) (put : List Message) →
+        AreLinked end this other going coming → (did : Did end n this.state other.state next going coming coming put) →
+        AreLinked end (with_state next this) other did.behind coming }
+    ensures told { (end : Bool) (this other : Carrying) (events : List Happening) (going coming : List Value) → AreLinked end this other going coming →
+        AreLinked end (with_events events this) other going coming }
 {}
 
 /// A caller's and a called end's carrier and the octets between them, whatever they
