@@ -42,6 +42,7 @@ use Rattle.osi_spdu.specs.declared.faults.SpduFault.{SpduFault}
 use Rattle.osi_stack.specs.Hearing.{after_packet, attends, concludes, hears, hears_all, hears_first, hears_next, hears_times, all_lost, opens, starves, with_carrier, with_events, shown_at_loss, RunsOut, Starves}
 use Rattle.osi_stack.specs.Messages.{kept_at, told_all}
 use Rattle.osi_stack.specs.Moving.{noted, line_by, to_session, by_line}
+use Rattle.osi_stack.specs.Needs.{needs_memory}
 use Rattle.osi_stack.specs.State.{Line, End, joins, session_in}
 use Rattle.osi_stack.proofs.Events.{all_quiet, never_starved}
 use Rattle.osi_stack.proofs.Keeping.{hears_keep}
@@ -384,6 +385,7 @@ one_told_by x new event (suc m) one out e =
       event = out.event;
       more = out.more;
       waits = subst (λ (k : ℕ). (hears_times k x).carrier.events ≡ out.event ∷ out.more) e out.waits;
+      needed = subst (λ (k : ℕ). needs_memory out.event (with_events out.more (hears_times k x)) ≡ true) e out.needed;
       starved = out.starved ∙ ap (λ (k : ℕ). starves (with_events out.more (hears_times k x))) e;
     } in
     never_starved (hears_next x) new none rest

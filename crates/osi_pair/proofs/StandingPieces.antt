@@ -23,6 +23,7 @@ use Rattle.osi_stack.specs.Feeding.{TakesPackets, stops, uses_all, RunsDry, Stop
 use Rattle.osi_stack.specs.Hearing.{attends, ends, hears_all, hears_times, with_events, with_carrier, Starves}
 use Rattle.osi_stack.specs.State.{Line, End, Holding, waits}
 use Rattle.osi_stack.proofs.Events.{all_quiet, concluded_carrier, starved_over}
+use Rattle.osi_stack.proofs.Rooms.{found_how}
 use Rattle.osi_pair.specs.Carrying.{Crossing, CarriesPiece, crossing}
 use Rattle.osi_pair.specs.Ends.{TwoEnds, end_at, reachable}
 use Rattle.osi_pair.specs.Entries.{Entry}
@@ -267,7 +268,7 @@ memory_stands laws f p steps most used new at alive le d =
     let rest : Held = record g { octets = d.rest } in
     let y = packed laws f p steps k (take k (piece_of f most p)) d.units d.before rest at alive (omega arith) (take_less k most (end_at f p).end.carrier.outgoing (omega arith)) d.taken d.packets in
     let z = still_goes (other f) q steps d.before rest d.quiet y.stands in
-    memory_by laws f p steps used k new d.before d.rest (omega arith) (omega arith) z d.how
+    memory_by laws f p steps used k new d.before d.rest (omega arith) (omega arith) z (found_how (end_at (other f) p) (piece_of f most p) used new d)
   where
     memory_by : PieceLaws → (f : Side) (p : TwoEnds) (steps : List Step) (used k : ℕ) (new : Holding) (before : End) (octets : List ℕ) → k ≤ used → used ≤ reachable f p →
         GoesOn (other f) (handed f k (more_held f k p) p) steps before (record (more_held f k p) { octets = octets }) →

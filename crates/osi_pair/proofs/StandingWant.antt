@@ -26,6 +26,7 @@ use Rattle.osi_session.specs.Shown.{Shown}
 use Rattle.osi_stack.specs.Hearing.{with_carrier, with_events, hears, hears_first, hears_next, hears_times, attends, concludes, starves, all_lost, RunsOut, Starves}
 use Rattle.osi_stack.specs.Hearing as hearing
 use Rattle.osi_stack.specs.Messages.{told_all}
+use Rattle.osi_stack.specs.Needs.{needs_memory}
 use Rattle.osi_stack.specs.State.{End}
 use Rattle.osi_stack.specs.State as stack
 use Rattle.osi_stack.proofs.Events.{all_quiet, never_starved}
@@ -177,14 +178,14 @@ few_told n (ends m) = inl refl
 
 -- for what the one event does there was no memory
 one_by : (k : ℕ) (e new : End) (event first : Happening) (more : List Happening) → e.carrier.events ≡ event ∷ [] → (hears_times k e).carrier.events ≡ first ∷ more →
-    new ≡ starves (with_events more (hears_times k e)) → new ≡ starves (with_events [] e)
-one_by zero e new event first more h w s =
+    needs_memory first (with_events more (hears_times k e)) ≡ true → new ≡ starves (with_events more (hears_times k e)) → new ≡ starves (with_events [] e)
+one_by zero e new event first more h w n s =
     let same : event ∷ [] ≡ first ∷ more = sym h ∙ w in
     let none : more ≡ [] = cc in
     s ∙ ap (λ (l : List Happening). starves (with_events l e)) none
-one_by (suc k) e new event first more h w s =
+one_by (suc k) e new event first more h w n s =
     let quiet_then : (hears_next e).carrier.events ≡ [] = ap (λ (l : List Happening). (hears_first l e).carrier.events) h ∙ (hears_keep event (with_events [] e)).events in
-    never_starved (hears_next e) new quiet_then (record { heard = k; event = first; more = more; waits = w; starved = s })
+    never_starved (hears_next e) new quiet_then (record { heard = k; event = first; more = more; waits = w; needed = n; starved = s })
 
 lasting_ends : (c : State) → c.ended ≡ None → ended_by NoMemory c ≡ carriers.ends NoMemory c
 lasting_ends c e = ap (λ (o : Option EndReason). if is_some o then c else carriers.ends NoMemory c) e
@@ -197,7 +198,7 @@ told_starved e new u told events lasts out (inr one) =
     record {
       event = one.0;
       one = one.1;
-      is = one_by out.heard at new one.0 out.event out.more (events ∙ one.1) out.waits out.starved
+      is = one_by out.heard at new one.0 out.event out.more (events ∙ one.1) out.waits out.needed out.starved
           ∙ ap (λ (c : State). record { carrier = c; lines = all_lost e.lines }) (lasting_ends (told_all u e).carrier lasts);
     }
 

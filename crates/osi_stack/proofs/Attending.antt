@@ -11,6 +11,7 @@ use Rattle.osi_stack.specs.Hearing.{ends, hears_times, with_events, with_carrier
 use Rattle.osi_stack.specs.Moving.{to_session}
 use Rattle.osi_stack.specs.State.{End, Holding, IsAttended, waits}
 use Rattle.osi_stack.specs.declared.connecting.Connect.{Connect}
+use Rattle.osi_stack.proofs.Rooms.{found_how}
 use Rattle.osi_stack.proofs.Comings.{attended_along, attended_then}
 use Rattle.osi_stack.proofs.Events.{starved_over}
 use Rattle.osi_stack.proofs.Keeping.{session_keeps}
@@ -47,7 +48,7 @@ goes_attended : (old new : Holding) (piece : List ℕ) (used : ℕ) → Goes old
 goes_attended old new piece used (inl (inl h)) attended = attended_along h.units old.end new.end h.taken attended
 goes_attended old new piece used (inl (inr h)) attended = attended_along h.units old.end new.end h.taken attended
 goes_attended old new piece used (inr (inl h)) attended = over_attended new.end (ap (λ (x : End). is_some x.carrier.ended) h.ended)
-goes_attended old new piece used (inr (inr h)) attended = none_attended h.before new.end h.rest h.how
+goes_attended old new piece used (inr (inr h)) attended = none_attended h.before new.end h.rest (found_how old piece used new h)
 
 feeds_by : (old new : Holding) (piece : List ℕ) (fed : Fed) (o : Option EndReason) (b : Bool) → old.end.carrier.ended ≡ o → waits old.end.lines ≡ b → Feeds old piece fed new →
     IsAttended old.end → IsAttended new.end

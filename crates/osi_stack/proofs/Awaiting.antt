@@ -32,6 +32,7 @@ use Rattle.osi_stack.specs.Moving.{carrier_by, by_line, to_session}
 use Rattle.osi_stack.specs.State.{Line, End, Holding, IsAttended, fresh_end, waits}
 use Rattle.osi_stack.specs.Transport.{sent_unless, answers_by}
 use Rattle.osi_stack.specs.declared.connecting.Connect.{Connect}
+use Rattle.osi_stack.proofs.Rooms.{found_how}
 use Rattle.osi_stack.proofs.Answered.{answered, answered_other, stays_packet}
 use Rattle.osi_stack.proofs.Comings.{attended_then}
 use Rattle.osi_stack.proofs.Events.{concluded_carrier, starved_over}
@@ -283,7 +284,7 @@ goes_asked : SessionLaws → StillWaits → (old new : Holding) (piece : List �
 goes_asked laws law old new piece used (inl (inl h)) attended sound has = packets_asked laws law h.units old.end new.end h.taken attended sound has
 goes_asked laws law old new piece used (inl (inr h)) attended sound has = packets_asked laws law h.units old.end new.end h.taken attended sound has
 goes_asked laws law old new piece used (inr (inl h)) attended sound has = over_asked new.end (ap (λ (x : End). is_some x.carrier.ended) h.ended)
-goes_asked laws law old new piece used (inr (inr h)) attended sound has = none_found h.before new.end h.rest h.how
+goes_asked laws law old new piece used (inr (inr h)) attended sound has = none_found h.before new.end h.rest (found_how old piece used new h)
 
 feeds_by : SessionLaws → StillWaits → (old new : Holding) (piece : List ℕ) (fed : Fed) (o : Option EndReason) (b : Bool) → old.end.carrier.ended ≡ o → waits old.end.lines ≡ b →
     Feeds old piece fed new → IsAttended old.end → IsSound old.end → HasAsked old.end → HasAsked new.end

@@ -176,7 +176,7 @@ finds_none old new outgoing coming k used less c attended h =
     let none = no_events h.before h.quiet (attended_along h.units old.end h.before h.taken attended) in
     let starved : Starved h.before f.left new.end =
     elim h.how [
-      | inl e ↦ inl e
+      | inl none ↦ inl none.ended
       | inr p ↦ packet_starved h.before new.end p.0 f.left [] (drop n outgoing) none
           (units_front (p.0 ∷ []) f.left h.rest [] (drop n outgoing) f.rest.sendable p.1 f.rest.octets) p.2
     ] in

@@ -29,6 +29,7 @@ dry_is old used told quiet g same = record {
   taken = refl;
   quiet = quiet;
   offset = (subst (λ (x : Carrying). carriers.RunsDry (carrying_of old) [] used x) same g).offset;
+  room = (subst (λ (x : Carrying). carriers.RunsDry (carrying_of old) [] used x) same g).room;
 }
 
 nothing_by : (old : Holding) (used : ℕ) (told : Carrying) → stops old.end ≡ false → carriers.Goes (carrying_of old) [] used told → told ≡ carrying_of old → RunsDry old [] 0 old

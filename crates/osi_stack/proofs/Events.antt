@@ -9,6 +9,7 @@ use Rattle.osi_carrier.specs.declared.ends.EndReason.{EndReason}
 use Rattle.osi_carrier.specs.declared.ends.EndReason.TheVariants.{NoMemory}
 use Rattle.osi_stack.specs.Fetching.{Interrupted, LeftOff}
 use Rattle.osi_stack.specs.Hearing.{hears, hears_first, hears_next, hears_times, hears_all, with_events, with_carrier, all_lost, concludes, starves, RunsOut}
+use Rattle.osi_stack.specs.Needs.{needs_memory}
 use Rattle.osi_stack.specs.State.{End, Holding, IsAttended}
 use Rattle.osi_stack.proofs.Found.{same_end}
 use Rattle.osi_stack.proofs.Keeping.{hears_keep}
@@ -78,14 +79,15 @@ heard_all old now so_far none =
     so_far.is ∙ ap (λ n. hears_times n old.end) count
 
 pub heard_left : (old now : Holding) (event : Happening) (mid : Carrier) (new : End) → HasHeard old now → now.end.carrier ≡ record mid { events = event ∷ mid.events } →
-    Interrupted (with_carrier mid now.end) new → LeftOff old.end new
-heard_left old now event mid new so_far h stopped =
+    needs_memory event (with_carrier mid now.end) ≡ true → Interrupted (with_carrier mid now.end) new → LeftOff old.end new
+heard_left old now event mid new so_far h needed stopped =
     let t = taken_is now.end event mid h in
     record {
       heard = so_far.count;
       event = event;
       more = mid.events;
       waits = ap (λ (e : End). e.carrier.events) (sym so_far.is) ∙ t.first;
+      needed = subst (λ (e : End). needs_memory event e ≡ true) (sym t.rest ∙ ap (with_events mid.events) so_far.is) needed;
       stopped = subst (λ (e : End). Interrupted e new) (sym t.rest ∙ ap (with_events mid.events) so_far.is) stopped;
     }
 
@@ -97,6 +99,7 @@ starved_is old mid left = record {
   event = left.event;
   more = left.more;
   waits = left.waits;
+  needed = left.needed;
   starved = same_end _ _ _ _ (ap (ended_by NoMemory) left.stopped.carrier) left.stopped.lines;
 }
 

@@ -29,6 +29,7 @@ use Rattle.osi_stack.specs.Hearing.{opens, hears, hears_first, hears_next, hears
 use Rattle.osi_stack.specs.Moving.{line_by, by_line, to_session}
 use Rattle.osi_stack.specs.State.{Line, End, Holding, waits, is_used, used_lines, fresh_line}
 use Rattle.osi_stack.specs.declared.connecting.Connect.{Connect}
+use Rattle.osi_stack.proofs.Rooms.{found_how}
 use Rattle.osi_stack.proofs.Lifting.{packet_is}
 use Rattle.osi_stack.proofs.Linking.{used_by}
 
@@ -146,7 +147,7 @@ goes_all : (P : Listener → Type 0) → StaysTrue P → (old new : Holding) (pi
 goes_all P law old new piece used (inl (inl h)) all = packets_all P law h.units old.end new.end h.taken all
 goes_all P law old new piece used (inl (inr h)) all = packets_all P law h.units old.end new.end h.taken all
 goes_all P law old new piece used (inr (inl h)) all = subst (λ (x : End). OfSessions P x.lines) (sym h.ended) (lost_all P h.before.lines)
-goes_all P law old new piece used (inr (inr h)) all = none_found P law h.before new.end h.rest h.how (packets_all P law h.units old.end h.before h.taken all)
+goes_all P law old new piece used (inr (inr h)) all = none_found P law h.before new.end h.rest (found_how old piece used new h) (packets_all P law h.units old.end h.before h.taken all)
 
 feeds_by : (P : Listener → Type 0) → StaysTrue P → (old new : Holding) (piece : List ℕ) (fed : Fed) (o : Option EndReason) (b : Bool) → old.end.carrier.ended ≡ o →
     waits old.end.lines ≡ b → Feeds old piece fed new → OfSessions P old.end.lines → OfSessions P new.end.lines

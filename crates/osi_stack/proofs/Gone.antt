@@ -25,6 +25,7 @@ use Rattle.osi_stack.specs.Settled.{IsGone}
 use Rattle.osi_stack.specs.State.{Line, End, Holding, session_in, waits}
 use Rattle.osi_stack.specs.Transport.{sent_unless, answers_by}
 use Rattle.osi_stack.specs.declared.connecting.Connect.{Connect}
+use Rattle.osi_stack.proofs.Rooms.{found_how}
 use Rattle.osi_stack.proofs.Lifting.{packet_is}
 use Rattle.osi_stack.proofs.Moves.{are_lost, kept_first}
 use Rattle.osi_stack.proofs.Soundness.{open_none}
@@ -130,7 +131,7 @@ goes_gone : (old new : Holding) (piece : List ℕ) (used : ℕ) → Goes old pie
 goes_gone old new piece used (inl (inl h)) gone = along_gone h.units old.end new.end h.taken gone
 goes_gone old new piece used (inl (inr h)) gone = along_gone h.units old.end new.end h.taken gone
 goes_gone old new piece used (inr (inl h)) gone = lost_gone h.before new.end (ap (λ (x : End). x.lines) h.ended)
-goes_gone old new piece used (inr (inr h)) gone = none_found h.before new.end h.rest h.how
+goes_gone old new piece used (inr (inr h)) gone = none_found h.before new.end h.rest (found_how old piece used new h)
 
 feeds_by : (old new : Holding) (piece : List ℕ) (fed : Fed) (o : Option EndReason) (b : Bool) → old.end.carrier.ended ≡ o → waits old.end.lines ≡ b → Feeds old piece fed new →
     IsGone old.end → IsGone new.end

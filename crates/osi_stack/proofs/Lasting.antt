@@ -110,7 +110,7 @@ over_refuses laws old piece fed new later lasts refused =
 over_starves : PacketLaws → (old : Holding) (piece : List ℕ) (fed : Fed) (new : Holding) (later : List ℕ) → Lasts old (old.held.octets ++ (take fed.used piece ++ later)) →
     FindsNoMemory old piece fed.used new → new.end.carrier.ended ≡ Some NoMemory
 over_starves laws old piece fed new later lasts starved = elim (starved.how) [
-  | inl none ↦ ap (λ (x : End). x.carrier.ended) none
+  | inl none ↦ ap (λ (x : End). x.carrier.ended) none.ended
   | inr p ↦ (
       let front = front_used true piece fed.used starved.within starved.bound starved.all in
       let s = old.held.octets ++ take starved.within piece in

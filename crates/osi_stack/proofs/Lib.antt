@@ -7,6 +7,7 @@ pub mod NewConnection
 pub mod Keeping
 pub mod Events
 pub mod Lifting
+pub mod Rooms
 pub mod Pieces
 pub mod Comings
 pub mod Moves
@@ -31,6 +32,7 @@ pub mod Keeps
 pub mod Parted
 pub mod Gone
 pub mod Handing
+pub mod Needing
 pub mod Joinings
 pub mod Accounts
 pub mod Overs

@@ -38,6 +38,7 @@ use Rattle.osi_stack.specs.Ordered.{IsOrdered}
 use Rattle.osi_stack.specs.State.{Line, End, Holding, IsAttended, fresh_end, waits, is_used, used_lines, fresh_line}
 use Rattle.osi_stack.specs.Transport.{sent_unless, answers_by}
 use Rattle.osi_stack.specs.declared.connecting.Connect.{Connect}
+use Rattle.osi_stack.proofs.Rooms.{found_how}
 use Rattle.osi_stack.proofs.Comings.{attended_then, attended_along}
 use Rattle.osi_stack.proofs.Events.{times_quiet}
 use Rattle.osi_stack.proofs.Lifting.{both, packet_is}
@@ -366,7 +367,7 @@ goes_ordered laws old new piece used (inr (inl h)) attended sound o =
     subst IsOrdered (sym h.ended) (ends_ordered _ h.before (packets_ordered laws h.units old.end h.before h.taken attended sound o))
 goes_ordered laws old new piece used (inr (inr h)) attended sound o =
     let lasts = lasting_of h.before.carrier.ended (waits h.before.lines) h.quiet in
-    none_found h.before new.end h.rest h.how (attended_along h.units old.end h.before h.taken attended lasts)
+    none_found h.before new.end h.rest (found_how old piece used new h) (attended_along h.units old.end h.before h.taken attended lasts)
     (packets_sound laws h.units old.end h.before h.taken attended sound lasts) (packets_ordered laws h.units old.end h.before h.taken attended sound o)
 
 feeds_by : SessionLaws → (old new : Holding) (piece : List ℕ) (fed : Fed) (o : Option EndReason) (b : Bool) → old.end.carrier.ended ≡ o → waits old.end.lines ≡ b →

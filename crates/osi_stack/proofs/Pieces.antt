@@ -1,13 +1,15 @@
 -- A piece of the stream, read by looks that each take packets up to one that tells something.
 use Rattle.std.proofs.Common.{◌≡◌, ℕ, zero, suc, ◌+◌, ◌-◌, ◌<◌, ◌≤◌, ◌||◌, ◌==◌, not, true, false, Bool, List, [], ◌∷◌, ◌++◌, length, take, drop, Option, Some, None, Result, Ok, Err, is_some, refl, sym, ap, subst, ◌∙◌, inl, inr, ◌⊎◌, arith, length-append, length-drop, append_assoc, if◌then◌else◌}
 use Rattle.std.proofs.lemmas.List.{append-nil, take-append-drop, take_at}
+use Rattle.std.proofs.Math.Seq.{drop-append_seam}
 use Rattle.osi_tpkt.specs.Packet.{IsPartial, IsFaultOf}
 use Rattle.osi_tpkt.specs.Stream.{ArePackets, offset_of}
+use Rattle.osi_tpkt.specs.declared.faults.TpktFault.{TpktFault}
 use Rattle.osi_tpdu.specs.Packet.{units_of}
 use Rattle.osi_tpdu.specs.Value.{Value}
 use Rattle.osi_tpdu.specs.declared.faults.TpduFault.{TpduFault}
 use Rattle.osi_carrier.proofs.Reading.{packets_more, packets_leave}
-use Rattle.osi_carrier.specs.Packets.{Carrying, is_spoilt, ActsBy, acts_by}
+use Rattle.osi_carrier.specs.Packets.{Carrying, HasToHold, is_spoilt, ActsBy, acts_by}
 use Rattle.osi_carrier.specs.Packets as carriers
 use Rattle.osi_carrier.specs.Rows.{Rows}
 use Rattle.osi_carrier.specs.State.{State as Carrier}
@@ -15,11 +17,12 @@ use Rattle.osi_carrier.specs.State as states
 use Rattle.osi_carrier.specs.declared.ends.CarrierFault.TheVariants.{Tpkt}
 use Rattle.osi_carrier.specs.declared.ends.EndReason.{EndReason}
 use Rattle.osi_carrier.specs.declared.ends.EndReason.TheVariants.{Fault, NoMemory}
-use Rattle.osi_stack.specs.Feeding.{stops, uses_all, TakesPackets, RunsDry, StopsBehind, Refuses, FindsNoMemory, Goes}
+use Rattle.osi_stack.specs.Feeding.{stops, uses_all, TakesPackets, RunsDry, StopsBehind, Refuses, FindsNoRoom, FindsNoMemory, Goes}
 use Rattle.osi_stack.specs.Fetching.{Fetches}
 use Rattle.osi_stack.specs.Hearing.{attends, with_carrier, ends, hears_all, concludes, RunsOut, Starves}
 use Rattle.osi_stack.specs.State.{Line, End, Holding, IsAttended, waits}
 use Rattle.osi_stack.proofs.Events.{all_quiet, never_starved, concluded_carrier, all_keep_by}
+use Rattle.osi_stack.proofs.Rooms.{room_stays, less_room, packet_faultless, first_part}
 use Rattle.osi_stack.proofs.Lifting.{both, or_first, or_second, IsQuiet, quiet_is, quiet_attends, quiet_stops, lift_dry, last_is, takes_append, packets_append, packets_part, lift_last}
 
 -- ---- where reading a piece is
@@ -34,6 +37,8 @@ pub record IsRead (old : Holding) (piece : List ℕ) (now : Holding) (rest : Lis
   pub quiet : stops now.end ≡ false
   pub attended : IsAttended now.end
   pub offset : (n : ℕ) → offset_of (now.held.offset + n) ≡ offset_of (old.held.offset + ((length (old.held.octets ++ front) - length now.held.octets) + n))
+  pub room : old.held.room ≤ now.held.room
+  pub first : (front ≡ []) ⊎ (now.held.octets ≡ [])
 
 pub read_first : (old : Holding) (piece : List ℕ) → stops old.end ≡ false → IsAttended old.end → IsRead old piece old piece
 read_first old piece quiet attended =
@@ -47,6 +52,8 @@ read_first old piece quiet attended =
       quiet = quiet;
       attended = attended;
       offset = λ n. (let same : (length (old.held.octets ++ []) - length old.held.octets) + n ≡ n = omega arith in ap (λ k. offset_of (old.held.offset + k)) (sym same));
+      room = omega arith;
+      first = inl refl;
     }
 
 -- ---- a carrier on which nothing waits
@@ -92,6 +99,7 @@ record Looked (piece front rest : List ℕ) (within : ℕ) : Type 0 where
   cut : piece ≡ (front ++ take within rest) ++ drop within rest
   seen : take (length (front ++ take within rest)) piece ≡ front ++ take within rest
   bound : length (front ++ take within rest) ≤ length piece
+  behind : drop (length (front ++ take within rest)) piece ≡ drop within rest
 
 looked : (piece front rest : List ℕ) (within : ℕ) → piece ≡ front ++ rest → Looked piece front rest within
 looked piece front rest within cut =
@@ -102,6 +110,7 @@ looked piece front rest within cut =
       cut = parts;
       seen = ap (take (length (front ++ take within rest))) parts ∙ take_at (front ++ take within rest) (drop within rest) (length (front ++ take within rest)) refl;
       bound = omega arith;
+      behind = ap (drop (length (front ++ take within rest))) parts ∙ drop-append_seam (front ++ take within rest) (drop within rest);
     }
 
 -- the packets so far, with more octets behind them
@@ -145,6 +154,7 @@ record IsBehind (old : Holding) (piece rest : List ℕ) (used : ℕ) (new : Hold
   held : new.held.octets ≡ []
   offset : (n : ℕ) → offset_of (new.held.offset + n) ≡ offset_of (old.held.offset + (length (old.held.octets ++ front) + n))
   place : new.held.offset ≡ offset_of (old.held.offset + length (old.held.octets ++ front))
+  room : old.held.room ≤ new.held.room
 
 -- it ended by a fault or for want of memory
 record IsFinal (old : Holding) (piece rest : List ℕ) (used : ℕ) (new : Holding) : Type 0 where
@@ -175,6 +185,7 @@ dry_is old piece now rest fed told new read g held is =
       offset = ap (λ h. h.offset) held ∙ g.offset ∙ place_of_rest old piece now rest rest (length told.held.octets) read left
           ∙ ap (λ l. offset_of (old.held.offset + (length (old.held.octets ++ l) - length told.held.octets))) (sym read.cut)
           ∙ ap (λ h. offset_of (old.held.offset + (length (old.held.octets ++ piece) - length h.octets))) (sym held);
+      room = room_stays old.held.room now.held.room told.held new.held read.room g.room held;
     }
 
 behind_is : (old : Holding) (piece : List ℕ) (now : Holding) (rest : List ℕ) (used fed : ℕ) (told : Carrying) (new : Holding) (read : IsRead old piece now rest) →
@@ -215,6 +226,7 @@ behind_is old piece now rest used fed told new read g held is same =
           ≡ length (old.held.octets ++ (read.front ++ take g.within rest)) = omega arith in
           ap (λ h. h.offset) held ∙ g.offset ∙ read.offset (length (now.held.octets ++ take g.within rest)) ∙ ap (λ k. offset_of (old.held.offset + k)) sum
           );
+      room = room_stays old.held.room now.held.room told.held new.held read.room g.room held;
     }
 
 -- for what the last packet led to there was no memory
@@ -241,6 +253,7 @@ stopped_is old piece now rest fed told new read g out held =
       quiet = quiet_stops before (quiet_is l.before l.quiet).lasts none;
       how = inr (l.last, parts.back, inr (told.state, acts_is l.before told.state l.last l.acts, out));
       held = ap (λ h. h.octets) held ∙ g.held;
+      faultless = packet_faultless l.last parts.between (drop (length (read.front ++ take g.within rest)) piece) parts.back;
     }
 
 refuses_is : (old : Holding) (piece : List ℕ) (now : Holding) (rest : List ℕ) (fed : ℕ) (told : Carrying) (new : Holding) (read : IsRead old piece now rest) →
@@ -271,10 +284,27 @@ refuses_is old piece now rest fed told new read g held is =
       held = ap (λ h. h.octets) held ∙ g.held;
     }
 
+-- there was no room, or for what the next packet does no memory
+abbrev HowStarved : (old : Holding) (piece : List ℕ) (now : Holding) (rest : List ℕ) (fed : ℕ) (told : Carrying) (new : Holding) (read : IsRead old piece now rest) →
+    carriers.FindsNoMemory (record { state = now.end.carrier; held = now.held }) rest fed told → Type 0
+HowStarved old piece now rest fed told new read g =
+    FindsNoRoom old piece (length (read.front ++ take g.within rest)) g.rest (with_carrier g.before now.end) new.end
+    ⊎ ((packet : List ℕ) × ArePackets (packet ∷ []) g.rest [] × Starves (with_carrier g.before now.end) packet new.end)
+
+no_room : (old : Holding) (piece : List ℕ) (now : Holding) (rest : List ℕ) (fed : ℕ) (told : Carrying) (new : Holding) (read : IsRead old piece now rest) →
+    (g : carriers.FindsNoMemory (record { state = now.end.carrier; held = now.held }) rest fed told) →
+    carriers.FindsNoRoom (record { state = now.end.carrier; held = now.held }) rest g.within g.rest g.before told.state → new.end ≡ ends NoMemory (with_carrier g.before now.end) →
+    FindsNoRoom old piece (length (read.front ++ take g.within rest)) g.rest (with_carrier g.before now.end) new.end
+no_room old piece now rest fed told new read g none ended = record {
+  ended = ended;
+  first = first_part g.units read.front now.held.octets g.within rest g.rest read.first none.first g.packets;
+  holds = subst (HasToHold old.held.room g.rest) (sym (looked piece read.front rest g.within read.cut).behind)
+      (less_room now.held.room old.held.room g.rest (drop g.within rest) read.room none.holds);
+}
+
 starved_with : (old : Holding) (piece : List ℕ) (now : Holding) (rest : List ℕ) (fed : ℕ) (told : Carrying) (new : Holding) (read : IsRead old piece now rest) →
     (g : carriers.FindsNoMemory (record { state = now.end.carrier; held = now.held }) rest fed told) → new.held ≡ told.held →
-    ((new.end ≡ ends NoMemory (with_carrier g.before now.end)) ⊎ ((packet : List ℕ) × ArePackets (packet ∷ []) g.rest [] × Starves (with_carrier g.before now.end) packet new.end)) →
-    FindsNoMemory old piece (length piece) new
+    HowStarved old piece now rest fed told new read g → FindsNoMemory old piece (length piece) new
 starved_with old piece now rest fed told new read g held how =
     let none = or_second (is_some now.end.carrier.ended) (waits now.end.lines) read.quiet in
     let look = looked piece read.front rest g.within read.cut in
@@ -293,16 +323,17 @@ starved_with old piece now rest fed told new read g held how =
       quiet = quiet_stops before (quiet_is g.before g.quiet).lasts none;
       how = how;
       held = ap (λ h. h.octets) held ∙ g.held;
+      faultless = subst (λ l. (at : ℕ) (fault : TpktFault) → IsFaultOf at (g.rest ++ l) fault → ⊥) (sym look.behind) g.faultless;
     }
 
-starved_how : (now : Holding) (rest : List ℕ) (fed : ℕ) (told : Carrying) (new : Holding) (g : carriers.FindsNoMemory (record { state = now.end.carrier; held = now.held }) rest fed told) →
-    ((new.end ≡ attends (with_carrier told.state now.end)) ⊎ RunsOut (with_carrier told.state now.end) new.end) →
-    ((new.end ≡ ends NoMemory (with_carrier g.before now.end)) ⊎ ((packet : List ℕ) × ArePackets (packet ∷ []) g.rest [] × Starves (with_carrier g.before now.end) packet new.end))
-starved_how now rest fed told new g heard =
+starved_how : (old : Holding) (piece : List ℕ) (now : Holding) (rest : List ℕ) (fed : ℕ) (told : Carrying) (new : Holding) (read : IsRead old piece now rest) →
+    (g : carriers.FindsNoMemory (record { state = now.end.carrier; held = now.held }) rest fed told) →
+    ((new.end ≡ attends (with_carrier told.state now.end)) ⊎ RunsOut (with_carrier told.state now.end) new.end) → HowStarved old piece now rest fed told new read g
+starved_how old piece now rest fed told new read g heard =
     let q = quiet_is g.before g.quiet in
     elim (g.how) [
       | inl over ↦ elim heard [
-        | inl is ↦ inl (is ∙ ended_attends g.before told.state now.end.lines NoMemory over.ended q)
+        | inl is ↦ inl (no_room old piece now rest fed told new read g over (is ∙ ended_attends g.before told.state now.end.lines NoMemory over.ended q))
         | inr out ↦ never_starved (with_carrier told.state now.end) new.end (ap (λ (c : Carrier). c.events) over.ended ∙ q.events) out
       ]
       | inr starved ↦ elim heard [
@@ -331,8 +362,8 @@ looks old piece now rest used new read fetch =
         | inr h ↦ never_starved there new.end (ap (λ (c : Carrier). c.events) g.ended ∙ (quiet_is g.before g.quiet).events) h.0
       ]
       | inr (inr g) ↦ elim (fetch.heard) [
-        | inl h ↦ inr (record { all = h.1 ∙ g.all; goes = inr (inr (starved_with old piece now rest fetch.fed.used fetch.told new read g fetch.held (starved_how now rest fetch.fed.used fetch.told new g (inl h.0)))) })
-        | inr h ↦ inr (record { all = h.1; goes = inr (inr (starved_with old piece now rest fetch.fed.used fetch.told new read g fetch.held (starved_how now rest fetch.fed.used fetch.told new g (inr h.0)))) })
+        | inl h ↦ inr (record { all = h.1 ∙ g.all; goes = inr (inr (starved_with old piece now rest fetch.fed.used fetch.told new read g fetch.held (starved_how old piece now rest fetch.fed.used fetch.told new read g (inl h.0)))) })
+        | inr h ↦ inr (record { all = h.1; goes = inr (inr (starved_with old piece now rest fetch.fed.used fetch.told new read g fetch.held (starved_how old piece now rest fetch.fed.used fetch.told new read g (inr h.0)))) })
       ]
     ]
 
@@ -401,6 +432,7 @@ behind_stops old piece rest used uses new b stopped e = record {
   uses = e;
   held = b.held;
   offset = b.place ∙ ap (λ l. offset_of (old.held.offset + length (old.held.octets ++ l))) (sym b.seen);
+  room = b.room;
 }
 
 or_true : (a b : Bool) → b ≡ true → (a || b) ≡ true
@@ -460,6 +492,8 @@ behind_on old piece rest used new none lasts attended b =
           let same : length (old.held.octets ++ b.front) + n ≡ (length (old.held.octets ++ b.front) - length new.held.octets) + n = omega arith in
           b.offset n ∙ ap (λ k. offset_of (old.held.offset + k)) same
           );
+      room = b.room;
+      first = inr b.held;
     }
 
 on_by : (old : Holding) (piece rest : List ℕ) (used : ℕ) (new : Holding) → waits new.end.lines ≡ false → is_some new.end.carrier.ended ≡ false → IsAttended new.end →
@@ -489,6 +523,7 @@ end_of_read old piece new [] nothing held e read place =
       taken = read.taken;
       quiet = read.quiet;
       offset = place ∙ ap (λ n. offset_of (old.held.offset + n)) same;
+      room = read.room;
     }
 end_of_read old piece new (x ∷ rest) nothing held e read place = absurd (omega arith)
 

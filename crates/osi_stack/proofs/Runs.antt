@@ -106,7 +106,7 @@ starved_ended e new packet (inr h) =
 
 pub none_ended : (old : Holding) (piece : List ℕ) (used : ℕ) (new : Holding) → FindsNoMemory old piece used new → is_some new.end.carrier.ended ≡ true
 none_ended old piece used new h = elim (h.how) [
-  | inl is ↦ ap (λ (x : End). is_some x.carrier.ended) is
+  | inl none ↦ ap (λ (x : End). is_some x.carrier.ended) none.ended
   | inr p ↦ starved_ended h.before new.end p.0 p.2
 ]
 

@@ -1,29 +1,19 @@
 -- The session selectors of what comes.
-use Rattle.std.proofs.Common.{◌≡◌, ℕ, List, [], ◌∷◌, map, Option, Some, None, Result, Ok, Err, refl, sym, ap, ◌∙◌}
+use Rattle.std.proofs.Common.{◌≡◌, ℕ, List, ◌∷◌, Option, Some, None, Result, Ok, Err, refl, sym, ap, ◌∙◌}
 use Rattle.osi_message.specs.Meanings.{DT}
 use Rattle.osi_message.specs.Reading.{meaning, meaning_by, word, word_at, place_of, place_by, said_at, said_if_read}
 use Rattle.osi_message.specs.Words.{part_octets, as_message}
 use Rattle.osi_message.specs.Written.{written, is_second}
 use Rattle.osi_message.specs.declared.places.Place.{Place}
 use Rattle.osi_session.specs.Listening.{came, came_as}
-use Rattle.osi_session.specs.Shown.{shown_by}
-use Rattle.osi_session.specs.Steps.{all_shown, shown_list}
-use Rattle.osi_session.specs.declared.indications.Indication.{Indication}
 use Rattle.osi_session.proofs.PartRuns.{data_sendable}
 use Rattle.osi_spdu.specs.Known.{Contents, Units}
 use Rattle.osi_spdu.specs.Reading.{tsdu_at}
 use Rattle.osi_spdu.specs.declared.faults.SpduFault.{SpduFault}
 use Rattle.osi_spdu.specs.declared.kinds.Kind.{Kind}
 use Rattle.osi_spdu.specs.declared.kinds.Kind.TheVariants as kind
-use Rattle.osi_stack.specs.Selectors.{selectors_of, selectors_told, shows_connect}
+use Rattle.osi_stack.specs.Selectors.{selectors_of, selectors_told}
 use Rattle.osi_stack.proofs.Moves.{Readings, came_is}
-
--- ---- what is shown first
-
-pub first_connects : (first : Option Indication) (more : List Indication) → (first ≡ None → more ≡ []) →
-    shows_connect (all_shown first more) ≡ shows_connect (shown_list first)
-first_connects (Some i) more h = refl
-first_connects None more h = ap (λ (l : List Indication). shows_connect (map shown_by l)) (h refl)
 
 -- ---- the first unit that is read
 

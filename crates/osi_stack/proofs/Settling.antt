@@ -40,6 +40,7 @@ use Rattle.osi_stack.specs.State.{Line, End, Holding, IsAttended, fresh_end, ses
 use Rattle.osi_stack.specs.Folds.{CameAbout, IsProfiled, OfSessions}
 use Rattle.osi_stack.specs.Settled.{IsSettled}
 use Rattle.osi_stack.specs.declared.connecting.Connect.{Connect}
+use Rattle.osi_stack.proofs.Rooms.{found_how}
 use Rattle.osi_stack.proofs.Answering.{Below, answered_is}
 use Rattle.osi_stack.proofs.Awaiting.{StillWaits, fresh_asked, connect_asked, call_asked, feeds_asked, first_asked, carried_asked, breaks_asked}
 use Rattle.osi_stack.proofs.Attending.{session_attended, connect_attended, breaks_attended, feeds_attended}
@@ -152,7 +153,7 @@ goes_orderly laws old new piece used (inl (inr h)) attended sound o = packets_or
 goes_orderly laws old new piece used (inr (inl h)) attended sound o =
     subst (λ (x : End). IsOrderly x.carrier) (sym h.ended) (orderly_end _ h.before.carrier (before_fits laws h.units old.end h.before h.taken h.quiet attended sound o).orderly)
 goes_orderly laws old new piece used (inr (inr h)) attended sound o =
-    none_found h.before new.end h.rest h.how (before_fits laws h.units old.end h.before h.taken h.quiet attended sound o)
+    none_found h.before new.end h.rest (found_how old piece used new h) (before_fits laws h.units old.end h.before h.taken h.quiet attended sound o)
 
 feeds_by : SessionLaws → (old new : Holding) (piece : List ℕ) (fed : Fed) (o : Option EndReason) (b : Bool) → old.end.carrier.ended ≡ o → waits old.end.lines ≡ b →
     Feeds old piece fed new → IsAttended old.end → IsSound old.end → IsOrderly old.end.carrier → IsOrderly new.end.carrier

@@ -43,6 +43,7 @@ use Rattle.osi_stack.specs.Messages.{kept_at}
 use Rattle.osi_stack.specs.Moving.{line_by, carrier_by, by_line, to_session}
 use Rattle.osi_stack.specs.State.{Line, End, Holding, IsAttended, fresh_end, session_in, waits, is_used, used_lines, joins, fresh_line}
 use Rattle.osi_stack.specs.Transport.{sent_unless, answers_by}
+use Rattle.osi_stack.proofs.Rooms.{found_how}
 use Rattle.osi_stack.proofs.Comings.{attended_then}
 use Rattle.osi_stack.proofs.Events.{concluded_carrier, starved_over}
 use Rattle.osi_stack.proofs.Moves.{kept_first}
@@ -409,7 +410,7 @@ goes_sound : SessionLaws → (old new : Holding) (piece : List ℕ) (used : ℕ)
 goes_sound laws old new piece used (inl (inl h)) attended sound = packets_sound laws h.units old.end new.end h.taken attended sound
 goes_sound laws old new piece used (inl (inr h)) attended sound = packets_sound laws h.units old.end new.end h.taken attended sound
 goes_sound laws old new piece used (inr (inl h)) attended sound = never new.end (ap (λ (x : End). is_some x.carrier.ended) h.ended)
-goes_sound laws old new piece used (inr (inr h)) attended sound = none_found h.before new.end h.rest h.how
+goes_sound laws old new piece used (inr (inr h)) attended sound = none_found h.before new.end h.rest (found_how old piece used new h)
 
 feeds_by : SessionLaws → (old new : Holding) (piece : List ℕ) (fed : Fed) (o : Option EndReason) (b : Bool) → old.end.carrier.ended ≡ o → waits old.end.lines ≡ b →
     Feeds old piece fed new → IsAttended old.end → IsSound old.end → IsSound new.end

@@ -1,12 +1,12 @@
 -- What feeding a piece of the stream does.
-use Rattle.std.specs.Prelude.{◌≡◌, ℕ, ◌+◌, ◌-◌, ◌≤◌, ◌<◌, ◌||◌, not, Bool, true, false, List, [], ◌∷◌, ◌++◌, length, take, None, is_some, IsSome, ◌⊎◌, if◌then◌else◌}
-use Rattle.osi_tpkt.specs.Packet.{IsPartial}
+use Rattle.std.specs.Prelude.{◌≡◌, ℕ, ◌+◌, ◌-◌, ◌≤◌, ◌<◌, ◌||◌, not, Bool, true, false, List, [], ◌∷◌, ◌++◌, length, take, drop, None, is_some, IsSome, ◌⊎◌, if◌then◌else◌}
+use Rattle.osi_tpkt.specs.Packet.{IsPartial, IsFaultOf}
 use Rattle.osi_tpkt.specs.Stream.{ArePackets, CutsFrom, offset_of}
 use Rattle.osi_tpkt.specs.Stream.Ending.{Faulty}
 use Rattle.osi_tpkt.specs.declared.cutting.Fed.{Fed}
 use Rattle.osi_tpkt.specs.declared.faults.TpktFault.{TpktFault}
 use Rattle.osi_carrier.specs.Feeding.{TakesAll}
-use Rattle.osi_carrier.specs.Packets.{is_spoilt}
+use Rattle.osi_carrier.specs.Packets.{is_spoilt, HasToHold}
 use Rattle.osi_carrier.specs.declared.ends.CarrierFault.TheVariants.{Tpkt}
 use Rattle.osi_carrier.specs.declared.ends.EndReason.TheVariants.{Fault, NoMemory}
 use Rattle.osi_stack.specs.Hearing.{after_packet, ends, Starves}
@@ -29,6 +29,8 @@ pub record RunsDry (old : Holding) (piece : List ℕ) (used : ℕ) (new : Holdin
   pub taken : TakesPackets old.end units new.end
   pub quiet : stops new.end ≡ false
   pub offset : new.held.offset ≡ offset_of (old.held.offset + (length (old.held.octets ++ piece) - length new.held.octets))
+  -- the room stays
+  pub room : old.held.room ≤ new.held.room
 
 -- where nothing waits, or the carrier ended by a fault or for want of memory, the whole piece is used
 abbrev pub uses_all : End → Bool
@@ -45,6 +47,7 @@ pub record StopsBehind (old : Holding) (piece : List ℕ) (used : ℕ) (new : Ho
   pub uses : used ≡ (if uses_all new.end then length piece else within)
   pub held : new.held.octets ≡ []
   pub offset : new.held.offset ≡ offset_of (old.held.offset + length (old.held.octets ++ take within piece))
+  pub room : old.held.room ≤ new.held.room
 
 -- What was held and the piece have a fault behind packets of which none stopped.
 pub record Refuses (old : Holding) (piece : List ℕ) (used : ℕ) (new : Holding) : Type 0 where
@@ -58,7 +61,14 @@ pub record Refuses (old : Holding) (piece : List ℕ) (used : ℕ) (new : Holdin
   pub ended : new.end ≡ ends (Fault (Tpkt fault)) before
   pub held : new.held.octets ≡ []
 
--- There was no memory to hold what belongs to a packet, or for what the next packet does.
+-- There was no memory to hold what is left of the piece. Behind a packet none of it is held yet.
+pub record FindsNoRoom (old : Holding) (piece : List ℕ) (within : ℕ) (rest : List ℕ) (before new : End) : Type 0 where
+  pub ended : new ≡ ends NoMemory before
+  pub first : (within ≡ 0) ⊎ (rest ≡ [])
+  pub holds : HasToHold old.held.room rest (drop within piece)
+
+-- There was no memory to hold what belongs to a packet, or for what the next packet does. What stands
+-- behind the packets that acted has no fault: else the end would have ended by that.
 pub record FindsNoMemory (old : Holding) (piece : List ℕ) (used : ℕ) (new : Holding) : Type 0 where
   pub within : ℕ
   pub units : List (List ℕ)
@@ -69,8 +79,9 @@ pub record FindsNoMemory (old : Holding) (piece : List ℕ) (used : ℕ) (new : 
   pub packets : ArePackets units (old.held.octets ++ take within piece) rest
   pub taken : TakesPackets old.end units before
   pub quiet : stops before ≡ false
-  pub how : (new.end ≡ ends NoMemory before) ⊎ ((packet : List ℕ) × ArePackets (packet ∷ []) rest [] × Starves before packet new.end)
+  pub how : FindsNoRoom old piece within rest before new.end ⊎ ((packet : List ℕ) × ArePackets (packet ∷ []) rest [] × Starves before packet new.end)
   pub held : new.held.octets ≡ []
+  pub faultless : (at : ℕ) (fault : TpktFault) → IsFaultOf at (rest ++ drop within piece) fault → ⊥
 
 -- feeding a piece where nothing waits and the carrier has not ended
 abbrev pub Goes : Holding → List ℕ → ℕ → Holding → Type 0

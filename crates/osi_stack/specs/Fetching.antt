@@ -1,10 +1,11 @@
 -- What one look at the stream does: the carrier takes packets up to one that tells something, and the
 -- sessions hear it.
-use Rattle.std.specs.Prelude.{◌≡◌, ℕ, List, ◌∷◌, length, ◌⊎◌}
+use Rattle.std.specs.Prelude.{◌≡◌, ℕ, true, List, ◌∷◌, length, ◌⊎◌}
 use Rattle.osi_carrier.specs.Happenings.{Happening}
 use Rattle.osi_carrier.specs.Packets.{Carrying}
 use Rattle.osi_carrier.specs.Packets as carriers
 use Rattle.osi_stack.specs.Hearing.{hears_times, with_events, with_carrier, attends, all_lost, RunsOut}
+use Rattle.osi_stack.specs.Needs.{needs_memory}
 use Rattle.osi_stack.specs.State.{End, Holding, IsAttended}
 use Rattle.osi_tpkt.specs.declared.cutting.Fed.{Fed}
 
@@ -19,6 +20,7 @@ pub record LeftOff (old new : End) : Type 0 where
   pub event : Happening
   pub more : List Happening
   pub waits : (hears_times heard old).carrier.events ≡ event ∷ more
+  pub needed : needs_memory event (with_events more (hears_times heard old)) ≡ true
   pub stopped : Interrupted (with_events more (hears_times heard old)) new
 
 -- the events were heard, or there was no memory for what one of them does

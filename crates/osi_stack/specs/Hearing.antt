@@ -1,5 +1,5 @@
 -- What the events of the carrier do to the sessions, and what the end of the carrier does.
-use Rattle.std.specs.Prelude.{◌≡◌, ℕ, zero, suc, List, [], ◌∷◌, ◌++◌, length, map, Option, Some, None, is_some, ◌⊎◌, if◌then◌else◌}
+use Rattle.std.specs.Prelude.{◌≡◌, ℕ, zero, suc, true, List, [], ◌∷◌, ◌++◌, length, map, Option, Some, None, is_some, ◌⊎◌, if◌then◌else◌}
 use Rattle.osi_carrier.specs.Calls.{ended_by}
 use Rattle.osi_carrier.specs.Happenings.{Happening}
 use Rattle.osi_carrier.specs.Happenings as told
@@ -13,6 +13,7 @@ use Rattle.osi_session.specs.Listening.{Listener, opened, refused, broken, came,
 use Rattle.osi_session.specs.Sessions.{awaits}
 use Rattle.osi_session.specs.Shown.{Shown}
 use Rattle.osi_stack.specs.Moving.{to_session}
+use Rattle.osi_stack.specs.Needs.{needs_memory}
 use Rattle.osi_stack.specs.State.{Line, End, joins}
 
 -- ---- one event
@@ -94,12 +95,14 @@ after_packet e packet = attends (with_carrier (packets.after_packet e.carrier pa
 
 -- ---- want of memory
 
--- For what an event does there was no memory: it did nothing, and those before it were heard.
+-- For what an event does there was no memory: it did nothing, and those before it were heard. With memory
+-- something would have been shown, sent or kept.
 pub record RunsOut (old new : End) : Type 0 where
   pub heard : ℕ
   pub event : Happening
   pub more : List Happening
   pub waits : (hears_times heard old).carrier.events ≡ event ∷ more
+  pub needed : needs_memory event (with_events more (hears_times heard old)) ≡ true
   pub starved : new ≡ starves (with_events more (hears_times heard old))
 
 -- For one of the units of a packet there was no memory, or for what one of the events does that the

@@ -2,6 +2,7 @@ pub mod Selectors
 pub mod State
 pub mod Transport
 pub mod Moving
+pub mod Needs
 pub mod Parted
 pub mod Telling
 pub mod Hearing

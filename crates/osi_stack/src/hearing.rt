@@ -1,14 +1,14 @@
 //! A session hears what happens to it: the carrier gets what it sends, and its user what it shows.
 
-ghost use Rattle.std.specs.Prelude.{◌≡◌, [], ◌∷◌, None, false, ◌<◌, ◌≤◌, ◌+◌, ◌++◌, map, length, IfOk, OnOk, OnErr};
+ghost use Rattle.std.specs.Prelude.{◌≡◌, [], ◌∷◌, None, Some, true, false, ◌<◌, ◌≤◌, ◌+◌, ◌++◌, map, length, IfOk, OnOk, OnErr};
 ghost use Rattle.std.specs.Vec.{vec_len};
 ghost use Rattle.std.specs.VecDeque.{deque_len, deque_capacity};
 ghost use Rattle.osi_session.specs.Listening.{came, react};
 ghost use Rattle.osi_session.specs.Phases.{shows_loss};
 ghost use Rattle.osi_session.specs.Sessions.{Takes};
 ghost use Rattle.osi_session.specs.Shown.{shown_by};
-ghost use Rattle.osi_session.specs.Steps.{all_shown, shown_list};
 ghost use Rattle.osi_stack.specs.Moving.{limit_for, answers};
+ghost use Rattle.osi_stack.specs.Needs.{session_needs};
 ghost use Rattle.osi_stack.specs.Selectors.{is_connect, shows_connect};
 ghost use Rattle.osi_stack.specs.Telling.{told_input};
 
@@ -57,14 +57,12 @@ fn listen(alloc: Global, session: &mut Session, told: Told<'_>) -> Result<Taken,
 }
 
 /// Indications wait, for which there is room, and for one more.
-fn show(waiting: &mut VecDeque<Indication>, first: Option<Indication>, more: Vec<Indication>)
+fn show(waiting: &mut VecDeque<Indication>, first: Indication, more: Vec<Indication>)
     requires { deque_len waiting.old + vec_len more + 1 < deque_capacity waiting.old }
-    ensures items { map shown_by waiting.new.items ≡ map shown_by waiting.old.items ++ all_shown first more.items }
+    ensures items { map shown_by waiting.new.items ≡ map shown_by waiting.old.items ++ shown_by first ∷ map shown_by more.items }
     ensures room { deque_len waiting.new < deque_capacity waiting.new }
 {
-    if let Some(indication) = first {
-        waiting.push_back_reserved(indication);
-    }
+    waiting.push_back_reserved(first);
     let mut more = VecDeque::from_vec(more);
     let Ok(()) = waiting.append(&mut more) else {
         unreachable!()
@@ -91,20 +89,9 @@ fn is_connect(shown: &Indication) -> bool
     matches!(shown, Indication::Connect { .. })
 }
 
-/// Whether a connection is asked for, if anything is shown.
-fn shows_connect(shown: &Option<Indication>) -> bool
-    ensures { result ≡ shows_connect (shown_list shown.now) }
-{
-    match shown {
-        Some(indication) => is_connect(indication),
-        None => false,
-    }
-}
-
 /// A session hears anything. It stands out of line: else the room for all that it may do would be made on
 /// the way of data, too.
 #[inline(never)]
-#[tactic(auto, using(crate::proofs::Selecting::first_connects))]
 fn hear_any(
     alloc: Global,
     session: &mut Session,
@@ -113,6 +100,7 @@ fn hear_any(
     carrier: &mut Carrier,
     reference: u16,
 ) -> Result<bool, AllocError>
+    requires { deque_len waiting.old < deque_capacity waiting.old }
     ensures connects { IfOk result (λ b. b ≡ shows_connect (react session.old (told_input told.entry)).shown) }
     ensures session { OnOk result (session.new ≡ (react session.old (told_input told.entry)).next) }
     ensures shown { OnOk result (map shown_by waiting.new.items ≡ map shown_by waiting.old.items ++ (react session.old (told_input told.entry)).shown) }
@@ -122,6 +110,7 @@ fn hear_any(
     ensures len { OnErr result (deque_len waiting.new ≡ deque_len waiting.old) }
     ensures capacity { OnErr result (deque_capacity waiting.old ≤ deque_capacity waiting.new) }
     ensures err { OnErr result (carrier.new ≡ carrier.old) }
+    ensures needed { OnErr result (session_needs reference (Some session.old) (told_input told.entry) carrier.old.state ≡ true) }
 {
     let Taken {
         first,
@@ -129,9 +118,13 @@ fn hear_any(
         reply,
         closes,
     } = listen(alloc, session, told)?;
+    let Some(first) = first else {
+        answer(carrier, reference, reply, closes)?;
+        return Ok(false);
+    };
     waiting.reserve(more.len() + 2)?;
     answer(carrier, reference, reply, closes)?;
-    let connects = shows_connect(&first);
+    let connects = is_connect(&first);
     show(waiting, first, more);
     Ok(connects)
 }
@@ -145,6 +138,7 @@ fn hear_tsdu(
     carrier: &mut Carrier,
     reference: u16,
 ) -> Result<bool, AllocError>
+    requires { deque_len waiting.old < deque_capacity waiting.old }
     ensures connects { IfOk result (λ b. b ≡ shows_connect (react session.old (came octets.now)).shown) }
     ensures session { OnOk result (session.new ≡ (react session.old (came octets.now)).next) }
     ensures shown { OnOk result (map shown_by waiting.new.items ≡ map shown_by waiting.old.items ++ (react session.old (came octets.now)).shown) }
@@ -154,6 +148,7 @@ fn hear_tsdu(
     ensures len { OnErr result (deque_len waiting.new ≡ deque_len waiting.old) }
     ensures capacity { OnErr result (deque_capacity waiting.old ≤ deque_capacity waiting.new) }
     ensures err { OnErr result (carrier.new ≡ carrier.old) }
+    ensures needed { OnErr result (session_needs reference (Some session.old) (came octets.now) carrier.old.state ≡ true) }
 {
     match session.take_expected(octets) {
         Ok(Some(indication)) => {
@@ -170,8 +165,8 @@ fn hear_tsdu(
 }
 
 /// A session hears what happens to it; says whether its user is shown that a connection is asked for.
-/// Behind it there is room for one indication more. Want of memory leaves the indications that wait, and
-/// the carrier.
+/// There is room for one indication, and behind it for one more. Memory is needed only where something is
+/// shown, sent or joined, or a DR is written; want of it leaves the indications that wait, and the carrier.
 pub fn hear(
     alloc: Global,
     session: &mut Session,
@@ -180,6 +175,7 @@ pub fn hear(
     carrier: &mut Carrier,
     reference: u16,
 ) -> Result<bool, AllocError>
+    requires { deque_len waiting.old < deque_capacity waiting.old }
     ensures connects { IfOk result (λ b. b ≡ shows_connect (react session.old (told_input told.entry)).shown) }
     ensures session { OnOk result (session.new ≡ (react session.old (told_input told.entry)).next) }
     ensures shown { OnOk result (map shown_by waiting.new.items ≡ map shown_by waiting.old.items ++ (react session.old (told_input told.entry)).shown) }
@@ -189,6 +185,7 @@ pub fn hear(
     ensures len { OnErr result (deque_len waiting.new ≡ deque_len waiting.old) }
     ensures capacity { OnErr result (deque_capacity waiting.old ≤ deque_capacity waiting.new) }
     ensures err { OnErr result (carrier.new ≡ carrier.old) }
+    ensures needed { OnErr result (session_needs reference (Some session.old) (told_input told.entry) carrier.old.state ≡ true) }
 {
     match told {
         Told::Tsdu(octets) => hear_tsdu(alloc, session, waiting, octets, carrier, reference),

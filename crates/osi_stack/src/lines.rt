@@ -11,6 +11,7 @@ ghost use Rattle.osi_session.specs.Sizes.{limit_of};
 ghost use Rattle.osi_stack.specs.Calls.{move_refusal, session_refusal, session_error, Refuses, first_shown, without_first, TellsOf};
 ghost use Rattle.osi_stack.specs.Hearing.{loses, all_lost};
 ghost use Rattle.osi_stack.specs.Moving.{answers, line_by, carrier_by, to_session};
+ghost use Rattle.osi_stack.specs.Needs.{session_needs};
 ghost use Rattle.osi_stack.specs.State.{line_waits, waits, how_many_wait, is_used, used_lines, fresh_line, session_in, joined_live, joined_in};
 ghost use Rattle.osi_stack.specs.Addresses.{selectors_in};
 ghost use Rattle.osi_stack.specs.Selectors.{selectors_sent, selectors_told, session_selectors};
@@ -190,6 +191,7 @@ impl Line {
         ensures carrier { OnOk result (carrier.new ≡ record carrier.old { state = carrier_by self.old.0 self.old.1.session (told_input told.entry) carrier.old.state }) }
         ensures lost { OnErr result (self.new ≡ (self.old.0, loses self.old.1)) }
         ensures err { OnErr result (carrier.new ≡ carrier.old) }
+        ensures needed { OnErr result (session_needs self.old.0 self.old.1.session (told_input told.entry) carrier.old.state ≡ true) }
     {
         let Some(session) = &mut self.session else {
             return Ok(());
@@ -438,6 +440,7 @@ impl Lines {
         ensures held { carrier.new.held ≡ carrier.old.held }
         ensures lost { OnErr result (all_lost self.new ≡ all_lost self.old) }
         ensures err { OnErr result (carrier.new ≡ carrier.old) }
+        ensures needed { OnErr result (session_needs reference (session_in (value_at reference self.old)) (told_input told.entry) carrier.old.state ≡ true) }
     {
         let Some(place) = place_in(self.rows.as_slice(), self.rises, reference) else {
             return Ok(());

@@ -1,7 +1,8 @@
 //! What sessions hand to the carrier.
 
-ghost use Rattle.std.specs.Prelude.{◌≡◌, [], ◌∷◌, map, None, unwrap_or, IfErr, OnOk, OnErr};
+ghost use Rattle.std.specs.Prelude.{◌≡◌, [], ◌∷◌, ◌||◌, map, true, None, is_some, unwrap_or, IfErr, OnOk, OnErr};
 ghost use Rattle.osi_carrier.specs.Calls.{closed_with, sent_all, send_all_error, open_link, call_error as sending_error};
+ghost use Rattle.osi_carrier.specs.Growth.{grows};
 ghost use Rattle.osi_stack.specs.Calls.{send_refusal, Refuses};
 ghost use Rattle.osi_stack.specs.Transport.{hands, answers_by};
 
@@ -47,6 +48,7 @@ fn hand(carrier: &mut Carrier, reference: u16, sent: &Sent) -> Result<(), AllocE
 fn hand_some(carrier: &mut Carrier, reference: u16, sent: Option<Sent>) -> Result<(), AllocError>
     ensures ok { OnOk result (carrier.new ≡ record carrier.old { state = hands reference (unwrap_or sent []) carrier.old.state }) }
     ensures err { OnErr result (carrier.new ≡ carrier.old) }
+    ensures needed { OnErr result (is_some sent ≡ true) }
 {
     match sent {
         None => Ok(()),
@@ -54,10 +56,12 @@ fn hand_some(carrier: &mut Carrier, reference: u16, sent: Option<Sent>) -> Resul
     }
 }
 
-/// Closes an open connection. Want of memory changes nothing.
+/// Closes an open connection. Memory is needed for a DR, and want of it changes nothing.
+#[tactic(auto, using(crate::proofs::Needing::closing_needs))]
 fn close(carrier: &mut Carrier, reference: u16) -> Result<(), AllocError>
     ensures ok { OnOk result (carrier.new ≡ record carrier.old { state = closed_with reference 128 carrier.old.state }) }
     ensures err { OnErr result (carrier.new ≡ carrier.old) }
+    ensures needed { OnErr result (grows carrier.old.state (closed_with reference 128 carrier.old.state) ≡ true) }
 {
     match carrier.close(Ref(reference), NORMAL) {
         Ok(()) => Ok(()),
@@ -67,8 +71,8 @@ fn close(carrier: &mut Carrier, reference: u16) -> Result<(), AllocError>
     }
 }
 
-/// Closes the connection of a session if it does, or sends what it sends. Want of memory changes
-/// nothing.
+/// Closes the connection of a session if it does, or sends what it sends. Memory is needed for what is
+/// sent and for a DR, and want of it changes nothing.
 pub fn answer(
     carrier: &mut Carrier,
     reference: u16,
@@ -77,6 +81,7 @@ pub fn answer(
 ) -> Result<(), AllocError>
     ensures ok { OnOk result (carrier.new ≡ record carrier.old { state = answers_by closes reference (unwrap_or sent []) carrier.old.state }) }
     ensures err { OnErr result (carrier.new ≡ carrier.old) }
+    ensures needed { OnErr result ((is_some sent || grows carrier.old.state (answers_by closes reference (unwrap_or sent []) carrier.old.state)) ≡ true) }
 {
     if closes {
         return close(carrier, reference);

@@ -1,12 +1,13 @@
 //! What the carrier tells, and its end.
 
-ghost use Rattle.std.specs.Prelude.{◌≡◌, OnOk, OnErr, []};
+ghost use Rattle.std.specs.Prelude.{◌≡◌, OnOk, OnErr, [], true};
 ghost use Rattle.osi_carrier.specs.Happenings.{happening};
 ghost use Rattle.osi_session.specs.Sessions.{awaits};
 ghost use Rattle.osi_stack.specs.Hearing.{opens, hears, hears_all, concludes, starves};
 ghost use Rattle.osi_stack.specs.Fetching.{Interrupted, LeftOff};
 ghost use Rattle.osi_stack.specs.Calls.{breaks};
 ghost use Rattle.osi_stack.specs.Moving.{to_session};
+ghost use Rattle.osi_stack.specs.Needs.{input_needs, opening_needs, needs_memory};
 ghost use Rattle.osi_stack.specs.State.{joins};
 ghost use Rattle.osi_stack.specs.Telling.{told_input};
 ghost use Rattle.osi_carrier.specs.Rows.{value_at};
@@ -37,6 +38,7 @@ impl Hub {
         ensures ok { OnOk result (self.new.end ≡ to_session reference.0 (told_input told.entry) self.old.end) }
         ensures held { self.new.held ≡ self.old.held }
         ensures err { OnErr result (Interrupted self.old.end self.new.end) }
+        ensures needed { OnErr result (input_needs reference.0 (told_input told.entry) self.old.end ≡ true) }
     {
         self.lines
             .hear(self.alloc, reference.0, told, &mut self.carrier)
@@ -47,6 +49,7 @@ impl Hub {
         ensures ok { OnOk result (self.new.end ≡ opens reference.0 (value_at reference.0 self.old.end.lines) self.old.end) }
         ensures held { self.new.held ≡ self.old.held }
         ensures err { OnErr result (Interrupted self.old.end self.new.end) }
+        ensures needed { OnErr result (opening_needs reference.0 self.old.end ≡ true) }
     {
         if self.lines.has(reference.0) {
             return self.tell(reference, Told::Opened);
@@ -59,6 +62,7 @@ impl Hub {
         ensures ok { OnOk result (self.new.end ≡ hears (happening event) self.old.end) }
         ensures held { self.new.held ≡ self.old.held }
         ensures err { OnErr result (Interrupted self.old.end self.new.end) }
+        ensures needed { OnErr result (needs_memory (happening event) self.old.end ≡ true) }
     {
         match event {
             Event::Opened(reference) => self.open(reference),

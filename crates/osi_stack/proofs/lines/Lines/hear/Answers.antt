@@ -5,6 +5,7 @@ use Rattle.osi_stack.specs.State.{Line}
 use Rattle.osi_stack.specs.Telling.{told_input}
 use Rattle.osi_stack.proofs.Found.{unheard, heard_rows}
 use Rattle.osi_stack.proofs.Losing.{stopped_rows}
+use Rattle.osi_stack.proofs.Needing.{needs_at}
 use Rattle.osi_stack.proofs.Waiting.{room_of, set_kept}
 use Rattle.osi_stack.proofs.lines.Lines.hear.Goals as goal
 
@@ -30,6 +31,14 @@ returns-clause-lost c =
     ap (λ (l : Rows Line). place_of c.args.reference l) (sym (c.as_slice.ensures.value ∙ c.self.view_is)) ∙ sym c.place_in.ensures ∙ c.in-Some.is in
     let here = c.index_mut-line.ensures.value ∙ ap (λ (l : Rows Line). get_or l c.in-Some.place row) c.self.view_is in
     stopped_rows c.hear-result.result c.args.reference c.args.self.now c.self.inside.rows.items c.in-Some.place row c.hear-result.new.self some here c.self.view_is c.hear-result.ensures.lost
+
+pub returns-clause-needed : goal.returns-clause-needed
+returns-clause-needed c =
+    let row = c.index_mut-line.result.now in
+    let some : place_of c.args.reference c.args.self.now ≡ Some c.in-Some.place =
+    ap (λ (l : Rows Line). place_of c.args.reference l) (sym (c.as_slice.ensures.value ∙ c.self.view_is)) ∙ sym c.place_in.ensures ∙ c.in-Some.is in
+    let here = c.index_mut-line.ensures.value ∙ ap (λ (l : Rows Line). get_or l c.in-Some.place row) c.self.view_is in
+    needs_at c.hear-result.result c.args.reference c.args.self.now c.in-Some.place row (told_input c.args.told) c.args.carrier.now.state some here c.hear-result.ensures.needed
 
 pub recount-self-inside-requires-clause-room : goal.recount-self-inside-requires-clause-room
 recount-self-inside-requires-clause-room c = λ h.

@@ -1,0 +1,53 @@
+-- The room for the octets of a packet, and where it does not suffice.
+use Rattle.std.proofs.Common.{◌≡◌, ℕ, ◌≤◌, List, [], ◌∷◌, ◌++◌, length, take, refl, sym, ap, subst, ◌∙◌, inl, inr, ◌⊎◌, arith, length-append, append_assoc}
+use Rattle.osi_tpkt.proofs.Streams.{fault_no_packet}
+use Rattle.osi_tpkt.specs.Held.{Held}
+use Rattle.osi_tpkt.specs.Packet.{IsFaultOf}
+use Rattle.osi_tpkt.specs.Stream.{ArePackets}
+use Rattle.osi_tpkt.specs.declared.faults.TpktFault.{TpktFault}
+use Rattle.osi_carrier.proofs.Reading.{packets_leave}
+use Rattle.osi_carrier.specs.Packets.{HasToHold}
+use Rattle.osi_carrier.specs.declared.ends.EndReason.TheVariants.{NoMemory}
+use Rattle.osi_stack.specs.Feeding.{FindsNoMemory}
+use Rattle.osi_stack.specs.Hearing.{ends, Starves}
+use Rattle.osi_stack.specs.State.{Holding}
+
+-- the room stays over one more look
+pub room_stays : (old now : ℕ) (told new : Held) → old ≤ now → now ≤ told.room → new ≡ told → old ≤ new.room
+room_stays old now told new a b is = subst (λ (h : Held). old ≤ h.room) (sym is) (let stays : old ≤ told.room = omega arith in stays)
+
+-- with less room they have to be held too
+pub less_room : (room less : ℕ) (held left : List ℕ) → less ≤ room → HasToHold room held left → HasToHold less held left
+less_room room less held left bound h =
+    let more = h.more in
+    record { next = h.next; belongs = h.belongs; some = h.some; parted = h.parted; more = omega arith }
+
+-- what begins with a packet has no fault
+pub packet_faultless : (u s more : List ℕ) → ArePackets (u ∷ []) s [] → (at : ℕ) (fault : TpktFault) → IsFaultOf at (s ++ more) fault → ⊥
+packet_faultless u s more p at fault bad =
+    fault_no_packet at (s ++ more) fault bad u p.0 (p.1 ++ more) p.2 (ap (λ l. l ++ more) p.3 ∙ append_assoc p.0 p.1 more)
+
+empty_of : (l : List ℕ) → length l ≡ 0 → l ≡ []
+empty_of [] e = refl
+empty_of (x ∷ l) e = absurd (omega arith)
+
+none_left : (units : List (List ℕ)) (held : List ℕ) (within : ℕ) (rest left : List ℕ) → held ≡ [] → within ≡ 0 → ArePackets units (held ++ take within rest) left → left ≡ []
+none_left units held within rest left nothing none packets =
+    let leaves = packets_leave units (held ++ take within rest) left packets in
+    let sizes = length-append held (take within rest) in
+    let first = ap length nothing in
+    let seen : length (take within rest) ≡ 0 = ap (λ n. length (take n rest)) none in
+    empty_of left (omega arith)
+
+-- nothing was looked at so far, or nothing of a packet is held
+pub first_part : (units : List (List ℕ)) (front held : List ℕ) (within : ℕ) (rest left : List ℕ) → (front ≡ []) ⊎ (held ≡ []) → (within ≡ 0) ⊎ (left ≡ []) →
+    ArePackets units (held ++ take within rest) left → (length (front ++ take within rest) ≡ 0) ⊎ (left ≡ [])
+first_part units front held within rest left at_first (inr none) packets = inr none
+first_part units front held within rest left (inl nothing) (inl none) packets =
+    inl (ap (λ l. length (l ++ take within rest)) nothing ∙ ap (λ n. length (take n rest)) none)
+first_part units front held within rest left (inr nothing) (inl none) packets = inr (none_left units held within rest left nothing none packets)
+
+-- an end for want of memory: behind the packets that acted, or of what the next one does
+pub found_how : (old : Holding) (piece : List ℕ) (used : ℕ) (new : Holding) (h : FindsNoMemory old piece used new) →
+    (new.end ≡ ends NoMemory h.before) ⊎ ((packet : List ℕ) × ArePackets (packet ∷ []) h.rest [] × Starves h.before packet new.end)
+found_how old piece used new h = elim (h.how) [ inl none ↦ inl none.ended | inr p ↦ inr p ]
