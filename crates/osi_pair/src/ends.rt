@@ -26,7 +26,7 @@ pub(crate) struct Ends {
 }
 
 impl Ends {
-    ghost use Rattle.std.specs.Prelude.{◌≡◌, ◌<◌, ◌≤◌, None, true, false, not, min, is_some, IfOk, IfErr, OnOk, OnErr};
+    ghost use Rattle.std.specs.Prelude.{◌≡◌, ◌<◌, ◌≤◌, None, true, false, not, min, is_some, IfOk, IfErr, OnOk, OnErr, IsOk};
     ghost use Rattle.osi_session.specs.Calls.{called_by};
     ghost use Rattle.osi_stack.specs.State.{waits};
     ghost use Rattle.osi_pair.specs.Carrying.{CarriesFrom};
@@ -52,6 +52,7 @@ impl Ends {
     pub(crate) fn reserve(&mut self, entries: usize) -> Result<(), PairError>
         ensures memory { IfErr result (λ error. error ≡ PairError.OutOfMemory) }
         ensures same { ends_in self.new ≡ ends_in self.old }
+        ensures none { entries ≡ 0 → IsOk result }
     {
         match self.journal.reserve(entries) {
             Ok(()) => Ok(()),

@@ -34,7 +34,7 @@ impl Model for Pair {
 }
 
 impl Pair {
-    ghost use Rattle.std.specs.Prelude.{◌≡◌, List, [], None, map, IfOk, IfErr, OnOk, OnErr};
+    ghost use Rattle.std.specs.Prelude.{◌≡◌, List, [], None, map, IfOk, IfErr, OnOk, OnErr, IsOk};
     ghost use Rattle.osi_machine.specs.Machine.{Step};
     ghost use Rattle.osi_pair.specs.Advancing.{StandsAfter};
     ghost use Rattle.osi_pair.specs.Ends.{fresh_ends, end_at};
@@ -58,12 +58,14 @@ impl Pair {
         }
     }
 
-    /// Makes room in the journal for so many entries more. Neither this nor an error changes anything.
+    /// Makes room in the journal for so many entries more; for none no memory is needed. Neither this nor an
+    /// error changes anything.
     ///
     /// An event makes what room it needs. Who knows how many events come spares the journal to grow with them.
     pub fn reserve(&mut self, entries: usize) -> Result<(), PairError>
         ensures memory { IfErr result (λ error. error ≡ PairError.OutOfMemory) }
         ensures same { self.new ≡ self.old }
+        ensures none { entries ≡ 0 → IsOk result }
     {
         self.ends.reserve(entries)
     }
