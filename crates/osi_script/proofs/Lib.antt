@@ -1,5 +1,5 @@
+pub mod Beginnings
 pub mod Blanks
-pub mod Carries
 pub mod Decimals
 pub mod Letters
 pub mod LineEnds

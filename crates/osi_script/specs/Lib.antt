@@ -7,5 +7,6 @@ pub mod Words
 pub mod Splitting
 pub mod Calls
 pub mod Commands
+pub mod Fronts
 pub mod Lines
 pub mod Scripts

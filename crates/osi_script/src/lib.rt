@@ -5,6 +5,7 @@
 mod answers;
 mod calls;
 mod commands;
+mod fronts;
 pub mod laws;
 mod lines;
 mod names;

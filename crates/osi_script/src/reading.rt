@@ -10,7 +10,7 @@ use crate::splitting::Words;
 use crate::words::{classes, is, number, serial, side, size, sizes, units, verb, window, wishes};
 
 /// The greatest count of octets.
-const MOST_OCTETS: u32 = 4_294_967_295;
+pub(crate) const MOST_OCTETS: u32 = 4_294_967_295;
 
 #[tactic(auto, unfolding(crate::specs::Commands::ends_of))]
 fn ends<'a>(mut words: Words) -> Option<Command<'a>>

@@ -1,10 +1,11 @@
 //! Where a line is parted into words: at each blank.
 
-ghost use Rattle.std.specs.Prelude.{◌≡◌, ◌-◌, ◌∷◌, [], length, Some, IfSome, IfNone};
+ghost use Rattle.std.specs.Prelude.{◌≡◌, ◌-◌, ◌∷◌, [], length, option_copied, Some, IfSome, IfNone};
 ghost use Rattle.std.specs.List.{slice_get};
 ghost use Rattle.std.specs.Option.{option_map_or};
 ghost use Rattle.memchr.specs.Find.{IsFirstByte, is_byte};
 ghost use Rattle.osi_script.specs.Words.{words_of};
+ghost use Rattle.osi_script.specs.Commands.{last_of};
 ghost use Rattle.osi_script.specs.Splitting.{words_in};
 
 use memchr::memrchr;
@@ -36,6 +37,17 @@ pub(crate) fn first_word(line: &[u8]) -> (&[u8], Option<&[u8]>)
             let (_, rest) = line.split_at(index + 1);
             (word, Some(rest))
         }
+    }
+}
+
+/// The first word of a line and what stands behind it, where the line has a second word.
+pub(crate) fn parted(line: &[u8]) -> Option<(&[u8], &[u8])>
+    ensures { IfSome result (λ parts. words_of line.now ≡ parts.0.now ∷ words_of parts.1.now) }
+{
+    let (word, rest) = first_word(line);
+    match rest {
+        Some(rest) => Some((word, rest)),
+        None => None,
     }
 }
 
@@ -78,5 +90,15 @@ impl<'l> Words<'l> {
         let (word, rest) = first_word(line);
         self.rest = rest;
         Some(word)
+    }
+
+    /// The last word, where there is one.
+    pub(crate) fn last(self) -> Option<&'l [u8]>
+        ensures { option_copied result ≡ last_of (words_in self.entry) }
+    {
+        let Some(line) = self.rest else {
+            return None;
+        };
+        Some(last_word(line))
     }
 }

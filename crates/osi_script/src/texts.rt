@@ -14,6 +14,24 @@ use osi_spdu::{Side, TokenSetting, Wish};
 /// More octets than a line has besides its user data.
 pub(crate) const LINE: usize = 192;
 
+/// Adds octets, for which there is room. That there is room is said in code as well: so no way is kept
+/// on which the text would grow.
+#[inline(always)]
+fn put_octets(text: &mut Vec<u8>, octets: &[u8])
+    requires { vec_len text.old + length octets.now ≤ vec_capacity text.old }
+    ensures items { text.new.items ≡ text.old.items ++ octets.now }
+    ensures len { vec_len text.new ≡ vec_len text.old + length octets.now }
+    ensures capacity { vec_capacity text.old ≤ vec_capacity text.new }
+{
+    if text.capacity() - text.len() < octets.len() {
+        unreachable!();
+    }
+    match text.extend_from_slice(octets) {
+        Ok(()) => (),
+        Err(_) => unreachable!(),
+    }
+}
+
 /// Adds a piece of text, for which there is room.
 #[inline(always)]
 pub(crate) fn put(text: &mut Vec<u8>, piece: &str)
@@ -22,10 +40,7 @@ pub(crate) fn put(text: &mut Vec<u8>, piece: &str)
     ensures len { vec_len text.new ≡ vec_len text.old + length piece.now }
     ensures capacity { vec_capacity text.old ≤ vec_capacity text.new }
 {
-    match text.extend_from_slice(piece.as_bytes()) {
-        Ok(()) => (),
-        Err(_) => unreachable!(),
-    }
+    put_octets(text, piece.as_bytes());
 }
 
 /// Adds the word for a side and a blank, for which there is room.
@@ -52,6 +67,9 @@ fn put_digit(text: &mut Vec<u8>, digit: u8)
     ensures len { vec_len text.new ≡ vec_len text.old + 1 }
     ensures capacity { vec_capacity text.old ≤ vec_capacity text.new }
 {
+    if text.capacity() - text.len() < 1 {
+        unreachable!();
+    }
     match text.push(b'0' + digit) {
         Ok(()) => (),
         Err(_) => unreachable!(),
@@ -85,19 +103,6 @@ pub(crate) fn put_decimal(text: &mut Vec<u8>, number: u64)
         put_digit(text, (number % 10) as u8);
     } else {
         put_digits(text, number);
-    }
-}
-
-/// Adds octets, for which there is room.
-fn put_octets(text: &mut Vec<u8>, octets: &[u8])
-    requires { vec_len text.old + length octets.now ≤ vec_capacity text.old }
-    ensures items { text.new.items ≡ text.old.items ++ octets.now }
-    ensures len { vec_len text.new ≡ vec_len text.old + length octets.now }
-    ensures capacity { vec_capacity text.old ≤ vec_capacity text.new }
-{
-    match text.extend_from_slice(octets) {
-        Ok(()) => (),
-        Err(_) => unreachable!(),
     }
 }
 

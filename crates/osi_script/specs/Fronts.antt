@@ -1,0 +1,33 @@
+-- What a line says in front of its user data.
+use Rattle.std.specs.Prelude.{ℕ, List, Option, Some, None}
+use Rattle.osi_script.specs.declared.fronts.Front.{Front}
+use Rattle.osi_script.specs.declared.fronts.Front.TheVariants as front
+use Rattle.osi_script.specs.declared.verbs.Verb.{Verb}
+use Rattle.osi_script.specs.declared.verbs.Verb.TheVariants as verb
+use Rattle.osi_script.specs.Words.{◌>>=◌, words_of, data_of}
+use Rattle.osi_script.specs.Splitting.{words_in}
+use Rattle.osi_script.specs.Calls.{call_of}
+use Rattle.osi_script.specs.Commands.{Command, OfUser, Carry, command_in, data_word, fourth, last_of}
+
+-- the word in the place of user data, of those behind a verb
+abbrev pub data_behind : Verb → List (List ℕ) → Option (List ℕ)
+data_behind verb.Accept words = fourth words
+data_behind other words = last_of words
+
+-- the word of a line in the place of user data
+abbrev pub front_data : Front → Option (List ℕ)
+front_data (front.Carry side octets) = None
+front_data (front.Call side reference verb words) = data_behind verb (words_in words)
+front_data (front.Unread line) = data_word (words_of line.now)
+
+-- what that word spells
+abbrev pub spelled : Option (List ℕ) → Option (List ℕ)
+spelled word = word >>= data_of
+
+-- what a line asks for, of which that word spells this
+abbrev pub front_command : Front → Option (List ℕ) → Option Command
+front_command (front.Carry side octets) user = Some (Carry side octets)
+front_command (front.Call side reference verb words) user = do
+  call ← call_of verb (words_in words) user
+  Some (OfUser side reference call)
+front_command (front.Unread line) user = command_in (words_of line.now) user
