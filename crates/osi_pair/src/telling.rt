@@ -31,6 +31,7 @@ pub(crate) fn note(journal: &mut Vec<Entry>, entry: Entry)
 }
 
 /// The users of a side are shown what waits, as far as there is room.
+#[inline(always)]
 pub(crate) fn show(side: Side, stack: &mut Stack, journal: &mut Vec<Entry>)
     requires { vec_len journal.old + 81 < vec_capacity journal.old }
     ensures tells { Tells side stack.old (map entry_by journal.old.items) stack.new (map entry_by journal.new.items) }
@@ -52,6 +53,7 @@ pub(crate) fn show(side: Side, stack: &mut Stack, journal: &mut Vec<Entry>)
 }
 
 /// The end of a side is noted, where it has ended since.
+#[inline(always)]
 pub(crate) fn note_end(
     side: Side,
     before: Option<EndReason>,
