@@ -145,6 +145,22 @@ impl Sent {
         requires { is_size limit ≡ true }
         ensures { IfOk result (λ s. s ≡ tsdus_of limit (DT user_data.now)) }
     {
+        if limit != 0 {
+            return Sent::within_limit(alloc, limit, user_data);
+        }
+        let octets = plain::data(alloc, user_data)?;
+        Ok(Sent::one(octets))
+    }
+
+    /// The same where there is a limit. It stands out of line, so that data without one is written where
+    /// it is called for.
+    #[cold]
+    #[inline(never)]
+    #[tactic(auto, using(crate::proofs::SentLaws::sent_whole))]
+    fn within_limit(alloc: Global, limit: u16, user_data: &[u8]) -> Result<Sent, AllocError>
+        requires { is_size limit ≡ true }
+        ensures { IfOk result (λ s. s ≡ tsdus_of limit (DT user_data.now)) }
+    {
         if Sent::is_whole(limit, user_data) {
             let octets = plain::data(alloc, user_data)?;
             return Ok(Sent::one(octets));

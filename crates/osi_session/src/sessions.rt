@@ -10,7 +10,7 @@ ghost use Rattle.osi_message.specs.Parting.{in_one, tsdus_sent};
 ghost use Rattle.osi_message.specs.Written.{user_data_of};
 ghost use Rattle.osi_session.specs.Sizes.{limit_of};
 
-use crate::calling::{MOST_USER_DATA, allow_data, decide};
+use crate::calling::{MOST_USER_DATA, allow_data, decide, is_straight};
 use crate::faults::CallError;
 use crate::grouping::{Reactions, expected_data, take_all, take_read, unread};
 use crate::hearing::{Heard, Joined, take_says};
@@ -249,20 +249,47 @@ impl Session {
         ensures refused { IfErr result (λ e. Refused e (react self.old (called (called_by request.entry))).error) }
         ensures err { OnErr result (self.new ≡ self.old) }
     {
-        match request {
-            Request::Data { user_data } => self.call_data(user_data),
+        if let Request::Data { user_data } = request {
+            return self.call_data(user_data);
+        }
+        // A value of its own: else the answer of data, too, would be made in the room of this one.
+        let answer = match request {
             Request::Minor { confirm, user_data } => self.call_minor(confirm, user_data),
             Request::MinorConfirm { number, user_data } => {
                 self.call_minor_confirm(number, user_data)
             }
             _ => self.call_other(request),
-        }
+        };
+        answer
     }
 
     /// A call of the user for data, which changes nothing: what [`Session::call`] does with it.
     #[inline(always)]
     #[tactic(auto, using(crate::proofs::CallLaws::refused, crate::proofs::CallLaws::wanting), unfolding(osi_message::specs::Written::user_data_of))]
     pub fn call_data(&self, user_data: &[u8]) -> Result<Sent, CallError>
+        ensures state { OnOk result (self.now ≡ (react self.now (called (Data user_data.now))).next) }
+        ensures sent { IfOk result (λ s. s ≡ tsdus_sent (limit_of self.now.state) (react self.now (called (Data user_data.now))).reply) }
+        ensures accepted { OnOk result ((react self.now (called (Data user_data.now))).error ≡ None) }
+        ensures sendable { OnOk result (CanBeSent (react self.now (called (Data user_data.now))).reply) }
+        ensures refused { IfErr result (λ e. Refused e (react self.now (called (Data user_data.now))).error) }
+    {
+        if !is_straight(&self.state, user_data) {
+            // A value of its own, as in `call`.
+            let answer = self.call_bounded_data(user_data);
+            return answer;
+        }
+        match Sent::data(self.alloc, 0, user_data) {
+            Ok(sent) => Ok(sent),
+            Err(_) => Err(CallError::OutOfMemory),
+        }
+    }
+
+    /// Data that is refused, or for which a size was agreed. It stands out of line: other data comes more
+    /// often.
+    #[cold]
+    #[inline(never)]
+    #[tactic(auto, using(crate::proofs::CallLaws::refused, crate::proofs::CallLaws::wanting), unfolding(osi_message::specs::Written::user_data_of))]
+    fn call_bounded_data(&self, user_data: &[u8]) -> Result<Sent, CallError>
         ensures state { OnOk result (self.now ≡ (react self.now (called (Data user_data.now))).next) }
         ensures sent { IfOk result (λ s. s ≡ tsdus_sent (limit_of self.now.state) (react self.now (called (Data user_data.now))).reply) }
         ensures accepted { OnOk result ((react self.now (called (Data user_data.now))).error ≡ None) }
