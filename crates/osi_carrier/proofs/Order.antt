@@ -1,5 +1,5 @@
--- Rows that rise by reference: each reference stands at one place, and what keeps them rising.
-use Rattle.std.proofs.Common.{◌≡◌, ℕ, Bool, zero, suc, ◌<◌, ◌≤◌, ◌==◌, true, false, [], ◌∷◌, ◌++◌, length, get_or, set, Some, Result, Ok, Err, refl, sym, ap, subst, ◌∙◌, arith, None, inl, inr}
+-- Rows that rise by a key, as a reference: each key stands at one place, and what keeps them rising.
+use Rattle.std.proofs.Common.{◌≡◌, ℕ, Bool, zero, suc, ◌<◌, ◌≤◌, ◌==◌, true, false, List, [], ◌∷◌, ◌++◌, length, get_or, set, Some, Result, Ok, Err, refl, sym, ap, subst, ◌∙◌, arith, None, inl, inr}
 use Rattle.std.specs.List.{remove, position_or_len}
 use Rattle.std.specs.List.Sorted.{IsSearchInRange, IsBinarySearchResult, IsNonDecreasingBy}
 use Rattle.std.specs.Ordering.{nat_cmp, ordering_index}
@@ -14,85 +14,92 @@ use Rattle.std.proofs.lemmas.List.{length-set}
 use Rattle.osi_carrier.proofs.AtReferences.{without_rise, without_length}
 use Rattle.osi_carrier.proofs.Places.{placed}
 use Rattle.osi_carrier.specs.Orderly.{RiseFrom}
+use Rattle.osi_carrier.specs.Rising.{RiseBy, place_by}
 use Rattle.osi_carrier.specs.Rows.{Rows, place_of, without}
 
--- ---- the place of a reference
+-- ---- the place of a key
 
--- a row's reference is above that which the rows rise from
-above_at : {X : Type 0} (n : ℕ) (rows : Rows X) (i : ℕ) (d : ℕ × X) → RiseFrom n rows → i < length rows → n < (get_or rows i d).0
-above_at n [] i d h within = absurd (omega arith)
-above_at n ((p, y) ∷ rows) zero d h within = h.0
-above_at n ((p, y) ∷ rows) (suc i) d h within = let more = above_at p rows i d h.1 (omega arith) in let first = h.0 in omega arith
+-- a row's key is above that which the rows rise from
+above_at : {X : Type 0} (key : X → ℕ) (n : ℕ) (rows : List X) (i : ℕ) (d : X) → RiseBy key n rows → i < length rows → n < key (get_or rows i d)
+above_at key n [] i d h within = absurd (omega arith)
+above_at key n (y ∷ rows) zero d h within = h.0
+above_at key n (y ∷ rows) (suc i) d h within = let more = above_at key (key y) rows i d h.1 (omega arith) in let first = h.0 in omega arith
 
--- rows before a row have lower references
-before_at : {X : Type 0} (n : ℕ) (rows : Rows X) (i k : ℕ) (d : ℕ × X) → RiseFrom n rows → i < length rows → k < i → (get_or rows k d).0 < (get_or rows i d).0
-before_at n [] i k d h within less = absurd (omega arith)
-before_at n ((p, y) ∷ rows) zero k d h within less = absurd (omega arith)
-before_at n ((p, y) ∷ rows) (suc i) zero d h within less = above_at p rows i d h.1 (omega arith)
-before_at n ((p, y) ∷ rows) (suc i) (suc k) d h within less = before_at p rows i k d h.1 (omega arith) (omega arith)
+-- rows before a row have lower keys
+before_at : {X : Type 0} (key : X → ℕ) (n : ℕ) (rows : List X) (i k : ℕ) (d : X) → RiseBy key n rows → i < length rows → k < i → key (get_or rows k d) < key (get_or rows i d)
+before_at key n [] i k d h within less = absurd (omega arith)
+before_at key n (y ∷ rows) zero k d h within less = absurd (omega arith)
+before_at key n (y ∷ rows) (suc i) zero d h within less = above_at key (key y) rows i d h.1 (omega arith)
+before_at key n (y ∷ rows) (suc i) (suc k) d h within less = before_at key (key y) rows i k d h.1 (omega arith) (omega arith)
 
 other_by : (q r : ℕ) (b : Bool) → (q == r) ≡ b → q < r → b ≡ false
 other_by q r true e less = let same = eqb-true q r e in absurd (omega arith)
 other_by q r false e less = refl
 
-pub place_here : {X : Type 0} (r : ℕ) (rows : Rows X) (i : ℕ) (d : ℕ × X) → RiseFrom 0 rows → i < length rows → (get_or rows i d).0 ≡ r → place_of r rows ≡ Some i
-place_here r rows i d h within here =
-    let at : position_or_len (λ row. row.0 == r) rows ≡ i =
-    position_or_len_is (λ row. row.0 == r) rows i d (omega arith)
-    (λ k less. other_by (get_or rows k d).0 r ((get_or rows k d).0 == r) refl (let lower = before_at 0 rows i k d h within less in omega arith))
-    (λ inside. eq-eqb (get_or rows i d).0 r here) in
+pub place_here : {X : Type 0} (key : X → ℕ) (r : ℕ) (rows : List X) (i : ℕ) (d : X) → RiseBy key 0 rows → i < length rows → key (get_or rows i d) ≡ r → place_by key r rows ≡ Some i
+place_here key r rows i d h within here =
+    let at : position_or_len (λ row. key row == r) rows ≡ i =
+    position_or_len_is (λ row. key row == r) rows i d (omega arith)
+    (λ k less. other_by (key (get_or rows k d)) r (key (get_or rows k d) == r) refl (let lower = before_at key 0 rows i k d h within less in omega arith))
+    (λ inside. eq-eqb (key (get_or rows i d)) r here) in
     grind (arith, common_steps)
 
--- ---- a reference that is looked for by halves
+-- ---- a key that is looked for by halves
 
--- a row's reference is at most that of a row behind it, or its own
-up_to_at : {X : Type 0} (n : ℕ) (rows : Rows X) (i k : ℕ) (d : ℕ × X) → RiseFrom n rows → i < length rows → k ≤ i → (get_or rows k d).0 ≤ (get_or rows i d).0
-up_to_at n [] i k d h within less = absurd (omega arith)
-up_to_at n ((p, y) ∷ rows) zero zero d h within less = omega arith
-up_to_at n ((p, y) ∷ rows) zero (suc k) d h within less = absurd (omega arith)
-up_to_at n ((p, y) ∷ rows) (suc i) zero d h within less = let above = above_at p rows i d h.1 (omega arith) in omega arith
-up_to_at n ((p, y) ∷ rows) (suc i) (suc k) d h within less = up_to_at p rows i k d h.1 (omega arith) (omega arith)
+-- a row's key is at most that of a row behind it, or its own
+up_to_at : {X : Type 0} (key : X → ℕ) (n : ℕ) (rows : List X) (i k : ℕ) (d : X) → RiseBy key n rows → i < length rows → k ≤ i → key (get_or rows k d) ≤ key (get_or rows i d)
+up_to_at key n [] i k d h within less = absurd (omega arith)
+up_to_at key n (y ∷ rows) zero zero d h within less = omega arith
+up_to_at key n (y ∷ rows) zero (suc k) d h within less = absurd (omega arith)
+up_to_at key n (y ∷ rows) (suc i) zero d h within less = let above = above_at key (key y) rows i d h.1 (omega arith) in omega arith
+up_to_at key n (y ∷ rows) (suc i) (suc k) d h within less = up_to_at key (key y) rows i k d h.1 (omega arith) (omega arith)
 
--- so the comparisons with a reference rise along the rows, as a search by halves asks
-comparisons_rise : {X : Type 0} (r : ℕ) (rows : Rows X) (d : ℕ × X) → RiseFrom 0 rows → IsNonDecreasingBy (λ row. ordering_index (nat_cmp row.0 r)) rows
-comparisons_rise r rows d rise =
-    IsNonDecreasingBy-from_default (λ row. ordering_index (nat_cmp row.0 r)) rows d
-    (λ i j before within. let lower = up_to_at 0 rows j i d rise within before in grind (arith, nat_tests))
+-- so the comparisons with a key rise along the rows, as a search by halves asks
+comparisons_rise : {X : Type 0} (key : X → ℕ) (r : ℕ) (rows : List X) (d : X) → RiseBy key 0 rows → IsNonDecreasingBy (λ row. ordering_index (nat_cmp (key row) r)) rows
+comparisons_rise key r rows d rise =
+    IsNonDecreasingBy-from_default (λ row. ordering_index (nat_cmp (key row) r)) rows d
+    (λ i j before within. let lower = up_to_at key 0 rows j i d rise within before in grind (arith, nat_tests))
 
 over_by : (q r : ℕ) (b : Bool) → (q == r) ≡ b → r < q → b ≡ false
 over_by q r true e less = let same = eqb-true q r e in absurd (omega arith)
 over_by q r false e less = refl
 
--- rows before a place are below a reference, and those from it on above
-nowhere : {X : Type 0} (r : ℕ) (rows : Rows X) (i : ℕ) (d : ℕ × X) → i ≤ length rows → ((k : ℕ) → k < i → (get_or rows k d).0 < r) →
-    ((k : ℕ) → i ≤ k → k < length rows → r < (get_or rows k d).0) → place_of r rows ≡ None
-nowhere r rows i d within below above =
-    let none : position_or_len (λ row. row.0 == r) rows ≡ length rows =
-    position_or_len_is (λ row. row.0 == r) rows (length rows) d (omega arith)
+-- rows before a place are below a key, and those from it on above
+nowhere : {X : Type 0} (key : X → ℕ) (r : ℕ) (rows : List X) (i : ℕ) (d : X) → i ≤ length rows → ((k : ℕ) → k < i → key (get_or rows k d) < r) →
+    ((k : ℕ) → i ≤ k → k < length rows → r < key (get_or rows k d)) → place_by key r rows ≡ None
+nowhere key r rows i d within below above =
+    let none : position_or_len (λ row. key row == r) rows ≡ length rows =
+    position_or_len_is (λ row. key row == r) rows (length rows) d (omega arith)
     (λ k less. elim (cases_lt k i) [
-      | inl lower ↦ other_by (get_or rows k d).0 r ((get_or rows k d).0 == r) refl (below k lower)
-      | inr behind ↦ over_by (get_or rows k d).0 r ((get_or rows k d).0 == r) refl (above k (omega arith) less)
+      | inl lower ↦ other_by (key (get_or rows k d)) r (key (get_or rows k d) == r) refl (below k lower)
+      | inr behind ↦ over_by (key (get_or rows k d)) r (key (get_or rows k d) == r) refl (above k (omega arith) less)
     ])
     (λ inside. absurd (omega arith)) in
     grind (arith, common_steps)
 
--- what a search by halves answers is the place of a reference
-pub sought : {X : Type 0} (r : ℕ) (rows : Rows X) (d : ℕ × X) (answer : Result ℕ ℕ) → RiseFrom 0 rows → IsSearchInRange answer (length rows) →
-    IsBinarySearchResult (λ row. nat_cmp row.0 r) rows answer → result_ok answer ≡ place_of r rows
-sought r rows d (Ok i) rise within equal = sym (place_here r rows i d rise within (ranked _ r _ (sym (equal d))))
-sought r rows d (Err i) rise within parted =
-    let split = parted (comparisons_rise r rows d rise) in
-    sym (nowhere r rows i d within (λ k less. ranked _ r _ (sym (split.0 k d (omega arith) less))) (λ k from inside. ranked _ r _ (sym (split.1 k d from inside))))
+sought_by : {X : Type 0} (key : X → ℕ) (r : ℕ) (rows : List X) (d : X) (answer : Result ℕ ℕ) → RiseBy key 0 rows → IsSearchInRange answer (length rows) →
+    IsBinarySearchResult (λ row. nat_cmp (key row) r) rows answer → result_ok answer ≡ place_by key r rows
+sought_by key r rows d (Ok i) rise within equal = sym (place_here key r rows i d rise within (ranked _ r _ (sym (equal d))))
+sought_by key r rows d (Err i) rise within parted =
+    let split = parted (comparisons_rise key r rows d rise) in
+    sym (nowhere key r rows i d within (λ k less. ranked _ r _ (sym (split.0 k d (omega arith) less))) (λ k from inside. ranked _ r _ (sym (split.1 k d from inside))))
+
+-- what a search by halves answers is the place of a key
+pub sought : {X : Type 0} (key : X → ℕ) (r : ℕ) (rows : List X) (answer : Result ℕ ℕ) → RiseBy key 0 rows → IsSearchInRange answer (length rows) →
+    IsBinarySearchResult (λ row. nat_cmp (key row) r) rows answer → result_ok answer ≡ place_by key r rows
+sought key r [] (Ok i) rise within equal = absurd (omega arith)
+sought key r [] (Err i) rise within parted = refl
+sought key r (row ∷ rows) answer rise within is = sought_by key r (row ∷ rows) row answer rise within is
 
 -- ---- what keeps rows rising
 
-pub rise_last : {X : Type 0} (n r : ℕ) (x : X) (rows : Rows X) (i : ℕ) (d : ℕ × X) → length rows ≡ suc i → (get_or rows i d).0 < r → RiseFrom n rows →
-    RiseFrom n (rows ++ (r, x) ∷ [])
-rise_last n r x [] i d e less h = absurd (omega arith)
-rise_last n r x ((p, y) ∷ []) zero d e less h = (h.0, (less, tt))
-rise_last n r x ((p, y) ∷ []) (suc i) d e less h = absurd (omega arith)
-rise_last n r x ((p, y) ∷ (q, z) ∷ rows) zero d e less h = absurd (omega arith)
-rise_last n r x ((p, y) ∷ (q, z) ∷ rows) (suc i) d e less h = (h.0, rise_last p r x ((q, z) ∷ rows) i d (omega arith) less h.1)
+pub rise_last : {X : Type 0} (key : X → ℕ) (n : ℕ) (x : X) (rows : List X) (i : ℕ) (d : X) → length rows ≡ suc i → key (get_or rows i d) < key x → RiseBy key n rows →
+    RiseBy key n (rows ++ x ∷ [])
+rise_last key n x [] i d e less h = absurd (omega arith)
+rise_last key n x (y ∷ []) zero d e less h = (h.0, (less, tt))
+rise_last key n x (y ∷ []) (suc i) d e less h = absurd (omega arith)
+rise_last key n x (y ∷ z ∷ rows) zero d e less h = absurd (omega arith)
+rise_last key n x (y ∷ z ∷ rows) (suc i) d e less h = (h.0, rise_last key (key y) x (z ∷ rows) i d (omega arith) less h.1)
 
 pub set_rise : {X : Type 0} (n : ℕ) (rows : Rows X) (i : ℕ) (row new : ℕ × X) → row ≡ get_or rows i row → new.0 ≡ row.0 → RiseFrom n rows → RiseFrom n (set rows i new)
 set_rise n [] i row new here same h = tt

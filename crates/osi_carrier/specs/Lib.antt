@@ -1,4 +1,5 @@
 pub mod Rows
+pub mod Rising
 pub mod Happenings
 pub mod State
 pub mod Live

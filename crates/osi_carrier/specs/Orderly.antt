@@ -1,10 +1,11 @@
 -- What is true of the live connections of every carrier, and what one unit changes.
-use Rattle.std.specs.Prelude.{◌≡◌, ◌≢◌, ℕ, ◌+◌, ◌<◌, ◌≤◌, List, [], ◌∷◌, ◌++◌, length, Option, Some, None, IsSome}
+use Rattle.std.specs.Prelude.{◌≡◌, ◌≢◌, ℕ, ◌+◌, ◌≤◌, List, [], ◌∷◌, ◌++◌, length, Option, Some, None, IsSome}
 use Rattle.std.specs.List.{AllByRecursion}
 use Rattle.osi_tpdu.specs.Value.{Value, destination_of}
 use Rattle.osi_class.specs.declared.terms.Class.{Class}
 use Rattle.osi_class.specs.declared.terms.Class.TheVariants.{Zero, Two}
 use Rattle.osi_carrier.specs.Happenings.{Happening, opened, refused, tsdu, closed, faulted}
+use Rattle.osi_carrier.specs.Rising.{RiseBy}
 use Rattle.osi_carrier.specs.Rows.{Rows, value_at}
 use Rattle.osi_carrier.specs.State.{Connection, State}
 
@@ -12,8 +13,7 @@ use Rattle.osi_carrier.specs.State.{Connection, State}
 
 -- each reference is above those before it, and above this number
 abbrev pub RiseFrom : {X : Type 0} → ℕ → Rows X → Type 0
-RiseFrom n [] = Unit {0}
-RiseFrom n ((r, x) ∷ rows) = (n < r) × RiseFrom r rows
+RiseFrom n rows = RiseBy (λ row. row.0) n rows
 
 -- each reference is one of those up to this number
 abbrev pub AreUpTo : {X : Type 0} → ℕ → Rows X → Type 0

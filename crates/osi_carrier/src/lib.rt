@@ -9,6 +9,7 @@ mod events;
 mod faults;
 pub mod laws;
 mod links;
+pub mod lookup;
 mod negotiation;
 mod rows;
 mod selectors;

@@ -16,6 +16,7 @@ ghost use Rattle.osi_class.specs.Link.{taken, with_tsdu};
 ghost use Rattle.osi_tpdu.specs.View.{value};
 
 use crate::links::{Step, send_all_on, send_on, take_unit};
+use crate::lookup::{Referred, is_above, place_in};
 use crate::stages::Stage;
 use bytes::BytesMut;
 use osi_class::{AnyLink, Link};
@@ -38,6 +39,15 @@ pub enum Phase {
     Closing(u16),
 }
 
+/// A connection for whose link there was no memory: no unit is handed to it any more. It stands out of line:
+/// else the room for a phase would be made on the way of data, too.
+#[inline(never)]
+fn give_up(phase: &mut Phase, peer: u16)
+    ensures { phase.new ≡ Phase.Closing peer }
+{
+    *phase = Phase::Closing(peer);
+}
+
 /// A live connection and the reference that this end gave it.
 #[derive(Drop)]
 pub struct Row {
@@ -58,21 +68,15 @@ impl Model for Row {
     ghost invariant = { λ r. IsPumped (connection r.phase) };
 }
 
-impl Row {
-    /// The reference that this end gave.
-    fn reference(&self) -> u16
-        ensures { result ≡ self.now.0 }
-    {
+impl Referred for Row {
+    ghost reference_of = { λ row. row.0 };
+
+    fn reference(&self) -> u16 {
         self.reference
     }
+}
 
-    /// Whether the row is of this reference.
-    fn has(&self, reference: u16) -> bool
-        ensures { result ≡ (self.now.0 == reference) }
-    {
-        self.reference == reference
-    }
-
+impl Row {
     /// How far its connection is.
     fn stage(&self) -> Stage
         ensures { result ≡ stage_of (Some self.now.1) }
@@ -131,7 +135,7 @@ impl Row {
             Phase::Linked(_, link) => take_unit(link, peer, unit, out),
         };
         let Ok(step) = result else {
-            self.phase = Phase::Closing(peer);
+            give_up(&mut self.phase, peer);
             return Err(AllocError);
         };
         Ok(step)
@@ -207,56 +211,6 @@ impl Model for Connections {
     ghost view = { λ c. c.rows.items };
 
     ghost invariant = { λ c. (length c.rows.items ≤ 64) × (c.rises ≡ true → RiseFrom 0 c.rows.items) };
-}
-
-/// The place of a reference as far behind the first one as they are apart: it stands there where the
-/// rows rise and none between the two was dropped.
-#[inline]
-fn near(rows: &[Row], reference: u16) -> Option<usize>
-    ensures { IfSome result (λ place. RiseFrom 0 rows.now → place_of reference rows.now ≡ Some place) }
-{
-    let [first, ..] = rows else {
-        return None;
-    };
-    let place = reference.wrapping_sub(first.reference()) as usize;
-    if place < rows.len() && rows[place].has(reference) {
-        return Some(place);
-    }
-    None
-}
-
-/// Whether a reference is above that of the last row, or above 0 where there is none.
-fn is_above(rows: &[Row], reference: u16) -> bool
-    ensures { (x : Connection) → result ≡ true → RiseFrom 0 rows.now → RiseFrom 0 (rows.now ++ (reference, x) ∷ []) }
-{
-    if rows.is_empty() {
-        return reference > 0;
-    }
-    rows[rows.len() - 1].reference() < reference
-}
-
-/// The place of a reference among rows that rise, looked for by halves.
-fn halve(rows: &[Row], reference: u16) -> Option<usize>
-    requires { RiseFrom 0 rows.now }
-    ensures { result ≡ place_of reference rows.now }
-{
-    rows.binary_search_by_key(&reference, |row| row.reference())
-        .ok()
-}
-
-/// The place of a reference among rows.
-#[inline]
-fn place_in(rows: &[Row], rises: bool, reference: u16) -> Option<usize>
-    requires { rises ≡ true → RiseFrom 0 rows.now }
-    ensures { result ≡ place_of reference rows.now }
-{
-    if !rises {
-        return rows.iter().position(|row| row.has(reference));
-    }
-    match near(rows, reference) {
-        Some(place) => Some(place),
-        None => halve(rows, reference),
-    }
 }
 
 /// Whether one of the rows has this reference of the peer.

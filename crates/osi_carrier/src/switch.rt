@@ -5,9 +5,8 @@ use crate::events::Event;
 use crate::rows::{Connections, Phase};
 use crate::selectors::{Names, Tsaps};
 use bytes::BytesMut;
-use osi_class::{Class, Local};
+use osi_class::{Class, Local, Queue};
 use std::alloc::{AllocError, Global};
-use std::collections::VecDeque;
 use std::marker::Model;
 
 mod calls;
@@ -34,7 +33,7 @@ pub struct Switch {
     /// Octets to be carried to the peer.
     outgoing: BytesMut,
     /// What the user is still to be told.
-    events: VecDeque<Event>,
+    events: Queue<Event>,
     ended: Option<EndReason>,
 }
 
@@ -80,7 +79,7 @@ impl Switch {
             live: Connections::new(alloc),
             names: Names::new(alloc),
             outgoing: BytesMut::new(alloc),
-            events: VecDeque::new(alloc),
+            events: Queue::new(alloc),
             ended: None,
         }
     }

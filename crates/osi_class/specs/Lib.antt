@@ -9,6 +9,7 @@ pub mod Limits
 pub mod Link
 pub mod Negotiation
 pub mod Owed
+pub mod Queues
 pub mod Runs
 pub mod Sending
 pub mod Sound

@@ -8,8 +8,8 @@ ghost use Rattle.osi_class.specs.Taking.{TakesUnit};
 
 use crate::faults::LinkFault;
 use crate::limits::LONGEST_TSDU;
+use crate::queue::Queue;
 use std::alloc::Global;
-use std::collections::VecDeque;
 use std::marker::Model;
 use std::mem;
 
@@ -18,7 +18,7 @@ use std::mem;
 pub struct Incoming {
     alloc: Global,
     begun: Vec<u8>,
-    whole: VecDeque<Vec<u8>>,
+    whole: Queue<Vec<u8>>,
 }
 
 impl Model for Incoming {
@@ -42,7 +42,7 @@ impl Incoming {
         Incoming {
             alloc,
             begun: Vec::new(alloc),
-            whole: VecDeque::new(alloc),
+            whole: Queue::new(alloc),
         }
     }
 
@@ -87,13 +87,14 @@ impl Incoming {
         requires short { length octets.now ≤ longest_tsdu }
         ensures { TakesUnit result true (joined self.old true octets.now) self.old self.new }
     {
+        let Ok(()) = self.whole.reserve() else {
+            return Err(LinkFault::OutOfMemory);
+        };
         let Ok(tsdu) = Vec::from_slice(self.alloc, octets) else {
             return Err(LinkFault::OutOfMemory);
         };
-        match self.whole.push_back(tsdu) {
-            Ok(()) => Ok(()),
-            Err(_) => Err(LinkFault::OutOfMemory),
-        }
+        self.whole.push_reserved(tsdu);
+        Ok(())
     }
 
     /// Takes the last part of a TSDU. The room for it among those that stand whole is made first.
@@ -101,14 +102,14 @@ impl Incoming {
         requires { length self.old.begun + length octets.now ≤ longest_tsdu }
         ensures { TakesUnit result true (joined self.old true octets.now) self.old self.new }
     {
-        if self.whole.reserve(1).is_err() {
+        if self.whole.reserve().is_err() {
             return Err(LinkFault::OutOfMemory);
         }
         if self.begun.extend_from_slice(octets).is_err() {
             return Err(LinkFault::OutOfMemory);
         }
         let tsdu = mem::replace(&mut self.begun, Vec::new(self.alloc));
-        self.whole.push_back_reserved(tsdu);
+        self.whole.push_reserved(tsdu);
         Ok(())
     }
 
@@ -121,9 +122,10 @@ impl Incoming {
     }
 
     /// The first TSDU that stands whole. It is not copied.
+    #[inline(always)]
     pub fn pop(&mut self) -> Option<Vec<u8>>
         ensures { Pops (option_map (λ v. v.items) result) self.old self.new }
     {
-        self.whole.pop_front()
+        self.whole.pop()
     }
 }

@@ -29,6 +29,7 @@ pub mod Opened
 pub mod Ordering
 pub mod InFront
 pub mod Keeps
+mod KeptCalls
 pub mod Parted
 pub mod Gone
 pub mod Handing

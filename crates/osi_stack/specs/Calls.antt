@@ -2,7 +2,7 @@
 use Rattle.std.specs.Prelude.{◌≡◌, ℕ, ◌+◌, Bool, true, false, not, ◌&&◌, ◌||◌, List, [], ◌∷◌, length, drop, nat_le, nat_lt, Option, Some, None, is_some, option_map, if◌then◌else◌}
 use Rattle.osi_tpdu.specs.Limits.{tsap_octets}
 use Rattle.osi_carrier.specs.Calls.{may_connect, asks, send_all_error, open_link}
-use Rattle.osi_carrier.specs.Rows.{Rows}
+use Rattle.osi_carrier.specs.Rows.{Rows, value_at}
 use Rattle.osi_carrier.specs.State.{State as Carrier}
 use Rattle.osi_carrier.specs.declared.ends.EndReason.TheVariants.{Broken}
 use Rattle.osi_carrier.specs.declared.faults.OpenError.{OpenError}
@@ -31,7 +31,7 @@ use Rattle.osi_session.specs.declared.opening.Opening.{Opening}
 use Rattle.osi_session.specs.declared.phases.Phase.{Phase}
 use Rattle.osi_session.specs.declared.phases.Phase.TheVariants.{Ended}
 use Rattle.osi_stack.specs.Hearing.{ends}
-use Rattle.osi_stack.specs.State.{Line, End, session_at, joins}
+use Rattle.osi_stack.specs.State.{Line, End, session_at, session_in, joins}
 use Rattle.osi_stack.specs.declared.connecting.Connect.{Connect}
 use Rattle.osi_stack.specs.declared.connecting.ConnectError.{ConnectError}
 use Rattle.osi_stack.specs.declared.connecting.ConnectError.TheVariants.{Open, NotSelected, TooLong}
@@ -145,6 +145,13 @@ call_error r call e = if not (has_given r e.carrier) then Some error.NoSuchConne
 -- the same without what the carrier says
 abbrev pub table_error : ℕ → Call → End → Option CallError
 table_error r call e = if not (has_given r e.carrier) then Some error.NoSuchConnection else session_error (session_at r e) call
+
+-- what a session answers that is there, be its connection live or not
+abbrev pub kept_call_error : ℕ → Call → End → Option CallError
+kept_call_error r call e = if not (has_given r e.carrier) then Some error.NoSuchConnection else session_refusal r (session_in (value_at r e.lines)) call e.carrier
+
+abbrev pub kept_table_error : ℕ → Call → End → Option CallError
+kept_table_error r call e = if not (has_given r e.carrier) then Some error.NoSuchConnection else session_error (session_in (value_at r e.lines)) call
 
 -- an error as the rules give it: want of memory comes where they give none
 abbrev pub by_rule : CallError → Option CallError

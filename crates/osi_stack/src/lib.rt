@@ -11,7 +11,6 @@ mod hub;
 pub mod laws;
 mod lines;
 mod names;
-mod places;
 mod selectors;
 mod stacks;
 mod told;

@@ -20,8 +20,8 @@ ghost use Rattle.osi_stack.specs.Telling.{told_input};
 use crate::calls::make_call;
 use crate::hearing::{hear, shows_loss};
 use crate::names::SessionSelectors;
-use crate::places::{is_above, place_in};
 use crate::told::Told;
+use osi_carrier::lookup::{Referred, is_above, place_in};
 use osi_carrier::{Carrier, Ref};
 use osi_session::{AbortCause, CallError, Indication, Request, Session};
 use std::alloc::{AllocError, Global};
@@ -97,6 +97,14 @@ fn note(selectors: &mut Option<SessionSelectors>, told: Told<'_>)
     *selectors = SessionSelectors::told(told);
 }
 
+impl Referred for Line {
+    ghost reference_of = { λ row. row.0 };
+
+    fn reference(&self) -> u16 {
+        self.reference
+    }
+}
+
 impl Line {
     /// A connection with this session, for which nothing waits yet.
     pub fn new(
@@ -116,20 +124,6 @@ impl Line {
             waiting,
             selectors,
         }
-    }
-
-    /// The reference that this end gave.
-    pub fn reference(&self) -> u16
-        ensures { result ≡ self.now.0 }
-    {
-        self.reference
-    }
-
-    /// Whether the connection is of this reference.
-    pub fn has(&self, reference: u16) -> bool
-        ensures { result ≡ (self.now.0 == reference) }
-    {
-        self.reference == reference
     }
 
     /// Whether an indication waits.
@@ -378,18 +372,25 @@ impl Lines {
         count_joined(self.rows.as_slice(), carrier)
     }
 
+    /// The place of a reference.
+    fn find(&self, reference: u16) -> Option<usize>
+        ensures { result ≡ place_of reference self.now }
+    {
+        place_in(self.rows.as_slice(), self.rises, reference)
+    }
+
     /// Whether a connection has this reference.
     pub fn has(&self, reference: u16) -> bool
         ensures { result ≡ is_some (value_at reference self.now) }
     {
-        place_in(self.rows.as_slice(), self.rises, reference).is_some()
+        self.find(reference).is_some()
     }
 
     /// The session of a reference.
     pub fn session(&self, reference: u16) -> Option<&Session>
         ensures { option_map (λ s. s.now) result ≡ session_in (value_at reference self.now) }
     {
-        let Some(place) = place_in(self.rows.as_slice(), self.rises, reference) else {
+        let Some(place) = self.find(reference) else {
             return None;
         };
         self.rows[place].session()
@@ -399,7 +400,7 @@ impl Lines {
     pub fn selectors(&self, reference: u16) -> Option<SessionSelectors>
         ensures { option_map session_selectors result ≡ selectors_in (value_at reference self.now) }
     {
-        let Some(place) = place_in(self.rows.as_slice(), self.rises, reference) else {
+        let Some(place) = self.find(reference) else {
             return None;
         };
         self.rows[place].selectors()
@@ -429,6 +430,7 @@ impl Lines {
 
     /// The session of a reference hears what happens to it. For want of memory it is lost as it was
     /// before.
+    #[inline(always)]
     pub fn hear(
         &mut self,
         alloc: Global,
@@ -442,7 +444,7 @@ impl Lines {
         ensures err { OnErr result (carrier.new ≡ carrier.old) }
         ensures needed { OnErr result (session_needs reference (session_in (value_at reference self.old)) (told_input told.entry) carrier.old.state ≡ true) }
     {
-        let Some(place) = place_in(self.rows.as_slice(), self.rises, reference) else {
+        let Some(place) = self.find(reference) else {
             return Ok(());
         };
         let lines = self.rows.len();
@@ -468,7 +470,7 @@ impl Lines {
         ensures refused { IfErr result (λ e. Refuses e (session_error (session_in (value_at reference self.old)) (called_by request.entry)) (session_refusal reference (session_in (value_at reference self.old)) (called_by request.entry) carrier.old.state)) }
         ensures err { OnErr result ((self.new ≡ self.old) × (carrier.new ≡ carrier.old)) }
     {
-        let Some(place) = place_in(self.rows.as_slice(), self.rises, reference) else {
+        let Some(place) = self.find(reference) else {
             return Err(CallError::Ended);
         };
         let lines = self.rows.len();

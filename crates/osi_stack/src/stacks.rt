@@ -207,7 +207,7 @@ impl Stack {
         ensures { self.new ≡ record self.old { end = breaks self.old.end } }
     {
         an_end_is_settled_between_calls();
-        self.hub.break_off();
+        self.hub.broken();
     }
 
     /// Why this end has ended; none before it has.

@@ -76,7 +76,7 @@ impl Switch {
     pub fn next_event(&mut self) -> Option<Event>
         ensures { Tells (option_map happening result) self.old self.new }
     {
-        self.events.pop_front()
+        self.events.pop()
     }
 
     /// The octets to be carried to the peer.

@@ -60,8 +60,8 @@ impl Switch {
         ensures err { OnErr result (ends NoMemory self.new ≡ ends NoMemory self.old) }
         ensures needs { OnErr result (grows self.old (tells (happening event) (drops reference self.old)) ≡ true) }
     {
-        self.events.reserve(1)?;
-        self.events.push_back_reserved(event);
+        self.events.reserve()?;
+        self.events.push_reserved(event);
         self.leave_out(place, reference);
         Ok(())
     }

@@ -73,21 +73,21 @@ impl Switch {
         {
             Step::Took(None) => Ok(()),
             Step::Took(Some(whole)) => {
-                let Ok(()) = self.events.reserve(1) else {
+                let Ok(()) = self.events.reserve() else {
                     self.outgoing.truncate(before);
                     return Err(AllocError);
                 };
                 self.events
-                    .push_back_reserved(Event::Tsdu(Ref(reference), whole));
+                    .push_reserved(Event::Tsdu(Ref(reference), whole));
                 Ok(())
             }
-            Step::Broke(fault) => self.break_off(place, reference, peer, fault),
+            Step::Broke(fault) => self.fail_link(place, reference, peer, fault),
         }
     }
 
     /// The peer broke a rule of the link: in class 2 that ends the connection, in class 0 the carrier.
     #[inline(never)]
-    fn break_off(
+    fn fail_link(
         &mut self,
         place: usize,
         reference: u16,
@@ -101,10 +101,10 @@ impl Switch {
     {
         match self.class {
             Some(Class::Two) => {
-                self.events.reserve(1)?;
+                self.events.reserve()?;
                 put_disconnect(&mut self.outgoing, peer, reference, PROTOCOL_ERROR)?;
                 self.events
-                    .push_back_reserved(Event::Faulted(Ref(reference), fault));
+                    .push_reserved(Event::Faulted(Ref(reference), fault));
                 self.live.set(place, reference, Phase::Closing(peer));
             }
             None | Some(Class::Zero) => self.fail(CarrierFault::Link(fault)),
@@ -126,17 +126,17 @@ impl Switch {
         ensures err { OnErr result (ends NoMemory self.new ≡ ends NoMemory self.old) }
         ensures needs { OnErr result (grows self.old (leaves reference peer reason self.old.class self.old) ≡ true) }
     {
-        self.events.reserve(1)?;
+        self.events.reserve()?;
         match self.class {
             Some(Class::Two) => {
                 put_disconnected(&mut self.outgoing, peer, reference)?;
                 self.events
-                    .push_back_reserved(Event::Closed(Ref(reference), reason));
+                    .push_reserved(Event::Closed(Ref(reference), reason));
                 self.leave_out(place, reference);
             }
             None | Some(Class::Zero) => {
                 self.events
-                    .push_back_reserved(Event::Closed(Ref(reference), reason));
+                    .push_reserved(Event::Closed(Ref(reference), reason));
                 self.end(EndReason::PeerClosed(reason));
             }
         }

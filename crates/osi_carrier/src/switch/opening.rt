@@ -169,10 +169,9 @@ impl Switch {
         let confirm = acceptance(class, size, request, &self.local, reference);
         let phase = Phase::Linked(request.fields.source, link);
         self.enter(reference, phase, Tsaps::of(request))?;
-        self.events.reserve(1)?;
+        self.events.reserve()?;
         put_confirm(&mut self.outgoing, &confirm)?;
-        self.events
-            .push_back_reserved(Event::Opened(Ref(reference)));
+        self.events.push_reserved(Event::Opened(Ref(reference)));
         self.class = Some(class);
         self.given = reference;
         Ok(())

@@ -73,11 +73,10 @@ impl Switch {
         ensures err { OnErr result (ends NoMemory self.new ≡ ends NoMemory self.old) }
         ensures needs { OnErr result (grows self.old (opens reference (confirm_content answer.now) (Some class) self.old) ≡ true) }
     {
-        self.events.reserve(1)?;
+        self.events.reserve()?;
         let size = agreed_size(answer.fields.parameters.size, &self.local);
         let link = opened_link(self.alloc, class, size, &self.local, answer.fields.credit);
-        self.events
-            .push_back_reserved(Event::Opened(Ref(reference)));
+        self.events.push_reserved(Event::Opened(Ref(reference)));
         self.live.set(place, reference, Phase::Linked(answer.fields.source, link));
         self.class = Some(class);
         Ok(())

@@ -9,7 +9,7 @@ ghost use Rattle.osi_spdu.specs.Fields.{bits_of};
 ghost use Rattle.osi_session.specs.Calls.{called_by};
 ghost use Rattle.osi_session.specs.Listening.{called};
 ghost use Rattle.osi_session.specs.Shown.{shown_by};
-ghost use Rattle.osi_stack.specs.Calls.{has_given, call_error, table_error, Refuses, held_by, phase_at, numbers_of, first_shown, without_first, carried};
+ghost use Rattle.osi_stack.specs.Calls.{has_given, kept_call_error, kept_table_error, Refuses, held_by, phase_at, numbers_of, first_shown, without_first, carried};
 ghost use Rattle.osi_stack.specs.Addresses.{addresses, addresses_at};
 ghost use Rattle.osi_stack.specs.Moving.{to_session};
 ghost use Rattle.osi_stack.specs.State.{session_at, kept_octets};
@@ -39,18 +39,16 @@ impl Hub {
         self.lines.session(reference.0)
     }
 
-    /// A call of the user of a connection. Each error changes nothing.
+    /// A call of the user of a connection, which its session answers, be the connection live or not. Each
+    /// error changes nothing.
     pub fn call(&mut self, reference: Ref, request: Request) -> Result<(), CallError>
         ensures ok { OnOk result (self.new ≡ record self.old { end = to_session reference.0 (called (called_by request.entry)) self.old.end }) }
-        ensures allowed { OnOk result (call_error reference.0 (called_by request.entry) self.old.end ≡ None) }
-        ensures refused { IfErr result (λ e. Refuses e (table_error reference.0 (called_by request.entry) self.old.end) (call_error reference.0 (called_by request.entry) self.old.end)) }
+        ensures allowed { OnOk result (kept_call_error reference.0 (called_by request.entry) self.old.end ≡ None) }
+        ensures refused { IfErr result (λ e. Refuses e (kept_table_error reference.0 (called_by request.entry) self.old.end) (kept_call_error reference.0 (called_by request.entry) self.old.end)) }
         ensures err { OnErr result (self.new ≡ self.old) }
     {
         if !self.has_given(reference) {
             return Err(CallError::NoSuchConnection);
-        }
-        if !self.carrier.is_live(reference) {
-            return Err(CallError::Ended);
         }
         self.lines.call(reference.0, request, &mut self.carrier)
     }

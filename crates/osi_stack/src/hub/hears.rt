@@ -57,12 +57,32 @@ impl Hub {
         self.join(reference.0)
     }
 
-    /// What an event does.
+    /// What an event does. A TSDU goes straight to its session.
+    #[inline(always)]
     fn hear(&mut self, event: Event) -> Result<(), AllocError>
         ensures ok { OnOk result (self.new.end ≡ hears (happening event) self.old.end) }
         ensures held { self.new.held ≡ self.old.held }
         ensures err { OnErr result (Interrupted self.old.end self.new.end) }
         ensures needed { OnErr result (needs_memory (happening event) self.old.end ≡ true) }
+    {
+        match event {
+            Event::Tsdu(reference, octets) => {
+                let told = Told::Tsdu(octets.as_slice());
+                self.lines
+                    .hear(self.alloc, reference.0, told, &mut self.carrier)
+            }
+            Event::Opened(_) | Event::Refused(..) | Event::Closed(..) | Event::Faulted(..) => {
+                self.hear_any(event)
+            }
+        }
+    }
+
+    /// The same of any event. It stands out of line: a TSDU comes more often.
+    #[inline(never)]
+    fn hear_any(&mut self, event: Event) -> Result<(), AllocError>
+        ensures ok { OnOk result (self.new.end ≡ hears (happening event) self.old.end) }
+        ensures held { self.new.held ≡ self.old.held }
+        ensures err { OnErr result (Interrupted self.old.end self.new.end) }
     {
         match event {
             Event::Opened(reference) => self.open(reference),
@@ -106,7 +126,7 @@ impl Hub {
     }
 
     /// The byte connection broke. Nothing changes where the carrier has ended.
-    pub fn break_off(&mut self)
+    pub fn broken(&mut self)
         ensures { self.new ≡ record self.old { end = breaks self.old.end } }
     {
         if self.carrier.ended().is_some() {

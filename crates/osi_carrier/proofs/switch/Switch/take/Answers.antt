@@ -14,8 +14,8 @@ use Rattle.osi_carrier.proofs.Breaking.{broke_rows, broke_octets, broke_taking, 
 use Rattle.osi_carrier.proofs.Growing.{taking_grows, took_grows, broke_grows, on_want}
 use Rattle.osi_carrier.proofs.switch.Switch.take.Goals as goal
 
-pub break_off-requires : goal.break_off-requires
-break_off-requires c =
+pub fail_link-requires : goal.fail_link-requires
+fail_link-requires c =
     let live = c.self.inside.live in
     let t = taken (link_in (value_at c.args.reference live)) (value c.args.unit.now) in
     let fault = subst (λ (s : Step). StepsTo s t) (c.in-Broke.is) c.in_ok-step.ensures.step in
@@ -33,10 +33,10 @@ returns-in-Broke-clause-ok c =
     let rows = broke_rows c.args.reference c.args.peer live c.step.new.self t c.in-Broke.fault fault stage c.in_ok-step.ensures.rows in
     let octets = broke_octets c.args.peer c.self.inside.outgoing.items c.step.new.out.items t c.in-Broke.fault fault c.in_ok-step.ensures.ok in
     let same = changed s c.step.new.self live c.step.new.out.items s.outgoing s.events s.events rows octets refl in
-    subst (λ (x : State). OnOk c.break_off.result (c.break_off.new.self ≡ taking c.args.reference c.args.peer (taken (link_in (value_at c.args.reference x.live)) (value c.args.unit.now)) x))
+    subst (λ (x : State). OnOk c.fail_link.result (c.fail_link.new.self ≡ taking c.args.reference c.args.peer (taken (link_in (value_at c.args.reference x.live)) (value c.args.unit.now)) x))
     c.self.view_is
-    (broke_taking c.break_off.result c.args.reference c.args.peer s (the_view (record c.self.inside { live = c.step.new.self; outgoing = c.step.new.out }))
-    c.break_off.new.self t c.in-Broke.fault fault same c.break_off.ensures.ok)
+    (broke_taking c.fail_link.result c.args.reference c.args.peer s (the_view (record c.self.inside { live = c.step.new.self; outgoing = c.step.new.out }))
+    c.fail_link.new.self t c.in-Broke.fault fault same c.fail_link.ensures.ok)
 
 pub returns-in_err-step-clause-needs : goal.returns-in_err-step-clause-needs
 returns-in_err-step-clause-needs c =
@@ -65,7 +65,7 @@ returns-in-Broke-clause-needs c =
     let rows = broke_rows c.args.reference c.args.peer live c.step.new.self t c.in-Broke.fault fault stage c.in_ok-step.ensures.rows in
     let octets = broke_octets c.args.peer c.self.inside.outgoing.items c.step.new.out.items t c.in-Broke.fault fault c.in_ok-step.ensures.ok in
     let same = changed s c.step.new.self live c.step.new.out.items s.outgoing s.events s.events rows octets refl in
-    subst (λ (x : State). OnErr c.break_off.result (grows x (taking c.args.reference c.args.peer (taken (link_in (value_at c.args.reference x.live)) (value c.args.unit.now)) x) ≡ true))
+    subst (λ (x : State). OnErr c.fail_link.result (grows x (taking c.args.reference c.args.peer (taken (link_in (value_at c.args.reference x.live)) (value c.args.unit.now)) x) ≡ true))
     c.self.view_is
-    (broke_grows c.break_off.result c.args.reference c.args.peer s (the_view (record c.self.inside { live = c.step.new.self; outgoing = c.step.new.out }))
-    t c.in-Broke.fault fault same c.break_off.ensures.needs)
+    (broke_grows c.fail_link.result c.args.reference c.args.peer s (the_view (record c.self.inside { live = c.step.new.self; outgoing = c.step.new.out }))
+    t c.in-Broke.fault fault same c.fail_link.ensures.needs)

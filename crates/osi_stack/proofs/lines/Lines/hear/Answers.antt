@@ -11,15 +11,13 @@ use Rattle.osi_stack.proofs.lines.Lines.hear.Goals as goal
 
 pub returns-in_default-clause-ok : goal.returns-in_default-clause-ok
 returns-in_default-clause-ok c =
-    let none : place_of c.args.reference c.args.self.now ≡ None =
-    ap (λ (l : Rows Line). place_of c.args.reference l) (sym (c.as_slice.ensures.value ∙ c.self.view_is)) ∙ sym c.place_in.ensures ∙ c.in_default.is in
+    let none : place_of c.args.reference c.args.self.now ≡ None = sym c.find.ensures ∙ c.in_default.is in
     unheard c.args.reference c.args.self.now (told_input c.args.told) c.args.carrier.now.state none
 
 pub returns-clause-ok : goal.returns-clause-ok
 returns-clause-ok c =
     let row = c.index_mut-line.result.now in
-    let some : place_of c.args.reference c.args.self.now ≡ Some c.in-Some.place =
-    ap (λ (l : Rows Line). place_of c.args.reference l) (sym (c.as_slice.ensures.value ∙ c.self.view_is)) ∙ sym c.place_in.ensures ∙ c.in-Some.is in
+    let some : place_of c.args.reference c.args.self.now ≡ Some c.in-Some.place = sym c.find.ensures ∙ c.in-Some.is in
     let here = c.index_mut-line.ensures.value ∙ ap (λ (l : Rows Line). get_or l c.in-Some.place row) c.self.view_is in
     heard_rows c.hear-result.result c.args.reference c.args.self.now c.self.inside.rows.items c.in-Some.place row c.hear-result.new.self c.args.carrier.now c.hear-result.new.carrier
     (told_input c.args.told) some here c.self.view_is c.hear-result.ensures.ok c.hear-result.ensures.carrier
@@ -27,8 +25,7 @@ returns-clause-ok c =
 pub returns-clause-lost : goal.returns-clause-lost
 returns-clause-lost c =
     let row = c.index_mut-line.result.now in
-    let some : place_of c.args.reference c.args.self.now ≡ Some c.in-Some.place =
-    ap (λ (l : Rows Line). place_of c.args.reference l) (sym (c.as_slice.ensures.value ∙ c.self.view_is)) ∙ sym c.place_in.ensures ∙ c.in-Some.is in
+    let some : place_of c.args.reference c.args.self.now ≡ Some c.in-Some.place = sym c.find.ensures ∙ c.in-Some.is in
     let here = c.index_mut-line.ensures.value ∙ ap (λ (l : Rows Line). get_or l c.in-Some.place row) c.self.view_is in
     stopped_rows c.hear-result.result c.args.reference c.args.self.now c.self.inside.rows.items c.in-Some.place row c.hear-result.new.self some here c.self.view_is c.hear-result.ensures.lost
 
@@ -43,8 +40,7 @@ returns-clause-needed c =
 pub recount-self-inside-requires-clause-room : goal.recount-self-inside-requires-clause-room
 recount-self-inside-requires-clause-room c = λ h.
     let row = c.index_mut-line.result.now in
-    let some : place_of c.args.reference c.args.self.now ≡ Some c.in-Some.place =
-    ap (λ (l : Rows Line). place_of c.args.reference l) (sym (c.as_slice.ensures.value ∙ c.self.view_is)) ∙ sym c.place_in.ensures ∙ c.in-Some.is in
+    let some : place_of c.args.reference c.args.self.now ≡ Some c.in-Some.place = sym c.find.ensures ∙ c.in-Some.is in
     let here = c.index_mut-line.ensures.value ∙ ap (λ (l : Rows Line). get_or l c.in-Some.place row) c.self.view_is in
     let lines : c.len-lines.result ≡ length c.self.inside.rows.items = search rules in
     room_of c.args.reference c.args.self.now c.self.inside.rows.items c.in-Some.place row c.self.inside.waiting c.len-lines.result some here c.self.view_is
@@ -53,8 +49,7 @@ recount-self-inside-requires-clause-room c = λ h.
 pub invariant_of-self : goal.invariant_of-self
 invariant_of-self c =
     let row = c.index_mut-line.result.now in
-    let some : place_of c.args.reference c.self.inside.rows.items ≡ Some c.in-Some.place =
-    ap (λ (l : Rows Line). place_of c.args.reference l) (sym c.as_slice.ensures.value) ∙ sym c.place_in.ensures ∙ c.in-Some.is in
+    let some : place_of c.args.reference c.self.inside.rows.items ≡ Some c.in-Some.place = ap (λ (l : Rows Line). place_of c.args.reference l) c.self.view_is ∙ sym c.find.ensures ∙ c.in-Some.is in
     set_kept c.self.inside.waiting c.recount-self-inside.result c.self.inside.rises c.waits-before.result c.waits-after.result c.self.inside.rows.items c.in-Some.place row c.hear-result.new.self
     c.self.invariant c.index_mut-line.ensures.value (placed c.args.reference c.self.inside.rows.items c.in-Some.place row some).within c.hear-result.ensures.reference c.waits-before.ensures
     c.waits-after.ensures c.recount-self-inside.ensures

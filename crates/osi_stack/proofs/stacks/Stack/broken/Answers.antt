@@ -5,5 +5,5 @@ use Rattle.osi_stack.proofs.stacks.Stack.broken.Goals as goal
 
 pub invariant_of-self : goal.invariant_of-self
 invariant_of-self c =
-    subst (λ (h : Holding). IsSettled h.end) (sym c.break_off.ensures)
+    subst (λ (h : Holding). IsSettled h.end) (sym c.broken.ensures)
     (c.an_end_is_settled_between_calls.ensures.broken c.self.inside.hub.end c.self.invariant)

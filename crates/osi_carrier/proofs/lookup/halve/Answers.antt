@@ -1,0 +1,10 @@
+use Rattle.std.proofs.Common.{rules, ◌∙◌}
+use Rattle.std.proofs.lemmas.List.Sorted.{answers_always}
+use Rattle.osi_carrier.proofs.Order.{sought}
+use Rattle.osi_carrier.proofs.lookup.halve.Goals as goal
+
+pub returns : goal.returns
+returns g c =
+    let facts = c.binary_search_by_key.ensures in
+    let by_key = facts.position g.R.Referred.reference_of (answers_always _ _ _ (λ f a r h called. search rules)) in
+    c.ok.ensures.value ∙ sought g.R.Referred.reference_of c.args.reference c.args.rows.now c.binary_search_by_key.result c.requires facts.bound by_key

@@ -1,0 +1,67 @@
+//! Where the row of a reference stands in a table: at one look where none between it and the first was
+//! dropped, and else by halves.
+
+ghost use Rattle.std.specs.Prelude.{◌≡◌, ◌++◌, ◌∷◌, [], true, Some, IfSome};
+ghost use Rattle.osi_carrier.specs.Rising.{RiseBy, place_by};
+
+/// A row of a table by reference.
+pub trait Referred {
+    ghost use Rattle.std.specs.Prelude.{ℕ, ◌≡◌};
+
+    ghost reference_of: { Self → ℕ };
+
+    /// The reference that this end gave.
+    fn reference(&self) -> u16
+        ensures { result ≡ reference_of self.now };
+}
+
+/// The place of a reference as far behind the first one as they are apart: it stands there where the
+/// rows rise and none between the two was dropped.
+#[inline]
+fn near<R: Referred>(rows: &[R], reference: u16) -> Option<usize>
+    ensures { IfSome result (λ place. RiseBy R.reference_of 0 rows.now → place_by R.reference_of reference rows.now ≡ Some place) }
+{
+    let [first, ..] = rows else {
+        return None;
+    };
+    let place = reference.wrapping_sub(first.reference()) as usize;
+    if place < rows.len() && rows[place].reference() == reference {
+        return Some(place);
+    }
+    None
+}
+
+/// The place of a reference among rows that rise, looked for by halves.
+fn halve<R: Referred>(rows: &[R], reference: u16) -> Option<usize>
+    requires { RiseBy R.reference_of 0 rows.now }
+    ensures { result ≡ place_by R.reference_of reference rows.now }
+{
+    rows.binary_search_by_key(&reference, |row| row.reference())
+        .ok()
+}
+
+/// Whether a reference is above that of the last row, or above 0 where there is none: then a row with it
+/// may stand behind the others.
+pub fn is_above<R: Referred>(rows: &[R], reference: u16) -> bool
+    ensures { (row : R) → R.reference_of row ≡ reference → result ≡ true → RiseBy R.reference_of 0 rows.now → RiseBy R.reference_of 0 (rows.now ++ row ∷ []) }
+{
+    if rows.is_empty() {
+        return reference > 0;
+    }
+    rows[rows.len() - 1].reference() < reference
+}
+
+/// The place of a reference among rows, which may rise.
+#[inline]
+pub fn place_in<R: Referred>(rows: &[R], rises: bool, reference: u16) -> Option<usize>
+    requires { rises ≡ true → RiseBy R.reference_of 0 rows.now }
+    ensures { result ≡ place_by R.reference_of reference rows.now }
+{
+    if !rises {
+        return rows.iter().position(|row| row.reference() == reference);
+    }
+    match near(rows, reference) {
+        Some(place) => Some(place),
+        None => halve(rows, reference),
+    }
+}

@@ -1,0 +1,115 @@
+-- A session whose connection is not live answers a call as if it were not there.
+use Rattle.std.proofs.Common.{◌≡◌, ℕ, Bool, true, false, not, Option, Some, None, Result, Ok, Err, is_some, IsSome, refl, sym, ap, ◌∙◌, if◌then◌else◌}
+use Rattle.std.specs.Prelude.{OnOk}
+use Rattle.osi_carrier.specs.Rows.{value_at}
+use Rattle.osi_carrier.specs.State.{Connection, State as Carrier}
+use Rattle.osi_carrier.specs.Told.{is_open}
+use Rattle.osi_carrier.specs.declared.ends.EndReason.{EndReason}
+use Rattle.osi_carrier.proofs.ByStage.{no_link}
+use Rattle.osi_session.specs.Allowed.{allowed}
+use Rattle.osi_session.specs.Calls.{Call}
+use Rattle.osi_session.specs.Listening.{Listener, Move, called, answered, react}
+use Rattle.osi_session.specs.Phases.{is_wait_transport, is_over}
+use Rattle.osi_session.specs.Sizes.{limit_of}
+use Rattle.osi_session.specs.declared.faults.CallError.{CallError}
+use Rattle.osi_session.specs.declared.faults.CallError.TheVariants as error
+use Rattle.osi_session.specs.declared.phases.Phase.{Phase}
+use Rattle.osi_session.specs.declared.phases.Phase.TheVariants.{WaitTransport, WaitCn, Connecting, Answering, Ready, MajorAsked, MajorDue, Releasing, ReleaseDue, Restarting, RestartDue, Aborting, Ended}
+use Rattle.osi_session.specs.declared.state.State.{State}
+use Rattle.osi_stack.specs.Calls.{has_given, move_refusal, session_refusal, session_error, call_error, table_error, kept_call_error, kept_table_error}
+use Rattle.osi_stack.specs.Links.{needs_link}
+use Rattle.osi_stack.specs.Messages.{kept_at}
+use Rattle.osi_stack.specs.Settled.{IsSettled}
+use Rattle.osi_stack.specs.State.{End, session_in, session_at}
+
+-- ---- a session that is over
+
+over_phase : (p : Phase) → needs_link p ≡ false → is_wait_transport p ≡ false → is_over p ≡ true
+over_phase WaitTransport h k = cc
+over_phase WaitCn h k = cc
+over_phase Connecting h k = cc
+over_phase Answering h k = cc
+over_phase Ready h k = cc
+over_phase MajorAsked h k = cc
+over_phase MajorDue h k = cc
+over_phase Releasing h k = cc
+over_phase ReleaseDue h k = cc
+over_phase Restarting h k = cc
+over_phase RestartDue h k = cc
+over_phase Aborting h k = refl
+over_phase Ended h k = refl
+
+refused_over : (s : State) (call : Call) → is_over s.phase ≡ true → allowed s call ≡ Err error.Ended
+unfolding allowed
+refused_over s call h = rw h refl
+
+-- what a session that is not there answers
+record IsEnded (r : ℕ) (o : Option Listener) (call : Call) (c : Carrier) : Type 0 where
+  refusal : session_refusal r o call c ≡ Some error.Ended
+  error : session_error o call ≡ Some error.Ended
+
+ended_over : (r : ℕ) (s : Listener) (call : Call) (c : Carrier) → is_over s.state.phase ≡ true → IsEnded r (Some s) call c
+unfolding react
+ended_over r s call c h =
+    let is : react s (called call) ≡ answered s (Err error.Ended) = ap (answered s) (refused_over s.state call h) in
+    record {
+      refusal = ap (λ (m : Move). move_refusal r (limit_of s.state) m c) is;
+      error = ap (λ (m : Move). m.error) is;
+    }
+
+-- ---- one whose connection is not live
+
+unneeded : (b o : Bool) → (b ≡ true → o ≡ true) → o ≡ false → b ≡ false
+unneeded true o h k = let t = h refl in cc
+unneeded false o h k = refl
+
+gone_phase : (r : ℕ) (s : Listener) (e : End) → IsSettled e → e.carrier.ended ≡ None → value_at r e.carrier.live ≡ None → kept_at r e.lines ≡ Some s → is_over s.state.phase ≡ true
+gone_phase r s e settled lasts none kept =
+    let p = s.state.phase in
+    over_phase p
+    (unneeded (needs_link p) (is_open r e.carrier) (λ needs. (settled.sound lasts).links lasts r s kept needs) (ap is_some (no_link r e.carrier none)))
+    (unneeded (is_wait_transport p) (is_some (value_at r e.carrier.live)) (λ waits. ap is_some (settled.asks lasts r s kept waits)) (ap is_some none))
+
+gone_by : (r : ℕ) (call : Call) (e : End) (o : Option Listener) (over : Option EndReason) → IsSettled e → value_at r e.carrier.live ≡ None → kept_at r e.lines ≡ o → e.carrier.ended ≡ over →
+    IsEnded r o call e.carrier
+gone_by r call e None over settled none kept is = record { refusal = refl; error = refl }
+gone_by r call e (Some s) (Some reason) settled none kept is = let left = settled.gone (ap is_some is) r in let both = sym kept ∙ left in cc
+gone_by r call e (Some s) None settled none kept is = ended_over r s call e.carrier (gone_phase r s e settled is none kept)
+
+-- ---- so none has to be looked for
+
+record AreAlike (r : ℕ) (call : Call) (e : End) : Type 0 where
+  refusal : session_refusal r (session_in (value_at r e.lines)) call e.carrier ≡ session_refusal r (session_at r e) call e.carrier
+  error : session_error (session_in (value_at r e.lines)) call ≡ session_error (session_at r e) call
+
+alike_by : (r : ℕ) (call : Call) (e : End) (o : Option Connection) → value_at r e.carrier.live ≡ o → IsSettled e → AreAlike r call e
+alike_by r call e None at settled =
+    let none : session_at r e ≡ None = ap (λ (x : Option Connection). if is_some x then session_in (value_at r e.lines) else None) at in
+    let is = gone_by r call e (kept_at r e.lines) e.carrier.ended settled at refl refl in
+    record {
+      refusal = is.refusal ∙ sym (ap (λ (x : Option Listener). session_refusal r x call e.carrier) none);
+      error = is.error ∙ sym (ap (λ (x : Option Listener). session_error x call) none);
+    }
+alike_by r call e (Some connection) at settled =
+    let same : session_at r e ≡ session_in (value_at r e.lines) = ap (λ (x : Option Connection). if is_some x then session_in (value_at r e.lines) else None) at in
+    record {
+      refusal = sym (ap (λ (x : Option Listener). session_refusal r x call e.carrier) same);
+      error = sym (ap (λ (x : Option Listener). session_error x call) same);
+    }
+
+pub same_refusal : (r : ℕ) (call : Call) (e : End) → IsSettled e → kept_call_error r call e ≡ call_error r call e
+same_refusal r call e settled =
+    ap (λ (o : Option CallError). if◌then◌else◌ {A = Option CallError} (not (has_given r e.carrier)) (Some error.NoSuchConnection) o)
+    (alike_by r call e (value_at r e.carrier.live) refl settled).refusal
+
+pub same_error : (r : ℕ) (call : Call) (e : End) → IsSettled e → kept_table_error r call e ≡ table_error r call e
+same_error r call e settled =
+    ap (λ (o : Option CallError). if◌then◌else◌ {A = Option CallError} (not (has_given r e.carrier)) (Some error.NoSuchConnection) o)
+    (alike_by r call e (value_at r e.carrier.live) refl settled).error
+
+-- ---- what was accepted
+
+pub lasts_by : {A F : Type 0} (result : Result A F) (over : Option EndReason) (refusal : Option CallError) → (IsSome over → IsSome refusal) → OnOk result (refusal ≡ None) → OnOk result (over ≡ None)
+lasts_by (Ok x) None refusal h none = refl
+lasts_by (Ok x) (Some reason) refusal h none = let some : is_some refusal ≡ true = h refl in let is = ap is_some none in cc
+lasts_by (Err e) over refusal h none = tt
