@@ -53,15 +53,19 @@ uint32_t osi_connect_with_size(osi_end *end, const osi_opening *asked, size_t si
 }
 
 /* A shorter indication is given its own fields and no other octet; a longer one 0 for those that this library does not
- * know. */
-void osi_last_with_size(osi_end *end, osi_indication *shown, size_t size)
+ * know. It stands out of line: else its room would be made for each indication of this header, too. */
+__attribute__((noinline)) static void show_in(osi_end *end, osi_indication *shown, size_t size)
 {
     osi_indication whole;
-    if (size == sizeof whole) {
-        proved_osi_last(end, shown);
-        return;
-    }
     proved_osi_last(end, &whole);
     memset(shown, 0, size);
     memcpy(shown, &whole, size < sizeof whole ? size : sizeof whole);
+}
+
+void osi_last_with_size(osi_end *end, osi_indication *shown, size_t size)
+{
+    if (size == sizeof *shown)
+        proved_osi_last(end, shown);
+    else
+        show_in(end, shown, size);
 }

@@ -21,21 +21,24 @@ pub extern "C" fn osi_fetch(end: &mut OsiEnd) -> u32
         return CLOSED;
     }
     let contents = end.get_mut();
-    contents.last = contents.stack.next_indication();
-    if contents.last.is_none() {
+    let Some(next) = contents.stack.next_indication() else {
+        contents.last = None;
         return NOTHING;
-    }
+    };
+    contents.last = Some(next);
     OK
 }
 
 fn show<'a>(contents: Option<&'a Contents>, shown: &mut OsiIndication<'a>)
     ensures { Tells shown.new (told (option_map (λ c. c.now) contents.entry)) }
 {
-    *shown = nothing();
-    if let Some(contents) = contents
-        && let Some((reference, indication)) = &contents.last
-    {
-        *shown = tell(reference.0, indication);
+    let Some(contents) = contents else {
+        *shown = nothing();
+        return;
+    };
+    match &contents.last {
+        None => *shown = nothing(),
+        Some((reference, indication)) => tell(reference.0, indication, shown),
     }
 }
 

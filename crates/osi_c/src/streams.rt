@@ -34,10 +34,8 @@ pub extern "C" fn osi_feed(end: &mut OsiEnd, piece: &[u8], fed: &mut OsiFed) -> 
         return CLOSED;
     }
     let did = end.get_mut().stack.feed(piece);
-    *fed = OsiFed {
-        used: did.used,
-        waits: did.whole,
-    };
+    fed.used = did.used;
+    fed.waits = did.whole;
     OK
 }
 

@@ -195,25 +195,33 @@ fn opening<'a>(
     }
 }
 
-fn aborted<'a>(reference: u16, cause: AbortCause) -> OsiIndication<'a>
-    ensures { Says result reference (abort_shown cause) }
+/// It stands out of line: else its fields would be made on the way of data, too.
+#[inline(never)]
+fn tell_abort<'a>(reference: u16, cause: AbortCause, shown: &mut OsiIndication<'a>)
+    ensures { Says shown.new reference (abort_shown cause) }
 {
     match cause {
-        AbortCause::Lost => plain(reference, 18, &[]),
-        AbortCause::Peer(bits) => OsiIndication {
-            reason: bits,
-            ..plain(reference, 19, &[])
-        },
-        AbortCause::Unit(fault) => OsiIndication {
-            fault: fault_codes(fault),
-            ..plain(reference, 20, &[])
-        },
+        AbortCause::Lost => *shown = plain(reference, 18, &[]),
+        AbortCause::Peer(bits) => {
+            *shown = OsiIndication {
+                reason: bits,
+                ..plain(reference, 19, &[])
+            };
+        }
+        AbortCause::Unit(fault) => {
+            *shown = OsiIndication {
+                fault: fault_codes(fault),
+                ..plain(reference, 20, &[])
+            };
+        }
     }
 }
 
-/// What is said of an opening: a CN, an AC or a refusal. No other indication comes here.
-fn tell_opening(reference: u16, indication: &Indication) -> OsiIndication<'_>
-    ensures { is_opening (shown_by indication.now) ≡ true → Says result reference (shown_by indication.now) }
+/// What is said of an opening: a CN, an AC or a refusal. No other indication comes here. It stands out of
+/// line, as [`tell_abort`] does.
+#[inline(never)]
+fn tell_opening<'a>(reference: u16, indication: &'a Indication, shown: &mut OsiIndication<'a>)
+    ensures { is_opening (shown_by indication.now) ≡ true → Says shown.new reference (shown_by indication.now) }
 {
     match indication {
         Indication::Connect {
@@ -224,7 +232,7 @@ fn tell_opening(reference: u16, indication: &Indication) -> OsiIndication<'_>
             user_data,
         } => {
             let plain = plain(reference, 1, user_data.as_slice());
-            opening(*requirements, *serial, wish_codes(*wishes), *sizes, plain)
+            *shown = opening(*requirements, *serial, wish_codes(*wishes), *sizes, plain);
         }
         Indication::Connected {
             requirements,
@@ -234,102 +242,127 @@ fn tell_opening(reference: u16, indication: &Indication) -> OsiIndication<'_>
             user_data,
         } => {
             let plain = plain(reference, 2, user_data.as_slice());
-            opening(*requirements, *serial, side_codes(*sides), *sizes, plain)
+            *shown = opening(*requirements, *serial, side_codes(*sides), *sizes, plain);
         }
-        Indication::RefusedByTransport { reason } => OsiIndication {
-            reason: *reason,
-            ..plain(reference, 3, &[])
-        },
-        Indication::RefusedBySession { reason, user_data } => OsiIndication {
-            reason: *reason,
-            ..plain(reference, 4, user_data.as_slice())
-        },
-        _ => nothing(),
+        Indication::RefusedByTransport { reason } => {
+            *shown = OsiIndication {
+                reason: *reason,
+                ..plain(reference, 3, &[])
+            };
+        }
+        Indication::RefusedBySession { reason, user_data } => {
+            *shown = OsiIndication {
+                reason: *reason,
+                ..plain(reference, 4, user_data.as_slice())
+            };
+        }
+        _ => *shown = nothing(),
     }
 }
 
 /// What is said with the number of a point. No other indication comes here.
-fn tell_point(reference: u16, indication: &Indication) -> OsiIndication<'_>
-    ensures { is_point (shown_by indication.now) ≡ true → Says result reference (shown_by indication.now) }
+fn tell_point<'a>(reference: u16, indication: &'a Indication, shown: &mut OsiIndication<'a>)
+    ensures { is_point (shown_by indication.now) ≡ true → Says shown.new reference (shown_by indication.now) }
 {
     match indication {
         Indication::Minor {
             number,
             confirm,
             user_data,
-        } => OsiIndication {
-            number: *number,
-            confirm: if *confirm { 1 } else { 0 },
-            ..plain(reference, 8, user_data.as_slice())
-        },
-        Indication::MinorConfirmed { number, user_data } => OsiIndication {
-            number: *number,
-            ..plain(reference, 9, user_data.as_slice())
-        },
-        Indication::Major { number, user_data } => OsiIndication {
-            number: *number,
-            ..plain(reference, 10, user_data.as_slice())
-        },
-        _ => nothing(),
+        } => {
+            *shown = OsiIndication {
+                number: *number,
+                confirm: if *confirm { 1 } else { 0 },
+                ..plain(reference, 8, user_data.as_slice())
+            };
+        }
+        Indication::MinorConfirmed { number, user_data } => {
+            *shown = OsiIndication {
+                number: *number,
+                ..plain(reference, 9, user_data.as_slice())
+            };
+        }
+        Indication::Major { number, user_data } => {
+            *shown = OsiIndication {
+                number: *number,
+                ..plain(reference, 10, user_data.as_slice())
+            };
+        }
+        _ => *shown = nothing(),
     }
 }
 
 /// What is said with the number of a point and who is to hold the tokens. No other indication comes
-/// here.
-fn tell_restart(reference: u16, indication: &Indication) -> OsiIndication<'_>
-    ensures { is_restart (shown_by indication.now) ≡ true → Says result reference (shown_by indication.now) }
+/// here. It stands out of line, as [`tell_abort`] does.
+#[inline(never)]
+fn tell_restart<'a>(reference: u16, indication: &'a Indication, shown: &mut OsiIndication<'a>)
+    ensures { is_restart (shown_by indication.now) ≡ true → Says shown.new reference (shown_by indication.now) }
 {
     match indication {
         Indication::Restart {
             number,
             wishes,
             user_data,
-        } => OsiIndication {
-            number: *number,
-            sides: wish_codes(*wishes),
-            ..plain(reference, 12, user_data.as_slice())
-        },
+        } => {
+            *shown = OsiIndication {
+                number: *number,
+                sides: wish_codes(*wishes),
+                ..plain(reference, 12, user_data.as_slice())
+            };
+        }
         Indication::Restarted {
             number,
             sides,
             user_data,
-        } => OsiIndication {
-            number: *number,
-            sides: side_codes(*sides),
-            ..plain(reference, 13, user_data.as_slice())
-        },
-        _ => nothing(),
+        } => {
+            *shown = OsiIndication {
+                number: *number,
+                sides: side_codes(*sides),
+                ..plain(reference, 13, user_data.as_slice())
+            };
+        }
+        _ => *shown = nothing(),
     }
 }
 
-/// What the user of a connection is shown.
-pub(crate) fn tell(reference: u16, indication: &Indication) -> OsiIndication<'_>
-    ensures { Says result reference (shown_by indication.now) }
+/// What the user of a connection is shown. Each arm writes it where it is to stand: else what all of them
+/// may say would be put together first.
+pub(crate) fn tell<'a>(reference: u16, indication: &'a Indication, shown: &mut OsiIndication<'a>)
+    ensures { Says shown.new reference (shown_by indication.now) }
 {
     match indication {
         Indication::Connect { .. }
         | Indication::Connected { .. }
         | Indication::RefusedByTransport { .. }
-        | Indication::RefusedBySession { .. } => tell_opening(reference, indication),
-        Indication::Data { user_data } => plain(reference, 5, user_data.as_slice()),
-        Indication::Given { tokens } => OsiIndication {
-            tokens: tokens.bits(),
-            ..plain(reference, 6, &[])
-        },
-        Indication::Asked { tokens, user_data } => OsiIndication {
-            tokens: tokens.bits(),
-            ..plain(reference, 7, user_data.as_slice())
-        },
-        Indication::Minor { .. } | Indication::MinorConfirmed { .. } | Indication::Major { .. } =>
-            tell_point(reference, indication),
-        Indication::MajorConfirmed { user_data } => plain(reference, 11, user_data.as_slice()),
-        Indication::Restart { .. } | Indication::Restarted { .. } => {
-            tell_restart(reference, indication)
+        | Indication::RefusedBySession { .. } => tell_opening(reference, indication, shown),
+        Indication::Data { user_data } => *shown = plain(reference, 5, user_data.as_slice()),
+        Indication::Given { tokens } => {
+            *shown = OsiIndication {
+                tokens: tokens.bits(),
+                ..plain(reference, 6, &[])
+            };
         }
-        Indication::Release { user_data } => plain(reference, 14, user_data.as_slice()),
-        Indication::Released { user_data } => plain(reference, 15, user_data.as_slice()),
-        Indication::ReleaseRefused { user_data } => plain(reference, 16, user_data.as_slice()),
-        Indication::Aborted { user_data } => plain(reference, 17, user_data.as_slice()),
-        Indication::ProviderAbort { cause } => aborted(reference, *cause),
+        Indication::Asked { tokens, user_data } => {
+            *shown = OsiIndication {
+                tokens: tokens.bits(),
+                ..plain(reference, 7, user_data.as_slice())
+            };
+        }
+        Indication::Minor { .. } | Indication::MinorConfirmed { .. } | Indication::Major { .. } => {
+            tell_point(reference, indication, shown);
+        }
+        Indication::MajorConfirmed { user_data } => {
+            *shown = plain(reference, 11, user_data.as_slice());
+        }
+        Indication::Restart { .. } | Indication::Restarted { .. } => {
+            tell_restart(reference, indication, shown);
+        }
+        Indication::Release { user_data } => *shown = plain(reference, 14, user_data.as_slice()),
+        Indication::Released { user_data } => *shown = plain(reference, 15, user_data.as_slice()),
+        Indication::ReleaseRefused { user_data } => {
+            *shown = plain(reference, 16, user_data.as_slice());
+        }
+        Indication::Aborted { user_data } => *shown = plain(reference, 17, user_data.as_slice()),
+        Indication::ProviderAbort { cause } => tell_abort(reference, *cause, shown),
     }
 }
