@@ -111,7 +111,7 @@ unit_answers s u = (answers s u).last
 word_answers : (t : Taker) (w : Word) → Answers (outcome_in (respond_word t w))
 word_answers t w = word_does Answers t w (record { acts = λ u a. answers t.state u; bad = λ fault o. bad_answers t.state fault; rests = silent _ refl })
 
-stays_over : (t : Taker) (ws : Words) → is_over t.state.phase ≡ true → is_over (respond_words t ws).next.state.phase ≡ true
+pub stays_over : (t : Taker) (ws : Words) → is_over t.state.phase ≡ true → is_over (respond_words t ws).next.state.phase ≡ true
 stays_over t ws h = all_keep (λ r. is_over r.phase ≡ true) (λ w. Unit {0}) t ws (λ r w q. word_over r w) (any_word ws) h
 
 either_sent : (a b : Option Meaning) (m : Meaning) → first_reply a b ≡ Some m → (a ≡ Some m) ⊎ (b ≡ Some m)

@@ -1,21 +1,15 @@
 -- What closes the transport connection, and that nothing is sent with it.
-use Rattle.std.proofs.Common.{◌≡◌, refl, sym, ◌∙◌, ap, subst, ℕ, Bool, true, false, not, ◌||◌, List, [], ◌∷◌, ◌++◌, Option, Some, None, Result, Ok, Err, if◌then◌else◌}
+use Rattle.std.proofs.Common.{◌≡◌, refl, sym, ◌∙◌, ap, subst, ℕ, Bool, true, false, not, ◌||◌, List, [], ◌∷◌, ◌++◌, None, Result, Ok, Err, if◌then◌else◌}
 use Rattle.std.specs.List.{list_any}
 use Rattle.std.proofs.lemmas.List.Folds.{list_any-append}
 use Rattle.osi_spdu.specs.declared.faults.SpduFault.{SpduFault}
 use Rattle.osi_spdu.specs.declared.kinds.Kind.{Kind}
 use Rattle.osi_spdu.specs.declared.kinds.Kind.TheVariants as kind
-use Rattle.osi_spdu.specs.declared.kinds.Category.{Category}
-use Rattle.osi_spdu.specs.declared.kinds.Category.TheVariants.{Zero, One, Two}
+use Rattle.osi_spdu.specs.declared.kinds.Category.TheVariants.{Zero, Two}
 use Rattle.osi_spdu.specs.Kinds.{category_of}
-use Rattle.osi_spdu.specs.Known.{Known, Contents, Units}
-use Rattle.osi_spdu.specs.Reading.{Placed, unit_at, contents_of, behind_at, ended, continued, tsdu_at}
-use Rattle.osi_spdu.specs.Spelling.{AreBehind}
-use Rattle.osi_spdu.proofs.StepLaws.{bind_ok, ok_is}
-use Rattle.osi_spdu.proofs.UnitsLaws.{behind_stands}
+use Rattle.osi_spdu.specs.Known.{Known}
 use Rattle.osi_message.specs.Meanings.{Meaning, RF, DN, AB, AA}
-use Rattle.osi_message.specs.declared.places.Place.{Place}
-use Rattle.osi_message.specs.Reading.{meaning_by, meaning, place_of, word_at, word, said_by_units, said_if_read, said_at}
+use Rattle.osi_message.specs.Reading.{meaning_by, said_at}
 use Rattle.osi_message.specs.Words.{Word, Words}
 use Rattle.osi_session.specs.declared.state.State.{State}
 use Rattle.osi_session.specs.Phases.{is_wait_transport, is_aborting, is_ended, is_over}
@@ -27,6 +21,7 @@ use Rattle.osi_session.specs.Listening.{Input, called, taken, unread, opened, re
 use Rattle.osi_session.specs.Moves as whole
 use Rattle.osi_session.specs.Whole.{listening, in_words}
 use Rattle.osi_session.specs.Respond.{Outcome, becomes, reply_for, closes_for, in_aborting, in_ended, respond_unit, Verdict, over, dropped, faulty, fine, verdict, enacted, is_faulty, respond_fault}
+use Rattle.osi_session.proofs.AloneLaws.{StandsAlone, stands_alone, alone_in_octets}
 use Rattle.osi_session.proofs.RunLaws.{word_ended}
 use Rattle.osi_session.proofs.VerdictLaws.{enacts}
 use Rattle.osi_session.proofs.WordCases.{acts_alike, outcome_in, word_does, all_keep, any_word}
@@ -211,60 +206,18 @@ item_open kind.GiveTokens known information h = refl
 item_open kind.PleaseTokens known information h = refl
 item_open _ known information h = absurd (cc)
 
--- a part is data, which leaves it open
-word_opens : (place : Option Place) (unit : Contents) → may_close (meaning unit) ≡ false → may_close_word (word_at place unit) ≡ false
-word_opens None unit h = h
-word_opens (Some place) unit h = refl
+-- no token item and no unit of category 2 closes it
+opens_behind : StandsAlone may_close
+opens_behind = record { item = item_open; behind = behind_open; plain = λ octets. refl }
 
-behind_word : (unit : Contents) → category_of unit.kind ≡ Two → may_close_word (word unit) ≡ false
-unfolding word meaning
-behind_word unit h = word_opens (place_of unit) unit (behind_open unit.kind unit.known unit.information h)
-
-item_word : (unit : Contents) → category_of unit.kind ≡ Zero → may_close_word (word unit) ≡ false
-unfolding word meaning
-item_word unit h = word_opens (place_of unit) unit (item_open unit.kind unit.known unit.information h)
-
-all_behind_open : (units : Units) → AreBehind units → list_any may_close_word (said_by_units units) ≡ false
-all_behind_open [] h = refl
-all_behind_open (unit ∷ units) h = none_closes _ _ (behind_word unit h.0) (all_behind_open units h.2)
-
-none_alone : (words : Words) → list_any may_close_word words ≡ false → closes_alone words ≡ true
-none_alone [] h = refl
-none_alone (w ∷ []) h = refl
-none_alone (w ∷ v ∷ ws) h = ap not h
-
-abbrev IsAlone : Units → Type 0
-IsAlone units = closes_alone (said_by_units units) ≡ true
-
-ended_alone : (at : ℕ) (octets : List ℕ) (unit : Contents) (units : Units) → ended at octets unit ≡ Ok units → IsAlone units
-ended_alone at [] unit units e = subst IsAlone (ok_is (unit ∷ []) units e) refl
-ended_alone at (b ∷ octets) unit units e = absurd (cc)
-
-continued_alone : (p : Placed) (units : Units) (category : Category) → category_of p.kind ≡ category → continued category p ≡ Ok units → IsAlone units
-continued_alone p units Zero same e =
-    let a = bind_ok (behind_at 16 p.end p.rest) (λ behind. Ok (contents_of p [] ∷ behind)) units e in
-    let r = behind_stands 16 p.end p.rest a.0 a.1 in
-    let first = item_word (contents_of p []) same in
-    subst IsAlone (ok_is (contents_of p [] ∷ a.0) units a.2)
-    (none_alone (said_by_units (contents_of p [] ∷ a.0)) (none_closes _ _ first (all_behind_open a.0 r.0)))
-continued_alone p units One same e = ended_alone p.end p.rest (contents_of p []) units e
-continued_alone p units Two same e = ended_alone p.end p.rest (contents_of p []) units e
-
-units_alone : (octets : List ℕ) (units : Units) → tsdu_at octets ≡ Ok units → IsAlone units
-unfolding tsdu_at
-units_alone octets units e =
-    let a = bind_ok (unit_at false 0 octets) (λ unit. continued (category_of unit.kind) unit) units e in
-    continued_alone a.0 units (category_of a.0.kind) refl a.2
-
-read_alone : (read : Result Units SpduFault) (words : Words) → ((units : Units) → read ≡ Ok units → IsAlone units)
-    → said_if_read read ≡ Ok words → closes_alone words ≡ true
-read_alone (Ok units) words h e = let same : said_by_units units ≡ words = cc in subst (λ (x : Words). closes_alone x ≡ true) same (h units refl)
-read_alone (Err fault) words h e = absurd (cc)
+closes_so : (words : Words) → stands_alone may_close words ≡ true → closes_alone words ≡ true
+closes_so [] h = refl
+closes_so (w ∷ []) h = refl
+closes_so (w ∷ v ∷ ws) h = h
 
 -- in what octets say, a word that may close stands alone
 pub octets_alone : (octets : List ℕ) (words : Words) → said_at octets ≡ Ok words → closes_alone words ≡ true
-unfolding said_at
-octets_alone octets words e = read_alone (tsdu_at octets) words (units_alone octets) e
+octets_alone octets words e = closes_so words (alone_in_octets may_close opens_behind octets words e)
 
 -- ---- moves
 

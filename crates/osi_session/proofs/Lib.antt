@@ -22,6 +22,7 @@ pub mod SoundUnits
 pub mod TokenSets
 pub mod TsduLaws
 pub mod VerdictLaws
+pub mod AloneLaws
 pub mod ClosingLaws
 pub mod AnswerLaws
 pub mod WrittenLaws
@@ -39,3 +40,4 @@ pub mod PartLaws
 pub mod KeptLaws
 pub mod PartRuns
 pub mod ProfileLaws
+pub mod ConnectLaws

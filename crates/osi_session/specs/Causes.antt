@@ -1,5 +1,5 @@
--- What opens a connection, what gives a token to this side, and what sets the numbers anew.
-use Rattle.std.specs.Prelude.{Bool, true, false, not, ◌&&◌, ◌||◌, if◌then◌else◌}
+-- What asks for a connection and what opens it, what gives a token to this side, and what sets the numbers anew.
+use Rattle.std.specs.Prelude.{Bool, true, false, not, ◌&&◌, ◌||◌, if◌then◌else◌, [], ◌∷◌}
 use Rattle.std.specs.List.{list_any}
 use Rattle.osi_session.specs.declared.state.State.{State}
 use Rattle.osi_session.specs.declared.sides.Sides.{Sides}
@@ -17,6 +17,26 @@ use Rattle.osi_session.specs.Listening.{Input, called, taken}
 -- one of the words of a TSDU that act
 abbrev pub some_word : (Meaning → Bool) → Words → Bool
 some_word p words = list_any (λ w. p (as_message w)) (acting_words words)
+
+-- ---- a connection is asked for
+
+abbrev pub unit_asks : Meaning → Bool
+unit_asks (CN version_2 requirements serial wishes from to sizes octets) = true
+unit_asks _ = false
+
+-- by the first unit of a TSDU
+abbrev pub asks_first : Words → Bool
+asks_first [] = false
+asks_first (w ∷ words) = unit_asks (as_message w)
+
+abbrev pub asks_for_connection : Input → Bool
+asks_for_connection (taken words) = asks_first words
+asks_for_connection _ = false
+
+-- the units of a TSDU come
+abbrev pub is_taken : Input → Bool
+is_taken (taken words) = true
+is_taken _ = false
 
 -- ---- a connection is opened, and after a restart opened again
 

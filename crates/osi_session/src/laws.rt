@@ -18,12 +18,12 @@ ghost use Rattle.osi_session.specs.declared.state.State.{State};
 ghost use Rattle.osi_message.specs.declared.tokens.Tokens.{Tokens};
 ghost use Rattle.osi_session.specs.Allowed.{Step, allowed, most_data, Passed};
 ghost use Rattle.osi_session.specs.Calls.{Call, Data, Give, MinorConfirm, HasSerial, called_by};
-ghost use Rattle.osi_session.specs.Causes.{opens_connection, call_gives, unit_gives, call_holds, unit_holds, renews};
+ghost use Rattle.osi_session.specs.Causes.{asks_for_connection, is_taken, opens_connection, call_gives, unit_gives, call_holds, unit_holds, renews};
 ghost use Rattle.osi_message.specs.Meanings.{Meaning, DT, MIA, RS, AA};
 ghost use Rattle.osi_session.specs.Numbers.{lower};
 ghost use Rattle.osi_session.specs.Closing.{closes_alone, is_answer, awaits_close};
 ghost use Rattle.osi_session.specs.declared.phases.Phase.{Phase};
-ghost use Rattle.osi_session.specs.Phases.{is_wait_transport, is_wait_cn, is_aborting, is_over, is_ended, is_restarting, is_restart_due, may_abort, may_hold};
+ghost use Rattle.osi_session.specs.Phases.{is_wait_transport, is_wait_cn, is_aborting, is_over, is_ended, is_restarting, is_restart_due, may_abort, may_hold, shows_loss};
 ghost use Rattle.osi_message.specs.Reading.{Said, alone, behind, said_by_units, said_at};
 ghost use Rattle.osi_message.specs.Words.{Words, says, part, part_octets};
 ghost use Rattle.osi_session.specs.Joining.{Taker, kept_in, heard, respond_word, respond_words, respond_tsdu};
@@ -40,7 +40,7 @@ ghost use Rattle.osi_session.specs.Respond.{nothing, bad, becomes, respond_unit,
 ghost use Rattle.osi_session.specs.Restarts.{HasAsked, AreCrossed, after_restart};
 ghost use Rattle.osi_session.specs.Runs.{HasNumbers, HasNumbersInWords, IsFresh};
 ghost use Rattle.osi_session.specs.Sessions.{awaiting, asking, Planned, IsPlanOf};
-ghost use Rattle.osi_session.specs.Shown.{MinorConfirmed};
+ghost use Rattle.osi_session.specs.Shown.{MinorConfirmed, shows_connect};
 ghost use Rattle.osi_session.specs.Sizes.{answered, smaller_sizes, answered_sizes, limit_of, is_data, is_bounded};
 ghost use Rattle.osi_session.specs.Sound.{IsSound};
 ghost use Rattle.osi_message.specs.Tokens.{Token, has, is_disjoint, token_octet};
@@ -138,6 +138,16 @@ pub fn where_a_call_is_accepted()
     ensures begun { (l : Listener) (input : Input) → is_wait_transport (after_input l input).state.phase ≡ true → is_wait_transport l.state.phase ≡ true }
     ensures waiting { (l : Listener) (input : Input) → is_opened input ≡ false → is_wait_transport l.state.phase ≡ true →
         (is_wait_transport (after_input l input).state.phase || is_over (after_input l input).state.phase) ≡ true }
+{}
+
+/// What the user of a called side is shown first is a `Connect`: where he would now be shown the loss of the
+/// transport connection, and would not have been before, he was. It is shown by a CN alone, which stands alone
+/// in its TSDU (X.225 section 6.3.7).
+pub fn what_a_user_is_shown_first()
+    ensures first { (l : Listener) (input : Input) → shows_loss l.state.phase ≡ false → shows_loss (after_input l input).state.phase ≡ true →
+        shows_connect (react l input).shown ≡ true }
+    ensures taken { (l : Listener) (input : Input) → shows_connect (react l input).shown ≡ true → is_taken input ≡ true }
+    ensures asked { (l : Listener) (octets : List ℕ) → shows_connect (react l (came octets)).shown ≡ true → asks_for_connection (came octets) ≡ true }
 {}
 
 /// What becomes of a unit: the table of units enacts its verdict. A unit that is not discarded, that
