@@ -15,6 +15,8 @@ pub struct Outgoing {
     /// The TSDU of which a part was given last. It is kept until the next begins, which is copied into
     /// its room where it fits.
     current: Vec<u8>,
+    /// Whether it was handed in with its room, which is given back once nothing is to be sent.
+    is_owned: bool,
     /// Where the part that was given last begins in it.
     from: usize,
     /// Where that part ends.
@@ -89,6 +91,7 @@ impl Outgoing {
         Outgoing {
             alloc,
             current: Vec::new(alloc),
+            is_owned: false,
             from: 0,
             to: 0,
             has_more: false,
@@ -183,6 +186,7 @@ impl Outgoing {
             return Ok(());
         }
         self.current = tsdu;
+        self.is_owned = true;
         self.from = 0;
         self.to = 0;
         self.has_more = true;
@@ -200,6 +204,7 @@ impl Outgoing {
             let room = Vec::with_capacity(self.alloc, tsdu.len())?;
             self.current = room;
         }
+        self.is_owned = false;
         self.current.clear();
         if self.current.extend_from_slice(tsdu).is_err() {
             unreachable!();
@@ -217,9 +222,13 @@ impl Outgoing {
         ensures none { IfNone result ((self.old.unsent ≡ []) × (self.new.unsent ≡ [])) }
     {
         if !self.has_more {
-            let tsdu = self.queue.pop_front()?;
+            let Some(tsdu) = self.queue.pop_front() else {
+                self.rest();
+                return None;
+            };
             self.queued -= tsdu.len();
             self.current = tsdu;
+            self.is_owned = true;
             self.to = 0;
             self.has_more = true;
         }
@@ -231,6 +240,20 @@ impl Outgoing {
         self.to = self.current.len();
         self.has_more = false;
         Some(true)
+    }
+
+    /// Gives back the room of a TSDU that was handed in with it, where nothing is to be sent.
+    #[inline(always)]
+    fn rest(&mut self)
+        requires { self.old.unsent ≡ [] }
+        ensures { self.new.unsent ≡ [] }
+    {
+        if self.is_owned {
+            self.current = Vec::new(self.alloc);
+            self.is_owned = false;
+            self.from = 0;
+            self.to = 0;
+        }
     }
 
     /// The octets of the part that [`Outgoing::advance`] went to last.

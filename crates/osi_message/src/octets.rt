@@ -49,6 +49,20 @@ impl Octets {
         self.items.extend_from_slice(more)
     }
 
+    /// Puts the last octets behind them, with no room to spare for more. `Err` changes nothing, and comes
+    /// only where there are some.
+    pub fn complete(&mut self, last: &[u8]) -> Result<(), AllocError>
+        ensures ok { OnOk result (self.new ≡ self.old ++ last.now) }
+        ensures err { OnErr result (self.new ≡ self.old) }
+        ensures memory { OnErr result (0 < length last.now) }
+    {
+        if last.is_empty() {
+            return Ok(());
+        }
+        self.items.reserve_exact(last.len())?;
+        self.items.extend_from_slice(last)
+    }
+
     /// The octets.
     pub fn as_slice(&self) -> &[u8]
         ensures { result.now ≡ self.now }

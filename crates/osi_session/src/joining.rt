@@ -84,10 +84,12 @@ pub(crate) fn judge_part(
     PartVerdict::Good
 }
 
-/// Joins a part to those before it. `Err` changes nothing, and comes only where the part has octets.
+/// Joins a part to those before it, the last with no room to spare. `Err` changes nothing, and comes only
+/// where the part has octets.
 pub(crate) fn join(
     alloc: Global,
     joined: &mut Option<Octets>,
+    place: Place,
     user_data: &[u8],
 ) -> Result<(), AllocError>
     ensures ok { OnOk result (joined.new ≡ Some (joined_octets joined.old ++ user_data.now)) }
@@ -95,7 +97,10 @@ pub(crate) fn join(
     ensures memory { OnErr result (0 < length user_data.now) }
 {
     if let Some(octets) = joined {
-        return octets.extend(user_data);
+        return match place {
+            Place::First | Place::Middle => octets.extend(user_data),
+            Place::Last => octets.complete(user_data),
+        };
     }
     let mut octets = Octets::new(alloc);
     octets.extend(user_data)?;
@@ -113,7 +118,7 @@ pub(crate) fn joined_with(
 {
     let mut octets = Octets::new(alloc);
     octets.extend(joined_octets(joined))?;
-    octets.extend(user_data)?;
+    octets.complete(user_data)?;
     Ok(octets)
 }
 

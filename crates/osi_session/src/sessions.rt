@@ -456,7 +456,7 @@ impl Session {
         requires { word_verdict (taker_of self.old) (part place user_data.now) ≡ fine }
         ensures { Takes result (moved self.old (respond_word (taker_of self.old) (part place user_data.now))) self.old self.new }
     {
-        match join(self.alloc, &mut self.joined, user_data) {
+        match join(self.alloc, &mut self.joined, place, user_data) {
             Ok(()) => Ok(Taken::showing(self.alloc, shown_behind(place, &mut self.joined))),
             Err(error) => Err(error),
         }
