@@ -97,8 +97,8 @@ impl Incoming {
         Ok(())
     }
 
-    /// Takes the last part of a TSDU, which then has no room to spare. The room for it among those that
-    /// stand whole is made first.
+    /// Takes the last part of a TSDU, for which no more room is made than it needs. The room for it among
+    /// those that stand whole is made first.
     fn finish(&mut self, octets: &[u8]) -> Result<(), LinkFault>
         requires { length self.old.begun + length octets.now ≤ longest_tsdu }
         ensures { TakesUnit result true (joined self.old true octets.now) self.old self.new }

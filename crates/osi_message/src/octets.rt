@@ -49,8 +49,8 @@ impl Octets {
         self.items.extend_from_slice(more)
     }
 
-    /// Puts the last octets behind them, with no room to spare for more. `Err` changes nothing, and comes
-    /// only where there are some.
+    /// Puts the last octets behind them, and makes no more room than they need. `Err` changes nothing, and
+    /// comes only where there are some.
     pub fn complete(&mut self, last: &[u8]) -> Result<(), AllocError>
         ensures ok { OnOk result (self.new ≡ self.old ++ last.now) }
         ensures err { OnErr result (self.new ≡ self.old) }

@@ -84,8 +84,8 @@ pub(crate) fn judge_part(
     PartVerdict::Good
 }
 
-/// Joins a part to those before it, the last with no room to spare. `Err` changes nothing, and comes only
-/// where the part has octets.
+/// Joins a part to those before it; for the last no more room is made than it needs. `Err` changes nothing,
+/// and comes only where the part has octets.
 pub(crate) fn join(
     alloc: Global,
     joined: &mut Option<Octets>,
