@@ -83,6 +83,7 @@ impl Hub {
         ensures ok { OnOk result (self.new.end ≡ hears (happening event) self.old.end) }
         ensures held { self.new.held ≡ self.old.held }
         ensures err { OnErr result (Interrupted self.old.end self.new.end) }
+        ensures needed { OnErr result (needs_memory (happening event) self.old.end ≡ true) }
     {
         match event {
             Event::Opened(reference) => self.open(reference),

@@ -32,8 +32,7 @@ returns-clause-lost c =
 pub returns-clause-needed : goal.returns-clause-needed
 returns-clause-needed c =
     let row = c.index_mut-line.result.now in
-    let some : place_of c.args.reference c.args.self.now ≡ Some c.in-Some.place =
-    ap (λ (l : Rows Line). place_of c.args.reference l) (sym (c.as_slice.ensures.value ∙ c.self.view_is)) ∙ sym c.place_in.ensures ∙ c.in-Some.is in
+    let some : place_of c.args.reference c.args.self.now ≡ Some c.in-Some.place = sym c.find.ensures ∙ c.in-Some.is in
     let here = c.index_mut-line.ensures.value ∙ ap (λ (l : Rows Line). get_or l c.in-Some.place row) c.self.view_is in
     needs_at c.hear-result.result c.args.reference c.args.self.now c.in-Some.place row (told_input c.args.told) c.args.carrier.now.state some here c.hear-result.ensures.needed
 
