@@ -1,18 +1,10 @@
 //! Scripts of two ends whose events are given in one list.
 
-use crate::again::{asks, pair_in, push_entry, state_of, unreadable};
+use crate::again::{asks, event_of, pair_in, push_entry, state_of, unreadable};
 use osi_pair::{Event, Pair, RunError};
 use osi_script::Line;
-use osi_stack::Connect;
-use osi_tpdu::Tsap;
-use osi_transcript::event_of;
 use std::alloc::{AllocError, Global};
 use std::io;
-
-/// A transport address, and a session address, of the greatest length.
-const TSAP: [u8; 32] = [0x54; 32];
-
-const SELECTOR: [u8; 16] = [0x53; 16];
 
 /// What came of a list of events.
 #[derive(Drop)]
@@ -61,7 +53,7 @@ fn events_in<'a>(alloc: Global, lines: &'a [Line<'a>]) -> io::Result<Vec<Event<'
         let Some(event) = line.command().and_then(event_of) else {
             return Err(unreadable());
         };
-        events.push(addressed(event))?;
+        events.push(event)?;
     }
     Ok(events)
 }
@@ -74,20 +66,6 @@ fn apply_each(pair: &mut Pair, events: &[Event]) -> Option<RunError> {
         }
     }
     None
-}
-
-/// The event, where a connection is asked for with addresses of the greatest lengths.
-fn addressed<'a>(event: Event<'a>) -> Event<'a> {
-    match event {
-        Event::Connect(connect) => Event::Connect(Connect {
-            calling_tsap: Tsap::new(&TSAP),
-            called_tsap: Tsap::new(&TSAP),
-            calling_selector: Some(&SELECTOR),
-            called_selector: Some(&SELECTOR),
-            ..connect
-        }),
-        other => other,
-    }
 }
 
 /// All that can be asked of two ends, and each entry of their journal.

@@ -8,5 +8,4 @@ mod standings;
 mod transcripts;
 mod walks;
 
-pub use asking::{event_of, named, side_of};
 pub use transcripts::{Transcript, transcribe};
