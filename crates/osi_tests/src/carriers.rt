@@ -162,17 +162,6 @@ fn sends_three(carrier: &mut Carrier, alloc: Global, tsdu: &[u8]) -> Result<(), 
     Ok(())
 }
 
-/// Two TSDUs are sent together, and then they are given away together.
-fn sends_together(carrier: &mut Carrier, alloc: Global, tsdu: &[u8]) -> Result<(), Fail> {
-    let mut tsdus = Vec::new(alloc);
-    for _ in 0..2u8 {
-        tsdus.push(Vec::from_slice(alloc, tsdu)?)?;
-    }
-    carrier.send_all(Ref(1), tsdus.as_slice())?;
-    carrier.send_all_owned(Ref(1), tsdus)?;
-    Ok(())
-}
-
 #[test]
 fn a_sent_tsdu_has_at_most_1048576_octets(rt: HostRuntime) -> Result<(), Fail> {
     let octets = vec![in rt.alloc(); 0x5A; 1_048_577]?;
@@ -182,8 +171,7 @@ fn a_sent_tsdu_has_at_most_1048576_octets(rt: HostRuntime) -> Result<(), Fail> {
         .ok_or("octets")?;
     let mut caller = opened(&rt)?;
     refuses_to_send(&mut caller, octets.as_slice(), SendError::TooLong)?;
-    sends_three(&mut caller, rt.alloc(), longest)?;
-    sends_together(&mut caller, rt.alloc(), longest)
+    sends_three(&mut caller, rt.alloc(), longest)
 }
 
 #[test]
