@@ -23,7 +23,9 @@ use Rattle.osi_carrier.specs.State.{Connection, asked, linked, closing, State, d
 use Rattle.osi_carrier.specs.declared.ends.EndReason.{EndReason}
 use Rattle.osi_carrier.specs.declared.faults.OpenError.{OpenError}
 use Rattle.osi_carrier.specs.declared.faults.OpenError.TheVariants.{NotCaller, Ended, TooMany, ReferencesUsedUp}
+use Rattle.osi_carrier.specs.Named.{AreNamed}
 use Rattle.osi_carrier.proofs.AtReferences.{put_other, without_other, push_other, put_none, without_none, put_rise, without_rise, push_rise, put_up, without_up, push_up, put_length, without_length}
+use Rattle.osi_carrier.proofs.Naming.{Naming, named, unit_named, asks_named, sent_names, closes_names}
 use Rattle.osi_carrier.proofs.Reacts.{react_over}
 
 -- ---- how the live connections change
@@ -336,32 +338,32 @@ joined_orderly given c old h room =
     let count = length-append old ((given + 1, c) ∷ []) in
     record { rise = push_rise 0 given c old (omega arith) h.rise h.up_to; up_to = push_up given c old h.up_to; live = omega arith }
 
-orderly_of : (s : State) → AreOrderly s.given s.live → s.given ≤ 65535 → (IsSome s.ended → s.live ≡ []) → IsOrderly s
-orderly_of s h given over = record { rise = h.rise; up_to = h.up_to; given = given; live = h.live; over = over }
+orderly_of : (s : State) → AreOrderly s.given s.live → s.given ≤ 65535 → (IsSome s.ended → s.live ≡ []) → AreNamed s → IsOrderly s
+orderly_of s h given over named = record { rise = h.rise; up_to = h.up_to; given = given; live = h.live; over = over; named = named }
 
 none_over : {A B : Type 0} (o : Option A) → is_some o ≡ false → IsSome o → B
 none_over None e h = absurd cc
 none_over (Some a) e h = absurd cc
 
 -- of a carrier that has not ended
-how_orderly : (r : ℕ) (old new : State) → IsOrderly old → is_some old.ended ≡ false → How r old new → IsOrderly new
-how_orderly r old new h lasts (inl kept) =
+how_orderly : (r : ℕ) (old new : State) → IsOrderly old → is_some old.ended ≡ false → How r old new → AreNamed new → IsOrderly new
+how_orderly r old new h lasts (inl kept) names =
     orderly_of new (subst (λ n. AreOrderly n new.live) (sym kept.given) (touched_orderly old.given r old.live new.live (rows_of old h) kept.live))
     (let g = h.given in let e = kept.given in omega arith)
-    (λ some. none_over old.ended lasts (subst IsSome kept.ended some))
-how_orderly r old new h lasts (inr (inl joined)) =
+    (λ some. none_over old.ended lasts (subst IsSome kept.ended some)) names
+how_orderly r old new h lasts (inr (inl joined)) names =
     orderly_of new (subst (λ n. AreOrderly n new.live) (sym joined.given) (subst (AreOrderly (old.given + 1)) (sym joined.live)
     (joined_orderly old.given joined.connection old.live (rows_of old h) joined.room)))
     (let left = joined.left in let e = joined.given in omega arith)
-    (λ some. none_over old.ended lasts (subst IsSome joined.ended some))
-how_orderly r old new h lasts (inr (inr over)) =
+    (λ some. none_over old.ended lasts (subst IsSome joined.ended some)) names
+how_orderly r old new h lasts (inr (inr over)) names =
     orderly_of new (subst (AreOrderly new.given) (sym over.live) (record { rise = tt; up_to = tt; live = omega arith }))
     (let g = h.given in let e = over.given in omega arith)
-    (λ some. over.live)
+    (λ some. over.live) names
 
 orderly_by : (unit : Value) (s : State) (b : Bool) → is_some s.ended ≡ b → IsOrderly s → IsOrderly (react unit s)
 orderly_by unit s true over h = subst IsOrderly (sym (react_over unit s over)) h
-orderly_by unit s false lasts h = how_orderly (connection_of unit s) s (react unit s) h lasts (effect unit s).how
+orderly_by unit s false lasts h = how_orderly (connection_of unit s) s (react unit s) h lasts (effect unit s).how (unit_named unit s h.named)
 
 pub orderly_unit : (unit : Value) (s : State) → IsOrderly s → IsOrderly (react unit s)
 orderly_unit unit s h = orderly_by unit s (is_some s.ended) refl h
@@ -371,7 +373,7 @@ orderly_units [] s h = h
 orderly_units (unit ∷ units) s h = orderly_units units (react unit s) (orderly_unit unit s h)
 
 pub orderly_end : (reason : EndReason) (s : State) → IsOrderly s → IsOrderly (ends reason s)
-orderly_end reason s h = record { rise = tt; up_to = tt; given = h.given; live = omega arith; over = λ some. refl }
+orderly_end reason s h = record { rise = tt; up_to = tt; given = h.given; live = omega arith; over = λ some. refl; named = refl }
 
 orderly_acts : (units : Result (List Value) TpduFault) (s : State) → IsOrderly s → IsOrderly (acts_by units s)
 orderly_acts (Ok units) s h = orderly_units units s h
@@ -384,7 +386,7 @@ orderly_packet packet s h = orderly_acts (units_of packet) s h
 -- ---- calls
 
 pub orderly_fresh : (is_caller : Bool) (local : Local) → IsOrderly (fresh_state is_caller local)
-orderly_fresh is_caller local = record { rise = tt; up_to = tt; given = omega arith; live = omega arith; over = λ some. refl }
+orderly_fresh is_caller local = record { rise = tt; up_to = tt; given = omega arith; live = omega arith; over = λ some. refl; named = refl }
 
 -- where a connection may be asked for, there is room for it
 pub record MayJoin (s : State) : Type 0 where
@@ -418,24 +420,26 @@ orderly_asks calling called s may h =
     let free = free_of s may in
     how_orderly (s.given + 1) s (asks calling called s) h free.lasts
     (inr (inl (record { next = refl; given = refl; ended = refl; connection = asked; live = refl; room = free.room; left = free.left })))
+    (asks_named calling called s h.named)
 
-put_over : (r : ℕ) (c : Connection) (s t : State) → t.given ≡ s.given → t.ended ≡ s.ended → t.live ≡ put r c s.live → IsOrderly s → IsOrderly t
-put_over r c s t given ended live h =
+put_over : (r : ℕ) (c : Connection) (s t : State) → t.given ≡ s.given → t.ended ≡ s.ended → t.live ≡ put r c s.live → Naming s t → IsOrderly s → IsOrderly t
+put_over r c s t given ended live names h =
     orderly_of t (subst (λ n. AreOrderly n t.live) (sym given) (touched_orderly s.given r s.live t.live (rows_of s h) (inr (inl (c, live)))))
     (let g = h.given in omega arith)
     (λ some. live ∙ ap (put r c) (h.over (subst IsSome ended some)))
+    (named s t names h.named)
 
 sent_by : (r : ℕ) (octets : List ℕ) (link : Option (ℕ × Standing)) (s : State) → IsOrderly s → IsOrderly (sent_on r octets link s)
 sent_by r octets None s h = h
-sent_by r octets (Some (peer, link)) s h = put_over r _ s (sent_on r octets (Some (peer, link)) s) refl refl refl h
+sent_by r octets (Some (peer, link)) s h = put_over r _ s (sent_on r octets (Some (peer, link)) s) refl refl refl (sent_names r octets (Some (peer, link)) s) h
 
 pub orderly_sent : (r : ℕ) (octets : List ℕ) (s : State) → IsOrderly s → IsOrderly (sent r octets s)
 orderly_sent r octets s h = sent_by r octets (open_link r s) s h
 
 closes_by : (r peer reason : ℕ) (held : Option Class) (s : State) → IsOrderly s → IsOrderly (closes r peer reason held s)
-closes_by r peer reason None s h = put_over r (closing peer) s (closes r peer reason None s) refl refl refl h
+closes_by r peer reason None s h = put_over r (closing peer) s (closes r peer reason None s) refl refl refl (closes_names r peer reason None s) h
 closes_by r peer reason (Some Zero) s h = orderly_end _ s h
-closes_by r peer reason (Some Two) s h = put_over r (closing peer) s (closes r peer reason (Some Two) s) refl refl refl h
+closes_by r peer reason (Some Two) s h = put_over r (closing peer) s (closes r peer reason (Some Two) s) refl refl refl (closes_names r peer reason (Some Two) s) h
 
 closed_by : (r reason : ℕ) (link : Option (ℕ × Standing)) (s : State) → IsOrderly s → IsOrderly (closed_on r reason link s)
 closed_by r reason None s h = h
@@ -453,7 +457,7 @@ orderly_ended reason s h = ended_at reason s (is_some s.ended) h
 
 -- what is taken out of the queues changes nothing of it
 pub orderly_same : (s : State) (outgoing : List ℕ) (events : List Happening) → IsOrderly s → IsOrderly (record s { outgoing = outgoing; events = events })
-orderly_same s outgoing events h = record { rise = h.rise; up_to = h.up_to; given = h.given; live = h.live; over = h.over }
+orderly_same s outgoing events h = record { rise = h.rise; up_to = h.up_to; given = h.given; live = h.live; over = h.over; named = h.named }
 
 -- ---- what is gone, after calls
 

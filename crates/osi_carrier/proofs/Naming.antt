@@ -61,7 +61,7 @@ there_named r ((q, x) ∷ xs) ((p, y) ∷ ys) e =
 
 -- ---- what a unit or a call does to the selectors
 
-data Naming : State → State → Type 0 where
+pub data Naming : State → State → Type 0 where
   stays : {s t : State} → t.tsaps ≡ s.tsaps → references t.live ≡ references s.live → Naming s t
   loses : {s t : State} → (r : ℕ) → t.tsaps ≡ without r s.tsaps → t.live ≡ without r s.live → Naming s t
   gains : {s t : State} → (c : Connection) (ids : TsapIds) → t.tsaps ≡ s.tsaps ++ (s.given + 1, ids) ∷ [] → t.live ≡ s.live ++ (s.given + 1, c) ∷ [] → Naming s t
@@ -210,11 +210,11 @@ unit_names unit s = over_names (is_some s.ended) unit s
 asks_names : (calling called : Option (List ℕ)) (s : State) → Naming s (asks calling called s)
 asks_names calling called s = gains asked _ refl refl
 
-sent_names : (r : ℕ) (octets : List ℕ) (link : Option (ℕ × Standing)) (s : State) → Naming s (sent_on r octets link s)
+pub sent_names : (r : ℕ) (octets : List ℕ) (link : Option (ℕ × Standing)) (s : State) → Naming s (sent_on r octets link s)
 sent_names r octets None s = stays refl refl
 sent_names r octets (Some (peer, link)) s = stays refl (put_named r _ s.live)
 
-closes_names : (r peer reason : ℕ) (held : Option Class) (s : State) → Naming s (closes r peer reason held s)
+pub closes_names : (r peer reason : ℕ) (held : Option Class) (s : State) → Naming s (closes r peer reason held s)
 closes_names r peer reason None s = stays refl (put_named r _ s.live)
 closes_names r peer reason (Some Zero) s = clears refl refl
 closes_names r peer reason (Some Two) s = stays refl (put_named r _ s.live)
@@ -225,7 +225,7 @@ closed_names r reason (Some (peer, link)) s = closes_names r peer reason s.class
 
 -- ---- what that says
 
-named : (s t : State) → Naming s t → AreNamed s → AreNamed t
+pub named : (s t : State) → Naming s t → AreNamed s → AreNamed t
 named s t (stays tsaps live) h = ap references tsaps ∙ h ∙ sym live
 named s t (loses r tsaps live) h =
     ap references tsaps ∙ drop_named r s.tsaps ∙ ap (dropped r) h ∙ sym (drop_named r s.live) ∙ sym (ap references live)

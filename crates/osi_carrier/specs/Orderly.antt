@@ -5,6 +5,7 @@ use Rattle.osi_tpdu.specs.Value.{Value, destination_of}
 use Rattle.osi_class.specs.declared.terms.Class.{Class}
 use Rattle.osi_class.specs.declared.terms.Class.TheVariants.{Zero, Two}
 use Rattle.osi_carrier.specs.Happenings.{Happening, opened, refused, tsdu, closed, faulted}
+use Rattle.osi_carrier.specs.Named.{AreNamed}
 use Rattle.osi_carrier.specs.Rising.{RiseBy}
 use Rattle.osi_carrier.specs.Rows.{Rows, value_at}
 use Rattle.osi_carrier.specs.State.{Connection, State}
@@ -21,13 +22,15 @@ AreUpTo n [] = Unit {0}
 AreUpTo n ((r, x) ∷ rows) = (r ≤ n) × AreUpTo n rows
 
 -- true of every carrier: live connections have references that were given and rise, of which there are
--- at most 65,535; at most 64 are live, and after the end none
+-- at most 65,535; at most 64 are live, and after the end none; each of them has its transport selectors,
+-- and no other connection
 pub record IsOrderly (s : State) : Type 0 where
   pub rise : RiseFrom 0 s.live
   pub up_to : AreUpTo s.given s.live
   pub given : s.given ≤ 65535
   pub live : length s.live ≤ 64
   pub over : IsSome s.ended → s.live ≡ []
+  pub named : AreNamed s
 
 -- ---- one unit
 

@@ -27,7 +27,8 @@ pub fn a_unit_changes_one_connection()
 {}
 
 /// Of a new carrier the live connections have references that were given and rise, at most 64 are live
-/// and at most 65,535 were given; whatever comes and is called keeps this.
+/// and at most 65,535 were given, and each live one has its transport selectors; whatever comes and is
+/// called keeps this.
 pub fn references_rise()
     ensures begins { (is_caller : Bool) (local : Local) → IsOrderly (fresh_state is_caller local) }
     ensures unit { (unit : Value) (s : State) → IsOrderly s → IsOrderly (react unit s) }

@@ -99,7 +99,7 @@ order_sent : (k : ℕ) (e : End) → IsInOrder e → IsInOrder (carried k e)
 order_sent k e o = record {
   heard = o.heard;
   sound = record {
-    orderly = record { rise = o.sound.orderly.rise; up_to = o.sound.orderly.up_to; given = o.sound.orderly.given; live = o.sound.orderly.live; over = o.sound.orderly.over };
+    orderly = record { rise = o.sound.orderly.rise; up_to = o.sound.orderly.up_to; given = o.sound.orderly.given; live = o.sound.orderly.live; over = o.sound.orderly.over; named = o.sound.orderly.named };
     apart = o.sound.apart;
     known = o.sound.known;
     links = o.sound.links;
