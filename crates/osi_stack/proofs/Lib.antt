@@ -16,6 +16,7 @@ pub mod Addressing
 pub mod Linking
 pub mod Soundness
 pub mod Tables
+pub mod OfLines
 pub mod Folds
 pub mod Shortness
 pub mod Answering
@@ -23,6 +24,7 @@ pub mod Attending
 pub mod Rising
 pub mod Lowest
 pub mod Waiting
+pub mod Knowing
 pub mod Settling
 pub mod Empties
 pub mod Opened

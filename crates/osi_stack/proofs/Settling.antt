@@ -37,7 +37,7 @@ use Rattle.osi_stack.specs.Feeding.{stops, TakesPackets, Goes, Feeds}
 use Rattle.osi_stack.specs.Hearing.{hears_all, hears_times, with_events, with_carrier, attends, after_packet, ends, starves, Starves}
 use Rattle.osi_stack.specs.Moving.{by_line, to_session}
 use Rattle.osi_stack.specs.State.{Line, End, Holding, IsAttended, fresh_end, session_in, session_at, waits}
-use Rattle.osi_stack.specs.Folds.{CameAbout, IsProfiled, OfSessions}
+use Rattle.osi_stack.specs.Folds.{CameAbout, IsProfiled, IsNamed, OfSessions}
 use Rattle.osi_stack.specs.Settled.{IsSettled}
 use Rattle.osi_stack.specs.declared.connecting.Connect.{Connect}
 use Rattle.osi_stack.proofs.Rooms.{found_how}
@@ -48,8 +48,10 @@ use Rattle.osi_stack.proofs.Folds.{at_line, session_all, connect_all, call_came,
 use Rattle.osi_stack.proofs.Comings.{attended_then}
 use Rattle.osi_stack.proofs.Events.{concluded_carrier}
 use Rattle.osi_stack.proofs.Gone.{lasting_gone, connect_gone, call_gone, first_gone, breaks_gone, feeds_gone}
+use Rattle.osi_stack.proofs.Knowing.{ShownFirst, call_named, named_stays}
 use Rattle.osi_stack.proofs.Lifting.{both, or_first, or_second, packet_is}
 use Rattle.osi_stack.proofs.Linking.{SessionLaws}
+use Rattle.osi_stack.proofs.OfLines.{session_lines, feeds_lines, connect_lines, told_lines, breaks_lines}
 use Rattle.osi_stack.proofs.Ordering.{fresh_ordered, connect_ordered, call_ordered, feeds_ordered, first_ordered, carried_ordered, breaks_ordered}
 use Rattle.osi_stack.proofs.Soundness.{Fits, carrier_leaves, times_fits, up_more, units_rise, packet_rises, lasting_of, open_none, packet_sound, packets_sound, fresh_sound, connect_sound, call_sound, feeds_sound, first_sound, carried_sound, breaks_sound}
 use Rattle.osi_stack.specs.Links.{IsSound}
@@ -181,6 +183,7 @@ pub record Steps : Type 0 where
   pub profiles : Profiles
   pub waits : StillWaits
   pub units : (units : Units) → HasNumbersInWords (taken (said_by_units units))
+  pub shown : ShownFirst
 
 pub fresh_settled : (is_caller : Bool) (local : Local) → IsSettled (fresh_end is_caller local)
 fresh_settled is_caller local = record {
@@ -191,6 +194,7 @@ fresh_settled is_caller local = record {
   ordered = fresh_ordered is_caller local;
   came = tt;
   profiled = tt;
+  named = tt;
   gone = lasting_gone (fresh_end is_caller local) refl;
 }
 
@@ -216,11 +220,12 @@ connect_settled profiles c e allowed s = record {
   ordered = connect_ordered c e allowed s.sound s.ordered;
   came = connect_all CameAbout c e (came_asking c) s.came;
   profiled = connect_all IsProfiled c e (asks_profile profiles c e allowed) s.profiled;
+  named = connect_lines IsNamed c e (λ k. refl) s.named;
   gone = connect_gone c e allowed;
 }
 
-pub call_settled : Profiles → SessionLaws → StillWaits → ((s : Listener) (call : Call) → (react s (called call)).closes ≡ false) → (r : ℕ) (call : Call) (e : End) → HasSerial call → IsSettled e → IsSettled (to_session r (called call) e)
-call_settled profiles laws waits still r call e serial s = record {
+pub call_settled : Profiles → ShownFirst → SessionLaws → StillWaits → ((s : Listener) (call : Call) → (react s (called call)).closes ≡ false) → (r : ℕ) (call : Call) (e : End) → HasSerial call → IsSettled e → IsSettled (to_session r (called call) e)
+call_settled profiles shown laws waits still r call e serial s = record {
   attended = session_attended r (called call) e s.attended;
   orderly = session_orderly r (called call) e s.orderly;
   sound = call_sound laws r call e s.sound;
@@ -228,6 +233,7 @@ call_settled profiles laws waits still r call e serial s = record {
   ordered = call_ordered r (called call) e s.ordered;
   came = call_came r call e serial s.came;
   profiled = session_all IsProfiled r (called call) e (λ x h. profiles.kept x (called call ∷ []) h) s.profiled;
+  named = session_lines IsNamed r (called call) e (call_named shown call) s.named;
   gone = call_gone still r call e s.gone;
 }
 
@@ -240,6 +246,7 @@ feeds_settled steps old new piece fed h s = record {
   ordered = feeds_ordered steps.laws old new piece fed h s.attended s.sound s.ordered;
   came = feeds_all CameAbout (came_true steps.units) old new piece fed h s.came;
   profiled = feeds_all IsProfiled (profile_true steps.profiles.kept steps.profiles.called) old new piece fed h s.profiled;
+  named = feeds_lines IsNamed (named_stays steps.shown) old new piece fed h s.named;
   gone = feeds_gone old new piece fed h s.gone;
 }
 
@@ -252,6 +259,7 @@ first_settled e s = record {
   ordered = first_ordered e s.ordered;
   came = told_all CameAbout e.lines s.came;
   profiled = told_all IsProfiled e.lines s.profiled;
+  named = told_lines IsNamed (λ line waiting h. h) e.lines s.named;
   gone = first_gone e s.gone;
 }
 
@@ -264,6 +272,7 @@ carried_settled octets e s = record {
   ordered = carried_ordered octets e s.ordered;
   came = s.came;
   profiled = s.profiled;
+  named = s.named;
   gone = s.gone;
 }
 
@@ -276,6 +285,7 @@ breaks_settled e s = record {
   ordered = breaks_ordered e s.ordered;
   came = breaks_all CameAbout e s.came;
   profiled = breaks_all IsProfiled e s.profiled;
+  named = breaks_lines IsNamed (λ line. tt) e s.named;
   gone = breaks_gone e s.gone;
 }
 

@@ -1,9 +1,10 @@
--- How the sessions of an end came about.
-use Rattle.std.specs.Prelude.{◌≡◌, List, [], ◌∷◌, ◌⊎◌, IfSome}
+-- How the sessions of an end came about, and what is true of each of its lines.
+use Rattle.std.specs.Prelude.{◌≡◌, true, List, [], ◌∷◌, ◌⊎◌, IfSome, IsSome}
 use Rattle.std.specs.List.{AllByRecursion}
 use Rattle.osi_carrier.specs.Rows.{Rows}
 use Rattle.osi_session.specs.Listening.{Input, Listener, after_inputs}
 use Rattle.osi_session.specs.Parts.{HasProfile}
+use Rattle.osi_session.specs.Phases.{shows_loss}
 use Rattle.osi_session.specs.Runs.{HasNumbersInWords}
 use Rattle.osi_session.specs.Sessions.{awaits}
 use Rattle.osi_stack.specs.Calls.{calls_with}
@@ -22,13 +23,28 @@ pub record CameAbout (s : Listener) : Type 0 where
 abbrev pub IsProfiled : Listener → Type 0
 IsProfiled s = HasProfile s.state
 
--- said of each session
+-- The session selectors of its CN are there, where it was sent here or shown: in each phase but that in which a
+-- CN is awaited, and those of a session that is aborted or has ended.
+abbrev pub IsNamed : Line → Type 0
+IsNamed line = IfSome line.session (λ s. shows_loss s.state.phase ≡ true → IsSome line.selectors)
+
+-- said of each line
+abbrev pub OfLines : (Line → Type 0) → Rows Line → Type 0
+OfLines Q [] = Unit {0}
+OfLines Q ((r, line) ∷ lines) = Q line × OfLines Q lines
+
+-- and of each session
+abbrev pub OfSession : (Listener → Type 0) → Line → Type 0
+OfSession P line = IfSome line.session P
+
 abbrev pub OfSessions : (Listener → Type 0) → Rows Line → Type 0
-OfSessions P [] = Unit {0}
-OfSessions P ((r, line) ∷ lines) = IfSome line.session P × OfSessions P lines
+OfSessions P lines = OfLines (OfSession P) lines
 
 abbrev pub AllCameAbout : Rows Line → Type 0
 AllCameAbout lines = OfSessions CameAbout lines
 
 abbrev pub AllProfiled : Rows Line → Type 0
 AllProfiled lines = OfSessions IsProfiled lines
+
+abbrev pub AllNamed : Rows Line → Type 0
+AllNamed lines = OfLines IsNamed lines

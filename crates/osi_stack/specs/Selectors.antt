@@ -1,9 +1,9 @@
 -- The session selectors of a connection: those of the CN.
-use Rattle.std.specs.Prelude.{ℕ, Bool, true, false, List, [], ◌∷◌, take, Option, Some, None, option_map}
+use Rattle.std.specs.Prelude.{ℕ, List, [], ◌∷◌, take, Option, Some, None, option_map}
 use Rattle.osi_message.specs.Meanings.{Meaning, CN}
 use Rattle.osi_message.specs.Words.{Words, as_message}
 use Rattle.osi_session.specs.Listening.{Input, taken}
-use Rattle.osi_session.specs.Shown.{Shown, Connect}
+pub use Rattle.osi_session.specs.Shown.{is_connect, shows_connect}
 use Rattle.osi_stack.specs.declared.selectors.SessionSelector.{SessionSelector}
 use Rattle.osi_stack.specs.declared.names.SessionSelectors.{SessionSelectors}
 
@@ -29,15 +29,6 @@ selectors_said (word ∷ words) = selectors_of (as_message word)
 abbrev pub selectors_told : Input → Option Selectors
 selectors_told (taken words) = selectors_said words
 selectors_told _ = None
-
--- the user is shown that a connection is asked for
-abbrev pub is_connect : Shown → Bool
-is_connect (Connect requirements serial wishes sizes octets) = true
-is_connect _ = false
-
-abbrev pub shows_connect : List Shown → Bool
-shows_connect [] = false
-shows_connect (shown ∷ more) = is_connect shown
 
 -- ---- in memory
 

@@ -1,7 +1,7 @@
 -- What is true of every end between any two calls.
 use Rattle.std.specs.Prelude.{◌≡◌, ℕ, None, IsSome}
 use Rattle.osi_carrier.specs.Orderly.{IsOrderly}
-use Rattle.osi_stack.specs.Folds.{AllCameAbout, AllProfiled}
+use Rattle.osi_stack.specs.Folds.{AllCameAbout, AllProfiled, AllNamed}
 use Rattle.osi_stack.specs.Links.{HasAsked, IsSound}
 use Rattle.osi_stack.specs.Messages.{kept_at}
 use Rattle.osi_stack.specs.Ordered.{IsOrdered}
@@ -26,5 +26,7 @@ pub record IsSettled (e : End) : Type 0 where
   pub came : AllCameAbout e.lines
   -- its functional units can be selected together
   pub profiled : AllProfiled e.lines
-  -- and none is left once it has ended
+  -- a connection that was asked for, here or there, has session selectors
+  pub named : AllNamed e.lines
+  -- and no session is left once it has ended
   pub gone : IsGone e

@@ -1,6 +1,6 @@
 //! Laws of one end. Each function does nothing: its clauses are the laws.
 
-ghost use Rattle.std.specs.Prelude.{◌≡◌, ◌≢◌, ◌<◌, ◌≤◌, ◌^◌, ◌+◌, ◌⊎◌, ℕ, Bool, List, [], ◌++◌, None, Some, IsSome, is_some, false, true, length, map, take};
+ghost use Rattle.std.specs.Prelude.{◌≡◌, ◌≢◌, ◌<◌, ◌≤◌, ◌^◌, ◌+◌, ◌⊎◌, ℕ, Bool, List, [], ◌++◌, None, Some, IsSome, IfSome, is_some, false, true, length, map, take};
 ghost use Rattle.std.specs.List.{flat_map};
 ghost use Rattle.osi_tpkt.specs.Held.{fresh};
 ghost use Rattle.osi_tpkt.specs.Packet.{IsPartial};
@@ -26,9 +26,10 @@ ghost use Rattle.osi_session.specs.Joining.{joined_octets};
 ghost use Rattle.osi_session.specs.Kept.{IsNoFault};
 ghost use Rattle.osi_session.specs.Listening.{Input, Listener, called, came, react};
 ghost use Rattle.osi_session.specs.Parts.{Act, AreParts, HasProfile, act_in_octets, calls_in};
+ghost use Rattle.osi_session.specs.Phases.{shows_loss};
 ghost use Rattle.osi_stack.specs.Addresses.{addresses_at, asked_addresses, selectors_in};
 ghost use Rattle.osi_stack.specs.Selectors.{selectors_told, shows_connect};
-ghost use Rattle.osi_stack.specs.Calls.{call_error, table_error, connect_error, connects, carried, breaks, first_shown, without_first};
+ghost use Rattle.osi_stack.specs.Calls.{call_error, table_error, connect_error, connects, carried, breaks, phase_at, first_shown, without_first};
 ghost use Rattle.osi_stack.specs.Folds.{AllCameAbout};
 ghost use Rattle.osi_stack.specs.Inputs.{AreMadeBy, Past, Step, StepsAlong, no_past};
 ghost use Rattle.osi_stack.specs.Links.{IsSound, Soundness};
@@ -49,8 +50,8 @@ ghost use Rattle.osi_stack.specs.State.{Line, End, Holding, IsAttended, fresh_en
 use osi_message::laws::{what_a_part_says, what_is_sent_is_read};
 use osi_session::laws::{
     an_ended_session_stays_ended, numbers_stay_in_order, parts_are_the_whole, units_are_a_profile,
-    what_an_accepted_call_passed, what_closes_sends_nothing, what_happens_has_numbers,
-    what_is_joined, what_is_sent_can_be_sent, where_a_call_is_accepted,
+    what_a_user_is_shown_first, what_an_accepted_call_passed, what_closes_sends_nothing,
+    what_happens_has_numbers, what_is_joined, what_is_sent_can_be_sent, where_a_call_is_accepted,
 };
 use osi_spdu::laws::{few_octets_fit, serial_digits};
 use osi_tpkt::laws::{a_prefix_of_a_packet, a_stream_has_one_cut, no_packet_begins_another};
@@ -197,7 +198,8 @@ pub fn lines_rise_whatever_comes()
 }
 
 /// So between any two calls, whatever was called, fed, told and lost, what [`IsSettled`] says is true of an end:
-/// also once it has ended, when none of its connections is live and no session is left. A stack keeps it.
+/// also once it has ended, when none of its connections is live and no session is left. A stack keeps it. So a
+/// connection has addresses as soon as its user has asked for it or is shown a `Connect` (`known`).
 ///
 /// [`IsSettled`]: ../specs/Settled.antt
 pub fn an_end_is_settled_between_calls()
@@ -211,12 +213,14 @@ pub fn an_end_is_settled_between_calls()
     ensures over { (r : ℕ) (e : End) → IsSettled e → IsSome e.carrier.ended → session_at r e ≡ None }
     ensures gone { (r : ℕ) (e : End) → IsSettled e → IsSome e.carrier.ended → kept_at r e.lines ≡ None }
     ensures profile { (r : ℕ) (session : Listener) (e : End) → IsSettled e → kept_at r e.lines ≡ Some session → HasProfile session.state }
+    ensures known { (r : ℕ) (e : End) → IsSettled e → IfSome (phase_at r e) (λ p. shows_loss p ≡ true → IsSome (addresses_at r e)) }
 {
     an_ended_session_stays_ended();
     what_closes_sends_nothing();
     where_a_call_is_accepted();
     what_happens_has_numbers();
     units_are_a_profile();
+    what_a_user_is_shown_first();
 }
 
 /// So between any two calls, also once an end has ended, a call is answered as the table of its session says,

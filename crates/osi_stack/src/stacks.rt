@@ -35,7 +35,7 @@ impl Model for Stack {
 }
 
 impl Stack {
-    ghost use Rattle.std.specs.Prelude.{◌≡◌, ◌+◌, ◌-◌, ◌*◌, ◌^◌, ◌≤◌, true, false, None, [], IsSome, OnOk, OnErr, IfOk, IfErr, option_map, length, min};
+    ghost use Rattle.std.specs.Prelude.{◌≡◌, ◌+◌, ◌-◌, ◌*◌, ◌^◌, ◌≤◌, true, false, None, [], IsSome, IfSome, OnOk, OnErr, IfOk, IfErr, option_map, length, min};
     ghost use Rattle.osi_tpkt.specs.Held.{fresh};
     ghost use Rattle.osi_carrier.specs.Calls.{unsent_at, backlog_of};
     ghost use Rattle.osi_carrier.specs.Rows.{value_at};
@@ -43,6 +43,7 @@ impl Stack {
     ghost use Rattle.osi_spdu.specs.Fields.{bits_of};
     ghost use Rattle.osi_session.specs.Calls.{called_by};
     ghost use Rattle.osi_session.specs.Listening.{called};
+    ghost use Rattle.osi_session.specs.Phases.{shows_loss};
     ghost use Rattle.osi_session.specs.Shown.{shown_by};
     ghost use Rattle.osi_stack.specs.Addresses.{addresses, addresses_at};
     ghost use Rattle.osi_stack.specs.Calls.{connect_error, refusal, connects, call_error, table_error, Refuses, by_rule, held_by, phase_at, numbers_of, first_shown, without_first, carried, breaks};
@@ -231,10 +232,13 @@ impl Stack {
     /// The addresses of a live connection: those that were asked for here, or those that the peer's CR
     /// and CN name, from the time at which the CN makes a [`Indication::Connect`], be that fetched or not
     /// (X.224 section 13.3.4, X.225 section 8). None of a connection that is gone, and none of a reference
-    /// that was never given. Takes no memory.
+    /// that was never given. There are some in each phase but `WaitCn`, `Aborting` and `Ended`. Takes no
+    /// memory.
     pub fn addresses(&self, reference: Ref) -> Option<Addresses>
-        ensures { option_map addresses result ≡ addresses_at reference.0 self.now.end }
+        ensures value { option_map addresses result ≡ addresses_at reference.0 self.now.end }
+        ensures known { IfSome (phase_at reference.0 self.now.end) (λ p. shows_loss p ≡ true → IsSome result) }
     {
+        an_end_is_settled_between_calls();
         self.hub.addresses(reference)
     }
 

@@ -1,5 +1,6 @@
 use Rattle.std.proofs.Common.{refl}
 use Rattle.osi_carrier.specs.Rows.{value_at}
+use Rattle.osi_stack.proofs.Knowing.{ShownFirst, known_at}
 use Rattle.osi_stack.proofs.Linking.{SessionLaws}
 use Rattle.osi_stack.proofs.Settling.{Profiles, fresh_settled, connect_settled, call_settled, feeds_settled, first_settled, carried_settled, breaks_settled, none_at, profiled_at}
 use Rattle.osi_stack.proofs.Tables.{session_laws, unopened}
@@ -13,6 +14,11 @@ returns c =
       closed = c.what_closes_sends_nothing.ensures.last;
       waiting = λ s input other. c.where_a_call_is_accepted.ensures.waiting s input (unopened input other);
     }) in
+    let shown : ShownFirst = record {
+      first = c.what_a_user_is_shown_first.ensures.first;
+      taken = c.what_a_user_is_shown_first.ensures.taken;
+      asked = c.what_a_user_is_shown_first.ensures.asked;
+    } in
     let profiles : Profiles = record {
       called = c.units_are_a_profile.ensures.called;
       caller = c.units_are_a_profile.ensures.caller;
@@ -21,12 +27,13 @@ returns c =
     record {
       begins = fresh_settled;
       connects = connect_settled profiles;
-      called = call_settled profiles laws c.where_a_call_is_accepted.ensures.begun c.what_closes_sends_nothing.ensures.call;
-      fed = feeds_settled (record { laws = laws; profiles = profiles; waits = c.where_a_call_is_accepted.ensures.begun; units = c.what_happens_has_numbers.ensures.units });
+      called = call_settled profiles shown laws c.where_a_call_is_accepted.ensures.begun c.what_closes_sends_nothing.ensures.call;
+      fed = feeds_settled (record { laws = laws; profiles = profiles; waits = c.where_a_call_is_accepted.ensures.begun; units = c.what_happens_has_numbers.ensures.units; shown = shown });
       shown = first_settled;
       carried = carried_settled;
       broken = breaks_settled;
       over = λ r e s over. none_at r e s.orderly over;
       gone = λ r e s over. s.gone over r;
       profile = λ r session e s kept. profiled_at r session e.lines (value_at r e.lines) refl kept s.profiled;
+      known = known_at;
     }

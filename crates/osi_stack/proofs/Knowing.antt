@@ -1,0 +1,124 @@
+-- A live connection of which something may be shown has addresses.
+use Rattle.std.proofs.Common.{◌≡◌, ℕ, Bool, true, false, List, [], ◌∷◌, Option, Some, None, IsSome, is_some, option_map, refl, sym, ap, subst, ◌∙◌, if◌then◌else◌}
+use Rattle.std.specs.Prelude.{IfSome}
+use Rattle.osi_carrier.specs.Calls.{tsaps_at}
+use Rattle.osi_carrier.specs.Rows.{Rows, value_at}
+use Rattle.osi_carrier.specs.State.{TsapIds}
+use Rattle.osi_carrier.proofs.Naming.{known_is}
+use Rattle.osi_message.specs.Meanings.{Meaning, CN}
+use Rattle.osi_message.specs.Words.{Words, as_message}
+use Rattle.osi_session.specs.Calls.{Call}
+use Rattle.osi_session.specs.Causes.{unit_asks, asks_first, asks_for_connection, is_taken}
+use Rattle.osi_session.specs.Listening.{Input, Listener, called, taken, opened, refused, broken, came, react, after_input}
+use Rattle.osi_session.specs.Phases.{shows_loss}
+use Rattle.osi_session.specs.Shown.{shows_connect}
+use Rattle.osi_session.specs.declared.phases.Phase.{Phase}
+use Rattle.osi_stack.specs.Addresses.{addressed, selectors_in, addresses_at}
+use Rattle.osi_stack.specs.Calls.{has_given, phase_of, phase_at}
+use Rattle.osi_stack.specs.Folds.{IsNamed, AllNamed}
+use Rattle.osi_stack.specs.Moving.{line_by}
+use Rattle.osi_stack.specs.Selectors.{Selectors, selectors_of, selectors_said, selectors_told}
+use Rattle.osi_stack.specs.Settled.{IsSettled}
+use Rattle.osi_stack.specs.State.{Line, End, session_in, session_at}
+use Rattle.osi_stack.proofs.OfLines.{LinesStay, line_at}
+
+-- what a user is shown first
+pub record ShownFirst : Type 0 where
+  pub first : (s : Listener) (input : Input) → shows_loss s.state.phase ≡ false → shows_loss (after_input s input).state.phase ≡ true → shows_connect (react s input).shown ≡ true
+  pub taken : (s : Listener) (input : Input) → shows_connect (react s input).shown ≡ true → is_taken input ≡ true
+  pub asked : (s : Listener) (octets : List ℕ) → shows_connect (react s (came octets)).shown ≡ true → asks_for_connection (came octets) ≡ true
+
+-- ---- a CN has selectors
+
+unit_selectors : (unit : Meaning) → unit_asks unit ≡ true → IsSome (selectors_of unit)
+unit_selectors (CN version requirements serial wishes from to sizes octets) h = refl
+unit_selectors _ h = absurd (cc)
+
+said_selectors : (words : Words) → asks_first words ≡ true → IsSome (selectors_said words)
+said_selectors [] h = absurd (cc)
+said_selectors (word ∷ words) h = unit_selectors (as_message word) h
+
+input_selectors : (input : Input) → asks_for_connection input ≡ true → IsSome (selectors_told input)
+input_selectors (taken words) h = said_selectors words h
+input_selectors _ h = absurd (cc)
+
+-- where this shows that a connection is asked for, it tells selectors
+abbrev TellsThem : Input → Type 0
+TellsThem input = (s : Listener) → shows_connect (react s input).shown ≡ true → IsSome (selectors_told input)
+
+untaken : ShownFirst → (input : Input) → is_taken input ≡ false → TellsThem input
+untaken law input not s h = absurd (let t : true ≡ false = sym (law.taken s input h) ∙ not in cc)
+
+-- ---- what happens to a session keeps it
+
+moved_by : {X : Type 0} (law : ShownFirst) (s : Listener) (input : Input) (old told : Option X) (b c : Bool) → shows_connect (react s input).shown ≡ b → shows_loss s.state.phase ≡ c →
+    (b ≡ true → IsSome told) → (c ≡ true → IsSome old) → shows_loss (after_input s input).state.phase ≡ true → IsSome (if b then told else old)
+moved_by law s input old told true c shows was tells named k = tells refl
+moved_by law s input old told false true shows was tells named k = named refl
+moved_by law s input old told false false shows was tells named k = absurd (let h : true ≡ false = sym (law.first s input was k) ∙ shows in cc)
+
+line_named : ShownFirst → (input : Input) → TellsThem input → (line : Line) (o : Option Listener) → line.session ≡ o → IsNamed line → IsNamed (line_by line o input)
+line_named law input tells line None is h = h
+line_named law input tells line (Some s) is h =
+    let old : shows_loss s.state.phase ≡ true → IsSome line.selectors =
+    subst (λ (o : Option Listener). IfSome o (λ x. shows_loss x.state.phase ≡ true → IsSome line.selectors)) is h in
+    moved_by law s input line.selectors (selectors_told input) (shows_connect (react s input).shown) (shows_loss s.state.phase) refl refl (tells s) old
+
+-- a call, and what the carrier tells
+pub call_named : ShownFirst → (call : Call) (line : Line) → IsNamed line → IsNamed (line_by line line.session (called call))
+call_named law call line h = line_named law (called call) (untaken law (called call) refl) line line.session refl h
+
+pub named_stays : ShownFirst → LinesStay IsNamed
+named_stays law = record {
+  begins = λ k. absurd (cc);
+  opened = λ line h. line_named law opened (untaken law opened refl) line line.session refl h;
+  refused = λ line reason h. line_named law (refused reason) (untaken law (refused reason) refl) line line.session refl h;
+  came = λ line octets h. line_named law (came octets) (λ s shows. input_selectors (came octets) (law.asked s octets shows)) line line.session refl h;
+  broken = λ line h. line_named law broken (untaken law broken refl) line line.session refl h;
+  lost = λ line. tt;
+}
+
+-- ---- of a connection that is live
+
+named_by : (r : ℕ) (lines : Rows Line) (o : Option Line) → value_at r lines ≡ o → AllNamed lines → IfSome o IsNamed
+named_by r lines None at all = tt
+named_by r lines (Some line) at all = line_at IsNamed r line lines all at
+
+both_there : (ids : TsapIds) (o : Option Selectors) → IsSome o → IsSome (addressed (Some ids) o)
+both_there ids None h = absurd (cc)
+both_there ids (Some selectors) h = refl
+
+-- said of the phase of a session, which is over where there is none
+abbrev Known : {X : Type 0} → Option Listener → Option X → Type 0
+Known session x = shows_loss (phase_of session) ≡ true → IsSome x
+
+line_known : (ids : TsapIds) (session : Option Listener) (o : Option Selectors) → IfSome session (λ s. shows_loss s.state.phase ≡ true → IsSome o) → Known session (addressed (Some ids) o)
+line_known ids None o h k = absurd (cc)
+line_known ids (Some s) o h k = both_there ids o (h k)
+
+live_known : (live : Bool) (ids : Option TsapIds) (o : Option Line) → is_some ids ≡ live → IfSome o IsNamed →
+    Known (if live then session_in o else None) (if live then addressed ids (selectors_in o) else None)
+live_known false ids o same h k = absurd (cc)
+live_known true None o same h k = absurd (cc)
+live_known true (Some ids) None same h k = absurd (cc)
+live_known true (Some ids) (Some line) same h k = line_known ids line.session line.selectors h k
+
+given_known : {X : Type 0} (given : Bool) (session : Option Listener) (x : Option X) → Known session x → IfSome (if given then Some (phase_of session) else None) (λ p. shows_loss p ≡ true → IsSome x)
+given_known false session x h = tt
+given_known true session x h = h
+
+pub known_at : (r : ℕ) (e : End) → IsSettled e → IfSome (phase_at r e) (λ p. shows_loss p ≡ true → IsSome (addresses_at r e))
+known_at r e s =
+    given_known (has_given r e.carrier) (session_at r e) (addresses_at r e)
+    (live_known (is_some (value_at r e.carrier.live)) (tsaps_at r e.carrier) (value_at r e.lines) (known_is r e.carrier s.orderly.named) (named_by r e.lines (value_at r e.lines) refl s.named))
+
+-- ---- in memory
+
+some_of : {X Y : Type 0} (f : X → Y) (o : Option X) (q : Option Y) → option_map f o ≡ q → IsSome q → IsSome o
+some_of f None q same h = absurd (let none : false ≡ true = ap is_some same ∙ h in cc)
+some_of f (Some x) q same h = refl
+
+pub known_of : {X Y : Type 0} (f : X → Y) (o : Option X) (q : Option Y) (phase : Option Phase) → option_map f o ≡ q → IfSome phase (λ p. shows_loss p ≡ true → IsSome q) →
+    IfSome phase (λ p. shows_loss p ≡ true → IsSome o)
+known_of f o q None same h = tt
+known_of f o q (Some p) same h = λ k. some_of f o q same (h k)
