@@ -21,8 +21,12 @@ struct octets {
     size_t room;
 };
 
+/* How far a connection is: TSDUs and units go over one that is open. */
+enum stage { ASKED, OPEN, CLOSING };
+
 struct link {
     unsigned reference, peer;
+    enum stage stage;
     /* What is to be sent and has no credit yet: octets of TSDUs, and where each ends. */
     struct octets unsent;
     size_t ends[WINDOW];
@@ -47,34 +51,46 @@ struct carrier {
     struct event event;
 };
 
-/* Makes room behind what is there, and gives the place. */
-static uint8_t *room_for(struct octets *o, size_t n)
+/* Copies octets by the C library. What gcc knows of their number is hidden from it: else it writes a copy of at most 8,192
+   octets in its place, by an instruction that is counted once for each eight octets. */
+static void copy(uint8_t *to, const uint8_t *from, size_t n)
 {
-    if (n > o->room - o->length) {
-        if (o->first > 0 && n <= o->room - (o->length - o->first)) {
-            memmove(o->at, o->at + o->first, o->length - o->first);
-        } else {
-            size_t room = 2 * o->room > o->length + n ? 2 * o->room : o->length + n;
-            uint8_t *at = malloc(room);
-            if (at == NULL)
-                abort();
-            if (o->length > o->first)
-                memcpy(at, o->at + o->first, o->length - o->first);
-            free(o->at);
-            o->at = at;
-            o->room = room;
-        }
-        o->length -= o->first;
-        o->first = 0;
-    }
-    o->length += n;
-    return o->at + o->length - n;
+    __asm__("" : "+r"(n));
+    memcpy(to, from, n);
 }
 
-static void append(struct octets *o, const uint8_t *more, size_t n)
+/* Makes room for so many octets behind what is there. Where there is no memory, nothing has changed. */
+static bool reserve(struct octets *o, size_t n)
 {
-    if (n > 0)
-        memcpy(room_for(o, n), more, n);
+    if (n <= o->room - o->length)
+        return true;
+    if (o->first > 0 && n <= o->room - (o->length - o->first)) {
+        memmove(o->at, o->at + o->first, o->length - o->first);
+    } else {
+        size_t room = 2 * o->room > o->length + n ? 2 * o->room : o->length + n;
+        uint8_t *at = malloc(room);
+        if (at == NULL)
+            return false;
+        if (o->length > o->first)
+            copy(at, o->at + o->first, o->length - o->first);
+        free(o->at);
+        o->at = at;
+        o->room = room;
+    }
+    o->length -= o->first;
+    o->first = 0;
+    return true;
+}
+
+static bool append(struct octets *o, const uint8_t *more, size_t n)
+{
+    if (n == 0)
+        return true;
+    if (!reserve(o, n))
+        return false;
+    copy(o->at + o->length, more, n);
+    o->length += n;
+    return true;
 }
 
 static void drop(struct octets *o, size_t n)
@@ -84,6 +100,7 @@ static void drop(struct octets *o, size_t n)
         o->first = o->length = 0;
 }
 
+/* The live connection of a reference. */
 static struct link *find(struct carrier *c, unsigned reference)
 {
     for (size_t i = 0; i < c->connections; i++)
@@ -94,9 +111,11 @@ static struct link *find(struct carrier *c, unsigned reference)
 
 /* ---- what is written */
 
+/* The header of a packet, for which there is room, and the place of its unit. */
 static uint8_t *put_header(struct carrier *c, size_t unit)
 {
-    uint8_t *at = room_for(&c->outgoing, HEADER + unit);
+    uint8_t *at = c->outgoing.at + c->outgoing.length;
+    c->outgoing.length += HEADER + unit;
     at[0] = 3;
     at[1] = 0;
     at[2] = (uint8_t)((HEADER + unit) >> 8);
@@ -104,27 +123,33 @@ static uint8_t *put_header(struct carrier *c, size_t unit)
     return at + HEADER;
 }
 
-static void put_data(struct carrier *c, struct link *l, const uint8_t *user, size_t n, bool end)
+static bool put_data(struct carrier *c, struct link *l, const uint8_t *user, size_t n, bool end)
 {
-    uint8_t *at = put_header(c, n + (c->class_two ? 5 : 3));
+    size_t header = c->class_two ? 5 : 3;
+    uint8_t *at;
+    if (!reserve(&c->outgoing, HEADER + header + n))
+        return false;
+    at = put_header(c, header + n);
     if (!c->class_two) {
         at[0] = 2;
         at[1] = 0xF0;
         at[2] = end ? 0x80 : 0;
-        memcpy(at + 3, user, n);
-        return;
+        copy(at + 3, user, n);
+        return true;
     }
     at[0] = 4;
     at[1] = 0xF0;
     at[2] = (uint8_t)(l->peer >> 8);
     at[3] = (uint8_t)l->peer;
     at[4] = (uint8_t)((end ? 0x80 : 0) | l->next);
-    memcpy(at + 5, user, n);
+    copy(at + 5, user, n);
     l->next = (l->next + 1) % NUMBERS;
     l->unacknowledged += 1;
     l->credit -= 1;
+    return true;
 }
 
+/* There is room for it. */
 static void put_ack(struct carrier *c, struct link *l)
 {
     uint8_t *at = put_header(c, 5);
@@ -135,49 +160,78 @@ static void put_ack(struct carrier *c, struct link *l)
     at[4] = (uint8_t)l->expected;
 }
 
-/* Writes as much of a TSDU as the credit allows, and answers how much of it. */
-static size_t put_parts(struct carrier *c, struct link *l, const uint8_t *tsdu, size_t n, bool *all)
+/* What was written of a TSDU. */
+struct written {
+    size_t octets;
+    unsigned units;
+    bool all;
+};
+
+/* Takes back what was written last. */
+static void take_back(struct carrier *c, struct link *l, size_t octets, unsigned units)
+{
+    c->outgoing.length -= octets + units * (HEADER + (c->class_two ? 5 : 3));
+    if (c->class_two) {
+        l->next = (l->next + NUMBERS - units) % NUMBERS;
+        l->unacknowledged -= units;
+        l->credit += units;
+    }
+}
+
+/* Writes as much of a TSDU as the credit allows. Where there is no memory, nothing has changed. */
+static bool put_parts(struct carrier *c, struct link *l, const uint8_t *tsdu, size_t n, struct written *w)
 {
     size_t limit = LARGEST - (c->class_two ? 5 : 3), done = 0;
-    *all = false;
-    while (!*all && (!c->class_two || l->credit > 0)) {
+    unsigned units = 0;
+    bool all = false;
+    while (!all && (!c->class_two || l->credit > 0)) {
         size_t part = n - done > limit ? limit : n - done;
-        *all = done + part == n;
-        put_data(c, l, tsdu + done, part, *all);
+        all = done + part == n;
+        if (!put_data(c, l, tsdu + done, part, all)) {
+            take_back(c, l, done, units);
+            return false;
+        }
         done += part;
+        units += 1;
     }
-    return done;
+    *w = (struct written){done, units, all};
+    return true;
 }
 
 /* Writes what is unsent, as far as the credit allows. */
-static void pump(struct carrier *c, struct link *l)
+static bool pump(struct carrier *c, struct link *l)
 {
     while (l->count > 0 && l->credit > 0) {
-        bool all;
-        size_t done = put_parts(c, l, l->unsent.at + l->unsent.first, l->ends[0], &all);
-        drop(&l->unsent, done);
-        l->ends[0] -= done;
-        if (!all)
-            return;
+        struct written w;
+        if (!put_parts(c, l, l->unsent.at + l->unsent.first, l->ends[0], &w))
+            return false;
+        drop(&l->unsent, w.octets);
+        l->ends[0] -= w.octets;
+        if (!w.all)
+            return true;
         l->count -= 1;
         memmove(l->ends, l->ends + 1, l->count * sizeof l->ends[0]);
     }
+    return true;
 }
 
-/* Writes what the credit allows straight out of the TSDU, and keeps a copy of the rest. */
+/* Writes what the credit allows straight out of the TSDU, and keeps a copy of the rest. Where there is no memory, nothing
+   has changed. */
 static bool send_tsdu(struct carrier *c, unsigned reference, const uint8_t *tsdu, size_t n)
 {
     struct link *l = find(c, reference);
-    bool all = false;
-    size_t done = 0;
-    if (l == NULL || c->ended || n > LONGEST || l->count == WINDOW)
+    struct written w = {0, 0, false};
+    if (l == NULL || l->stage != OPEN || c->ended || n > LONGEST || l->count == WINDOW)
         return false;
-    if (l->count == 0)
-        done = put_parts(c, l, tsdu, n, &all);
-    if (all)
+    if (l->count == 0 && !put_parts(c, l, tsdu, n, &w))
+        return false;
+    if (w.all)
         return true;
-    append(&l->unsent, tsdu + done, n - done);
-    l->ends[l->count++] = n - done;
+    if (!append(&l->unsent, tsdu + w.octets, n - w.octets)) {
+        take_back(c, l, w.octets, w.units);
+        return false;
+    }
+    l->ends[l->count++] = n - w.octets;
     return true;
 }
 
@@ -188,7 +242,8 @@ static bool join(struct carrier *c, struct link *l, const uint8_t *user, size_t 
     static const struct octets none = {NULL, 0, 0, 0};
     if (n > LONGEST - l->begun.length)
         return false;
-    append(&l->begun, user, n);
+    if (!append(&l->begun, user, n))
+        return false;
     if (!end)
         return true;
     c->event = (struct event){true, l->reference, l->begun};
@@ -203,11 +258,10 @@ static bool acknowledge(struct carrier *c, struct link *l, unsigned number, unsi
         return false;
     l->unacknowledged = left;
     l->credit = credit - left;
-    pump(c, l);
-    return true;
+    return pump(c, l);
 }
 
-/* One unit at the front; how many octets it has, or 0 where it is refused. */
+/* One unit at the front; how many octets it has, or 0 where it is refused or there is no memory. */
 static size_t take_tpdu(struct carrier *c, const uint8_t *unit, size_t n)
 {
     struct link *l;
@@ -216,13 +270,16 @@ static size_t take_tpdu(struct carrier *c, const uint8_t *unit, size_t n)
         return 0;
     if (!c->class_two) {
         l = &c->live[0];
+        if (c->connections == 0 || l->stage != OPEN)
+            return 0;
         return unit[1] == 0xF0 && header == 3 && (unit[2] & 0x7F) == 0 && join(c, l, unit + 3, n - 3, unit[2] == 0x80) ? n : 0;
     }
-    if (header != 5 || (l = find(c, (unsigned)unit[2] << 8 | unit[3])) == NULL)
+    if (header != 5 || (l = find(c, (unsigned)unit[2] << 8 | unit[3])) == NULL || l->stage != OPEN)
         return 0;
     if ((unit[1] & 0xF0) == 0x60)
         return unit[4] < NUMBERS && acknowledge(c, l, unit[4], unit[1] & 0x0F) ? header : 0;
-    if (unit[1] != 0xF0 || (unit[4] & 0x7F) != l->expected || !join(c, l, unit + 5, n - 5, unit[4] >= 0x80))
+    if (unit[1] != 0xF0 || (unit[4] & 0x7F) != l->expected || !reserve(&c->outgoing, HEADER + 5)
+        || !join(c, l, unit + 5, n - 5, unit[4] >= 0x80))
         return 0;
     l->expected = (l->expected + 1) % NUMBERS;
     put_ack(c, l);
@@ -252,8 +309,8 @@ static size_t complete(struct carrier *c, const uint8_t *piece, size_t n)
     size_t used = 0, length;
     if (c->held.length < HEADER) {
         used = n < HEADER - c->held.length ? n : HEADER - c->held.length;
-        append(&c->held, piece, used);
-        if (c->held.length < HEADER)
+        c->ended = !append(&c->held, piece, used);
+        if (c->ended || c->held.length < HEADER)
             return used;
     }
     length = packet_length(c->held.at);
@@ -261,8 +318,8 @@ static size_t complete(struct carrier *c, const uint8_t *piece, size_t n)
     if (c->ended)
         return used;
     size_t more = length - c->held.length < n - used ? length - c->held.length : n - used;
-    append(&c->held, piece + used, more);
-    if (c->held.length == length) {
+    c->ended = !append(&c->held, piece + used, more);
+    if (!c->ended && c->held.length == length) {
         take_packet(c, c->held.at + HEADER, length - HEADER);
         c->held.length = 0;
     }
@@ -284,7 +341,7 @@ static size_t feed(struct carrier *c, const uint8_t *piece, size_t n)
         length = packet_length(piece + used);
         c->ended = length == 0;
         if (length > left) {
-            append(&c->held, piece + used, left);
+            c->ended = !append(&c->held, piece + used, left);
             return n;
         }
         take_packet(c, piece + used + HEADER, length > 0 ? length - HEADER : 0);
@@ -301,7 +358,7 @@ static struct carrier *carrier_of(size_t connections, bool class_two)
     c->class_two = class_two;
     c->connections = connections;
     for (size_t i = 0; i < connections; i++)
-        c->live[i] = (struct link){.reference = (unsigned)i + 1, .peer = (unsigned)i + 1, .credit = WINDOW};
+        c->live[i] = (struct link){.reference = (unsigned)i + 1, .peer = (unsigned)i + 1, .stage = OPEN, .credit = WINDOW};
     return c;
 }
 
