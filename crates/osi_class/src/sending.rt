@@ -217,7 +217,20 @@ impl Outgoing {
 
     /// Goes to the next part, of `limit` octets or fewer, and says whether it ends its TSDU. An
     /// empty TSDU is one part with no octet. Takes no memory.
+    #[inline(always)]
     pub fn advance(&mut self, limit: usize) -> Option<bool>
+        ensures given { give limit self.old.unsent ≡ option_map (λ last. ((last, self.new.part), self.new.unsent)) result }
+        ensures none { IfNone result ((self.old.unsent ≡ []) × (self.new.unsent ≡ [])) }
+    {
+        if self.is_empty() && !self.is_owned {
+            return None;
+        }
+        self.go_on(limit)
+    }
+
+    /// The same. It stands out of line: mostly nothing is to be sent.
+    #[inline(never)]
+    fn go_on(&mut self, limit: usize) -> Option<bool>
         ensures given { give limit self.old.unsent ≡ option_map (λ last. ((last, self.new.part), self.new.unsent)) result }
         ensures none { IfNone result ((self.old.unsent ≡ []) × (self.new.unsent ≡ [])) }
     {
