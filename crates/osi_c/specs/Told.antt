@@ -169,12 +169,12 @@ is_opening (RefusedByTransport _) = true
 is_opening (RefusedBySession _ _) = true
 is_opening _ = false
 
--- which tell of a point, by its number
-abbrev pub is_point : Shown → Bool
-is_point (Minor _ _ _) = true
-is_point (MinorConfirmed _ _) = true
-is_point (Major _ _) = true
-is_point _ = false
+-- which tell of data, of a minor point or of its confirmation
+abbrev pub is_common : Shown → Bool
+is_common (Data _) = true
+is_common (Minor _ _ _) = true
+is_common (MinorConfirmed _ _) = true
+is_common _ = false
 
 -- which tell of a restart
 abbrev pub is_restart : Shown → Bool

@@ -1,10 +1,10 @@
 //! What the user of a connection is shown, for C.
 
-ghost use Rattle.std.specs.Prelude.{◌≡◌, None, true};
+ghost use Rattle.std.specs.Prelude.{◌≡◌, None, false, true};
 ghost use Rattle.osi_spdu.specs.Fields.{bits_of, unit_bits};
 ghost use Rattle.osi_session.specs.Shown.{shown_by, abort_shown};
 ghost use Rattle.osi_c.specs.Told as told;
-ghost use Rattle.osi_c.specs.Told.{is_opening, is_point, is_restart, Says, Tells};
+ghost use Rattle.osi_c.specs.Told.{is_common, is_opening, is_restart, Says, Tells};
 
 use crate::arguments::OsiSides;
 use bitflags::Flags;
@@ -195,31 +195,27 @@ fn opening<'a>(
     }
 }
 
-/// It stands out of line: else its fields would be made on the way of data, too.
-#[inline(never)]
-fn tell_abort<'a>(reference: u16, cause: AbortCause, shown: &mut OsiIndication<'a>)
-    ensures { Says shown.new reference (abort_shown cause) }
+fn tell_abort<'a>(reference: u16, cause: &AbortCause, shown: &mut OsiIndication<'a>)
+    ensures { Says shown.new reference (abort_shown cause.now) }
 {
     match cause {
         AbortCause::Lost => *shown = plain(reference, 18, &[]),
         AbortCause::Peer(bits) => {
             *shown = OsiIndication {
-                reason: bits,
+                reason: *bits,
                 ..plain(reference, 19, &[])
             };
         }
         AbortCause::Unit(fault) => {
             *shown = OsiIndication {
-                fault: fault_codes(fault),
+                fault: fault_codes(*fault),
                 ..plain(reference, 20, &[])
             };
         }
     }
 }
 
-/// What is said of an opening: a CN, an AC or a refusal. No other indication comes here. It stands out of
-/// line, as [`tell_abort`] does.
-#[inline(never)]
+/// What is said of an opening: a CN, an AC or a refusal. No other indication comes here.
 fn tell_opening<'a>(reference: u16, indication: &'a Indication, shown: &mut OsiIndication<'a>)
     ensures { is_opening (shown_by indication.now) ≡ true → Says shown.new reference (shown_by indication.now) }
 {
@@ -260,41 +256,8 @@ fn tell_opening<'a>(reference: u16, indication: &'a Indication, shown: &mut OsiI
     }
 }
 
-/// What is said with the number of a point. No other indication comes here.
-fn tell_point<'a>(reference: u16, indication: &'a Indication, shown: &mut OsiIndication<'a>)
-    ensures { is_point (shown_by indication.now) ≡ true → Says shown.new reference (shown_by indication.now) }
-{
-    match indication {
-        Indication::Minor {
-            number,
-            confirm,
-            user_data,
-        } => {
-            *shown = OsiIndication {
-                number: *number,
-                confirm: if *confirm { 1 } else { 0 },
-                ..plain(reference, 8, user_data.as_slice())
-            };
-        }
-        Indication::MinorConfirmed { number, user_data } => {
-            *shown = OsiIndication {
-                number: *number,
-                ..plain(reference, 9, user_data.as_slice())
-            };
-        }
-        Indication::Major { number, user_data } => {
-            *shown = OsiIndication {
-                number: *number,
-                ..plain(reference, 10, user_data.as_slice())
-            };
-        }
-        _ => *shown = nothing(),
-    }
-}
-
 /// What is said with the number of a point and who is to hold the tokens. No other indication comes
-/// here. It stands out of line, as [`tell_abort`] does.
-#[inline(never)]
+/// here.
 fn tell_restart<'a>(reference: u16, indication: &'a Indication, shown: &mut OsiIndication<'a>)
     ensures { is_restart (shown_by indication.now) ≡ true → Says shown.new reference (shown_by indication.now) }
 {
@@ -325,17 +288,13 @@ fn tell_restart<'a>(reference: u16, indication: &'a Indication, shown: &mut OsiI
     }
 }
 
-/// What the user of a connection is shown. Each arm writes it where it is to stand: else what all of them
-/// may say would be put together first.
-pub(crate) fn tell<'a>(reference: u16, indication: &'a Indication, shown: &mut OsiIndication<'a>)
-    ensures { Says shown.new reference (shown_by indication.now) }
+/// What is said but for data, a minor point and its confirmation, which do not come here. It stands out of
+/// line: else its fields would be made on their way, too.
+#[inline(never)]
+fn tell_other<'a>(reference: u16, indication: &'a Indication, shown: &mut OsiIndication<'a>)
+    ensures { is_common (shown_by indication.now) ≡ false → Says shown.new reference (shown_by indication.now) }
 {
     match indication {
-        Indication::Connect { .. }
-        | Indication::Connected { .. }
-        | Indication::RefusedByTransport { .. }
-        | Indication::RefusedBySession { .. } => tell_opening(reference, indication, shown),
-        Indication::Data { user_data } => *shown = plain(reference, 5, user_data.as_slice()),
         Indication::Given { tokens } => {
             *shown = OsiIndication {
                 tokens: tokens.bits(),
@@ -348,8 +307,11 @@ pub(crate) fn tell<'a>(reference: u16, indication: &'a Indication, shown: &mut O
                 ..plain(reference, 7, user_data.as_slice())
             };
         }
-        Indication::Minor { .. } | Indication::MinorConfirmed { .. } | Indication::Major { .. } => {
-            tell_point(reference, indication, shown);
+        Indication::Major { number, user_data } => {
+            *shown = OsiIndication {
+                number: *number,
+                ..plain(reference, 10, user_data.as_slice())
+            };
         }
         Indication::MajorConfirmed { user_data } => {
             *shown = plain(reference, 11, user_data.as_slice());
@@ -363,6 +325,35 @@ pub(crate) fn tell<'a>(reference: u16, indication: &'a Indication, shown: &mut O
             *shown = plain(reference, 16, user_data.as_slice());
         }
         Indication::Aborted { user_data } => *shown = plain(reference, 17, user_data.as_slice()),
-        Indication::ProviderAbort { cause } => tell_abort(reference, *cause, shown),
+        Indication::ProviderAbort { cause } => tell_abort(reference, cause, shown),
+        _ => tell_opening(reference, indication, shown),
+    }
+}
+
+/// What the user of a connection is shown. Each arm writes it where it is to stand: else what all of them
+/// may say would be put together first.
+pub(crate) fn tell<'a>(reference: u16, indication: &'a Indication, shown: &mut OsiIndication<'a>)
+    ensures { Says shown.new reference (shown_by indication.now) }
+{
+    match indication {
+        Indication::Data { user_data } => *shown = plain(reference, 5, user_data.as_slice()),
+        Indication::Minor {
+            number,
+            confirm,
+            user_data,
+        } => {
+            *shown = OsiIndication {
+                number: *number,
+                confirm: if *confirm { 1 } else { 0 },
+                ..plain(reference, 8, user_data.as_slice())
+            };
+        }
+        Indication::MinorConfirmed { number, user_data } => {
+            *shown = OsiIndication {
+                number: *number,
+                ..plain(reference, 9, user_data.as_slice())
+            };
+        }
+        _ => tell_other(reference, indication, shown),
     }
 }
