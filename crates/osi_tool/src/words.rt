@@ -21,17 +21,18 @@ skipped.
   ends CALLER CALLED SIZE WINDOW      the first line: classes 0, 2 or 20 of the left end, which
                                       calls, and of the right one; TPDU size code 7 to 13;
                                       window 1 to 15
-  connect UNITS SERIAL SIDES DATA     the left end asks for a connection
+  connect UNITS SERIAL WISHES DATA    the left end asks for a connection; with A B behind it, the
+                                      largest TSDUs that it and the right end would send
   carry SIDE K                        K octets of a side are carried, or all where there are fewer
   break KL KR                         the connection breaks: so many octets of the left and of the
                                       right side can still be carried
   told SIDE                           a side is told of the break
 
-  SIDE REF accept UNITS SERIAL SIDES DATA
+  SIDE REF accept UNITS SERIAL SIDES DATA, or with A B behind it
   SIDE REF refuse DATA                SIDE REF minorconfirm N DATA
   SIDE REF data DATA                  SIDE REF major DATA
   SIDE REF give TOKENS                SIDE REF majorconfirm DATA
-  SIDE REF please TOKENS DATA         SIDE REF restart N SIDES DATA
+  SIDE REF please TOKENS DATA         SIDE REF restart N WISHES DATA
   SIDE REF minor yes DATA             SIDE REF restartconfirm SIDES DATA
   SIDE REF minor no DATA              SIDE REF release DATA
   SIDE REF releaseaccept DATA         SIDE REF releaserefuse DATA
@@ -39,9 +40,9 @@ skipped.
 
 SIDE is left or right, REF the number of a connection. DATA is hexadecimal, or - for none. SIDES has
 a letter for the data, minor, major and release token: a for the side that asks, r for the side that
-answers, c for the choice of the side that answers. TOKENS has two digits: 01 data, 04 minor,
-10 major, 40 release. UNITS has four digits: 0001 half-duplex, 0002 duplex, 0008 minor, 0010 major,
-0020 resynchronize, 0080 negotiated release.";
+answers; in WISHES also c for the choice of the side that answers. A and B are 64 to 65535 octets, or
+0 for no limit. TOKENS has two digits: 01 data, 04 minor, 10 major, 40 release. UNITS has four digits:
+0001 half-duplex, 0002 duplex, 0008 minor, 0010 major, 0020 resynchronize, 0080 negotiated release.";
 
 /// The job that the program's words ask for, of which the first is the program's name. A request for
 /// help or for the version, and words that name no job, are an error of `clap`.
