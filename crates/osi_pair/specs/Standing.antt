@@ -226,28 +226,36 @@ pub record IsInOrder (e : End) : Type 0 where
 -- ---- all of it
 
 -- `b`: what is between the two carriers, from which what is under way is read
-
 pub record Stands (p : TwoEnds) (b : Between) (t : Tables) : Type 0 where
+  -- so the two carriers stand
   pub between : AreBetween (terms_of p.left.end.carrier.local p.right.end.carrier.local) (carriers_of p) b
+  -- the classes that the called end accepts, and whether the byte connection broke
   pub terms : t.terms ≡ terms_in (terms_of p.left.end.carrier.local p.right.end.carrier.local)
   pub broken : t.broken ≡ is_some p.reach
+  -- the left end is the caller
   pub caller : p.left.end.carrier.is_caller ≡ true
+  -- each end lasts in both, or ended for one of the three reasons
   pub left_end : option_map Some t.left_end ≡ option_map ending_in p.left.end.carrier.ended
   pub right_end : option_map Some t.right_end ≡ option_map ending_in p.right.end.carrier.ended
+  -- the class, from when the caller knows it
   pub known : t.known ≡ option_map class_in p.left.end.carrier.class
+  -- the journal, entry by entry
   pub journal : map Some t.journal ≡ map entry_in p.journal
+  -- a line for each reference that the caller gave
   pub given : length t.lines ≡ p.left.end.carrier.given
   -- an end keeps the references and the class
   pub given_then : b.caller.given ≡ p.left.end.carrier.given
   pub class_then : b.caller.class ≡ p.left.end.carrier.class
   -- the called end gives no reference that the caller did not
   pub given_back : p.right.end.carrier.given ≤ length t.lines
+  -- each line is what the two ends have of its connection
   pub lines : (n : ℕ) → 0 < n → n ≤ length t.lines → HasLine n p b t
   -- no connection of an end that has ended is live
   pub over_left : IsSome p.left.end.carrier.ended → p.left.end.carrier.live ≡ []
   pub over_right : IsSome p.right.end.carrier.ended → p.right.end.carrier.live ≡ []
   -- nor is a session of it kept
   pub lost_right : IsSome p.right.end.carrier.ended → (n : ℕ) → kept_at n p.right.end.lines ≡ None
+  -- an end that lasts is in order
   pub order_left : p.left.end.carrier.ended ≡ None → IsInOrder p.left.end
   pub order_right : p.right.end.carrier.ended ≡ None → IsInOrder p.right.end
   -- all that was shown is in the journal

@@ -76,6 +76,7 @@ impl Pair {
         ensures safe { IsSafe self.now }
     {
         what_two_ends_tell();
+        // For the proof: what the type of the ends keeps is known behind a look at them.
         let _ends = &self.ends;
     }
 
