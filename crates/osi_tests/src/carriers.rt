@@ -162,6 +162,25 @@ fn sends_three(carrier: &mut Carrier, alloc: Global, tsdu: &[u8]) -> Result<(), 
     Ok(())
 }
 
+/// Two copies of a TSDU.
+fn two_of(alloc: Global, tsdu: &[u8]) -> Result<Vec<Vec<u8>>, Fail> {
+    let mut tsdus = Vec::new(alloc);
+    for _ in 0..2u8 {
+        tsdus.push(Vec::from_slice(alloc, tsdu)?)?;
+    }
+    Ok(tsdus)
+}
+
+fn sends_together(carrier: &mut Carrier, tsdus: &[Vec<u8>]) -> Result<(), Fail> {
+    carrier.send_all(Ref(1), tsdus)?;
+    Ok(())
+}
+
+fn gives_away_together(carrier: &mut Carrier, tsdus: Vec<Vec<u8>>) -> Result<(), Fail> {
+    carrier.send_all_owned(Ref(1), tsdus)?;
+    Ok(())
+}
+
 #[test]
 fn a_sent_tsdu_has_at_most_1048576_octets(rt: HostRuntime) -> Result<(), Fail> {
     let octets = vec![in rt.alloc(); 0x5A; 1_048_577]?;
@@ -171,7 +190,10 @@ fn a_sent_tsdu_has_at_most_1048576_octets(rt: HostRuntime) -> Result<(), Fail> {
         .ok_or("octets")?;
     let mut caller = opened(&rt)?;
     refuses_to_send(&mut caller, octets.as_slice(), SendError::TooLong)?;
-    sends_three(&mut caller, rt.alloc(), longest)
+    sends_three(&mut caller, rt.alloc(), longest)?;
+    let tsdus = two_of(rt.alloc(), longest)?;
+    sends_together(&mut caller, tsdus.as_slice())?;
+    gives_away_together(&mut caller, tsdus)
 }
 
 #[test]
