@@ -3,8 +3,15 @@
 use crate::again::{asks, event_of, pair_in, push_entry, state_of, unreadable};
 use osi_pair::{Event, Pair, RunError};
 use osi_script::Line;
+use osi_stack::Connect;
+use osi_tpdu::Tsap;
 use std::alloc::{AllocError, Global};
 use std::io;
+
+/// A transport address, and a session address, of the greatest length.
+const TSAP: [u8; 32] = [0x54; 32];
+
+const SELECTOR: [u8; 16] = [0x53; 16];
 
 /// What came of a list of events.
 #[derive(Drop)]
@@ -53,9 +60,32 @@ fn events_in<'a>(alloc: Global, lines: &'a [Line<'a>]) -> io::Result<Vec<Event<'
         let Some(event) = line.command().and_then(event_of) else {
             return Err(unreadable());
         };
-        events.push(event)?;
+        events.push(with_addresses(event))?;
     }
     Ok(events)
+}
+
+/// The event; where it asks for a connection, it does so with addresses of the greatest lengths.
+fn with_addresses<'a>(event: Event<'a>) -> Event<'a> {
+    match event {
+        Event::Connect(connect) => Event::Connect(addressed(connect)),
+        other => other,
+    }
+}
+
+/// What is asked for, with addresses of the greatest lengths.
+fn addressed<'a>(connect: Connect<'a>) -> Connect<'a> {
+    Connect {
+        calling_tsap: tsap(),
+        called_tsap: tsap(),
+        calling_selector: Some(&SELECTOR),
+        called_selector: Some(&SELECTOR),
+        ..connect
+    }
+}
+
+fn tsap() -> Option<Tsap> {
+    Tsap::new(&TSAP)
 }
 
 /// Applies events one by one, up to the first that is refused.
