@@ -33,7 +33,7 @@ with_end c end = record c { stack = record c.stack { end = end } }
 
 -- an end on which nothing has happened
 abbrev pub begun : Bool → Local → Contents
-begun is_caller local = record { stack = record { end = fresh_end is_caller local; held = fresh }; last = None }
+begun is_caller local = record { stack = record { end = fresh_end is_caller local; held = fresh }; last = None; reference = 0 }
 
 -- its transport protocol
 abbrev pub local_of : Contents → Local
@@ -81,7 +81,7 @@ CallsIf r None answer old new = ⊥
 
 abbrev pub FeedsTo : List ℕ → ℕ → Bool → Option (Answer CallError) → Option Contents → Option Contents → Type 0
 FeedsTo piece used waits (Some Done) (Some old) (Some new) =
-    Feeds old.stack piece (record { used = used; whole = waits }) new.stack × (new.last ≡ old.last)
+    Feeds old.stack piece (record { used = used; whole = waits }) new.stack × (new.last ≡ old.last) × (new.reference ≡ old.reference)
 FeedsTo piece used waits (Some Closed) None new = (used ≡ 0) × (waits ≡ false) × (new ≡ None)
 FeedsTo piece used waits answer old new = ⊥
 
@@ -107,7 +107,7 @@ Breaks answer old new = ⊥
 -- what C was last told of
 abbrev pub told : Option Contents → Option (ℕ × Shown)
 told None = None
-told (Some c) = option_map (λ p. (p.0.0, shown_by p.1)) c.last
+told (Some c) = option_map (λ i. (c.reference, shown_by i)) c.last
 
 abbrev pub answers_first : Option (ℕ × Shown) → Fetching
 answers_first None = Nothing

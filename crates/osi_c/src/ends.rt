@@ -26,6 +26,7 @@ pub extern "C" fn osi_caller(alloc: Global, end: &mut OsiEnd, own: &OsiTerms) ->
     let contents = Contents {
         stack: Stack::caller(alloc, local),
         last: None,
+        reference: 0,
     };
     let Ok(inner) = Handle::new(alloc, contents) else {
         return NO_MEMORY;
@@ -48,6 +49,7 @@ pub extern "C" fn osi_called(alloc: Global, end: &mut OsiEnd, own: &OsiTerms) ->
     let contents = Contents {
         stack: Stack::called(alloc, local),
         last: None,
+        reference: 0,
     };
     let Ok(inner) = Handle::new(alloc, contents) else {
         return NO_MEMORY;

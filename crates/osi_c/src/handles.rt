@@ -7,7 +7,6 @@ ghost use Rattle.osi_c.specs.declared.handles.Contents.{Contents};
 
 use crate::slots::OsiEnd;
 use loose::Loose;
-use osi_carrier::Ref;
 use osi_session::Indication;
 use osi_stack::Stack;
 use std::alloc::{AllocError, Global};
@@ -15,11 +14,12 @@ use std::marker::Model;
 use std::ptr::null_mut;
 
 /// What an end of C holds: the end, and the indication that C was last told of, whose user data is
-/// lent until the next call.
+/// lent until the next call, with the reference of its connection.
 #[derive(Drop)]
 pub struct Contents {
     pub stack: Stack,
-    pub last: Option<(Ref, Indication)>,
+    pub last: Option<Indication>,
+    pub reference: u16,
 }
 
 /// A box as its pointer, or nothing. It is not `Drop`, so that no box is let go of unfreed.

@@ -21,11 +21,12 @@ pub extern "C" fn osi_fetch(end: &mut OsiEnd) -> u32
         return CLOSED;
     }
     let contents = end.get_mut();
-    let Some(next) = contents.stack.next_indication() else {
+    let Some((reference, indication)) = contents.stack.next_indication() else {
         contents.last = None;
         return NOTHING;
     };
-    contents.last = Some(next);
+    contents.reference = reference.0;
+    contents.last = Some(indication);
     OK
 }
 
@@ -38,7 +39,7 @@ fn show<'a>(contents: Option<&'a Contents>, shown: &mut OsiIndication<'a>)
     };
     match &contents.last {
         None => *shown = nothing(),
-        Some((reference, indication)) => tell(reference.0, indication, shown),
+        Some(indication) => tell(contents.reference, indication, shown),
     }
 }
 
