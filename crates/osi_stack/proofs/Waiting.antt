@@ -1,7 +1,7 @@
 -- How many lines have something that waits.
-use Rattle.std.proofs.Common.{◌≡◌, ℕ, ◌+◌, ◌<◌, ◌≤◌, ◌||◌, Bool, zero, suc, true, false, cond, [], ◌∷◌, length, get_or, set, nat_lt, Some, None, refl, sym, ap, subst, ◌∙◌, arith}
+use Rattle.std.proofs.Common.{◌≡◌, ℕ, ◌+◌, ◌<◌, ◌≤◌, ◌==◌, ◌||◌, Bool, zero, suc, true, false, not, cond, List, [], ◌∷◌, ◌++◌, length, get_or, set, nat_lt, Option, Some, None, Result, Ok, Err, OnOk, OnErr, refl, sym, ap, subst, ◌∙◌, arith}
 use Rattle.std.specs.List.{position, position_or_len}
-use Rattle.std.proofs.lemmas.Bool.{lt-ltb}
+use Rattle.std.proofs.lemmas.Bool.{lt-ltb, eqb-true}
 use Rattle.std.proofs.lemmas.Grind.{common_steps}
 use Rattle.std.proofs.lemmas.List.{length-set}
 use Rattle.std.proofs.lemmas.List.Sums.{sum_by-cons, sum_by-set, count_by-le-length, position_or_len_is}
@@ -9,7 +9,10 @@ use Rattle.osi_carrier.proofs.Order.{set_rise}
 use Rattle.osi_carrier.proofs.Places.{placed}
 use Rattle.osi_carrier.specs.Orderly.{RiseFrom}
 use Rattle.osi_carrier.specs.Rows.{Rows, place_of}
-use Rattle.osi_session.specs.Shown.{Lost}
+use Rattle.osi_session.specs.Listening.{Input, Listener, react}
+use Rattle.osi_session.specs.Shown.{Shown, Lost}
+use Rattle.osi_stack.specs.Hearing.{shown_at_loss, loses}
+use Rattle.osi_stack.specs.Moving.{line_by}
 use Rattle.osi_stack.specs.State.{Line, line_waits, waits, how_many_wait}
 use Rattle.osi_stack.proofs.FirstShown.{IsNone, quiet_none}
 
@@ -114,3 +117,23 @@ set_kept waiting counted rises before after rows i row new kept here within name
     sum_by-set (λ x. cond (line_waits x.1) 1 0) rows i new row within in
     let counts = kept.0 in
     (omega arith, λ e. set_rise 0 rows i row new here named (kept.1 e))
+
+-- ---- a line that hears something
+
+some_wait : (n : ℕ) (b : Bool) → (suc n == 0) ≡ b → not b ≡ true
+some_wait n true e = let none = eqb-true (suc n) 0 e in absurd (omega arith)
+some_wait n false e = refl
+
+more_wait : (w more : List Shown) → not (length w == 0) ≡ true → not (length (w ++ more) == 0) ≡ true
+more_wait [] more h = absurd (cc)
+more_wait (x ∷ w) more h = some_wait (length (w ++ more)) (suc (length (w ++ more)) == 0) refl
+
+line_stays : (l : Line) (o : Option Listener) (input : Input) → line_waits l ≡ true → line_waits (line_by l o input) ≡ true
+line_stays l None input h = h
+line_stays l (Some s) input h = more_wait l.waiting (react s input).shown h
+
+-- what waited there waits on
+pub heard_stays : {A E : Type 0} (result : Result A E) (row new : ℕ × Line) (input : Input) → OnOk result (new ≡ (row.0, line_by row.1 row.1.session input)) →
+    OnErr result (new ≡ (row.0, loses row.1)) → line_waits row.1 ≡ true → line_waits new.1 ≡ true
+heard_stays (Ok a) row new input ok lost h = ap (λ (x : ℕ × Line). line_waits x.1) ok ∙ line_stays row.1 row.1.session input h
+heard_stays (Err e) row new input ok lost h = ap (λ (x : ℕ × Line). line_waits x.1) lost ∙ more_wait row.1.waiting (shown_at_loss row.1.session) h

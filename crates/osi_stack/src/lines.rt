@@ -219,9 +219,10 @@ impl Line {
         forget(&mut self.session, &mut self.waiting, is_shown);
     }
 
-    /// A call of the user. Each error changes nothing.
+    /// A call of the user, who is shown nothing by it. Each error changes nothing.
     fn call(&mut self, request: Request, carrier: &mut Carrier) -> Result<(), CallError>
         ensures reference { self.new.0 ≡ self.old.0 }
+        ensures waits { line_waits self.new.1 ≡ line_waits self.old.1 }
         ensures ok { OnOk result (self.new ≡ (self.old.0, line_by self.old.1 self.old.1.session (called (called_by request.entry)))) }
         ensures carrier { OnOk result (carrier.new ≡ record carrier.old { state = carrier_by self.old.0 self.old.1.session (called (called_by request.entry)) carrier.old.state }) }
         ensures allowed { OnOk result (session_refusal self.old.0 self.old.1.session (called_by request.entry) carrier.old.state ≡ None) }
@@ -312,18 +313,26 @@ fn count_joined(rows: &[Line], carrier: &Carrier) -> usize
     octets
 }
 
-/// For how many of so many lines an indication waits, where one did or did not and now does or does
-/// not.
-fn recount(waiting: usize, lines: usize, before: bool, after: bool) -> usize
-    requires some { before ≡ true → 0 < waiting }
+/// For how many of so many lines an indication waits, where one heard something: what waited there waits
+/// on.
+fn count_heard(waiting: usize, lines: usize, before: bool, after: bool) -> usize
+    requires kept { before ≡ true → after ≡ true }
     requires room { before ≡ false → waiting < lines }
     ensures { result + cond before 1 0 ≡ waiting + cond after 1 0 }
 {
-    match (before, after) {
-        (false, true) => waiting + 1,
-        (true, false) => waiting - 1,
-        (false, false) | (true, true) => waiting,
+    if after && !before {
+        waiting + 1
+    } else {
+        waiting
     }
+}
+
+/// The same where one told its oldest indication, and now another waits there or none.
+fn count_told(waiting: usize, after: bool) -> usize
+    requires { 0 < waiting }
+    ensures { result + 1 ≡ waiting + cond after 1 0 }
+{
+    if after { waiting } else { waiting - 1 }
 }
 
 /// Drops those that are gone and for which nothing waits.
@@ -417,14 +426,13 @@ impl Lines {
         let Some(place) = first_place(self.rows.as_slice(), self.waiting, self.heard) else {
             return None;
         };
-        let lines = self.rows.len();
         let line = &mut self.rows[place];
         let reference = line.reference();
         let Some(indication) = line.next() else {
             return None;
         };
         let after = line.waits();
-        self.waiting = recount(self.waiting, lines, true, after);
+        self.waiting = count_told(self.waiting, after);
         Some((Ref(reference), indication))
     }
 
@@ -452,7 +460,7 @@ impl Lines {
         let before = line.waits();
         let result = line.hear(alloc, told, carrier);
         let after = line.waits();
-        self.waiting = recount(self.waiting, lines, before, after);
+        self.waiting = count_heard(self.waiting, lines, before, after);
         self.heard = place;
         result
     }
@@ -473,13 +481,8 @@ impl Lines {
         let Some(place) = self.find(reference) else {
             return Err(CallError::Ended);
         };
-        let lines = self.rows.len();
         let line = &mut self.rows[place];
-        let before = line.waits();
-        let result = line.call(request, carrier);
-        let after = line.waits();
-        self.waiting = recount(self.waiting, lines, before, after);
-        result
+        line.call(request, carrier)
     }
 
     /// The carrier has ended, and all sessions are lost.

@@ -1,12 +1,12 @@
-use Rattle.std.proofs.Common.{rules, length, ◌≡◌, Some, None, get_or, sym, ap, ◌∙◌}
+use Rattle.std.proofs.Common.{◌≡◌, ◌+◌, Bool, cond, Some, None, get_or, refl, sym, ap, ◌∙◌}
 use Rattle.osi_carrier.proofs.Places.{placed}
 use Rattle.osi_carrier.specs.Rows.{Rows, place_of}
 use Rattle.osi_session.specs.Calls.{called_by}
 use Rattle.osi_session.specs.Listening.{called}
 use Rattle.osi_stack.specs.Calls.{session_refusal}
-use Rattle.osi_stack.specs.State.{Line, session_in}
+use Rattle.osi_stack.specs.State.{Line, line_waits, session_in}
 use Rattle.osi_stack.proofs.Found.{nowhere, heard_rows, allowed_at, refused_at}
-use Rattle.osi_stack.proofs.Waiting.{room_of, set_kept}
+use Rattle.osi_stack.proofs.Waiting.{set_kept}
 use Rattle.osi_stack.proofs.lines.Lines.call.Goals as goal
 
 pub returns-in_default-clause-refused : goal.returns-in_default-clause-refused
@@ -19,36 +19,27 @@ returns-clause-ok c =
     let row = c.index_mut-line.result.now in
     let some : place_of c.args.reference c.args.self.now ≡ Some c.in-Some.place = sym c.find.ensures ∙ c.in-Some.is in
     let here = c.index_mut-line.ensures.value ∙ ap (λ (l : Rows Line). get_or l c.in-Some.place row) c.self.view_is in
-    heard_rows c.call-result.result c.args.reference c.args.self.now c.self.inside.rows.items c.in-Some.place row c.call-result.new.self c.args.carrier.now c.call-result.new.carrier
-    (called (called_by c.args.request)) some here c.self.view_is c.call-result.ensures.ok c.call-result.ensures.carrier
+    heard_rows c.call.result c.args.reference c.args.self.now c.self.inside.rows.items c.in-Some.place row c.call.new.self c.args.carrier.now c.call.new.carrier
+    (called (called_by c.args.request)) some here c.self.view_is c.call.ensures.ok c.call.ensures.carrier
 
 pub returns-clause-allowed : goal.returns-clause-allowed
 returns-clause-allowed c =
     let row = c.index_mut-line.result.now in
     let some : place_of c.args.reference c.args.self.now ≡ Some c.in-Some.place = sym c.find.ensures ∙ c.in-Some.is in
     let here = c.index_mut-line.ensures.value ∙ ap (λ (l : Rows Line). get_or l c.in-Some.place row) c.self.view_is in
-    allowed_at c.call-result.result c.args.reference c.args.self.now c.in-Some.place row (called_by c.args.request) c.args.carrier.now.state some here c.call-result.ensures.allowed
+    allowed_at c.call.result c.args.reference c.args.self.now c.in-Some.place row (called_by c.args.request) c.args.carrier.now.state some here c.call.ensures.allowed
 
 pub returns-clause-refused : goal.returns-clause-refused
 returns-clause-refused c =
     let row = c.index_mut-line.result.now in
     let some : place_of c.args.reference c.args.self.now ≡ Some c.in-Some.place = sym c.find.ensures ∙ c.in-Some.is in
     let here = c.index_mut-line.ensures.value ∙ ap (λ (l : Rows Line). get_or l c.in-Some.place row) c.self.view_is in
-    refused_at c.call-result.result c.args.reference c.args.self.now c.in-Some.place row (called_by c.args.request) c.args.carrier.now.state some here c.call-result.ensures.refused
-
-pub recount-self-inside-requires-clause-room : goal.recount-self-inside-requires-clause-room
-recount-self-inside-requires-clause-room c = λ h.
-    let row = c.index_mut-line.result.now in
-    let some : place_of c.args.reference c.args.self.now ≡ Some c.in-Some.place = sym c.find.ensures ∙ c.in-Some.is in
-    let here = c.index_mut-line.ensures.value ∙ ap (λ (l : Rows Line). get_or l c.in-Some.place row) c.self.view_is in
-    let lines : c.len-lines.result ≡ length c.self.inside.rows.items = search rules in
-    room_of c.args.reference c.args.self.now c.self.inside.rows.items c.in-Some.place row c.self.inside.waiting c.len-lines.result some here c.self.view_is
-    c.self.invariant.0 lines (sym c.waits-before.ensures ∙ h)
+    refused_at c.call.result c.args.reference c.args.self.now c.in-Some.place row (called_by c.args.request) c.args.carrier.now.state some here c.call.ensures.refused
 
 pub invariant_of-self : goal.invariant_of-self
 invariant_of-self c =
     let row = c.index_mut-line.result.now in
     let some : place_of c.args.reference c.self.inside.rows.items ≡ Some c.in-Some.place = ap (λ (l : Rows Line). place_of c.args.reference l) c.self.view_is ∙ sym c.find.ensures ∙ c.in-Some.is in
-    set_kept c.self.inside.waiting c.recount-self-inside.result c.self.inside.rises c.waits-before.result c.waits-after.result c.self.inside.rows.items c.in-Some.place row c.call-result.new.self
-    c.self.invariant c.index_mut-line.ensures.value (placed c.args.reference c.self.inside.rows.items c.in-Some.place row some).within c.call-result.ensures.reference c.waits-before.ensures
-    c.waits-after.ensures c.recount-self-inside.ensures
+    set_kept c.self.inside.waiting c.self.inside.waiting c.self.inside.rises (line_waits row.1) (line_waits c.call.new.self.1) c.self.inside.rows.items c.in-Some.place row c.call.new.self
+    c.self.invariant c.index_mut-line.ensures.value (placed c.args.reference c.self.inside.rows.items c.in-Some.place row some).within c.call.ensures.reference refl
+    refl (ap (λ (b : Bool). c.self.inside.waiting + cond b 1 0) (sym c.call.ensures.waits))

@@ -6,7 +6,7 @@ use Rattle.osi_stack.specs.Telling.{told_input}
 use Rattle.osi_stack.proofs.Found.{unheard, heard_rows}
 use Rattle.osi_stack.proofs.Losing.{stopped_rows}
 use Rattle.osi_stack.proofs.Needing.{needs_at}
-use Rattle.osi_stack.proofs.Waiting.{room_of, set_kept}
+use Rattle.osi_stack.proofs.Waiting.{room_of, set_kept, heard_stays}
 use Rattle.osi_stack.proofs.lines.Lines.hear.Goals as goal
 
 pub returns-in_default-clause-ok : goal.returns-in_default-clause-ok
@@ -36,8 +36,13 @@ returns-clause-needed c =
     let here = c.index_mut-line.ensures.value ∙ ap (λ (l : Rows Line). get_or l c.in-Some.place row) c.self.view_is in
     needs_at c.hear-result.result c.args.reference c.args.self.now c.in-Some.place row (told_input c.args.told) c.args.carrier.now.state some here c.hear-result.ensures.needed
 
-pub recount-self-inside-requires-clause-room : goal.recount-self-inside-requires-clause-room
-recount-self-inside-requires-clause-room c = λ h.
+pub count_heard-self-inside-requires-clause-kept : goal.count_heard-self-inside-requires-clause-kept
+count_heard-self-inside-requires-clause-kept c = λ h.
+    c.waits-after.ensures ∙ heard_stays c.hear-result.result c.index_mut-line.result.now c.hear-result.new.self (told_input c.args.told) c.hear-result.ensures.ok c.hear-result.ensures.lost
+    (sym c.waits-before.ensures ∙ h)
+
+pub count_heard-self-inside-requires-clause-room : goal.count_heard-self-inside-requires-clause-room
+count_heard-self-inside-requires-clause-room c = λ h.
     let row = c.index_mut-line.result.now in
     let some : place_of c.args.reference c.args.self.now ≡ Some c.in-Some.place = sym c.find.ensures ∙ c.in-Some.is in
     let here = c.index_mut-line.ensures.value ∙ ap (λ (l : Rows Line). get_or l c.in-Some.place row) c.self.view_is in
@@ -49,6 +54,6 @@ pub invariant_of-self : goal.invariant_of-self
 invariant_of-self c =
     let row = c.index_mut-line.result.now in
     let some : place_of c.args.reference c.self.inside.rows.items ≡ Some c.in-Some.place = ap (λ (l : Rows Line). place_of c.args.reference l) c.self.view_is ∙ sym c.find.ensures ∙ c.in-Some.is in
-    set_kept c.self.inside.waiting c.recount-self-inside.result c.self.inside.rises c.waits-before.result c.waits-after.result c.self.inside.rows.items c.in-Some.place row c.hear-result.new.self
+    set_kept c.self.inside.waiting c.count_heard-self-inside.result c.self.inside.rises c.waits-before.result c.waits-after.result c.self.inside.rows.items c.in-Some.place row c.hear-result.new.self
     c.self.invariant c.index_mut-line.ensures.value (placed c.args.reference c.self.inside.rows.items c.in-Some.place row some).within c.hear-result.ensures.reference c.waits-before.ensures
-    c.waits-after.ensures c.recount-self-inside.ensures
+    c.waits-after.ensures c.count_heard-self-inside.ensures

@@ -66,6 +66,6 @@ invariant_of-self-2 c =
     let row = c.index_mut-line.result.now in
     let first = first_is c.self.inside.rows.items c.in-Some.place row
     (ap (position (λ (row : ℕ × Line). line_waits row.1)) (sym c.as_slice.ensures.value) ∙ sym c.first_place.ensures ∙ c.in-Some.is) in
-    set_kept c.self.inside.waiting c.recount-self-inside.result c.self.inside.rises true c.waits-after.result c.self.inside.rows.items c.in-Some.place row c.next.new.self
+    set_kept c.self.inside.waiting c.count_told-self-inside.result c.self.inside.rises true c.waits-after.result c.self.inside.rows.items c.in-Some.place row c.next.new.self
     c.self.invariant c.index_mut-line.ensures.value first.within c.next.ensures.reference
-    (sym (ap (λ (x : ℕ × Line). line_waits x.1) c.index_mut-line.ensures.value ∙ first.waits)) c.waits-after.ensures c.recount-self-inside.ensures
+    (sym (ap (λ (x : ℕ × Line). line_waits x.1) c.index_mut-line.ensures.value ∙ first.waits)) c.waits-after.ensures c.count_told-self-inside.ensures
