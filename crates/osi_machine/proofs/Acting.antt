@@ -56,18 +56,7 @@ is_acted s u h =
 
 over_parts : (p : Phase) → is_over p ≡ (is_aborting p || is_ended p)
 over_parts WaitTransport = refl
-over_parts WaitCn = refl
-over_parts Connecting = refl
-over_parts Answering = refl
-over_parts Ready = refl
-over_parts MajorAsked = refl
-over_parts MajorDue = refl
-over_parts Releasing = refl
-over_parts ReleaseDue = refl
-over_parts Restarting = refl
-over_parts RestartDue = refl
-over_parts Aborting = refl
-over_parts Ended = refl
+over_parts _ = refl
 
 or_parts : (a b : Bool) → (a || b) ≡ false → (a ≡ false) × (b ≡ false)
 or_parts true b h = absurd (cc)

@@ -16,7 +16,6 @@ use Rattle.osi_machine.proofs.Records.{flushed, matched, Half}
 none_expected : (p : Phase) (u : Meaning) → is_over p ≡ true → is_plain u ≡ true → is_expected p u ≡ false
 none_expected p (CN v u n w from to z o) h k = excluded is_over is_wait_cn refl p h
 none_expected p (AC v u n w z o) h k = excluded is_over is_connecting refl p h
-none_expected p (RF r o) h k = absurd (cc)
 none_expected p (DT o) h k = excluded is_over takes_data refl p h
 none_expected p (GT t) h k = excluded is_over may_ask refl p h
 none_expected p (PT t o) h k = excluded is_over takes_please refl p h
@@ -27,10 +26,8 @@ none_expected p (MAA n o) h k = excluded is_over is_major_asked refl p h
 none_expected p (RS j n w o) h k = excluded is_over takes_restart refl p h
 none_expected p (RA n w o) h k = excluded is_over is_restarting refl p h
 none_expected p (FN o) h k = excluded is_over is_ready refl p h
-none_expected p (DN o) h k = absurd (cc)
 none_expected p (NF o) h k = excluded is_over is_releasing refl p h
-none_expected p (AB b o) h k = absurd (cc)
-none_expected p AA h k = absurd (cc)
+none_expected p _ h k = absurd (cc)
 
 pub over_kept : (s : State) (us : List Meaning) → is_over s.phase ≡ true → AllFit s us → is_over (flush s us).phase ≡ true
 over_kept = kept_all (λ s. is_over s.phase ≡ true)

@@ -62,22 +62,17 @@ Lively s = is_lively s.phase ≡ true
 -- it stays so, until a restart stands
 pub becomes_lively : (s : State) (u : Meaning) → is_plain u ≡ true → Good s u → stops s u ≡ false → Lively s → Lively (becomes s u)
 becomes_lively s (CN w r n x from to z o) p g st h = absurd (let e = excluded is_wait_cn is_lively refl s.phase g.expected in cc)
-becomes_lively s (AC w r n x z o) p g st h = refl
 becomes_lively s (RF r o) p g st h = absurd (cc)
 becomes_lively s (DT o) p g st h = h
 becomes_lively s (GT k) p g st h = h
 becomes_lively s (PT k o) p g st h = h
 becomes_lively s (MIP c n o) p g st h = h
 becomes_lively s (MIA n o) p g st h = h
-becomes_lively s (MAP n o) p g st h = refl
-becomes_lively s (MAA n o) p g st h = refl
 becomes_lively s (RS k n w o) p g st h = rw st h
-becomes_lively s (RA n w o) p g st h = refl
-becomes_lively s (FN o) p g st h = refl
 becomes_lively s (DN o) p g st h = absurd (cc)
-becomes_lively s (NF o) p g st h = refl
 becomes_lively s (AB x o) p g st h = absurd (cc)
 becomes_lively s AA p g st h = h
+becomes_lively s _ p g st h = refl
 
 -- what holds of each state up to a restart that stands, or of all: P, or an answer is due
 pub until_due : (P : State → Type 0) → ((s : State) (u : Meaning) → Fits s u → stops s u ≡ false → P s → P (next s u)) →
@@ -140,23 +135,11 @@ ends_talking = until_due Talks (λ s u f st h. fit_cases Talks s u f h (λ d g. 
 
 -- at a side that owes the answer to a restart, nothing but an empty token item fits
 empty_needs : (t : Token) (u : Meaning) → has_no_effect u ≡ true → needs_token t u ≡ false
-empty_needs t (CN w r n x from to z o) h = refl
-empty_needs t (AC w r n x z o) h = refl
-empty_needs t (RF r o) h = refl
 empty_needs t (DT o) h = absurd (cc)
-empty_needs t (GT k) h = refl
-empty_needs t (PT k o) h = refl
 empty_needs t (MIP c n o) h = absurd (cc)
-empty_needs t (MIA n o) h = refl
 empty_needs t (MAP n o) h = absurd (cc)
-empty_needs t (MAA n o) h = refl
-empty_needs t (RS k n w o) h = refl
-empty_needs t (RA n w o) h = refl
 empty_needs t (FN o) h = absurd (cc)
-empty_needs t (DN o) h = refl
-empty_needs t (NF o) h = refl
-empty_needs t (AB x o) h = refl
-empty_needs t AA h = refl
+empty_needs t _ h = refl
 
 dropped_empty : (e r p : Bool) → (e || (r && not p)) ≡ true → r ≡ false → e ≡ true
 dropped_empty true r p h k = refl

@@ -237,13 +237,12 @@ is_unit (unit u) = true
 is_unit m = false
 
 has_unit : (ms : List Message) (u : Meaning) (rest : List Message) → list_any is_unit (ms ++ unit u ∷ rest) ≡ true
-has_unit [] u rest = refl
-has_unit (unit v ∷ ms) u rest = refl
 has_unit (ask ∷ ms) u rest = has_unit ms u rest
 has_unit (agree ∷ ms) u rest = has_unit ms u rest
 has_unit (deny r ∷ ms) u rest = has_unit ms u rest
 has_unit (bye r ∷ ms) u rest = has_unit ms u rest
 has_unit (over ∷ ms) u rest = has_unit ms u rest
+has_unit _ u rest = refl
 
 no_unit_replied : (way : Way) → list_any is_unit (replies way) ≡ false
 no_unit_replied nothing_sent = refl

@@ -122,22 +122,11 @@ confirm_good n s (MIA m o) a p g = absurd (let b = and_parts (not s.numbers.answ
     turn : (b : Bool) → not b ≡ true → b ≡ true → ⊥
     turn true h k = cc
     turn false h k = cc
-confirm_good n s (CN v u i w from to z o) a p g = record { expected = g.expected; met = g.met }
-confirm_good n s (AC v u i w z o) a p g = record { expected = g.expected; met = g.met }
 confirm_good n s (RF r o) a p g = absurd (cc)
-confirm_good n s (DT o) a p g = record { expected = g.expected; met = g.met }
-confirm_good n s (GT k) a p g = record { expected = g.expected; met = g.met }
-confirm_good n s (PT k o) a p g = record { expected = g.expected; met = g.met }
-confirm_good n s (MIP c i o) a p g = record { expected = g.expected; met = g.met }
-confirm_good n s (MAP i o) a p g = record { expected = g.expected; met = g.met }
-confirm_good n s (MAA i o) a p g = record { expected = g.expected; met = g.met }
-confirm_good n s (RS j i w o) a p g = record { expected = g.expected; met = g.met }
-confirm_good n s (RA i w o) a p g = record { expected = g.expected; met = g.met }
-confirm_good n s (FN o) a p g = record { expected = g.expected; met = g.met }
 confirm_good n s (DN o) a p g = absurd (cc)
-confirm_good n s (NF o) a p g = record { expected = g.expected; met = g.met }
 confirm_good n s (AB b o) a p g = absurd (cc)
 confirm_good n s AA a p g = absurd (cc)
+confirm_good n s _ a p g = record { expected = g.expected; met = g.met }
 
 taken_confirmed : (n : ℕ) (v : Numbers) → v.answers ≡ true → point_taken (minor_confirmed n v) ≡ minor_confirmed n (point_taken v)
 unfolding point_taken minor_confirmed
@@ -149,9 +138,7 @@ point_answers v = refl
 
 confirm_step : (n : ℕ) (s : State) (u : Meaning) → Answers s → is_plain u ≡ true → Good s u → stops s u ≡ false
     → (becomes (confirmed_at n s) u ≡ confirmed_at n (becomes s u)) × Answers (becomes s u)
-confirm_step n s (CN v u i w from to z o) a p g st = absurd (let x = excluded is_confirming is_wait_cn refl s.phase a.phase in let y = g.expected in cc)
 confirm_step n s (AC v u i w z o) a p g st = absurd (let x = excluded is_confirming is_connecting refl s.phase a.phase in let y = g.expected in cc)
-confirm_step n s (RF r o) a p g st = absurd (cc)
 confirm_step n s (DT o) a p g st = (refl, a)
 confirm_step n s (GT k) a p g st = (refl, record { phase = a.phase; answers = a.answers })
 confirm_step n s (PT k o) a p g st = (refl, a)
@@ -166,10 +153,8 @@ confirm_step n s (MAA i o) a p g st = absurd (let x = excluded is_confirming is_
 confirm_step n s (RS j i w o) a p g st = absurd (let t = listening_stands s i (excluded is_confirming is_restarting refl s.phase a.phase) in cc)
 confirm_step n s (RA i w o) a p g st = absurd (let x = excluded is_confirming is_restarting refl s.phase a.phase in let y = g.expected in cc)
 confirm_step n s (FN o) a p g st = (refl, record { phase = refl; answers = a.answers })
-confirm_step n s (DN o) a p g st = absurd (cc)
 confirm_step n s (NF o) a p g st = absurd (let x = excluded is_confirming is_releasing refl s.phase a.phase in let y = g.expected in cc)
-confirm_step n s (AB b o) a p g st = absurd (cc)
-confirm_step n s AA a p g st = absurd (cc)
+confirm_step n s _ a p g st = absurd (let x = excluded is_confirming is_wait_cn refl s.phase a.phase in let y = g.expected in cc)
 
 abbrev confirm_shift : ℕ → Shift
 confirm_shift n = record {

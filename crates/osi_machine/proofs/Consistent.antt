@@ -119,7 +119,6 @@ unfolding quiet point_sent minor_confirmed major_confirmed restarted_at
 call_lines s (Accept requirements serial sides sizes octets) v said got p t sound h =
     let f = h.fresh (implied is_answering is_opening refl s.phase p) in
     calm _ _ _ _ refl (rw f.2 (omega arith))
-call_lines s (Refuse octets) v said got p t sound h = calm _ _ _ _ refl (nothing_said _ _ v h.count)
 call_lines s (Data octets) v said got p t sound h =
     same_lines s s v _ said _ got got refl refl refl refl (excluded is_ready is_opening refl s.phase p) (one_more _ _ s.units.duplex octets v h.count) h
 call_lines s (Give tokens) v said got p t sound h =
@@ -132,7 +131,6 @@ call_lines s (MinorConfirm n octets) v said got p t sound h =
     same_lines s _ v _ said _ got got refl refl refl refl (excluded may_confirm_minor is_opening refl s.phase p) (nothing_said _ _ v h.count) h
 call_lines s (Major octets) v said got p t sound h =
     calm _ _ _ _ refl (one_point _ _ 0 v (Point s.numbers.next major_point octets) refl h.count)
-call_lines s (MajorConfirm octets) v said got p t sound h = calm _ _ _ _ refl (nothing_said _ _ v h.count)
 call_lines s (Restart n wishes octets) v said got p t sound h = record {
   count = restart_count s n v sound t.1.0 h.count;
   major = λ k. absurd (cc);
@@ -140,7 +138,6 @@ call_lines s (Restart n wishes octets) v said got p t sound h = record {
   asker = λ k. absurd (cc);
   fresh = λ k. absurd (cc);
 }
-call_lines s (RestartConfirm sides octets) v said got p t sound h = calm _ _ _ _ refl (nothing_said _ _ v h.count)
 call_lines s (Release octets) v said got p t sound h = record {
   count = nothing_said _ _ v h.count;
   major = λ k. absurd (cc);
@@ -148,9 +145,7 @@ call_lines s (Release octets) v said got p t sound h = record {
   asker = λ k d. duplex_caller (each (has_right s)) s.units.duplex s.is_caller t.0 d;
   fresh = λ k. absurd (cc);
 }
-call_lines s (ReleaseAccept octets) v said got p t sound h = calm _ _ _ _ refl (nothing_said _ _ v h.count)
-call_lines s (ReleaseRefuse octets) v said got p t sound h = calm _ _ _ _ refl (nothing_said _ _ v h.count)
-call_lines s (Abort octets) v said got p t sound h = calm _ _ _ _ refl (nothing_said _ _ v h.count)
+call_lines s _ v said got p t sound h = calm _ _ _ _ refl (nothing_said _ _ v h.count)
 
 -- ---- the units
 
@@ -189,7 +184,6 @@ unit_lines s (CN version_2 requirements serial wishes from to sizes octets) v sa
 unit_lines s (AC version_2 requirements serial sides sizes octets) v said got g sound h =
     let f = h.fresh (implied is_connecting is_opening refl s.phase g.expected) in
     calm _ _ _ _ refl (opened_count _ v f.2)
-unit_lines s (RF reason octets) v said got g sound h = calm _ _ _ _ refl h.count
 unit_lines s (DT octets) v said got g sound h =
     same_lines s s v _ said said got _ refl refl refl refl (excluded takes_data is_opening refl s.phase g.expected) (one_taken _ _ s.units.duplex octets v h.count) h
 unit_lines s (GT tokens) v said got g sound h =
@@ -207,19 +201,14 @@ unit_lines s (MAP n octets) v said got g sound h = record {
   asker = λ k. absurd (cc);
   fresh = λ k. absurd (cc);
 }
-unit_lines s (MAA n octets) v said got g sound h = calm _ _ _ _ refl h.count
 unit_lines s (RS kind n wishes octets) v said got g sound h =
     let b = and_parts _ _ g.met.1.0 in
     let from = leb-true s.base n b.0 in
     chosen (λ r w. Lines r w said (got ++ [])) (stands s n) _ s (cutat s.base v n) v
     (λ e. let to = stood_below s n b.1 e in calm _ _ _ _ refl (points_cut s.base n v from (omega arith)))
     (λ e. record { count = h.count; major = h.major; asked = h.asked; asker = h.asker; fresh = λ k. let f = h.fresh k in (f.0, f.1, f.2, f.3, append_nil got ∙ f.4) })
-unit_lines s (RA n sides octets) v said got g sound h = calm _ _ _ _ refl h.count
-unit_lines s (FN octets) v said got g sound h = calm _ _ _ _ refl h.count
-unit_lines s (DN octets) v said got g sound h = calm _ _ _ _ refl h.count
-unit_lines s (NF octets) v said got g sound h = calm _ _ _ _ refl h.count
-unit_lines s (AB bits octets) v said got g sound h = calm _ _ _ _ refl h.count
 unit_lines s AA v said got g sound h = absurd (let e = g.expected in cc)
+unit_lines s _ v said got g sound h = calm _ _ _ _ refl h.count
 
 -- a unit, whether it is acted on or not
 pub taken_lines : (x : Party) (u : Meaning) → IsSound x.session → Lines x.session x.view x.said x.got

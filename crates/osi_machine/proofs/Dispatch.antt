@@ -32,7 +32,6 @@ use Rattle.osi_machine.proofs.TakeAnswers.{restarted_taken, accept_taken, connec
 call_stands : SessionLaws → (w : Core) (c : Call) (g : Granted) → HasSerial c → stays_in_core c ≡ true → allowed w.own.session c ≡ Ok g → Stands w
     → Stands (answered w c (Ok g))
 call_stands laws w (Accept requirements serial sides sizes octets) g small k e s = accept_stands laws w requirements serial sides sizes octets g small e s
-call_stands laws w (Refuse octets) g small k e s = absurd (cc)
 call_stands laws w (Data octets) g small k e s = data_stands laws w octets g e s
 call_stands laws w (Give tokens) g small k e s = give_stands laws w tokens g e s
 call_stands laws w (Please tokens octets) g small k e s = please_stands laws w tokens octets g e s
@@ -43,9 +42,8 @@ call_stands laws w (MajorConfirm octets) g small k e s = major_confirm_stands la
 call_stands laws w (Restart n wishes octets) g small k e s = restart_stands laws w n wishes octets g e s
 call_stands laws w (RestartConfirm sides octets) g small k e s = restart_confirm_stands laws w sides octets g e s
 call_stands laws w (Release octets) g small k e s = release_stands laws w octets g e s
-call_stands laws w (ReleaseAccept octets) g small k e s = absurd (cc)
 call_stands laws w (ReleaseRefuse octets) g small k e s = refuse_stands laws w octets g e s
-call_stands laws w (Abort octets) g small k e s = absurd (cc)
+call_stands laws w _ g small k e s = absurd (cc)
 
 answer_stands : SessionLaws → (w : Core) (c : Call) (a : Answer) → HasSerial c → stays_in_core c ≡ true → allowed w.own.session c ≡ a → Stands w → Stands (answered w c a)
 answer_stands laws w c (Ok g) small k e s = call_stands laws w c g small k e s
@@ -98,11 +96,7 @@ taking_stands laws w (u ∷ us) e s = by (drops w.own.session u) refl
 
 twice : (o : Owner) → turned_owner (turned_owner o) ≡ o
 twice Own = refl
-twice Theirs = refl
-twice ToOwn = refl
-twice ToThem = refl
-twice Pool = refl
-twice Absent = refl
+twice _ = refl
 
 pub turned_twice : (o : Owners) → turned_owners (turned_owners o) ≡ o
 turned_twice o = λ i t. twice (o t) i
@@ -118,9 +112,8 @@ turned_pair w s = record {
   where
     swapped : (a b : Bool) → (a && b) ≡ false → (b && a) ≡ false
     swapped true true h = h
-    swapped true false h = refl
     swapped false true h = refl
-    swapped false false h = refl
+    swapped _ false h = refl
 
     other_way : (b : Bool) → b ≡ not (not b)
     other_way true = refl

@@ -76,19 +76,14 @@ both a b p q = rw (p, q) refl
 
 -- a good unit stays good
 fewer_good : (k : Tokens) (s : State) (u : Meaning) → Good s u → Good (less k s) u
-fewer_good k s (CN v u n w from to z o) g = record { expected = g.expected; met = g.met }
-fewer_good k s (AC v u n w z o) g = record { expected = g.expected; met = g.met }
-fewer_good k s (RF r o) g = record { expected = g.expected; met = g.met }
 fewer_good k s (DT o) g = record { expected = g.expected; met = (still_lacks k s data_token g.met.0, tt) }
 fewer_good k s (GT j) g =
     let a = and_parts (is_within j (available s.units)) (is_disjoint j s.held) g.met.0 in
     record { expected = g.expected; met = (both (is_within j (available s.units)) (is_disjoint j (without s.held k)) a.0 (still_disjoint k j s a.1), tt) }
-fewer_good k s (PT j o) g = record { expected = g.expected; met = g.met }
 fewer_good k s (MIP c n o) g = record {
   expected = g.expected;
   met = (g.met.0, (two_lack (lacks s data_token) (lacks s minor) _ _ (still_lacks k s data_token) (still_lacks k s minor) g.met.1.0, g.met.1.1));
 }
-fewer_good k s (MIA n o) g = record { expected = g.expected; met = g.met }
 fewer_good k s (MAP n o) g = record {
   expected = g.expected;
   met = (
@@ -100,14 +95,8 @@ fewer_good k s (MAP n o) g = record {
     ),
   );
 }
-fewer_good k s (MAA n o) g = record { expected = g.expected; met = g.met }
-fewer_good k s (RS j n w o) g = record { expected = g.expected; met = g.met }
-fewer_good k s (RA n w o) g = record { expected = g.expected; met = g.met }
 fewer_good k s (FN o) g = record { expected = g.expected; met = (still_empty k s g.met.0, tt) }
-fewer_good k s (DN o) g = record { expected = g.expected; met = g.met }
-fewer_good k s (NF o) g = record { expected = g.expected; met = g.met }
-fewer_good k s (AB b o) g = record { expected = g.expected; met = g.met }
-fewer_good k s AA g = record { expected = g.expected; met = g.met }
+fewer_good k s _ g = record { expected = g.expected; met = g.met }
 
 -- ---- what is under way to it
 
@@ -151,7 +140,6 @@ fewer_becomes : (k : Tokens) (s : State) (u : Meaning) → Fits s u → Good s u
 unfolding stands
 fewer_becomes k s (CN v u n w from to z o) f g st h = absurd (let e = excluded is_wait_cn may_ask refl s.phase g.expected in let p = h.phase in cc)
 fewer_becomes k s (AC v u n w z o) f g st h = absurd (let e = excluded is_connecting may_ask refl s.phase g.expected in let p = h.phase in cc)
-fewer_becomes k s (RF r o) f g st h = absurd (let p = f.plain in cc)
 fewer_becomes k s (DT o) f g st h = (refl, h)
 fewer_becomes k s (GT j) f g st h =
     let d = (and_parts (is_within j (available s.units)) (is_disjoint j s.held) g.met.0).1 in (
@@ -169,10 +157,8 @@ fewer_becomes k s (RS j n w o) f g st h = absurd (
     cc)
 fewer_becomes k s (RA n w o) f g st h = absurd (let e = excluded is_restarting may_ask refl s.phase g.expected in let p = h.phase in cc)
 fewer_becomes k s (FN o) f g st h = absurd (gives_something k s h g.met.0)
-fewer_becomes k s (DN o) f g st h = absurd (let p = f.plain in cc)
 fewer_becomes k s (NF o) f g st h = absurd (let e = excluded is_releasing may_ask refl s.phase g.expected in let p = h.phase in cc)
-fewer_becomes k s (AB b o) f g st h = absurd (let p = f.plain in cc)
-fewer_becomes k s AA f g st h = absurd (let p = f.plain in cc)
+fewer_becomes k s _ f g st h = absurd (let p = f.plain in cc)
 
 -- a restart that stands leaves the same
 stands_same : (k : Tokens) (s : State) (u : Meaning) → stops s u ≡ true → becomes (less k s) u ≡ becomes s u

@@ -53,11 +53,7 @@ still_absent b p e h = rw e h
 
 turned_absent : (p : Owner) → is_absent (turned_owner p) ≡ is_absent p
 turned_absent Own = refl
-turned_absent Theirs = refl
-turned_absent ToOwn = refl
-turned_absent ToThem = refl
-turned_absent Pool = refl
-turned_absent Absent = refl
+turned_absent _ = refl
 
 -- ---- what is given
 

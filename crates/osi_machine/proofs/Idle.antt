@@ -81,19 +81,11 @@ right_of s t h = by (has (available s.units) t) (has s.held t) refl refl h
 
 own_not_theirs : (o : Owner) → is_own o ≡ true → (is_own (turned_owner o) || is_to_own (turned_owner o)) ≡ false
 own_not_theirs Own h = refl
-own_not_theirs Theirs h = absurd (cc)
-own_not_theirs ToOwn h = absurd (cc)
-own_not_theirs ToThem h = absurd (cc)
-own_not_theirs Pool h = absurd (cc)
-own_not_theirs Absent h = absurd (cc)
+own_not_theirs _ h = absurd (cc)
 
 absent_not_theirs : (o : Owner) → is_absent o ≡ true → (is_own (turned_owner o) || is_to_own (turned_owner o)) ≡ false
-absent_not_theirs Own h = absurd (cc)
-absent_not_theirs Theirs h = absurd (cc)
-absent_not_theirs ToOwn h = absurd (cc)
-absent_not_theirs ToThem h = absurd (cc)
-absent_not_theirs Pool h = absurd (cc)
 absent_not_theirs Absent h = refl
+absent_not_theirs _ h = absurd (cc)
 
 pub end_units : (o : Owners) (x y : Party) → Half o x y → is_opening x.session.phase ≡ false → (flushed x y).units ≡ x.session.units
 end_units o x y h p = (flush_open x.session y.sent p h.fits).units

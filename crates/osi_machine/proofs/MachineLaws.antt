@@ -44,8 +44,7 @@ line_at b j k zero (v ∷ ws) (o ∷ os) w e h =
     inner x q = ap or_else q
 line_at b j k (suc r) (v ∷ ws) (o ∷ os) w e h =
     subst (λ (n : ℕ). Stage b w (told_of Left n w.offer j) (told_of Right n w.offer j)) (omega arith) (line_at b j (k + 1) r ws os w e h.1)
-line_at b j k zero (v ∷ ws) [] w e h = absurd h
-line_at b j k (suc r) (v ∷ ws) [] w e h = absurd h
+line_at b j k _ (v ∷ ws) [] w e h = absurd h
 
 pub good_run : SessionLaws → (m : Machine) (h : IsRun m) → IsGood h.agreed Whole m
 good_run laws m h = subst (IsGood h.agreed Whole) h.reached (all_good h.agreed Whole (whole_kept laws h.agreed) h.steps h.numbered)

@@ -90,21 +90,10 @@ becomes_sends : (s : State) (u : Meaning) → needs_token data_token u ≡ false
 unfolding point_taken minor_confirmed major_confirmed restarted_at
 becomes_sends s (CN v u n w from to z o) p h = chosen Sends (is_acceptable v u z) _ _ h h
 becomes_sends s (AC v u n w z o) p h = refl
-becomes_sends s (RF r o) p h = h
-becomes_sends s (DT o) p h = h
-becomes_sends s (GT k) p h = h
-becomes_sends s (PT k o) p h = h
 becomes_sends s (MIP c n o) p h = absurd (cc)
-becomes_sends s (MIA n o) p h = h
 becomes_sends s (MAP n o) p h = absurd (cc)
-becomes_sends s (MAA n o) p h = h
 becomes_sends s (RS k n w o) p h = chosen Sends (stands s n) _ s h h
-becomes_sends s (RA n w o) p h = h
-becomes_sends s (FN o) p h = h
-becomes_sends s (DN o) p h = h
-becomes_sends s (NF o) p h = h
-becomes_sends s (AB x o) p h = h
-becomes_sends s AA p h = h
+becomes_sends s _ p h = h
 
 or_false : (a b : Bool) → (a || b) ≡ false → (a ≡ false) × (b ≡ false)
 or_false true b h = absurd (cc)

@@ -120,8 +120,7 @@ call_offered m side r c (Some w) e h = by (is_given (seen_from side w).own.trans
 closes_offered : (known : Option Class) (m : Machine) (side : Side) (r : ℕ) (keep : ℕ → ℕ) (w : World) (t : Taking) → connection_at r m.worlds ≡ Some w → t.world.offer ≡ w.offer
     → Offered m → Offered (closes_by known m side r keep t)
 closes_offered (Some class_2) m side r keep w t e o h = stays_offered m side r w (closed m.broken (keep r) t.world) e o h
-closes_offered (Some class_0) m side r keep w t e o h = end_offered side closed_here keep (stays m side r t.world) (stays_offered m side r w t.world e o h)
-closes_offered None m side r keep w t e o h = end_offered side closed_here keep (stays m side r t.world) (stays_offered m side r w t.world e o h)
+closes_offered _ m side r keep w t e o h = end_offered side closed_here keep (stays m side r t.world) (stays_offered m side r w t.world e o h)
 
 taking_offered : (m : Machine) (side : Side) (r : ℕ) (keep : ℕ → ℕ) (w : World) (t : Taking) → connection_at r m.worlds ≡ Some w → t.world.offer ≡ w.offer
     → Offered m → Offered (after_taking m side r keep t)

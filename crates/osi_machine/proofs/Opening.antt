@@ -10,7 +10,6 @@ use Rattle.osi_machine.proofs.Deaf.{AllEmpty, dropped_empty}
 pub none_answering : (p : Phase) (u : Meaning) → is_answering p ≡ true → is_plain u ≡ true → is_expected p u ≡ false
 none_answering p (CN v u n w from to z o) h k = excluded is_answering is_wait_cn refl p h
 none_answering p (AC v u n w z o) h k = excluded is_answering is_connecting refl p h
-none_answering p (RF r o) h k = absurd (cc)
 none_answering p (DT o) h k = excluded is_answering takes_data refl p h
 none_answering p (GT t) h k = excluded is_answering may_ask refl p h
 none_answering p (PT t o) h k = excluded is_answering takes_please refl p h
@@ -21,10 +20,8 @@ none_answering p (MAA n o) h k = excluded is_answering is_major_asked refl p h
 none_answering p (RS j n w o) h k = excluded is_answering takes_restart refl p h
 none_answering p (RA n w o) h k = excluded is_answering is_restarting refl p h
 none_answering p (FN o) h k = excluded is_answering is_ready refl p h
-none_answering p (DN o) h k = absurd (cc)
 none_answering p (NF o) h k = excluded is_answering is_releasing refl p h
-none_answering p (AB b o) h k = absurd (cc)
-none_answering p AA h k = absurd (cc)
+none_answering p _ h k = absurd (cc)
 
 -- ---- a side that will still wait for the answer to its CN has taken nothing
 
@@ -37,22 +34,17 @@ chosen P false x y h k = k
 
 becomes_later : (s : State) (u : Meaning) → is_plain u ≡ true → Good s u → Later (becomes s u)
 becomes_later s (CN v u n w from to z o) p g = chosen Later (is_acceptable v u z) _ _ refl refl
-becomes_later s (AC v u n w z o) p g = refl
 becomes_later s (RF r o) p g = absurd (cc)
 becomes_later s (DT o) p g = excluded takes_data is_connecting refl s.phase g.expected
 becomes_later s (GT t) p g = excluded may_ask is_connecting refl s.phase g.expected
 becomes_later s (PT t o) p g = excluded takes_please is_connecting refl s.phase g.expected
 becomes_later s (MIP c n o) p g = excluded is_ready is_connecting refl s.phase g.expected
 becomes_later s (MIA n o) p g = excluded takes_minor_ack is_connecting refl s.phase g.expected
-becomes_later s (MAP n o) p g = refl
-becomes_later s (MAA n o) p g = refl
 becomes_later s (RS j n w o) p g = chosen Later (stands s n) _ _ refl (excluded takes_restart is_connecting refl s.phase g.expected)
-becomes_later s (RA n w o) p g = refl
-becomes_later s (FN o) p g = refl
 becomes_later s (DN o) p g = absurd (cc)
-becomes_later s (NF o) p g = refl
 becomes_later s (AB b o) p g = absurd (cc)
 becomes_later s AA p g = absurd (cc)
+becomes_later s _ p g = refl
 
 apart : (b : Bool) → b ≡ false → b ≡ true → ⊥
 apart true p q = cc

@@ -16,10 +16,9 @@ replaced_other zero (suc r) (w ∷ ws) v n = refl
 replaced_other (suc k) (suc r) (w ∷ ws) v n = replaced_other k r ws v (λ e. n (ap suc e))
 
 pub with_other : {C : Type 0} → (k r : ℕ) (ws : List C) (v : C) → (k ≡ r → ⊥) → connection_at k (with_connection r v ws) ≡ connection_at k ws
-with_other zero zero ws v n = refl
-with_other (suc k) zero ws v n = refl
 with_other zero (suc r) ws v n = refl
 with_other (suc k) (suc r) ws v n = replaced_other k r ws v (λ e. n (ap suc e))
+with_other _ zero ws v n = refl
 
 replaced_same : (r : ℕ) (ls : List Line) (l x : Line) → slice_get ls r ≡ Some l → slice_get (replaced r x ls) r ≡ Some x
 replaced_same r [] l x e = absurd (cc)

@@ -72,26 +72,18 @@ below_in p b n next e h = ap (λ (r : Bool). nat_le b n && (r || nat_le n (next 
 point_good : (p : Phase) → IsOpenPhase p → (s : State) (u : Meaning) → has s.held data_token ≡ true → is_plain u ≡ true → has_no_effect u ≡ false
     → Good (in_phase Ready s) u → Good (sent_in p s) u
 unfolding point_sent
-point_good p k s (CN w r n x from to z o) d pl e g = absurd (let a = g.expected in cc)
-point_good p k s (AC w r n x z o) d pl e g = absurd (let a = g.expected in cc)
-point_good p k s (RF r o) d pl e g = absurd (cc)
 point_good p k s (DT o) d pl e g = absurd (not_lacking (has s.held data_token) g.met.0 d)
 point_good p k s (GT j) d pl e g = record { expected = k.asks; met = g.met }
 point_good p k s (PT j o) d pl e g = record { expected = k.please; met = g.met }
 point_good p k s (MIP c n o) d pl e g = absurd (not_lacking (has s.held data_token) (and_parts (not (has s.held data_token)) (not (has s.held minor)) g.met.1.0).0 d)
 point_good p k s (MIA n o) d pl e g = record { expected = k.acks; met = (g.met.0, (still_acks p s.numbers n g.met.1.0, tt)) }
 point_good p k s (MAP n o) d pl e g = absurd (not_lacking (has s.held data_token) (and_parts (not (has s.held data_token)) (not (has s.held minor) && not (has s.held major)) g.met.1.0).0 d)
-point_good p k s (MAA n o) d pl e g = absurd (let a = g.expected in cc)
 point_good p k s (RS j n w o) d pl e g = record {
   expected = k.restart;
   met = (g.met.0, (below_in p s.base n s.numbers.next (excluded may_hold is_restarting refl p k.holds) g.met.1.0, tt));
 }
-point_good p k s (RA n w o) d pl e g = absurd (let a = g.expected in cc)
 point_good p k s (FN o) d pl e g = absurd (let a = empty_has s.held data_token g.met.0 in cc)
-point_good p k s (DN o) d pl e g = absurd (cc)
-point_good p k s (NF o) d pl e g = absurd (let a = g.expected in cc)
-point_good p k s (AB b o) d pl e g = absurd (cc)
-point_good p k s AA d pl e g = absurd (cc)
+point_good p k s _ d pl e g = absurd (let a = g.expected in cc)
 
 -- the flag is off where a confirmation comes
 same_numbers : (v : Numbers) (n : ℕ) → v.answers ≡ false → minor_confirmed n (point_sent v) ≡ point_sent (minor_confirmed n v)
@@ -105,9 +97,6 @@ same_numbers v n e = ap (λ (b : Bool). record { next = v.next + 1; confirmed = 
 
 point_step : (p : Phase) (s : State) (u : Meaning) → Speaks s → is_plain u ≡ true → Good (in_phase Ready s) u → stops s u ≡ false
     → (becomes (sent_in p s) u ≡ sent_in p (becomes s u)) × Speaks (becomes s u)
-point_step p s (CN w r n x from to z o) i pl g st = absurd (let a = g.expected in cc)
-point_step p s (AC w r n x z o) i pl g st = absurd (let a = g.expected in cc)
-point_step p s (RF r o) i pl g st = absurd (cc)
 point_step p s (DT o) i pl g st = (refl, i)
 point_step p s (GT j) i pl g st = (refl, record { phase = i.phase; held = united_has s.held j data_token ∙ or_left (has s.held data_token) (has j data_token) i.held })
 point_step p s (PT j o) i pl g st = (refl, i)
@@ -120,14 +109,9 @@ point_step p s (MIA n o) i pl g st =
     turn true h = absurd (cc)
     turn false h = refl
 point_step p s (MAP n o) i pl g st = absurd (not_lacking (has s.held data_token) (and_parts (not (has s.held data_token)) (not (has s.held minor) && not (has s.held major)) g.met.1.0).0 i.held)
-point_step p s (MAA n o) i pl g st = absurd (let a = g.expected in cc)
 point_step p s (RS j n w o) i pl g st = absurd (let t = listening_stands s n (ap is_restarting i.phase) in cc)
-point_step p s (RA n w o) i pl g st = absurd (let a = g.expected in cc)
 point_step p s (FN o) i pl g st = absurd (let a = empty_has s.held data_token g.met.0 in let b = i.held in cc)
-point_step p s (DN o) i pl g st = absurd (cc)
-point_step p s (NF o) i pl g st = absurd (let a = g.expected in cc)
-point_step p s (AB b o) i pl g st = absurd (cc)
-point_step p s AA i pl g st = absurd (cc)
+point_step p s _ i pl g st = absurd (let a = g.expected in cc)
 
 abbrev point_shift : (p : Phase) → IsOpenPhase p → Shift
 point_shift p k = record {

@@ -56,10 +56,9 @@ unfolding units_within
 within_half a b h = within_part a.half_duplex b.half_duplex (and_parts (not a.half_duplex || b.half_duplex) _ h).0
 
 part_both : (a b : Bool) → (not a || b) ≡ true → (b && a) ≡ a
-part_both true true h = refl
 part_both true false h = absurd (cc)
-part_both false true h = refl
 part_both false false h = refl
+part_both _ true h = refl
 
 -- what both name is what was selected
 pub within_both : (a b : FunctionalUnits) → units_within a b ≡ true → both_units b a ≡ a

@@ -101,11 +101,7 @@ left_theirs s o t = by (is_over s.phase)
 
 pub own_gone : (p : Owner) → is_own (own_to_pool p) ≡ false
 own_gone Own = refl
-own_gone Theirs = refl
-own_gone ToOwn = refl
-own_gone ToThem = refl
-own_gone Pool = refl
-own_gone Absent = refl
+own_gone _ = refl
 
 owns_called : (s : State) (c : Call) (o p : Owners) (t : Token) → is_own (o t) ≡ is_own (p t) → is_own (owners_called s c o t) ≡ is_own (owners_called s c p t)
 owns_called s (Give k) o p t e = by (has k t)

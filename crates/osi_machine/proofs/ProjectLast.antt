@@ -28,7 +28,6 @@ none_acts : (s : State) (u : Meaning) → is_release_due s.phase ≡ true → is
 unfolding stands
 none_acts s (CN v u n w from to z o) h k st = excluded is_release_due is_wait_cn refl s.phase h
 none_acts s (AC v u n w z o) h k st = excluded is_release_due is_connecting refl s.phase h
-none_acts s (RF r o) h k st = absurd (cc)
 none_acts s (DT o) h k st = excluded is_release_due takes_data refl s.phase h
 none_acts s (GT t) h k st = excluded is_release_due may_ask refl s.phase h
 none_acts s (PT t o) h k st = excluded is_release_due takes_please refl s.phase h
@@ -39,10 +38,8 @@ none_acts s (MAA n o) h k st = excluded is_release_due is_major_asked refl s.pha
 none_acts s (RS j n w o) h k st = absurd (let t = listener_stands s n (excluded is_release_due is_restarting refl s.phase h) in cc)
 none_acts s (RA n w o) h k st = excluded is_release_due is_restarting refl s.phase h
 none_acts s (FN o) h k st = excluded is_release_due is_ready refl s.phase h
-none_acts s (DN o) h k st = absurd (cc)
 none_acts s (NF o) h k st = excluded is_release_due is_releasing refl s.phase h
-none_acts s (AB b o) h k st = absurd (cc)
-none_acts s AA h k st = absurd (cc)
+none_acts s _ h k st = absurd (cc)
 
 still_owes : (s : State) (us : List Meaning) → is_release_due s.phase ≡ true → AllFit s us → is_release_due (heard s us).phase ≡ true
 still_owes s [] h f = h

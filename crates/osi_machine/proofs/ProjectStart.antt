@@ -115,19 +115,16 @@ is_early p = is_wait_transport p || is_wait_cn p
 no_call : (p : Phase) (x : Call) → is_early p ≡ true → may_call p x ≡ false
 no_call p (Accept u n a z o) h = excluded is_early is_answering refl p h
 no_call p (Refuse o) h = excluded is_early is_answering refl p h
-no_call p (Data o) h = excluded is_early is_ready refl p h
 no_call p (Give k) h = excluded is_early may_give refl p h
 no_call p (Please k o) h = excluded is_early may_ask refl p h
-no_call p (Minor c o) h = excluded is_early is_ready refl p h
 no_call p (MinorConfirm n o) h = excluded is_early may_confirm_minor refl p h
-no_call p (Major o) h = excluded is_early is_ready refl p h
 no_call p (MajorConfirm o) h = excluded is_early is_major_due refl p h
 no_call p (Restart n x o) h = excluded is_early may_restart refl p h
 no_call p (RestartConfirm a o) h = excluded is_early is_restart_due refl p h
-no_call p (Release o) h = excluded is_early is_ready refl p h
 no_call p (ReleaseAccept o) h = excluded is_early is_release_due refl p h
 no_call p (ReleaseRefuse o) h = excluded is_early is_release_due refl p h
 no_call p (Abort o) h = excluded is_early may_abort refl p h
+no_call p _ h = excluded is_early is_ready refl p h
 
 pub refused_early : (s : State) (x : Call) → is_early s.phase ≡ true → allowed s x ≡ Err error.BadState
 unfolding allowed
@@ -186,11 +183,7 @@ absent_left s o k e = by (is_over s.phase)
 
 pub absent_back : (p : Owner) → turned_owner p ≡ Absent → p ≡ Absent
 absent_back Absent e = refl
-absent_back Own e = absurd (cc)
-absent_back Theirs e = absurd (cc)
-absent_back ToOwn e = absurd (cc)
-absent_back ToThem e = absurd (cc)
-absent_back Pool e = absurd (cc)
+absent_back _ e = absurd (cc)
 
 -- what is left of what is under way
 abbrev cut_asks : ℕ → Way → Way

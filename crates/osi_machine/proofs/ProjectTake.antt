@@ -25,19 +25,11 @@ use Rattle.osi_machine.proofs.ProjectCall.{left_lives, left_theirs, none_last}
 
 pool_own : (p : Owner) → is_own (all_to_pool p) ≡ false
 pool_own Own = refl
-pool_own Theirs = refl
-pool_own ToOwn = refl
-pool_own ToThem = refl
-pool_own Pool = refl
-pool_own Absent = refl
+pool_own _ = refl
 
 pub pool_theirs : (p : Owner) → is_own (turned_owner (all_to_pool p)) ≡ false
 pool_theirs Own = refl
-pool_theirs Theirs = refl
-pool_theirs ToOwn = refl
-pool_theirs ToThem = refl
-pool_theirs Pool = refl
-pool_theirs Absent = refl
+pool_theirs _ = refl
 
 -- a restart that stands leaves of the history what it leaves of what was seen
 abbrev CutsAlike : State → Meaning → List Item → List Item → Type 0

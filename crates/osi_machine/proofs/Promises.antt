@@ -34,11 +34,7 @@ reached_stands laws w r = subst Stands r.reached (run_stands laws (core_start r.
 
 pub one_owner : (o : Owner) → (is_own o && is_own (turned_owner o)) ≡ false
 one_owner Own = refl
-one_owner Theirs = refl
-one_owner ToOwn = refl
-one_owner ToThem = refl
-one_owner Pool = refl
-one_owner Absent = refl
+one_owner _ = refl
 
 pub one_holder : (w : Core) → Stands w → OneHolder w
 one_holder w s t =

@@ -76,9 +76,6 @@ none_to_come s k right within apart = is_empty_of k (λ t. by t (has k t) refl)
 release_good : (s : State) (u : Meaning) → ((t : Token) → HasRight s t) → is_finish u ≡ false → is_plain u ≡ true → has_no_effect u ≡ false
     → Good (in_phase Ready s) u → Good (in_phase Releasing s) u
 unfolding available
-release_good s (CN w r n x from to z o) right f p e g = absurd (let a = g.expected in cc)
-release_good s (AC w r n x z o) right f p e g = absurd (let a = g.expected in cc)
-release_good s (RF r o) right f p e g = absurd (cc)
 release_good s (DT o) right f p e g = record { expected = refl; met = g.met }
 release_good s (GT k) right f p e g = absurd (
     let a = and_parts (is_within k (available s.units)) (is_disjoint k s.held) g.met.0 in
@@ -93,21 +90,12 @@ release_good s (MAP n o) right f p e g = absurd (
     let l = and_parts (not (has s.held data_token)) (not (has s.held minor) && not (has s.held major)) g.met.1.0 in
     let m = and_parts (not (has s.held minor)) (not (has s.held major)) l.1 in
     not_lacking (has s.held major) m.1 (has_it s major (right major) g.met.0))
-release_good s (MAA n o) right f p e g = absurd (let a = g.expected in cc)
 release_good s (RS j n w o) right f p e g = record { expected = refl; met = g.met }
-release_good s (RA n w o) right f p e g = absurd (let a = g.expected in cc)
-release_good s (FN o) right f p e g = absurd (cc)
-release_good s (DN o) right f p e g = absurd (cc)
-release_good s (NF o) right f p e g = absurd (let a = g.expected in cc)
-release_good s (AB b o) right f p e g = absurd (cc)
-release_good s AA right f p e g = absurd (cc)
+release_good s _ right f p e g = absurd (let a = g.expected in cc)
 
 release_step : (s : State) (u : Meaning) → Releases s → is_finish u ≡ false → is_plain u ≡ true → has_no_effect u ≡ false → Good (in_phase Ready s) u → stops s u ≡ false
     → (becomes (in_phase Releasing s) u ≡ in_phase Releasing (becomes s u)) × Releases (becomes s u)
 unfolding available
-release_step s (CN w r n x from to z o) i f p e g st = absurd (let a = g.expected in cc)
-release_step s (AC w r n x z o) i f p e g st = absurd (let a = g.expected in cc)
-release_step s (RF r o) i f p e g st = absurd (cc)
 release_step s (DT o) i f p e g st = (refl, i)
 release_step s (GT k) i f p e g st = absurd (
     let a = and_parts (is_within k (available s.units)) (is_disjoint k s.held) g.met.0 in
@@ -122,14 +110,8 @@ release_step s (MAP n o) i f p e g st = absurd (
     let l = and_parts (not (has s.held data_token)) (not (has s.held minor) && not (has s.held major)) g.met.1.0 in
     let m = and_parts (not (has s.held minor)) (not (has s.held major)) l.1 in
     not_lacking (has s.held major) m.1 (has_it s major (i.right major) g.met.0))
-release_step s (MAA n o) i f p e g st = absurd (let a = g.expected in cc)
 release_step s (RS j n w o) i f p e g st = absurd (let t = listening_stands s n (ap is_restarting i.phase) in cc)
-release_step s (RA n w o) i f p e g st = absurd (let a = g.expected in cc)
-release_step s (FN o) i f p e g st = absurd (cc)
-release_step s (DN o) i f p e g st = absurd (cc)
-release_step s (NF o) i f p e g st = absurd (let a = g.expected in cc)
-release_step s (AB b o) i f p e g st = absurd (cc)
-release_step s AA i f p e g st = absurd (cc)
+release_step s _ i f p e g st = absurd (let a = g.expected in cc)
 
 abbrev release_shift : Shift
 release_shift = record {
@@ -150,9 +132,7 @@ record ReleaseOwed (s : State) : Type 0 where
   none : s.units.resynchronize ≡ false
 
 owed_becomes : (s : State) (u : Meaning) → is_plain u ≡ true → Good s u → ReleaseOwed s → ReleaseOwed (becomes s u)
-owed_becomes s (CN w r n x from to z o) p g h = absurd (let a = excluded is_release_due is_wait_cn refl s.phase h.phase in let b = g.expected in cc)
 owed_becomes s (AC w r n x z o) p g h = absurd (let a = excluded is_release_due is_connecting refl s.phase h.phase in let b = g.expected in cc)
-owed_becomes s (RF r o) p g h = absurd (cc)
 owed_becomes s (DT o) p g h = h
 owed_becomes s (GT k) p g h = record { phase = h.phase; none = h.none }
 owed_becomes s (PT k o) p g h = h
@@ -163,10 +143,8 @@ owed_becomes s (MAA n o) p g h = absurd (let a = excluded is_release_due is_majo
 owed_becomes s (RS j n w o) p g h = absurd (let a = and_parts s.units.resynchronize _ g.met.0 in let b = h.none in let c = a.0 in cc)
 owed_becomes s (RA n w o) p g h = absurd (let a = excluded is_release_due is_restarting refl s.phase h.phase in let b = g.expected in cc)
 owed_becomes s (FN o) p g h = record { phase = refl; none = h.none }
-owed_becomes s (DN o) p g h = absurd (cc)
 owed_becomes s (NF o) p g h = absurd (let a = excluded is_release_due is_releasing refl s.phase h.phase in let b = g.expected in cc)
-owed_becomes s (AB b o) p g h = absurd (cc)
-owed_becomes s AA p g h = absurd (cc)
+owed_becomes s _ p g h = absurd (let a = excluded is_release_due is_wait_cn refl s.phase h.phase in let b = g.expected in cc)
 
 owed_flush : (s : State) (us : List Meaning) → ReleaseOwed s → AllFit s us → ReleaseOwed (flush s us)
 owed_flush = kept_all ReleaseOwed (λ s u h f. fit_cases ReleaseOwed s u f h (λ d g. owed_becomes s u f.plain g h))
@@ -202,22 +180,14 @@ Unreleased s = is_releasing s.phase ≡ false
 
 becomes_unreleased : (s : State) (u : Meaning) → is_releasing s.phase ≡ false → is_releasing (becomes s u).phase ≡ false
 becomes_unreleased s (CN w r n x from to z o) h = chosen Unreleased (is_acceptable w r z) _ _ refl refl
-becomes_unreleased s (AC w r n x z o) h = refl
-becomes_unreleased s (RF r o) h = refl
 becomes_unreleased s (DT o) h = h
 becomes_unreleased s (GT k) h = h
 becomes_unreleased s (PT k o) h = h
 becomes_unreleased s (MIP c n o) h = h
 becomes_unreleased s (MIA n o) h = h
-becomes_unreleased s (MAP n o) h = refl
-becomes_unreleased s (MAA n o) h = refl
 becomes_unreleased s (RS j n w o) h = chosen Unreleased (stands s n) _ s refl h
-becomes_unreleased s (RA n w o) h = refl
-becomes_unreleased s (FN o) h = refl
-becomes_unreleased s (DN o) h = refl
-becomes_unreleased s (NF o) h = refl
-becomes_unreleased s (AB b o) h = refl
 becomes_unreleased s AA h = h
+becomes_unreleased s _ h = refl
 
 unreleased : (s : State) (us : List Meaning) → is_releasing s.phase ≡ false → AllFit s us → is_releasing (flush s us).phase ≡ false
 unreleased = kept_all (λ s. is_releasing s.phase ≡ false) (λ s u h f. next_cases (λ q. is_releasing q.phase ≡ false) s u (λ d. h) (λ d. becomes_unreleased s u h))

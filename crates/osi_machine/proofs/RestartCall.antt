@@ -56,43 +56,25 @@ was_units w n q s = (flush_open w.own.session w.peer.sent (begun w n q) s.own.fi
 
 given_own : (p : Owner) → false ≡ is_own (own_to_pool p)
 given_own Own = refl
-given_own Theirs = refl
-given_own ToOwn = refl
-given_own ToThem = refl
-given_own Pool = refl
-given_own Absent = refl
+given_own _ = refl
 
 given_absent : (p : Owner) → is_absent p ≡ true → is_absent (own_to_pool p) ≡ true
 given_absent Absent h = refl
 given_absent Own h = absurd (cc)
-given_absent Theirs h = h
-given_absent ToOwn h = h
-given_absent ToThem h = h
-given_absent Pool h = h
+given_absent _ h = h
 
 pub given_theirs : (p : Owner) → is_own (turned_owner p) ≡ is_own (turned_owner (own_to_pool p))
 given_theirs Own = refl
-given_theirs Theirs = refl
-given_theirs ToOwn = refl
-given_theirs ToThem = refl
-given_theirs Pool = refl
-given_theirs Absent = refl
+given_theirs _ = refl
 
 given_wanted : (p : Owner) → (is_own (turned_owner p) || is_to_own (turned_owner p)) ≡ (is_own (turned_owner (own_to_pool p)) || is_to_own (turned_owner (own_to_pool p)))
 given_wanted Own = refl
-given_wanted Theirs = refl
-given_wanted ToOwn = refl
-given_wanted ToThem = refl
-given_wanted Pool = refl
-given_wanted Absent = refl
+given_wanted _ = refl
 
 given_turned_absent : (p : Owner) → is_absent (turned_owner p) ≡ true → is_absent (turned_owner (own_to_pool p)) ≡ true
 given_turned_absent Absent h = refl
 given_turned_absent Own h = absurd (cc)
-given_turned_absent Theirs h = h
-given_turned_absent ToOwn h = h
-given_turned_absent ToThem h = h
-given_turned_absent Pool h = h
+given_turned_absent _ h = h
 
 -- ---- the two halves
 

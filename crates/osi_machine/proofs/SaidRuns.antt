@@ -200,8 +200,7 @@ turn_same laws t side r keep turn l x y e ends_so h = by turn.closes refl
     last (Some class_2) o = same_holds side t.broken x y (Some (seen_from side (closed t.broken (keep r) turn.line))) _
         (with_same r t.lines l (seen_from side (closed t.broken (keep r) turn.line)) e)
         (told_as side t.broken (closed t.broken (keep r) turn.line) x y (close_told t.broken (keep r) turn.line x y o h))
-    last (Some class_0) o = end_knows laws side closed_here keep (stays (noted (map (shown_at side r) turn.shown) t) side r turn.line) r x y stayed
-    last None o = end_knows laws side closed_here keep (stays (noted (map (shown_at side r) turn.shown) t) side r turn.line) r x y stayed
+    last _ o = end_knows laws side closed_here keep (stays (noted (map (shown_at side r) turn.shown) t) side r turn.line) r x y stayed
 
     by : (b : Bool) → turn.closes ≡ b
         → HoldsAt side (if b then closes_by t.known (noted (map (shown_at side r) turn.shown) t) side r keep turn.line else noted (map (shown_at side r) turn.shown) (stays t side r turn.line)).broken x y
@@ -238,8 +237,7 @@ turn_other laws t side q r keep turn x y n h = by turn.closes
         → HoldsAt side (closes_by known (noted (map (shown_at side q) turn.shown) t) side q keep turn.line).broken x y
         (connection_at r (closes_by known (noted (map (shown_at side q) turn.shown) t) side q keep turn.line).lines)
     last (Some class_2) = stayed (seen_from side (closed t.broken (keep q) turn.line))
-    last (Some class_0) = end_knows laws side closed_here keep (stays (noted (map (shown_at side q) turn.shown) t) side q turn.line) r x y (stayed (seen_from side turn.line))
-    last None = end_knows laws side closed_here keep (stays (noted (map (shown_at side q) turn.shown) t) side q turn.line) r x y (stayed (seen_from side turn.line))
+    last _ = end_knows laws side closed_here keep (stays (noted (map (shown_at side q) turn.shown) t) side q turn.line) r x y (stayed (seen_from side turn.line))
 
     by : (b : Bool)
         → HoldsAt side (if b then closes_by t.known (noted (map (shown_at side q) turn.shown) t) side q keep turn.line else noted (map (shown_at side q) turn.shown) (stays t side q turn.line)).broken x y

@@ -216,9 +216,7 @@ closes_follows m ls side r keep k first second (Some class_2) h s = record {
   all = with_tabled ls m.worlds r _ _ (side_tabled side _ _ (close_tabled m.broken (keep r) k.world first second s)) h;
   same = refl;
 }
-closes_follows m ls side r keep k first second (Some class_0) h s =
-    end_follows side closed_here keep (tables.stays (tables_of m ls) side r (line_of k.world first second)) (stays m side r k.world) (still m ls side r k first second h s)
-closes_follows m ls side r keep k first second None h s =
+closes_follows m ls side r keep k first second _ h s =
     end_follows side closed_here keep (tables.stays (tables_of m ls) side r (line_of k.world first second)) (stays m side r k.world) (still m ls side r k first second h s)
 
 turn_follows : (m : Machine) (ls : List Line) (side : Side) (r : ℕ) (keep : ℕ → ℕ) (x : Turn) (k : Taking) → AllTabled ls m.worlds → TurnTabled x k

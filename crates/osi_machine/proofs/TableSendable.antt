@@ -329,8 +329,7 @@ end_sound laws side e keep t h = marked_sound side e
 
 closes_sound : SendLaws → (known : Option Class) (t : Tables) (side : Side) (r : ℕ) (keep : ℕ → ℕ) (l : Line) → IsSoundLine l → Sound t → Sound (closes_by known t side r keep l)
 closes_sound laws (Some class_2) t side r keep l k h = with_lines r _ t.lines (side_line side _ (closed_line t.broken (keep r) l k)) h
-closes_sound laws (Some class_0) t side r keep l k h = end_sound laws side closed_here keep (stays t side r l) (with_lines r _ t.lines (side_line side l k) h)
-closes_sound laws None t side r keep l k h = end_sound laws side closed_here keep (stays t side r l) (with_lines r _ t.lines (side_line side l k) h)
+closes_sound laws _ t side r keep l k h = end_sound laws side closed_here keep (stays t side r l) (with_lines r _ t.lines (side_line side l k) h)
 
 turn_sound : SendLaws → (t : Tables) (side : Side) (r : ℕ) (keep : ℕ → ℕ) (x : Turn) → IsSoundLine x.line → Sound t → Sound (after_turn t side r keep x)
 turn_sound laws t side r keep x k h =

@@ -144,35 +144,21 @@ cut_seen w k n t o us s st = same_cut w k n t o us (record { all = s; wins = st 
 
 pool_own : (p : Owner) → false ≡ is_own (all_to_pool p)
 pool_own Own = refl
-pool_own Theirs = refl
-pool_own ToOwn = refl
-pool_own ToThem = refl
-pool_own Pool = refl
-pool_own Absent = refl
+pool_own _ = refl
 
 pool_theirs : (p : Owner) → false ≡ is_own (turned_owner (all_to_pool p))
 pool_theirs Own = refl
-pool_theirs Theirs = refl
-pool_theirs ToOwn = refl
-pool_theirs ToThem = refl
-pool_theirs Pool = refl
-pool_theirs Absent = refl
+pool_theirs _ = refl
 
 pool_absent : (p : Owner) → is_absent p ≡ true → is_absent (all_to_pool p) ≡ true
 pool_absent Absent h = refl
-pool_absent Own h = absurd (cc)
-pool_absent Theirs h = absurd (cc)
-pool_absent ToOwn h = absurd (cc)
-pool_absent ToThem h = absurd (cc)
 pool_absent Pool h = h
+pool_absent _ h = absurd (cc)
 
 pool_turned_absent : (p : Owner) → is_absent (turned_owner p) ≡ true → is_absent (turned_owner (all_to_pool p)) ≡ true
 pool_turned_absent Absent h = refl
-pool_turned_absent Own h = absurd (cc)
-pool_turned_absent Theirs h = absurd (cc)
-pool_turned_absent ToOwn h = absurd (cc)
-pool_turned_absent ToThem h = absurd (cc)
 pool_turned_absent Pool h = h
+pool_turned_absent _ h = absurd (cc)
 
 -- ---- the two halves
 

@@ -44,11 +44,7 @@ pub record Gains (w : Core) (u : Meaning) (us : List Meaning) (r : State) (k : T
 
 to_own_is : (p : Owner) → is_to_own p ≡ true → p ≡ ToOwn
 to_own_is ToOwn h = refl
-to_own_is Own h = absurd (cc)
-to_own_is Theirs h = absurd (cc)
-to_own_is ToThem h = absurd (cc)
-to_own_is Pool h = absurd (cc)
-to_own_is Absent h = absurd (cc)
+to_own_is _ h = absurd (cc)
 
 rest : (w : Core) (u : Meaning) (us : List Meaning) (r : State) (k : Tokens) → Stands (at w (u ∷ us)) → Gains w u us r k → AllFit r us
 rest w u us r k h g = subst (λ (q : State). AllFit q us) g.next f.1

@@ -96,27 +96,15 @@ is_no_release_is s release h l m j = refl
 
 -- a good unit does not need a token that its taker holds
 pub held_needs : (s : State) (t : Token) (u : Meaning) → has s.held t ≡ true → Good s u → needs_token t u ≡ false
-held_needs s t (CN v u n w from to z o) h g = refl
-held_needs s t (AC v u n w z o) h g = refl
-held_needs s t (RF r o) h g = refl
 held_needs s t (DT o) h g = is_data_is s t h g.met.0
-held_needs s t (GT k) h g = refl
-held_needs s t (PT k o) h g = refl
 held_needs s t (MIP c n o) h g =
     let a = and_parts (lacks s data_token) (lacks s minor) g.met.1.0 in is_data_or_minor_is s t h a.0 a.1
-held_needs s t (MIA n o) h g = refl
 held_needs s t (MAP n o) h g =
     let a = and_parts (lacks s data_token) (lacks s minor && lacks s major) g.met.1.0 in
     let b = and_parts (lacks s minor) (lacks s major) a.1 in
     is_no_release_is s t h a.0 b.0 b.1
-held_needs s t (MAA n o) h g = refl
-held_needs s t (RS k n w o) h g = refl
-held_needs s t (RA n w o) h g = refl
 held_needs s t (FN o) h g = absurd (let e = empty_has s.held t g.met.0 in cc)
-held_needs s t (DN o) h g = refl
-held_needs s t (NF o) h g = refl
-held_needs s t (AB b o) h g = refl
-held_needs s t AA h g = refl
+held_needs s t _ h g = refl
 
 -- a side that holds a token, in a phase in which one may be held
 pub record Holds (t : Token) (s : State) : Type 0 where
@@ -152,23 +140,11 @@ next_holds t s u f st h = fit_cases (Holds t) s u f h (λ d g. becomes_holds t s
 
 -- what is acted on there shows nothing, where the data token is held
 seen_nothing : (s : State) (u : Meaning) (v : List Item) → needs_token data_token u ≡ false → stops s u ≡ false → seen s u v ≡ v
-seen_nothing s (CN w u n x from to z o) v h st = refl
-seen_nothing s (AC w u n x z o) v h st = refl
-seen_nothing s (RF r o) v h st = refl
 seen_nothing s (DT o) v h st = absurd (cc)
-seen_nothing s (GT k) v h st = refl
-seen_nothing s (PT k o) v h st = refl
 seen_nothing s (MIP c n o) v h st = absurd (cc)
-seen_nothing s (MIA n o) v h st = refl
 seen_nothing s (MAP n o) v h st = absurd (cc)
-seen_nothing s (MAA n o) v h st = refl
 seen_nothing s (RS k n w o) v h st = rw st refl
-seen_nothing s (RA n w o) v h st = refl
-seen_nothing s (FN o) v h st = refl
-seen_nothing s (DN o) v h st = refl
-seen_nothing s (NF o) v h st = refl
-seen_nothing s (AB b o) v h st = refl
-seen_nothing s AA v h st = refl
+seen_nothing s _ v h st = refl
 
 same_view : (s : State) (u : Meaning) (v : List Item) → Fits s u → stops s u ≡ false → has s.held data_token ≡ true → view_next s u v ≡ v
 same_view s u v f st h = by (drops s u) refl

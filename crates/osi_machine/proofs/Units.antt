@@ -32,23 +32,8 @@ and_false false = refl
 
 -- a restart is never discarded unread
 pub restart_acted : (s : State) (u : Meaning) → stops s u ≡ true → drops s u ≡ false
-restart_acted s (CN v u n w from to z o) h = absurd (cc)
-restart_acted s (AC v u n w z o) h = absurd (cc)
-restart_acted s (RF r o) h = absurd (cc)
-restart_acted s (DT o) h = absurd (cc)
-restart_acted s (GT t) h = absurd (cc)
-restart_acted s (PT t o) h = absurd (cc)
-restart_acted s (MIP c n o) h = absurd (cc)
-restart_acted s (MIA n o) h = absurd (cc)
-restart_acted s (MAP n o) h = absurd (cc)
-restart_acted s (MAA n o) h = absurd (cc)
 restart_acted s (RS k n w o) h = and_false (is_restarting s.phase)
-restart_acted s (RA n w o) h = absurd (cc)
-restart_acted s (FN o) h = absurd (cc)
-restart_acted s (DN o) h = absurd (cc)
-restart_acted s (NF o) h = absurd (cc)
-restart_acted s (AB b o) h = absurd (cc)
-restart_acted s AA h = absurd (cc)
+restart_acted s _ h = absurd (cc)
 
 -- after a restart that stands an answer is due
 pub restart_due : (s : State) (u : Meaning) → stops s u ≡ true → is_restart_due (next s u).phase ≡ true
@@ -78,7 +63,6 @@ restart_due s u h = subst (λ (r : State). is_restart_due r.phase ≡ true) (sym
 pub none_due : (p : Phase) (u : Meaning) → is_restart_due p ≡ true → is_plain u ≡ true → is_expected p u ≡ false
 none_due p (CN v u n w from to z o) h k = excluded is_restart_due is_wait_cn refl p h
 none_due p (AC v u n w z o) h k = excluded is_restart_due is_connecting refl p h
-none_due p (RF r o) h k = absurd (cc)
 none_due p (DT o) h k = excluded is_restart_due takes_data refl p h
 none_due p (GT t) h k = excluded is_restart_due may_ask refl p h
 none_due p (PT t o) h k = excluded is_restart_due takes_please refl p h
@@ -89,10 +73,8 @@ none_due p (MAA n o) h k = excluded is_restart_due is_major_asked refl p h
 none_due p (RS k n w o) h l = excluded is_restart_due takes_restart refl p h
 none_due p (RA n w o) h k = excluded is_restart_due is_restarting refl p h
 none_due p (FN o) h k = excluded is_restart_due is_ready refl p h
-none_due p (DN o) h k = absurd (cc)
 none_due p (NF o) h k = excluded is_restart_due is_releasing refl p h
-none_due p (AB b o) h k = absurd (cc)
-none_due p AA h k = absurd (cc)
+none_due p _ h k = absurd (cc)
 
 pub due_next : (s : State) (u : Meaning) → is_restart_due s.phase ≡ true → Fits s u → next s u ≡ s
 due_next s u h f = fit_cases (λ r. r ≡ s) s u f refl (λ d g. absurd (let n = none_due s.phase u h f.plain in let e = g.expected in cc))
@@ -125,22 +107,14 @@ Hears s = hears s.phase ≡ true
 
 pub becomes_hears : (s : State) (u : Meaning) → hears s.phase ≡ true → hears (becomes s u).phase ≡ true
 becomes_hears s (CN v u n w from to z o) h = chosen Hears (is_acceptable v u z) _ _ refl refl
-becomes_hears s (AC v u n w z o) h = refl
-becomes_hears s (RF r o) h = refl
 becomes_hears s (DT o) h = h
 becomes_hears s (GT t) h = h
 becomes_hears s (PT t o) h = h
 becomes_hears s (MIP c n o) h = h
 becomes_hears s (MIA n o) h = h
-becomes_hears s (MAP n o) h = refl
-becomes_hears s (MAA n o) h = refl
 becomes_hears s (RS k n w o) h = chosen Hears (stands s n) _ _ refl h
-becomes_hears s (RA n w o) h = refl
-becomes_hears s (FN o) h = refl
-becomes_hears s (DN o) h = refl
-becomes_hears s (NF o) h = refl
-becomes_hears s (AB b o) h = refl
 becomes_hears s AA h = h
+becomes_hears s _ h = refl
 
 pub next_hears : (s : State) (u : Meaning) → hears s.phase ≡ true → hears (next s u).phase ≡ true
 next_hears s u h = next_cases Hears s u (λ d. h) (λ d. becomes_hears s u h)

@@ -128,7 +128,6 @@ unfolding calm
 call_tells t s (Accept requirements serial sides sizes octets) v said got k p n f h =
     let o = implied is_answering is_opening refl s.phase p in
     calm_tells _ _ _ _ _ refl refl (λ d. h.fresh o ∙ sym (append_nil v ∙ (f o).0)) (not_asking t s v said got h (excluded is_answering is_restarting refl s.phase p)) (λ o. refl) h.fine (λ d. (h.silent o).0 ∙ sym (append_nil said ∙ (f o).1)) (λ d. (h.silent o).1 ∙ sym (f o).2) (same_points t s v said got h)
-call_tells t s (Refuse octets) v said got k p n f h = absurd (cc)
 call_tells t s (Data octets) v said got k p n f h =
     calm_tells _ _ _ _ _ (implied is_ready calm refl s.phase p) h.base
     (λ d. data_added s.units.duplex t.view v octets (h.view d) d) (not_asking t s v said got h (excluded is_ready is_restarting refl s.phase p)) (λ o. h.duplex (implied is_ready is_open refl s.phase p)) h.fine (λ d. octets_said s.units.duplex t.requested said octets (h.said d) d) h.got
@@ -165,10 +164,9 @@ call_tells t s (RestartConfirm sides octets) v said got k p n f h =
     calm_tells _ _ _ _ _ refl h.base (none_more t v s.units.duplex h.view) (not_asking t s v said got h (excluded is_restart_due is_restarting refl s.phase p)) (λ o. h.duplex (implied is_restart_due is_open refl s.phase p)) h.fine (λ d. h.said d ∙ sym (append_nil said)) h.got (same_points t s v said got h)
 call_tells t s (Release octets) v said got k p n f h =
     calm_tells _ _ _ _ _ refl h.base (none_more t v s.units.duplex h.view) (not_asking t s v said got h (excluded is_ready is_restarting refl s.phase p)) (λ o. h.duplex (implied is_ready is_open refl s.phase p)) h.fine (λ d. h.said d ∙ sym (append_nil said)) h.got (same_points t s v said got h)
-call_tells t s (ReleaseAccept octets) v said got k p n f h = absurd (cc)
 call_tells t s (ReleaseRefuse octets) v said got k p n f h =
     calm_tells _ _ _ _ _ refl h.base (none_more t v s.units.duplex h.view) (not_asking t s v said got h (excluded is_release_due is_restarting refl s.phase p)) (λ o. h.duplex (implied is_release_due is_open refl s.phase p)) h.fine (λ d. h.said d ∙ sym (append_nil said)) h.got (same_points t s v said got h)
-call_tells t s (Abort octets) v said got k p n f h = absurd (cc)
+call_tells t s _ v said got k p n f h = absurd (cc)
 
 -- ---- a unit that is acted on
 
@@ -215,7 +213,6 @@ unit_tells t s (AC w r n x z o) v said got p g f h =
     let k = h.asked g.expected in
     calm_tells _ _ _ _ _ refl (ap (λ (a : FunctionalUnits). agreed_base (both_units a (functional_units r)) n t.proposed) k.0 ∙ ap (agreed_base (both_units s.units (functional_units r)) n) k.1)
     (λ d. h.fresh open_now ∙ sym (f open_now).0) (not_asking t s v said got h (excluded is_connecting is_restarting refl s.phase g.expected)) (λ o. ap (λ (a : FunctionalUnits). (both_units a (functional_units r)).duplex) k.0) h.fine (λ d. (h.silent open_now).0 ∙ sym (f open_now).1) (λ d. (h.silent open_now).1 ∙ sym (append_nil got ∙ (f open_now).2)) h.pointed
-unit_tells t s (RF r o) v said got p g f h = absurd (cc)
 unit_tells t s (DT o) v said got p g f h =
     calm_tells _ _ _ _ _ (implied takes_data calm refl s.phase g.expected) h.base
     (λ d. data_taken s.units.duplex t.view v o (h.view d) d) (not_asking t s v said got h (excluded takes_data is_restarting refl s.phase g.expected)) (λ o. h.duplex (implied takes_data is_open refl s.phase g.expected)) h.fine h.said (λ d. octets_said s.units.duplex t.indicated got o (h.got d) d)
@@ -240,8 +237,6 @@ unit_tells t s (RS j n w o) v said got p g f h =
 unit_tells t s (RA n w o) v said got p g f h = calm_tells _ _ _ _ _ refl h.base h.view refl (λ o. h.duplex (implied is_restarting is_open refl s.phase g.expected)) h.fine h.said (λ d. h.got d ∙ sym (append_nil got)) h.pointed
 unit_tells t s (FN o) v said got p g f h =
     calm_tells _ _ _ _ _ refl h.base h.view (not_asking t s v said got h (excluded is_ready is_restarting refl s.phase g.expected)) (λ o. h.duplex (implied is_ready is_open refl s.phase g.expected)) h.fine h.said (λ d. h.got d ∙ sym (append_nil got)) h.pointed
-unit_tells t s (DN o) v said got p g f h = absurd (cc)
 unit_tells t s (NF o) v said got p g f h =
     calm_tells _ _ _ _ _ refl h.base h.view (not_asking t s v said got h (excluded is_releasing is_restarting refl s.phase g.expected)) (λ o. h.duplex (implied is_releasing is_open refl s.phase g.expected)) h.fine h.said (λ d. h.got d ∙ sym (append_nil got)) h.pointed
-unit_tells t s (AB b o) v said got p g f h = absurd (cc)
-unit_tells t s AA v said got p g f h = absurd (cc)
+unit_tells t s _ v said got p g f h = absurd (cc)

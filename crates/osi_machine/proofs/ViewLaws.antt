@@ -58,7 +58,6 @@ becomes_counted s (CN w r n x from to z o) v p g st h =
     chosen (λ q. Counted q v) (is_acceptable w r z) _ _ (record { count = h.count; fresh = λ k. e }) (record { count = h.count; fresh = λ k. e })
 becomes_counted s (AC w r n x z o) v p g st h =
     record { count = none_counted _ v (h.fresh (implied is_connecting is_opening refl s.phase g.expected)); fresh = λ k. absurd (cc) }
-becomes_counted s (RF r o) v p g st h = absurd (cc)
 becomes_counted s (DT o) v p g st h = record { count = one_octets _ _ s.units.duplex o v h.count; fresh = λ k. absurd (let e = excluded takes_data is_opening refl s.phase g.expected in cc) }
 becomes_counted s (GT k) v p g st h = record { count = h.count; fresh = h.fresh }
 becomes_counted s (PT k o) v p g st h = h
@@ -72,10 +71,8 @@ becomes_counted s (MAA n o) v p g st h = record { count = h.count; fresh = λ k.
 becomes_counted s (RS j n w o) v p g st h = rw st h
 becomes_counted s (RA n w o) v p g st h = record { count = h.count; fresh = λ k. absurd (cc) }
 becomes_counted s (FN o) v p g st h = record { count = h.count; fresh = λ k. absurd (cc) }
-becomes_counted s (DN o) v p g st h = absurd (cc)
 becomes_counted s (NF o) v p g st h = record { count = h.count; fresh = λ k. absurd (cc) }
-becomes_counted s (AB b o) v p g st h = absurd (cc)
-becomes_counted s AA v p g st h = absurd (cc)
+becomes_counted s _ v p g st h = absurd (cc)
 
 pub heard_counted : (s : State) (us : List Meaning) (v : List Item) → Counted s v → AllFit s us → Counted (heard s us) (heard_view s us v)
 heard_counted = until_heard Counted (λ s u v f st h. view_cases Counted s u v f h (λ g. becomes_counted s u v f.plain g st h))
@@ -104,7 +101,6 @@ DueAbove k s v = (k ≤ points v) × (is_major_due s.phase ≡ true → k + 1 �
 becomes_above : (k : ℕ) (s : State) (u : Meaning) (v : List Item) → is_plain u ≡ true → Good s u → stops s u ≡ false → DueAbove k s v → DueAbove k (becomes s u) (seen s u v)
 becomes_above k s (CN w r n x from to z o) v p g st h =
     chosen (λ q. DueAbove k q v) (is_acceptable w r z) _ _ (h.0, λ e. absurd (cc)) (h.0, λ e. absurd (cc))
-becomes_above k s (AC w r n x z o) v p g st h = (h.0, λ e. absurd (cc))
 becomes_above k s (RF r o) v p g st h = absurd (cc)
 becomes_above k s (DT o) v p g st h = (more_or_same s.units.duplex v (Octets o ∷ []) k h.0, λ e. more_or_same s.units.duplex v (Octets o ∷ []) (k + 1) (h.1 e))
 becomes_above k s (GT j) v p g st h = h
@@ -115,14 +111,11 @@ becomes_above k s (MAP n o) v p g st h =
     let e = points_append v (Point n major_point o ∷ []) in
     let a = h.0 in
     (omega arith, λ d. omega arith)
-becomes_above k s (MAA n o) v p g st h = (h.0, λ e. absurd (cc))
 becomes_above k s (RS j n w o) v p g st h = rw st h
-becomes_above k s (RA n w o) v p g st h = (h.0, λ e. absurd (cc))
-becomes_above k s (FN o) v p g st h = (h.0, λ e. absurd (cc))
 becomes_above k s (DN o) v p g st h = absurd (cc)
-becomes_above k s (NF o) v p g st h = (h.0, λ e. absurd (cc))
 becomes_above k s (AB b o) v p g st h = absurd (cc)
 becomes_above k s AA v p g st h = absurd (cc)
+becomes_above k s _ v p g st h = (h.0, λ e. absurd (cc))
 
 pub major_came : (s : State) (us : List Meaning) (v : List Item) → is_major_due s.phase ≡ false → AllFit s us → is_major_due (heard s us).phase ≡ true
     → points v + 1 ≤ points (heard_view s us v)
