@@ -22,20 +22,45 @@ pub(crate) struct Together {
     pub(crate) refused: Option<RunError>,
 }
 
+/// What came of a list of events: which was refused and why, and all that the two ends say behind it.
+#[derive(Drop)]
+struct Outcome {
+    refused: Option<RunError>,
+    said: Vec<u8>,
+}
+
 /// Runs the events of a script, of which each line can be read, and applies them one by one.
 pub(crate) fn run_together(alloc: Global, script: &str) -> io::Result<Together> {
     let lines = lines_in(alloc, script)?;
     let events = events_in(alloc, lines.as_slice())?;
-    let mut together = pair_in(alloc, script)?;
-    let refused = run_all(&mut together, events.as_slice());
-    let mut single = pair_in(alloc, script)?;
-    let stopped = apply_each(&mut single, events.as_slice());
-    let came = all_of(alloc, &together)?;
-    let wanted = all_of(alloc, &single)?;
+    compare(alloc, script, events.as_slice())
+}
+
+/// Both ways beside each other.
+fn compare(alloc: Global, script: &str, events: &[Event]) -> io::Result<Together> {
+    let run = in_one_list(alloc, script, events)?;
+    let applied = one_by_one(alloc, script, events)?;
+    let is_same = run.refused == applied.refused && run.said.as_slice() == applied.said.as_slice();
     Ok(Together {
-        is_same: refused == stopped && came.as_slice() == wanted.as_slice(),
-        refused,
+        is_same,
+        refused: run.refused,
     })
+}
+
+/// What comes of events that are given in one list.
+fn in_one_list(alloc: Global, script: &str, events: &[Event]) -> io::Result<Outcome> {
+    let mut pair = pair_in(alloc, script)?;
+    let refused = run_all(&mut pair, events);
+    let said = all_of(alloc, &pair)?;
+    Ok(Outcome { refused, said })
+}
+
+/// What comes of events that are applied one by one.
+fn one_by_one(alloc: Global, script: &str, events: &[Event]) -> io::Result<Outcome> {
+    let mut pair = pair_in(alloc, script)?;
+    let refused = apply_each(&mut pair, events);
+    let said = all_of(alloc, &pair)?;
+    Ok(Outcome { refused, said })
 }
 
 /// Runs events that are given in one list, up to the first that is refused.
