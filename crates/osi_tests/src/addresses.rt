@@ -1,6 +1,6 @@
 //! The addresses of connections: two connections of one port are told apart by whom they ask for.
 
-use crate::stacks::{Ends, asking, carry};
+use crate::stacks::{self, Ends, asking, carry};
 use osi_carrier::Ref;
 use osi_class::Local;
 use osi_session::Request;
@@ -35,8 +35,7 @@ fn asks(left: &mut Stack, user: &[u8]) -> Result<(), Fail> {
         called_selector: Some(user),
         ..asking()?
     };
-    left.connect(&connect)?;
-    Ok(())
+    stacks::asks(left, &connect)
 }
 
 /// A connection is asked for, and its CN comes.

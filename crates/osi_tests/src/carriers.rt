@@ -181,19 +181,25 @@ fn gives_away_together(carrier: &mut Carrier, tsdus: Vec<Vec<u8>>) -> Result<(),
     Ok(())
 }
 
+/// A TSDU of the greatest length is sent in each way.
+fn sends_longest(carrier: &mut Carrier, alloc: Global, tsdu: &[u8]) -> Result<(), Fail> {
+    sends_three(carrier, alloc, tsdu)?;
+    let tsdus = two_of(alloc, tsdu)?;
+    sends_together(carrier, tsdus.as_slice())?;
+    gives_away_together(carrier, tsdus)
+}
+
+/// With one octet more than the greatest length.
+fn lengths_go_on(carrier: &mut Carrier, alloc: Global, octets: &[u8]) -> Result<(), Fail> {
+    let (longest, _) = octets.split_at_checked(1_048_576).ok_or("octets")?;
+    refuses_to_send(carrier, octets, SendError::TooLong)?;
+    sends_longest(carrier, alloc, longest)
+}
+
 #[test]
 fn a_sent_tsdu_has_at_most_1048576_octets(rt: HostRuntime) -> Result<(), Fail> {
     let octets = vec![in rt.alloc(); 0x5A; 1_048_577]?;
-    let (longest, _) = octets
-        .as_slice()
-        .split_at_checked(1_048_576)
-        .ok_or("octets")?;
-    let mut caller = opened(&rt)?;
-    refuses_to_send(&mut caller, octets.as_slice(), SendError::TooLong)?;
-    sends_three(&mut caller, rt.alloc(), longest)?;
-    let tsdus = two_of(rt.alloc(), longest)?;
-    sends_together(&mut caller, tsdus.as_slice())?;
-    gives_away_together(&mut caller, tsdus)
+    lengths_go_on(&mut opened(&rt)?, rt.alloc(), octets.as_slice())
 }
 
 #[test]
@@ -233,7 +239,7 @@ fn hands_out(carrier: &mut Carrier) -> Result<(), Fail> {
 
 /// A connection of class 2 is closed with a DR, and nothing is sent on it then.
 fn closes(carrier: &mut Carrier) -> Result<(), Fail> {
-    carrier.close(Ref(1), 128)?;
+    asks_to_close(carrier)?;
     writes(carrier, &[3, 0, 0, 0x0B, 6, 0x80, 0, 1, 0, 1, 0x80])?;
     refuses_to_send(carrier, b"A", SendError::NotOpen)
 }
@@ -335,17 +341,32 @@ fn sends_six(carrier: &mut Carrier) -> Result<(), Fail> {
     Ok(())
 }
 
+/// An AK of the four TSDUs that were carried, with credit for one.
+const FOUR_TAKEN: [u8; 9] = [3, 0, 0, 9, 4, 0x61, 0, 1, 4];
+
+/// A DC.
+const CLOSED: [u8; 10] = [3, 0, 0, 0x0A, 5, 0xC0, 0, 1, 0, 1];
+
+/// Connection 1 is closed for reason 128.
+fn asks_to_close(carrier: &mut Carrier) -> Result<(), Fail> {
+    carrier.close(Ref(1), 128)?;
+    Ok(())
+}
+
+/// Credit comes for one TSDU, and then the connection is closed.
+fn credit_goes_on(carrier: &mut Carrier) -> Result<(), Fail> {
+    holds_back(carrier, 4, 1)?;
+    takes(carrier, &FOUR_TAKEN)?;
+    holds_back(carrier, 2, 1)?;
+    asks_to_close(carrier)?;
+    holds_back(carrier, 0, 1)?;
+    takes(carrier, &CLOSED)?;
+    holds_back(carrier, 0, 0)
+}
+
 #[test]
 fn what_credit_holds_back_is_unsent(rt: HostRuntime) -> Result<(), Fail> {
     let mut caller = opened(&rt)?;
     sends_six(&mut caller)?;
-    holds_back(&caller, 4, 1)?;
-    // an AK of these four, with credit for one
-    takes(&mut caller, &[3, 0, 0, 9, 4, 0x61, 0, 1, 4])?;
-    holds_back(&caller, 2, 1)?;
-    caller.close(Ref(1), 128)?;
-    holds_back(&caller, 0, 1)?;
-    // a DC
-    takes(&mut caller, &[3, 0, 0, 0x0A, 5, 0xC0, 0, 1, 0, 1])?;
-    holds_back(&caller, 0, 0)
+    credit_goes_on(&mut caller)
 }

@@ -56,6 +56,19 @@ fn one(sent: &Sent) -> Result<&[u8], Fail> {
     }
 }
 
+/// What is answered is these octets, in one TSDU.
+fn replies(taken: &Taken, want: &[u8]) -> Result<(), Fail> {
+    match &taken.reply {
+        Some(sent) => same(one(sent)?, want),
+        None => Err(Fail::from("no answer")),
+    }
+}
+
+/// A TSDU comes.
+fn takes(session: &mut Session, tsdu: &[u8]) -> Result<Taken, Fail> {
+    Ok(session.take_tsdu(tsdu)?)
+}
+
 fn is_in(session: &Session, phase: Phase) -> Result<(), Fail> {
     if session.phase() != phase {
         return Err(Fail::from("another phase"));
@@ -100,6 +113,11 @@ fn connected(rt: &HostRuntime) -> Result<Session, Fail> {
     let (left, _) = answered(rt, TsduSizes::NONE, &CONNECT, &ACCEPT)?;
     holds(&left, 0x55)?;
     Ok(left)
+}
+
+/// A session that is asked for a connection.
+fn called(rt: &HostRuntime) -> Session {
+    Session::called(rt.alloc())
 }
 
 /// A called session takes the CN, and its user accepts with these sizes.
@@ -274,21 +292,22 @@ fn an_answer_names_the_smaller_sizes(rt: HostRuntime) -> Result<(), Fail> {
     Ok(())
 }
 
-/// A CN is answered by RF with this reason, and nothing is shown.
-fn is_refused(rt: &HostRuntime, connect: &[u8], reason: u8) -> Result<(), Fail> {
-    let mut right = Session::called(rt.alloc());
-    let taken = right.take_tsdu(connect)?;
+/// An RF with this reason is answered, and nothing is shown.
+fn is_rf(taken: &Taken, reason: u8) -> Result<(), Fail> {
     if taken.first.is_some() {
         return Err(Fail::from("an indication"));
     }
-    match &taken.reply {
-        Some(sent) => same(
-            one(sent)?,
-            &[0x0C, 0x06, 0x11, 0x01, 0x01, 0x32, 0x01, reason],
-        )?,
-        None => return Err(Fail::from("no answer")),
-    }
-    is_in(&right, Phase::Ended)
+    replies(taken, &[0x0C, 0x06, 0x11, 0x01, 0x01, 0x32, 0x01, reason])
+}
+
+/// A CN is answered by RF with this reason, and nothing is shown.
+fn refuses_cn(right: &mut Session, connect: &[u8], reason: u8) -> Result<(), Fail> {
+    is_rf(&takes(right, connect)?, reason)?;
+    is_in(right, Phase::Ended)
+}
+
+fn is_refused(rt: &HostRuntime, connect: &[u8], reason: u8) -> Result<(), Fail> {
+    refuses_cn(&mut called(rt), connect, reason)
 }
 
 #[test]
@@ -297,17 +316,30 @@ fn a_size_of_63_is_refused(rt: HostRuntime) -> Result<(), Fail> {
     is_refused(&rt, &sized(0x0D, 63, 0, 1), 132)
 }
 
+/// The fault of a unit for which the connection is aborted.
+fn fault_of(taken: &Taken) -> Option<&UnitFault> {
+    match &taken.first {
+        Some(
+            Indication::ProviderAbort {
+                cause: AbortCause::Unit(fault),
+            },
+        ) => Some(fault),
+        _ => None,
+    }
+}
+
+fn is_not_selected(taken: &Taken) -> Result<(), Fail> {
+    match fault_of(taken) {
+        Some(UnitFault::NotSelected(14)) => Ok(()),
+        _ => Err(Fail::from("another indication")),
+    }
+}
+
 #[test]
 fn a_size_of_1_is_not_selected(rt: HostRuntime) -> Result<(), Fail> {
     let (left, taken) = answered(&rt, TsduSizes::NONE, &CONNECT, &sized(0x0E, 0, 1, 2))?;
-    match taken.first {
-        Some(
-            Indication::ProviderAbort {
-                cause: AbortCause::Unit(UnitFault::NotSelected(14)),
-            },
-        ) => is_in(&left, Phase::Aborting),
-        _ => Err(Fail::from("another indication")),
-    }
+    is_not_selected(&taken)?;
+    is_in(&left, Phase::Aborting)
 }
 
 fn has_length(left: &mut Session, request: Request, want: usize) -> Result<(), Fail> {

@@ -34,6 +34,44 @@ pub fn asking<'a>() -> Result<Connect<'a>, Fail> {
     })
 }
 
+/// An end that asks for connections, in class 0.
+fn caller(rt: &HostRuntime) -> Result<Stack, Fail> {
+    Ok(Stack::caller(rt.alloc(), class_0()?))
+}
+
+/// A connection is asked for.
+pub fn asks(stack: &mut Stack, connect: &Connect) -> Result<(), Fail> {
+    stack.connect(connect)?;
+    Ok(())
+}
+
+/// A user asks for this on a connection.
+fn calls(stack: &mut Stack, connection: u16, request: Request) -> Result<(), Fail> {
+    stack.call(Ref(connection), request)?;
+    Ok(())
+}
+
+/// How many of these octets an end uses.
+fn uses(stack: &mut Stack, octets: &[u8]) -> usize {
+    stack.feed(octets).used
+}
+
+/// How many octets of data the next indication has.
+fn shown(stack: &mut Stack) -> Option<usize> {
+    match stack.next_indication() {
+        Some((_, Indication::Data { user_data })) => Some(user_data.as_slice().len()),
+        Some(_) => Some(0),
+        None => None,
+    }
+}
+
+fn has_memory(stack: &Stack) -> Result<(), Fail> {
+    match stack.ended() {
+        Some(EndReason::NoMemory) => Err(Fail::from("out of memory")),
+        _ => Ok(()),
+    }
+}
+
 fn is_refused(stack: &mut Stack, connect: &Connect, want: ConnectError) -> Result<(), Fail> {
     match stack.connect(connect) {
         Err(error) if error == want => Ok(()),
@@ -46,8 +84,7 @@ fn a_selector_has_at_most_16_octets(rt: HostRuntime) -> Result<(), Fail> {
     let octets = [0x41; 17];
     let mut connect = asking()?;
     connect.called_selector = Some(&octets);
-    let mut left = Stack::caller(rt.alloc(), class_0()?);
-    is_refused(&mut left, &connect, ConnectError::TooLong)
+    is_refused(&mut caller(&rt)?, &connect, ConnectError::TooLong)
 }
 
 /// A connection is asked for with addresses and user data of these octets.
@@ -65,14 +102,13 @@ fn asks_with<'a>(
         user_data,
         ..asking()?
     };
-    stack.connect(&connect)?;
-    Ok(())
+    asks(stack, &connect)
 }
 
 #[test]
 fn a_connection_is_asked_for_at_the_greatest_lengths(rt: HostRuntime) -> Result<(), Fail> {
     let octets = vec![in rt.alloc(); 0x41; 10_240]?;
-    let mut left = Stack::caller(rt.alloc(), class_0()?);
+    let mut left = caller(&rt)?;
     asks_with(&mut left, &[0x42; 32], &[0x43; 16], octets.as_slice())
 }
 
@@ -93,33 +129,35 @@ const ANSWERS: [u8; 41] = [
     0x01, 0x31, 0x1A, 0x01, 0x00, 0x14, 0x02, 0x00, 0xB9,
 ];
 
+/// The octets of `ANSWERS` are used, and an indication is shown.
+fn is_answered(left: &mut Stack) -> Result<(), Fail> {
+    let used = uses(left, &ANSWERS);
+    has_memory(left)?;
+    match shown(left) {
+        Some(_) if used == ANSWERS.len() => Ok(()),
+        _ => Err(Fail::from("no connection")),
+    }
+}
+
 #[test]
 fn an_end_connects_and_sends_data(rt: HostRuntime) -> Result<(), Fail> {
-    let mut left = Stack::caller(rt.alloc(), class_0()?);
-    left.connect(&asking()?)?;
-    let used = left.feed(&ANSWERS).used;
-    if left.ended() == Some(EndReason::NoMemory) {
-        return Err(Fail::from("out of memory"));
-    }
-    if used != ANSWERS.len() || left.next_indication().is_none() {
-        return Err(Fail::from("no connection"));
-    }
-    left.call(Ref(1), DATA)?;
-    Ok(())
+    let mut left = caller(&rt)?;
+    asks(&mut left, &asking()?)?;
+    is_answered(&mut left)?;
+    calls(&mut left, 1, DATA)
+}
+
+/// The other end is fed what one has to send.
+fn feeds(from: &mut Stack, to: &mut Stack) {
+    let fed = to.feed(from.outgoing());
+    from.taken(fed.used);
 }
 
 /// Carries what one end has to send, up to an indication, which is answered with its octets of data.
 pub fn carry(from: &mut Stack, to: &mut Stack) -> Result<Option<usize>, Fail> {
-    let fed = to.feed(from.outgoing());
-    from.taken(fed.used);
-    if to.ended() == Some(EndReason::NoMemory) {
-        return Err(Fail::from("out of memory"));
-    }
-    match to.next_indication() {
-        Some((_, Indication::Data { user_data })) => Ok(Some(user_data.as_slice().len())),
-        Some(_) => Ok(Some(0)),
-        None => Ok(None),
-    }
+    feeds(from, to);
+    has_memory(to)?;
+    Ok(shown(to))
 }
 
 /// Two ends.
