@@ -18,10 +18,7 @@ pub struct DataAcknowledgement {
 }
 
 impl DataAcknowledgement {
-    ghost use Rattle.std.specs.Prelude.{◌+◌, ◌*◌, ◌%◌, ◌∷◌, length};
-    ghost use Rattle.osi_tpdu.specs.View.{value};
-    ghost use Rattle.osi_tpdu.specs.Writing.{written_header};
-    ghost use Rattle.osi_tpdu.specs.declared.unit.Tpdu.TheVariants.{Ak};
+    ghost use Rattle.std.specs.Prelude.{◌+◌, ◌*◌, ◌%◌};
 
     /// The unit with these octets: CDT below the code, DST-REF, the high octet first, and YR-TU-NR.
     #[inline(always)]
@@ -35,15 +32,6 @@ impl DataAcknowledgement {
             destination: u16::from_be_bytes([high, low]),
             number: number(last),
         }
-    }
-
-    /// Its length indicator and header.
-    #[inline(always)]
-    pub(crate) fn header(&self) -> [u8; 5]
-        ensures { result ≡ length (written_header (value (Ak self.now))) ∷ written_header (value (Ak self.now)) }
-    {
-        let [high, low] = self.destination.to_be_bytes();
-        [4, 0x60 + self.credit, high, low, self.number]
     }
 
     /// CDT: how many units may be sent from that number on, 0 to 15 (X.224 section 13.9).

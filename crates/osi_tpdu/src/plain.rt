@@ -14,9 +14,9 @@ ghost use Rattle.osi_tpdu.specs.declared.unit.Tpdu.TheVariants.{Dt0, Dt2, Ak};
 use crate::acknowledgement::DataAcknowledgement;
 use crate::data_class_0::DataClass0;
 use crate::data_class_2::DataClass2;
-use crate::octets::high_half;
-use crate::writing::put_octets;
+use crate::octets::{high_half, number, with_bit};
 use bytes::BytesMut;
+use osi_tpkt::laws::are_octets;
 use std::alloc::AllocError;
 
 impl<'a> DataClass0<'a> {
@@ -34,7 +34,8 @@ impl<'a> DataClass0<'a> {
         let [2, 0xF0, last, user @ ..] = packet else {
             return None;
         };
-        Some(DataClass0::from_header(*last, user))
+        let end = *last >= 0x80;
+        Some(DataClass0 { end, user })
     }
 
     /// Appends the unit, of at most 65,528 octets of user data, in a packet of its own. An `Err` leaves the
@@ -53,12 +54,14 @@ impl<'a> DataClass0<'a> {
         // The room that was there is used for what is written, and for nothing else.
         ensures spare { UsesSpare result out.old.spare out.new.spare (length (written (value (Dt0 self.now))) + 4) }
     {
-        let size = 7 + self.user.len();
+        let user = self.user;
+        are_octets(user);
+        let size = 7 + user.len();
         out.reserve(size)?;
         let [high, low] = (size as u16).to_be_bytes();
-        let [li, code, last] = self.header();
-        out.extend_reserved(&[3, 0, high, low, li, code, last]);
-        put_octets(out, self.user);
+        let last = with_bit(self.end, 0);
+        out.extend_reserved(&[3, 0, high, low, 2, 0xF0, last]);
+        out.extend_reserved(user);
         Ok(())
     }
 }
@@ -77,7 +80,12 @@ impl<'a> DataClass2<'a> {
         let [4, 0xF0, high, low, last, user @ ..] = packet else {
             return None;
         };
-        Some(DataClass2::from_header(*high, *low, *last, user))
+        Some(DataClass2 {
+            destination: u16::from_be_bytes([*high, *low]),
+            number: number(*last),
+            end: *last >= 0x80,
+            user,
+        })
     }
 
     /// Appends the unit, of at most 65,526 octets of user data, in a packet of its own. An `Err` leaves the
@@ -94,12 +102,15 @@ impl<'a> DataClass2<'a> {
         ensures full { OnErr result (out.old.spare < length (written (value (Dt2 self.now))) + 4) }
         ensures spare { UsesSpare result out.old.spare out.new.spare (length (written (value (Dt2 self.now))) + 4) }
     {
-        let size = 9 + self.user.len();
+        let user = self.user;
+        are_octets(user);
+        let size = 9 + user.len();
         out.reserve(size)?;
         let [high, low] = (size as u16).to_be_bytes();
-        let [li, code, to_high, to_low, last] = self.header();
-        out.extend_reserved(&[3, 0, high, low, li, code, to_high, to_low, last]);
-        put_octets(out, self.user);
+        let [to_high, to_low] = self.destination.to_be_bytes();
+        let last = with_bit(self.end, self.number);
+        out.extend_reserved(&[3, 0, high, low, 4, 0xF0, to_high, to_low, last]);
+        out.extend_reserved(user);
         Ok(())
     }
 }
@@ -138,8 +149,8 @@ impl DataAcknowledgement {
         ensures spare { UsesSpare result out.old.spare out.new.spare (length (written (value (Ak self.now))) + 4) }
     {
         out.reserve(9)?;
-        let [li, code, to_high, to_low, last] = self.header();
-        out.extend_reserved(&[3, 0, 0, 9, li, code, to_high, to_low, last]);
+        let [high, low] = self.destination.to_be_bytes();
+        out.extend_reserved(&[3, 0, 0, 9, 4, 0x60 + self.credit, high, low, self.number]);
         Ok(())
     }
 }

@@ -15,7 +15,7 @@ use crate::data_class_2::DataClass2;
 use crate::disconnect_confirm::DisconnectConfirm;
 use crate::disconnect_request::DisconnectRequest;
 use crate::faults::TpduFault;
-use crate::octets::{high_half, low_half, reference};
+use crate::octets::{high_half, low_half, number, reference};
 use crate::parameters::{read_parameters, skip_parameters};
 use crate::report::ErrorReport;
 use crate::unit::Tpdu;
@@ -161,8 +161,16 @@ fn read_transfer<'a>(at: usize, header: &[u8], user: &'a [u8]) -> Result<Tpdu<'a
     ensures { ReadsAs value result (transfer_of at header.now user.now) }
 {
     match header.len() {
-        2 => Ok(Tpdu::Dt0(DataClass0::from_header(header[1], user))),
-        4 => Ok(Tpdu::Dt2(DataClass2::from_header(header[1], header[2], header[3], user))),
+        2 => Ok(Tpdu::Dt0(DataClass0 {
+            end: header[1] >= 0x80,
+            user,
+        })),
+        4 => Ok(Tpdu::Dt2(DataClass2 {
+            destination: reference(1, header),
+            number: number(header[3]),
+            end: header[3] >= 0x80,
+            user,
+        })),
         _ => Err(TpduFault::BadLi(at)),
     }
 }
@@ -247,7 +255,10 @@ pub(crate) fn known_fields<'a>(at: usize, header: &'a [u8], user: &'a [u8]) -> T
         _ => match code {
             0x80 => known(read_disconnect(at, header, user)),
             0xC0 => known(read_disconnected(at, header)),
-            0xF0 if header.len() == 2 => Tpdu::Dt0(DataClass0::from_header(header[1], user)),
+            0xF0 if header.len() == 2 => Tpdu::Dt0(DataClass0 {
+                end: header[1] >= 0x80,
+                user,
+            }),
             0xF0 => known(read_transfer(at, header, user)),
             _ => known(read_error(at, header)),
         },

@@ -20,7 +20,7 @@ use crate::data_class_2::DataClass2;
 use crate::disconnect_confirm::DisconnectConfirm;
 use crate::disconnect_request::DisconnectRequest;
 use crate::limits::SizeCode;
-use crate::octets::{high_octet, low_octet};
+use crate::octets::{high_octet, low_octet, with_bit};
 use crate::parameters::{ADDITIONAL_OPTIONS, ALTERNATIVE_CLASSES, CALLED, CALLING, SIZE};
 use crate::report::ErrorReport;
 use crate::tsaps::Selector;
@@ -83,7 +83,7 @@ fn parameters_len(p: &ConnectParameters<'_>) -> usize
 
 // ---- octets and parameters, where there is room for them
 
-pub(crate) fn put_octets(out: &mut BytesMut, octets: &[u8])
+fn put_octets(out: &mut BytesMut, octets: &[u8])
     requires { length octets.now ≤ out.old.spare }
     ensures items { out.new.items ≡ out.old.items ++ octets.now }
     ensures spare { out.new.spare + length octets.now ≡ out.old.spare }
@@ -232,7 +232,7 @@ fn put_data0(out: &mut BytesMut, d: &DataClass0<'_>)
     ensures spare { out.new.spare + length (written (data0 d.now.end d.now.user.now)) ≡ out.old.spare }
     ensures in_range { HasFieldsInRange (data0 d.now.end d.now.user.now) }
 {
-    out.extend_reserved(&d.header());
+    out.extend_reserved(&[2, 0xF0, with_bit(d.end, 0)]);
     put_octets(out, d.user);
 }
 
@@ -242,7 +242,8 @@ fn put_data2(out: &mut BytesMut, d: &DataClass2<'_>)
     ensures spare { out.new.spare + length (written (data2 d.now.destination d.now.number d.now.end d.now.user.now)) ≡ out.old.spare }
     ensures in_range { HasFieldsInRange (data2 d.now.destination d.now.number d.now.end d.now.user.now) }
 {
-    out.extend_reserved(&d.header());
+    let (to_high, to_low) = (high_octet(d.destination), low_octet(d.destination));
+    out.extend_reserved(&[4, 0xF0, to_high, to_low, with_bit(d.end, d.number)]);
     put_octets(out, d.user);
 }
 
@@ -252,7 +253,8 @@ fn put_acknowledge(out: &mut BytesMut, a: DataAcknowledgement)
     ensures spare { out.new.spare + length (written (acknowledge a.credit a.destination a.number)) ≡ out.old.spare }
     ensures in_range { HasFieldsInRange (acknowledge a.credit a.destination a.number) }
 {
-    out.extend_reserved(&a.header());
+    let (to_high, to_low) = (high_octet(a.destination), low_octet(a.destination));
+    out.extend_reserved(&[4, 0x60 + a.credit, to_high, to_low, a.number]);
 }
 
 fn put_error(out: &mut BytesMut, e: ErrorReport)
