@@ -1,5 +1,5 @@
 -- The taking side: the TSDU whose end has not come, and those that stand whole.
-use Rattle.std.specs.Prelude.{◌≡◌, ℕ, ◌+◌, Bool, true, false, List, [], ◌∷◌, ◌++◌, length, nat_lt, Option, Some, None, Result, Ok, Err, if◌then◌else◌}
+use Rattle.std.specs.Prelude.{◌≡◌, ℕ, ◌+◌, Bool, true, false, List, [], ◌∷◌, ◌++◌, length, nat_lt, Result, Ok, Err, if◌then◌else◌}
 use Rattle.osi_class.specs.declared.faults.LinkFault.{LinkFault}
 use Rattle.osi_class.specs.declared.faults.LinkFault.TheVariants.{TsduTooLong}
 use Rattle.osi_class.specs.Limits.{longest_tsdu}
@@ -7,6 +7,9 @@ use Rattle.osi_class.specs.Limits.{longest_tsdu}
 pub record Joining : Type 0 where
   pub begun : List ℕ
   pub whole : List (List ℕ)
+
+abbrev pub joining : List ℕ → List (List ℕ) → Joining
+joining begun whole = record { begun = begun; whole = whole }
 
 abbrev pub with_part : Joining → Bool → List ℕ → Joining
 with_part j false octets = record j { begun = j.begun ++ octets }
@@ -18,9 +21,4 @@ joined j last octets = if nat_lt longest_tsdu (length j.begun + length octets) t
 
 -- one part joined to a TSDU of which so much was taken
 abbrev pub joined_to : List ℕ → Bool → List ℕ → Result Joining LinkFault
-joined_to begun last octets = joined (record { begun = begun; whole = [] }) last octets
-
--- the first whole TSDU is handed out, none exactly where none stands whole
-abbrev pub Pops : Option (List ℕ) → Joining → Joining → Type 0
-Pops None old new = (old.whole ≡ []) × (new ≡ old)
-Pops (Some tsdu) old new = old ≡ record new { whole = tsdu ∷ new.whole }
+joined_to begun last octets = joined (joining begun []) last octets

@@ -2,11 +2,12 @@
 
 use crate::faults::LinkFault;
 use crate::flow::{ReceivingFlow, SendingFlow};
-use crate::joining::Incoming;
+use crate::joining::Begun;
 use crate::limits::Credit;
 use crate::links::Link;
+use crate::queue::Queue;
 use crate::sending::Outgoing;
-use crate::sizes::{first_part, most_octets, room_for_parts, room_within};
+use crate::sizes::{most_octets, room_for_parts, room_within};
 use crate::units::{Out, Room};
 use osi_tpdu::{SizeCode, Tpdu, Window};
 use std::alloc::{AllocError, Global};
@@ -21,7 +22,10 @@ const HEADER: usize = 5;
 #[derive(Drop)]
 pub struct Class2 {
     outgoing: Outgoing,
-    incoming: Incoming,
+    /// The TSDU whose end has not come.
+    begun: Begun,
+    /// Those that were taken whole, the oldest first.
+    whole: Queue<Vec<u8>>,
     /// How many octets a unit carries, 123 to 8187.
     limit: usize,
     sending: SendingFlow,
@@ -29,13 +33,14 @@ pub struct Class2 {
 }
 
 impl Model for Class2 {
-    ghost use Rattle.std.specs.Prelude.{◌≤◌};
+    ghost use Rattle.std.specs.Prelude.{◌≤◌, map};
+    ghost use Rattle.osi_class.specs.Joining.{joining};
     ghost use Rattle.osi_class.specs.Link.{Two};
 
     ghost Value = { Two };
 
     ghost view = { λ l. record {
-      ends = record { limit = l.limit; unsent = l.outgoing.unsent; joining = l.incoming };
+      ends = record { limit = l.limit; unsent = l.outgoing.unsent; joining = joining l.begun (map (λ v. v.items) l.whole.items) };
       flow = record { sender = l.sending; receiver = l.receiving };
     } };
 
@@ -56,7 +61,8 @@ impl Class2 {
     {
         Class2 {
             outgoing: Outgoing::new(alloc),
-            incoming: Incoming::new(alloc),
+            begun: Begun::new(alloc),
+            whole: Queue::new(alloc),
             limit: most_octets(size) - HEADER,
             sending: SendingFlow::new(credit),
             receiving: ReceivingFlow::new(window),
@@ -96,10 +102,11 @@ impl Link for Class2 {
         if !self.sending.has_credit() {
             return None;
         }
-        let (end, octets) = first_part(self.limit, tsdu);
+        let carried = self.limit.min(tsdu.len());
+        let octets = &tsdu[..carried];
         Some(Out::Data2 {
             number: self.sending.count_unit(),
-            end,
+            end: tsdu.len() <= self.limit,
             octets,
         })
     }
@@ -108,11 +115,11 @@ impl Link for Class2 {
     fn take(&mut self, unit: &Tpdu<'_>) -> Result<(), LinkFault> {
         match unit {
             Tpdu::Dt2(data) => {
-                if !self.receiving.awaits(data.number) {
+                let Some(after) = self.receiving.after(data.number) else {
                     return Err(LinkFault::OutOfSequence);
-                }
-                self.incoming.join(data.end, data.user)?;
-                self.receiving.count_unit();
+                };
+                self.begun.join(data.end, data.user, &mut self.whole)?;
+                self.receiving = after;
                 Ok(())
             }
             Tpdu::Ak(ack) => self.sending.acknowledge(ack.number, ack.credit),
@@ -131,6 +138,9 @@ impl Link for Class2 {
         if !self.sending.has_credit() {
             return None;
         }
+        if self.outgoing.is_at_rest() {
+            return None;
+        }
         let end = self.outgoing.advance(self.limit)?;
         Some(Out::Data2 {
             number: self.sending.count_unit(),
@@ -141,7 +151,7 @@ impl Link for Class2 {
 
     #[inline(always)]
     fn next_tsdu(&mut self) -> Option<Vec<u8>> {
-        self.incoming.pop()
+        self.whole.pop()
     }
 
     #[inline(always)]
@@ -153,7 +163,7 @@ impl Link for Class2 {
         // Named for the proof: credit and window are at most 15.
         let _credit = self.sending.credit();
         let _window = self.receiving.window();
-        self.incoming.begun_octets()
+        self.begun.octets()
     }
 
     fn unsent(&self) -> usize {

@@ -1,10 +1,11 @@
 //! A link of class 0: parts without numbers.
 
 use crate::faults::LinkFault;
-use crate::joining::Incoming;
+use crate::joining::Begun;
 use crate::links::Link;
+use crate::queue::Queue;
 use crate::sending::Outgoing;
-use crate::sizes::{count_parts, first_part, most_octets, room_for_parts};
+use crate::sizes::{count_parts, most_octets, room_for_parts};
 use crate::units::{Out, Room};
 use osi_tpdu::{SizeCode, Tpdu};
 use std::alloc::{AllocError, Global};
@@ -17,19 +18,23 @@ const HEADER: usize = 3;
 #[derive(Drop)]
 pub struct Class0 {
     outgoing: Outgoing,
-    incoming: Incoming,
+    /// The TSDU whose end has not come.
+    begun: Begun,
+    /// Those that were taken whole, the oldest first.
+    whole: Queue<Vec<u8>>,
     /// How many octets a unit carries, 125 to 8189. The invariant has the bound that both classes
     /// keep.
     limit: usize,
 }
 
 impl Model for Class0 {
-    ghost use Rattle.std.specs.Prelude.{◌≤◌};
+    ghost use Rattle.std.specs.Prelude.{◌≤◌, map};
     ghost use Rattle.osi_class.specs.Ends.{Ends};
+    ghost use Rattle.osi_class.specs.Joining.{joining};
 
     ghost Value = { Ends };
 
-    ghost view = { λ l. record { limit = l.limit; unsent = l.outgoing.unsent; joining = l.incoming } };
+    ghost view = { λ l. record { limit = l.limit; unsent = l.outgoing.unsent; joining = joining l.begun (map (λ v. v.items) l.whole.items) } };
 
     ghost invariant = { λ l. (123 ≤ l.limit) × (l.limit ≤ 8189) };
 }
@@ -45,7 +50,8 @@ impl Class0 {
     {
         Class0 {
             outgoing: Outgoing::new(alloc),
-            incoming: Incoming::new(alloc),
+            begun: Begun::new(alloc),
+            whole: Queue::new(alloc),
             limit: most_octets(size) - HEADER,
         }
     }
@@ -77,20 +83,25 @@ impl Link for Class0 {
         if !self.outgoing.is_empty() {
             return None;
         }
-        let (end, octets) = first_part(self.limit, tsdu);
+        let carried = self.limit.min(tsdu.len());
+        let octets = &tsdu[..carried];
+        let end = tsdu.len() <= self.limit;
         Some(Out::Data0 { end, octets })
     }
 
     #[inline(always)]
     fn take(&mut self, unit: &Tpdu<'_>) -> Result<(), LinkFault> {
         match unit {
-            Tpdu::Dt0(data) => self.incoming.join(data.end, data.user),
+            Tpdu::Dt0(data) => self.begun.join(data.end, data.user, &mut self.whole),
             _ => Err(LinkFault::WrongForm),
         }
     }
 
     #[inline(always)]
     fn next_out(&mut self) -> Option<Out<'_>> {
+        if self.outgoing.is_at_rest() {
+            return None;
+        }
         let end = self.outgoing.advance(self.limit)?;
         Some(Out::Data0 {
             end,
@@ -100,7 +111,7 @@ impl Link for Class0 {
 
     #[inline(always)]
     fn next_tsdu(&mut self) -> Option<Vec<u8>> {
-        self.incoming.pop()
+        self.whole.pop()
     }
 
     #[inline(always)]
@@ -109,7 +120,7 @@ impl Link for Class0 {
     }
 
     fn begun_octets(&self) -> usize {
-        self.incoming.begun_octets()
+        self.begun.octets()
     }
 
     fn unsent(&self) -> usize {

@@ -123,7 +123,7 @@ impl Model for ReceivingFlow {
 }
 
 impl ReceivingFlow {
-    ghost use Rattle.std.specs.Prelude.{◌≡◌, ◌<◌, ◌≤◌, nat_lt, option_map, IsTrue, IfSome, IfNone};
+    ghost use Rattle.std.specs.Prelude.{◌≡◌, ◌<◌, ◌≤◌, true, false, nat_lt, IfSome, IfNone};
     ghost use Rattle.osi_tpdu.specs.Limits.{window_units};
     ghost use Rattle.osi_class.specs.Flow.{fresh_receiver, is_awaited, after_taken, ack_number, after_acked};
 
@@ -149,20 +149,21 @@ impl ReceivingFlow {
         self.window.units()
     }
 
-    /// Whether the unit with this number is awaited, and not beyond the window.
-    pub fn awaits(&self, number: u8) -> bool
-        ensures { result ≡ is_awaited self.now number }
+    /// What this becomes where the unit with this number is taken: one more Ack waits. `None` where the
+    /// unit is not awaited, or beyond the window.
+    #[inline(always)]
+    pub fn after(&self, number: u8) -> Option<ReceivingFlow>
+        ensures awaited { IfSome result (λ after. (is_awaited self.now number ≡ true) × (after ≡ after_taken self.now)) }
+        ensures refused { IfNone result (is_awaited self.now number ≡ false) }
     {
-        number == self.expected && self.waiting < self.window.units()
-    }
-
-    /// Counts a unit that is taken. One more Ack waits.
-    pub fn count_unit(&mut self)
-        requires { self.old.waiting < self.old.window }
-        ensures { self.new ≡ after_taken self.old }
-    {
-        self.expected = (self.expected + 1) % NUMBERS;
-        self.waiting += 1;
+        if number != self.expected || self.waiting >= self.window.units() {
+            return None;
+        }
+        Some(ReceivingFlow {
+            window: self.window,
+            expected: (self.expected + 1) % NUMBERS,
+            waiting: self.waiting + 1,
+        })
     }
 
     /// Whether an Ack waits to be given.

@@ -75,6 +75,23 @@ impl<T: Drop> Queue<T> {
         self.others.push_back_reserved(value);
     }
 
+    /// Puts a value behind the others. Where there is no memory for it nothing has changed; memory is needed
+    /// only where there is a first one.
+    #[inline(always)]
+    pub fn push(&mut self, value: T) -> Result<(), AllocError>
+        ensures ok { OnOk result (self.new.items ≡ self.old.items ++ value ∷ []) }
+        ensures err { OnErr result (self.new.items ≡ self.old.items) }
+        ensures full { OnErr result (self.old.has_room ≡ false) }
+    {
+        if self.first.is_none() {
+            self.first = Some(value);
+            return Ok(());
+        }
+        self.others.reserve(1)?;
+        self.others.push_back_reserved(value);
+        Ok(())
+    }
+
     /// The first value leaves, if there is one.
     #[inline(always)]
     pub fn pop(&mut self) -> Option<T>

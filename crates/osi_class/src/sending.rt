@@ -215,28 +215,28 @@ impl Outgoing {
         Ok(())
     }
 
-    /// Goes to the next part, of `limit` octets or fewer, and says whether it ends its TSDU. An
-    /// empty TSDU is one part with no octet. Takes no memory.
+    /// Whether nothing is to be sent, and no room is to be given back.
     #[inline(always)]
-    pub fn advance(&mut self, limit: usize) -> Option<bool>
-        ensures given { give limit self.old.unsent ≡ option_map (λ last. ((last, self.new.part), self.new.unsent)) result }
-        ensures none { IfNone result ((self.old.unsent ≡ []) × (self.new.unsent ≡ [])) }
+    pub fn is_at_rest(&self) -> bool
+        ensures { result ≡ true → self.now.unsent ≡ [] }
     {
-        if self.is_empty() && !self.is_owned {
-            return None;
-        }
-        self.go_on(limit)
+        self.is_empty() && !self.is_owned
     }
 
-    /// The same. It stands out of line: mostly nothing is to be sent.
+    /// Goes to the next part, of `limit` octets or fewer, and says whether it ends its TSDU. An
+    /// empty TSDU is one part with no octet. Takes no memory. Where nothing is to be sent, the room of a
+    /// TSDU that was handed in with it is given back. It stands out of line: mostly nothing is to be done.
     #[inline(never)]
-    fn go_on(&mut self, limit: usize) -> Option<bool>
+    pub fn advance(&mut self, limit: usize) -> Option<bool>
         ensures given { give limit self.old.unsent ≡ option_map (λ last. ((last, self.new.part), self.new.unsent)) result }
         ensures none { IfNone result ((self.old.unsent ≡ []) × (self.new.unsent ≡ [])) }
     {
         if !self.has_more {
             let Some(tsdu) = self.queue.pop_front() else {
-                self.rest();
+                self.current = Vec::new(self.alloc);
+                self.is_owned = false;
+                self.from = 0;
+                self.to = 0;
                 return None;
             };
             self.queued -= tsdu.len();
@@ -253,20 +253,6 @@ impl Outgoing {
         self.to = self.current.len();
         self.has_more = false;
         Some(true)
-    }
-
-    /// Gives back the room of a TSDU that was handed in with it, where nothing is to be sent.
-    #[inline(always)]
-    fn rest(&mut self)
-        requires { self.old.unsent ≡ [] }
-        ensures { self.new.unsent ≡ [] }
-    {
-        if self.is_owned {
-            self.current = Vec::new(self.alloc);
-            self.is_owned = false;
-            self.from = 0;
-            self.to = 0;
-        }
     }
 
     /// The octets of the part that [`Outgoing::advance`] went to last.

@@ -1,6 +1,6 @@
 //! Sizes of units, and how many parts a TSDU has.
 
-ghost use Rattle.std.specs.Prelude.{◌≡◌, ◌<◌, ◌≤◌, ◌+◌, ◌*◌, ◌^◌, min, length, take, map, true, false, IfSome, IfNone, SomeIff};
+ghost use Rattle.std.specs.Prelude.{◌≡◌, ◌<◌, ◌≤◌, ◌+◌, ◌*◌, ◌^◌, min, length, map, IfSome, IfNone, SomeIff};
 ghost use Rattle.osi_tpdu.specs.Limits.{size_code};
 ghost use Rattle.osi_class.specs.Ends.{unit_size};
 ghost use Rattle.osi_class.specs.Giving.{parts_needed, octets_in_parts};
@@ -36,19 +36,6 @@ pub fn count_parts(limit: usize, octets: usize) -> usize
     ensures at_most { 123 * result ≤ octets + 123 }
 {
     octets.saturating_sub(1) / limit + 1
-}
-
-/// The first part of a TSDU, of `limit` octets or fewer, behind whether it ends the TSDU.
-#[inline(always)]
-pub fn first_part(limit: usize, tsdu: &[u8]) -> (bool, &[u8])
-    ensures whole { result.0 ≡ true → (length tsdu.now ≤ limit) × (result.1.now ≡ tsdu.now) }
-    ensures cut { result.0 ≡ false → (limit < length tsdu.now) × (result.1.now ≡ take limit tsdu.now) }
-{
-    if tsdu.len() > limit {
-        let (part, _) = tsdu.split_at(limit);
-        return (false, part);
-    }
-    (true, tsdu)
 }
 
 /// What is given of a TSDU of so many octets with this credit, in parts of `limit` octets or fewer.
