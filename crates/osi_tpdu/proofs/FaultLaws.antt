@@ -12,7 +12,7 @@ use Rattle.osi_tpdu.specs.Spelling.{Item, item_octets, values_of, single}
 use Rattle.osi_tpdu.specs.Reading.{◌>>=◌, parameter_at, no_parameters, with_size, with_calling, with_called, with_additional, with_alternative, with_parameter, parameters_at, known_at, skipped_at, all_skipped_at}
 use Rattle.osi_tpdu.specs.Faults.{Kind, LooksAtParameters, Parameter, Size, Calling, Called, Additional, Alternative, code_of, MayBeLong, MayHold, HasNoItem, BeginsWith, HasBadLength, IsRepeated, HasBadValue, HasItemFault, HasParameterFault, place_of, StandsBefore, IsFirst}
 use Rattle.osi_tpdu.proofs.StepLaws.{chosen, ok_is}
-use Rattle.osi_tpdu.proofs.ItemLaws.{Adds, Adds-then, Adds-none, with_found, parameter_found, parameter_again}
+use Rattle.osi_tpdu.proofs.ItemLaws.{Adds, other_code, Adds-then, Adds-none, with_found, parameter_found, parameter_again}
 
 -- ---- an answer is the first fault, or there is none
 
@@ -38,9 +38,7 @@ judges_cond P false x y t f = f refl
 
 pub judges_err : {A : Type 0} (P : TpduFault → Type 0) (r : Result A TpduFault) (f : TpduFault) → r ≡ Err f → Judges P r → IsFirst P f
 judges_err P (Ok x) f e j = absurd cc
-judges_err P (Err g) f e j =
-    let same : g ≡ f = cc in
-    subst (λ (h : TpduFault). IsFirst P h) same j
+judges_err P (Err g) f e j = grind arith
 
 pub judges_ok : {A : Type 0} (P : TpduFault → Type 0) (r : Result A TpduFault) (x : A) → r ≡ Ok x → Judges P r → (f : TpduFault) → P f → ⊥
 judges_ok P (Ok y) x e j = j
@@ -70,10 +68,7 @@ named code =
 
 named_again : (k : Parameter) → named (code_of k) ≡ Some k
 named_again Size = refl
-named_again Calling = refl
-named_again Called = refl
-named_again Additional = refl
-named_again Alternative = refl
+named_again _ = refl
 
 some_is : (k j : Parameter) → (let o : Option Parameter = Some k in o) ≡ Some j → k ≡ j
 some_is k j e = cc
@@ -90,25 +85,11 @@ same_front P kind k j v w s b c p =
 -- ---- the faults of one item
 
 pub item_place : (kind : Kind) (at : ℕ) (before : List Item) (s : List ℕ) (f : TpduFault) → HasItemFault kind at before s f → place_of f ≡ at
-item_place kind at before s f h =
-    elim h [
-      | inl a ↦ ap place_of a.0
-      | inr a ↦ elim a [
-        | inl d ↦ ap place_of d.0
-        | inr v ↦ ap place_of v.0
-      ]
-    ]
+item_place kind at before s f h = grind arith
 
 -- a bad length stands before all else that an item can have
 length_first : (kind : Kind) (at : ℕ) (before : List Item) (s : List ℕ) (f : TpduFault) → HasItemFault kind at before s f → (f ≡ BadParameterLength at) ⊎ StandsBefore (BadParameterLength at) f
-length_first kind at before s f h =
-    elim h [
-      | inl a ↦ inl a.0
-      | inr a ↦ elim a [
-        | inl d ↦ inr (subst (λ (g : TpduFault). StandsBefore (BadParameterLength at) g) (sym d.0) (inr (refl, omega arith)))
-        | inr v ↦ inr (subst (λ (g : TpduFault). StandsBefore (BadParameterLength at) g) (sym v.0) (inr (refl, omega arith)))
-      ]
-    ]
+length_first kind at before s f h = grind arith
 
 no_length : (kind : Kind) (k : Parameter) (value s : List ℕ) → BeginsWith kind k value s → MayBeLong k (length value) → HasBadLength kind s → ⊥
 no_length kind k value s b long h =
@@ -180,22 +161,16 @@ single_there None = refl
 single_there (Some n) = refl
 
 not_one : (n : ℕ) → not (eqb n 1) ≡ true → n ≡ 1 → ⊥
-not_one n e one =
-    let same = eq-eqb n 1 one in
-    false≢true (sym (ap not same) ∙ e)
+not_one n e one = grind (arith, eq-eqb, false≢true)
 
 one_of : (n : ℕ) → not (eqb n 1) ≡ false → n ≡ 1
 one_of n e = eqb-true n 1 (not-false _ e)
 
 out_of_range : (n : ℕ) → leb 7 n && leb n 13 ≡ false → (7 ≤ n) × (n ≤ 13) → ⊥
-out_of_range n e h =
-    let in_range : leb 7 n && leb n 13 ≡ true = rw (le-leb 7 n h.0, le-leb n 13 h.1) refl in
-    false≢true (sym e ∙ in_range)
+out_of_range n e h = grind (arith, le-leb, false≢true)
 
 in_bounds : (n : ℕ) → leb 7 n && leb n 13 ≡ true → (7 ≤ n) × (n ≤ 13)
-in_bounds n e =
-    let parts = and_parts (leb 7 n) (leb n 13) e in
-    (leb-true 7 n parts.0, leb-true n 13 parts.1)
+in_bounds n e = grind (arith, and_parts, leb-true)
 
 size_judged : (kind : Kind) (at : ℕ) (before : List Item) (value s : List ℕ) (p : Parameters) → BeginsWith kind Size value s → Adds no_parameters before p → Judges (HasItemFault kind at before s) (with_size at value p)
 unfolding with_size
@@ -203,15 +178,13 @@ size_judged kind at before value s p b adds =
     let P : TpduFault → Type 0 = HasItemFault kind at before s in
     let n = get_or value 0 0 in
     judges_cond P (not (eqb (length value) 1)) (Err (BadParameterLength at)) _ (λ e. too_long kind at before Size value s b (not_one (length value) e))
-    (λ e. judges_cond P (is_some p.size) (Err (DuplicateParameter at)) _ (λ d. twice kind at before Size value s b (one_of (length value) e) (full (single p.size) (values_of 0xC0 before) adds.size (single_there p.size ∙ d)))
+    (λ e. judges_cond P (is_some p.size) (Err (DuplicateParameter at)) _ (λ d. twice kind at before Size value s b (one_of (length value) e) (full (single p.size) (values_of 0xC0 before) (adds Size) (single_there p.size ∙ d)))
     (λ d. judges_cond P (leb 7 n && leb n 13) (Ok (record p { size = Some n })) (Err (BadParameterValue at))
-    (λ h. fine kind at before Size value s b (one_of (length value) e) (empty (single p.size) (values_of 0xC0 before) adds.size (single_there p.size ∙ d)) (in_bounds n h))
-    (λ h. bad_value kind at before Size value s b (one_of (length value) e) (empty (single p.size) (values_of 0xC0 before) adds.size (single_there p.size ∙ d)) (out_of_range n h))))
+    (λ h. fine kind at before Size value s b (one_of (length value) e) (empty (single p.size) (values_of 0xC0 before) (adds Size) (single_there p.size ∙ d)) (in_bounds n h))
+    (λ h. bad_value kind at before Size value s b (one_of (length value) e) (empty (single p.size) (values_of 0xC0 before) (adds Size) (single_there p.size ∙ d)) (out_of_range n h))))
 
 above_32 : (n : ℕ) → ltb 32 n ≡ true → n ≤ 32 → ⊥
-above_32 n e le =
-    let lt : 32 < n = ltb-true 32 n e in
-    omega arith
+above_32 n e le = omega (arith, ltb-true)
 
 calling_judged : (kind : Kind) (at : ℕ) (before : List Item) (value s : List ℕ) (p : Parameters) → BeginsWith kind Calling value s → Adds no_parameters before p → Judges (HasItemFault kind at before s) (with_calling at value p)
 unfolding with_calling
@@ -219,8 +192,8 @@ calling_judged kind at before value s p b adds =
     let P : TpduFault → Type 0 = HasItemFault kind at before s in
     judges_cond P (ltb 32 (length value)) (Err (BadParameterLength at)) _ (λ e. too_long kind at before Calling value s b (above_32 (length value) e))
     (λ e. judges_cond P (is_some p.calling) (Err (DuplicateParameter at)) (Ok (record p { calling = Some value }))
-    (λ d. twice kind at before Calling value s b (ltb-false 32 (length value) e) (full p.calling (values_of 0xC1 before) adds.calling d))
-    (λ d. fine kind at before Calling value s b (ltb-false 32 (length value) e) (empty p.calling (values_of 0xC1 before) adds.calling d) tt))
+    (λ d. twice kind at before Calling value s b (ltb-false 32 (length value) e) (full p.calling (values_of 0xC1 before) (adds Calling) d))
+    (λ d. fine kind at before Calling value s b (ltb-false 32 (length value) e) (empty p.calling (values_of 0xC1 before) (adds Calling) d) tt))
 
 called_judged : (kind : Kind) (at : ℕ) (before : List Item) (value s : List ℕ) (p : Parameters) → BeginsWith kind Called value s → Adds no_parameters before p → Judges (HasItemFault kind at before s) (with_called at value p)
 unfolding with_called
@@ -228,8 +201,8 @@ called_judged kind at before value s p b adds =
     let P : TpduFault → Type 0 = HasItemFault kind at before s in
     judges_cond P (ltb 32 (length value)) (Err (BadParameterLength at)) _ (λ e. too_long kind at before Called value s b (above_32 (length value) e))
     (λ e. judges_cond P (is_some p.called) (Err (DuplicateParameter at)) (Ok (record p { called = Some value }))
-    (λ d. twice kind at before Called value s b (ltb-false 32 (length value) e) (full p.called (values_of 0xC2 before) adds.called d))
-    (λ d. fine kind at before Called value s b (ltb-false 32 (length value) e) (empty p.called (values_of 0xC2 before) adds.called d) tt))
+    (λ d. twice kind at before Called value s b (ltb-false 32 (length value) e) (full p.called (values_of 0xC2 before) (adds Called) d))
+    (λ d. fine kind at before Called value s b (ltb-false 32 (length value) e) (empty p.called (values_of 0xC2 before) (adds Called) d) tt))
 
 additional_judged : (kind : Kind) (at : ℕ) (before : List Item) (value s : List ℕ) (p : Parameters) → BeginsWith kind Additional value s → Adds no_parameters before p
     → Judges (HasItemFault kind at before s) (with_additional at value p)
@@ -238,8 +211,8 @@ additional_judged kind at before value s p b adds =
     let P : TpduFault → Type 0 = HasItemFault kind at before s in
     judges_cond P (not (eqb (length value) 1)) (Err (BadParameterLength at)) _ (λ e. too_long kind at before Additional value s b (not_one (length value) e))
     (λ e. judges_cond P (is_some p.additional) (Err (DuplicateParameter at)) (Ok (record p { additional = Some (get_or value 0 0) }))
-    (λ d. twice kind at before Additional value s b (one_of (length value) e) (full (single p.additional) (values_of 0xC6 before) adds.additional (single_there p.additional ∙ d)))
-    (λ d. fine kind at before Additional value s b (one_of (length value) e) (empty (single p.additional) (values_of 0xC6 before) adds.additional (single_there p.additional ∙ d)) tt))
+    (λ d. twice kind at before Additional value s b (one_of (length value) e) (full (single p.additional) (values_of 0xC6 before) (adds Additional) (single_there p.additional ∙ d)))
+    (λ d. fine kind at before Additional value s b (one_of (length value) e) (empty (single p.additional) (values_of 0xC6 before) (adds Additional) (single_there p.additional ∙ d)) tt))
 
 alternative_judged : (kind : Kind) (at : ℕ) (before : List Item) (value s : List ℕ) (p : Parameters) → BeginsWith kind Alternative value s → Adds no_parameters before p
     → Judges (HasItemFault kind at before s) (with_alternative at value p)
@@ -247,16 +220,8 @@ unfolding with_alternative
 alternative_judged kind at before value s p b adds =
     let P : TpduFault → Type 0 = HasItemFault kind at before s in
     judges_cond P (is_some p.alternative) (Err (DuplicateParameter at)) (Ok (record p { alternative = Some value }))
-    (λ d. twice kind at before Alternative value s b tt (full p.alternative (values_of 0xC7 before) adds.alternative d))
-    (λ d. fine kind at before Alternative value s b tt (empty p.alternative (values_of 0xC7 before) adds.alternative d) tt)
-
--- the code is none of the table
-no_parameter : (k : Parameter) (code : ℕ) → eqb code 0xC0 ≡ false → eqb code 0xC1 ≡ false → eqb code 0xC2 ≡ false → eqb code 0xC6 ≡ false → eqb code 0xC7 ≡ false → code ≡ code_of k → ⊥
-no_parameter Size code a b c d e same = eqb-false code 0xC0 a same
-no_parameter Calling code a b c d e same = eqb-false code 0xC1 b same
-no_parameter Called code a b c d e same = eqb-false code 0xC2 c same
-no_parameter Additional code a b c d e same = eqb-false code 0xC6 d same
-no_parameter Alternative code a b c d e same = eqb-false code 0xC7 e same
+    (λ d. twice kind at before Alternative value s b tt (full p.alternative (values_of 0xC7 before) (adds Alternative) d))
+    (λ d. fine kind at before Alternative value s b tt (empty p.alternative (values_of 0xC7 before) (adds Alternative) d) tt)
 
 -- an item that is not looked at has no fault
 ignored : (kind : Kind) (at code : ℕ) (before : List Item) (value rest s : List ℕ) → s ≡ item_octets (item code value) ++ rest → ((k : Parameter) (v : List ℕ) → BeginsWith kind k v s → ⊥)
@@ -284,7 +249,7 @@ with_judged kind at code before value rest s p looks whole adds =
     (λ n1. judges_cond P (eqb code 0xC2) (with_called at value p) _ (λ e. called_judged kind at before value s p (begins Called (eqb-true code 0xC2 e)) adds)
     (λ n2. judges_cond P (eqb code 0xC6) (with_additional at value p) _ (λ e. additional_judged kind at before value s p (begins Additional (eqb-true code 0xC6 e)) adds)
     (λ n6. judges_cond P (eqb code 0xC7) (with_alternative at value p) (Ok p) (λ e. alternative_judged kind at before value s p (begins Alternative (eqb-true code 0xC7 e)) adds)
-    (λ n7. ignored kind at code before value rest s whole (λ k v b. no_parameter k code n0 n1 n2 n6 n7 (same_item (item code value) (item (code_of k) v) rest b.rest (sym whole ∙ b.whole)).code))))))
+    (λ n7. ignored kind at code before value rest s whole (λ k v b. eqb-false code (code_of k) (other_code code n0 n1 n2 n6 n7 k) (same_item (item code value) (item (code_of k) v) rest b.rest (sym whole ∙ b.whole)).code))))))
 
 -- ---- items behind others
 
@@ -300,13 +265,7 @@ moved : (kind : Kind) (at to : ℕ) (before others : List Item) (s : List ℕ) (
 moved kind at to before others s f e same h = subst (λ (is : List Item). HasItemFault kind to is s f) same (subst (λ (n : ℕ). HasItemFault kind n before s f) e h)
 
 here : (kind : Kind) (at : ℕ) (before : List Item) (s : List ℕ) (f : TpduFault) → 1 ≤ length s → HasItemFault kind at before s f → HasLater kind at before s f
-here kind at before s f there h = record {
-  items = [];
-  rest = s;
-  whole = refl;
-  some = there;
-  bad = moved kind at (at + 0) before (before ++ []) s f (sym (add-zero at)) (sym (append-nil before)) h;
-}
+here kind at before s f there h = grind (arith, moved, add-zero, append-nil)
 
 later : (kind : Kind) (at : ℕ) (before : List Item) (i : Item) (s t : List ℕ) (f : TpduFault) → s ≡ item_octets i ++ t → HasLater kind (at + (2 + length i.value)) (before ++ i ∷ []) t f → HasLater kind at before s f
 later kind at before i s t f e h = record {
@@ -364,16 +323,10 @@ item_passed kind at before i s t r e none =
 
 parameter_bad : (at : ℕ) (s : List ℕ) (f : TpduFault) → parameter_at at s ≡ Err f → f ≡ BadParameterLength at
 unfolding parameter_at
-parameter_bad at s f e =
-    elim (chosen (ltb (length s) (2 + get_or s 1 0)) (Err (BadParameterLength at)) _ (Err f) e) [
-      | inl t ↦ (let same : f ≡ BadParameterLength at = (let q = t.1 in cc) in same)
-      | inr t ↦ (let q = t.1 in absurd cc)
-    ]
+parameter_bad at s f e = grind (arith, chosen, get_or)
 
 parameter_none : (at : ℕ) (s : List ℕ) (f : TpduFault) → parameter_at at s ≡ Err f → HasNoItem s
-parameter_none at s f e i rest whole =
-    let read : parameter_at at s ≡ Ok (i.code, i.value, rest) = ap (parameter_at at) whole ∙ parameter_again at i rest in
-    absurd cc
+parameter_none at s f e i rest whole = grind (arith, parameter_again)
 
 cut_by : (kind : Kind) (at : ℕ) (before : List Item) (s : List ℕ) (f : TpduFault) (items : List Item) (rest : List ℕ) → HasNoItem s → s ≡ flat_map item_octets items ++ rest
     → HasItemFault kind (at + length (flat_map item_octets items)) (before ++ items) rest f → (f ≡ BadParameterLength at) ⊎ StandsBefore (BadParameterLength at) f
@@ -382,13 +335,7 @@ cut_by kind at before s f (j ∷ items) rest none whole bad = absurd (none j (fl
 
 -- no item stands there whole
 cut_first : (kind : Kind) (at : ℕ) (before : List Item) (s : List ℕ) (f : TpduFault) → 1 ≤ length s → parameter_at at s ≡ Err f → IsFirst (HasLater kind at before s) f
-cut_first kind at before s f there e =
-    let none = parameter_none at s f e in
-    let at_once : IsFirst (HasLater kind at before s) (BadParameterLength at) = record {
-      there = here kind at before s (BadParameterLength at) there (inl (refl, inl none));
-      first = λ g h. cut_by kind at before s g h.items h.rest none h.whole h.bad;
-    } in
-    subst (λ (g : TpduFault). IsFirst (HasLater kind at before s) g) (sym (parameter_bad at s f e)) at_once
+cut_first kind at before s f there e = grind (arith, parameter_none, here, cut_by, parameter_bad)
 
 nothing_later : (kind : Kind) (at : ℕ) (before : List Item) (f : TpduFault) → HasLater kind at before [] f → ⊥
 nothing_later kind at before f h = omega (arith, ap length h.whole, length-append (flat_map item_octets h.items) h.rest, h.some)
@@ -433,10 +380,7 @@ skipped_judged (suc n) at kind before (o ∷ s) blind enough octets =
 -- ---- the parameters of a unit
 
 from_start : {A : Type 0} (kind : Kind) (at : ℕ) (s : List ℕ) (r : Result A TpduFault) → Judges (HasLater kind at [] s) r → Judges (HasParameterFault kind at s) r
-from_start kind at s r =
-    judges_same (HasLater kind at [] s) (HasParameterFault kind at s) r
-    (λ f h. record { items = h.items; rest = h.rest; whole = h.whole; some = h.some; bad = h.bad })
-    (λ f h. record { items = h.items; rest = h.rest; whole = h.whole; some = h.some; bad = h.bad })
+from_start kind at s r = grind (arith, judges_same)
 
 pub parameters_judged : (kind : Kind) (at : ℕ) (s : List ℕ) → LooksAtParameters kind → IsOctets s → Judges (HasParameterFault kind at s) (known_at at s)
 parameters_judged kind at s looks octets =

@@ -18,89 +18,35 @@ Leads may v = may_be_followed v ≡ may
 
 request_leads : (at : ℕ) (header behind : List ℕ) (v : Value) → request_of at header behind ≡ Ok v → Leads false v
 unfolding request_of
-request_leads at header behind v e =
-    let b = bind_ok (connect_of at header behind) (λ c. Ok (request c)) v e in
-    subst (Leads false) (ok_is (request b.0) v b.2) refl
+request_leads at header behind v e = grind (arith, bind_ok, ok_is)
 
 confirm_leads : (at : ℕ) (header behind : List ℕ) (v : Value) → confirm_of at header behind ≡ Ok v → Leads false v
 unfolding confirm_of
-confirm_leads at header behind v e =
-    let b = bind_ok (connect_of at header behind) (λ c. Ok (confirm (reference_at 1 header) c)) v e in
-    subst (Leads false) (ok_is (confirm (reference_at 1 header) b.0) v b.2) refl
+confirm_leads at header behind v e = grind (arith, bind_ok, ok_is)
 
 disconnect_leads : (at : ℕ) (header behind : List ℕ) (v : Value) → disconnect_of at header behind ≡ Ok v → Leads false v
 unfolding disconnect_of
-disconnect_leads at header behind v e =
-    let made = disconnect (reference_at 1 header) (reference_at 3 header) (get_or header 5 0) behind in
-    let a = unless_ok (ltb (length header) 6) (BadLi at) _ v e in
-    let b = bind_ok (all_skipped_at (at + 7) (drop 6 header)) (λ skipped. Ok made) v a.1 in
-    subst (Leads false) (ok_is made v b.2) refl
+disconnect_leads at header behind v e = grind (arith, get_or, unless_ok, bind_ok, ok_is)
 
 disconnected_leads : (at : ℕ) (header : List ℕ) (v : Value) → disconnected_of at header ≡ Ok v → Leads true v
 unfolding disconnected_of
-disconnected_leads at header v e =
-    let made = disconnected (reference_at 1 header) (reference_at 3 header) in
-    let a = when_ok (eqb (length header) 5) (BadLi at) (Ok made) v e in
-    subst (Leads true) (ok_is made v a.1) refl
+disconnected_leads at header v e = grind (arith, when_ok, ok_is)
 
 transfer_leads : (at : ℕ) (header behind : List ℕ) (v : Value) → transfer_of at header behind ≡ Ok v → Leads false v
 unfolding transfer_of
-transfer_leads at header behind v e =
-    let short = data0 (leb 128 (get_or header 1 0)) behind in
-    let long = data2 (reference_at 1 header) (get_or header 3 0 % 128) (leb 128 (get_or header 3 0)) behind in
-    elim (chosen (eqb (length header) 2) (Ok short) _ (Ok v) e) [
-      | inl s ↦ subst (Leads false) (ok_is short v s.1) refl
-      | inr s ↦ subst (Leads false) (ok_is long v (when_ok (eqb (length header) 4) (BadLi at) (Ok long) v s.1).1) refl
-    ]
+transfer_leads at header behind v e = grind (arith, get_or, chosen, ok_is, when_ok)
 
 acknowledge_leads : (at : ℕ) (header : List ℕ) (v : Value) → acknowledge_of at header ≡ Ok v → Leads true v
 unfolding acknowledge_of
-acknowledge_leads at header v e =
-    let made = acknowledge (get_or header 0 0 % 16) (reference_at 1 header) (get_or header 3 0 % 128) in
-    let a = when_ok (eqb (length header) 4) (BadLi at) (Ok made) v e in
-    subst (Leads true) (ok_is made v a.1) refl
+acknowledge_leads at header v e = grind (arith, get_or, when_ok, ok_is)
 
 error_leads : (at : ℕ) (header : List ℕ) (v : Value) → error_of at header ≡ Ok v → Leads true v
 unfolding error_of
-error_leads at header v e =
-    let made = error (reference_at 1 header) (get_or header 3 0) in
-    let a = unless_ok (ltb (length header) 4) (BadLi at) _ v e in
-    let b = bind_ok (all_skipped_at (at + 5) (drop 4 header)) (λ skipped. Ok made) v a.1 in
-    subst (Leads true) (ok_is made v b.2) refl
+error_leads at header v e = grind (arith, get_or, unless_ok, bind_ok, ok_is)
 
 lead_code : (at : ℕ) (header behind : List ℕ) (v : Value) → value_of at header behind ≡ Ok v → may_be_followed v ≡ is_lead_code (get_or header 0 0)
 unfolding value_of is_lead_code
-lead_code at header behind v e =
-    let code = get_or header 0 0 in
-    elim (chosen (eqb (code / 16) 0xE) (request_of at header behind) _ (Ok v) e) [
-      | inl s ↦
-          let is : code / 16 ≡ 0xE = eqb-true _ _ s.0 in
-          request_leads at header behind v s.1 ∙ sym (no_lead code (λ h. omega arith) (λ h. omega arith) (λ h. omega arith))
-      | inr s ↦ elim (chosen (eqb (code / 16) 0xD) (confirm_of at header behind) _ (Ok v) s.1) [
-        | inl t ↦
-            let is : code / 16 ≡ 0xD = eqb-true _ _ t.0 in
-            confirm_leads at header behind v t.1 ∙ sym (no_lead code (λ h. omega arith) (λ h. omega arith) (λ h. omega arith))
-        | inr t ↦ elim (chosen (eqb (code / 16) 0x6) (acknowledge_of at header) _ (Ok v) t.1) [
-          | inl u ↦ rw u.0 (acknowledge_leads at header v u.1)
-          | inr u ↦ elim (chosen (eqb code 0x80) (disconnect_of at header behind) _ (Ok v) u.1) [
-            | inl w ↦
-                let is : code ≡ 0x80 = eqb-true _ _ w.0 in
-                disconnect_leads at header behind v w.1 ∙ sym (no_lead code (λ h. omega arith) (λ h. omega arith) (λ h. omega arith))
-            | inr w ↦ elim (chosen (eqb code 0xC0) (disconnected_of at header) _ (Ok v) w.1) [
-              | inl x ↦ rw (u.0, x.0) (disconnected_leads at header v x.1)
-              | inr x ↦ elim (chosen (eqb code 0xF0) (transfer_of at header behind) _ (Ok v) x.1) [
-                | inl y ↦
-                    let is : code ≡ 0xF0 = eqb-true _ _ y.0 in
-                    transfer_leads at header behind v y.1 ∙ sym (no_lead code (λ h. omega arith) (λ h. omega arith) (λ h. omega arith))
-                | inr y ↦
-                    let z = when_ok (eqb code 0x70) (UnknownCode (at + 1)) (error_of at header) v y.1 in
-                    rw (u.0, x.0, z.0) (error_leads at header v z.1)
-              ]
-            ]
-          ]
-        ]
-      ]
-    ]
+lead_code at header behind v e = grind (arith, get_or, chosen, eqb-true, request_leads, no_lead, confirm_leads, acknowledge_leads, disconnect_leads, disconnected_leads, transfer_leads, when_ok, error_leads)
 
 -- the first unit by its header and its fields, and how many octets it takes
 pub first_read : (at : ℕ) (b : List ℕ) (x : List ℕ × List ℕ) (v : Value) → header_at at b ≡ Ok x → value_of at x.0 x.1 ≡ Ok v → unit_at at b ≡ Ok (v, used_by x.0 (length b))

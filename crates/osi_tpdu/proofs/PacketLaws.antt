@@ -8,6 +8,7 @@ use Rattle.std.specs.Result.{result_unwrap_or}
 use Rattle.std.proofs.lemmas.Bool.{false≢true, eqb-true, eqb-false, eq-eqb, ne_eqb, cases_Bool}
 use Rattle.std.proofs.lemmas.List.{append-nil, take_all, drop_all, drop_at, length-append, take-append-drop, length-drop, length-take-le}
 use Rattle.osi_tpkt.specs.Octets.{IsOctets}
+use Rattle.osi_tpkt.proofs.OctetLaws.{octets_right, octets_drop}
 use Rattle.osi_tpdu.specs.declared.faults.TpduFault.{TpduFault}
 use Rattle.osi_tpdu.specs.Value.{Value, may_be_followed}
 use Rattle.osi_tpdu.specs.Spelling.{Spells}
@@ -16,7 +17,7 @@ use Rattle.osi_tpdu.specs.Packet.{AreUnits, AreLeads, IsFirstFault, Follows, uni
 use Rattle.osi_tpdu.specs.Writing.{Fits}
 use Rattle.osi_tpdu.proofs.WrittenLaws.{spelled_fits}
 use Rattle.osi_tpdu.specs.Rest.{can_be_read, rest_at}
-use Rattle.osi_tpdu.proofs.StepLaws.{bind_ok, chosen, ok_is, IsOctets-back, IsOctets-drop}
+use Rattle.osi_tpdu.proofs.StepLaws.{bind_ok, chosen, ok_is}
 use Rattle.osi_tpdu.proofs.UnitLaws.{unit_takes, unit_found, unit_spelled, stands_alone}
 use Rattle.osi_tpdu.proofs.UnitFaults.{unit_fault_found, unit_fault_only}
 
@@ -61,10 +62,9 @@ units_at_found (suc n) at b vs octets e =
           subst (λ (us : List Value). AreUnits us b) (ok_is (v ∷ []) vs t.1) (subst (λ (c : List ℕ). Spells v c) all s.0.spelled)
       | inr t ↦
           let q = bind_ok (units_at n (at + k) (drop k b)) (λ us. Ok (v ∷ us)) vs t.1 in
-          let within : k ≤ length b = s.0.within in
           let differ : k ≡ length b → ⊥ = eqb-false k (length b) t.0 in
           let some : 1 ≤ length (drop k b) = omega (arith, length-drop k b) in
-          let rest = units_at_found n (at + k) (drop k b) q.0 (IsOctets-drop k b octets) q.1 in
+          let rest = units_at_found n (at + k) (drop k b) q.0 (octets_drop k b octets) q.1 in
           let lead = lead_by_rest v (drop k b) (may_be_followed v) refl some s.0.followed in
           subst (λ (us : List Value). AreUnits us b) (ok_is (v ∷ q.0) vs q.2)
           (cons_units v q.0 (take k b) (drop k b) b (sym (take-append-drop k b)) lead s.0.spelled rest)
@@ -118,9 +118,7 @@ enough_by : (n m at : ℕ) (b : List ℕ) (first : Result (Value × ℕ) TpduFau
     → ((k : ℕ) → 1 ≤ k → k ≤ length b → units_at n (at + k) (drop k b) ≡ units_at m (at + k) (drop k b)) → units_at (suc n) at b ≡ units_at (suc m) at b
 unfolding units_at
 enough_by n m at b (Err f) e ln lm same = rw e refl
-enough_by n m at b (Ok x) e ln lm same =
-    let t = unit_takes at b x e in
-    rw (e, same x.1 t.0 t.1) refl
+enough_by n m at b (Ok x) e ln lm same = grind (arith, unit_takes)
 
 pub units_enough : (n m at : ℕ) (b : List ℕ) → length b < n → length b < m → units_at n at b ≡ units_at m at b
 units_enough zero m at b ln lm = absurd (omega arith)
@@ -236,10 +234,7 @@ first_left at rest x some can read =
 -- a unit that cannot be read is no part of what can be
 pub none_bad : (at : ℕ) (rest : List ℕ) (f : TpduFault) → 1 ≤ length rest → can_be_read at rest ≡ true → unit_at at rest ≡ Err f → ⊥
 unfolding units_at
-none_bad at rest f some can read =
-    let here = some_left at rest some in
-    let bad : is_ok (units_at (suc (length rest)) at rest) ≡ false = rw read refl in
-    absurd (false≢true (sym bad ∙ sym here.0 ∙ can))
+none_bad at rest f some can read = grind (arith, some_left, false≢true)
 
 packet_by : (b : List ℕ) (r : Read) → units_at (suc (length b)) 0 b ≡ r → 1 ≤ length b → IsOk r → (can_be_read 0 b ≡ true) × (r ≡ Ok (rest_at 0 b))
 packet_by b (Ok vs) e some h =
@@ -320,15 +315,7 @@ others_bad v (Ok vs) f e = absurd cc
 others_bad v (Err g) f e = cc
 
 stops_here : (at : ℕ) (b : List ℕ) (f : TpduFault) → unit_at at b ≡ Err f → Stops at b f
-stops_here at b f e = record {
-  leads = [];
-  front = [];
-  rest = b;
-  whole = refl;
-  are_leads = refl;
-  some = λ h. h;
-  bad = ap (λ (k : ℕ). unit_at k b) (add-zero at) ∙ e;
-}
+stops_here at b f e = grind (arith, add-zero)
 
 stops_later : (at k : ℕ) (v : Value) (b : List ℕ) (f : TpduFault) → Spells v (take k b) → k < length b → IsTrue (may_be_followed v) → Stops (at + k) (drop k b) f → Stops at b f
 stops_later at k v b f s less lead stop =
@@ -360,12 +347,11 @@ stop_by n at b f (Ok x) e enough octets bad later =
     elim (chosen (eqb k (length b)) (ok (v ∷ [])) (with_first v (units_at n (at + k) (drop k b))) (Err f) after) [
       | inl t ↦ absurd (ok_no_fault (v ∷ []) f t.1)
       | inr t ↦
-          let within : k ≤ length b = s.0.within in
           let differ : k ≡ length b → ⊥ = eqb-false k (length b) t.0 in
           let left : 1 ≤ length (drop k b) = omega (arith, length-drop k b) in
           let lead = lead_by_rest v (drop k b) (may_be_followed v) refl left s.0.followed in
           let more : length (drop k b) < n = omega (arith, length-drop k b, s.1) in
-          stops_later at k v b f s.0.spelled (omega arith) lead (later (at + k) (drop k b) more (IsOctets-drop k b octets) (others_bad v (units_at n (at + k) (drop k b)) f t.1))
+          stops_later at k v b f s.0.spelled (omega arith) lead (later (at + k) (drop k b) more (octets_drop k b octets) (others_bad v (units_at n (at + k) (drop k b)) f t.1))
     ]
 
 units_at_stop : (n at : ℕ) (b : List ℕ) (f : TpduFault) → length b < n → IsOctets b → units_at n at b ≡ Err f → Stops at b f
@@ -383,7 +369,7 @@ fault_found b f octets bad =
       whole = s.whole;
       are_leads = s.are_leads;
       some = s.some;
-      bad = unit_fault_found (length s.front) s.rest f (IsOctets-back s.front s.rest (subst (λ (t : List ℕ). IsOctets t) s.whole octets)) (ap (λ (k : ℕ). unit_at k s.rest) (sym (zero-add (length s.front))) ∙ s.bad);
+      bad = unit_fault_found (length s.front) s.rest f (octets_right s.front s.rest (subst (λ (t : List ℕ). IsOctets t) s.whole octets)) (ap (λ (k : ℕ). unit_at k s.rest) (sym (zero-add (length s.front))) ∙ s.bad);
     }
 
 units_at_bad : (n at : ℕ) (leads : List Value) (front rest : List ℕ) (f : TpduFault) → length (front ++ rest) < n → AreLeads leads front → (1 ≤ length (front ++ rest) → 1 ≤ length rest)
@@ -414,7 +400,7 @@ units_at_bad (suc n) at (v ∷ leads) front rest f enough are some bad =
 pub fault_only : (b : List ℕ) (f : TpduFault) → IsOctets b → IsFirstFault b f → units_of b ≡ Err f
 unfolding units_of
 fault_only b f octets first =
-    let behind : IsOctets first.rest = IsOctets-back first.front first.rest (subst (λ (t : List ℕ). IsOctets t) first.whole octets) in
+    let behind : IsOctets first.rest = octets_right first.front first.rest (subst (λ (t : List ℕ). IsOctets t) first.whole octets) in
     let some : 1 ≤ length (first.front ++ first.rest) → 1 ≤ length first.rest = λ h. first.some (subst (λ (t : List ℕ). 1 ≤ length t) (sym first.whole) h) in
     let bad : unit_at (0 + length first.front) first.rest ≡ Err f = ap (λ (k : ℕ). unit_at k first.rest) (zero-add (length first.front)) ∙ unit_fault_only (length first.front) first.rest f behind first.bad in
     let there = units_at_bad (suc (length (first.front ++ first.rest))) 0 first.leads first.front first.rest f (omega arith) first.are_leads some bad in

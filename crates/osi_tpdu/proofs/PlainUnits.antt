@@ -15,9 +15,7 @@ use Rattle.osi_tpdu.proofs.PacketLaws.{units_found, units_only}
 -- a unit that takes all octets of a packet is its only one
 only_unit : (unit : Value) (octets : List ℕ) → unit_at 0 octets ≡ Ok (unit, length octets) → units_of octets ≡ Ok (unit ∷ [])
 unfolding units_of units_at
-only_unit unit octets e =
-    let all : eqb (length octets) (length octets) ≡ true = eq-eqb (length octets) (length octets) refl in
-    rw (e, all) refl
+only_unit unit octets e = grind (arith, eq-eqb)
 
 data0_only : (last : ℕ) (user : List ℕ) → units_of (2 ∷ 240 ∷ last ∷ user) ≡ Ok (data0 (leb 128 last) user ∷ [])
 unfolding unit_at value_of transfer_of
@@ -75,14 +73,9 @@ data2_read (x ∷ y ∷ high ∷ low ∷ last ∷ user) long a b =
     ∙ ap (λ u. Ok (data2 (256 * high + low) (last % 128) (leb 128 last) u ∷ [])) (behind 5 (x ∷ y ∷ high ∷ low ∷ last ∷ user))
 
 pub ack_read : (packet : List ℕ) → length packet ≡ 5 → get_or packet 0 0 ≡ 4 → get_or packet 1 0 / 16 ≡ 6 → units_of packet ≡ Ok (ack_in packet ∷ [])
-ack_read [] long a b = absurd (omega arith)
-ack_read (x ∷ []) long a b = absurd (omega arith)
-ack_read (x ∷ y ∷ []) long a b = absurd (omega arith)
-ack_read (x ∷ y ∷ high ∷ []) long a b = absurd (omega arith)
-ack_read (x ∷ y ∷ high ∷ low ∷ []) long a b = absurd (omega arith)
 ack_read (x ∷ first ∷ high ∷ low ∷ last ∷ []) long a b =
     ap (λ n. units_of (n ∷ first ∷ high ∷ low ∷ last ∷ [])) a ∙ ack_only first high low last b
-ack_read (x ∷ y ∷ high ∷ low ∷ last ∷ z ∷ more) long a b = absurd (omega arith)
+ack_read _ long a b = absurd (omega arith)
 
 -- so they spell that unit
 

@@ -30,19 +30,6 @@ done x = Ok x
 pub ok_is : {A : Type 0} (x y : A) → done x ≡ done y → x ≡ y
 ok_is x y e = cc
 
-pub IsOctets-drop : (n : ℕ) (s : List ℕ) → IsOctets s → IsOctets (drop n s)
-IsOctets-drop n s h i = rw get_or-drop (h (n + i))
-
-pub IsOctets-take : (n : ℕ) (s : List ℕ) → IsOctets s → IsOctets (take n s)
-IsOctets-take n s h i =
-    elim (cases_lt i n) [
-      | inl lt ↦ rw (get_or-take n s i 0 lt) (h i)
-      | inr le ↦ rw (get_or_past (take n s) i 0 (omega (arith, length-take n s))) (omega arith)
-    ]
-
-pub IsOctets-nil : IsOctets []
-IsOctets-nil i = omega arith
-
 pub IsOctets-cons : (o : ℕ) (s : List ℕ) → o < 256 → IsOctets s → IsOctets (o ∷ s)
 IsOctets-cons o s lt h zero = lt
 IsOctets-cons o s lt h (suc i) = h i
@@ -50,19 +37,6 @@ IsOctets-cons o s lt h (suc i) = h i
 pub IsOctets-rest : (o : ℕ) (s : List ℕ) → IsOctets (o ∷ s) → IsOctets s
 IsOctets-rest o s h i = h (suc i)
 
-pub IsOctets-append : (s t : List ℕ) → IsOctets s → IsOctets t → IsOctets (s ++ t)
-IsOctets-append [] t hs ht = ht
-IsOctets-append (o ∷ s) t hs ht = IsOctets-cons o (s ++ t) (hs 0) (IsOctets-append s t (IsOctets-rest o s hs) ht)
-
-pub IsOctets-front : (s t : List ℕ) → IsOctets (s ++ t) → IsOctets s
-IsOctets-front [] t h = IsOctets-nil
-IsOctets-front (o ∷ s) t h = IsOctets-cons o s (h 0) (IsOctets-front s t (IsOctets-rest o (s ++ t) h))
-
-pub IsOctets-back : (s t : List ℕ) → IsOctets (s ++ t) → IsOctets t
-IsOctets-back [] t h = h
-IsOctets-back (o ∷ s) t h = IsOctets-back s t (IsOctets-rest o (s ++ t) h)
-
 pub one_long : (s : List ℕ) → length s ≡ 1 → s ≡ get_or s 0 0 ∷ []
-one_long [] e = absurd (omega arith)
 one_long (o ∷ []) e = refl
-one_long (o ∷ p ∷ s) e = absurd (omega arith)
+one_long _ e = absurd (omega arith)

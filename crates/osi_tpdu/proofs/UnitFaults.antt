@@ -4,12 +4,13 @@ use Rattle.std.specs.Prelude.{IsOk}
 use Rattle.std.proofs.lemmas.Bool.{false≢true, ltb-true, ltb-false, eqb-true, eqb-false}
 use Rattle.std.proofs.lemmas.List.{length-take-le, drop_at, take-append-drop}
 use Rattle.osi_tpkt.specs.Octets.{IsOctets}
+use Rattle.osi_tpkt.proofs.OctetLaws.{octets_drop, octets_left}
 use Rattle.osi_tpdu.specs.declared.faults.TpduFault.{TpduFault}
 use Rattle.osi_tpdu.specs.declared.faults.TpduFault.TheVariants.{BadLi, UnknownCode}
 use Rattle.osi_tpdu.specs.Value.{Parameters, Connect, Value, request, confirm, disconnect, disconnected, data0, data2, acknowledge, error, may_be_followed}
 use Rattle.osi_tpdu.specs.Reading.{header_at, reference_at, known_at, all_skipped_at, connect_of, request_of, confirm_of, disconnect_of, disconnected_of, transfer_of, acknowledge_of, error_of, value_of, unit_at}
 use Rattle.osi_tpdu.specs.Faults.{Kind, Request, Confirm, Disconnect, Disconnected, Transfer, Acknowledge, Report, HasCode, MayCount, HasParametersBehind, LooksAtParameters, HasParameterFault, HasHeader, HasNoHeader, BeginsUnit, HasBadIndicator, HasUnknownCode, HasFault, StandsBefore, IsFirst, IsUnitFault}
-use Rattle.osi_tpdu.proofs.StepLaws.{chosen, ok_is, IsOctets-drop, IsOctets-front, IsOctets-rest}
+use Rattle.osi_tpdu.proofs.StepLaws.{chosen, ok_is, IsOctets-rest}
 use Rattle.osi_tpdu.proofs.UnitLaws.{header_found, header_again}
 use Rattle.osi_tpdu.proofs.FaultLaws.{Judges, judges_same, judges_bind, judges_map, judges_cond, parameters_judged, skips_judged, parameter_place}
 
@@ -32,11 +33,8 @@ kind_named code =
 named_kind : (kind : Kind) (code : ℕ) → HasCode kind code → kind_named code ≡ Some kind
 named_kind Request code h = (let half : code / 16 ≡ 14 = omega (arith, h.1, h.2) in rw half refl)
 named_kind Confirm code h = (let half : code / 16 ≡ 13 = omega (arith, h.1, h.2) in rw half refl)
-named_kind Disconnect code h = ap kind_named h
-named_kind Disconnected code h = ap kind_named h
-named_kind Transfer code h = ap kind_named h
 named_kind Acknowledge code h = (let half : code / 16 ≡ 6 = omega (arith, h.1, h.2) in rw half refl)
-named_kind Report code h = ap kind_named h
+named_kind _ code h = ap kind_named h
 
 some_is : (k j : Kind) → (let o : Option Kind = Some k in o) ≡ Some j → k ≡ j
 some_is k j e = cc
@@ -52,29 +50,15 @@ same_unit P k j b h g x y p =
     subst (λ (o : List ℕ). P j o) headers (subst (λ (q : Kind). P q h) (same_kind k j (get_or g 0 0) code y.code) p)
 
 behind_one : (kind : Kind) (m n : ℕ) → HasParametersBehind kind m → HasParametersBehind kind n → m ≡ n
-behind_one Request m n a b = a ∙ sym b
-behind_one Confirm m n a b = a ∙ sym b
-behind_one Disconnect m n a b = a ∙ sym b
 behind_one Disconnected m n a b = absurd a
 behind_one Transfer m n a b = absurd a
 behind_one Acknowledge m n a b = absurd a
-behind_one Report m n a b = a ∙ sym b
+behind_one _ m n a b = a ∙ sym b
 
 -- ---- a bad length indicator
 
 li_first : (at : ℕ) (b : List ℕ) → HasBadIndicator b → IsFirst (HasFault at b) (BadLi at)
-li_first at b bad = record {
-  there = inl (refl, bad);
-  first = λ f h. elim h [
-    | inl a ↦ inl a.0
-    | inr a ↦ elim a [
-      | inl u ↦ inr (subst (λ (g : TpduFault). StandsBefore (BadLi at) g) (sym u.0) (inl (omega arith)))
-      | inr p ↦
-          let place = parameter_place p.0 (at + (1 + length p.1)) p.2 f p.5 in
-          inr (inl (omega arith))
-    ]
-  ];
-}
+li_first at b bad = grind (arith, parameter_place)
 
 no_li : (b header : List ℕ) (kind : Kind) → BeginsUnit kind b header → MayCount kind (length header) → HasBadIndicator b → ⊥
 no_li b header kind u counts h =
@@ -138,9 +122,7 @@ behind_judged at n b header kind r long u counts behind j =
 -- ---- each kind
 
 too_short : (n least : ℕ) → ltb n least ≡ true → least ≤ n → ⊥
-too_short n least e le =
-    let lt : n < least = ltb-true n least e in
-    omega arith
+too_short n least e le = omega (arith, ltb-true)
 
 offset_moved : {A : Type 0} (kind : Kind) (at to : ℕ) (s : List ℕ) (r : Result A TpduFault) → at ≡ to → Judges (HasParameterFault kind at s) r → Judges (HasParameterFault kind to s) r
 offset_moved kind at to s r e j = subst (λ (n : ℕ). Judges (HasParameterFault kind n s) r) e j
@@ -162,7 +144,7 @@ connect_judged at b header user kind octets u looks counts long behind =
     judges_cond (HasFault at b) (ltb (length header) 6) (Err (BadLi at)) _ (λ e. li_first at b (inr (kind, header, u, λ c. too_short (length header) 6 e (long c))))
     (λ e.
     let le : 6 ≤ length header = ltb-false (length header) 6 e in
-    let j = parameters_judged kind (at + 7) (drop 6 header) looks (IsOctets-drop 6 header octets) in
+    let j = parameters_judged kind (at + 7) (drop 6 header) looks (octets_drop 6 header octets) in
     judges_map (HasFault at b) (known_at (at + 7) (drop 6 header)) (made header user)
     (behind_judged at 6 b header kind (known_at (at + 7) (drop 6 header)) le u (counts le) behind
     (offset_moved kind (at + 7) (at + (1 + 6)) (drop 6 header) (known_at (at + 7) (drop 6 header)) (omega arith) j)))
@@ -182,7 +164,7 @@ disconnect_judged at b header user octets u =
     judges_cond (HasFault at b) (ltb (length header) 6) (Err (BadLi at)) _ (λ e. li_first at b (inr (Disconnect, header, u, too_short (length header) 6 e)))
     (λ e.
     let le : 6 ≤ length header = ltb-false (length header) 6 e in
-    let j = skips_judged Disconnect (at + 7) (drop 6 header) (λ no. no) (IsOctets-drop 6 header octets) in
+    let j = skips_judged Disconnect (at + 7) (drop 6 header) (λ no. no) (octets_drop 6 header octets) in
     judges_map (HasFault at b) (all_skipped_at (at + 7) (drop 6 header)) (λ skipped. disconnect (reference_at 1 header) (reference_at 3 header) (get_or header 5 0) user)
     (behind_judged at 6 b header Disconnect (all_skipped_at (at + 7) (drop 6 header)) le u le refl
     (offset_moved Disconnect (at + 7) (at + (1 + 6)) (drop 6 header) (all_skipped_at (at + 7) (drop 6 header)) (omega arith) j)))
@@ -193,7 +175,7 @@ error_judged at b header octets u =
     judges_cond (HasFault at b) (ltb (length header) 4) (Err (BadLi at)) _ (λ e. li_first at b (inr (Report, header, u, too_short (length header) 4 e)))
     (λ e.
     let le : 4 ≤ length header = ltb-false (length header) 4 e in
-    let j = skips_judged Report (at + 5) (drop 4 header) (λ no. no) (IsOctets-drop 4 header octets) in
+    let j = skips_judged Report (at + 5) (drop 4 header) (λ no. no) (octets_drop 4 header octets) in
     judges_map (HasFault at b) (all_skipped_at (at + 5) (drop 4 header)) (λ skipped. error (reference_at 1 header) (get_or header 3 0))
     (behind_judged at 4 b header Report (all_skipped_at (at + 5) (drop 4 header)) le u le refl
     (offset_moved Report (at + 5) (at + (1 + 4)) (drop 4 header) (all_skipped_at (at + 5) (drop 4 header)) (omega arith) j)))
@@ -211,11 +193,7 @@ acknowledge_judged at b header u =
     (λ e. plain_fine at b header Acknowledge u (eqb-true (length header) 4 e) (λ n no. no)) (λ e. li_first at b (inr (Acknowledge, header, u, eqb-false (length header) 4 e)))
 
 neither : (n : ℕ) → eqb n 2 ≡ false → eqb n 4 ≡ false → (n ≡ 2) ⊎ (n ≡ 4) → ⊥
-neither n a b h =
-    elim h [
-      | inl two ↦ eqb-false n 2 a two
-      | inr four ↦ eqb-false n 4 b four
-    ]
+neither n a b h = grind (arith, eqb-false)
 
 transfer_judged : (at : ℕ) (b header user : List ℕ) → BeginsUnit Transfer b header → Judges (HasFault at b) (transfer_of at header user)
 unfolding transfer_of
@@ -281,17 +259,10 @@ value_judged at b header behind octets there =
 
 header_bad : (at : ℕ) (b : List ℕ) (f : TpduFault) → header_at at b ≡ Err f → f ≡ BadLi at
 unfolding header_at
-header_bad at b f e =
-    let li = get_or b 0 0 in
-    elim (chosen ((eqb li 0) || (ltb 254 li || leb (length b) li)) (Err (BadLi at)) _ (Err f) e) [
-      | inl t ↦ (let q = t.1 in cc)
-      | inr t ↦ (let q = t.1 in absurd cc)
-    ]
+header_bad at b f e = grind (arith, get_or, chosen)
 
 header_none : (at : ℕ) (b : List ℕ) (f : TpduFault) → header_at at b ≡ Err f → HasNoHeader b
-header_none at b f e header behind h =
-    let read : header_at at b ≡ Ok (header, behind) = ap (header_at at) h.whole ∙ header_again at header behind h.at_least h.at_most in
-    absurd cc
+header_none at b f e header behind h = grind (arith, header_again)
 
 pub unit_judged : (at : ℕ) (b : List ℕ) → IsOctets b → Judges (HasFault at b) (unit_at at b)
 unfolding unit_at
@@ -302,7 +273,7 @@ unit_judged at b octets =
     let found = header_found at b x e in
     let there : HasHeader b x.0 x.1 = record { whole = found.0; at_least = found.1; at_most = found.2 } in
     let whole : IsOctets (length x.0 ∷ x.0 ++ x.1) = subst (λ (s : List ℕ). IsOctets s) found.0 octets in
-    let inner = IsOctets-front x.0 x.1 (IsOctets-rest (length x.0) (x.0 ++ x.1) whole) in
+    let inner = octets_left x.0 x.1 (IsOctets-rest (length x.0) (x.0 ++ x.1) whole) in
     judges_map (HasFault at b) (value_of at x.0 x.1) (λ v. (v, cond (may_be_followed v) (1 + length x.0) (length b))) (value_judged at b x.0 x.1 inner there))
 
 abbrev Read : Type 0
@@ -310,9 +281,7 @@ Read = Result (Value × ℕ) TpduFault
 
 fault_by : (at : ℕ) (b : List ℕ) (f : TpduFault) (r : Read) → r ≡ Err f → Judges (HasFault at b) r → IsUnitFault at b f
 fault_by at b f (Ok x) e j = absurd cc
-fault_by at b f (Err g) e j =
-    let same : g ≡ f = cc in
-    subst (λ (h : TpduFault). IsUnitFault at b h) same j
+fault_by at b f (Err g) e j = grind arith
 
 -- what is answered is the first
 pub unit_fault_found : (at : ℕ) (b : List ℕ) (f : TpduFault) → IsOctets b → unit_at at b ≡ Err f → IsUnitFault at b f

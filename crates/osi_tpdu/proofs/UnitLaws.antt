@@ -6,13 +6,14 @@ use Rattle.std.proofs.lemmas.Bool.{ltb-false, leb-true, leb-false, le-leb, lt-le
 use Rattle.std.proofs.lemmas.List.{append-nil, take_at, drop_at, length-append, take-append-drop, length-take, length-take-le, take_all, drop_all}
 use Rattle.osi_tpkt.specs.Octets.{IsOctets}
 use Rattle.osi_tpkt.specs.Unit.{IsAtFront}
+use Rattle.osi_tpkt.proofs.OctetLaws.{octets_take, octets_drop, octets_left, octets_right}
 use Rattle.osi_tpdu.specs.declared.faults.TpduFault.{TpduFault}
 use Rattle.osi_tpdu.specs.declared.faults.TpduFault.TheVariants.{BadLi, UnknownCode}
 use Rattle.osi_tpdu.specs.Value.{Parameters, Connect, Value, request, confirm, disconnect, disconnected, data0, data2, acknowledge, error, user_data, may_be_followed, IsReference, IsConnect, HasFieldsInRange}
 use Rattle.osi_tpdu.specs.Spelling.{Item, Means, item_octets, two, below_bit, connect_part, IsHeader, Spells}
 use Rattle.osi_tpdu.specs.Reading.{header_at, reference_at, known_at, all_skipped_at, connect_of, request_of, confirm_of, disconnect_of, disconnected_of, transfer_of, acknowledge_of, error_of, value_of, unit_at}
 use Rattle.osi_tpdu.specs.Packet.{Follows}
-use Rattle.osi_tpdu.proofs.StepLaws.{bind_ok, unless_ok, when_ok, chosen, ok_is, IsOctets-take, IsOctets-drop, IsOctets-front, IsOctets-back, IsOctets-rest}
+use Rattle.osi_tpdu.proofs.StepLaws.{bind_ok, unless_ok, when_ok, chosen, ok_is, IsOctets-rest}
 use Rattle.osi_tpdu.proofs.ItemLaws.{known_found, known_only, skipped_found, skipped_only}
 
 -- ---- the length indicator
@@ -23,66 +24,17 @@ Parts = List ℕ × List ℕ
 pub header_found : (at : ℕ) (b : List ℕ) (x : Parts) → header_at at b ≡ Ok x → (b ≡ length x.0 ∷ x.0 ++ x.1) × (1 ≤ length x.0) × (length x.0 ≤ 254)
 unfolding header_at
 header_found at [] x e = absurd cc
-header_found at (li ∷ os) x e =
-    let a = unless_ok (eqb li 0 || (ltb 254 li || leb (length (li ∷ os)) li)) (BadLi at) (Ok (take li os, drop li os)) x e in
-    let t = or_parts (eqb li 0) (ltb 254 li || leb (length (li ∷ os)) li) a.0 in
-    let u = or_parts (ltb 254 li) (leb (length (li ∷ os)) li) t.1 in
-    let some : li ≡ 0 → ⊥ = eqb-false li 0 t.0 in
-    let most : li ≤ 254 = ltb-false 254 li u.0 in
-    let within : li < length (li ∷ os) = leb-false _ _ u.1 in
-    let len : length (take li os) ≡ li = omega (arith, length-take li os) in
-    let whole : li ∷ os ≡ length (take li os) ∷ take li os ++ drop li os =
-    λ i. sym len i ∷ sym (take-append-drop li os) i in
-    subst (λ (y : Parts). (li ∷ os ≡ length y.0 ∷ y.0 ++ y.1) × (1 ≤ length y.0) × (length y.0 ≤ 254)) (ok_is (take li os, drop li os) x a.1)
-    (whole, omega arith, omega arith)
+header_found at (li ∷ os) x e = grind (arith, unless_ok, or_parts, eqb-false, ltb-false, leb-false, length-take, take-append-drop, ok_is)
 
 pub header_again : (at : ℕ) (h t : List ℕ) → 1 ≤ length h → length h ≤ 254 → header_at at (length h ∷ h ++ t) ≡ Ok (h, t)
 unfolding header_at
-header_again at h t some most =
-    let zero_not : eqb (length h) 0 ≡ false = ne_eqb _ _ (λ e. omega arith) in
-    let within : leb (length (length h ∷ h ++ t)) (length h) ≡ false = lt-leb _ _ (omega (arith, length-append h t)) in
-    rw (zero_not, le-ltb 254 (length h) most, within, take_at h t (length h) refl, drop_at h t (length h) refl) refl
+header_again at h t some most = grind (arith, ne_eqb, lt-leb, length-append, le-ltb, take_at, drop_at)
 
 -- ---- octets at the front of a header
 
 split_two : (h : List ℕ) → 2 ≡ length h → h ≡ get_or h 0 0 ∷ get_or h 1 0 ∷ []
-split_two [] e = absurd (omega arith)
-split_two (a ∷ []) e = absurd (omega arith)
 split_two (a ∷ b ∷ []) e = refl
-split_two (a ∷ b ∷ c ∷ h) e = absurd (omega arith)
-
-split_four : (h : List ℕ) → 4 ≤ length h → h ≡ get_or h 0 0 ∷ get_or h 1 0 ∷ get_or h 2 0 ∷ get_or h 3 0 ∷ drop 4 h
-split_four [] e = absurd (omega arith)
-split_four (a ∷ []) e = absurd (omega arith)
-split_four (a ∷ b ∷ []) e = absurd (omega arith)
-split_four (a ∷ b ∷ c ∷ []) e = absurd (omega arith)
-split_four (a ∷ b ∷ c ∷ d ∷ h) e = refl
-
-split_six : (h : List ℕ) → 6 ≤ length h → h ≡ get_or h 0 0 ∷ get_or h 1 0 ∷ get_or h 2 0 ∷ get_or h 3 0 ∷ get_or h 4 0 ∷ get_or h 5 0 ∷ drop 6 h
-split_six [] e = absurd (omega arith)
-split_six (a ∷ []) e = absurd (omega arith)
-split_six (a ∷ b ∷ []) e = absurd (omega arith)
-split_six (a ∷ b ∷ c ∷ []) e = absurd (omega arith)
-split_six (a ∷ b ∷ c ∷ d ∷ []) e = absurd (omega arith)
-split_six (a ∷ b ∷ c ∷ d ∷ f ∷ []) e = absurd (omega arith)
-split_six (a ∷ b ∷ c ∷ d ∷ f ∷ g ∷ h) e = refl
-
-split_five : (h : List ℕ) → length h ≡ 5 → h ≡ get_or h 0 0 ∷ get_or h 1 0 ∷ get_or h 2 0 ∷ get_or h 3 0 ∷ get_or h 4 0 ∷ []
-split_five [] e = absurd (omega arith)
-split_five (a ∷ []) e = absurd (omega arith)
-split_five (a ∷ b ∷ []) e = absurd (omega arith)
-split_five (a ∷ b ∷ c ∷ []) e = absurd (omega arith)
-split_five (a ∷ b ∷ c ∷ d ∷ []) e = absurd (omega arith)
-split_five (a ∷ b ∷ c ∷ d ∷ f ∷ []) e = refl
-split_five (a ∷ b ∷ c ∷ d ∷ f ∷ g ∷ h) e = absurd (omega arith)
-
-drop_four : (h : List ℕ) → length h ≡ 4 → drop 4 h ≡ []
-drop_four [] e = absurd (omega arith)
-drop_four (a ∷ []) e = absurd (omega arith)
-drop_four (a ∷ b ∷ []) e = absurd (omega arith)
-drop_four (a ∷ b ∷ c ∷ []) e = absurd (omega arith)
-drop_four (a ∷ b ∷ c ∷ d ∷ []) e = refl
-drop_four (a ∷ b ∷ c ∷ d ∷ f ∷ h) e = absurd (omega arith)
+split_two h e = absurd (omega arith)
 
 high_of : (a b : ℕ) → b < 256 → a ≡ (256 * a + b) / 256
 high_of a b lt = omega arith
@@ -96,12 +48,29 @@ two_again n = omega arith
 is_reference : (a b : ℕ) → a < 256 → b < 256 → IsReference (256 * a + b)
 is_reference a b la lb = omega arith
 
+two_is : (a b : ℕ) → b < 256 → a ∷ b ∷ [] ≡ two (256 * a + b)
+two_is a b lt = grind (arith, high_of, low_of)
+
+front_four : (h : List ℕ) → IsOctets h → 4 ≤ length h → h ≡ get_or h 0 0 ∷ two (reference_at 1 h) ++ (get_or h 3 0 ∷ drop 4 h)
+front_four (a ∷ b ∷ c ∷ d ∷ h) octets le = ap (λ (t : List ℕ). a ∷ t ++ (d ∷ h)) (two_is b c (octets 2))
+front_four h octets le = absurd (omega arith)
+
+front_five : (h : List ℕ) → IsOctets h → length h ≡ 5 → h ≡ get_or h 0 0 ∷ two (reference_at 1 h) ++ two (reference_at 3 h)
+front_five (a ∷ b ∷ c ∷ d ∷ e ∷ []) octets le = let first = two_is b c (octets 2) in let second = two_is d e (octets 4) in λ i. a ∷ first i ++ second i
+front_five h octets le = absurd (omega arith)
+
+front_six : (h : List ℕ) → IsOctets h → 6 ≤ length h → h ≡ get_or h 0 0 ∷ two (reference_at 1 h) ++ two (reference_at 3 h) ++ (get_or h 5 0 ∷ drop 6 h)
+front_six (a ∷ b ∷ c ∷ d ∷ e ∷ f ∷ h) octets le = let first = two_is b c (octets 2) in let second = two_is d e (octets 4) in λ i. a ∷ first i ++ second i ++ (f ∷ h)
+front_six h octets le = absurd (omega arith)
+
+first_reference : (header : List ℕ) → IsOctets header → IsReference (reference_at 1 header)
+first_reference header octets = is_reference (get_or header 1 0) (get_or header 2 0) (octets 1) (octets 2)
+
+second_reference : (header : List ℕ) → IsOctets header → IsReference (reference_at 3 header)
+second_reference header octets = is_reference (get_or header 3 0) (get_or header 4 0) (octets 3) (octets 4)
+
 bit_above : (o : ℕ) → o < 256 → o ≡ below_bit (leb 128 o) (o % 128)
-bit_above o lt =
-    elim (cases_Bool (leb 128 o)) [
-      | inl e ↦ let le : 128 ≤ o = leb-true 128 o e in rw e (omega arith)
-      | inr e ↦ let lt' : o < 128 = leb-false 128 o e in rw e (omega arith)
-    ]
+bit_above o lt = grind (arith, cases_Bool, leb-true, leb-false)
 
 bit_read : (b : Bool) (n : ℕ) → n < 128 → leb 128 (below_bit b n) ≡ b
 bit_read true n lt = le-leb 128 (128 + n) (omega arith)
@@ -143,35 +112,22 @@ connect_found at half header user c code octets behind e =
     let long : 6 ≤ length header = ltb-false _ _ a.0 in
     let b = bind_ok (known_at (at + 7) (drop 6 header)) (λ p. Ok (content header p user)) c a.1 in
     let p = b.0 in
-    let f = known_found (at + 7) (drop 6 header) p (IsOctets-drop 6 header octets) b.1 in
+    let f = known_found (at + 7) (drop 6 header) p (octets_drop 6 header octets) b.1 in
     let o0 = get_or header 0 0 in
-    let o1 = get_or header 1 0 in
-    let o2 = get_or header 2 0 in
-    let o3 = get_or header 3 0 in
-    let o4 = get_or header 4 0 in
     let o5 = get_or header 5 0 in
-    let l0 : o0 < 256 = octets 0 in
-    let l1 : o1 < 256 = octets 1 in
-    let l2 : o2 < 256 = octets 2 in
-    let l3 : o3 < 256 = octets 3 in
-    let l4 : o4 < 256 = octets 4 in
     let l5 : o5 < 256 = octets 5 in
     let e0 : o0 ≡ 16 * half + o0 % 16 = omega arith in
-    let e1 = high_of o1 o2 l2 in
-    let e2 = low_of o1 o2 l2 in
-    let e3 = high_of o3 o4 l4 in
-    let e4 = low_of o3 o4 l4 in
     let e5 : o5 ≡ 16 * (o5 / 16) + o5 % 16 = omega arith in
     let made = content header p user in
-    let pieces : o0 ∷ o1 ∷ o2 ∷ o3 ∷ o4 ∷ o5 ∷ drop 6 header ≡ connect_part (16 * half) (reference_at 1 header) made ++ flat_map item_octets f.0 =
-    λ i. e0 i ∷ e1 i ∷ e2 i ∷ e3 i ∷ e4 i ∷ e5 i ∷ f.1 i in
+    let pieces : o0 ∷ two (reference_at 1 header) ++ two (reference_at 3 header) ++ (o5 ∷ drop 6 header) ≡ connect_part (16 * half) (reference_at 1 header) made ++ flat_map item_octets f.0 =
+    λ i. e0 i ∷ two (reference_at 1 header) ++ two (reference_at 3 header) ++ (e5 i ∷ f.1 i) in
     subst (λ (c' : Connect). ConnectRead (16 * half) header user c') (ok_is made c b.2) (record {
       items = f.0;
       means = f.2;
-      header_is = split_six header long ∙ pieces;
+      header_is = front_six header octets long ∙ pieces;
       in_range = record {
         credit = omega arith;
-        source = is_reference o3 o4 l3 l4;
+        source = second_reference header octets;
         class = omega arith;
         options = omega arith;
         parameters = f.3;
@@ -194,12 +150,6 @@ request_found at header behind code v octets back e =
       user = r.user_is;
     })
 
-first_reference : (header : List ℕ) → IsOctets header → IsReference (reference_at 1 header)
-first_reference header octets = is_reference (get_or header 1 0) (get_or header 2 0) (octets 1) (octets 2)
-
-second_reference : (header : List ℕ) → IsOctets header → IsReference (reference_at 3 header)
-second_reference header octets = is_reference (get_or header 3 0) (get_or header 4 0) (octets 3) (octets 4)
-
 confirm_found : (at : ℕ) (header behind : List ℕ) → get_or header 0 0 / 16 ≡ 13 → Reading (confirm_of at) header behind
 unfolding confirm_of
 confirm_found at header behind code v octets back e =
@@ -217,44 +167,19 @@ disconnect_found at header behind code v octets back e =
     let made = disconnect (reference_at 1 header) (reference_at 3 header) (get_or header 5 0) behind in
     let a = unless_ok (ltb (length header) 6) (BadLi at) _ v e in
     let b = bind_ok (all_skipped_at (at + 7) (drop 6 header)) (λ skipped. Ok made) v a.1 in
-    let f = skipped_found (at + 7) (drop 6 header) (IsOctets-drop 6 header octets) b.1 in
-    let o1 = get_or header 1 0 in
-    let o2 = get_or header 2 0 in
-    let o3 = get_or header 3 0 in
-    let o4 = get_or header 4 0 in
-    let e1 = high_of o1 o2 (octets 2) in
-    let e2 = low_of o1 o2 (octets 2) in
-    let e3 = high_of o3 o4 (octets 4) in
-    let e4 = low_of o3 o4 (octets 4) in
-    let pieces : get_or header 0 0 ∷ o1 ∷ o2 ∷ o3 ∷ o4 ∷ get_or header 5 0 ∷ drop 6 header
+    let f = skipped_found (at + 7) (drop 6 header) (octets_drop 6 header octets) b.1 in
+    let pieces : get_or header 0 0 ∷ two (reference_at 1 header) ++ two (reference_at 3 header) ++ (get_or header 5 0 ∷ drop 6 header)
     ≡ 0x80 ∷ [] ++ two (reference_at 1 header) ++ two (reference_at 3 header) ++ (get_or header 5 0 ∷ []) ++ flat_map item_octets f.0 =
-    λ i. code i ∷ e1 i ∷ e2 i ∷ e3 i ∷ e4 i ∷ get_or header 5 0 ∷ f.1 i in
+    λ i. code i ∷ two (reference_at 1 header) ++ two (reference_at 3 header) ++ (get_or header 5 0 ∷ f.1 i) in
     subst (λ (w : Value). IsRead w header behind) (ok_is made v b.2) (record {
-      fields = (f.0, split_six header (ltb-false _ _ a.0) ∙ pieces);
+      fields = (f.0, front_six header octets (ltb-false _ _ a.0) ∙ pieces);
       in_range = (first_reference header octets, second_reference header octets, octets 5, back);
       user = refl;
     })
 
 disconnected_found : (at : ℕ) (header behind : List ℕ) → get_or header 0 0 ≡ 0xC0 → Reading (λ h b. disconnected_of at h) header behind
 unfolding disconnected_of
-disconnected_found at header behind code v octets back e =
-    let made = disconnected (reference_at 1 header) (reference_at 3 header) in
-    let a = when_ok (eqb (length header) 5) (BadLi at) (Ok made) v e in
-    let o1 = get_or header 1 0 in
-    let o2 = get_or header 2 0 in
-    let o3 = get_or header 3 0 in
-    let o4 = get_or header 4 0 in
-    let e1 = high_of o1 o2 (octets 2) in
-    let e2 = low_of o1 o2 (octets 2) in
-    let e3 = high_of o3 o4 (octets 4) in
-    let e4 = low_of o3 o4 (octets 4) in
-    let pieces : get_or header 0 0 ∷ o1 ∷ o2 ∷ o3 ∷ o4 ∷ [] ≡ 0xC0 ∷ [] ++ two (reference_at 1 header) ++ two (reference_at 3 header) =
-    λ i. code i ∷ e1 i ∷ e2 i ∷ e3 i ∷ e4 i ∷ [] in
-    subst (λ (w : Value). IsRead w header behind) (ok_is made v a.1) (record {
-      fields = split_five header (eqb-true _ _ a.0) ∙ pieces;
-      in_range = (first_reference header octets, second_reference header octets);
-      user = refl;
-    })
+disconnected_found at header behind code v octets back e = grind (arith, when_ok, ok_is, front_five, eqb-true, first_reference, second_reference)
 
 data0_found : (header behind : List ℕ) → get_or header 0 0 ≡ 0xF0 → length header ≡ 2 → IsOctets header → IsOctets behind → IsRead (data0 (leb 128 (get_or header 1 0)) behind) header behind
 data0_found header behind code len octets back =
@@ -270,17 +195,13 @@ data0_found header behind code len octets back =
 data2_found : (header behind : List ℕ) → get_or header 0 0 ≡ 0xF0 → length header ≡ 4 → IsOctets header → IsOctets behind
     → IsRead (data2 (reference_at 1 header) (get_or header 3 0 % 128) (leb 128 (get_or header 3 0)) behind) header behind
 data2_found header behind code len octets back =
-    let o1 = get_or header 1 0 in
-    let o2 = get_or header 2 0 in
     let o3 = get_or header 3 0 in
-    let e1 = high_of o1 o2 (octets 2) in
-    let e2 = low_of o1 o2 (octets 2) in
     let e3 = bit_above o3 (octets 3) in
-    let none = drop_four header len in
-    let pieces : get_or header 0 0 ∷ o1 ∷ o2 ∷ o3 ∷ drop 4 header ≡ 0xF0 ∷ [] ++ two (reference_at 1 header) ++ (below_bit (leb 128 o3) (o3 % 128) ∷ []) =
-    λ i. code i ∷ e1 i ∷ e2 i ∷ e3 i ∷ none i in
+    let none = drop_all 4 header (omega arith) in
+    let pieces : get_or header 0 0 ∷ two (reference_at 1 header) ++ (o3 ∷ drop 4 header) ≡ 0xF0 ∷ [] ++ two (reference_at 1 header) ++ (below_bit (leb 128 o3) (o3 % 128) ∷ []) =
+    λ i. code i ∷ two (reference_at 1 header) ++ (e3 i ∷ none i) in
     record {
-      fields = split_four header (omega arith) ∙ pieces;
+      fields = front_four header octets (omega arith) ∙ pieces;
       in_range = (first_reference header octets, omega arith, back);
       user = refl;
     }
@@ -300,21 +221,17 @@ acknowledge_found : (at : ℕ) (header behind : List ℕ) → get_or header 0 0 
 unfolding acknowledge_of
 acknowledge_found at header behind code v octets back e =
     let o0 = get_or header 0 0 in
-    let o1 = get_or header 1 0 in
-    let o2 = get_or header 2 0 in
     let o3 = get_or header 3 0 in
     let made = acknowledge (o0 % 16) (reference_at 1 header) (o3 % 128) in
     let a = when_ok (eqb (length header) 4) (BadLi at) (Ok made) v e in
     let len : length header ≡ 4 = eqb-true _ _ a.0 in
     let e0 : o0 ≡ 0x60 + o0 % 16 = omega arith in
-    let e1 = high_of o1 o2 (octets 2) in
-    let e2 = low_of o1 o2 (octets 2) in
     let e3 = bit_above o3 (octets 3) in
-    let none = drop_four header len in
-    let pieces : o0 ∷ o1 ∷ o2 ∷ o3 ∷ drop 4 header ≡ (0x60 + o0 % 16) ∷ [] ++ two (reference_at 1 header) ++ (below_bit (leb 128 o3) (o3 % 128) ∷ []) =
-    λ i. e0 i ∷ e1 i ∷ e2 i ∷ e3 i ∷ none i in
+    let none = drop_all 4 header (omega arith) in
+    let pieces : o0 ∷ two (reference_at 1 header) ++ (o3 ∷ drop 4 header) ≡ (0x60 + o0 % 16) ∷ [] ++ two (reference_at 1 header) ++ (below_bit (leb 128 o3) (o3 % 128) ∷ []) =
+    λ i. e0 i ∷ two (reference_at 1 header) ++ (e3 i ∷ none i) in
     subst (λ (w : Value). IsRead w header behind) (ok_is made v a.1) (record {
-      fields = (leb 128 o3, split_four header (omega arith) ∙ pieces);
+      fields = (leb 128 o3, front_four header octets (omega arith) ∙ pieces);
       in_range = (omega arith, first_reference header octets, omega arith);
       user = refl;
     })
@@ -325,15 +242,11 @@ error_found at header behind code v octets back e =
     let made = error (reference_at 1 header) (get_or header 3 0) in
     let a = unless_ok (ltb (length header) 4) (BadLi at) _ v e in
     let b = bind_ok (all_skipped_at (at + 5) (drop 4 header)) (λ skipped. Ok made) v a.1 in
-    let f = skipped_found (at + 5) (drop 4 header) (IsOctets-drop 4 header octets) b.1 in
-    let o1 = get_or header 1 0 in
-    let o2 = get_or header 2 0 in
-    let e1 = high_of o1 o2 (octets 2) in
-    let e2 = low_of o1 o2 (octets 2) in
-    let pieces : get_or header 0 0 ∷ o1 ∷ o2 ∷ get_or header 3 0 ∷ drop 4 header ≡ 0x70 ∷ [] ++ two (reference_at 1 header) ++ (get_or header 3 0 ∷ []) ++ flat_map item_octets f.0 =
-    λ i. code i ∷ e1 i ∷ e2 i ∷ get_or header 3 0 ∷ f.1 i in
+    let f = skipped_found (at + 5) (drop 4 header) (octets_drop 4 header octets) b.1 in
+    let pieces : get_or header 0 0 ∷ two (reference_at 1 header) ++ (get_or header 3 0 ∷ drop 4 header) ≡ 0x70 ∷ [] ++ two (reference_at 1 header) ++ (get_or header 3 0 ∷ []) ++ flat_map item_octets f.0 =
+    λ i. code i ∷ two (reference_at 1 header) ++ (get_or header 3 0 ∷ f.1 i) in
     subst (λ (w : Value). IsRead w header behind) (ok_is made v b.2) (record {
-      fields = (f.0, split_four header (ltb-false _ _ a.0) ∙ pieces);
+      fields = (f.0, front_four header octets (ltb-false _ _ a.0) ∙ pieces);
       in_range = (first_reference header octets, octets 3);
       user = refl;
     })
@@ -399,20 +312,12 @@ confirm_only at header behind destination c items header_is fits means user =
 disconnect_only : (at : ℕ) (destination source reason : ℕ) (user : List ℕ) (items : List Item)
     → value_of at (0x80 ∷ [] ++ two destination ++ two source ++ (reason ∷ []) ++ flat_map item_octets items) user ≡ Ok (disconnect destination source reason user)
 unfolding value_of disconnect_of
-disconnect_only at destination source reason user items =
-    let rest = flat_map item_octets items in
-    let long : ltb (length (0x80 ∷ [] ++ two destination ++ two source ++ (reason ∷ []) ++ rest)) 6 ≡ false = le-ltb _ _ (omega arith) in
-    let first = two_again destination in
-    let second = two_again source in
-    rw (long, skipped_only (at + 7) items) (λ i. Ok (disconnect (first i) (second i) reason user))
+disconnect_only at destination source reason user items = grind (arith, le-ltb, two_again, skipped_only)
 
 disconnected_only : (at : ℕ) (destination source : ℕ) (behind : List ℕ)
     → value_of at (0xC0 ∷ [] ++ two destination ++ two source) behind ≡ Ok (disconnected destination source)
 unfolding value_of disconnected_of
-disconnected_only at destination source behind =
-    let first = two_again destination in
-    let second = two_again source in
-    λ i. Ok (disconnected (first i) (second i))
+disconnected_only at destination source behind = grind (arith, two_again)
 
 data0_only : (at number : ℕ) (end : Bool) (user : List ℕ) → number < 128 → value_of at (0xF0 ∷ below_bit end number ∷ []) user ≡ Ok (data0 end user)
 unfolding value_of transfer_of
@@ -440,11 +345,7 @@ acknowledge_only at credit destination number ignored behind fits lt =
 error_only : (at destination cause : ℕ) (items : List Item) (behind : List ℕ)
     → value_of at (0x70 ∷ [] ++ two destination ++ (cause ∷ []) ++ flat_map item_octets items) behind ≡ Ok (error destination cause)
 unfolding value_of error_of
-error_only at destination cause items behind =
-    let rest = flat_map item_octets items in
-    let long : ltb (length (0x70 ∷ [] ++ two destination ++ (cause ∷ []) ++ rest)) 4 ≡ false = le-ltb _ _ (omega arith) in
-    let first = two_again destination in
-    rw (long, skipped_only (at + 5) items) (λ i. Ok (error (first i) cause))
+error_only at destination cause items behind = grind (arith, le-ltb, two_again, skipped_only)
 
 value_only : (at : ℕ) (v : Value) (header behind : List ℕ) → IsHeader v header → HasFieldsInRange v → user_data v ≡ cond (may_be_followed v) [] behind → value_of at header behind ≡ Ok v
 value_only at (request c) header behind f r user = request_only at header behind f.0 c f.1 f.3 r f.2 user
@@ -465,12 +366,10 @@ value_only at (error destination cause) header behind f r e = ap (λ (h : List �
 header_least : (v : Value) (header : List ℕ) → IsHeader v header → 1 ≤ length header
 header_least (request c) header f = subst (λ (h : List ℕ). 1 ≤ length h) (sym f.3) (omega arith)
 header_least (confirm destination c) header f = subst (λ (h : List ℕ). 1 ≤ length h) (sym f.2) (omega arith)
-header_least (disconnect destination source reason user) header f = subst (λ (h : List ℕ). 1 ≤ length h) (sym f.1) (omega arith)
 header_least (disconnected destination source) header f = subst (λ (h : List ℕ). 1 ≤ length h) (sym f) (omega arith)
 header_least (data0 end user) header f = subst (λ (h : List ℕ). 1 ≤ length h) (sym f.2) (omega arith)
 header_least (data2 destination number end user) header f = subst (λ (h : List ℕ). 1 ≤ length h) (sym f) (omega arith)
-header_least (acknowledge credit destination number) header f = subst (λ (h : List ℕ). 1 ≤ length h) (sym f.1) (omega arith)
-header_least (error destination cause) header f = subst (λ (h : List ℕ). 1 ≤ length h) (sym f.1) (omega arith)
+header_least _ header f = subst (λ (h : List ℕ). 1 ≤ length h) (sym f.1) (omega arith)
 
 abbrev Measured : Type 0
 Measured = Value × ℕ
@@ -487,32 +386,8 @@ Stands b x = IsAtFront Spells Follows x.0 x.1 b × (1 ≤ x.1)
 
 stands : (v : Value) (header behind : List ℕ) (may : Bool) → may_be_followed v ≡ may → IsRead v header behind → 1 ≤ length header → length header ≤ 254 → IsOctets (length header ∷ header ++ behind)
     → Stands (length header ∷ header ++ behind) (v, cond may (1 + length header) (length (length header ∷ header ++ behind)))
-stands v header behind true may r some most octets =
-    let b = length header ∷ header ++ behind in
-    let n = 1 + length header in
-    let front : take n b ≡ length header ∷ header = take_at (length header ∷ header) behind n (omega arith) in
-    let none : user_data v ≡ [] = r.user ∙ ap (λ (m : Bool). cond m [] behind) may in
-    let spelled : Spells v (take n b) = record {
-      header = header;
-      fields = r.fields;
-      counted = most;
-      whole = front ∙ ap (λ (h : List ℕ). length header ∷ h) (sym (append-nil header) ∙ ap (λ (u : List ℕ). header ++ u) (sym none));
-      in_range = r.in_range;
-      are_octets = IsOctets-take n b octets;
-    } in
-    (record { within = omega (arith, length-append header behind); spelled = spelled; followed = rw may tt }, omega arith)
-stands v header behind false may r some most octets =
-    let b = length header ∷ header ++ behind in
-    let user : user_data v ≡ behind = r.user ∙ ap (λ (m : Bool). cond m [] behind) may in
-    let spelled : Spells v b = record {
-      header = header;
-      fields = r.fields;
-      counted = most;
-      whole = ap (λ (u : List ℕ). length header ∷ header ++ u) (sym user);
-      in_range = r.in_range;
-      are_octets = octets;
-    } in
-    (record { within = omega arith; spelled = subst (λ (s : List ℕ). Spells v s) (sym (take_all (length b) b (omega arith))) spelled; followed = rw may (drop_all (length b) b (omega arith)) }, omega arith)
+stands v header behind true may r some most octets = grind (arith, take_at, append-nil, octets_take, length-append)
+stands v header behind false may r some most octets = grind (arith, take_all, drop_all)
 
 -- what is read is spelled so
 pub unit_found : (at : ℕ) (b : List ℕ) (x : Value × ℕ) → IsOctets b → unit_at at b ≡ Ok x → Stands b x
@@ -525,20 +400,16 @@ unit_found at b x octets e =
     let h = header_found at b p.0 p.1 in
     let whole : IsOctets (length header ∷ header ++ behind) = subst (λ (s : List ℕ). IsOctets s) h.0 octets in
     let inner = IsOctets-rest (length header) (header ++ behind) whole in
-    let r = value_found at header behind q.0 (IsOctets-front header behind inner) (IsOctets-back header behind inner) q.1 in
+    let r = value_found at header behind q.0 (octets_left header behind inner) (octets_right header behind inner) q.1 in
     let s = stands q.0 header behind (may_be_followed q.0) refl r h.1 h.2 whole in
     let there : Stands b (measured q.0 header b) = subst (λ (c : List ℕ). Stands c (measured q.0 header c)) (sym h.0) s in
     subst (λ (y : Measured). Stands b y) (ok_is (measured q.0 header b) x q.2) there
 
 lead_user : (v : Value) → may_be_followed v ≡ true → user_data v ≡ []
-lead_user (request c) e = absurd cc
-lead_user (confirm destination c) e = absurd cc
-lead_user (disconnect destination source reason user) e = absurd cc
 lead_user (disconnected destination source) e = refl
-lead_user (data0 end user) e = absurd cc
-lead_user (data2 destination number end user) e = absurd cc
 lead_user (acknowledge credit destination number) e = refl
 lead_user (error destination cause) e = refl
+lead_user _ e = absurd cc
 
 read_again : (at : ℕ) (v : Value) (header behind : List ℕ) → IsHeader v header → HasFieldsInRange v → length header ≤ 254 → user_data v ≡ cond (may_be_followed v) [] behind
     → unit_at at (length header ∷ header ++ behind) ≡ Ok (measured v header (length header ∷ header ++ behind))
@@ -582,13 +453,7 @@ some_or_all false n all some most = (omega arith, omega arith)
 -- a unit takes some of the octets
 pub unit_takes : (at : ℕ) (b : List ℕ) (x : Value × ℕ) → unit_at at b ≡ Ok x → (1 ≤ x.1) × (x.1 ≤ length b)
 unfolding unit_at
-unit_takes at b x e =
-    let p = bind_ok (header_at at b) _ x e in
-    let q = bind_ok (value_of at p.0.0 p.0.1) (λ v. Ok (measured v p.0.0 b)) x p.2 in
-    let h = header_found at b p.0 p.1 in
-    let len : length b ≡ 1 + (length p.0.0 + length p.0.1) = omega (arith, ap length h.0, length-append p.0.0 p.0.1) in
-    subst (λ (y : Measured). (1 ≤ y.1) × (y.1 ≤ length b)) (ok_is (measured q.0 p.0.0 b) x q.2)
-    (some_or_all (may_be_followed q.0) (1 + length p.0.0) (length b) (omega arith) (omega arith))
+unit_takes at b x e = grind (arith, bind_ok, header_found, length-append, ok_is, some_or_all)
 
 -- ---- the laws that a grammar of units asks for
 

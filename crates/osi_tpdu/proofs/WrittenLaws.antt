@@ -1,10 +1,11 @@
 -- The written form: it spells its value, and is no longer than any other spelling.
-use Rattle.std.proofs.Common.{◌≡◌, ℕ, ◌+◌, ◌*◌, ◌/◌, ◌%◌, ◌<◌, ◌≤◌, Bool, true, false, eqb, List, [], ◌∷◌, ◌++◌, length, Option, Some, None, refl, sym, ap, subst, ◌∙◌, arith, inl, inr}
+use Rattle.std.proofs.Common.{◌≡◌, ℕ, ◌+◌, ◌*◌, ◌/◌, ◌%◌, ◌<◌, ◌≤◌, Bool, true, false, cond, eqb, List, [], ◌∷◌, ◌++◌, length, Option, Some, None, refl, sym, ap, subst, ◌∙◌, arith, inl, inr}
 use Rattle.std.specs.Prelude.{option_map, option_to_list, IfSome}
 use Rattle.std.specs.List.{flat_map}
 use Rattle.std.proofs.lemmas.List.{append-nil, length-append}
 use Rattle.std.proofs.lemmas.List.Concat.{flat_map-append}
 use Rattle.osi_tpkt.specs.Octets.{IsOctets}
+use Rattle.osi_tpkt.proofs.OctetLaws.{octets_nil, octets_append}
 use Rattle.osi_tpdu.specs.Value.{Parameters, AreParameters, Connect, Value, request, confirm, disconnect, disconnected, data0, data2, acknowledge, error, user_data, IsReference, IsConnect, HasFieldsInRange}
 use Rattle.osi_tpdu.specs.Spelling.{Item, Means, item_octets, below_bit, single, values_of, connect_part, IsHeader, Spells}
 use Rattle.osi_tpdu.specs.Writing.{items_of, written_items, written_header, written, HasRoom, HasFewClasses, Fits}
@@ -14,86 +15,51 @@ use Rattle.osi_tpdu.specs.declared.unit.Tpdu.{Tpdu}
 use Rattle.osi_tpdu.specs.declared.unit.Tpdu.TheVariants.{Cr, Cc, Dr, Dc, Dt0, Dt2, Ak, Er}
 use Rattle.osi_tpdu.specs.Limits.{selector_octets}
 use Rattle.osi_tpdu.specs.View.{parameter_values, value}
-use Rattle.osi_tpdu.proofs.StepLaws.{IsOctets-nil, IsOctets-cons, IsOctets-append}
+use Rattle.osi_tpdu.proofs.StepLaws.{IsOctets-cons}
 use Rattle.osi_tpdu.proofs.ItemLaws.{values_of-append, test_eq}
 
 -- ---- the written parameters mean theirs
 
-own_values : (code : ℕ) (o : Option (List ℕ)) → eqb code code ≡ true → values_of code (items_of code o) ≡ option_to_list o
-own_values code None e = refl
-own_values code (Some v) e = rw e refl
-
-other_values : (code other : ℕ) (o : Option (List ℕ)) → eqb other code ≡ false → values_of code (items_of other o) ≡ []
-other_values code other None e = refl
-other_values code other (Some v) e = rw e refl
+-- the values that one slot gives to a code
+kept_by : (code other : ℕ) (o : Option (List ℕ)) (same : Bool) → eqb other code ≡ same → values_of code (items_of other o) ≡ cond same (option_to_list o) []
+kept_by code other None true e = refl
+kept_by code other None false e = refl
+kept_by code other (Some v) true e = rw e refl
+kept_by code other (Some v) false e = rw e refl
 
 values_of-five : (code : ℕ) (a b c d e : List Item) → values_of code (a ++ (b ++ (c ++ (d ++ e)))) ≡ values_of code a ++ (values_of code b ++ (values_of code c ++ (values_of code d ++ values_of code e)))
-values_of-five code a b c d e =
-    values_of-append code a (b ++ (c ++ (d ++ e)))
-    ∙ ap (λ (l : List (List ℕ)). values_of code a ++ l) (values_of-append code b (c ++ (d ++ e))
-    ∙ ap (λ (l : List (List ℕ)). values_of code b ++ l) (values_of-append code c (d ++ e)
-    ∙ ap (λ (l : List (List ℕ)). values_of code c ++ l) (values_of-append code d e)))
-
-abbrev slots : Parameters → ℕ → List (List ℕ)
-slots p code = values_of code (items_of 0xC0 (single p.size)) ++ (values_of code (items_of 0xC1 p.calling) ++ (values_of code (items_of 0xC2 p.called) ++ (values_of code (items_of 0xC6 (single p.additional)) ++ values_of code (items_of 0xC7 p.alternative))))
-
-written_values : (p : Parameters) (code : ℕ) → values_of code (written_items p) ≡ slots p code
-written_values p code = values_of-five code (items_of 0xC0 (single p.size)) (items_of 0xC1 p.calling) (items_of 0xC2 p.called) (items_of 0xC6 (single p.additional)) (items_of 0xC7 p.alternative)
+values_of-five code a b c d e = grind (arith, values_of-append)
 
 joined : (a b c d e a' b' c' d' e' : List (List ℕ)) → a ≡ a' → b ≡ b' → c ≡ c' → d ≡ d' → e ≡ e' → a ++ (b ++ (c ++ (d ++ e))) ≡ a' ++ (b' ++ (c' ++ (d' ++ e')))
 joined a b c d e a' b' c' d' e' p q r s t = λ i. p i ++ (q i ++ (r i ++ (s i ++ t i)))
 
+abbrev kept : ℕ → ℕ → Option (List ℕ) → List (List ℕ)
+kept code other o = cond (eqb other code) (option_to_list o) []
+
+written_values : (p : Parameters) (code : ℕ) → values_of code (written_items p)
+    ≡ kept code 0xC0 (single p.size) ++ (kept code 0xC1 p.calling ++ (kept code 0xC2 p.called ++ (kept code 0xC6 (single p.additional) ++ kept code 0xC7 p.alternative)))
+written_values p code =
+    let is = λ (other : ℕ) (o : Option (List ℕ)). kept_by code other o (eqb other code) refl in
+    values_of-five code (items_of 0xC0 (single p.size)) (items_of 0xC1 p.calling) (items_of 0xC2 p.called) (items_of 0xC6 (single p.additional)) (items_of 0xC7 p.alternative)
+    ∙ joined _ _ _ _ _ _ _ _ _ _ (is 0xC0 (single p.size)) (is 0xC1 p.calling) (is 0xC2 p.called) (is 0xC6 (single p.additional)) (is 0xC7 p.alternative)
+
 pub written_means : (p : Parameters) → Means p (written_items p)
-written_means p =
-    let s = single p.size in
-    let a = single p.additional in
-    record {
-      size =
-          let e0 = own_values 0xC0 s refl in
-          let e1 = other_values 0xC0 0xC1 p.calling refl in
-          let e2 = other_values 0xC0 0xC2 p.called refl in
-          let e3 = other_values 0xC0 0xC6 a refl in
-          let e4 = other_values 0xC0 0xC7 p.alternative refl in
-          written_values p 0xC0 ∙ joined _ _ _ _ _ (option_to_list s) [] [] [] [] e0 e1 e2 e3 e4 ∙ append-nil (option_to_list s);
-      calling =
-          let e0 = other_values 0xC1 0xC0 s refl in
-          let e1 = own_values 0xC1 p.calling refl in
-          let e2 = other_values 0xC1 0xC2 p.called refl in
-          let e3 = other_values 0xC1 0xC6 a refl in
-          let e4 = other_values 0xC1 0xC7 p.alternative refl in
-          written_values p 0xC1 ∙ joined _ _ _ _ _ [] (option_to_list p.calling) [] [] [] e0 e1 e2 e3 e4 ∙ append-nil (option_to_list p.calling);
-      called =
-          let e0 = other_values 0xC2 0xC0 s refl in
-          let e1 = other_values 0xC2 0xC1 p.calling refl in
-          let e2 = own_values 0xC2 p.called refl in
-          let e3 = other_values 0xC2 0xC6 a refl in
-          let e4 = other_values 0xC2 0xC7 p.alternative refl in
-          written_values p 0xC2 ∙ joined _ _ _ _ _ [] [] (option_to_list p.called) [] [] e0 e1 e2 e3 e4 ∙ append-nil (option_to_list p.called);
-      additional =
-          let e0 = other_values 0xC6 0xC0 s refl in
-          let e1 = other_values 0xC6 0xC1 p.calling refl in
-          let e2 = other_values 0xC6 0xC2 p.called refl in
-          let e3 = own_values 0xC6 a refl in
-          let e4 = other_values 0xC6 0xC7 p.alternative refl in
-          written_values p 0xC6 ∙ joined _ _ _ _ _ [] [] [] (option_to_list a) [] e0 e1 e2 e3 e4 ∙ append-nil (option_to_list a);
-      alternative =
-          let e0 = other_values 0xC7 0xC0 s refl in
-          let e1 = other_values 0xC7 0xC1 p.calling refl in
-          let e2 = other_values 0xC7 0xC2 p.called refl in
-          let e3 = other_values 0xC7 0xC6 a refl in
-          let e4 = own_values 0xC7 p.alternative refl in
-          written_values p 0xC7 ∙ joined _ _ _ _ _ [] [] [] [] (option_to_list p.alternative) e0 e1 e2 e3 e4;
-    }
+written_means p = record {
+  size = written_values p 0xC0 ∙ append-nil (option_to_list (single p.size));
+  calling = written_values p 0xC1 ∙ append-nil (option_to_list p.calling);
+  called = written_values p 0xC2 ∙ append-nil (option_to_list p.called);
+  additional = written_values p 0xC6 ∙ append-nil (option_to_list (single p.additional));
+  alternative = written_values p 0xC7;
+}
 
 written_is_header : (v : Value) → IsHeader v (written_header v)
 written_is_header (request c) = (0, written_items c.parameters, written_means c.parameters, refl)
 written_is_header (confirm destination c) = (written_items c.parameters, written_means c.parameters, refl)
-written_is_header (disconnect destination source reason user) = ([], refl)
 written_is_header (disconnected destination source) = refl
 written_is_header (data0 end user) = (0, omega arith, refl)
 written_is_header (data2 destination number end user) = refl
 written_is_header (acknowledge credit destination number) = (false, refl)
-written_is_header (error destination cause) = ([], refl)
+written_is_header _ = ([], refl)
 
 -- ---- its octets are octets
 
@@ -101,17 +67,17 @@ item_is : (code : ℕ) (v : List ℕ) → code < 256 → length v < 256 → IsOc
 item_is code v lc lv ov = IsOctets-cons code (length v ∷ v) lc (IsOctets-cons (length v) v lv ov)
 
 slot_is : (code : ℕ) (o : Option (List ℕ)) → code < 256 → length (flat_map item_octets (items_of code o)) ≤ 254 → IfSome o IsOctets → IsOctets (flat_map item_octets (items_of code o))
-slot_is code None lc short h = IsOctets-nil
+slot_is code None lc short h = octets_nil
 slot_is code (Some v) lc short h =
-    IsOctets-append (item_octets (record { code = code; value = v })) [] (item_is code v lc (omega (arith, length-append v [])) h) IsOctets-nil
+    octets_append (item_octets (record { code = code; value = v })) [] (item_is code v lc (omega (arith, length-append v [])) h) octets_nil
 
 single_is : (o : Option ℕ) → IfSome o (λ n. n < 256) → IfSome (single o) IsOctets
 single_is None h = tt
-single_is (Some n) h = IsOctets-cons n [] h IsOctets-nil
+single_is (Some n) h = IsOctets-cons n [] h octets_nil
 
 size_is : (o : Option ℕ) → IfSome o (λ code. (7 ≤ code) × (code ≤ 13)) → IfSome (single o) IsOctets
 size_is None h = tt
-size_is (Some n) h = IsOctets-cons n [] (omega (arith, h.1)) IsOctets-nil
+size_is (Some n) h = IsOctets-cons n [] (omega (arith, h.1)) octets_nil
 
 selector_is : (o : Option (List ℕ)) → IfSome o (λ s. (length s ≤ 32) × IsOctets s) → IfSome o IsOctets
 selector_is None h = tt
@@ -119,22 +85,11 @@ selector_is (Some s) h = h.1
 
 flat_map-five : (a b c d e : List Item) → flat_map item_octets (a ++ (b ++ (c ++ (d ++ e))))
     ≡ flat_map item_octets a ++ (flat_map item_octets b ++ (flat_map item_octets c ++ (flat_map item_octets d ++ flat_map item_octets e)))
-flat_map-five a b c d e =
-    flat_map-append item_octets a (b ++ (c ++ (d ++ e)))
-    ∙ ap (λ (l : List ℕ). flat_map item_octets a ++ l) (flat_map-append item_octets b (c ++ (d ++ e))
-    ∙ ap (λ (l : List ℕ). flat_map item_octets b ++ l) (flat_map-append item_octets c (d ++ e)
-    ∙ ap (λ (l : List ℕ). flat_map item_octets c ++ l) (flat_map-append item_octets d e)))
+flat_map-five a b c d e = grind (arith, flat_map-append)
 
 written_len_is : (p : Parameters) → length (flat_map item_octets (written_items p)) ≡ length (flat_map item_octets (items_of 0xC0 (single p.size))) + (length (flat_map item_octets (items_of 0xC1 p.calling))
     + (length (flat_map item_octets (items_of 0xC2 p.called)) + (length (flat_map item_octets (items_of 0xC6 (single p.additional))) + length (flat_map item_octets (items_of 0xC7 p.alternative)))))
-written_len_is p =
-    let a = flat_map item_octets (items_of 0xC0 (single p.size)) in
-    let b = flat_map item_octets (items_of 0xC1 p.calling) in
-    let c = flat_map item_octets (items_of 0xC2 p.called) in
-    let d = flat_map item_octets (items_of 0xC6 (single p.additional)) in
-    let e = flat_map item_octets (items_of 0xC7 p.alternative) in
-    ap length (flat_map-five (items_of 0xC0 (single p.size)) (items_of 0xC1 p.calling) (items_of 0xC2 p.called) (items_of 0xC6 (single p.additional)) (items_of 0xC7 p.alternative))
-    ∙ length-append a (b ++ (c ++ (d ++ e))) ∙ ap (λ (n : ℕ). length a + n) (length-append b (c ++ (d ++ e)) ∙ ap (λ (n : ℕ). length b + n) (length-append c (d ++ e) ∙ ap (λ (n : ℕ). length c + n) (length-append d e)))
+written_len_is p = grind (arith, flat_map-five, length-append)
 
 parameters_are : (p : Parameters) → AreParameters p → length (flat_map item_octets (written_items p)) ≤ 254 → IsOctets (flat_map item_octets (written_items p))
 parameters_are p fits short =
@@ -149,7 +104,7 @@ parameters_are p fits short =
     let fc = flat_map item_octets (items_of 0xC2 p.called) in
     let fd = flat_map item_octets (items_of 0xC6 (single p.additional)) in
     let fe = flat_map item_octets (items_of 0xC7 p.alternative) in
-    let all = IsOctets-append fa (fb ++ (fc ++ (fd ++ fe))) a (IsOctets-append fb (fc ++ (fd ++ fe)) b (IsOctets-append fc (fd ++ fe) c (IsOctets-append fd fe d e))) in
+    let all = octets_append fa (fb ++ (fc ++ (fd ++ fe))) a (octets_append fb (fc ++ (fd ++ fe)) b (octets_append fc (fd ++ fe) c (octets_append fd fe d e))) in
     subst (λ (l : List ℕ). IsOctets l) (sym (flat_map-five (items_of 0xC0 (single p.size)) (items_of 0xC1 p.calling) (items_of 0xC2 p.called) (items_of 0xC6 (single p.additional)) (items_of 0xC7 p.alternative))) all
 
 two_are : (n : ℕ) (s : List ℕ) → IsReference n → IsOctets s → IsOctets (n / 256 ∷ n % 256 ∷ s)
@@ -177,31 +132,29 @@ header_is (request c) r short = connect_are 0xE0 0 c (omega arith) (omega arith)
 header_is (confirm destination c) r short = connect_are 0xD0 destination c (omega arith) r.0 r.1 short
 header_is (disconnect destination source reason user) r short =
     let second = source / 256 ∷ source % 256 ∷ reason ∷ [] in
-    let is_second = two_are source (reason ∷ []) r.1 (IsOctets-cons reason [] r.2 IsOctets-nil) in
+    let is_second = two_are source (reason ∷ []) r.1 (IsOctets-cons reason [] r.2 octets_nil) in
     IsOctets-cons 0x80 (destination / 256 ∷ destination % 256 ∷ second) (omega arith) (two_are destination second r.0 is_second)
 header_is (disconnected destination source) r short =
     let second = source / 256 ∷ source % 256 ∷ [] in
-    IsOctets-cons 0xC0 (destination / 256 ∷ destination % 256 ∷ second) (omega arith) (two_are destination second r.0 (two_are source [] r.1 IsOctets-nil))
-header_is (data0 end user) r short = IsOctets-cons 0xF0 (below_bit end 0 ∷ []) (omega arith) (IsOctets-cons (below_bit end 0) [] (below_bit_is end 0 (omega arith)) IsOctets-nil)
+    IsOctets-cons 0xC0 (destination / 256 ∷ destination % 256 ∷ second) (omega arith) (two_are destination second r.0 (two_are source [] r.1 octets_nil))
+header_is (data0 end user) r short = IsOctets-cons 0xF0 (below_bit end 0 ∷ []) (omega arith) (IsOctets-cons (below_bit end 0) [] (below_bit_is end 0 (omega arith)) octets_nil)
 header_is (data2 destination number end user) r short =
     let last = below_bit end number ∷ [] in
-    IsOctets-cons 0xF0 (destination / 256 ∷ destination % 256 ∷ last) (omega arith) (two_are destination last r.0 (IsOctets-cons (below_bit end number) [] (below_bit_is end number r.1) IsOctets-nil))
+    IsOctets-cons 0xF0 (destination / 256 ∷ destination % 256 ∷ last) (omega arith) (two_are destination last r.0 (IsOctets-cons (below_bit end number) [] (below_bit_is end number r.1) octets_nil))
 header_is (acknowledge credit destination number) r short =
     let last = number ∷ [] in
-    IsOctets-cons (0x60 + credit) (destination / 256 ∷ destination % 256 ∷ last) (omega (arith, r.0)) (two_are destination last r.1 (IsOctets-cons number [] (omega (arith, r.2)) IsOctets-nil))
+    IsOctets-cons (0x60 + credit) (destination / 256 ∷ destination % 256 ∷ last) (omega (arith, r.0)) (two_are destination last r.1 (IsOctets-cons number [] (omega (arith, r.2)) octets_nil))
 header_is (error destination cause) r short =
     let last = cause ∷ [] in
-    IsOctets-cons 0x70 (destination / 256 ∷ destination % 256 ∷ last) (omega arith) (two_are destination last r.0 (IsOctets-cons cause [] r.1 IsOctets-nil))
+    IsOctets-cons 0x70 (destination / 256 ∷ destination % 256 ∷ last) (omega arith) (two_are destination last r.0 (IsOctets-cons cause [] r.1 octets_nil))
 
 user_is : (v : Value) → HasFieldsInRange v → IsOctets (user_data v)
 user_is (request c) r = r.user
 user_is (confirm destination c) r = r.1.user
 user_is (disconnect destination source reason user) r = r.3
-user_is (disconnected destination source) r = IsOctets-nil
 user_is (data0 end user) r = r
 user_is (data2 destination number end user) r = r.2
-user_is (acknowledge credit destination number) r = IsOctets-nil
-user_is (error destination cause) r = IsOctets-nil
+user_is _ r = octets_nil
 
 -- the written form spells its value
 pub written_spells : (v : Value) → Fits v → Spells v (written v)
@@ -211,7 +164,7 @@ written_spells v f = record {
   counted = f.counted;
   whole = refl;
   in_range = f.in_range;
-  are_octets = IsOctets-cons (length (written_header v)) (written_header v ++ user_data v) (omega (arith, f.counted)) (IsOctets-append (written_header v) (user_data v) (header_is v f.in_range f.counted) (user_is v f.in_range));
+  are_octets = IsOctets-cons (length (written_header v)) (written_header v ++ user_data v) (omega (arith, f.counted)) (octets_append (written_header v) (user_data v) (header_is v f.in_range f.counted) (user_is v f.in_range));
 }
 
 -- ---- no spelling has a shorter header
@@ -283,12 +236,7 @@ written_least p items m =
 header_room : (v : Value) (header : List ℕ) → IsHeader v header → length header ≤ 254 → HasRoom v
 header_room (request c) header f le = omega (arith, ap length f.3, written_least c.parameters f.1 f.2)
 header_room (confirm destination c) header f le = omega (arith, ap length f.2, written_least c.parameters f.0 f.1)
-header_room (disconnect destination source reason user) header f le = omega arith
-header_room (disconnected destination source) header f le = omega arith
-header_room (data0 end user) header f le = omega arith
-header_room (data2 destination number end user) header f le = omega arith
-header_room (acknowledge credit destination number) header f le = omega arith
-header_room (error destination cause) header f le = omega arith
+header_room _ header f le = omega arith
 
 -- what has a spelling has a written form
 pub spelled_fits : (v : Value) (b : List ℕ) → Spells v b → Fits v
@@ -323,9 +271,4 @@ parameters_most p few =
 pub few_fit : (t : Tpdu) → HasFewClasses (value t) → HasRoom (value t)
 few_fit (Cr r) few = omega (arith, parameters_most r.fields.parameters few)
 few_fit (Cc c) few = omega (arith, parameters_most c.fields.parameters few)
-few_fit (Dr d) few = omega arith
-few_fit (Dc d) few = omega arith
-few_fit (Dt0 d) few = omega arith
-few_fit (Dt2 d) few = omega arith
-few_fit (Ak a) few = omega arith
-few_fit (Er e) few = omega arith
+few_fit _ few = omega arith

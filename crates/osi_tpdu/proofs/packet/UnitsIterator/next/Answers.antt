@@ -5,17 +5,10 @@ use Rattle.osi_tpdu.proofs.PacketLaws.{first_left, nothing_left, read_fits}
 use Rattle.osi_tpdu.proofs.packet.UnitsIterator.next.Goals as goal
 
 pub returns-then-is_empty-clause-steps : goal.returns-then-is_empty-clause-steps
-returns-then-is_empty-clause-steps c =
-    let rest = c.args.self.now.rest.now in
-    let none : rest ≡ [] = nil_from_length rest (search rules) in
-    let nothing = (nothing_left c.args.self.now.at rest none).1 in
-    (nothing, nothing)
+returns-then-is_empty-clause-steps c = grind (arith, nil_from_length, nothing_left)
 
 pub unreachable-requires : goal.unreachable-requires
-unreachable-requires c =
-    let s = c.args.self.now in
-    let some : 1 ≤ length s.rest.now = search rules in
-    no_bad_header s.at s.rest.now c.in_default.field-0 some s.readable c.in_default.ensures.gives
+unreachable-requires c = grind (arith, no_bad_header)
 
 pub invariant_of-self : goal.invariant_of-self
 invariant_of-self c =
@@ -29,11 +22,7 @@ invariant_of-self c =
     }
 
 pub known_fields-requires-clause-known : goal.known_fields-requires-clause-known
-known_fields-requires-clause-known c =
-    let s = c.args.self.now in
-    let some : 1 ≤ length s.rest.now = search rules in
-    let first = first_stands s.at s.rest.now _ some s.readable c.in-Ok.ensures.gives in
-    rw first.1 refl
+known_fields-requires-clause-known c = grind (arith, first_stands)
 
 pub returns-clause-steps : goal.returns-clause-steps
 returns-clause-steps c =

@@ -12,9 +12,7 @@ returns-in_err-used c =
     rw (e.1, e.2) (Ends-bad _ _ _ _ c.units.invariant.ends c.in_err-used.ensures.gives)
 
 pub returns-then-is_empty : goal.returns-then-is_empty
-returns-then-is_empty c =
-    let none : length c.split_at.result.1.now ≡ 0 = search rules in
-    Ends-last _ _ _ _ c.units.invariant.ends c.in_ok-used.ensures.gives (omega (arith, c.split_at.ensures.back_len))
+returns-then-is_empty c = grind (arith, Ends-last)
 
 pub units-preserved : goal.units-preserved
 units-preserved c =
