@@ -64,16 +64,11 @@ pub partial_front : (r : List ℕ) → IsPartial r → IsFront r × IsUnfinished
 partial_front r p =
     let whole = packet_front _ _ p.completes.1 in
     let total = length-append r p.more in
-    let some = p.some in
     let front : IsFront r = front_prefix r p.more whole.0 in
     (front, λ h. let e = stated_length-append r p.more h in let g = whole.1.1 in omega arith)
 
 -- a full front is a packet
 pub full_packet : (b : List ℕ) → IsFront b → IsFull b → IsPacket (drop 4 b) b
-full_packet [] f g = absurd (omega (arith, g.0))
-full_packet (a ∷ []) f g = absurd (omega (arith, g.0))
-full_packet (a ∷ b ∷ []) f g = absurd (omega (arith, g.0))
-full_packet (a ∷ b ∷ c ∷ []) f g = absurd (omega (arith, g.0))
 full_packet (a ∷ b ∷ c ∷ d ∷ u) f g =
     let least = f.at_least g.0 in
     let counted = g.1 in
@@ -89,6 +84,7 @@ full_packet (a ∷ b ∷ c ∷ d ∷ u) f g =
       at_least = omega arith;
       at_most = omega arith;
     }
+full_packet _ f g = absurd (omega (arith, g.0))
 
 -- four octets or more: zeros complete it
 long_partial : (r : List ℕ) → IsFront r → IsUnfinished r → 4 ≤ length r → IsPartial r
@@ -147,10 +143,7 @@ front_version h t some f bad = bad.1 (get_or_append_left h t 0 0 some ∙ f.vers
 
 -- octets that begin with a front that has a header have no bad length
 pub front_length : (h t : List ℕ) → 4 ≤ length h → IsFront h → IsBadLength (h ++ t) → ⊥
-front_length h t some f bad =
-    let least = f.at_least some in
-    let stated = stated_length-append h t some in
-    let low = bad.2 in omega arith
+front_length h t some f bad = omega (arith, stated_length-append)
 
 bad_version : (r more : List ℕ) → IsFront r → (4 ≤ length r) ⊎ (more ≡ []) → IsBadVersion (r ++ more) → ⊥
 bad_version r more front (inl long) bad = front_version r more (omega arith) front bad
@@ -186,11 +179,10 @@ no_fault held piece n at f front enough fault =
 pub one_fault : (at : ℕ) (s : List ℕ) (f g : TpktFault) → IsFaultOf at s f → IsFaultOf at s g → f ≡ g
 one_fault at s (BadVersion a) (BadVersion b) h k = ap BadVersion (h.1 ∙ sym k.1)
 one_fault at s (BadVersion a) (BadLength b) h k = absurd (h.0.1 k.0.1)
-one_fault at s (BadVersion a) OutOfMemory h k = absurd k
 one_fault at s (BadLength a) (BadVersion b) h k = absurd (k.0.1 h.0.1)
 one_fault at s (BadLength a) (BadLength b) h k = ap BadLength (h.1 ∙ sym k.1)
-one_fault at s (BadLength a) OutOfMemory h k = absurd k
 one_fault at s OutOfMemory g h k = absurd h
+one_fault at s _ OutOfMemory h k = absurd k
 
 -- what the header says of a front, said of packets
 pub stood : (whole : Bool) (x : List ℕ) (P : Type 0) → IsFront x → MatchBool whole (IsFull x) (IsUnfinished x × P) → MatchBool whole (IsOnePacket x) (IsPartial x × P)
@@ -207,7 +199,6 @@ pub front_packet : (octets : List ℕ) (used : ℕ) → used ≤ length octets �
     IsPacket (take (used - 4) (drop 4 octets)) (take used octets)
 front_packet octets used within front full =
     let size = length-take-le used octets within in
-    let long = full.0 in
     let count : 4 + (used - 4) ≡ used = omega arith in
     let unit : drop 4 (take used octets) ≡ take (used - 4) (drop 4 octets) =
     ap (λ k. drop 4 (take k octets)) (sym count) ∙ drop-take 4 (used - 4) octets in
@@ -265,15 +256,8 @@ whole_part : (whole : Bool) (held piece : List ℕ) (used : ℕ) → 7 ≤ state
     MatchBool whole (length held + used ≡ stated_length (held ++ piece))
     ((length held + length piece < stated_length (held ++ piece)) × (used ≡ length piece)) →
     MatchBool whole (IsFull (held ++ take used piece)) (IsUnfinished (held ++ take used piece) × (used ≡ length piece))
-whole_part true held piece used least some h =
-    let size = length-append held (take used piece) in
-    let taken = length-take-le used piece some in
-    let stated = stated_taken held piece used (omega arith) in
-    (omega arith, omega arith)
-whole_part false held piece used least some h =
-    let size = length-append held (take used piece) in
-    let taken = length-take-le used piece some in
-    (λ long. let stated = stated_taken held piece used long in omega (arith, h.0, h.1), h.1)
+whole_part true held piece used least some h = omega (arith, length-append {A = ℕ}, length-take-le {A = ℕ}, stated_taken)
+whole_part false held piece used least some h = omega (arith, length-append {A = ℕ}, length-take-le {A = ℕ}, stated_taken)
 
 -- what part_of says of a length and of counts, said of the octets that they count
 pub part_front : (r : Result Fed HeaderFault) (held piece : List ℕ) → IsFront held → get_or (held ++ piece) 0 0 ≡ 3 → IsOctets piece → 4 ≤ length (held ++ piece) →

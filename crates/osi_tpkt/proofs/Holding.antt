@@ -22,10 +22,8 @@ use Rattle.osi_tpkt.proofs.Fronts.{short_partial, full_packet, front_packet, par
 pub holding_sound : (offset : ℕ) (octets : List ℕ) (progress : Progress) (room : ℕ) → IsKept offset octets progress →
     IsHolding (holding offset (fault_of offset progress) octets room)
 holding_sound offset octets Awaited room h = record { offset = h.offset; octets = inl (subst IsPartial (sym h.progress) empty_partial) }
-holding_sound offset octets Partial room h = record { offset = h.offset; octets = inl (short_partial octets h.progress.0 h.progress.1) }
 holding_sound offset octets (Stopped Whole) room h = record { offset = h.offset; octets = inr ((drop 4 octets, full_packet octets h.progress.0 h.progress.1), refl) }
-holding_sound offset octets (Stopped Version) room h = record { offset = h.offset; octets = inl (short_partial octets h.progress.0 h.progress.1) }
-holding_sound offset octets (Stopped Length) room h = record { offset = h.offset; octets = inl (short_partial octets h.progress.0 h.progress.1) }
+holding_sound offset octets _ room h = record { offset = h.offset; octets = inl (short_partial octets h.progress.0 h.progress.1) }
 
 -- the same of its value
 pub kept_sound : (offset : ℕ) (octets : List ℕ) (progress : Progress) (room : ℕ) (now : Held) → IsKept offset octets progress →
@@ -130,9 +128,8 @@ taken_refused old piece (Err OutOfMemory) new f t fault = absurd (belonging_no_f
 pub taken_lasting : (old : Held) (piece : List ℕ) (result : Result Fed TpktFault) (new : Held) → old.fault ≡ None → TakesPiece old piece result new →
     new.fault ≡ Some OutOfMemory → ⊥
 taken_lasting old piece (Ok fed) new unfaulted t e = none-some OutOfMemory (sym unfaulted ∙ sym (ap (λ (h : Held). h.fault) t.1.octets) ∙ e)
-taken_lasting old piece (Err (BadVersion at)) new unfaulted t e = absurd (let f = ap (λ (h : Held). h.fault) t.1 in cc)
-taken_lasting old piece (Err (BadLength at)) new unfaulted t e = absurd (let f = ap (λ (h : Held). h.fault) t.1 in cc)
 taken_lasting old piece (Err OutOfMemory) new unfaulted t e = none-some OutOfMemory (sym unfaulted ∙ sym (ap (λ (h : Held). h.fault) t.3) ∙ e)
+taken_lasting old piece _ new unfaulted t e = absurd (let f = ap (λ (h : Held). h.fault) t.1 in cc)
 
 -- ---- what the storage holds
 
@@ -170,7 +167,6 @@ pub passed : (offset sum room used : ℕ) (octets piece : List ℕ) (progress : 
     Passes now (take (used - 4) (drop 4 piece)) piece (holding sum (fault_of sum progress) octets room)
 passed offset sum room used octets piece progress now is fits within front full end same =
     let packet = front_packet piece used within front full in
-    let long = full.0 in
     let taken = length-take-le used piece within in
     let spelled = ap length packet.spelled in
     let size : used ≡ 4 + length (take (used - 4) (drop 4 piece)) = omega arith in

@@ -38,8 +38,6 @@ one_packet u v b c x y p q e =
     let left = stated_length-append b x f.1.0 in
     let right = stated_length-append c y g.1.0 in
     let same : stated_length (b ++ x) ≡ stated_length (c ++ y) = ap stated_length e in
-    let f1 = f.1.1 in
-    let g1 = g.1.1 in
     let lengths : length c ≡ length b = omega arith in
     let equal : b ≡ c = sym (take_at b x (length b) refl) ∙ ap (take (length b)) e ∙ take_at c y (length b) lengths in
     (equal, packet_unit u b p ∙ ap (drop 4) equal ∙ sym (packet_unit v c q))
@@ -55,8 +53,6 @@ one_front octets u v m n hm hn p q =
 -- what is written is a packet
 pub written_packet : (u : List ℕ) → IsUnit u → IsPacket u (packet_of u)
 written_packet u h =
-    let least = h.at_least in
-    let most = h.at_most in
     record {
       reserved = 0;
       high = (length u + 4) / 256;

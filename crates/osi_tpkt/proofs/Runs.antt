@@ -151,7 +151,6 @@ dropped start made us old new u p h k =
     let s : List ℕ = start.octets ++ stream_of made in
     let stream = used-none start.octets made Advance refl in
     let within = packets_rest us s old.octets k.packets in
-    let count = k.offset in
     let next : offset_of (old.offset + length old.octets) ≡ offset_of (start.offset + (length s - 0)) = omega arith in
     subst (λ x. CutterReadsOn start (made ++ Advance ∷ []) (us ++ u ∷ []) x) (sym (h.whole u p)) (record {
       packets = subst (λ x. ArePackets (us ++ u ∷ []) x []) (sym stream) (packets-push us s old.octets u k.packets p);
@@ -188,7 +187,6 @@ running start (call ∷ calls) made us units old new h k =
 no_call : (start : Held) → IsHolding start → CutterReadsOn start [] [] start
 no_call start h =
     let all = ap length (append-nil start.octets) in
-    let fits = h.offset in
     record {
       packets = append-nil start.octets;
       offset = omega arith;
@@ -212,7 +210,6 @@ any_run calls units held h =
         | inr kept ↦
             let piece : List ℕ = kept.0 in
             let within = packets_rest units s held.octets k.packets in
-            let count = k.offset in
             let at : held.offset ≡ offset_of (0 + (length (s ++ piece) - length (held.octets ++ piece))) =
             omega (arith, length-append s piece, length-append held.octets piece) in (
               piece,

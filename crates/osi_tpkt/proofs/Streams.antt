@@ -23,7 +23,6 @@ NoPacket r = (u b t : List ℕ) → IsPacket u b → r ≡ b ++ t → ⊥
 pub fault_no_packet : (at : ℕ) (r : List ℕ) (f : TpktFault) → IsFaultOf at r f → (u b t : List ℕ) → IsPacket u b → r ≡ b ++ t → ⊥
 fault_no_packet at r (BadVersion o) h u b t p e =
     let f = packet_front u b p in
-    let long = f.1.0 in
     front_version b t (omega arith) f.0 (subst IsBadVersion e h.0)
 fault_no_packet at r (BadLength o) h u b t p e =
     let f = packet_front u b p in
@@ -34,7 +33,6 @@ pub partial_no_packet : (r : List ℕ) → IsPartial r → (u b t : List ℕ) �
 partial_no_packet r h u b t p e =
     let full = (packet_front u b p).1 in
     let long : 4 ≤ length b = full.0 in
-    let count : length b ≡ stated_length b = full.1 in
     let sizes : length r ≡ length b + length t = ap length e ∙ length-append b t in
     let stated : stated_length r ≡ stated_length b = ap stated_length e ∙ stated_length-append b t long in
     let short : length r < stated_length r = (partial_front r h).1 (omega arith) in

@@ -32,5 +32,4 @@ pub returns-clause-octets : goal.returns-clause-octets
 returns-clause-octets c =
     let first = c.in_ok-block.ensures.cases in
     let whole : 32 ≤ length c.as_mut_slice.result.now = c.in_ok-room.ensures.variant.0 refl in
-    let size = c.as_mut_slice.ensures.len in
     of_storage c.in_ok-used.used 32 c.args.storage.now.len c.in_ok-block.block.now _ _ c.args.piece.now c.in_ok-used.ensures.within (omega arith) first.enough first.same

@@ -9,22 +9,18 @@ returns-in-Stopped-Whole-clause-sound c =
 
 pub returns-in-Stopped-Version-clause-sound : goal.returns-in-Stopped-Version-clause-sound
 returns-in-Stopped-Version-clause-sound c =
-    kept_sound c.self.inside.offset (take c.self.inside.held c.self.inside.storage.items) c.self.inside.progress (vec_len c.self.inside.storage)
-    c.args.self.now c.self.invariant.1 c.self.view_is
+    kept_sound _ _ _ _ _ c.self.invariant.1 c.self.view_is
 
 pub returns-in-Stopped-Length-clause-sound : goal.returns-in-Stopped-Length-clause-sound
 returns-in-Stopped-Length-clause-sound c =
-    kept_sound c.self.inside.offset (take c.self.inside.held c.self.inside.storage.items) c.self.inside.progress (vec_len c.self.inside.storage)
-    c.args.self.now c.self.invariant.1 c.self.view_is
+    kept_sound _ _ _ _ _ c.self.invariant.1 c.self.view_is
 
 pub returns-in-Awaited : goal.returns-in-Awaited
 returns-in-Awaited c =
-    let on = going_on c.self.inside.offset (take c.self.inside.held c.self.inside.storage.items) c.self.inside.progress (vec_len c.self.inside.storage)
-    c.args.self.now c.in-Awaited.is c.self.invariant.1 c.self.view_is in
+    let on = going_on _ _ _ _ _ c.in-Awaited.is c.self.invariant.1 c.self.view_is in
     record {
       whole = λ u h. absurd (partial_not_whole c.args.self.now.octets on.1 (u, h));
       partial = λ _. refl;
       advances = record { whole = λ u h. absurd (partial_not_whole c.args.self.now.octets on.1 (u, h)); partial = λ _. refl };
-      sound = kept_sound c.self.inside.offset (take c.self.inside.held c.self.inside.storage.items) c.self.inside.progress (vec_len c.self.inside.storage)
-          c.args.self.now c.self.invariant.1 c.self.view_is;
+      sound = kept_sound _ _ _ _ _ c.self.invariant.1 c.self.view_is;
     }

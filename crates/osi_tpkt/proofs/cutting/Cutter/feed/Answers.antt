@@ -9,16 +9,13 @@ returns-in-Some-clause-refused c = λ unfaulted partial f fault.
 
 pub gather-requires : goal.gather-requires
 gather-requires c =
-    let on = going_on c.self.inside.offset (take c.self.inside.held c.self.inside.storage.items) c.self.inside.progress (vec_len c.self.inside.storage)
-    c.take_whole.new.self c.in-Awaited.is c.self.invariant.1 c.self.view_is in
+    let on = going_on _ _ _ _ _ c.in-Awaited.is c.self.invariant.1 c.self.view_is in
     record { faultless = on.0; partial = on.1 }
 
 pub returns-in-Awaited : goal.returns-in-Awaited
 returns-in-Awaited c =
-    let on = going_on c.self.inside.offset (take c.self.inside.held c.self.inside.storage.items) c.self.inside.progress (vec_len c.self.inside.storage)
-    c.take_whole.new.self c.in-Awaited.is c.self.invariant.1 c.self.view_is in
-    let before = kept_sound c.self.inside.offset (take c.self.inside.held c.self.inside.storage.items) c.self.inside.progress (vec_len c.self.inside.storage)
-    c.take_whole.new.self c.self.invariant.1 c.self.view_is in
+    let on = going_on _ _ _ _ _ c.in-Awaited.is c.self.invariant.1 c.self.view_is in
+    let before = kept_sound _ _ _ _ _ c.self.invariant.1 c.self.view_is in
     let feeds = taken_feeds c.take_whole.new.self c.args.piece.now c.gather.result c.gather.new.self on.0 on.1 c.gather.ensures.taken in
     rw (← c.in_default.ensures.none) (record {
       used = feeds.used;
@@ -35,15 +32,12 @@ returns-in-Awaited c =
 
 pub returns-in-Stopped-Whole-clause-sound : goal.returns-in-Stopped-Whole-clause-sound
 returns-in-Stopped-Whole-clause-sound c =
-    kept_sound c.self.inside.offset (take c.self.inside.held c.self.inside.storage.items) c.self.inside.progress (vec_len c.self.inside.storage)
-    c.take_whole.new.self c.self.invariant.1 c.self.view_is
+    kept_sound _ _ _ _ _ c.self.invariant.1 c.self.view_is
 
 pub returns-in-Stopped-Version-clause-sound : goal.returns-in-Stopped-Version-clause-sound
 returns-in-Stopped-Version-clause-sound c =
-    kept_sound c.self.inside.offset (take c.self.inside.held c.self.inside.storage.items) c.self.inside.progress (vec_len c.self.inside.storage)
-    c.take_whole.new.self c.self.invariant.1 c.self.view_is
+    kept_sound _ _ _ _ _ c.self.invariant.1 c.self.view_is
 
 pub returns-in-Stopped-Length-clause-sound : goal.returns-in-Stopped-Length-clause-sound
 returns-in-Stopped-Length-clause-sound c =
-    kept_sound c.self.inside.offset (take c.self.inside.held c.self.inside.storage.items) c.self.inside.progress (vec_len c.self.inside.storage)
-    c.take_whole.new.self c.self.invariant.1 c.self.view_is
+    kept_sound _ _ _ _ _ c.self.invariant.1 c.self.view_is

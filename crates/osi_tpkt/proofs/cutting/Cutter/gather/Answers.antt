@@ -10,8 +10,6 @@ pub returns-in_default-clause-taken : goal.returns-in_default-clause-taken
 returns-in_default-clause-taken c =
     let belongs = surveyed _ (take c.self.inside.held c.self.inside.storage.items) c.args.piece.now c.in-Ok.fed (ap (take c.self.inside.held) c.as_slice.ensures.value)
     c.in-Ok.ensures.used c.in-Ok.ensures.front c.in-Ok.ensures.whole in
-    let within = c.self.invariant.0 in
-    let size = c.self.inside.storage.ok.0 in
     let count = length-take-le c.self.inside.held c.self.inside.storage.items (omega arith) in
     rw (← c.self.view_is) (
       c.in-Ok.fed,

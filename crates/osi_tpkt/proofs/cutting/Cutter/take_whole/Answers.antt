@@ -4,8 +4,7 @@ use Rattle.osi_tpkt.proofs.cutting.Cutter.take_whole.Goals as goal
 
 pub returns-clause-partial : goal.returns-clause-partial
 returns-clause-partial c =
-    (going_on c.self.inside.offset (take c.self.inside.held c.self.inside.storage.items) c.self.inside.progress (vec_len c.self.inside.storage)
-    c.args.self.now (inl c.in-Awaited.is) c.self.invariant.1 c.self.view_is).1
+    (going_on _ _ _ _ _ (inl c.in-Awaited.is) c.self.invariant.1 c.self.view_is).1
 
 pub returns-clause-taken : goal.returns-clause-taken
 returns-clause-taken c =
@@ -16,8 +15,6 @@ returns-clause-taken c =
 
 pub returns-clause-sound : goal.returns-clause-sound
 returns-clause-sound c =
-    let on = going_on c.self.inside.offset (take c.self.inside.held c.self.inside.storage.items) c.self.inside.progress (vec_len c.self.inside.storage)
-    c.args.self.now (inl c.in-Awaited.is) c.self.invariant.1 c.self.view_is in
-    let before = kept_sound c.self.inside.offset (take c.self.inside.held c.self.inside.storage.items) c.self.inside.progress (vec_len c.self.inside.storage)
-    c.args.self.now c.self.invariant.1 c.self.view_is in
+    let on = going_on _ _ _ _ _ (inl c.in-Awaited.is) c.self.invariant.1 c.self.view_is in
+    let before = kept_sound _ _ _ _ _ c.self.invariant.1 c.self.view_is in
     taken_sound c.args.self.now c.args.piece.now (Ok (record { used = c.in_ok-used.used; whole = true })) _ before on.0 on.1 (returns-clause-taken c)
