@@ -94,8 +94,7 @@ send_early left right new units (give_out unit ∷ moves) sends (mid, first, res
       (append_assoc units (unit ∷ []) (flat_map given_by moves))
       (send_early left mid new (units ++ unit ∷ []) moves sends.1 rest),
 )
-send_early left right new units (take_in unit ∷ moves) sends run = absurd sends.0
-send_early left right new units (hand_out tsdu ∷ moves) sends run = absurd sends.0
+send_early left right new units _ sends run = absurd sends.0
 
 pub sent_early : (left right new : Standing) (moves : List Move) → AllByRecursion OnlySends moves → MovesAlong right moves new →
     TurnsAlong (opened_pair left right) (map at_right moves) (awaiting_pair left new (flat_map given_by moves))

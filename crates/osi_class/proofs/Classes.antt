@@ -13,16 +13,12 @@ behind_them b [] vs first second = second
 behind_them b (u ∷ us) vs first second = (first.0, behind_them b us vs first.1 second)
 
 given_class : (move : Move) (old new : Standing) (b : Bool) → is_some old.flow ≡ b → Moves move old new → AreOfClass b (given_by move)
-given_class (hand_in tsdu) old new b is moves = tt
 given_class (give_out unit) old new b is moves = ((giving_leaves old new unit moves).unit ∙ is, tt)
-given_class (take_in unit) old new b is moves = tt
-given_class (hand_out tsdu) old new b is moves = tt
+given_class _ old new b is moves = tt
 
 come_class : (move : Move) (old new : List Given) (b : Bool) → Comes move old new → AreOfClass b old → AreOfClass b new
-come_class (hand_in tsdu) old new b comes all = subst (λ (us : List Given). AreOfClass b us) comes all
-come_class (give_out unit) old new b comes all = subst (λ (us : List Given). AreOfClass b us) comes all
 come_class (take_in unit) old new b (given, says, comes) all = (subst (λ (us : List Given). AreOfClass b us) comes all).1
-come_class (hand_out tsdu) old new b comes all = subst (λ (us : List Given). AreOfClass b us) comes all
+come_class _ old new b comes all = subst (λ (us : List Given). AreOfClass b us) comes all
 
 pub class_turn : (turn : Turn) (old new : LinkPair) (b : Bool) → is_some old.left.flow ≡ b → AreOfClass b old.rightward → Turns turn old new →
     AreOfClass b new.rightward

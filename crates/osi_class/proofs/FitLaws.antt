@@ -71,5 +71,4 @@ unit_fits destination (ack number credit) below range = record { in_range = (ran
 
 pub unit_length : (destination : ℕ) (unit : Given) → length (written (unit_of destination unit)) ≡ header_octets unit + octets_of unit
 unit_length destination (part0 end octets) = omega arith
-unit_length destination (part2 number end octets) = omega arith
-unit_length destination (ack number credit) = omega arith
+unit_length destination _ = omega arith

@@ -72,12 +72,7 @@ taken_reaches e f (data2 destination number end octets) =
     (λ _. tt)
 taken_reaches e f (acknowledge credit destination number) =
     sender_reaches e f credit destination number (acknowledged f.sender number credit) refl
-taken_reaches e f (data0 end octets) = tt
-taken_reaches e f (request c) = tt
-taken_reaches e f (confirm destination c) = tt
-taken_reaches e f (disconnect destination source reason user) = tt
-taken_reaches e f (disconnected destination source) = tt
-taken_reaches e f (error destination cause) = tt
+taken_reaches e f _ = tt
 
 move_reaches : (move : Move) (old new : Standing) (f : Flow) → old.flow ≡ Some f → Moves move old new → Reaches move f new
 move_reaches (hand_in tsdu) old new f is e = (f, ap (λ (s : Standing). s.flow) e ∙ is, refl)
@@ -113,8 +108,7 @@ take_left : (unit : Value) (old new : LinkPair) (l g r : Flow) → LeftMoves (ta
     StepsOrStays (direction l old r) (direction g new r)
 take_left (data2 destination number end octets) old new l g r m (given, says, comes) (awaited, is) =
     let come : old.leftward ≡ part2 number end octets ∷ new.leftward = comes ∙ ap (λ (x : List Given). x ++ new.leftward) (sym says) in
-    inl (make_same g.sender l.sender (flat_map unit_numbers new.rightward) (flat_map unit_numbers old.rightward) r.receiver r.receiver
-    (flat_map ack_numbers new.leftward) (flat_map ack_numbers old.leftward)
+    inl (make_same _ _ _ _ _ _ _ _
     (ap (λ (f : Flow). f.sender) is) (none_after unit_numbers old.rightward new.rightward [] m.given refl) refl
     (sym (ap (λ (x : List Given). flat_map ack_numbers x) come)))
 take_left (acknowledge credit destination number) old new l g r m (given, says, comes) (taken, is) =
@@ -127,31 +121,15 @@ take_left (acknowledge credit destination number) old new l g r m (given, says, 
         g.sender,
         ap (λ (x : List Given). flat_map ack_numbers x) come,
         taken,
-        make_same g.sender g.sender (flat_map unit_numbers new.rightward) (flat_map unit_numbers old.rightward) r.receiver r.receiver
-            (flat_map ack_numbers new.leftward) (flat_map ack_numbers new.leftward)
+        make_same _ _ _ _ _ _ _ _
             refl (none_after unit_numbers old.rightward new.rightward [] m.given refl) refl refl,
       ),
     )
-take_left (data0 end octets) old new l g r m comes moves = absurd moves
-take_left (request c) old new l g r m comes moves = absurd moves
-take_left (confirm destination c) old new l g r m comes moves = absurd moves
-take_left (disconnect destination source reason user) old new l g r m comes moves = absurd moves
-take_left (disconnected destination source) old new l g r m comes moves = absurd moves
-take_left (error destination cause) old new l g r m comes moves = absurd moves
+take_left _ old new l g r m comes moves = absurd moves
 
 -- a call at the left link
 left_steps : (move : Move) (old new : LinkPair) (l g r : Flow) → LeftMoves move old new → FlowMoves move l g →
     StepsOrStays (direction l old r) (direction g new r)
-left_steps (hand_in tsdu) old new l g r m e =
-    inl (make_same g.sender l.sender (flat_map unit_numbers new.rightward) (flat_map unit_numbers old.rightward) r.receiver r.receiver
-    (flat_map ack_numbers new.leftward) (flat_map ack_numbers old.leftward)
-    (ap (λ (f : Flow). f.sender) e) (none_after unit_numbers old.rightward new.rightward [] m.given refl) refl
-    (ap (λ (x : List Given). flat_map ack_numbers x) (sym m.comes)))
-left_steps (hand_out tsdu) old new l g r m e =
-    inl (make_same g.sender l.sender (flat_map unit_numbers new.rightward) (flat_map unit_numbers old.rightward) r.receiver r.receiver
-    (flat_map ack_numbers new.leftward) (flat_map ack_numbers old.leftward)
-    (ap (λ (f : Flow). f.sender) e) (none_after unit_numbers old.rightward new.rightward [] m.given refl) refl
-    (ap (λ (x : List Given). flat_map ack_numbers x) (sym m.comes)))
 left_steps (give_out (part0 end octets)) old new l g r m moves = absurd moves
 left_steps (give_out (part2 number end octets)) old new l g r m (credit, is, e) =
     inr (
@@ -168,11 +146,14 @@ left_steps (give_out (part2 number end octets)) old new l g r m (credit, is, e) 
       ),
     )
 left_steps (give_out (ack number credit)) old new l g r m (waiting, is, window, e) =
-    inl (make_same g.sender l.sender (flat_map unit_numbers new.rightward) (flat_map unit_numbers old.rightward) r.receiver r.receiver
-    (flat_map ack_numbers new.leftward) (flat_map ack_numbers old.leftward)
+    inl (make_same _ _ _ _ _ _ _ _
     (ap (λ (f : Flow). f.sender) e) (none_after unit_numbers old.rightward new.rightward (ack number credit ∷ []) m.given refl) refl
     (ap (λ (x : List Given). flat_map ack_numbers x) (sym m.comes)))
 left_steps (take_in unit) old new l g r m moves = take_left unit old new l g r m m.comes moves
+left_steps _ old new l g r m e =
+    inl (make_same _ _ _ _ _ _ _ _
+    (ap (λ (f : Flow). f.sender) e) (none_after unit_numbers old.rightward new.rightward [] m.given refl) refl
+    (ap (λ (x : List Given). flat_map ack_numbers x) (sym m.comes)))
 
 take_right : (unit : Value) (old new : LinkPair) (l r h : Flow) → LeftMoves (take_in unit) (swapped old) (swapped new) →
     Comes (take_in unit) old.rightward new.rightward → FlowMoves (take_in unit) r h →
@@ -186,41 +167,23 @@ take_right (data2 destination number end octets) old new l r h m (given, says, c
         flat_map unit_numbers new.rightward,
         ap (λ (x : List Given). flat_map unit_numbers x) come,
         awaited,
-        make_same l.sender l.sender (flat_map unit_numbers new.rightward) (flat_map unit_numbers new.rightward) h.receiver (after_taken r.receiver)
-            (flat_map ack_numbers new.leftward) (flat_map ack_numbers old.leftward)
+        make_same _ _ _ _ _ _ _ _
             refl refl (ap (λ (f : Flow). f.receiver) is) (none_after ack_numbers old.leftward new.leftward [] m.given refl),
       ),
     )
 take_right (acknowledge credit destination number) old new l r h m (given, says, comes) (taken, is) =
     let come : old.rightward ≡ ack number credit ∷ new.rightward = comes ∙ ap (λ (x : List Given). x ++ new.rightward) (sym says) in
-    inl (make_same l.sender l.sender (flat_map unit_numbers new.rightward) (flat_map unit_numbers old.rightward) h.receiver r.receiver
-    (flat_map ack_numbers new.leftward) (flat_map ack_numbers old.leftward)
+    inl (make_same _ _ _ _ _ _ _ _
     refl (sym (ap (λ (x : List Given). flat_map unit_numbers x) come)) (ap (λ (f : Flow). f.receiver) is)
     (none_after ack_numbers old.leftward new.leftward [] m.given refl))
-take_right (data0 end octets) old new l r h m comes moves = absurd moves
-take_right (request c) old new l r h m comes moves = absurd moves
-take_right (confirm destination c) old new l r h m comes moves = absurd moves
-take_right (disconnect destination source reason user) old new l r h m comes moves = absurd moves
-take_right (disconnected destination source) old new l r h m comes moves = absurd moves
-take_right (error destination cause) old new l r h m comes moves = absurd moves
+take_right _ old new l r h m comes moves = absurd moves
 
 -- a call at the right link
 right_steps : (move : Move) (old new : LinkPair) (l r h : Flow) → LeftMoves move (swapped old) (swapped new) → FlowMoves move r h →
     StepsOrStays (direction l old r) (direction l new h)
-right_steps (hand_in tsdu) old new l r h m e =
-    inl (make_same l.sender l.sender (flat_map unit_numbers new.rightward) (flat_map unit_numbers old.rightward) h.receiver r.receiver
-    (flat_map ack_numbers new.leftward) (flat_map ack_numbers old.leftward)
-    refl (ap (λ (x : List Given). flat_map unit_numbers x) (sym m.comes)) (ap (λ (f : Flow). f.receiver) e)
-    (none_after ack_numbers old.leftward new.leftward [] m.given refl))
-right_steps (hand_out tsdu) old new l r h m e =
-    inl (make_same l.sender l.sender (flat_map unit_numbers new.rightward) (flat_map unit_numbers old.rightward) h.receiver r.receiver
-    (flat_map ack_numbers new.leftward) (flat_map ack_numbers old.leftward)
-    refl (ap (λ (x : List Given). flat_map unit_numbers x) (sym m.comes)) (ap (λ (f : Flow). f.receiver) e)
-    (none_after ack_numbers old.leftward new.leftward [] m.given refl))
 right_steps (give_out (part0 end octets)) old new l r h m moves = absurd moves
 right_steps (give_out (part2 number end octets)) old new l r h m (credit, is, e) =
-    inl (make_same l.sender l.sender (flat_map unit_numbers new.rightward) (flat_map unit_numbers old.rightward) h.receiver r.receiver
-    (flat_map ack_numbers new.leftward) (flat_map ack_numbers old.leftward)
+    inl (make_same _ _ _ _ _ _ _ _
     refl (ap (λ (x : List Given). flat_map unit_numbers x) (sym m.comes)) (ap (λ (f : Flow). f.receiver) e)
     (none_after ack_numbers old.leftward new.leftward (part2 number end octets ∷ []) m.given refl))
 right_steps (give_out (ack number credit)) old new l r h m (waiting, is, window, e) =
@@ -239,6 +202,10 @@ right_steps (give_out (ack number credit)) old new l r h m (waiting, is, window,
       ),
     )
 right_steps (take_in unit) old new l r h m moves = take_right unit old new l r h m m.comes moves
+right_steps _ old new l r h m e =
+    inl (make_same _ _ _ _ _ _ _ _
+    refl (ap (λ (x : List Given). flat_map unit_numbers x) (sym m.comes)) (ap (λ (f : Flow). f.receiver) e)
+    (none_after ack_numbers old.leftward new.leftward [] m.given refl))
 
 pub turn_steps : (turn : Turn) (old new : LinkPair) (l r : Flow) → HaveFlows old l r → Turns turn old new → TurnSteps old l r new
 turn_steps (at_left move) old new l r have m =

@@ -65,8 +65,7 @@ zero_within headers e (Some ((end, octets), rest)) parts = let all = parts.0 in 
 -- a part goes for one unit of credit
 part_within : (waits octets headers limit left all credit : ℕ) → octets + headers + left ≡ all → octets ≤ limit → 0 < credit →
     octets + headers + (waits + min left ((credit - 1) * (limit + headers))) ≤ waits + min all (credit * (limit + headers))
-part_within waits octets headers limit left all credit is short some =
-    let more = more_credit credit (limit + headers) some in omega (arith, more)
+part_within waits octets headers limit left all credit is short some = omega (arith, more_credit)
 
 two_within : (headers : ℕ) (e : Ends) (f : Flow) (o : Option (Part × List (List ℕ))) → IfSome o (Parts headers e.limit e.unsent) → 0 < f.sender.credit →
     IfSome (given_part e (Some (sent_flow f)) (Some f.sender.next) o) (Within headers (most_by headers e (Some f)))
@@ -103,8 +102,7 @@ With headers units most = octets_in units + length units * headers ≤ most
 
 unit_more : (headers octets units first left most : ℕ) → octets + units * headers ≤ left → first + headers + left ≤ most →
     (first + octets) + (suc units) * headers ≤ most
-unit_more headers octets units first left most more step =
-    let one : suc units * headers ≡ headers + units * headers = omega arith in omega (arith, one)
+unit_more headers octets units first left most more step = omega arith
 
 within_take : (headers n : ℕ) (s : Standing) → 0 < s.ends.limit → With headers (drained_within n s).units (most_given headers s)
 within_take headers zero s room = omega arith
@@ -128,11 +126,7 @@ some_at : {V : Type 0} (items : V → List ℕ) (headers limit i : ℕ) (vs : Li
     ≤ octets_in_parts headers limit (map items vs)
 some_at items headers limit i [] d within = absurd (omega arith)
 some_at items headers limit zero (v ∷ vs) d within = let all = less_parts headers limit (items v) (map items vs) in omega (arith, all)
-some_at items headers limit (suc i) (v ∷ vs) d within =
-    let some = less_parts headers limit (items v) (map items (take i vs)) in
-    let all = less_parts headers limit (items v) (map items vs) in
-    let more = some_at items headers limit i vs d (omega arith) in
-    omega (arith, some, all, more)
+some_at items headers limit (suc i) (v ∷ vs) d within = omega (arith, less_parts, some_at items headers limit i vs d (omega arith))
 
 pub some_of_all : {V : Type 0} (items : V → List ℕ) (headers limit i octets : ℕ) (vs : List V) (v : V) → i < length vs → v ≡ get_or vs i v →
     octets ≡ length (items v) →

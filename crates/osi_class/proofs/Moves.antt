@@ -83,19 +83,13 @@ taken_keeps e (Some f) (data2 destination number end octets) =
     (λ _. joined_keeps e (Some (taken_flow f)) end octets (joined e.joining end octets) (joined_makes e.joining end octets))
     (λ _. tt)
 taken_keeps e (Some f) (acknowledge credit destination number) = sender_keeps e f (acknowledged f.sender number credit)
-taken_keeps e None (data2 destination number end octets) = tt
-taken_keeps e None (acknowledge credit destination number) = tt
-taken_keeps e None (request c) = tt
-taken_keeps e None (confirm destination c) = tt
-taken_keeps e None (disconnect destination source reason user) = tt
-taken_keeps e None (disconnected destination source) = tt
-taken_keeps e None (error destination cause) = tt
 taken_keeps e (Some f) (data0 end octets) = tt
 taken_keeps e (Some f) (request c) = tt
 taken_keeps e (Some f) (confirm destination c) = tt
 taken_keeps e (Some f) (disconnect destination source reason user) = tt
 taken_keeps e (Some f) (disconnected destination source) = tt
 taken_keeps e (Some f) (error destination cause) = tt
+taken_keeps e None _ = tt
 
 -- each call keeps both
 pub move_keeps : (move : Move) (old new : Standing) → Moves move old new →

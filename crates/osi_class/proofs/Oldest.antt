@@ -16,8 +16,7 @@ use Rattle.osi_class.proofs.Short.{not_too_long}
 
 pub said : (destination : ℕ) (unit : Given) → given_in (unit_of destination unit) ≡ unit ∷ []
 said destination (part0 end octets) = refl
-said destination (part2 number end octets) = refl
-said destination (ack number credit) = refl
+said destination _ = refl
 
 oldest : (p : LinkPair) (g : Given) (rest : List Given) (destination : ℕ) (new : Standing) → p.rightward ≡ g ∷ rest →
     taken p.right (unit_of destination g) ≡ Ok new → TakesOldest p (unit_of destination g) rest

@@ -24,9 +24,6 @@ unit_written : (d : Direction) (known : ℕ) → InStep d known → 0 < d.sender
     InStep (record d { sender = after_sent d.sender; units = d.units ++ d.sender.next ∷ [] }) known
 unit_written d known h credit =
     let longer = length_snoc d.units d.sender.next in
-    let hn = h.next in
-    let hu = h.unacknowledged in
-    let ho = h.owed in
     record {
       units = ap (λ (l : List ℕ). l ++ d.sender.next ∷ []) h.units
           ∙ ap (λ (n : ℕ). numbers (known + unknown d) (length d.units) ++ n ∷ []) h.next
@@ -49,10 +46,6 @@ unit_taken d known number rest h e =
     sym e ∙ h.units ∙ ap (λ (n : ℕ). numbers count n) shorter in
     let others : rest ≡ numbers (count + 1) (length rest) = cc in
     let more : count + 1 ≡ known + (length d.acks + (d.receiver.waiting + 1)) = omega arith in
-    let hn = h.next in
-    let he = h.expected in
-    let hu = h.unacknowledged in
-    let ho = h.owed in
     record {
       units = others ∙ ap (λ (n : ℕ). numbers n (length rest)) more;
       acks = h.acks;
@@ -69,11 +62,6 @@ ack_written d known h waiting =
     let r = d.receiver in
     let longer = length_snoc d.acks (ack_number r, r.window) in
     let same : length (d.acks ++ (ack_number r, r.window) ∷ []) + (r.waiting - 1) ≡ unknown d = omega arith in
-    let ho = h.owed in
-    let hw = h.window in
-    let hn = h.next in
-    let he = h.expected in
-    let hu = h.unacknowledged in
     let number : ack_number r ≡ (known + 1 + length d.acks) % 128 =
     ap (λ (n : ℕ). steps_before n (r.waiting - 1)) (h.expected ∙ ap (λ (n : ℕ). n % 128) (let m : known + unknown d ≡ known + 1 + length d.acks + (r.waiting - 1) = omega arith in m))
     ∙ earlier_number (known + 1 + length d.acks) (r.waiting - 1) (omega arith) in
@@ -107,9 +95,6 @@ ack_is_taken d known ack rest h e =
     let first = (ack_first d known ack rest h e).0 in
     let shorter : length d.acks ≡ suc (length rest) = ap length e in
     let s = d.sender in
-    let ho = h.owed in
-    let hw = h.window in
-    let hu = h.unacknowledged in
     let m : known + unknown d + length d.units ≡ known + 1 + (s.unacknowledged - 1) = omega arith in
     let left : steps_before s.next ((known + 1) % 128) ≡ s.unacknowledged - 1 =
     ap (λ (n : ℕ). steps_before n ((known + 1) % 128)) (h.next ∙ ap (λ (n : ℕ). n % 128) m)
@@ -124,10 +109,6 @@ ack_taken : (d : Direction) (known : ℕ) (ack : ℕ × ℕ) (rest : List (ℕ �
 ack_taken d known ack rest h e =
     let others = (ack_first d known ack rest h e).1 in
     let shorter : length d.acks ≡ suc (length rest) = ap length e in
-    let hn = h.next in
-    let he = h.expected in
-    let hu = h.unacknowledged in
-    let ho = h.owed in
     let same : known + unknown d ≡ known + 1 + (length rest + d.receiver.waiting) = omega arith in
     record {
       units = h.units ∙ ap (λ (n : ℕ). numbers n (length d.units)) same;
@@ -191,8 +172,6 @@ unit_is_awaited d known number rest h e =
     let all : number ∷ rest ≡ (count % 128) ∷ numbers (count + 1) (length rest) =
     sym e ∙ h.units ∙ ap (λ (n : ℕ). numbers count n) shorter in
     let first : number ≡ count % 128 = cc in
-    let he = h.expected in
-    let ho = h.owed in
     let a : (number == d.receiver.expected) ≡ true = eq-eqb number d.receiver.expected (first ∙ sym h.expected) in
     let b : nat_lt d.receiver.waiting d.receiver.window ≡ true = lt-ltb d.receiver.waiting d.receiver.window (omega arith) in
     rw (a, b)
@@ -202,7 +181,6 @@ pub nothing_under_way : (d : Direction) (known : ℕ) → InStep d known → d.u
 nothing_under_way d known h no_units no_acks none =
     let a : length d.units ≡ 0 = ap length no_units in
     let b : length d.acks ≡ 0 = ap length no_acks in
-    let ho = h.owed in
     omega arith
 
 pub always : (window : ℕ) (steps : List CreditStep) (d : Direction) → window ≤ 15 → StepsAlong (opened window) steps d → owed d ≡ window

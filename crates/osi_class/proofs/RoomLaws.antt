@@ -24,8 +24,7 @@ parts_cut limit octets room longer =
     ap (λ (n : ℕ). n / limit + 1) before ∙ ap (λ (n : ℕ). n + 1) (add-div_right (octets - limit - 1) room)
 
 pub one_part : (limit octets : ℕ) → 0 < limit → octets ≤ limit → parts_needed limit octets ≡ 1
-one_part limit octets room short =
-    let none : (octets - 1) / limit ≡ 0 = div-eq_of_lt (omega arith) in omega (arith, none)
+one_part limit octets room short = omega (arith, div-eq_of_lt)
 
 parts_some : (limit octets : ℕ) → 1 ≤ parts_needed limit octets
 parts_some limit octets = omega arith

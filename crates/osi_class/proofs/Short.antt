@@ -28,14 +28,8 @@ begun_short [] begun ends all =
     let none : begun ++ [] ≡ [] = cc in
     let n : length begun ≡ 0 = ap length (sym (append_nil begun) ∙ none) in
     omega arith
-begun_short ((false, octets) ∷ parts) begun ends all =
-    let more = begun_short parts (begun ++ octets) ends all in
-    let n = length-append begun octets in
-    omega arith
-begun_short ((true, octets) ∷ parts) begun ends all =
-    let first : IsShortTsdu (begun ++ octets) = all.0 in
-    let n = length-append begun octets in
-    omega arith
+begun_short ((false, octets) ∷ parts) begun ends all = omega (arith, length-append {A = ℕ}, begun_short parts (begun ++ octets) ends all)
+begun_short ((true, octets) ∷ parts) begun ends all = omega (arith, length-append {A = ℕ})
 
 part_short : (end : Bool) (octets : List ℕ) (rest : List Part) (begun : List ℕ) → End begun ((end, octets) ∷ rest) →
     AllByRecursion IsShortTsdu (tsdus_after begun ((end, octets) ∷ rest)) → length begun + length octets ≤ longest_tsdu

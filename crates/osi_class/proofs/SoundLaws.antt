@@ -34,28 +34,10 @@ two_safe e f g number begun sound None = tt
 two_safe e f g number begun sound (Some ((end, octets), rest)) = (refl, begun, sound, refl)
 
 sent_sound : (f : Flow) → IsSoundFlow f → 0 < f.sender.credit → IsSoundFlow (sent_flow f)
-sent_sound f h some =
-    let hc = h.credit in
-    record {
-      next = omega arith;
-      credit = omega arith;
-      window_least = h.window_least;
-      window_most = h.window_most;
-      expected = h.expected;
-      waiting = h.waiting;
-    }
+sent_sound f h some = omega arith
 
 acked_sound : (f : Flow) → IsSoundFlow f → IsSoundFlow (record f { receiver = after_acked f.receiver })
-acked_sound f h =
-    let hw = h.waiting in
-    record {
-      next = h.next;
-      credit = h.credit;
-      window_least = h.window_least;
-      window_most = h.window_most;
-      expected = h.expected;
-      waiting = omega arith;
-    }
+acked_sound f h = omega arith
 
 next_safe : (e : Ends) (flow : Option Flow) → length e.joining.begun ≤ longest_tsdu → IfSome flow IsSoundFlow →
     IfSome (next_by e flow) (λ p. Safe e flow p.1)
@@ -90,15 +72,7 @@ joined_safe e flow after sound same (Err fault) short = tt
 joined_safe e flow after sound same (Ok joining) short = (refl, short, sound, same)
 
 taken_sound : (f : Flow) → IsSoundFlow f → f.receiver.waiting < f.receiver.window → IsSoundFlow (taken_flow f)
-taken_sound f h open_window =
-    record {
-      next = h.next;
-      credit = h.credit;
-      window_least = h.window_least;
-      window_most = h.window_most;
-      expected = omega arith;
-      waiting = omega arith;
-    }
+taken_sound f h open_window = omega arith
 
 -- an AK with a credit that its field can hold
 record IsSoundSender (s : Sender) : Type 0 where
@@ -152,19 +126,13 @@ taken_safe e (Some f) (data2 destination number end octets) begun sound range =
     (λ _. tt)
 taken_safe e (Some f) (acknowledge credit destination number) begun sound range =
     sender_safe e f begun sound (acknowledged f.sender number credit) (acknowledged_sound f.sender number credit sound.next range.0)
-taken_safe e None (data2 destination number end octets) begun sound range = tt
-taken_safe e None (acknowledge credit destination number) begun sound range = tt
-taken_safe e None (request c) begun sound range = tt
-taken_safe e None (confirm destination c) begun sound range = tt
-taken_safe e None (disconnect destination source reason user) begun sound range = tt
-taken_safe e None (disconnected destination source) begun sound range = tt
-taken_safe e None (error destination cause) begun sound range = tt
 taken_safe e (Some f) (data0 end octets) begun sound range = tt
 taken_safe e (Some f) (request c) begun sound range = tt
 taken_safe e (Some f) (confirm destination c) begun sound range = tt
 taken_safe e (Some f) (disconnect destination source reason user) begun sound range = tt
 taken_safe e (Some f) (disconnected destination source) begun sound range = tt
 taken_safe e (Some f) (error destination cause) begun sound range = tt
+taken_safe e None _ begun sound range = tt
 
 move_safe : (move : Move) (old new : Standing) → length old.ends.joining.begun ≤ longest_tsdu → IfSome old.flow IsSoundFlow → TakesInRange move →
     Moves move old new → Safe old.ends old.flow new
@@ -187,7 +155,6 @@ move_safe (hand_out tsdu) old new begun sound range e =
 pub move_sound : (move : Move) (old new : Standing) → IsSound old → TakesInRange move → Moves move old new → IsSound new
 move_sound move old new h range moves =
     let safe = move_safe move old new h.begun h.flow range moves in
-    let limit = safe.0 in
     let least = h.least in
     let most = h.most in
     record { least = omega arith; most = omega arith; begun = safe.1; flow = safe.2 }
@@ -213,19 +180,13 @@ taken_same e (Some f) (data2 destination number end octets) =
     (λ _. joined_same e (Some f) (Some (taken_flow f)) refl (joined e.joining end octets))
     (λ _. tt)
 taken_same e (Some f) (acknowledge credit destination number) = sender_same e f (acknowledged f.sender number credit)
-taken_same e None (data2 destination number end octets) = tt
-taken_same e None (acknowledge credit destination number) = tt
-taken_same e None (request c) = tt
-taken_same e None (confirm destination c) = tt
-taken_same e None (disconnect destination source reason user) = tt
-taken_same e None (disconnected destination source) = tt
-taken_same e None (error destination cause) = tt
 taken_same e (Some f) (data0 end octets) = tt
 taken_same e (Some f) (request c) = tt
 taken_same e (Some f) (confirm destination c) = tt
 taken_same e (Some f) (disconnect destination source reason user) = tt
 taken_same e (Some f) (disconnected destination source) = tt
 taken_same e (Some f) (error destination cause) = tt
+taken_same e None _ = tt
 
 pub move_same : (move : Move) (old new : Standing) → Moves move old new → Same old.ends old.flow new
 move_same (hand_in tsdu) old new e = subst (λ (s : Standing). Same old.ends old.flow s) (sym e) (refl, refl)

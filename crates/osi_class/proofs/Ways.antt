@@ -14,13 +14,7 @@ use Rattle.osi_class.proofs.Moves.{move_keeps}
 -- the parts that a unit has are those that it brings
 brought_parts : (unit : Value) → parts_under_way (given_in unit) ≡ unit_parts unit
 brought_parts (data0 end octets) = refl
-brought_parts (data2 destination number end octets) = refl
-brought_parts (acknowledge credit destination number) = refl
-brought_parts (request c) = refl
-brought_parts (confirm destination c) = refl
-brought_parts (disconnect destination source reason user) = refl
-brought_parts (disconnected destination source) = refl
-brought_parts (error destination cause) = refl
+brought_parts _ = refl
 
 said_parts : (unit : Value) (given : Given) → Says unit given → unit_parts unit ≡ given_parts given
 said_parts unit given says =
@@ -29,9 +23,7 @@ said_parts unit given says =
 -- what a call gives
 given_by_parts : (move : Move) → parts_under_way (given_by move) ≡ part_out move
 given_by_parts (give_out unit) = append_nil (given_parts unit)
-given_by_parts (hand_in tsdu) = refl
-given_by_parts (take_in unit) = refl
-given_by_parts (hand_out tsdu) = refl
+given_by_parts _ = refl
 
 -- what comes to a call
 come_parts : (move : Move) (old new : List Given) → Comes move old new →
@@ -39,9 +31,7 @@ come_parts : (move : Move) (old new : List Given) → Comes move old new →
 come_parts (take_in unit) old new (given, says, e) =
     ap (λ (g : List Given). parts_under_way g) e
     ∙ ap (λ (ps : List Part). ps ++ parts_under_way new) (sym (said_parts unit given says))
-come_parts (hand_in tsdu) old new e = ap (λ (g : List Given). parts_under_way g) e
-come_parts (give_out unit) old new e = ap (λ (g : List Given). parts_under_way g) e
-come_parts (hand_out tsdu) old new e = ap (λ (g : List Given). parts_under_way g) e
+come_parts _ old new e = ap (λ (g : List Given). parts_under_way g) e
 
 turn_keeps : (turn : Turn) (old new : LinkPair) → Turns turn old new → (later : List (List ℕ)) →
     under_way_before old (left_in turn ++ later) ≡ right_out turn ++ under_way_before new later

@@ -25,7 +25,7 @@ pub struct Class2 {
     /// The TSDU whose end has not come.
     begun: Begun,
     /// Those that were taken whole, the oldest first.
-    whole: Queue<Vec<u8>>,
+    pub(crate) whole: Queue<Vec<u8>>,
     /// How many octets a unit carries, 123 to 8187.
     limit: usize,
     sending: SendingFlow,

@@ -21,7 +21,7 @@ pub struct Class0 {
     /// The TSDU whose end has not come.
     begun: Begun,
     /// Those that were taken whole, the oldest first.
-    whole: Queue<Vec<u8>>,
+    pub(crate) whole: Queue<Vec<u8>>,
     /// How many octets a unit carries, 125 to 8189. The invariant has the bound that both classes
     /// keep.
     limit: usize,

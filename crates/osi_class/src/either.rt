@@ -77,8 +77,8 @@ impl Link for AnyLink {
     #[inline(always)]
     fn next_tsdu(&mut self) -> Option<Vec<u8>> {
         match self {
-            AnyLink::Zero(link) => link.next_tsdu(),
-            AnyLink::Two(link) => link.next_tsdu(),
+            AnyLink::Zero(link) => link.whole.pop(),
+            AnyLink::Two(link) => link.whole.pop(),
         }
     }
 

@@ -8,7 +8,6 @@ returns-in_err-more-clause-none c =
     let size : c.len.result ≡ length c.tsdu-item.result.items = omega arith in
     let all = some_of_all (λ v. v.items) c.args.headers c.args.limit c.tsdus.tsdu-index c.len.result c.args.tsdus.now
     c.tsdu-item.result c.tsdus-test.true c.tsdu-item.is size in
-    let more = c.in_err-more.ensures in
     let P = λ (o : Option ℕ). IfNone o (2 ^ 64 ≤ octets_in_parts c.args.headers c.args.limit (map (λ v. v.items) c.args.tsdus.now)) in
     subst P (sym c.from_residual.ensures) (omega arith)
 
@@ -17,8 +16,5 @@ returns-in_err-room-clause-none c =
     let size : c.len.result ≡ length c.tsdu-item.result.items = omega arith in
     let all = some_of_all (λ v. v.items) c.args.headers c.args.limit c.tsdus.tsdu-index c.len.result c.args.tsdus.now
     c.tsdu-item.result c.tsdus-test.true c.tsdu-item.is size in
-    let more = c.in_err-room.ensures in
-    let one = c.in_ok-more.ensures in
-    let before = c.tsdus.invariant in
     let P = λ (o : Option ℕ). IfNone o (2 ^ 64 ≤ octets_in_parts c.args.headers c.args.limit (map (λ v. v.items) c.args.tsdus.now)) in
     subst P (sym c.from_residual-in_err-room.ensures) (omega arith)
