@@ -105,10 +105,7 @@ long_partial r f g h =
 
 -- fewer than four: first the header is completed
 pub completed_partial : (r header : List ℕ) → IsPartial (r ++ header) → IsPartial r
-completed_partial r header p =
-    let some = p.some in
-    let total = length-append header p.more in
-    record { more = header ++ p.more; some = omega arith; completes = subst IsOnePacket (append_assoc r header p.more) p.completes }
+completed_partial r header p = grind (arith, length-append, append_assoc)
 
 -- the four octets of a header of at least 7
 header_partial : (b c d : ℕ) → b < 256 → c < 256 → d < 256 → 7 ≤ 256 * c + d → IsPartial (3 ∷ b ∷ c ∷ d ∷ [])
@@ -147,9 +144,7 @@ front_length h t some f bad = omega (arith, stated_length-append)
 
 bad_version : (r more : List ℕ) → IsFront r → (4 ≤ length r) ⊎ (more ≡ []) → IsBadVersion (r ++ more) → ⊥
 bad_version r more front (inl long) bad = front_version r more (omega arith) front bad
-bad_version r more front (inr none) bad =
-    let here : IsBadVersion r = subst IsBadVersion (ap (λ x. r ++ x) none ∙ append-nil r) bad in
-    here.1 (front.version here.0)
+bad_version r more front (inr none) bad = grind (arith, append-nil)
 
 bad_length : (r more : List ℕ) → IsFront r → (4 ≤ length r) ⊎ (more ≡ []) → IsBadLength (r ++ more) → ⊥
 bad_length r more front (inl long) bad = front_length r more long front bad
@@ -197,12 +192,7 @@ none_partial (Some x) s f h = h
 -- the packet at the front of octets, its unit as it is sliced from them
 pub front_packet : (octets : List ℕ) (used : ℕ) → used ≤ length octets → IsFront (take used octets) → IsFull (take used octets) →
     IsPacket (take (used - 4) (drop 4 octets)) (take used octets)
-front_packet octets used within front full =
-    let size = length-take-le used octets within in
-    let count : 4 + (used - 4) ≡ used = omega arith in
-    let unit : drop 4 (take used octets) ≡ take (used - 4) (drop 4 octets) =
-    ap (λ k. drop 4 (take k octets)) (sym count) ∙ drop-take 4 (used - 4) octets in
-    subst (λ u. IsPacket u (take used octets)) unit (full_packet (take used octets) front full)
+front_packet octets used within front full = grind (arith, length-take-le, drop-take, full_packet)
 
 -- what stands where a packet is whole, and where it is not
 pub where_whole : (P Q : Type 0) (whole : Bool) → not whole ≡ false → MatchBool whole P Q → P

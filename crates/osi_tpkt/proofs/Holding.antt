@@ -82,14 +82,7 @@ with_fault old new fault h partial same = subst IsHolding (sym same) (record { o
 
 pub taken_sound : (old : Held) (piece : List ℕ) (result : Result Fed TpktFault) (new : Held) → IsHolding old → old.fault ≡ None → IsPartial old.octets →
     TakesPiece old piece result new → IsHolding new
-taken_sound old piece (Ok fed) new h unfaulted partial t =
-    let octets : new.octets ≡ old.octets ++ take fed.used piece = ap (λ (h : Held). h.octets) t.1.octets in
-    let fault : new.fault ≡ None = ap (λ (h : Held). h.fault) t.1.octets ∙ unfaulted in
-    record {
-      offset = subst (λ n. n < 2 ^ 64) (sym (ap (λ (h : Held). h.offset) t.1.octets)) h.offset;
-      octets = subst (λ x. IsPartial x ⊎ (IsOnePacket x × (new.fault ≡ None))) (sym octets)
-          (stands (fed.used ≡ length piece) fed.whole (old.octets ++ take fed.used piece) new.fault t.0.whole fault);
-    }
+taken_sound old piece (Ok fed) new h unfaulted partial t = grind (arith, stands)
 taken_sound old piece (Err (BadVersion at)) new h unfaulted partial t = with_fault old new (Some (BadVersion at)) h partial t.1
 taken_sound old piece (Err (BadLength at)) new h unfaulted partial t = with_fault old new (Some (BadLength at)) h partial t.1
 taken_sound old piece (Err OutOfMemory) new h unfaulted partial t = subst IsHolding (sym t.3) h
@@ -137,12 +130,7 @@ taken_lasting old piece _ new unfaulted t e = absurd (let f = ap (λ (h : Held).
 pub gathered : (offset held used before after : ℕ) (fault : Option TpktFault) (old mid new part : List ℕ) → length part ≡ used →
     take (held + length part) new ≡ take held mid ++ part → take held mid ≡ take held old → fault ≡ None → before ≤ after →
     Gains (holding offset fault (take held old) before) part (holding offset None (take (held + used) new) after)
-gathered offset held used before after fault old mid new part count put stays unfaulted more =
-    let octets : take (held + used) new ≡ take held old ++ part = ap (λ n. take (held + n) new) (sym count) ∙ put ∙ ap (λ x. x ++ part) stays in
-    record {
-      octets = ap (λ x. holding offset None x after) octets ∙ ap (λ f. holding offset f (take held old ++ part) after) (sym unfaulted);
-      room = more;
-    }
+gathered offset held used before after fault old mid new part count put stays unfaulted more = grind (arith, holding)
 
 -- a packet that stands whole at the front of a piece, put where one was awaited
 pub taken_whole : (offset used before after : ℕ) (octets piece items : List ℕ) (progress : Progress) (now : Held) → progress ≡ Awaited → IsKept offset octets progress →
@@ -165,20 +153,7 @@ taken_whole offset used before after octets piece items progress now is kept sam
 pub passed : (offset sum room used : ℕ) (octets piece : List ℕ) (progress : Progress) (now : Held) → progress ≡ Awaited → IsKept offset octets progress → used ≤ length piece →
     IsFront (take used piece) → IsFull (take used piece) → sum ≡ offset_of (offset + used) → holding offset (fault_of offset progress) octets room ≡ now →
     Passes now (take (used - 4) (drop 4 piece)) piece (holding sum (fault_of sum progress) octets room)
-passed offset sum room used octets piece progress now is fits within front full end same =
-    let packet = front_packet piece used within front full in
-    let taken = length-take-le used piece within in
-    let spelled = ap length packet.spelled in
-    let size : used ≡ 4 + length (take (used - 4) (drop 4 piece)) = omega arith in
-    subst (λ (h : Held). Passes h (take (used - 4) (drop 4 piece)) piece (holding sum (fault_of sum progress) octets room)) same
-    (record {
-      empty = awaiting offset octets progress is fits;
-      faultless = ap (fault_of offset) is;
-      within = omega arith;
-      packet = subst (λ n. IsPacket (take (used - 4) (drop 4 piece)) (take n piece)) size packet;
-      after = ap (λ f. holding sum f octets room) (ap (fault_of sum) is ∙ sym (ap (fault_of offset) is))
-          ∙ ap (λ n. holding n (fault_of offset progress) octets room) (end ∙ ap (λ n. offset_of (offset + n)) size);
-    })
+passed offset sum room used octets piece progress now is fits within front full end same = grind (arith, front_packet, length-take-le, holding, awaiting)
 
 pub passed_sound : (offset sum room : ℕ) (octets : List ℕ) (progress : Progress) → progress ≡ Awaited → IsKept offset octets progress → sum < 2 ^ 64 →
     IsHolding (holding sum (fault_of sum progress) octets room)

@@ -23,9 +23,7 @@ spelled_front r h l u o e m = (
 )
 
 pub packet_front : (u b : List ℕ) → IsPacket u b → IsFront b × IsFull b
-packet_front u b p =
-    subst (λ (x : List ℕ). IsFront x × IsFull x) (sym p.spelled)
-    (spelled_front p.reserved p.high p.low u (subst IsOctets p.spelled p.octets) p.counted p.at_least)
+packet_front u b p = grind (arith, spelled_front)
 
 pub packet_unit : (u b : List ℕ) → IsPacket u b → u ≡ drop 4 b
 packet_unit u b p = sym (ap (drop 4) p.spelled)

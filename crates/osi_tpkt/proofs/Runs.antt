@@ -51,23 +51,12 @@ used-push held made call = ap (λ x. held ++ x) (stream_of-push made call) ∙ s
 
 used-none : (held : List ℕ) (made : List CutterCall) (call : CutterCall) → used_by call ≡ [] →
     held ++ stream_of (made ++ call ∷ []) ≡ held ++ stream_of made
-used-none held made call none =
-    used-push held made call ∙ ap (λ x. (held ++ stream_of made) ++ x) none ∙ append-nil (held ++ stream_of made)
+used-none held made call none = grind (arith, used-push, append-nil)
 
 -- a call that uses nothing and changes nothing
 unchanged : (start : Held) (made : List CutterCall) (us : List (List ℕ)) (old new : Held) (call : CutterCall) → used_by call ≡ [] → new ≡ old →
     CutterReadsOn start made us old → CutterReadsOn start (made ++ call ∷ []) us new
-unchanged start made us old new call none same k =
-    let stream = used-none start.octets made call none in
-    subst (λ h. CutterReadsOn start (made ++ call ∷ []) us h) (sym same) (record {
-      packets = subst (λ s. ArePackets us s old.octets) (sym stream) k.packets;
-      offset = subst (λ s. old.offset ≡ offset_of (start.offset + (length s - length old.octets))) (sym stream) k.offset;
-      sound = k.sound;
-      faulty = λ f e. elim (k.faulty f e) [
-        | inl before ↦ inl before
-        | inr h ↦ inr (h.0, Contains-append_left made (call ∷ []) (Feed h.0 (Err f)) h.1, h.2)
-      ];
-    })
+unchanged start made us old new call none same k = grind (arith, used-none, Contains-append_left)
 
 some_is : (f g : TpktFault) → Some f ≡ Some g → f ≡ g
 some_is f g e = cc
@@ -226,7 +215,6 @@ any_run calls units held h =
 -- calls behind calls are calls
 pub runs_joined : (old mid new : Held) (calls more : List CutterCall) (us vs : List (List ℕ)) → CutterRun old calls us mid → CutterRun mid more vs new →
     CutterRun old (calls ++ more) (us ++ vs) new
-runs_joined old mid new [] more us vs h k =
-    subst (λ x. CutterRun x more (us ++ vs) new) h.1 (subst (λ x. CutterRun mid more (x ++ vs) new) (sym h.0) k)
+runs_joined old mid new [] more us vs h k = grind arith
 runs_joined old mid new (call ∷ calls) more us vs h k =
     (h.0, h.1, h.2 ++ vs, h.3, runs_joined h.0 mid new calls more h.2 vs h.4 k, ap (λ x. x ++ vs) h.5 ∙ append_assoc h.1 h.2 vs)

@@ -5,18 +5,12 @@ use Rattle.osi_tpkt.proofs.storage.put_block.Goals as goal
 
 -- the first octets of a block are those of the piece that begins with it
 of_block : (used size : ℕ) (block piece : List ℕ) → used ≤ length block → size ≤ length piece → block ≡ take size piece → take used block ≡ take used piece
-of_block used size block piece within enough is =
-    let count : length block ≡ size = ap length is ∙ length-take-le size piece enough in
-    ap (take used) is ∙ take-take used size piece (omega arith)
+of_block used size block piece within enough is = grind (arith, length-take-le, take-take)
 
 -- the same of a list that begins with the block, and is cut behind it
 of_storage : (used size room : ℕ) (block behind more piece : List ℕ) → used ≤ length block → size ≤ room → size ≤ length piece → block ≡ take size piece →
     take used (take room ((block ++ behind) ++ more)) ≡ take used piece
-of_storage used size room block behind more piece within fits enough is =
-    let count : length block ≡ size = ap length is ∙ length-take-le size piece enough in
-    let total = length-append block behind in
-    take-take used room ((block ++ behind) ++ more) (omega arith) ∙ take-append-le used (block ++ behind) more (omega arith)
-    ∙ take-append-le used block behind within ∙ of_block used size block piece within enough is
+of_storage used size room block behind more piece within fits enough is = grind (arith, length-take-le, length-append, take-take, take-append-le, of_block)
 
 pub returns-clause-front : goal.returns-clause-front
 returns-clause-front c =
