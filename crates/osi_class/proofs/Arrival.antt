@@ -1,13 +1,7 @@
 -- What was handed in has been handed out, where nothing is under way and nothing is owed; and what a
 -- link sends before its peer's link is opened.
 use Rattle.std.proofs.Common.{◌≡◌, ℕ, ◌<◌, List, [], ◌∷◌, ◌++◌, map, Option, Some, None, ◌⊎◌, inl, inr, refl, sym, ◌∙◌, ap, subst, arith, append_assoc}
-use Rattle.std.specs.List.{flat_map, AllByRecursion}
-use Rattle.osi_class.specs.Between.{LinkPair, swapped, Turn, at_right, TurnsAlong, opposite, left_in, right_out, given_by, parts_under_way, under_way, HasWholeTsdus, IsFresh, opened_pair, awaiting_pair, OnlySends, IsQuiet}
-use Rattle.osi_class.specs.Directions.{unit_numbers, ack_numbers, direction, Agree, AgreeZero, AgreeInClass}
-use Rattle.osi_class.specs.Flow.{Flow}
-use Rattle.osi_class.specs.Link.{Standing, Given, next_by, next}
-use Rattle.osi_class.specs.Runs.{Move, hand_in, give_out, take_in, hand_out, MovesAlong, tsdu_in, tsdus_in}
-use Rattle.osi_class.specs.Tsdus.{Part, tsdus_after, uncut}
+use Rattle.osi_class.proofs.Vocabulary.{flat_map, AllByRecursion, LinkPair, swapped, Turn, at_right, TurnsAlong, opposite, left_in, right_out, given_by, parts_under_way, under_way, HasWholeTsdus, IsFresh, opened_pair, awaiting_pair, OnlySends, IsQuiet, unit_numbers, ack_numbers, direction, Agree, AgreeZero, AgreeInClass, Flow, Standing, Given, next_by, next, Move, hand_in, give_out, take_in, hand_out, MovesAlong, tsdu_in, tsdus_in, Part, tsdus_after, uncut}
 use Rattle.osi_class.proofs.Nothing as nothing
 use Rattle.osi_class.proofs.Order.{append_nil}
 use Rattle.osi_class.proofs.Owed.{nothing_under_way}

@@ -1,10 +1,6 @@
 -- Between links of one class there are none but units of that class.
 use Rattle.std.proofs.Common.{◌≡◌, Bool, false, List, [], ◌∷◌, ◌++◌, Option, Some, None, refl, sym, ◌∙◌, ap, subst, is_some}
-use Rattle.osi_class.specs.Between.{LinkPair, Comes, given_by, Turn, at_left, at_right, Turns, TurnsAlong, AreOfClass, opened_pair}
-use Rattle.osi_class.specs.Directions.{AgreeZero}
-use Rattle.osi_class.specs.Flow.{Flow}
-use Rattle.osi_class.specs.Link.{Standing, Given}
-use Rattle.osi_class.specs.Runs.{Move, hand_in, give_out, take_in, hand_out, Moves}
+use Rattle.osi_class.proofs.Vocabulary.{LinkPair, Comes, given_by, Turn, at_left, at_right, Turns, TurnsAlong, AreOfClass, opened_pair, AgreeZero, Flow, Standing, Given, Move, hand_in, give_out, take_in, hand_out, Moves}
 use Rattle.osi_class.proofs.Giving.{giving_leaves}
 use Rattle.osi_class.proofs.SoundLaws.{move_same}
 

@@ -1,11 +1,6 @@
 -- Giving ends: each unit that is given leaves less to give.
 use Rattle.std.proofs.Common.{◌≡◌, ℕ, ◌+◌, ◌<◌, true, false, List, [], ◌∷◌, length, take, drop, Option, Some, None, arith, nat_lt, if◌then◌else◌, IfSome, length-drop}
-use Rattle.std.proofs.lemmas.Bool.{ltb-true}
-use Rattle.osi_class.specs.Ends.{Ends}
-use Rattle.osi_class.specs.Flow.{Flow, ack_number, after_acked}
-use Rattle.osi_class.specs.Link.{Standing, Given, ack, given_part, next_by, next, sent_flow, two_standing}
-use Rattle.osi_class.specs.Giving.{left_of_tsdus, left_of_acks, left_to_give}
-use Rattle.osi_class.specs.Tsdus.{Part, give}
+use Rattle.osi_class.proofs.Vocabulary.{ltb-true, Ends, Flow, ack_number, after_acked, Standing, Given, ack, given_part, next_by, next, sent_flow, two_standing, left_of_tsdus, left_of_acks, left_to_give, Part, give}
 use Rattle.osi_class.proofs.Order.{choose_some, at_some}
 
 abbrev Less : List (List ℕ) → Part × List (List ℕ) → Type 0

@@ -1,16 +1,9 @@
 -- What a link gives can be written.
 use Rattle.std.proofs.Common.{◌≡◌, ℕ, ◌+◌, ◌<◌, ◌≤◌, true, false, List, [], ◌∷◌, length, take, drop, Option, Some, None, arith, nat_lt, if◌then◌else◌, IfSome, length-drop}
-use Rattle.std.specs.List.{AllByRecursion}
-use Rattle.std.proofs.lemmas.Bool.{ltb-true, ltb-false}
 use Rattle.osi_tpkt.specs.Octets.{IsOctets}
 use Rattle.osi_tpkt.proofs.OctetLaws.{octets_take, octets_drop}
 use Rattle.osi_tpdu.specs.Writing.{written, Fits}
-use Rattle.osi_class.specs.Ends.{Ends}
-use Rattle.osi_class.specs.Flow.{Flow, ack_number, after_acked}
-use Rattle.osi_class.specs.Giving.{octets_of, header_octets}
-use Rattle.osi_class.specs.Link.{Standing, Given, part0, part2, ack, given_part, next_by, next, sent_flow, two_standing, unit_of}
-use Rattle.osi_class.specs.Sound.{IsSound, IsSoundFlow, HasGivenInRange}
-use Rattle.osi_class.specs.Tsdus.{Part, give}
+use Rattle.osi_class.proofs.Vocabulary.{AllByRecursion, ltb-true, ltb-false, Ends, Flow, ack_number, after_acked, octets_of, header_octets, Standing, Given, part0, part2, ack, given_part, next_by, next, sent_flow, two_standing, unit_of, IsSound, IsSoundFlow, HasGivenInRange, Part, give}
 use Rattle.osi_class.proofs.Order.{choose_some, at_some}
 use Rattle.osi_class.proofs.RoomLaws.{take_drop}
 

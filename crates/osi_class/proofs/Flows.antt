@@ -1,20 +1,6 @@
 -- What calls of links of class 2 do to the flow control between them.
 use Rattle.std.proofs.Common.{◌≡◌, ℕ, ◌<◌, ◌≤◌, Bool, true, List, [], ◌∷◌, ◌++◌, Option, Some, None, Result, Ok, Err, inl, inr, refl, sym, ◌∙◌, ap, subst, nat_lt, is_some, if◌then◌else◌, IfSome, IfOk}
-use Rattle.std.specs.List.{flat_map}
-use Rattle.std.proofs.lemmas.Bool.{ltb-true}
-use Rattle.std.proofs.lemmas.Grind.{flat_map-append}
-use Rattle.osi_tpdu.specs.Value.{Value, request, confirm, disconnect, disconnected, data0, data2, acknowledge, error}
-use Rattle.osi_class.specs.declared.faults.LinkFault.{LinkFault}
-use Rattle.osi_class.specs.declared.faults.LinkFault.TheVariants.{OutOfSequence}
-use Rattle.osi_class.specs.Between.{LinkPair, swapped, Comes, LeftMoves, Turn, at_left, at_right, Turns, TurnsAlong, opened_pair}
-use Rattle.osi_class.specs.Owed.{Direction, InStep, write_unit, take_unit, write_ack, take_ack, known_after, opened, owed}
-use Rattle.osi_class.specs.Directions.{unit_numbers, ack_numbers, direction, HaveFlows, StepsOrStays, TurnSteps, Agree}
-use Rattle.osi_class.specs.Ends.{Ends}
-use Rattle.osi_class.specs.Flow.{Flow, Sender, Receiver, acknowledged, is_awaited, ack_number, after_acked, after_taken, after_sent, fresh_sender, fresh_receiver}
-use Rattle.osi_class.specs.Joining.{Joining, joined}
-use Rattle.osi_class.specs.Link.{Standing, Given, part0, part2, ack, given_part, next_by, with_joined, with_sender, taken_by, taken, taken_flow, sent_flow, two_standing}
-use Rattle.osi_class.specs.Runs.{Move, hand_in, give_out, take_in, hand_out, Moves}
-use Rattle.osi_class.specs.Tsdus.{Part, give}
+use Rattle.osi_class.proofs.Vocabulary.{flat_map, ltb-true, flat_map-append, Value, request, confirm, disconnect, disconnected, data0, data2, acknowledge, error, LinkFault, OutOfSequence, LinkPair, swapped, Comes, LeftMoves, Turn, at_left, at_right, Turns, TurnsAlong, opened_pair, Direction, InStep, write_unit, take_unit, write_ack, take_ack, known_after, opened, owed, unit_numbers, ack_numbers, direction, HaveFlows, StepsOrStays, TurnSteps, Agree, Ends, Flow, Sender, Receiver, acknowledged, is_awaited, ack_number, after_acked, after_taken, after_sent, fresh_sender, fresh_receiver, Joining, joined, Standing, Given, part0, part2, ack, given_part, next_by, with_joined, with_sender, taken_by, taken, taken_flow, sent_flow, two_standing, Move, hand_in, give_out, take_in, hand_out, Moves, Part, give}
 use Rattle.osi_class.proofs.Classes.{class_turn}
 use Rattle.osi_class.proofs.Order.{append_nil, choose_some, choose_ok, at_some, at_ok}
 use Rattle.osi_class.proofs.Owed.{step_keeps, step_window, begins}

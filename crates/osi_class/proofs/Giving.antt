@@ -1,11 +1,6 @@
 -- All that a link gives: a run of units that ends.
 use Rattle.std.proofs.Common.{◌≡◌, ℕ, zero, suc, ◌-◌, ◌<◌, ◌≤◌, List, [], ◌∷◌, map, Option, Some, None, refl, sym, ◌∙◌, ap, arith, nat_lt, is_some, if◌then◌else◌, IfSome}
-use Rattle.osi_class.specs.Ends.{Ends}
-use Rattle.osi_class.specs.Flow.{Flow, ack_number, after_acked}
-use Rattle.osi_class.specs.Giving.{Drained, drained_by, drained_within, drained, left_to_give}
-use Rattle.osi_class.specs.Link.{Standing, Given, ack, given_part, next_by, next, sent_flow, two_standing, is_of_two}
-use Rattle.osi_class.specs.Runs.{give_out, MovesAlong}
-use Rattle.osi_class.specs.Tsdus.{Part, give}
+use Rattle.osi_class.proofs.Vocabulary.{Ends, Flow, ack_number, after_acked, Drained, drained_by, drained_within, drained, left_to_give, Standing, Given, ack, given_part, next_by, next, sent_flow, two_standing, is_of_two, give_out, MovesAlong, Part, give}
 use Rattle.osi_class.proofs.Ending.{giving_lowers}
 use Rattle.osi_class.proofs.Order.{choose_some, at_some}
 

@@ -18,4 +18,5 @@ pub mod Short
 pub mod SoundLaws
 pub mod TakeLaws
 pub mod Together
+mod Vocabulary
 pub mod Ways

@@ -1,14 +1,7 @@
 -- What the units that a link gives take at most.
 use Rattle.std.proofs.Common.{◌≡◌, ℕ, zero, suc, ◌+◌, ◌-◌, ◌*◌, ◌<◌, ◌≤◌, true, false, List, [], ◌∷◌, length, take, drop, map, get_or, Option, Some, None, refl, sym, ◌∙◌, ap, subst, arith, nat_lt, if◌then◌else◌, IfSome, length-drop}
-use Rattle.std.specs.Prelude.{min}
-use Rattle.std.proofs.lemmas.Bool.{ltb-true, ltb-false}
-use Rattle.std.proofs.lemmas.List.{length-take-le}
 use Rattle.std.proofs.lemmas.List.Sums.{sum_by-cons}
-use Rattle.osi_class.specs.Ends.{Ends}
-use Rattle.osi_class.specs.Flow.{Flow, ack_number, after_acked}
-use Rattle.osi_class.specs.Giving.{drained_by, drained_within, drained, all_given, left_to_give, octets_of, octets_in, parts_needed, octets_in_parts, most_by, most_given}
-use Rattle.osi_class.specs.Link.{Standing, Given, ack, given_part, next_by, next, two_standing, sent_flow}
-use Rattle.osi_class.specs.Tsdus.{Part, give}
+use Rattle.osi_class.proofs.Vocabulary.{min, ltb-true, ltb-false, length-take-le, Ends, Flow, ack_number, after_acked, drained_by, drained_within, drained, all_given, left_to_give, octets_of, octets_in, parts_needed, octets_in_parts, most_by, most_given, Standing, Given, ack, given_part, next_by, next, two_standing, sent_flow, Part, give}
 use Rattle.osi_class.proofs.Giving.{giving_leaves}
 use Rattle.osi_class.proofs.Order.{choose_some, at_some}
 use Rattle.osi_class.proofs.RoomLaws.{more_credit, one_part, parts_cut}

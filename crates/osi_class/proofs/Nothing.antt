@@ -1,10 +1,6 @@
 -- When a link gives nothing.
 use Rattle.std.proofs.Common.{◌≡◌, ℕ, ◌≤◌, Bool, true, false, List, [], ◌∷◌, length, take, drop, Option, Some, None, ◌⊎◌, inl, inr, ◌↔◌, refl, ap, arith, nat_lt, if◌then◌else◌}
-use Rattle.std.proofs.lemmas.Bool.{ltb-false, le-ltb}
-use Rattle.osi_class.specs.Ends.{Ends}
-use Rattle.osi_class.specs.Flow.{Flow, ack_number, after_acked}
-use Rattle.osi_class.specs.Link.{Standing, Given, ack, given_part, next, zero_standing, two_standing, sent_flow}
-use Rattle.osi_class.specs.Tsdus.{Part, give}
+use Rattle.osi_class.proofs.Vocabulary.{ltb-false, le-ltb, Ends, Flow, ack_number, after_acked, Standing, Given, ack, given_part, next, zero_standing, two_standing, sent_flow, Part, give}
 
 closed : (n : ℕ) → n ≤ 0 → n ≡ 0
 closed n h = omega arith

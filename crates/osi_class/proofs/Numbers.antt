@@ -1,9 +1,6 @@
 -- Numbers modulo 128 and the counts that they stand for.
 use Rattle.std.proofs.Common.{◌≡◌, ℕ, zero, suc, ◌+◌, ◌-◌, ◌%◌, ◌<◌, ◌≤◌, false, List, [], ◌∷◌, ◌++◌, Ok, ◌∙◌, ap, arith, nat_lt}
-use Rattle.std.proofs.lemmas.Bool.{le-ltb}
-use Rattle.std.proofs.lemmas.List.{map-append}
-use Rattle.osi_class.specs.Flow.{Sender, steps_before, acknowledged}
-use Rattle.osi_class.specs.Owed.{numbers, restoring}
+use Rattle.osi_class.proofs.Vocabulary.{le-ltb, map-append, Sender, steps_before, acknowledged, numbers, restoring}
 
 -- the number after the one of a count is that of the next count
 pub next_number : (count : ℕ) → (count % 128 + 1) % 128 ≡ (count + 1) % 128

@@ -1,15 +1,6 @@
 -- Between links that agree the oldest unit under way is taken.
 use Rattle.std.proofs.Common.{◌≡◌, ℕ, Bool, true, false, List, [], ◌∷◌, Option, Some, None, Result, Ok, Err, refl, sym, ◌∙◌, ap, subst, if◌then◌else◌}
-use Rattle.std.specs.List.{flat_map, AllByRecursion}
-use Rattle.osi_tpdu.specs.Value.{data0, data2, acknowledge}
-use Rattle.osi_class.specs.declared.faults.LinkFault.{LinkFault}
-use Rattle.osi_class.specs.declared.faults.LinkFault.TheVariants.{OutOfSequence}
-use Rattle.osi_class.specs.Between.{LinkPair, swapped, parts_under_way, under_way, HasWholeTsdus, IsShortTsdu, AreOfClass, TakesOldest}
-use Rattle.osi_class.specs.Directions.{unit_numbers, ack_numbers, direction, Agree, AgreeZero}
-use Rattle.osi_class.specs.Owed.{restored}
-use Rattle.osi_class.specs.Flow.{Flow, Sender}
-use Rattle.osi_class.specs.Joining.{Joining, with_part, joined}
-use Rattle.osi_class.specs.Link.{Standing, Given, part0, part2, ack, with_joined, with_sender, taken_by, taken, taken_flow, unit_of, given_in, is_of_two}
+use Rattle.osi_class.proofs.Vocabulary.{flat_map, AllByRecursion, data0, data2, acknowledge, LinkFault, OutOfSequence, LinkPair, swapped, parts_under_way, under_way, HasWholeTsdus, IsShortTsdu, AreOfClass, TakesOldest, unit_numbers, ack_numbers, direction, Agree, AgreeZero, restored, Flow, Sender, Joining, with_part, joined, Standing, Given, part0, part2, ack, with_joined, with_sender, taken_by, taken, taken_flow, unit_of, given_in, is_of_two}
 use Rattle.osi_class.proofs.Order.{append_nil}
 use Rattle.osi_class.proofs.Owed.{unit_is_awaited, ack_is_taken}
 use Rattle.osi_class.proofs.Short.{not_too_long}

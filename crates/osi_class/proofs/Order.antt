@@ -1,10 +1,6 @@
 -- Parts in order: cutting and joining keep the TSDUs.
 use Rattle.std.proofs.Common.{◌≡◌, ℕ, ◌+◌, Bool, true, false, List, [], ◌∷◌, ◌++◌, length, take, drop, Option, Some, Result, Ok, Err, refl, sym, ◌∙◌, ap, subst, nat_lt, if◌then◌else◌, IfSome, IfOk}
-use Rattle.std.proofs.lemmas.List.{append_assoc, take-append-drop}
-use Rattle.osi_class.specs.declared.faults.LinkFault.TheVariants.{TsduTooLong}
-use Rattle.osi_class.specs.Limits.{longest_tsdu}
-use Rattle.osi_class.specs.Joining.{Joining, with_part, joined}
-use Rattle.osi_class.specs.Tsdus.{Part, tsdus, tsdus_after, uncut, give, MakeTheSame}
+use Rattle.osi_class.proofs.Vocabulary.{append_assoc, take-append-drop, TsduTooLong, longest_tsdu, Joining, with_part, joined, Part, tsdus, tsdus_after, uncut, give, MakeTheSame}
 
 pub append_nil : {A : Type 0} (xs : List A) → xs ++ [] ≡ xs
 append_nil [] = refl

@@ -1,8 +1,6 @@
 -- The law of what is owed: each step keeps the two ends in step.
 use Rattle.std.proofs.Common.{◌≡◌, ℕ, suc, ◌+◌, ◌-◌, ◌%◌, ◌<◌, ◌≤◌, true, ◌==◌, List, [], ◌∷◌, ◌++◌, length, Ok, refl, sym, ◌∙◌, ap, subst, arith, nat_lt, eq-eqb}
-use Rattle.std.proofs.lemmas.Bool.{lt-ltb}
-use Rattle.osi_class.specs.Flow.{Sender, steps_before, after_sent, acknowledged, is_awaited, after_taken, ack_number, after_acked}
-use Rattle.osi_class.specs.Owed.{numbers, restoring, Direction, unknown, owed, InStep, CreditStep, write_unit, take_unit, write_ack, take_ack, CreditSteps, known_after, StepsAlong, opened, restored}
+use Rattle.osi_class.proofs.Vocabulary.{lt-ltb, Sender, steps_before, after_sent, acknowledged, is_awaited, after_taken, ack_number, after_acked, numbers, restoring, Direction, unknown, owed, InStep, CreditStep, write_unit, take_unit, write_ack, take_ack, CreditSteps, known_after, StepsAlong, opened, restored}
 use Rattle.osi_class.proofs.Numbers.{earlier_number, steps_between, numbers_snoc, restoring_snoc, acknowledged_is}
 
 length_snoc : {A : Type 0} (xs : List A) (x : A) → length (xs ++ x ∷ []) ≡ suc (length xs)

@@ -1,14 +1,7 @@
 -- A part of a TSDU that is given at once, of which the link keeps nothing.
 use Rattle.std.proofs.Common.{◌≡◌, ℕ, zero, suc, ◌<◌, ◌≤◌, Bool, true, false, List, [], ◌∷◌, length, take, drop, Option, Some, None, inl, inr, refl, sym, ◌∙◌, ap, subst, arith, nat_lt, leb, if◌then◌else◌, length-drop}
-use Rattle.std.specs.Prelude.{min}
 use Rattle.std.proofs.Math.Seq.{drop-length}
-use Rattle.std.proofs.lemmas.Bool.{lt-ltb, le-ltb, ltb-false, leb-true, leb-false}
-use Rattle.std.proofs.lemmas.List.{length-take-le, take_all}
-use Rattle.osi_class.specs.Ends.{Ends}
-use Rattle.osi_class.specs.Flow.{Flow, ack_number, after_acked}
-use Rattle.osi_class.specs.Giving.{GoesAtOnce, GivesPart, with_rest}
-use Rattle.osi_class.specs.Link.{Standing, Given, part0, part2, ack, part_under, given_part, next, sent_flow, with_tsdu, zero_standing, two_standing}
-use Rattle.osi_class.specs.Tsdus.{Part, give}
+use Rattle.osi_class.proofs.Vocabulary.{min, lt-ltb, le-ltb, ltb-false, leb-true, leb-false, length-take-le, take_all, Ends, Flow, ack_number, after_acked, GoesAtOnce, GivesPart, with_rest, Standing, Given, part0, part2, ack, part_under, given_part, next, sent_flow, with_tsdu, zero_standing, two_standing, Part, give}
 use Rattle.osi_class.proofs.Nothing.{class_0, class_2}
 
 pub some_rest : (s : Standing) (rest : List ℕ) → 0 < length rest → with_rest s rest ≡ with_tsdu s rest

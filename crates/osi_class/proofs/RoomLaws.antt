@@ -1,15 +1,6 @@
 -- What the units of one TSDU take, at a link that had nothing more to give.
 use Rattle.std.proofs.Common.{◌≡◌, ℕ, zero, suc, ◌+◌, ◌-◌, ◌*◌, ◌/◌, ◌%◌, ◌<◌, ◌≤◌, true, false, List, [], ◌∷◌, ◌++◌, length, take, drop, Option, Some, None, inl, inr, refl, sym, ◌∙◌, ap, subst, arith, nat_lt, if◌then◌else◌, length-drop, length-append}
-use Rattle.std.specs.Prelude.{min}
-use Rattle.std.proofs.Math.Nat.{add-div_right, div-eq_of_lt}
-use Rattle.std.proofs.lemmas.Bool.{ltb-true, ltb-false}
-use Rattle.std.proofs.lemmas.List.{take-append-drop}
-use Rattle.osi_class.specs.Ends.{Ends}
-use Rattle.osi_class.specs.Flow.{Flow}
-use Rattle.osi_class.specs.Giving.{drained_by, drained_within, drained, octets_in, parts_needed}
-use Rattle.osi_class.specs.Joining.{Joining}
-use Rattle.osi_class.specs.Link.{Standing, Given, given_part, next, sent_flow, with_tsdu, zero_standing, two_standing}
-use Rattle.osi_class.specs.Tsdus.{give}
+use Rattle.osi_class.proofs.Vocabulary.{min, add-div_right, div-eq_of_lt, ltb-true, ltb-false, take-append-drop, Ends, Flow, drained_by, drained_within, drained, octets_in, parts_needed, Joining, Standing, Given, given_part, next, sent_flow, with_tsdu, zero_standing, two_standing, give}
 use Rattle.osi_class.proofs.Giving.{within_none, drained_none}
 use Rattle.osi_class.proofs.Nothing.{class_0, class_2}
 

@@ -1,8 +1,6 @@
 -- What is sent, over a list of calls.
 use Rattle.std.proofs.Common.{◌≡◌, ℕ, List, [], ◌++◌, sym, ◌∙◌, ap}
-use Rattle.osi_class.specs.Link.{Standing}
-use Rattle.osi_class.specs.Runs.{Move, MovesAlong, tsdus_in, parts_out}
-use Rattle.osi_class.specs.Tsdus.{tsdus, tsdus_after, uncut, MakeTheSame}
+use Rattle.osi_class.proofs.Vocabulary.{Standing, Move, MovesAlong, tsdus_in, parts_out, tsdus, tsdus_after, uncut, MakeTheSame}
 use Rattle.osi_class.proofs.Order.{append_nil, uncut_tsdus}
 use Rattle.osi_class.proofs.Moves.{sends_run}
 

@@ -1,12 +1,6 @@
 -- No TSDU between two links grows too long to be taken.
 use Rattle.std.proofs.Common.{◌≡◌, ℕ, ◌+◌, ◌≤◌, Bool, true, false, List, [], ◌∷◌, ◌++◌, length, Ok, sym, ◌∙◌, ap, subst, arith, nat_lt, length-append, append_assoc}
-use Rattle.std.specs.List.{flat_map, AllByRecursion}
-use Rattle.std.proofs.lemmas.Bool.{le-ltb}
-use Rattle.std.proofs.lemmas.List.{append_cancel_left, map-append}
-use Rattle.osi_class.specs.Limits.{longest_tsdu}
-use Rattle.osi_class.specs.Between.{LinkPair, Turn, TurnsAlong, left_in, right_out, parts_under_way, under_way, HasWholeTsdus, IsShortTsdu}
-use Rattle.osi_class.specs.Joining.{with_part, joined}
-use Rattle.osi_class.specs.Tsdus.{Part, tsdus_after, uncut}
+use Rattle.osi_class.proofs.Vocabulary.{flat_map, AllByRecursion, le-ltb, append_cancel_left, map-append, longest_tsdu, LinkPair, Turn, TurnsAlong, left_in, right_out, parts_under_way, under_way, HasWholeTsdus, IsShortTsdu, with_part, joined, Part, tsdus_after, uncut}
 use Rattle.osi_class.proofs.Order.{append_nil}
 use Rattle.osi_class.proofs.Ways.{whole_kept}
 

@@ -1,21 +1,9 @@
 -- Every link keeps its bounds, its limit and its class.
 use Rattle.std.proofs.Common.{◌≡◌, ◌&&◌, ◌==◌, ℕ, ◌+◌, ◌-◌, ◌^◌, ◌<◌, ◌≤◌, Bool, true, false, List, length, Option, Some, None, Result, Ok, Err, refl, sym, ap, subst, arith, nat_lt, is_some, if◌then◌else◌, IfSome, IfOk, length-append}
-use Rattle.std.proofs.Math.Nat.{pow-le-pow_right}
-use Rattle.std.proofs.lemmas.Bool.{ltb-true, ltb-false}
 use Rattle.osi_tpdu.specs.declared.limits.SizeCode.{SizeCode}
 use Rattle.osi_tpdu.specs.Limits.{size_code}
-use Rattle.osi_tpdu.specs.Value.{Value, request, confirm, disconnect, disconnected, data0, data2, acknowledge, error}
 use Rattle.osi_tpdu.specs.Value as values
-use Rattle.osi_class.specs.declared.faults.LinkFault.{LinkFault}
-use Rattle.osi_class.specs.declared.faults.LinkFault.TheVariants.{OutOfSequence, CreditReduced, TsduTooLong}
-use Rattle.osi_class.specs.Limits.{longest_tsdu}
-use Rattle.osi_class.specs.Ends.{Ends, unit_size, fresh_ends}
-use Rattle.osi_class.specs.Flow.{Flow, Sender, steps_before, acknowledged, is_awaited, ack_number, after_acked}
-use Rattle.osi_class.specs.Joining.{Joining, with_part, joined}
-use Rattle.osi_class.specs.Link.{Standing, Given, ack, given_part, next_by, next, with_joined, with_sender, taken_by, taken, taken_flow, sent_flow, zero_standing, two_standing, fresh_two}
-use Rattle.osi_class.specs.Runs.{Move, hand_in, give_out, take_in, hand_out, Moves}
-use Rattle.osi_class.specs.Sound.{IsSound, IsSoundFlow, TakesInRange}
-use Rattle.osi_class.specs.Tsdus.{Part, give}
+use Rattle.osi_class.proofs.Vocabulary.{pow-le-pow_right, ltb-true, ltb-false, Value, request, confirm, disconnect, disconnected, data0, data2, acknowledge, error, LinkFault, OutOfSequence, CreditReduced, TsduTooLong, longest_tsdu, Ends, unit_size, fresh_ends, Flow, Sender, steps_before, acknowledged, is_awaited, ack_number, after_acked, Joining, with_part, joined, Standing, Given, ack, given_part, next_by, next, with_joined, with_sender, taken_by, taken, taken_flow, sent_flow, zero_standing, two_standing, fresh_two, Move, hand_in, give_out, take_in, hand_out, Moves, IsSound, IsSoundFlow, TakesInRange, Part, give}
 use Rattle.osi_class.proofs.Giving.{giving_leaves}
 use Rattle.osi_class.proofs.Order.{choose_some, choose_ok, at_some, at_ok}
 

@@ -1,8 +1,6 @@
 -- What is taken, over a list of calls.
 use Rattle.std.proofs.Common.{◌≡◌, ℕ, List, [], ◌++◌, sym, ◌∙◌, ap}
-use Rattle.osi_class.specs.Link.{Standing}
-use Rattle.osi_class.specs.Runs.{Move, MovesAlong, parts_in, tsdus_out}
-use Rattle.osi_class.specs.Tsdus.{Part, tsdus, tsdus_after}
+use Rattle.osi_class.proofs.Vocabulary.{Standing, Move, MovesAlong, parts_in, tsdus_out, Part, tsdus, tsdus_after}
 use Rattle.osi_class.proofs.Order.{append_nil}
 use Rattle.osi_class.proofs.Moves.{takes_run}
 

@@ -1,13 +1,6 @@
 -- The law of order between two links.
 use Rattle.std.proofs.Common.{◌≡◌, ℕ, List, [], ◌∷◌, ◌++◌, map, refl, sym, ◌∙◌, ap, append_assoc}
-use Rattle.std.specs.List.{flat_map}
-use Rattle.std.proofs.lemmas.Grind.{flat_map-append}
-use Rattle.std.proofs.lemmas.List.{append_cancel_left}
-use Rattle.osi_tpdu.specs.Value.{Value, request, confirm, disconnect, disconnected, data0, data2, acknowledge, error}
-use Rattle.osi_class.specs.Link.{Standing, Given, given_in}
-use Rattle.osi_class.specs.Runs.{Move, hand_in, give_out, take_in, hand_out, given_parts, unit_parts, tsdu_in, part_out, part_in, tsdu_out}
-use Rattle.osi_class.specs.Tsdus.{Part, tsdus_after, uncut, MakeTheSame}
-use Rattle.osi_class.specs.Between.{LinkPair, swapped, Says, Comes, given_by, Turn, at_left, at_right, Turns, TurnsAlong, opposite, left_in, right_out, parts_under_way, under_way_before, under_way, HasWholeTsdus, IsFresh, opened_pair}
+use Rattle.osi_class.proofs.Vocabulary.{flat_map, flat_map-append, append_cancel_left, Value, request, confirm, disconnect, disconnected, data0, data2, acknowledge, error, Standing, Given, given_in, Move, hand_in, give_out, take_in, hand_out, given_parts, unit_parts, tsdu_in, part_out, part_in, tsdu_out, Part, tsdus_after, uncut, MakeTheSame, LinkPair, swapped, Says, Comes, given_by, Turn, at_left, at_right, Turns, TurnsAlong, opposite, left_in, right_out, parts_under_way, under_way_before, under_way, HasWholeTsdus, IsFresh, opened_pair}
 use Rattle.osi_class.proofs.Order.{append_nil, same_behind_all, uncut_tsdus, made}
 use Rattle.osi_class.proofs.Moves.{move_keeps}
 

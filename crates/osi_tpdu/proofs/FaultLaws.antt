@@ -1,16 +1,6 @@
 -- What the reader of parameters answers is the first of their faults.
 use Rattle.std.proofs.Common.{◌≡◌, ℕ, zero, suc, ◌+◌, ◌<◌, ◌≤◌, Bool, true, false, cond, eqb, ltb, leb, not, ◌&&◌, List, [], ◌∷◌, ◌++◌, length, get_or, Option, Some, None, Result, Ok, Err, refl, sym, ap, subst, ◌∙◌, append_assoc, arith, inl, inr, ◌⊎◌, add-zero}
-use Rattle.std.specs.Prelude.{option_to_list, is_some}
-use Rattle.std.specs.List.{flat_map}
-use Rattle.std.proofs.lemmas.Bool.{false≢true, ltb-true, ltb-false, leb-true, le-leb, eqb-true, eqb-false, eq-eqb, and_parts, not-false}
-use Rattle.std.proofs.lemmas.List.{append-nil, length-append}
-use Rattle.osi_tpkt.specs.Octets.{IsOctets}
-use Rattle.osi_tpdu.specs.declared.faults.TpduFault.{TpduFault}
-use Rattle.osi_tpdu.specs.declared.faults.TpduFault.TheVariants.{BadParameterLength, BadParameterValue, DuplicateParameter}
-use Rattle.osi_tpdu.specs.Value.{Parameters, AreParameters}
-use Rattle.osi_tpdu.specs.Spelling.{Item, item_octets, values_of, single}
-use Rattle.osi_tpdu.specs.Reading.{◌>>=◌, parameter_at, no_parameters, with_size, with_calling, with_called, with_additional, with_alternative, with_parameter, parameters_at, known_at, skipped_at, all_skipped_at}
-use Rattle.osi_tpdu.specs.Faults.{Kind, LooksAtParameters, Parameter, Size, Calling, Called, Additional, Alternative, code_of, MayBeLong, MayHold, HasNoItem, BeginsWith, HasBadLength, IsRepeated, HasBadValue, HasItemFault, HasParameterFault, place_of, StandsBefore, IsFirst}
+use Rattle.osi_tpdu.proofs.Vocabulary.{option_to_list, is_some, flat_map, false≢true, ltb-true, ltb-false, leb-true, le-leb, eqb-true, eqb-false, eq-eqb, and_parts, not-false, append-nil, length-append, IsOctets, TpduFault, BadParameterLength, BadParameterValue, DuplicateParameter, Parameters, AreParameters, Item, item_octets, values_of, single, ◌>>=◌, parameter_at, no_parameters, with_size, with_calling, with_called, with_additional, with_alternative, with_parameter, parameters_at, known_at, skipped_at, all_skipped_at, Kind, LooksAtParameters, Parameter, Size, Calling, Called, Additional, Alternative, code_of, MayBeLong, MayHold, HasNoItem, BeginsWith, HasBadLength, IsRepeated, HasBadValue, HasItemFault, HasParameterFault, place_of, StandsBefore, IsFirst}
 use Rattle.osi_tpdu.proofs.StepLaws.{chosen, ok_is}
 use Rattle.osi_tpdu.proofs.ItemLaws.{Adds, other_code, Adds-then, Adds-none, with_found, parameter_found, parameter_again}
 

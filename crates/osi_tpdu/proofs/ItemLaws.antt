@@ -1,19 +1,8 @@
 -- The parameters of a CR or CC: what reading them gives is what the items mean, and what the items
 -- mean is read.
 use Rattle.std.proofs.Common.{◌≡◌, ℕ, zero, suc, ◌+◌, ◌<◌, ◌≤◌, true, false, eqb, ltb, leb, not, ◌&&◌, List, [], ◌∷◌, ◌++◌, length, get_or, take, drop, Option, Some, None, Result, Ok, refl, sym, ap, subst, ◌∙◌, append_assoc, arith, inl, inr, ◌⊎◌}
-use Rattle.std.specs.Prelude.{map, filter, option_to_list, is_some, IfSome}
-use Rattle.std.specs.List.{flat_map}
-use Rattle.std.proofs.lemmas.Bool.{ltb-false, leb-true, le-leb, le-ltb, eqb-true, eq-eqb, ne_eqb, and_parts, not-false, cases_eq}
-use Rattle.std.proofs.lemmas.List.{append-nil, take_at, drop_at, length-append, take-append-drop, length-take, length-drop, map-append}
 use Rattle.std.proofs.lemmas.List.Elements.{filter-append}
-use Rattle.osi_tpkt.specs.Octets.{IsOctets}
-use Rattle.osi_tpkt.proofs.OctetLaws.{octets_take, octets_drop}
-use Rattle.osi_tpdu.specs.declared.faults.TpduFault.{TpduFault}
-use Rattle.osi_tpdu.specs.declared.faults.TpduFault.TheVariants.{BadParameterLength, BadParameterValue, DuplicateParameter}
-use Rattle.osi_tpdu.specs.Faults.{Parameter, Size, Calling, Called, Additional, Alternative, code_of}
-use Rattle.osi_tpdu.specs.Value.{Parameters, AreParameters}
-use Rattle.osi_tpdu.specs.Spelling.{Item, item_octets, values_of, single, Means}
-use Rattle.osi_tpdu.specs.Reading.{parameter_at, no_parameters, with_size, with_calling, with_called, with_additional, with_alternative, with_parameter, parameters_at, known_at, skipped_at, all_skipped_at}
+use Rattle.osi_tpdu.proofs.Vocabulary.{map, filter, option_to_list, is_some, IfSome, flat_map, ltb-false, leb-true, le-leb, le-ltb, eqb-true, eq-eqb, ne_eqb, and_parts, not-false, cases_eq, append-nil, take_at, drop_at, length-append, take-append-drop, length-take, length-drop, map-append, IsOctets, octets_take, octets_drop, TpduFault, BadParameterLength, BadParameterValue, DuplicateParameter, Parameter, Size, Calling, Called, Additional, Alternative, code_of, Parameters, AreParameters, Item, item_octets, values_of, single, Means, parameter_at, no_parameters, with_size, with_calling, with_called, with_additional, with_alternative, with_parameter, parameters_at, known_at, skipped_at, all_skipped_at}
 use Rattle.osi_tpdu.proofs.StepLaws.{bind_ok, unless_ok, when_ok, chosen, ok_is, one_long}
 
 -- ---- what items add to a slot

@@ -1,13 +1,8 @@
 -- The code octet of a unit tells whether another may follow it.
 use Rattle.std.proofs.Common.{◌≡◌, ℕ, ◌+◌, ◌≤◌, ◌/◌, ◌%◌, Bool, true, false, eqb, ltb, leb, List, length, get_or, drop, Result, Ok, Err, refl, sym, ◌∙◌, subst, arith, inl, inr}
-use Rattle.std.proofs.lemmas.Bool.{ne_eqb, eqb-true}
-use Rattle.osi_tpdu.specs.declared.faults.TpduFault.{TpduFault}
-use Rattle.osi_tpdu.specs.declared.faults.TpduFault.TheVariants.{BadLi, UnknownCode}
-use Rattle.osi_tpdu.specs.Value.{Value, request, confirm, disconnect, disconnected, data0, data2, acknowledge, error, may_be_followed}
-use Rattle.osi_tpdu.specs.Reading.{header_at, reference_at, all_skipped_at, connect_of, request_of, confirm_of, disconnect_of, disconnected_of, transfer_of, acknowledge_of, error_of, value_of, is_lead_code, used_by, unit_at}
+use Rattle.osi_tpdu.proofs.Vocabulary.{ne_eqb, eqb-true, TpduFault, BadLi, UnknownCode, Value, request, confirm, disconnect, disconnected, data0, data2, acknowledge, error, may_be_followed, header_at, reference_at, all_skipped_at, connect_of, request_of, confirm_of, disconnect_of, disconnected_of, transfer_of, acknowledge_of, error_of, value_of, is_lead_code, used_by, unit_at, can_be_read}
 use Rattle.osi_tpdu.proofs.StepLaws.{bind_ok, unless_ok, when_ok, chosen, ok_is}
 use Rattle.osi_tpdu.proofs.PacketLaws.{none_bad}
-use Rattle.osi_tpdu.specs.Rest.{can_be_read}
 
 no_lead : (code : ℕ) → (code / 16 ≡ 0x6 → ⊥) → (code ≡ 0xC0 → ⊥) → (code ≡ 0x70 → ⊥) → is_lead_code code ≡ false
 unfolding is_lead_code

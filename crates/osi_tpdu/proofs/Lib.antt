@@ -1,6 +1,7 @@
 pub mod ItemLaws
 pub mod UnitLaws
 pub mod StepLaws
+mod Vocabulary
 pub mod WrittenLaws
 pub mod FaultLaws
 mod LeadCodes

@@ -1,9 +1,7 @@
 -- The loops over parameters and units: what has been read and what is left give what reading the
 -- whole gives.
 use Rattle.std.proofs.Common.{◌≡◌, ℕ, zero, suc, ◌+◌, ◌<◌, ◌≤◌, List, [], ◌∷◌, length, Result, Ok, Err, sym, arith}
-use Rattle.osi_tpdu.specs.declared.faults.TpduFault.{TpduFault}
-use Rattle.osi_tpdu.specs.Value.{Parameters}
-use Rattle.osi_tpdu.specs.Reading.{parameter_at, with_parameter, parameters_at, skipped_at}
+use Rattle.osi_tpdu.proofs.Vocabulary.{TpduFault, Parameters, parameter_at, with_parameter, parameters_at, skipped_at}
 
 -- the parameters from here on, beside those known, are those of the whole
 pub record Reads (at : ℕ) (p : Parameters) (rest : List ℕ) (whole : Result Parameters TpduFault) : Type 0 where

@@ -1,22 +1,9 @@
 -- The units of a packet: what is read is spelled so, what is spelled so is read, and what is left
 -- behind the first of them.
 use Rattle.std.proofs.Common.{◌≡◌, ℕ, zero, suc, ◌+◌, ◌<◌, ◌≤◌, Bool, true, false, cond, eqb, List, [], ◌∷◌, ◌++◌, length, take, drop, Result, Ok, Err, refl, sym, ap, subst, ◌∙◌, append_assoc, arith, inl, inr, add-zero, zero-add}
-use Rattle.std.specs.Prelude.{is_ok, IsTrue, IsOk}
-use Rattle.std.specs.Bool.{OnFalse}
-use Rattle.std.specs.List.{AllByRecursion}
 use Rattle.std.specs.Result.{result_unwrap_or}
-use Rattle.std.proofs.lemmas.Bool.{false≢true, eqb-true, eqb-false, eq-eqb, ne_eqb, cases_Bool}
-use Rattle.std.proofs.lemmas.List.{append-nil, take_all, drop_all, drop_at, length-append, take-append-drop, length-drop, length-take-le}
-use Rattle.osi_tpkt.specs.Octets.{IsOctets}
-use Rattle.osi_tpkt.proofs.OctetLaws.{octets_right, octets_drop}
-use Rattle.osi_tpdu.specs.declared.faults.TpduFault.{TpduFault}
-use Rattle.osi_tpdu.specs.Value.{Value, may_be_followed}
-use Rattle.osi_tpdu.specs.Spelling.{Spells}
-use Rattle.osi_tpdu.specs.Reading.{◌>>=◌, header_at, value_of, unit_at}
-use Rattle.osi_tpdu.specs.Packet.{AreUnits, AreLeads, IsFirstFault, Follows, units_at, units_of}
-use Rattle.osi_tpdu.specs.Writing.{Fits}
+use Rattle.osi_tpdu.proofs.Vocabulary.{is_ok, IsTrue, IsOk, OnFalse, AllByRecursion, false≢true, eqb-true, eqb-false, eq-eqb, ne_eqb, cases_Bool, append-nil, take_all, drop_all, drop_at, length-append, take-append-drop, length-drop, length-take-le, IsOctets, octets_right, octets_drop, TpduFault, Value, may_be_followed, Spells, ◌>>=◌, header_at, value_of, unit_at, AreUnits, AreLeads, IsFirstFault, Follows, units_at, units_of, Fits, can_be_read, rest_at}
 use Rattle.osi_tpdu.proofs.WrittenLaws.{spelled_fits}
-use Rattle.osi_tpdu.specs.Rest.{can_be_read, rest_at}
 use Rattle.osi_tpdu.proofs.StepLaws.{bind_ok, chosen, ok_is}
 use Rattle.osi_tpdu.proofs.UnitLaws.{unit_takes, unit_found, unit_spelled, stands_alone}
 use Rattle.osi_tpdu.proofs.UnitFaults.{unit_fault_found, unit_fault_only}

@@ -1,15 +1,8 @@
 -- Packets of one DT or one AK.
 use Rattle.std.proofs.Common.{◌≡◌, ℕ, ◌+◌, ◌-◌, ◌*◌, ◌/◌, ◌%◌, ◌<◌, ◌≤◌, Bool, true, eqb, leb, List, [], ◌∷◌, length, get_or, take, drop, Ok, refl, sym, ap, ◌∙◌, arith}
-use Rattle.std.proofs.lemmas.Bool.{eq-eqb}
-use Rattle.std.proofs.lemmas.List.{length-drop, take_all}
-use Rattle.osi_tpkt.specs.Octets.{IsOctets}
+use Rattle.osi_tpdu.proofs.Vocabulary.{eq-eqb, length-drop, take_all, IsOctets, units_at, units_of, header_at, unit_at, value_of, transfer_of, acknowledge_of, Spells, Value, data0, data2, acknowledge, written}
 use Rattle.osi_tpdu.proofs.UnitLaws.{header_again}
 use Rattle.osi_tpdu.proofs.WrittenLaws.{written_spells}
-use Rattle.osi_tpdu.specs.Packet.{units_at, units_of}
-use Rattle.osi_tpdu.specs.Reading.{header_at, unit_at, value_of, transfer_of, acknowledge_of}
-use Rattle.osi_tpdu.specs.Spelling.{Spells}
-use Rattle.osi_tpdu.specs.Value.{Value, data0, data2, acknowledge}
-use Rattle.osi_tpdu.specs.Writing.{written}
 use Rattle.osi_tpdu.proofs.PacketLaws.{units_found, units_only}
 
 -- a unit that takes all octets of a packet is its only one

@@ -1,15 +1,6 @@
 -- What the reader of a unit answers is the first of its faults.
 use Rattle.std.proofs.Common.{◌≡◌, ℕ, ◌+◌, ◌*◌, ◌/◌, ◌%◌, ◌<◌, ◌≤◌, true, false, cond, eqb, ltb, leb, ◌||◌, List, ◌∷◌, ◌++◌, length, get_or, take, drop, Option, Some, None, Result, Ok, Err, refl, sym, ap, subst, ◌∙◌, arith, inl, inr, ◌⊎◌}
-use Rattle.std.specs.Prelude.{IsOk}
-use Rattle.std.proofs.lemmas.Bool.{false≢true, ltb-true, ltb-false, eqb-true, eqb-false}
-use Rattle.std.proofs.lemmas.List.{length-take-le, drop_at, take-append-drop}
-use Rattle.osi_tpkt.specs.Octets.{IsOctets}
-use Rattle.osi_tpkt.proofs.OctetLaws.{octets_drop, octets_left}
-use Rattle.osi_tpdu.specs.declared.faults.TpduFault.{TpduFault}
-use Rattle.osi_tpdu.specs.declared.faults.TpduFault.TheVariants.{BadLi, UnknownCode}
-use Rattle.osi_tpdu.specs.Value.{Parameters, Connect, Value, request, confirm, disconnect, disconnected, data0, data2, acknowledge, error, may_be_followed}
-use Rattle.osi_tpdu.specs.Reading.{header_at, reference_at, known_at, all_skipped_at, connect_of, request_of, confirm_of, disconnect_of, disconnected_of, transfer_of, acknowledge_of, error_of, value_of, unit_at}
-use Rattle.osi_tpdu.specs.Faults.{Kind, Request, Confirm, Disconnect, Disconnected, Transfer, Acknowledge, Report, HasCode, MayCount, HasParametersBehind, LooksAtParameters, HasParameterFault, HasHeader, HasNoHeader, BeginsUnit, HasBadIndicator, HasUnknownCode, HasFault, StandsBefore, IsFirst, IsUnitFault}
+use Rattle.osi_tpdu.proofs.Vocabulary.{IsOk, false≢true, ltb-true, ltb-false, eqb-true, eqb-false, length-take-le, drop_at, take-append-drop, IsOctets, octets_drop, octets_left, TpduFault, BadLi, UnknownCode, Parameters, Connect, Value, request, confirm, disconnect, disconnected, data0, data2, acknowledge, error, may_be_followed, header_at, reference_at, known_at, all_skipped_at, connect_of, request_of, confirm_of, disconnect_of, disconnected_of, transfer_of, acknowledge_of, error_of, value_of, unit_at, Kind, Request, Confirm, Disconnect, Disconnected, Transfer, Acknowledge, Report, HasCode, MayCount, HasParametersBehind, LooksAtParameters, HasParameterFault, HasHeader, HasNoHeader, BeginsUnit, HasBadIndicator, HasUnknownCode, HasFault, StandsBefore, IsFirst, IsUnitFault}
 use Rattle.osi_tpdu.proofs.StepLaws.{chosen, ok_is, IsOctets-rest}
 use Rattle.osi_tpdu.proofs.UnitLaws.{header_found, header_again}
 use Rattle.osi_tpdu.proofs.FaultLaws.{Judges, judges_same, judges_bind, judges_map, judges_cond, parameters_judged, skips_judged, parameter_place}

@@ -1,18 +1,7 @@
 -- One unit: what is read is spelled so, and what is spelled so is read.
 use Rattle.std.proofs.Common.{◌≡◌, ℕ, ◌+◌, ◌*◌, ◌/◌, ◌%◌, ◌<◌, ◌≤◌, Bool, true, false, cond, eqb, ltb, leb, ◌||◌, List, [], ◌∷◌, ◌++◌, length, get_or, take, drop, Result, Ok, Err, refl, sym, ap, subst, ◌∙◌, arith, inl, inr}
-use Rattle.std.specs.List.{flat_map}
-use Rattle.std.specs.Bool.{OnFalse}
-use Rattle.std.proofs.lemmas.Bool.{ltb-false, leb-true, leb-false, le-leb, lt-leb, le-ltb, eqb-true, eqb-false, ne_eqb, or_parts, cases_Bool}
-use Rattle.std.proofs.lemmas.List.{append-nil, take_at, drop_at, length-append, take-append-drop, length-take, length-take-le, take_all, drop_all}
-use Rattle.osi_tpkt.specs.Octets.{IsOctets}
 use Rattle.osi_tpkt.specs.Unit.{IsAtFront}
-use Rattle.osi_tpkt.proofs.OctetLaws.{octets_take, octets_drop, octets_left, octets_right}
-use Rattle.osi_tpdu.specs.declared.faults.TpduFault.{TpduFault}
-use Rattle.osi_tpdu.specs.declared.faults.TpduFault.TheVariants.{BadLi, UnknownCode}
-use Rattle.osi_tpdu.specs.Value.{Parameters, Connect, Value, request, confirm, disconnect, disconnected, data0, data2, acknowledge, error, user_data, may_be_followed, IsReference, IsConnect, HasFieldsInRange}
-use Rattle.osi_tpdu.specs.Spelling.{Item, Means, item_octets, two, below_bit, connect_part, IsHeader, Spells}
-use Rattle.osi_tpdu.specs.Reading.{header_at, reference_at, known_at, all_skipped_at, connect_of, request_of, confirm_of, disconnect_of, disconnected_of, transfer_of, acknowledge_of, error_of, value_of, unit_at}
-use Rattle.osi_tpdu.specs.Packet.{Follows}
+use Rattle.osi_tpdu.proofs.Vocabulary.{flat_map, OnFalse, ltb-false, leb-true, leb-false, le-leb, lt-leb, le-ltb, eqb-true, eqb-false, ne_eqb, or_parts, cases_Bool, append-nil, take_at, drop_at, length-append, take-append-drop, length-take, length-take-le, take_all, drop_all, IsOctets, octets_take, octets_drop, octets_left, octets_right, TpduFault, BadLi, UnknownCode, Parameters, Connect, Value, request, confirm, disconnect, disconnected, data0, data2, acknowledge, error, user_data, may_be_followed, IsReference, IsConnect, HasFieldsInRange, Item, Means, item_octets, two, below_bit, connect_part, IsHeader, Spells, header_at, reference_at, known_at, all_skipped_at, connect_of, request_of, confirm_of, disconnect_of, disconnected_of, transfer_of, acknowledge_of, error_of, value_of, unit_at, Follows}
 use Rattle.osi_tpdu.proofs.StepLaws.{bind_ok, unless_ok, when_ok, chosen, ok_is, IsOctets-rest}
 use Rattle.osi_tpdu.proofs.ItemLaws.{known_found, known_only, skipped_found, skipped_only}
 

@@ -1,20 +1,11 @@
 -- The written form: it spells its value, and is no longer than any other spelling.
 use Rattle.std.proofs.Common.{◌≡◌, ℕ, ◌+◌, ◌*◌, ◌/◌, ◌%◌, ◌<◌, ◌≤◌, Bool, true, false, cond, eqb, List, [], ◌∷◌, ◌++◌, length, Option, Some, None, refl, sym, ap, subst, ◌∙◌, arith, inl, inr}
-use Rattle.std.specs.Prelude.{option_map, option_to_list, IfSome}
-use Rattle.std.specs.List.{flat_map}
-use Rattle.std.proofs.lemmas.List.{append-nil, length-append}
 use Rattle.std.proofs.lemmas.List.Concat.{flat_map-append}
-use Rattle.osi_tpkt.specs.Octets.{IsOctets}
-use Rattle.osi_tpkt.proofs.OctetLaws.{octets_nil, octets_append}
-use Rattle.osi_tpdu.specs.Value.{Parameters, AreParameters, Connect, Value, request, confirm, disconnect, disconnected, data0, data2, acknowledge, error, user_data, IsReference, IsConnect, HasFieldsInRange}
-use Rattle.osi_tpdu.specs.Spelling.{Item, Means, item_octets, below_bit, single, values_of, connect_part, IsHeader, Spells}
-use Rattle.osi_tpdu.specs.Writing.{items_of, written_items, written_header, written, HasRoom, HasFewClasses, Fits}
 use Rattle.osi_tpdu.specs.declared.tsaps.Selector.{Selector}
 use Rattle.osi_tpdu.specs.declared.connect.ConnectParameters.{ConnectParameters}
-use Rattle.osi_tpdu.specs.declared.unit.Tpdu.{Tpdu}
 use Rattle.osi_tpdu.specs.declared.unit.Tpdu.TheVariants.{Cr, Cc, Dr, Dc, Dt0, Dt2, Ak, Er}
 use Rattle.osi_tpdu.specs.Limits.{selector_octets}
-use Rattle.osi_tpdu.specs.View.{parameter_values, value}
+use Rattle.osi_tpdu.proofs.Vocabulary.{option_map, option_to_list, IfSome, flat_map, append-nil, length-append, IsOctets, octets_nil, octets_append, Parameters, AreParameters, Connect, Value, request, confirm, disconnect, disconnected, data0, data2, acknowledge, error, user_data, IsReference, IsConnect, HasFieldsInRange, Item, Means, item_octets, below_bit, single, values_of, connect_part, IsHeader, Spells, items_of, written_items, written_header, written, HasRoom, HasFewClasses, Fits, Tpdu, parameter_values, value}
 use Rattle.osi_tpdu.proofs.StepLaws.{IsOctets-cons}
 use Rattle.osi_tpdu.proofs.ItemLaws.{values_of-append, test_eq}
 

@@ -1,11 +1,6 @@
 -- A unit that is in range and has room is written as a spelling of it, which is read again.
 use Rattle.std.proofs.Common.{◌≡◌, [], ◌∷◌, Ok, sym, subst}
-use Rattle.osi_tpdu.specs.declared.unit.Tpdu.{Tpdu}
-use Rattle.osi_tpdu.specs.Value.{HasFieldsInRange}
-use Rattle.osi_tpdu.specs.Spelling.{Spells}
-use Rattle.osi_tpdu.specs.Writing.{written, HasRoom}
-use Rattle.osi_tpdu.specs.Packet.{units_of}
-use Rattle.osi_tpdu.specs.View.{value}
+use Rattle.osi_tpdu.proofs.Vocabulary.{Tpdu, HasFieldsInRange, Spells, written, HasRoom, units_of, value}
 use Rattle.osi_tpdu.proofs.WrittenLaws.{written_spells}
 use Rattle.osi_tpdu.proofs.PacketLaws.{units_only}
 

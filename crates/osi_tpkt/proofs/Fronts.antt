@@ -1,16 +1,6 @@
 -- Fronts of packets: a full one is a packet, a short one a proper prefix of a packet, and the other way round.
 use Rattle.std.proofs.Common.{Result, Ok, Err, IfOk, OnOk, not, Option, Some, None, IfNone, Bool, true, false, MatchBool, ◌≡◌, ℕ, ◌+◌, ◌-◌, ◌*◌, ◌<◌, ◌≤◌, ◌⊎◌, inl, inr, List, [], ◌∷◌, ◌++◌, length, get_or, take, drop, replicate, refl, sym, ◌∙◌, ap, subst, arith}
-use Rattle.std.proofs.lemmas.Bool.{cases_lt}
-use Rattle.std.proofs.lemmas.List.{append_assoc, get_or_append_left, length-append, length-replicate, length-take-le, take-append-drop, append-nil, drop_all, take_all, drop-take}
-use Rattle.osi_tpkt.specs.Octets.{IsOctets}
-use Rattle.osi_tpkt.specs.Packet.{IsPacket, IsOnePacket, IsPartial, IsBadVersion, IsBadLength, IsFaultOf, packet_of, stated_length}
-use Rattle.osi_tpkt.specs.declared.faults.TpktFault.{TpktFault}
-use Rattle.osi_tpkt.specs.declared.faults.TpktFault.TheVariants.{BadVersion, BadLength, OutOfMemory}
-use Rattle.osi_tpkt.specs.Header.{IsFront, IsFull, IsUnfinished}
-use Rattle.osi_tpkt.specs.Held.{Held}
-use Rattle.osi_tpkt.specs.Cutter.{Belongs}
-use Rattle.osi_tpkt.specs.declared.cutting.Fed.{Fed}
-use Rattle.osi_tpkt.specs.declared.headers.HeaderFault.{HeaderFault}
+use Rattle.osi_tpkt.proofs.Vocabulary.{cases_lt, append_assoc, get_or_append_left, length-append, length-replicate, length-take-le, take-append-drop, append-nil, drop_all, take_all, drop-take, IsOctets, IsPacket, IsOnePacket, IsPartial, IsBadVersion, IsBadLength, IsFaultOf, packet_of, stated_length, TpktFault, BadVersion, BadLength, OutOfMemory, IsFront, IsFull, IsUnfinished, Held, Belongs, Fed, HeaderFault}
 use Rattle.osi_tpkt.proofs.PacketLaws.{stated_length-append, packet_front, written_packet}
 use Rattle.osi_tpkt.proofs.OctetLaws.{octets_nil, octets_cons, octets_append, octets_left, octets_right, octets_zeros}
 

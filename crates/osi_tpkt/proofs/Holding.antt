@@ -1,21 +1,9 @@
 -- What every cutter holds, and what its calls leave of it.
 use Rattle.std.proofs.Common.{◌≡◌, ℕ, ◌+◌, ◌-◌, ◌<◌, ◌≤◌, ◌^◌, ◌∷◌, ◌⊎◌, inl, inr, List, [], ◌++◌, length, take, drop, refl, sym, ◌∙◌, ap, subst, arith, Bool, true, false, Option, Some, None, Result, Ok, Err, IfOk, MatchBool}
-use Rattle.std.proofs.lemmas.List.{length-take-le}
-use Rattle.std.proofs.lemmas.Option.{none-some}
-use Rattle.osi_tpkt.specs.Packet.{IsPacket, IsOnePacket, IsPartial, IsFaultOf}
-use Rattle.osi_tpkt.specs.Stream.{offset_of}
-use Rattle.osi_tpkt.specs.Header.{IsFront, IsFull, IsUnfinished}
-use Rattle.osi_tpkt.specs.Held.{Held, IsHolding, fresh}
-use Rattle.osi_tpkt.specs.Cutter.{Gains, TakesPiece, Feeds, Passes, Advances}
-use Rattle.osi_tpkt.specs.Runs.{CutterRun}
-use Rattle.osi_tpkt.specs.Runs.CutterCall.{Feed, Advance}
-use Rattle.osi_tpkt.specs.Progress.{fault_of, FitsProgress, IsKept}
-use Rattle.osi_tpkt.specs.declared.faults.TpktFault.{TpktFault}
-use Rattle.osi_tpkt.specs.declared.faults.TpktFault.TheVariants.{BadVersion, BadLength, OutOfMemory}
-use Rattle.osi_tpkt.specs.declared.cutting.Fed.{Fed}
 use Rattle.osi_tpkt.specs.declared.cutting.Progress.{Progress}
 use Rattle.osi_tpkt.specs.declared.cutting.Progress.TheVariants.{Awaited, Partial, Stopped}
 use Rattle.osi_tpkt.specs.declared.cutting.Stop.TheVariants.{Whole, Version, Length}
+use Rattle.osi_tpkt.proofs.Vocabulary.{length-take-le, none-some, IsPacket, IsOnePacket, IsPartial, IsFaultOf, offset_of, IsFront, IsFull, IsUnfinished, Held, IsHolding, fresh, Gains, TakesPiece, Feeds, Passes, Advances, CutterRun, Feed, Advance, fault_of, FitsProgress, IsKept, TpktFault, BadVersion, BadLength, OutOfMemory, Fed}
 use Rattle.osi_tpkt.proofs.Fronts.{short_partial, full_packet, front_packet, partial_not_whole, belonging_some, belonging_no_fault, surveyed, one_fault, holding, empty_partial}
 
 -- what the fields of a cutter say, said of what contracts see

@@ -4,3 +4,4 @@ pub mod Fronts
 pub mod Streams
 pub mod Holding
 pub mod Runs
+mod Vocabulary

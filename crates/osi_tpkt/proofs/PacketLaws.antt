@@ -1,10 +1,7 @@
 -- Laws of packets: what a packet's header says, that no packet begins another, and that the written form is a packet.
 use Rattle.std.proofs.Common.{◌≡◌, ℕ, ◌+◌, ◌*◌, ◌/◌, ◌%◌, ◌≤◌, List, ◌∷◌, ◌++◌, length, get_or, take, drop, refl, sym, ◌∙◌, ap, subst, arith}
-use Rattle.std.proofs.lemmas.List.{get_or_append_left, length-take-le, take_at, take-append-drop}
-use Rattle.osi_tpkt.specs.Octets.{IsOctets}
+use Rattle.osi_tpkt.proofs.Vocabulary.{get_or_append_left, length-take-le, take_at, take-append-drop, IsOctets, IsPacket, IsUnit, packet_of, stated_length, IsFront, IsFull}
 use Rattle.osi_tpkt.proofs.OctetLaws.{octets_cons}
-use Rattle.osi_tpkt.specs.Packet.{IsPacket, IsUnit, packet_of, stated_length}
-use Rattle.osi_tpkt.specs.Header.{IsFront, IsFull}
 use Rattle.osi_tpkt.specs.PacketValue.{Anything}
 use Rattle.osi_tpkt.specs.Unit.{IsAtFront}
 

@@ -1,18 +1,8 @@
 -- Over every run of calls a cutter's packets are those of the stream that was used.
 use Rattle.std.proofs.Common.{◌≡◌, ℕ, ◌+◌, ◌-◌, ◌≤◌, inl, inr, List, [], ◌∷◌, ◌++◌, length, take, refl, sym, ◌∙◌, ap, subst, arith, true, Some, None, Result, Ok, Err, Contains}
-use Rattle.std.proofs.lemmas.List.{append_assoc, append-nil, length-append}
 use Rattle.std.proofs.lemmas.List.Concat.{flat_map-append}
 use Rattle.std.proofs.lemmas.List.Elements.{Contains-append_left, Contains-append_right}
-use Rattle.std.proofs.lemmas.Option.{none-some}
-use Rattle.osi_tpkt.specs.Packet.{IsPacket, IsPartial, IsFaultOf}
-use Rattle.osi_tpkt.specs.Stream.{ArePackets, offset_of}
-use Rattle.osi_tpkt.specs.Held.{Held, IsHolding, fresh}
-use Rattle.osi_tpkt.specs.Cutter.{TakesPiece, Feeds, Advances}
-use Rattle.osi_tpkt.specs.Runs.{CutterCall, used_by, stream_of, CutterStep, CutterRun, CutterReads, CutterReadsOn}
-use Rattle.osi_tpkt.specs.Runs.CutterCall.{Feed, Advance}
-use Rattle.osi_tpkt.specs.declared.faults.TpktFault.{TpktFault}
-use Rattle.osi_tpkt.specs.declared.faults.TpktFault.TheVariants.{BadVersion, BadLength, OutOfMemory}
-use Rattle.osi_tpkt.specs.declared.cutting.Fed.{Fed}
+use Rattle.osi_tpkt.proofs.Vocabulary.{append_assoc, append-nil, length-append, none-some, IsPacket, IsPartial, IsFaultOf, ArePackets, offset_of, Held, IsHolding, fresh, TakesPiece, Feeds, Advances, CutterCall, used_by, stream_of, CutterStep, CutterRun, CutterReads, CutterReadsOn, Feed, Advance, TpktFault, BadVersion, BadLength, OutOfMemory, Fed}
 use Rattle.osi_tpkt.proofs.Fronts.{empty_partial}
 use Rattle.osi_tpkt.proofs.Holding.{none_or_some, feeds_sound, fresh_holding}
 

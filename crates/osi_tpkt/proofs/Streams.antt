@@ -1,19 +1,10 @@
 -- A stream is packets in one way.
 use Rattle.std.proofs.Common.{◌≡◌, ℕ, zero, suc, ◌+◌, ◌-◌, ◌<◌, ◌≤◌, ◌⊎◌, inl, inr, List, [], ◌∷◌, ◌++◌, length, get_or, take, drop, refl, sym, ◌∙◌, ap, subst, arith, Result, Err}
-use Rattle.std.proofs.lemmas.Bool.{cases_lt, cases_eq}
-use Rattle.std.proofs.lemmas.List.{append_cancel_left, length-append, length-take-le, take-append-drop, append-nil}
-use Rattle.osi_tpkt.specs.Octets.{IsOctets}
+use Rattle.osi_tpkt.proofs.Vocabulary.{cases_lt, cases_eq, append_cancel_left, length-append, length-take-le, take-append-drop, append-nil, IsOctets, IsPacket, IsPartial, IsBadVersion, IsBadLength, IsFaultOf, stated_length, IsFront, ArePackets, EndsAt, Cuts, offset_of, Ending, Fed, HeaderFault, TpktFault, BadVersion, BadLength, OutOfMemory}
 use Rattle.osi_tpkt.proofs.OctetLaws.{octets_right}
-use Rattle.osi_tpkt.specs.Packet.{IsPacket, IsPartial, IsBadVersion, IsBadLength, IsFaultOf, stated_length}
-use Rattle.osi_tpkt.specs.Header.{IsFront}
 use Rattle.osi_tpkt.proofs.PacketLaws.{packet_front, one_packet, stated_length-append}
-use Rattle.osi_tpkt.specs.Stream.{ArePackets, EndsAt, Cuts, offset_of, Ending}
 use Rattle.osi_tpkt.specs.Stream.Ending.{Faulty, Rest}
-use Rattle.osi_tpkt.specs.declared.cutting.Fed.{Fed}
-use Rattle.osi_tpkt.specs.declared.headers.HeaderFault.{HeaderFault}
 use Rattle.osi_tpkt.specs.declared.headers.HeaderFault.TheVariants.{Version, Length}
-use Rattle.osi_tpkt.specs.declared.faults.TpktFault.{TpktFault}
-use Rattle.osi_tpkt.specs.declared.faults.TpktFault.TheVariants.{BadVersion, BadLength, OutOfMemory}
 use Rattle.osi_tpkt.proofs.Fronts.{full_packet, short_partial, partial_front, front_version, front_length, front_part, one_fault, fault_behind}
 
 -- no packet stands at the front

@@ -1,6 +1,5 @@
 use Rattle.std.proofs.Common.{◌+◌, ◌<◌, ◌^◌, length}
-use Rattle.osi_tpdu.specs.Reading.{known_at}
-use Rattle.osi_tpdu.specs.View.{parameter_values}
+use Rattle.osi_tpdu.proofs.Vocabulary.{known_at, parameter_values}
 use Rattle.osi_tpdu.proofs.Loops.{Reads}
 use Rattle.osi_tpdu.proofs.parameters.read_parameters.Given as goal
 

@@ -1,7 +1,6 @@
 use Rattle.std.proofs.Common.{◌≡◌, ◌++◌, subst, arith}
 use Rattle.std.proofs.lemmas.Grind.{common_steps}
-use Rattle.osi_tpkt.specs.Octets.{IsOctets}
-use Rattle.osi_tpkt.specs.Packet.{packet_of}
+use Rattle.osi_tpkt.proofs.Vocabulary.{IsOctets, packet_of}
 use Rattle.osi_tpkt.proofs.Fronts.{packet_behind}
 use Rattle.osi_tpkt.proofs.packets.write_in_packet.Goals as goal
 

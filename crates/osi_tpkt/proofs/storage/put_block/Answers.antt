@@ -1,6 +1,5 @@
 use Rattle.std.proofs.Common.{◌≡◌, ℕ, ◌≤◌, List, ◌++◌, length, take, refl, ◌∙◌, ap, subst, arith}
-use Rattle.std.proofs.lemmas.List.{take-take, take-append-le, length-append, length-take-le}
-use Rattle.osi_tpkt.specs.Header.{IsFront, IsFull}
+use Rattle.osi_tpkt.proofs.Vocabulary.{take-take, take-append-le, length-append, length-take-le, IsFront, IsFull}
 use Rattle.osi_tpkt.proofs.storage.put_block.Goals as goal
 
 -- the first octets of a block are those of the piece that begins with it

@@ -1,9 +1,5 @@
 use Rattle.std.proofs.Common.{ℕ, length, take, map, leb, sym, subst, ◌∙◌, refl, arith}
-use Rattle.osi_class.specs.Ends.{Ends}
-use Rattle.osi_class.specs.Flow.{Flow, Sender, after_sent}
-use Rattle.osi_class.specs.Giving.{GivesPart}
-use Rattle.osi_class.specs.Joining.{joining}
-use Rattle.osi_class.specs.Link.{Two, part2, two_standing}
+use Rattle.osi_class.proofs.Vocabulary.{Ends, Flow, Sender, after_sent, GivesPart, joining, Two, part2, two_standing}
 use Rattle.osi_class.proofs.PartLaws.{part_of_class_2}
 use Rattle.osi_class.proofs.class_two.Class2Link.give_part.Goals as goal
 

@@ -1,7 +1,5 @@
 use Rattle.std.proofs.Common.{◌≡◌, ℕ, ◌∙◌, ◌*◌, sym, ap, arith, ◌<◌, length}
-use Rattle.std.specs.Prelude.{min}
-use Rattle.osi_class.specs.Giving.{parts_needed}
-use Rattle.osi_class.specs.Link.{Two}
+use Rattle.osi_class.proofs.Vocabulary.{min, parts_needed, Two}
 use Rattle.osi_class.proofs.RoomLaws.{room_of_class_2}
 use Rattle.osi_class.proofs.class_two.Class2Link.room_for.Goals as goal
 

@@ -1,8 +1,5 @@
 use Rattle.std.proofs.Common.{length, take, map, leb, subst, refl, arith}
-use Rattle.osi_class.specs.Ends.{Ends}
-use Rattle.osi_class.specs.Giving.{GivesPart}
-use Rattle.osi_class.specs.Joining.{joining}
-use Rattle.osi_class.specs.Link.{part0, zero_standing}
+use Rattle.osi_class.proofs.Vocabulary.{Ends, GivesPart, joining, part0, zero_standing}
 use Rattle.osi_class.proofs.PartLaws.{part_of_class_0}
 use Rattle.osi_class.proofs.class_zero.Class0Link.give_part.Goals as goal
 

@@ -1,6 +1,5 @@
 use Rattle.std.proofs.Common.{◌≡◌, ℕ, ◌∙◌, sym, ap, arith, ◌<◌, length}
-use Rattle.osi_class.specs.Ends.{Ends}
-use Rattle.osi_class.specs.Giving.{parts_needed}
+use Rattle.osi_class.proofs.Vocabulary.{Ends, parts_needed}
 use Rattle.osi_class.proofs.RoomLaws.{room_of_class_0}
 use Rattle.osi_class.proofs.class_zero.Class0Link.room_for.Goals as goal
 

@@ -1,6 +1,5 @@
 use Rattle.std.proofs.Common.{arith, rules}
-use Rattle.std.proofs.lemmas.Result.{err_from_is_err_and}
-use Rattle.osi_tpkt.specs.Octets.{IsOctets}
+use Rattle.osi_tpdu.proofs.Vocabulary.{err_from_is_err_and, IsOctets}
 use Rattle.osi_tpdu.proofs.PacketLaws.{units_found, packet_left, no_units, one_reading, fault_found}
 use Rattle.osi_tpdu.proofs.packet.whole.read_units.Goals as goal
 

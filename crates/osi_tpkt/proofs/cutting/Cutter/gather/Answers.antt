@@ -1,7 +1,5 @@
 use Rattle.std.proofs.Common.{take, vec_len, ◌∙◌, ap, arith}
-use Rattle.std.proofs.lemmas.List.{length-take-le}
-use Rattle.osi_tpkt.specs.Held.{Held}
-use Rattle.osi_tpkt.specs.Progress.{fault_of}
+use Rattle.osi_tpkt.proofs.Vocabulary.{length-take-le, Held, fault_of}
 use Rattle.osi_tpkt.proofs.Fronts.{surveyed, same_held}
 use Rattle.osi_tpkt.proofs.Holding.{gathered}
 use Rattle.osi_tpkt.proofs.cutting.Cutter.gather.Goals as goal

@@ -1,6 +1,5 @@
 use Rattle.std.proofs.Common.{◌≡◌, ◌-◌, ℕ, List, length, take, drop, refl, arith}
-use Rattle.osi_tpkt.specs.Header.{IsFull, IsUnfinished}
-use Rattle.osi_tpkt.specs.Octets.{IsOctets}
+use Rattle.osi_tpkt.proofs.Vocabulary.{IsFull, IsUnfinished, IsOctets}
 use Rattle.osi_tpkt.proofs.OctetLaws.{octets_take, octets_drop}
 use Rattle.osi_tpkt.proofs.PacketLaws.{one_front}
 use Rattle.osi_tpkt.proofs.Fronts.{front_packet, where_whole, where_short, short_whole_piece}
