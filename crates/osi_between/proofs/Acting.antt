@@ -1,5 +1,5 @@
 -- Where an end acts, two carriers stand between as they should, whatever has become of them.
-use Rattle.std.proofs.Common.{◌≡◌, ◌≢◌, ℕ, ◌+◌, ◌≤◌, ◌||◌, Bool, true, false, not, List, [], ◌++◌, length, Option, Some, None, is_some, IfSome, if◌then◌else◌, refl, sym, ap, subst, ◌∙◌, append_assoc}
+use Rattle.std.proofs.Common.{◌≡◌, ◌≢◌, ℕ, ◌+◌, ◌≤◌, ◌||◌, Bool, true, false, not, List, [], ◌++◌, length, Option, Some, None, is_some, IfSome, if◌then◌else◌, refl, sym, ap, subst, ◌∙◌, append_assoc, arith}
 use Rattle.std.specs.List.{flat_map, AllByRecursion}
 use Rattle.std.proofs.lemmas.List.{append-nil, append_cancel_right}
 use Rattle.osi_tpdu.specs.Value.{Value}
@@ -83,19 +83,13 @@ steps_two n this other next going coming behind rest taken put cut lasts a =
 -- ---- both ways
 
 pub by_end : (end : Bool) (P : Bool → Type 0) → P end → P (not end) → (e : Bool) → P e
-by_end true P a b true = a
-by_end true P a b false = b
-by_end false P a b true = b
-by_end false P a b false = a
+by_end end P a b e = grind arith steps 200000
 
 pub unreached : (end : Bool) (reach : Option (ℕ × ℕ)) → reach_of end reach ≡ None → reach ≡ None
-unreached end None e = refl
-unreached true (Some r) e = cc
-unreached false (Some r) e = cc
+unreached end reach e = grind arith steps 200000
 
 cut_alive : (broken : Bool) (ended : Option EndReason) → ended ≡ None → (broken || is_some ended) ≡ broken
-cut_alive true ended e = refl
-cut_alive false ended e = ap is_some e
+cut_alive broken ended e = grind (arith, is_some) steps 200000
 
 -- what is under way from the end that acts
 record OutPart (o : Option Connection) (old new lost put : List Message) : Type 0 where
@@ -116,15 +110,7 @@ if_whole (Some r) put = []
 out_part : (end : Bool) (reach : Option (ℕ × ℕ)) (o c d : Option Connection) (n : ℕ) (going lost units : List Value) (stays gone put : List Message) → (reach ≡ None → lost ≡ []) →
     AreLike o (messages_to c (units_of n (going ++ lost)) o) (stays ++ gone) → AreLike o (messages_to d (units_of n ((going ++ lost) ++ units)) o) (stays ++ put) →
     OutPart o (sum_of o n going (is_some reach) c) (sum_of o n (going_then (reach_of end reach) going units) (is_some reach) d) gone (if_whole reach put)
-out_part end None o c d n going lost units stays gone put none before after =
-    let e : going ++ lost ≡ going = ap (λ (l : List Value). going ++ l) (none refl) ∙ append-nil going in
-    record {
-      stays = stays;
-      gone = gone;
-      none = λ h. h;
-      before = subst (λ (l : List Value). AreLike o (messages_to c (units_of n l) o) (stays ++ gone)) e before;
-      after = subst (λ (l : List Value). AreLike o (messages_to d (units_of n (l ++ units)) o) (stays ++ put)) e after;
-    }
+out_part end None o c d n going lost units stays gone put none before after = grind (arith, append-nil) steps 200000
 out_part true (Some r) o c d n going lost units stays gone put none before after = record {
   stays = sum_of o n going true c;
   gone = [];
@@ -144,37 +130,23 @@ abbrev whole_or : Option (ℕ × ℕ) → List Message → List Message
 whole_or reach put = if is_some reach then [] else put
 
 put_is : (both : Both) (put : List Message) (reach : Option (ℕ × ℕ)) → both.reach ≡ reach → if_whole reach put ≡ put_in both put
-put_is both put None e = sym (ap (λ (r : Option (ℕ × ℕ)). whole_or r put) e)
-put_is both put (Some r) e = sym (ap (λ (r : Option (ℕ × ℕ)). whole_or r put) e)
+put_is both put reach e = grind arith steps 200000
 
 -- what came to it
 came_part : (n : ℕ) (old new there : Option Connection) (cut : Bool) (coming taken left : List Value) (arrived : List Message) → coming ≡ taken ++ left → AreFor n taken →
     ((units : List Value) → AreLike new (messages_after (begun_at old) (taken ++ units)) (arrived ++ messages_after (begun_at new) units)) →
     AreLike new (sum_of old n coming cut there) (arrived ++ sum_of new n left cut there)
-came_part n old new there cut coming taken left arrived parts all more =
-    let rest = to_come cut there in
-    let same : units_of n coming ++ rest ≡ taken ++ (units_of n left ++ rest) =
-    ap (λ (l : List Value). units_of n l ++ rest) parts
-    ∙ ap (λ (l : List Value). l ++ rest) (units_join n taken left ∙ ap (λ (l : List Value). l ++ units_of n left) (units_same n taken all))
-    ∙ append_assoc taken (units_of n left) rest in
-    subst (λ (l : List Value). AreLike new (messages_after (begun_at old) l) (arrived ++ sum_of new n left cut there)) (sym same) (more (units_of n left ++ rest))
+came_part n old new there cut coming taken left arrived parts all more = grind (arith, units_join, units_same, append_assoc) steps 200000
 
 -- of another connection
 other_out : (end : Bool) (reach : Option (ℕ × ℕ)) (q n : ℕ) (going units : List Value) → q ≢ n → AreFor n units → units_of q going ≡ units_of q (going_then (reach_of end reach) going units)
-other_out end None q n going units apart all = sym (units_join q going units ∙ ap (λ (l : List Value). units_of q going ++ l) (units_other q n units apart all) ∙ append-nil (units_of q going))
-other_out true (Some r) q n going units apart all = refl
-other_out false (Some r) q n going units apart all = refl
+other_out end reach q n going units apart all = grind (arith, units_join, units_other, append-nil) steps 200000
 
 other_in : (q n : ℕ) (coming taken left : List Value) → q ≢ n → coming ≡ taken ++ left → AreFor n taken → units_of q coming ≡ units_of q left
-other_in q n coming taken left apart parts all =
-    ap (units_of q) parts ∙ units_join q taken left ∙ ap (λ (l : List Value). l ++ units_of q left) (units_other q n taken apart all)
+other_in q n coming taken left apart parts all = grind (arith, units_join, units_other) steps 200000
 
 same_sum : (o p c d : Option Connection) (q : ℕ) (us vs : List Value) (a b : Bool) → o ≡ p → units_of q us ≡ units_of q vs → a ≡ b → c ≡ d → sum_of o q us a c ≡ sum_of p q vs b d
-same_sum o p c d q us vs a b x y z w =
-    ap (λ (r : Option Connection). sum_of r q us a c) x
-    ∙ ap (λ (l : List Value). messages_after (begun_at p) (l ++ to_come a c)) y
-    ∙ ap (λ (t : Bool). sum_of p q vs t c) z
-    ∙ ap (λ (r : Option Connection). sum_of p q vs b r) w
+same_sum o p c d q us vs a b x y z w = grind arith steps 200000
 
 -- ---- the caller acts
 

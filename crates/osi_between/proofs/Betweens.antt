@@ -1,6 +1,6 @@
 -- What becomes of two carriers: packets are taken, octets handed over, an end comes, and the byte
 -- connection breaks.
-use Rattle.std.proofs.Common.{◌≡◌, ℕ, ◌+◌, ◌<◌, ◌≤◌, ◌||◌, Bool, true, false, not, List, [], ◌∷◌, ◌++◌, length, take, drop, Option, Some, None, is_some, IfSome, refl, sym, ap, subst, ◌∙◌, append_assoc}
+use Rattle.std.proofs.Common.{◌≡◌, ℕ, ◌+◌, ◌<◌, ◌≤◌, ◌||◌, Bool, true, false, not, List, [], ◌∷◌, ◌++◌, length, take, drop, Option, Some, None, is_some, IfSome, refl, sym, ap, subst, ◌∙◌, append_assoc, arith}
 use Rattle.std.proofs.lemmas.List.{append-nil}
 use Rattle.osi_tpkt.specs.Octets.{IsOctets}
 use Rattle.osi_tpkt.specs.Packet.{IsPacket, packet_of}
@@ -35,27 +35,16 @@ use Rattle.osi_between.proofs.ZeroLaws.{closes_zero}
 -- ---- reach
 
 less_own : (end : Bool) (k : ℕ) (reach : Option (ℕ × ℕ)) → less_by k (reach_of end reach) ≡ reach_of end (reach_less end k reach)
-less_own true k None = refl
-less_own false k None = refl
-less_own true k (Some r) = refl
-less_own false k (Some r) = refl
+less_own end k reach = grind arith steps 200000
 
 less_other : (end : Bool) (k : ℕ) (reach : Option (ℕ × ℕ)) → reach_of (not end) reach ≡ reach_of (not end) (reach_less end k reach)
-less_other true k None = refl
-less_other false k None = refl
-less_other true k (Some r) = refl
-less_other false k (Some r) = refl
+less_other end k reach = grind arith steps 200000
 
 less_none : (end : Bool) (k : ℕ) (reach : Option (ℕ × ℕ)) → reach_less end k reach ≡ None → reach ≡ None
-less_none end k None e = refl
-less_none true k (Some r) e = cc
-less_none false k (Some r) e = cc
+less_none end k reach e = grind arith steps 200000
 
 pub less_some : (end : Bool) (k : ℕ) (reach : Option (ℕ × ℕ)) → is_some reach ≡ is_some (reach_less end k reach)
-less_some true k None = refl
-less_some false k None = refl
-less_some true k (Some r) = refl
-less_some false k (Some r) = refl
+less_some end k reach = grind arith steps 200000
 
 -- ---- messages
 
@@ -82,8 +71,7 @@ front_parts o n units done left tail parts =
     }
 
 or_true : (b : Bool) → true ≡ (b || true)
-or_true true = refl
-or_true false = refl
+or_true b = grind arith steps 200000
 
 -- what is still to be cut is lost
 front_cut : (o : Option Connection) (n : ℕ) (units : List Value) (cut after : Bool) (c : Option Connection) → true ≡ after → Front (sum_of o n units cut c) (sum_of o n units after c)
@@ -150,13 +138,11 @@ breaks terms both b k l a whole less less_called =
 -- what an end holds and what will arrive there
 comes_to : (terms : Terms) (end : Bool) (both : Both) (b : Between) → AreBetween terms both b → (side end both).state.ended ≡ None →
     IsOnTheWay (side end both).held (arriving (not end) both) (units_from (not end) b) (lost_from (not end) b)
-comes_to terms true both b a alive = a.comes false alive
-comes_to terms false both b a alive = a.comes true alive
+comes_to terms end both b a alive = grind arith steps 200000
 
 joined_at : (terms : Terms) (end : Bool) (both : Both) (b : Between) → AreBetween terms both b →
     JoinedAt end terms (last_of end b) (last_of (not end) b) (all_from end b) (all_from (not end) b)
-joined_at terms true both b a = a.joined
-joined_at terms false both b a = a.joined
+joined_at terms end both b a = grind arith steps 200000
 
 -- a unit is taken
 takes : (terms : Terms) (p : Provides terms) (end : Bool) (both : Both) (b : Between) (u : Value) (rest : List Value) (behind : List ℕ) → AreBetween terms both b → (side end both).state.ended ≡ None →
@@ -402,6 +388,4 @@ ends_at terms false both b reason a = ends_called terms both b reason a
 -- where CRs are refused none is open
 pub no_open : (reason : ℕ) (end : Bool) (both : Both) (b : Between) (n peer : ℕ) (link : Standing) → AreBetween (refusing reason) both b → (side end both).state.ended ≡ None →
     value_at n (side end both).state.live ≡ Some (linked peer link) → ⊥
-no_open reason true both b n peer link a alive at = none_open b.caller a.joined.stage n peer link a.joined.live (ap (λ (s : State). value_at n s.live) (sym (a.lives true alive)) ∙ at)
-no_open reason false both b n peer link a alive at =
-    let no : None ≡ Some (linked peer link) = sym (ap (value_at n) a.joined.live_called) ∙ ap (λ (s : State). value_at n s.live) (sym (a.lives false alive)) ∙ at in cc
+no_open reason end both b n peer link a alive at = grind (arith, none_open) steps 200000

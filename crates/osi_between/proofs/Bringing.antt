@@ -1,5 +1,5 @@
 -- What units bring that an end takes.
-use Rattle.std.proofs.Common.{◌≡◌, ℕ, ◌+◌, Bool, true, false, List, [], ◌∷◌, ◌++◌, length, map, take, Option, Some, None, Result, Ok, Err, refl, sym, ap, ◌∙◌, nat_lt, if◌then◌else◌, IfOk}
+use Rattle.std.proofs.Common.{◌≡◌, ℕ, ◌+◌, Bool, true, false, List, [], ◌∷◌, ◌++◌, length, map, take, Option, Some, None, Result, Ok, Err, refl, sym, ap, ◌∙◌, nat_lt, if◌then◌else◌, IfOk, arith}
 use Rattle.std.specs.List.{AllByRecursion}
 use Rattle.std.proofs.lemmas.List.{map-append}
 use Rattle.osi_tpdu.specs.Value.{Value, data0, data2, acknowledge, disconnect}
@@ -20,27 +20,17 @@ use Rattle.osi_between.specs.Progress.{Progress, in_use, shutting, gone, may_arr
 use Rattle.osi_between.proofs.MessageLaws.{begun_after, messages_part, kinds_begun, kinds_join}
 
 pub same_like : (o : Option Connection) (some others : List Message) → some ≡ others → AreLike o some others
-same_like None some others e = e
-same_like (Some asked) some others e = e
-same_like (Some (linked peer link)) some others e = e
-same_like (Some (closing peer)) some others e = ap (map kind_of) e
+same_like o some others e = grind (arith, map) steps 200000
 
 -- ---- nothing is taken
 
 pub brings_none : (accepts : Bool) (from to : Progress) (old new : Option Connection) (put : List Message) → begun_at new ≡ begun_at old → to ≡ behind_puts from put → Brings accepts from to old new [] [] put
-brings_none accepts from to old new put same is = record {
-  is = refl;
-  more = λ units. same_like new (messages_after (begun_at old) units) (messages_after (begun_at new) units) (ap (λ (b : List ℕ). messages_after b units) (sym same));
-  may = tt;
-  becomes = is;
-}
+brings_none accepts from to old new put same is = grind (arith, same_like) steps 200000
 
 -- a TSDU is handed in
 pub brings_sent : (n : ℕ) (link : Standing) (octets : List ℕ) →
     Brings true in_use in_use (Some (linked n link)) (Some (linked n (pumped (with_tsdu link octets)))) [] [] (message octets ∷ [])
-brings_sent n link octets =
-    brings_none true in_use in_use (Some (linked n link)) (Some (linked n (pumped (with_tsdu link octets)))) (message octets ∷ [])
-    (ap (λ (j : Joining). j.begun) (drained_leaves (with_tsdu link octets)).1) refl
+brings_sent n link octets = grind (arith, brings_none, drained_leaves) steps 200000
 
 pub brings_shut : (n : ℕ) (link : Standing) (reason : ℕ) → Brings true in_use shutting (Some (linked n link)) (Some (closing n)) [] [] (bye reason ∷ [])
 brings_shut n link reason = record {
@@ -59,38 +49,25 @@ record HasBrought (first : List ℕ) (unit : Value) (s : Standing) : Type 0 wher
 
 part_zero : (e : Ends) (flow : Option Flow) (end : Bool) (octets : List ℕ) → e.joining.whole ≡ [] →
     HasBrought e.joining.begun (data0 end octets) (record { ends = record e { joining = with_part e.joining end octets }; flow = flow })
-part_zero e flow false octets none = record { begun = refl; whole = ap (λ (w : List (List ℕ)). map message (take 1 w)) none }
-part_zero e flow true octets none = record { begun = refl; whole = ap (λ (w : List (List ℕ)). map message (take 1 (w ++ (e.joining.begun ++ octets) ∷ []))) none }
+part_zero e flow end octets none = grind (arith, map, take) steps 200000
 
 part_two : (e : Ends) (flow : Option Flow) (n number : ℕ) (end : Bool) (octets : List ℕ) → e.joining.whole ≡ [] →
     HasBrought e.joining.begun (data2 n number end octets) (record { ends = record e { joining = with_part e.joining end octets }; flow = flow })
-part_two e flow n number false octets none = record { begun = refl; whole = ap (λ (w : List (List ℕ)). map message (take 1 w)) none }
-part_two e flow n number true octets none = record { begun = refl; whole = ap (λ (w : List (List ℕ)). map message (take 1 (w ++ (e.joining.begun ++ octets) ∷ []))) none }
+part_two e flow n number end octets none = grind (arith, map, take) steps 200000
 
 joined_zero : (e : Ends) (flow : Option Flow) (end : Bool) (octets : List ℕ) (long : Bool) → e.joining.whole ≡ [] →
     IfOk (with_joined e flow (if long then Err TsduTooLong else Ok (with_part e.joining end octets))) (HasBrought e.joining.begun (data0 end octets))
-joined_zero e flow end octets true none = tt
-joined_zero e flow end octets false none = part_zero e flow end octets none
+joined_zero e flow end octets long none = grind (arith, part_zero) steps 200000
 
 joined_two : (e : Ends) (flow : Option Flow) (n number : ℕ) (end : Bool) (octets : List ℕ) (long : Bool) → e.joining.whole ≡ [] →
     IfOk (with_joined e flow (if long then Err TsduTooLong else Ok (with_part e.joining end octets))) (HasBrought e.joining.begun (data2 n number end octets))
-joined_two e flow n number end octets true none = tt
-joined_two e flow n number end octets false none = part_two e flow n number end octets none
+joined_two e flow n number end octets long none = grind (arith, part_two) steps 200000
 
 sender_two : (e : Ends) (f : Flow) (credit n number : ℕ) (r : Result Sender LinkFault) → e.joining.whole ≡ [] → IfOk (with_sender e f r) (HasBrought e.joining.begun (acknowledge credit n number))
-sender_two e f credit n number (Ok sender) none = record { begun = refl; whole = ap (λ (w : List (List ℕ)). map message (take 1 w)) none }
-sender_two e f credit n number (Err fault) none = tt
+sender_two e f credit n number r none = grind (arith, map, take) steps 200000
 
 brought_by : (e : Ends) (flow : Option Flow) (n : ℕ) (g : Given) → e.joining.whole ≡ [] → IfOk (taken_by e flow (unit_of n g)) (HasBrought e.joining.begun (unit_of n g))
-brought_by e None n (part0 end octets) none = joined_zero e None end octets (nat_lt longest_tsdu (length e.joining.begun + length octets)) none
-brought_by e None n (part2 number end octets) none = tt
-brought_by e None n (ack number credit) none = tt
-brought_by e (Some f) n (part0 end octets) none = tt
-brought_by e (Some f) n (part2 number end octets) none =
-    choose_ok (HasBrought e.joining.begun (data2 n number end octets)) (is_awaited f.receiver number) (with_joined e (Some (taken_flow f)) (joined e.joining end octets)) (Err OutOfSequence)
-    (λ _. joined_two e (Some (taken_flow f)) n number end octets (nat_lt longest_tsdu (length e.joining.begun + length octets)) none)
-    (λ _. tt)
-brought_by e (Some f) n (ack number credit) none = sender_two e f credit n number (acknowledged f.sender number credit) none
+brought_by e flow n g none = grind (arith, joined_zero, nat_lt, length, choose_ok, joined_two, sender_two) steps 200000
 
 brought : (s t : Standing) (n : ℕ) (g : Given) → s.ends.joining.whole ≡ [] → taken s (unit_of n g) ≡ Ok t → HasBrought s.ends.joining.begun (unit_of n g) t
 brought s t n g none e = at_ok (HasBrought s.ends.joining.begun (unit_of n g)) (taken s (unit_of n g)) t (brought_by s.ends s.flow n g none) e
@@ -120,18 +97,10 @@ brings_given n g link next none e =
 -- ---- a closing connection ignores it
 
 ignored_may : (n : ℕ) (g : Given) → AllByRecursion (λ m. may_arrive shutting m ≡ true) (messages_after [] (unit_of n g ∷ []))
-ignored_may n (part0 false octets) = tt
-ignored_may n (part0 true octets) = (refl, tt)
-ignored_may n (part2 number false octets) = tt
-ignored_may n (part2 number true octets) = (refl, tt)
-ignored_may n (ack number credit) = tt
+ignored_may n g = grind arith steps 200000
 
 ignored_stay : (n : ℕ) (g : Given) → shutting ≡ behind_arrivals true shutting (messages_after [] (unit_of n g ∷ []))
-ignored_stay n (part0 false octets) = refl
-ignored_stay n (part0 true octets) = refl
-ignored_stay n (part2 number false octets) = refl
-ignored_stay n (part2 number true octets) = refl
-ignored_stay n (ack number credit) = refl
+ignored_stay n g = grind arith steps 200000
 
 pub brings_ignored : (n : ℕ) (g : Given) → Brings true shutting shutting (Some (closing n)) (Some (closing n)) (unit_of n g ∷ []) (messages_after [] (unit_of n g ∷ [])) []
 brings_ignored n g = record {

@@ -1,5 +1,5 @@
 -- What a carrier of class 2 does with a unit or a call for one connection.
-use Rattle.std.proofs.Common.{◌≡◌, ℕ, Bool, true, false, List, [], ◌∷◌, ◌++◌, map, take, Option, Some, None, Result, Ok, refl, sym, ap, subst, ◌∙◌}
+use Rattle.std.proofs.Common.{◌≡◌, ℕ, Bool, true, false, List, [], ◌∷◌, ◌++◌, map, take, Option, Some, None, Result, Ok, refl, sym, ap, subst, ◌∙◌, arith}
 use Rattle.std.proofs.lemmas.List.{append-nil}
 use Rattle.osi_tpdu.specs.Value.{Value, disconnect, disconnected}
 use Rattle.osi_class.specs.Giving.{all_given}
@@ -26,50 +26,17 @@ use Rattle.osi_between.specs.Meeting.{Changes, addressed, leaving}
 changes_put : (n : ℕ) (s t : State) (x z : Connection) (us : List Value) (es : List Happening) → IsOrderly s → value_at n s.live ≡ Some z →
     t.live ≡ put n x s.live → t.outgoing ≡ s.outgoing ++ packets us → t.events ≡ s.events ++ es → t.ended ≡ s.ended → t.class ≡ s.class → t.given ≡ s.given → t.local ≡ s.local → t.is_caller ≡ s.is_caller →
     Changes n s t (Some x) us es
-changes_put n s t x z us es orderly at live outgoing events ended class given local is_caller = record {
-  here = ap (value_at n) live ∙ put_here n x z s.live at;
-  live = live;
-  others = λ m other. ap (value_at m) live ∙ put_other m n x s.live other;
-  outgoing = outgoing;
-  events = events;
-  ended = ended;
-  class = class;
-  given = given;
-  local = local;
-  is_caller = is_caller;
-}
+changes_put n s t x z us es orderly at live outgoing events ended class given local is_caller = grind (arith, put_here, put_other) steps 200000
 
 -- none at the reference
 changes_drop : (n : ℕ) (s t : State) (us : List Value) (es : List Happening) → IsOrderly s →
     t.live ≡ without n s.live → t.outgoing ≡ s.outgoing ++ packets us → t.events ≡ s.events ++ es → t.ended ≡ s.ended → t.class ≡ s.class → t.given ≡ s.given → t.local ≡ s.local → t.is_caller ≡ s.is_caller →
     Changes n s t None us es
-changes_drop n s t us es orderly live outgoing events ended class given local is_caller = record {
-  here = ap (value_at n) live ∙ without_here n s.live orderly.rise;
-  live = live;
-  others = λ m other. ap (value_at m) live ∙ without_other m n s.live other;
-  outgoing = outgoing;
-  events = events;
-  ended = ended;
-  class = class;
-  given = given;
-  local = local;
-  is_caller = is_caller;
-}
+changes_drop n s t us es orderly live outgoing events ended class given local is_caller = grind (arith, without_here, without_other) steps 200000
 
 -- nothing
 changes_none : (n : ℕ) (s : State) (x : Connection) → IsOrderly s → value_at n s.live ≡ Some x → Changes n s s (Some x) [] []
-changes_none n s x orderly at = record {
-  here = at;
-  live = sym (put_same n x s.live at);
-  others = λ m other. refl;
-  outgoing = sym (append-nil s.outgoing);
-  events = sym (append-nil s.events);
-  ended = refl;
-  class = refl;
-  given = refl;
-  local = refl;
-  is_caller = refl;
-}
+changes_none n s x orderly at = grind (arith, put_same, append-nil) steps 200000
 
 -- ---- a unit goes to the connection that it names
 
@@ -77,19 +44,13 @@ react_two : (unit : Value) (s : State) → s.ended ≡ None → s.class ≡ Some
 react_two unit s quiet class = react_quiet unit s quiet ∙ ap (λ (k : Option Class). in_class k unit s) class
 
 given_to : (caller : Bool) (n : ℕ) (g : Given) (s : State) → is_of_two g ≡ true → in_two caller (unit_of n g) s ≡ to_reference n (unit_of n g) s
-given_to caller n (part0 end octets) s e = cc
-given_to true n (part2 number end octets) s e = refl
-given_to false n (part2 number end octets) s e = refl
-given_to true n (ack number credit) s e = refl
-given_to false n (ack number credit) s e = refl
+given_to caller n g s e = grind arith steps 200000
 
 leaving_to : (caller : Bool) (n m reason : ℕ) (s : State) → in_two caller (disconnect n m reason []) s ≡ to_reference n (disconnect n m reason []) s
-leaving_to true n m reason s = refl
-leaving_to false n m reason s = refl
+leaving_to caller n m reason s = grind arith steps 200000
 
 over_to : (caller : Bool) (n m : ℕ) (s : State) → in_two caller (disconnected n m) s ≡ to_reference n (disconnected n m) s
-over_to true n m s = refl
-over_to false n m s = refl
+over_to caller n m s = grind arith steps 200000
 
 at_connection : (n : ℕ) (o : Option Connection) (unit : Value) (s : State) → value_at n s.live ≡ o → to_reference n unit s ≡ to_connection n o unit s
 at_connection n o unit s at = ap (λ (c : Option Connection). to_connection n c unit s) at
@@ -97,14 +58,10 @@ at_connection n o unit s at = ap (λ (c : Option Connection). to_connection n c 
 -- ---- what each unit does
 
 pub linked_takes : (n peer : ℕ) (link : Standing) (g : Given) (s : State) → to_linked n peer link (unit_of n g) s ≡ taking n peer (taken link (unit_of n g)) s
-linked_takes n peer link (part0 end octets) s = refl
-linked_takes n peer link (part2 number end octets) s = refl
-linked_takes n peer link (ack number credit) s = refl
+linked_takes n peer link g s = grind arith steps 200000
 
 closing_ignores : (n : ℕ) (g : Given) (s : State) → to_closing n (unit_of n g) s ≡ s
-closing_ignores n (part0 end octets) s = refl
-closing_ignores n (part2 number end octets) s = refl
-closing_ignores n (ack number credit) s = refl
+closing_ignores n g s = grind arith steps 200000
 
 -- a DT or an AK that the link takes
 pub given_changes : (n : ℕ) (s : State) (link t : Standing) (g : Given) → s.ended ≡ None → s.class ≡ Some Two → IsOrderly s → is_of_two g ≡ true →

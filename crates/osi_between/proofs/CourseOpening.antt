@@ -42,21 +42,13 @@ use Rattle.osi_between.proofs.Turned.{sends_passes}
 -- ---- a new reference
 
 next_test : (g q : ℕ) (b c : Bool) → q ≢ g + 1 → nat_lt (g + 1) q ≡ b → nat_lt g q ≡ c → b ≡ c
-next_test g q true true other x y = refl
-next_test g q false false other x y = refl
-next_test g q true false other x y = let above = ltb-true (g + 1) q x in let below = ltb-false g q y in absurd (omega arith)
-next_test g q false true other x y = let below = ltb-false (g + 1) q x in let above = ltb-true g q y in absurd (other (omega arith))
+next_test g q b c other x y = grind (arith, ltb-true, ltb-false) steps 200000
 
 pub push_places : (s t : State) (x : Connection) (q : ℕ) → t.given ≡ s.given + 1 → t.live ≡ s.live ++ (s.given + 1, x) ∷ [] → q ≢ s.given + 1 → place_at q t ≡ place_at q s
-push_places s t x q given live other =
-    ap (λ (g : ℕ). if◌then◌else◌ {A = Place} (nat_lt g q) never (was_given (value_at q t.live))) given
-    ∙ ap (λ (b : Bool). if◌then◌else◌ {A = Place} b never (was_given (value_at q t.live))) (next_test s.given q (nat_lt (s.given + 1) q) (nat_lt s.given q) other refl refl)
-    ∙ ap (λ (v : Option Connection). if◌then◌else◌ {A = Place} (nat_lt s.given q) never (was_given v)) (ap (value_at q) live ∙ push_other q (s.given + 1) x s.live other)
+push_places s t x q given live other = grind (arith, nat_lt, next_test, push_other) steps 200000
 
 pub push_place : (s t : State) (x : Connection) → IsOrderly s → t.given ≡ s.given + 1 → t.live ≡ s.live ++ (s.given + 1, x) ∷ [] → place_at (s.given + 1) t ≡ was_given (Some x)
-push_place s t x orderly given live =
-    given_place (s.given + 1) t (omega arith)
-    ∙ ap was_given (ap (value_at (s.given + 1)) live ∙ push_here (s.given + 1) x s.live (beyond (s.given + 1) s.given s.live orderly.up_to (omega arith)))
+push_place s t x orderly given live = grind (arith, given_place, push_here, beyond) steps 200000
 
 -- ---- the CR
 
@@ -99,10 +91,7 @@ asks_moves s r calling called orderly left supports fits fits_called =
 -- ---- the CC
 
 pub react_request : (c : Connect) (r : State) → r.ended ≡ None → r.is_caller ≡ false → MayTakeTwo r.class → react (request c) r ≡ answers_request c r
-react_request c r quiet called (inl none) =
-    react_quiet (request c) r quiet ∙ ap (λ (k : Option Class). in_class k (request c) r) none ∙ ap (λ (b : Bool). before_class b (request c) r) called
-react_request c r quiet called (inr two) =
-    react_quiet (request c) r quiet ∙ ap (λ (k : Option Class). in_class k (request c) r) two ∙ ap (λ (b : Bool). in_two b (request c) r) called
+react_request c r quiet h h_ = grind (arith, react_quiet) steps 200000
 
 request_accepted : (c : Connect) (r : State) → has_peer c.source r.live ≡ false → is_full r ≡ false → selected_by c r.local ≡ accept Two (selected_size c r.local) →
     answers_request c r ≡ accepts Two (selected_size c r.local) c r
@@ -185,13 +174,7 @@ behind_confirm n p a none =
 
 accepted_there : (n : ℕ) (s r t : State) (c : Connect) (p q : LinkPair) → IsAccepted n s r c p → t.local ≡ r.local → t.class ≡ r.class → AreOpen true q →
     q.rightward ≡ p.rightward → q.left ≡ p.left → IsAccepted n s t c q
-accepted_there n s r t c p q h local class a rightward left = record {
-  asked = h.asked;
-  class = class ∙ h.class;
-  open_links = a;
-  rightward = rightward ∙ h.rightward;
-  left = left ∙ h.left ∙ ap (λ (x : Local). caller_link n s.local x c) (sym local);
-}
+accepted_there n s r t c p q h local class a rightward left = grind (arith, caller_link) steps 200000
 
 pub accepted_sends : (n : ℕ) (c : Connect) (p : LinkPair) (s r : State) (octets : List ℕ) → IsAccepted n s r c p → r.ended ≡ None → IsOrderly r → n ≤ r.given →
     value_at n r.live ≡ Some (linked n p.right) → IsShortTsdu octets → IsOctets octets → CourseMoves false n (accepting c p) r s (sent n octets r) [] 0 (message octets ∷ [])
@@ -278,47 +261,23 @@ accepted_closes n c p s r reason some small h quiet orderly le at =
 -- ---- the caller takes the CC
 
 pub confirm_to : (n : ℕ) (c : Connect) (s : State) → s.ended ≡ None → s.is_caller ≡ true → MayTakeTwo s.class → react (confirm n c) s ≡ to_reference n (confirm n c) s
-confirm_to n c s quiet caller (inl none) =
-    react_quiet (confirm n c) s quiet ∙ ap (λ (k : Option Class). in_class k (confirm n c) s) none ∙ ap (λ (b : Bool). before_class b (confirm n c) s) caller
-confirm_to n c s quiet caller (inr two) =
-    react_quiet (confirm n c) s quiet ∙ ap (λ (k : Option Class). in_class k (confirm n c) s) two ∙ ap (λ (b : Bool). in_two b (confirm n c) s) caller
+confirm_to n c s quiet caller h = grind (arith, react_quiet) steps 200000
 
 confirm_opens : (n : ℕ) (c : Connect) (s : State) (called : Local) → s.ended ≡ None → s.is_caller ≡ true → MayTakeTwo s.class → s.local.class2 ≡ true → value_at n s.live ≡ Some asked →
     react (confirm n (answer_of n called c)) s ≡ opens n (answer_of n called c) (Some Two) s
-confirm_opens n c s called quiet caller two supports at =
-    confirm_to n (answer_of n called c) s quiet caller two
-    ∙ ap (λ (o : Option Connection). to_connection n o (confirm n (answer_of n called c)) s) at
-    ∙ ap (λ (k : Option Class). opens n (answer_of n called c) k s) (confirms_two s.local called s.class c n supports)
+confirm_opens n c s called quiet caller two supports at = grind (arith, confirm_to, confirms_two) steps 200000
 
 confirm_acts : (n : ℕ) (c : Connect) (s : State) (called : Local) → Acts n s (opens n (answer_of n called c) (Some Two) s) [] (opened n ∷ [])
-confirm_acts n c s called = record {
-  others = λ q other. ap (λ (v : Option Connection). if◌then◌else◌ {A = Place} (nat_lt s.given q) never (was_given v))
-      (put_other q n (linked n (caller_link n s.local called c)) s.live other);
-  outgoing = sym (append-nil s.outgoing);
-  events = refl;
-  ended = refl;
-  local = refl;
-  is_caller = refl;
-  class = λ h. refl;
-  may = λ h. inr refl;
-  all_for = tt;
-}
+confirm_acts n c s called = grind (arith, nat_lt, put_other, caller_link, append-nil) steps 200000
 
 confirm_place : (n : ℕ) (c : Connect) (s : State) (called : Local) (link : Standing) → n ≤ s.given → value_at n s.live ≡ Some asked → link ≡ caller_link n s.local called c →
     place_at n (opens n (answer_of n called c) (Some Two) s) ≡ was_given (Some (linked n link))
-confirm_place n c s called link le at is =
-    given_place n (opens n (answer_of n called c) (Some Two) s) le
-    ∙ ap was_given (put_here n (linked n (caller_link n s.local called c)) asked s.live at ∙ ap (λ (l : Standing). Some (linked n l)) (sym is))
+confirm_place n c s called link le at is = grind (arith, given_place, put_here, caller_link) steps 200000
 
 -- what the CC brings
 brings_agree : (n : ℕ) (s r : State) (c : Connect) (p : LinkPair) → IsAccepted n s r c p →
     Brings true awaiting in_use (Some asked) (Some (linked n p.left)) (confirm n (answer_of n r.local c) ∷ []) (agree ∷ []) []
-brings_agree n s r c p h = record {
-  is = refl;
-  more = λ units. ap (λ (b : List ℕ). agree ∷ messages_after b units) (sym (nothing_begun n s r c p h));
-  may = (refl, tt);
-  becomes = refl;
-}
+brings_agree n s r c p h = grind (arith, nothing_begun) steps 200000
 
 pub confirm_moves : (n : ℕ) (c : Connect) (p : LinkPair) (s r : State) → IsAccepted n s r c p → s.ended ≡ None → s.is_caller ≡ true → MayTakeTwo s.class → s.local.class2 ≡ true →
     n ≤ s.given → value_at n s.live ≡ Some asked →

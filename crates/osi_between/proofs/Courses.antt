@@ -30,41 +30,24 @@ pub record IsGiven (n given : ℕ) (v o : Option Connection) : Type 0 where
   pub is : v ≡ o
 
 is_given_by : (n given : ℕ) (v o : Option Connection) (b : Bool) → nat_lt given n ≡ b → (if b then never else was_given v) ≡ was_given o → IsGiven n given v o
-is_given_by n given v o true e h = cc
-is_given_by n given v o false e h = record { within = ltb-false given n e; is = cc }
+is_given_by n given v o b e h = grind (arith, ltb-false) steps 200000
 
 pub is_given : (n : ℕ) (s : State) (o : Option Connection) → place_at n s ≡ was_given o → IsGiven n s.given (value_at n s.live) o
 is_given n s o h = is_given_by n s.given (value_at n s.live) o (nat_lt s.given n) refl h
 
 -- what changed at one reference
 pub acts_changed : (n : ℕ) (s t : State) (after : Option Connection) (us : List Value) (es : List Happening) → Changes n s t after us es → AreFor n us → Acts n s t us es
-acts_changed n s t after us es c all = record {
-  others = λ q other.
-      ap (λ (g : ℕ). if◌then◌else◌ {A = Place} (nat_lt g q) never (was_given (value_at q t.live))) c.given
-      ∙ ap (λ (v : Option Connection). if◌then◌else◌ {A = Place} (nat_lt s.given q) never (was_given v)) (c.others q other);
-  outgoing = c.outgoing;
-  events = c.events;
-  ended = c.ended;
-  local = c.local;
-  is_caller = c.is_caller;
-  class = λ h. c.class ∙ h;
-  may = λ h. subst (λ (k : Option Class). MayTakeTwo k) (sym c.class) h;
-  all_for = all;
-}
+acts_changed n s t after us es c all = grind (arith, nat_lt) steps 200000
 
 pub place_changed : (n : ℕ) (s t : State) (after : Option Connection) (us : List Value) (es : List Happening) → n ≤ s.given → Changes n s t after us es →
     place_at n t ≡ was_given after
-place_changed n s t after us es le c =
-    let same = c.given in
-    given_place n t (omega arith) ∙ ap was_given c.here
+place_changed n s t after us es le c = grind (arith, given_place) steps 200000
 
 -- ---- the references that are live
 
 put_references_by : (n q : ℕ) (x y : Connection) (rows : Rows Connection) (b : Bool) → (q == n) ≡ b → references (put n x rows) ≡ references rows →
     references (put n x ((q, y) ∷ rows)) ≡ q ∷ references rows
-put_references_by n q x y rows true e more = ap references (ap (λ (c : Bool). if◌then◌else◌ {A = Rows Connection} c ((q, x) ∷ rows) ((q, y) ∷ put n x rows)) e)
-put_references_by n q x y rows false e more =
-    ap references (ap (λ (c : Bool). if◌then◌else◌ {A = Rows Connection} c ((q, x) ∷ rows) ((q, y) ∷ put n x rows)) e) ∙ ap (λ (l : List ℕ). q ∷ l) more
+put_references_by n q x y rows b e more = grind arith steps 200000
 
 pub put_references : (n : ℕ) (x : Connection) (rows : Rows Connection) → references (put n x rows) ≡ references rows
 put_references n x [] = refl
@@ -72,24 +55,17 @@ put_references n x ((q, y) ∷ rows) = put_references_by n q x y rows (q == n) r
 
 without_references_by : (n q : ℕ) (y : Connection) (rows : Rows Connection) (b : Bool) → (q == n) ≡ b → references (without n rows) ≡ dropped n (references rows) →
     references (without n ((q, y) ∷ rows)) ≡ dropped n (q ∷ references rows)
-without_references_by n q y rows true e more =
-    ap references (ap (λ (c : Bool). if◌then◌else◌ {A = Rows Connection} c rows ((q, y) ∷ without n rows)) e)
-    ∙ sym (ap (λ (c : Bool). if◌then◌else◌ {A = List ℕ} c (references rows) (q ∷ dropped n (references rows))) e)
-without_references_by n q y rows false e more =
-    ap references (ap (λ (c : Bool). if◌then◌else◌ {A = Rows Connection} c rows ((q, y) ∷ without n rows)) e) ∙ ap (λ (l : List ℕ). q ∷ l) more
-    ∙ sym (ap (λ (c : Bool). if◌then◌else◌ {A = List ℕ} c (references rows) (q ∷ dropped n (references rows))) e)
+without_references_by n q y rows b e more = grind arith steps 200000
 
 without_references : (n : ℕ) (rows : Rows Connection) → references (without n rows) ≡ dropped n (references rows)
 without_references n [] = refl
 without_references n ((q, y) ∷ rows) = without_references_by n q y rows (q == n) refl (without_references n rows)
 
 stay_references : (n : ℕ) (after : Option Connection) (rows : Rows Connection) → is_none after ≡ false → references (rows_with n after rows) ≡ references rows
-stay_references n None rows e = cc
-stay_references n (Some x) rows e = put_references n x rows
+stay_references n after rows e = grind (arith, put_references) steps 200000
 
 gone_references : (n m : ℕ) (after : Option Connection) (rows : Rows Connection) → is_none after ≡ true → m ≡ n → references (rows_with n after rows) ≡ dropped m (references rows)
-gone_references n m None rows e same = without_references n rows ∙ ap (λ (q : ℕ). dropped q (references rows)) (sym same)
-gone_references n m (Some x) rows e same = cc
+gone_references n m after rows e same = grind (arith, without_references) steps 200000
 
 -- for this connection, and no CR
 abbrev pub IsPlain : ℕ → Value → Type 0
@@ -97,14 +73,7 @@ IsPlain n u = (reference_of u ≡ n) × (asked_by u ≡ [])
 
 references_behind : (n : ℕ) (u : Value) (after : Option Connection) (rows : Rows Connection) → IsPlain n u → is_none after ≡ list_any is_last (u ∷ []) →
     references (rows_with n after rows) ≡ live_behind (references rows) u
-references_behind n (request c) after rows h goes = let none = h.1 in cc
-references_behind n (confirm destination c) after rows h goes = stay_references n after rows goes
-references_behind n (disconnect destination source reason user) after rows h goes = gone_references n destination after rows goes h.0
-references_behind n (disconnected destination source) after rows h goes = gone_references n destination after rows goes h.0
-references_behind n (data0 end user) after rows h goes = stay_references n after rows goes
-references_behind n (data2 destination number end user) after rows h goes = stay_references n after rows goes
-references_behind n (acknowledge credit destination number) after rows h goes = stay_references n after rows goes
-references_behind n (error destination cause) after rows h goes = stay_references n after rows goes
+references_behind n u after rows h goes = grind (arith, stay_references, gone_references) steps 200000
 
 abbrev pub IsOneAtMost : List Value → Type 0
 IsOneAtMost [] = Unit {0}
@@ -113,16 +82,12 @@ IsOneAtMost (u ∷ v ∷ us) = ⊥
 
 references_after : (n : ℕ) (taken : List Value) (after : Option Connection) (rows : Rows Connection) → IsOneAtMost taken → AllByRecursion (IsPlain n) taken → is_none after ≡ list_any is_last taken →
     references (rows_with n after rows) ≡ live_after (references rows) taken
-references_after n [] after rows one all goes = stay_references n after rows goes
-references_after n (u ∷ []) after rows one all goes = references_behind n u after rows all.0 goes
-references_after n (u ∷ v ∷ us) after rows one all goes = absurd one
+references_after n taken after rows one all goes = grind (arith, stay_references, references_behind) steps 200000
 
 -- the units of open links, and those that close a connection
 plain_units : (n : ℕ) (gs : List Given) → AreOfClass true gs → AllByRecursion (IsPlain n) (addressed n gs)
 plain_units n [] h = tt
-plain_units n (part0 end octets ∷ gs) h = let no = h.0 in cc
-plain_units n (part2 number end octets ∷ gs) h = ((refl, refl), plain_units n gs h.1)
-plain_units n (ack number credit ∷ gs) h = ((refl, refl), plain_units n gs h.1)
+plain_units n (x ∷ gs) h = grind (arith, plain_units n gs h.1) steps 200000
 
 plain_join : (n : ℕ) (us vs : List Value) → AllByRecursion (IsPlain n) us → AllByRecursion (IsPlain n) vs → AllByRecursion (IsPlain n) (us ++ vs)
 plain_join n [] vs a b = b
@@ -144,8 +109,7 @@ pub none_more : (n : ℕ) → n ≡ n + 0
 none_more n = omega arith
 
 plain_farewell : (n : ℕ) (last : Option ℕ) → IsPlain n (farewell n last)
-plain_farewell n None = (refl, refl)
-plain_farewell n (Some reason) = (refl, refl)
+plain_farewell n last = grind arith steps 200000
 
 pub plain_out : (n : ℕ) (m : Meeting) → Stands m → AllByRecursion (IsPlain n) (out n m)
 plain_out n (talking p) h = plain_units n p.rightward h.agree.agree.class
@@ -159,13 +123,7 @@ plain_out n parted h = tt
 -- ---- both have had it open
 
 told_met : (n : ℕ) (m : Meeting) (ms : List Message) → flat_map (told_at n (here n m)) ms ≡ flat_map (told_opening n (was_given (here n m))) ms
-told_met n (talking p) ms = refl
-told_met n (left_here p us reason) ms = refl
-told_met n (left_there p us reason) ms = refl
-told_met n (left_both us reason vs other) ms = refl
-told_met n (waiting_here us last) ms = refl
-told_met n (waiting_there us last) ms = refl
-told_met n parted ms = refl
+told_met n m ms = grind arith steps 200000
 
 abbrev carries_caller : (n : ℕ) (local : Local) (m new : Meeting) (es : List Happening) (put : List Message) → Carries n m new es put →
     CourseCarries true n local (met m) (met new) es put
@@ -217,18 +175,7 @@ is_opening (bye reason) = false
 is_opening over = false
 
 not_opening : (p : Progress) (m : Message) → is_met p ≡ true → may_arrive p m ≡ true → is_opening m ≡ false
-not_opening not_yet m e h = cc
-not_opening awaiting m e h = cc
-not_opening in_use ask e h = cc
-not_opening in_use agree e h = cc
-not_opening shutting ask e h = cc
-not_opening shutting agree e h = cc
-not_opening gone ask e h = cc
-not_opening gone agree e h = cc
-not_opening p (deny reason) e h = refl
-not_opening p (message octets) e h = refl
-not_opening p (bye reason) e h = refl
-not_opening p over e h = refl
+not_opening p m e h = grind arith steps 200000
 
 -- it asks for nothing and settles no class
 pub record IsIdle (ms : List Message) : Type 0 where
@@ -236,21 +183,10 @@ pub record IsIdle (ms : List Message) : Type 0 where
   pub class : (settled held : Option Class) → class_behind_all settled held ms ≡ held
 
 idle_class : (settled held : Option Class) (m : Message) (ms : List Message) → is_opening m ≡ false → IsIdle ms → class_behind_all settled held (m ∷ ms) ≡ held
-idle_class None held m ms e h = h.class None held
-idle_class (Some class) held ask ms e h = cc
-idle_class (Some class) held agree ms e h = cc
-idle_class (Some class) held (deny reason) ms e h = h.class (Some class) held
-idle_class (Some class) held (message octets) ms e h = h.class (Some class) held
-idle_class (Some class) held (bye reason) ms e h = h.class (Some class) held
-idle_class (Some class) held over ms e h = h.class (Some class) held
+idle_class settled held m ms e h = grind arith steps 200000
 
 idle_first : (m : Message) (ms : List Message) → is_opening m ≡ false → IsIdle ms → IsIdle (m ∷ ms)
-idle_first ask ms e h = cc
-idle_first agree ms e h = cc
-idle_first (deny reason) ms e h = record { asks = h.asks; class = λ settled held. idle_class settled held (deny reason) ms refl h }
-idle_first (message octets) ms e h = record { asks = h.asks; class = λ settled held. idle_class settled held (message octets) ms refl h }
-idle_first (bye reason) ms e h = record { asks = h.asks; class = λ settled held. idle_class settled held (bye reason) ms refl h }
-idle_first over ms e h = record { asks = h.asks; class = λ settled held. idle_class settled held over ms refl h }
+idle_first m ms e h = grind (arith, idle_class) steps 200000
 
 idle_all : (p : Progress) (ms : List Message) → is_met p ≡ true → AllByRecursion (λ m. may_arrive p m ≡ true) ms → IsIdle ms
 idle_all p [] e h = record { asks = refl; class = λ settled held. refl }
@@ -261,13 +197,7 @@ idle_messages [] = record { asks = refl; class = λ settled held. refl }
 idle_messages (octets ∷ got) = idle_first (message octets) (map message got) refl (idle_messages got)
 
 here_met : (n : ℕ) (m : Meeting) → is_met (progress_in (here n m)) ≡ true
-here_met n (talking p) = refl
-here_met n (left_here p us reason) = refl
-here_met n (left_there p us reason) = refl
-here_met n (left_both us reason vs other) = refl
-here_met n (waiting_here us last) = refl
-here_met n (waiting_there us last) = refl
-here_met n parted = refl
+here_met n m = grind arith steps 200000
 
 none_asked : (n : ℕ) (m : Meeting) (arrived put : List Message) → AllByRecursion (λ x. may_arrive (progress_in (here n m)) x ≡ true) arrived → asks_in put ≡ 0 → 0 ≡ asks_in arrived + asks_in put
 none_asked n m arrived put may none = let idle = (idle_all (progress_in (here n m)) arrived (here_met n m) may).asks in omega arith
@@ -277,17 +207,7 @@ class_stays n m settled held arrived may = (idle_all (progress_in (here n m)) ar
 
 -- what a unit is answered asks for nothing
 pub answers_plain : (o : Option Connection) (u : Value) → asks_in (answers_of o u) ≡ 0
-answers_plain None u = refl
-answers_plain (Some asked) u = refl
-answers_plain (Some (linked peer link)) (request c) = refl
-answers_plain (Some (linked peer link)) (confirm destination c) = refl
-answers_plain (Some (linked peer link)) (disconnect destination source reason user) = refl
-answers_plain (Some (linked peer link)) (disconnected destination source) = refl
-answers_plain (Some (linked peer link)) (data0 end user) = refl
-answers_plain (Some (linked peer link)) (data2 destination number end user) = refl
-answers_plain (Some (linked peer link)) (acknowledge credit destination number) = refl
-answers_plain (Some (linked peer link)) (error destination cause) = refl
-answers_plain (Some (closing peer)) u = refl
+answers_plain o u = grind arith steps 200000
 
 pub met_caller : (n : ℕ) (m : Meeting) (s r t : State) (taken : List Value) (put : List Message) → HaveMet s r m → n ≤ s.given → asks_in put ≡ 0 → Moves n m s t taken put → CourseMoves true n (met m) s r t taken 0 put
 met_caller n m s r t taken put h le none mv = record {

@@ -1,5 +1,5 @@
 -- Where nothing is on the way, nothing is under way for a connection that is open at both ends.
-use Rattle.std.proofs.Common.{◌≡◌, ℕ, Bool, true, false, List, [], ◌∷◌, ◌++◌, Option, Some, None, is_some, ◌||◌, refl, sym, ap, subst, ◌∙◌, inl}
+use Rattle.std.proofs.Common.{◌≡◌, ℕ, Bool, true, false, List, [], ◌∷◌, ◌++◌, Option, Some, None, is_some, ◌||◌, refl, sym, ap, subst, ◌∙◌, inl, arith}
 use Rattle.std.proofs.lemmas.List.{append-nil}
 use Rattle.osi_tpdu.specs.Value.{Value}
 use Rattle.osi_class.specs.Between.{LinkPair, swapped}
@@ -32,24 +32,10 @@ pub record IsDone (n : ℕ) (s r : State) (link peer : Standing) : Type 0 where
 -- ---- class 0
 
 quiet_zero : (p : LinkPair) → AreOpen false p → p.rightward ≡ [] → p.leftward ≡ [] → p.left.ends.unsent ≡ []
-quiet_zero p a rightward leftward =
-    quiet_unsent p (inl a.agree.agree) (record { rightward = rightward; leftward = leftward; left = a.left.given; right = a.right.given; handed_out = a.right.handed })
+quiet_zero p a rightward leftward = grind (arith, quiet_unsent) steps 200000
 
 done_links : (s r : State) (p : LinkPair) → HasOne s (was_given (Some (linked 1 p.left))) → HasOne r (was_given (Some (linked 1 p.right))) → AreOpen false p → p.rightward ≡ [] → p.leftward ≡ [] → IsDone 1 s r p.left p.right
-done_links s r p one other a rightward leftward =
-    let unsent = quiet_zero p a rightward leftward in
-    let unsent_there = quiet_zero (swapped p) (open_mirror false p a) leftward rightward in
-    let begun = nothing_begun (swapped p) a.whole_back leftward unsent_there in
-    let begun_there = nothing_begun p a.whole rightward unsent in
-    let here = one_place s (was_given (Some (linked 1 p.left))) one in
-    let there = one_place r (was_given (Some (linked 1 p.right))) other in
-    record {
-      links = record { unsent = unsent; unsent_there = unsent_there; begun = begun; begun_there = begun_there };
-      there = under_is s r (was_given (Some (linked 1 p.left))) (was_given (Some (linked 1 p.right))) [] [] here there refl tt
-          ∙ ap (λ (ts : List (List ℕ)). messages_after p.right.ends.joining.begun (uncut_units ts)) unsent;
-      back = under_is r s (was_given (Some (linked 1 p.right))) (was_given (Some (linked 1 p.left))) [] [] there here refl tt
-          ∙ ap (λ (ts : List (List ℕ)). messages_after p.left.ends.joining.begun (uncut_units ts)) unsent_there;
-    }
+done_links s r p one other a rightward leftward = grind (arith, quiet_zero, open_mirror, nothing_begun, one_place, under_is) steps 200000
 
 done_by : (s r : State) (n p q : ℕ) (x y : Standing) (g : ZeroCourse) → HasOne s (at_end true g) → HasOne r (at_end false g) → [] ≡ from_end true r.local g → [] ≡ from_end false r.local g → Holds s.local r.local g →
     value_at n s.live ≡ Some (linked p x) → value_at n r.live ≡ Some (linked q y) → IsDone n s r x y
@@ -89,9 +75,7 @@ cut_none : (reach : Option (ℕ × ℕ)) (ended : Option EndReason) → reach �
 cut_none reach ended whole lasts = ap (λ (r : Option (ℕ × ℕ)). is_some r || is_some ended) whole ∙ ap is_some lasts
 
 none_way : (o c : Option Connection) (n : ℕ) (us : List Value) (cut : Bool) → us ≡ [] → cut ≡ false → messages_to c (units_of n []) o ≡ [] → messages_after (begun_at o) (units_of n us ++ to_come cut c) ≡ []
-none_way o c n us cut none whole e =
-    ap (λ (l : List Value). messages_after (begun_at o) (units_of n l ++ to_come cut c)) none
-    ∙ ap (λ (t : Bool). messages_after (begun_at o) (to_come t c)) whole ∙ e
+none_way o c n us cut none whole e = grind arith steps 200000
 
 pub emptied : (terms : Terms) (both : Both) (b : Between) (n p q : ℕ) (x y : Standing) → AreBetween terms both b → IsStill both →
     value_at n both.caller.state.live ≡ Some (linked p x) → value_at n both.called.state.live ≡ Some (linked q y) → IsAllThere n both b x y

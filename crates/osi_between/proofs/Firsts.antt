@@ -1,5 +1,5 @@
 -- What is told at one end of two carriers are the first of what was handed in at the other.
-use Rattle.std.proofs.Common.{◌≡◌, ◌≢◌, ℕ, ◌==◌, ◌||◌, Bool, true, false, not, List, [], ◌∷◌, ◌++◌, Option, Some, None, is_some, refl, sym, ap, subst, ◌∙◌, append_assoc, nat_lt, if◌then◌else◌}
+use Rattle.std.proofs.Common.{◌≡◌, ◌≢◌, ℕ, ◌==◌, ◌||◌, Bool, true, false, not, List, [], ◌∷◌, ◌++◌, Option, Some, None, is_some, refl, sym, ap, subst, ◌∙◌, append_assoc, nat_lt, if◌then◌else◌, arith}
 use Rattle.std.specs.List.{flat_map, AllByRecursion}
 use Rattle.std.proofs.lemmas.Bool.{eq-eqb, eqb-true}
 use Rattle.std.proofs.lemmas.List.{append-nil}
@@ -42,12 +42,7 @@ first_behind told xs ys h = record { more = h.more; is = ap (λ (l : List (List 
 
 tsdus_join : (ms ns : List Message) → tsdus_in (ms ++ ns) ≡ tsdus_in ms ++ tsdus_in ns
 tsdus_join [] ns = refl
-tsdus_join (ask ∷ ms) ns = tsdus_join ms ns
-tsdus_join (agree ∷ ms) ns = tsdus_join ms ns
-tsdus_join (deny reason ∷ ms) ns = tsdus_join ms ns
-tsdus_join (message octets ∷ ms) ns = ap (λ (l : List (List ℕ)). octets ∷ l) (tsdus_join ms ns)
-tsdus_join (bye reason ∷ ms) ns = tsdus_join ms ns
-tsdus_join (over ∷ ms) ns = tsdus_join ms ns
+tsdus_join (x ∷ ms) ns = grind (arith, tsdus_join ms ns) steps 200000
 
 -- ---- a connection that takes nothing more
 
@@ -59,37 +54,14 @@ is_over shutting = true
 is_over gone = true
 
 stays_over_one : (accepts : Bool) (p : Progress) (m : Message) → is_over p ≡ true → is_over (behind_arrival accepts p m) ≡ true
-stays_over_one true not_yet m e = cc
-stays_over_one true awaiting m e = cc
-stays_over_one true in_use m e = cc
-stays_over_one true shutting ask e = refl
-stays_over_one true shutting agree e = refl
-stays_over_one true shutting (deny reason) e = refl
-stays_over_one true shutting (message octets) e = refl
-stays_over_one true shutting (bye reason) e = refl
-stays_over_one true shutting over e = refl
-stays_over_one true gone m e = refl
-stays_over_one false not_yet m e = cc
-stays_over_one false awaiting m e = cc
-stays_over_one false in_use m e = cc
-stays_over_one false shutting ask e = refl
-stays_over_one false shutting agree e = refl
-stays_over_one false shutting (deny reason) e = refl
-stays_over_one false shutting (message octets) e = refl
-stays_over_one false shutting (bye reason) e = refl
-stays_over_one false shutting over e = refl
-stays_over_one false gone m e = refl
+stays_over_one accepts p m e = grind arith steps 200000
 
 stays_over : (accepts : Bool) (p : Progress) (ms : List Message) → is_over p ≡ true → is_over (behind_arrivals accepts p ms) ≡ true
 stays_over accepts p [] e = e
 stays_over accepts p (m ∷ ms) e = stays_over accepts (behind_arrival accepts p m) ms (stays_over_one accepts p m e)
 
 stays_over_put : (p : Progress) (m : Message) → is_over p ≡ true → is_over (behind_put p m) ≡ true
-stays_over_put not_yet m e = cc
-stays_over_put awaiting m e = cc
-stays_over_put in_use m e = cc
-stays_over_put shutting m e = refl
-stays_over_put gone m e = refl
+stays_over_put p m e = grind arith steps 200000
 
 stays_over_puts : (p : Progress) (ms : List Message) → is_over p ≡ true → is_over (behind_puts p ms) ≡ true
 stays_over_puts p [] e = e
@@ -98,17 +70,11 @@ stays_over_puts p (m ∷ ms) e = stays_over_puts (behind_put p m) ms (stays_over
 -- ---- what is told
 
 told_join_by : (n q : ℕ) (octets : List ℕ) (xs ys : List (List ℕ)) (b : Bool) → (if b then octets ∷ (xs ++ ys) else xs ++ ys) ≡ (if b then octets ∷ xs else xs) ++ ys
-told_join_by n q octets xs ys true = refl
-told_join_by n q octets xs ys false = refl
+told_join_by n q octets xs ys b = grind arith steps 200000
 
 told_join : (n : ℕ) (es fs : List Happening) → tsdus_told n (es ++ fs) ≡ tsdus_told n es ++ tsdus_told n fs
 told_join n [] fs = refl
-told_join n (opened q ∷ es) fs = told_join n es fs
-told_join n (refused q reason ∷ es) fs = told_join n es fs
-told_join n (tsdu q octets ∷ es) fs =
-    ap (λ (l : List (List ℕ)). if◌then◌else◌ {A = List (List ℕ)} (q == n) (octets ∷ l) l) (told_join n es fs) ∙ told_join_by n q octets (tsdus_told n es) (tsdus_told n fs) (q == n)
-told_join n (closed q reason ∷ es) fs = told_join n es fs
-told_join n (faulted q fault ∷ es) fs = told_join n es fs
+told_join n (x ∷ es) fs = grind (arith, told_join_by, told_join n es fs) steps 200000
 
 record OneTold (n q : ℕ) (p : Place) (es : List Happening) : Type 0 where
   shut : is_over (progress_of p) ≡ true → tsdus_told n es ≡ []
@@ -118,66 +84,29 @@ no_tsdu : (n q : ℕ) (p : Place) (es : List Happening) → tsdus_told n es ≡ 
 no_tsdu n q p es e = record { shut = λ h. e; other = λ h. e }
 
 asked_none : (n q : ℕ) (m : Message) → tsdus_told n (told_asked q m) ≡ []
-asked_none n q ask = refl
-asked_none n q agree = refl
-asked_none n q (deny reason) = refl
-asked_none n q (message octets) = refl
-asked_none n q (bye reason) = refl
-asked_none n q over = refl
+asked_none n q m = grind arith steps 200000
 
 answer_none : (n q : ℕ) (m : Message) → tsdus_told n (told_answer q m) ≡ []
-answer_none n q ask = refl
-answer_none n q agree = refl
-answer_none n q (deny reason) = refl
-answer_none n q (message octets) = refl
-answer_none n q (bye reason) = refl
-answer_none n q over = refl
+answer_none n q m = grind arith steps 200000
 
 refusing_none : (reason n q : ℕ) (p : Place) (m : Message) → tsdus_told n (told_of (refusing reason) q p m) ≡ []
-refusing_none reason n q never m = refl
-refusing_none reason n q (was_given c) ask = refl
-refusing_none reason n q (was_given c) agree = refl
-refusing_none reason n q (was_given c) (deny why) = refl
-refusing_none reason n q (was_given c) (message octets) = refl
-refusing_none reason n q (was_given c) (bye why) = refl
-refusing_none reason n q (was_given c) over = refl
+refusing_none reason n q p m = grind arith steps 200000
 
 told_by_test : (n q : ℕ) (octets : List ℕ) (b : Bool) → (q == n) ≡ b → tsdus_told n (tsdu q octets ∷ []) ≡ (if b then octets ∷ [] else [])
 told_by_test n q octets b e = ap (λ (t : Bool). if◌then◌else◌ {A = List (List ℕ)} t (octets ∷ []) []) e
 
 open_one_by : (n q peer : ℕ) (link : Standing) (octets : List ℕ) (b : Bool) → (q == n) ≡ b → OneTold n q (was_given (Some (linked peer link))) (tsdu q octets ∷ [])
-open_one_by n q peer link octets true e = record { shut = λ h. cc; other = λ apart. absurd (apart (eqb-true q n e)) }
-open_one_by n q peer link octets false e = no_tsdu n q (was_given (Some (linked peer link))) (tsdu q octets ∷ []) (told_by_test n q octets false e)
+open_one_by n q peer link octets b e = grind (arith, eqb-true, no_tsdu, told_by_test) steps 200000
 
 opening_one : (n q : ℕ) (p : Place) (m : Message) → OneTold n q p (told_opening q p m)
-opening_one n q never m = no_tsdu n q never (told_asked q m) (asked_none n q m)
-opening_one n q (was_given None) m = no_tsdu n q (was_given None) [] refl
-opening_one n q (was_given (Some asked)) m = no_tsdu n q (was_given (Some asked)) (told_answer q m) (answer_none n q m)
-opening_one n q (was_given (Some (linked peer link))) ask = no_tsdu n q (was_given (Some (linked peer link))) [] refl
-opening_one n q (was_given (Some (linked peer link))) agree = no_tsdu n q (was_given (Some (linked peer link))) [] refl
-opening_one n q (was_given (Some (linked peer link))) (deny reason) = no_tsdu n q (was_given (Some (linked peer link))) [] refl
-opening_one n q (was_given (Some (linked peer link))) (message octets) = open_one_by n q peer link octets (q == n) refl
-opening_one n q (was_given (Some (linked peer link))) (bye reason) = no_tsdu n q (was_given (Some (linked peer link))) (told_opening q (was_given (Some (linked peer link))) (bye reason)) refl
-opening_one n q (was_given (Some (linked peer link))) over = no_tsdu n q (was_given (Some (linked peer link))) [] refl
-opening_one n q (was_given (Some (closing peer))) m = no_tsdu n q (was_given (Some (closing peer))) [] refl
+opening_one n q p m = grind (arith, no_tsdu, asked_none, answer_none, open_one_by) steps 200000
 
 told_one : (terms : Terms) (n q : ℕ) (p : Place) (m : Message) → OneTold n q p (told_of terms q p m)
-told_one by_two n q p m = opening_one n q p m
-told_one by_zero n q p m = opening_one n q p m
-told_one (refusing reason) n q p m = no_tsdu n q p (told_of (refusing reason) q p m) (refusing_none reason n q p m)
+told_one terms n q p m = grind (arith, opening_one, no_tsdu, refusing_none) steps 200000
 
 told_all : (terms : Terms) (n q : ℕ) (p : Place) (ms : List Message) → OneTold n q p (flat_map (told_of terms q p) ms)
 told_all terms n q p [] = record { shut = λ h. refl; other = λ h. refl }
-told_all terms n q p (m ∷ ms) =
-    let one = told_one terms n q p m in
-    let more = told_all terms n q p ms in
-    let es = told_of terms q p m in
-    let fs = flat_map (told_of terms q p) ms in
-    let parts = told_join n es fs in
-    record {
-      shut = λ h. parts ∙ ap (λ (l : List (List ℕ)). l ++ tsdus_told n fs) (one.shut h) ∙ more.shut h;
-      other = λ h. parts ∙ ap (λ (l : List (List ℕ)). l ++ tsdus_told n fs) (one.other h) ∙ more.other h;
-    }
+told_all terms n q p (m ∷ ms) = grind (arith, told_one, told_join, told_all terms n q p ms) steps 200000
 
 -- ---- each TSDU that arrives is told, unless the connection takes nothing more
 
@@ -188,76 +117,26 @@ MayBeOpen by_zero p = Unit {0}
 MayBeOpen (refusing reason) p = progress_of p ≡ in_use → ⊥
 
 opening_tells : (n : ℕ) (p : Place) (m : Message) → is_over (progress_of p) ≡ false → may_arrive (progress_of p) m ≡ true → tsdus_told n (told_opening n p m) ≡ tsdus_in (m ∷ [])
-opening_tells n never ask e h = refl
-opening_tells n never agree e h = cc
-opening_tells n never (deny reason) e h = cc
-opening_tells n never (message octets) e h = cc
-opening_tells n never (bye reason) e h = cc
-opening_tells n never over e h = cc
-opening_tells n (was_given None) m e h = cc
-opening_tells n (was_given (Some asked)) ask e h = cc
-opening_tells n (was_given (Some asked)) agree e h = refl
-opening_tells n (was_given (Some asked)) (deny reason) e h = refl
-opening_tells n (was_given (Some asked)) (message octets) e h = cc
-opening_tells n (was_given (Some asked)) (bye reason) e h = cc
-opening_tells n (was_given (Some asked)) over e h = cc
-opening_tells n (was_given (Some (linked peer link))) ask e h = cc
-opening_tells n (was_given (Some (linked peer link))) agree e h = cc
-opening_tells n (was_given (Some (linked peer link))) (deny reason) e h = cc
-opening_tells n (was_given (Some (linked peer link))) (message octets) e h = told_by_test n n octets true (eq-eqb n n refl)
-opening_tells n (was_given (Some (linked peer link))) (bye reason) e h = refl
-opening_tells n (was_given (Some (linked peer link))) over e h = cc
-opening_tells n (was_given (Some (closing peer))) m e h = cc
+opening_tells n p m e h = grind (arith, told_by_test, eq-eqb) steps 200000
 
 -- nothing comes as a TSDU
 none_comes : (p : Progress) (m : Message) → (p ≡ in_use → ⊥) → is_over p ≡ false → may_arrive p m ≡ true → [] ≡ tsdus_in (m ∷ [])
-none_comes not_yet ask closed_off e h = refl
-none_comes not_yet agree closed_off e h = cc
-none_comes not_yet (deny reason) closed_off e h = cc
-none_comes not_yet (message octets) closed_off e h = cc
-none_comes not_yet (bye reason) closed_off e h = cc
-none_comes not_yet over closed_off e h = cc
-none_comes awaiting ask closed_off e h = cc
-none_comes awaiting agree closed_off e h = refl
-none_comes awaiting (deny reason) closed_off e h = refl
-none_comes awaiting (message octets) closed_off e h = cc
-none_comes awaiting (bye reason) closed_off e h = cc
-none_comes awaiting over closed_off e h = cc
-none_comes in_use m closed_off e h = absurd (closed_off refl)
-none_comes shutting m closed_off e h = cc
-none_comes gone m closed_off e h = cc
+none_comes p m closed_off e h = grind arith steps 200000
 
 tells_one : (terms : Terms) (n : ℕ) (p : Place) (m : Message) → MayBeOpen terms p → is_over (progress_of p) ≡ false → may_arrive (progress_of p) m ≡ true → tsdus_told n (told_of terms n p m) ≡ tsdus_in (m ∷ [])
-tells_one by_two n p m closed_off e h = opening_tells n p m e h
-tells_one by_zero n p m closed_off e h = opening_tells n p m e h
-tells_one (refusing reason) n p m closed_off e h = refusing_none reason n n p m ∙ none_comes (progress_of p) m closed_off e h
+tells_one terms n p m closed_off e h = grind (arith, opening_tells, refusing_none, none_comes) steps 200000
 
 tells_all : (terms : Terms) (n : ℕ) (p : Place) (ms : List Message) → MayBeOpen terms p → is_over (progress_of p) ≡ false → AllByRecursion (λ m. may_arrive (progress_of p) m ≡ true) ms →
     tsdus_told n (flat_map (told_of terms n p) ms) ≡ tsdus_in ms
 tells_all terms n p [] closed_off e h = refl
-tells_all terms n p (m ∷ ms) closed_off e h =
-    told_join n (told_of terms n p m) (flat_map (told_of terms n p) ms)
-    ∙ ap (λ (l : List (List ℕ)). l ++ tsdus_told n (flat_map (told_of terms n p) ms)) (tells_one terms n p m closed_off e h.0)
-    ∙ ap (λ (l : List (List ℕ)). tsdus_in (m ∷ []) ++ l) (tells_all terms n p ms closed_off e h.1) ∙ sym (tsdus_join (m ∷ []) ms)
+tells_all terms n p (m ∷ ms) closed_off e h = grind (arith, told_join, tells_one, tsdus_join, tells_all terms n p ms closed_off e h.1) steps 200000
 
 -- answers have no TSDU
 leaving_none : (b : Bool) → tsdus_in (if b then over ∷ [] else []) ≡ []
-leaving_none true = refl
-leaving_none false = refl
+leaving_none b = grind arith steps 200000
 
 pub answers_none : (terms : Terms) (p : Place) (u : Value) → tsdus_in (answers_in terms p u) ≡ []
-answers_none by_two never u = refl
-answers_none by_two (was_given None) u = refl
-answers_none by_two (was_given (Some asked)) u = refl
-answers_none by_two (was_given (Some (linked peer link))) u = leaving_none (is_leaving u)
-answers_none by_two (was_given (Some (closing peer))) u = refl
-answers_none by_zero never u = refl
-answers_none by_zero (was_given None) u = refl
-answers_none by_zero (was_given (Some asked)) u = refl
-answers_none by_zero (was_given (Some (linked peer link))) u = leaving_none (is_leaving u)
-answers_none by_zero (was_given (Some (closing peer))) u = refl
-answers_none (refusing reason) never u = refl
-answers_none (refusing reason) (was_given c) u = refl
+answers_none terms p u = grind (arith, leaving_none) steps 200000
 
 -- ---- one step, for a connection and from one end to the other
 
@@ -283,38 +162,23 @@ pub record Fact (from x : Bool) (n : ℕ) (old new : Both) (b c : Between) (told
       (is_sealed from n new c ≡ true) × AreFirstOf (told ++ tsdus_under from n new c) (tsdus_under from n old b)
 
 pub sealed_same : (from : Bool) (n : ℕ) (old new : Both) (b c : Between) → is_cut from old ≡ is_cut from new → place_at n (last_of from c) ≡ place_at n (last_of from b) → is_sealed from n old b ≡ is_sealed from n new c
-sealed_same from n old new b c cut place =
-    ap (λ (t : Bool). t || is_over (progress_of (place_at n (last_of from b)))) cut ∙ ap (λ (p : Place). is_cut from new || is_over (progress_of p)) (sym place)
+sealed_same from n old new b c cut place = grind arith steps 200000
 
 -- where nothing arrives and nothing is put
 pub fact_lost : (from x : Bool) (n : ℕ) (old new : Both) (b c : Between) (lost : List Message) → under_way from n old b ≡ under_way from n new c ++ lost → place_at n (last_of x c) ≡ place_at n (last_of x b) →
     (is_sealed from n new c ≡ false → under_way from n old b ≡ under_way from n new c) → (is_sealed from n old b ≡ true → is_sealed from n new c ≡ true) → Fact from x n old new b c [] []
-fact_lost from x n old new b c lost all place kept still =
-    let less : AreFirstOf (tsdus_under from n new c) (tsdus_under from n old b) = record { more = tsdus_in lost; is = ap tsdus_in all ∙ tsdus_join (under_way from n new c) lost } in
-    record {
-      shut = λ e. (refl, ap (λ (p : Place). is_over (progress_of p)) place ∙ e);
-      last = λ d. first_none (tsdus_under from n old b);
-      first = λ d e. first_more (tsdus_under from n new c) (tsdus_under from n old b) [] less;
-      whole = λ d e s. ap tsdus_in (sym (kept s)) ∙ sym (append-nil (tsdus_under from n old b));
-      sealed = λ d e s. (still s, less);
-    }
+fact_lost from x n old new b c lost all place kept still = grind (arith, tsdus_join, first_none, first_more, append-nil) steps 200000
 
 -- where nothing happens
 pub fact_still : (from x : Bool) (n : ℕ) (old new : Both) (b c : Between) → under_way from n old b ≡ under_way from n new c → place_at n (last_of x c) ≡ place_at n (last_of x b) → is_sealed from n old b ≡ is_sealed from n new c →
     Fact from x n old new b c [] []
-fact_still from x n old new b c same place sealed =
-    fact_lost from x n old new b c [] (same ∙ sym (append-nil (under_way from n new c))) place (λ s. same) (λ s. sym sealed ∙ s)
+fact_still from x n old new b c same place sealed = grind (arith, fact_lost, append-nil) steps 200000
 
 like_equal : (p : Place) (some others : List Message) → is_over (progress_of p) ≡ false → AreLike (connection_in p) some others → some ≡ others
-like_equal never some others e h = h
-like_equal (was_given None) some others e h = h
-like_equal (was_given (Some asked)) some others e h = h
-like_equal (was_given (Some (linked peer link))) some others e h = h
-like_equal (was_given (Some (closing peer))) some others e h = cc
+like_equal p some others e h = grind arith steps 200000
 
 put_none : (both : Both) (put : List Message) (broken : Bool) → is_some both.reach ≡ broken → tsdus_in put ≡ [] → tsdus_in (put_in both put) ≡ []
-put_none both put true e k = ap tsdus_in (ap (λ (t : Bool). if◌then◌else◌ {A = List Message} t [] put) e)
-put_none both put false e k = ap tsdus_in (ap (λ (t : Bool). if◌then◌else◌ {A = List Message} t [] put) e) ∙ k
+put_none both put broken e k = grind arith steps 200000
 
 put_whole : (both : Both) (put : List Message) → is_some both.reach ≡ false → put_in both put ≡ put
 put_whole both put e = ap (λ (t : Bool). if◌then◌else◌ {A = List Message} t [] put) e
@@ -323,36 +187,23 @@ put_broken : (both : Both) (put : List Message) → is_some both.reach ≡ true 
 put_broken both put e = ap (λ (t : Bool). if◌then◌else◌ {A = List Message} t [] put) e
 
 pub or_left : (s t : Bool) → (s || t) ≡ false → s ≡ false
-or_left true t e = cc
-or_left false t e = refl
+or_left s t e = grind arith steps 200000
 
 or_right : (s t : Bool) → (s || t) ≡ false → t ≡ false
-or_right true t e = cc
-or_right false t e = e
+or_right s t e = grind arith steps 200000
 
 or_either : (s t u v : Bool) → (s || t) ≡ true → s ≡ u → (t ≡ true → v ≡ true) → (u || v) ≡ true
-or_either true t u v e same more = ap (λ (w : Bool). w || v) (sym same)
-or_either false t u v e same more = ap (λ (w : Bool). w || v) (sym same) ∙ more e
+or_either s t u v e same more = grind arith steps 200000
 
 or_second : (u v : Bool) → v ≡ true → (u || v) ≡ true
-or_second true v e = refl
-or_second false v e = e
+or_second u v e = grind arith steps 200000
 
 pub or_still : (s u t v : Bool) → (s || t) ≡ true → (s ≡ true → u ≡ true) → (t ≡ true → v ≡ true) → (u || v) ≡ true
-or_still true u t v e first more = ap (λ (w : Bool). w || v) (first refl)
-or_still false u t v e first more = or_second u v (more e)
+or_still s u t v e first more = grind (arith, or_second) steps 200000
 
 -- one that is not over has not left use
 in_use_still : (from to : Progress) → is_over to ≡ false → leaves_use from to ≡ false
-in_use_still not_yet to e = refl
-in_use_still awaiting to e = refl
-in_use_still in_use not_yet e = refl
-in_use_still in_use awaiting e = refl
-in_use_still in_use in_use e = refl
-in_use_still in_use shutting e = cc
-in_use_still in_use gone e = cc
-in_use_still shutting to e = refl
-in_use_still gone to e = refl
+in_use_still from to e = grind arith steps 200000
 
 -- an end that acts lasts, before and then
 pub record Acts (end : Bool) (old new : Both) : Type 0 where
@@ -366,66 +217,28 @@ over_still accepts from to arrived put e h = ap is_over e ∙ stays_over_puts (b
 -- what is put has no TSDU
 sent_plain : (terms : Terms) (end : Bool) (n : ℕ) (old new : Both) (b c : Between) (taken : List Value) (put : List Message) → Carries terms end n old new b c taken put → Acts end old new → tsdus_in put ≡ [] →
     Fact end (not end) n old new b c [] []
-sent_plain terms end n old new b c taken put k w none =
-    let p = place_at n (last_of (not end) b) in
-    let from = progress_of (place_at n (last_of end b)) in
-    let to = progress_of (place_at n (last_of end c)) in
-    let now : is_over (progress_of p) ≡ false → tsdus_under end n new c ≡ tsdus_in k.stays =
-    λ d. ap tsdus_in (like_equal p (under_way end n new c) (k.stays ++ put_in old put) d k.after) ∙ tsdus_join k.stays (put_in old put)
-    ∙ ap (λ (l : List (List ℕ)). tsdus_in k.stays ++ l) (put_none old put (is_some old.reach) refl none) ∙ append-nil (tsdus_in k.stays) in
-    let was : is_over (progress_of p) ≡ false → tsdus_under end n old b ≡ tsdus_in k.stays ++ tsdus_in k.gone =
-    λ d. ap tsdus_in (like_equal p (under_way end n old b) (k.stays ++ k.gone) d k.before) ∙ tsdus_join k.stays k.gone in
-    let less : is_over (progress_of p) ≡ false → AreFirstOf (tsdus_under end n new c) (tsdus_under end n old b) =
-    λ d. record { more = tsdus_in k.gone; is = was d ∙ ap (λ (l : List (List ℕ)). l ++ tsdus_in k.gone) (sym (now d)) } in
-    record {
-      shut = λ e. (refl, ap (λ (s : State). is_over (progress_of (place_at n s))) k.there ∙ e);
-      last = λ d. first_none (tsdus_under end n old b);
-      first = λ d e. first_more (tsdus_under end n new c) (tsdus_under end n old b) [] (less d);
-      whole = λ d e s.
-          let lost : k.gone ≡ [] = k.keeps (in_use_still from to (or_right (is_cut end new) (is_over to) s)) in
-          now d ∙ sym (was d ∙ ap (λ (l : List Message). tsdus_in k.stays ++ tsdus_in l) lost ∙ append-nil (tsdus_in k.stays)) ∙ sym (append-nil (tsdus_under end n old b));
-      sealed = λ d e s. (or_either (is_cut end old) (is_over from) (is_cut end new) (is_over to) s (w.was ∙ sym w.is) (over_still (accepts_in terms) from to k.arrived put k.brings.becomes), less d);
-    }
+sent_plain terms end n old new b c taken put k w none = grind (arith, not, like_equal, tsdus_join, put_none, is_some, append-nil, first_none, first_more, in_use_still, or_right, or_either, over_still) steps 200000
 
 -- a TSDU is handed in at an open connection
 not_either : (s t : Bool) → s ≡ false → t ≡ false → (s || t) ≡ true → ⊥
-not_either true t a b h = cc
-not_either false t a b h = let no : true ≡ false = sym h ∙ b in cc
+not_either s t a b h = grind arith steps 200000
 
 or_first : (s t : Bool) → s ≡ true → (s || t) ≡ true
-or_first true t e = refl
-or_first false t e = cc
+or_first s t e = grind arith steps 200000
 
 -- what is under way then, by what stays of it
 handed_now : (both : Both) (stays put now : List Message) (h : List (List ℕ)) (broken : Bool) → is_some both.reach ≡ broken → now ≡ stays ++ put_in both put → tsdus_in put ≡ h →
     tsdus_in now ≡ tsdus_in stays ++ (if broken then [] else h)
-handed_now both stays put now h true reach e is = ap tsdus_in (e ∙ ap (λ (l : List Message). stays ++ l) (put_broken both put reach)) ∙ tsdus_join stays []
-handed_now both stays put now h false reach e is = ap tsdus_in (e ∙ ap (λ (l : List Message). stays ++ l) (put_whole both put reach)) ∙ tsdus_join stays put ∙ ap (λ (l : List (List ℕ)). tsdus_in stays ++ l) is
+handed_now both stays put now h broken reach e is = grind (arith, put_broken, tsdus_join, put_whole) steps 200000
 
 handed_first : (h : List (List ℕ)) (broken : Bool) → AreFirstOf (if broken then [] else h) h
-handed_first h true = first_none h
-handed_first h false = first_equal h h refl
+handed_first h broken = grind (arith, first_none, first_equal) steps 200000
 
 sent_handed_by : (terms : Terms) (end : Bool) (n : ℕ) (old new : Both) (b c : Between) (taken : List Value) (put : List Message) (h : List (List ℕ)) (broken : Bool) → is_some old.reach ≡ broken → Carries terms end n old new b c taken put → Acts end old new → tsdus_in put ≡ h →
     is_over (progress_of (place_at n (last_of end b))) ≡ false → is_over (progress_of (place_at n (last_of end c))) ≡ false →
     (is_over (progress_of (place_at n (last_of (not end) b))) ≡ false → tsdus_under end n new c ≡ tsdus_under end n old b ++ (if broken then [] else h)) → Fact end (not end) n old new b c [] h
-sent_handed_by terms end n old new b c taken put h true reach k w is use_was still now = record {
-  shut = λ e. (refl, ap (λ (s : State). is_over (progress_of (place_at n s))) k.there ∙ e);
-  last = λ d. first_none (tsdus_under end n old b);
-  first = λ d e. first_more (tsdus_under end n new c) (tsdus_under end n old b) h (first_equal (tsdus_under end n new c) (tsdus_under end n old b) (now d ∙ append-nil (tsdus_under end n old b)));
-  whole = λ d e s. (let no : true ≡ false = sym (w.is ∙ reach) ∙ or_left (is_cut end new) (is_over (progress_of (place_at n (last_of end c)))) s in cc);
-  sealed = λ d e s. (
-    or_first (is_cut end new) (is_over (progress_of (place_at n (last_of end c)))) (w.is ∙ reach),
-    first_equal (tsdus_under end n new c) (tsdus_under end n old b) (now d ∙ append-nil (tsdus_under end n old b)),
-  );
-}
-sent_handed_by terms end n old new b c taken put h false reach k w is use_was still now = record {
-  shut = λ e. (refl, ap (λ (s : State). is_over (progress_of (place_at n s))) k.there ∙ e);
-  last = λ d. first_none (tsdus_under end n old b);
-  first = λ d e. first_equal (tsdus_under end n new c) (tsdus_under end n old b ++ h) (now d);
-  whole = λ d e s. now d;
-  sealed = λ d e s. absurd (not_either (is_cut end old) (is_over (progress_of (place_at n (last_of end b)))) (w.was ∙ reach) use_was s);
-}
+sent_handed_by terms end n old new b c taken put h true reach k w is use_was still now = grind (arith, first_none, first_more, first_equal, append-nil, or_left, or_first) steps 200000
+sent_handed_by terms end n old new b c taken put h false reach k w is use_was still now = grind (arith, first_none, first_equal, not_either) steps 200000
 
 sent_handed : (terms : Terms) (end : Bool) (n : ℕ) (old new : Both) (b c : Between) (taken : List Value) (put : List Message) (h : List (List ℕ)) → Carries terms end n old new b c taken put → Acts end old new → tsdus_in put ≡ h →
     is_over (progress_of (place_at n (last_of end b))) ≡ false → is_over (progress_of (place_at n (last_of end c))) ≡ false → Fact end (not end) n old new b c [] h
@@ -442,8 +255,7 @@ not_same : (q n : ℕ) → (q == n) ≡ false → q ≢ n
 not_same q n e same = let yes = eq-eqb q n same in let no : true ≡ false = sym yes ∙ e in cc
 
 sent_other : (terms : Terms) (end : Bool) (q n : ℕ) (old new : Both) (b c : Between) (taken : List Value) (put : List Message) → n ≢ q → Carries terms end q old new b c taken put → Acts end old new → Fact end (not end) n old new b c [] []
-sent_other terms end q n old new b c taken put apart k w =
-    fact_still end (not end) n old new b c (k.others n apart end) (ap (λ (s : State). place_at n s) k.there) (sealed_same end n old new b c (w.was ∙ sym w.is) (k.other_places n apart))
+sent_other terms end q n old new b c taken put apart k w = grind (arith, fact_still, not, sealed_same) steps 200000
 
 fact_plain_by : (terms : Terms) (end : Bool) (q n : ℕ) (old new : Both) (b c : Between) (taken : List Value) (put : List Message) (t : Bool) → (q == n) ≡ t → Carries terms end q old new b c taken put → Acts end old new → tsdus_in put ≡ [] →
     Fact end (not end) n old new b c [] []
@@ -475,14 +287,12 @@ fact_handed terms end q n old new b c taken octets k w o = fact_handed_by terms 
 arrived_is : (terms : Terms) (end : Bool) (n : ℕ) (old new : Both) (b c : Between) (taken : List Value) (put : List Message) → (k : Carries terms end n old new b c taken put) → (tail : List Value) →
     (rest : List Value) (more : List Message) → units_of n (units_from (not end) b) ++ tail ≡ taken ++ rest → messages_after (begun_at (connection_in (place_at n (last_of end b)))) (taken ++ rest) ≡ messages_after (begun_at (connection_in (place_at n (last_of end b)))) taken ++ more →
     messages_after (begun_at (connection_in (place_at n (last_of end b)))) (units_of n (units_from (not end) b) ++ tail) ≡ k.arrived ++ more
-arrived_is terms end n old new b c taken put k tail rest more same parts =
-    ap (messages_after (begun_at (connection_in (place_at n (last_of end b))))) same ∙ parts ∙ ap (λ (l : List Message). l ++ more) (sym k.brings.is)
+arrived_is terms end n old new b c taken put k tail rest more same parts = grind arith steps 200000
 
 -- `under_way (not end)` is read at this end
 under_not : (end : Bool) (n : ℕ) (old : Both) (b : Between) → under_way (not end) n old b ≡ messages_after (begun_at (connection_in (place_at n (last_of end b))))
     (units_of n (units_from (not end) b) ++ to_come (is_cut (not end) old) (connection_in (place_at n (last_of (not end) b))))
-under_not true n old b = refl
-under_not false n old b = refl
+under_not end n old b = grind arith steps 200000
 
 arrived_first : (terms : Terms) (end : Bool) (n : ℕ) (old new : Both) (b c : Between) (taken : List Value) (put : List Message) → (k : Carries terms end n old new b c taken put) → AreFor n taken →
     (more : List Message) × (under_way (not end) n old b ≡ k.arrived ++ more)
@@ -542,50 +352,25 @@ fact_called terms end q n old new b c put k w closed_off =
 -- ---- the end that acts
 
 or_none : (s : Bool) → (s || false) ≡ s
-or_none true = refl
-or_none false = refl
+or_none s = grind arith steps 200000
 
 message_put : (p : Progress) (octets : List ℕ) → behind_put p (message octets) ≡ p
-message_put not_yet octets = refl
-message_put awaiting octets = refl
-message_put in_use octets = refl
-message_put shutting octets = refl
-message_put gone octets = refl
+message_put p octets = grind arith steps 200000
 
 -- an end that lasts, before and then
 pub acts_at : (end : Bool) (old new : Both) → (side end old).state.ended ≡ None → (side end new).state.ended ≡ None → is_some old.reach ≡ is_some new.reach → is_cut (not end) old ≡ is_cut (not end) new → Acts end old new
-acts_at end old new was is reach there = record {
-  was = ap (λ (o : Option EndReason). is_some old.reach || is_some o) was ∙ or_none (is_some old.reach);
-  is = ap (λ (o : Option EndReason). is_some new.reach || is_some o) is ∙ or_none (is_some new.reach) ∙ sym reach;
-  there = there;
-}
+acts_at end old new was is reach there = grind (arith, is_some, or_none) steps 200000
 
 -- an open connection takes more
 open_place : (s : State) (n peer : ℕ) (link : Standing) (below : Bool) → nat_lt s.given n ≡ below → value_at n s.live ≡ Some (linked peer link) → is_over (progress_of (place_at n s)) ≡ false
-open_place s n peer link true e at = ap (λ (b : Bool). is_over (progress_of (if◌then◌else◌ {A = Place} b never (was_given (value_at n s.live))))) e
-open_place s n peer link false e at =
-    ap (λ (b : Bool). is_over (progress_of (if◌then◌else◌ {A = Place} b never (was_given (value_at n s.live))))) e ∙ ap (λ (o : Option Connection). is_over (progress_of (was_given o))) at
+open_place s n peer link below e at = grind arith steps 200000
 
 pub stays_open : (terms : Terms) (end : Bool) (q : ℕ) (old new : Both) (b c : Between) (octets : List ℕ) (peer : ℕ) (link : Standing) → Carries terms end q old new b c [] (message octets ∷ []) → value_at q (last_of end b).live ≡ Some (linked peer link) → StaysOpen end q b c
-stays_open terms end q old new b c octets peer link k at =
-    let was = open_place (last_of end b) q peer link (nat_lt (last_of end b).given q) refl at in
-    record {
-      was = was;
-      is = ap is_over (k.brings.becomes ∙ ap (λ (ms : List Message). behind_puts (behind_arrivals (accepts_in terms) (progress_of (place_at q (last_of end b))) ms) (message octets ∷ [])) k.brings.is
-          ∙ message_put (progress_of (place_at q (last_of end b))) octets) ∙ was;
-    }
+stays_open terms end q old new b c octets peer link k at = grind (arith, open_place, nat_lt, message_put) steps 200000
 
 -- where CRs are refused none is open
 in_use_is : (p : Place) → progress_of p ≡ in_use → (peer : ℕ) × (link : Standing) × (p ≡ was_given (Some (linked peer link)))
-in_use_is never e = cc
-in_use_is (was_given None) e = cc
-in_use_is (was_given (Some asked)) e = cc
-in_use_is (was_given (Some (linked peer link))) e = (peer, link, refl)
-in_use_is (was_given (Some (closing peer))) e = cc
+in_use_is p e = grind arith steps 200000
 
 pub may_be_open : (terms : Terms) (end : Bool) (both : Both) (b : Between) (n : ℕ) → AreBetween terms both b → (side end both).state.ended ≡ None → MayBeOpen terms (place_at n (last_of end b))
-may_be_open by_two end both b n a alive = tt
-may_be_open by_zero end both b n a alive = tt
-may_be_open (refusing reason) end both b n a alive = λ e.
-    let u = in_use_is (place_at n (last_of end b)) e in
-    no_open reason end both b n u.0 u.1 a alive (ap (λ (s : State). value_at n s.live) (a.lives end alive) ∙ (is_given n (last_of end b) (Some (linked u.0 u.1)) u.2).is)
+may_be_open terms end both b n a alive = grind (arith, in_use_is, no_open, is_given) steps 200000

@@ -19,22 +19,13 @@ use Rattle.osi_between.proofs.Bringing.{brings_none, same_like}
 -- ---- likeness
 
 like_turn : (o : Option Connection) (xs ys : List Message) → AreLike o xs ys → AreLike o ys xs
-like_turn None xs ys e = sym e
-like_turn (Some asked) xs ys e = sym e
-like_turn (Some (linked p l)) xs ys e = sym e
-like_turn (Some (closing p)) xs ys e = sym e
+like_turn o xs ys e = grind arith steps 200000
 
 like_then : (o : Option Connection) (xs ys zs : List Message) → AreLike o xs ys → AreLike o ys zs → AreLike o xs zs
-like_then None xs ys zs e f = e ∙ f
-like_then (Some asked) xs ys zs e f = e ∙ f
-like_then (Some (linked p l)) xs ys zs e f = e ∙ f
-like_then (Some (closing p)) xs ys zs e f = e ∙ f
+like_then o xs ys zs e f = grind arith steps 200000
 
 like_behind : (o : Option Connection) (xs ys more : List Message) → AreLike o xs ys → AreLike o (xs ++ more) (ys ++ more)
-like_behind None xs ys more e = ap (λ r. r ++ more) e
-like_behind (Some asked) xs ys more e = ap (λ r. r ++ more) e
-like_behind (Some (linked p l)) xs ys more e = ap (λ r. r ++ more) e
-like_behind (Some (closing p)) xs ys more e = map-append kind_of xs more ∙ ap (λ r. r ++ map kind_of more) e ∙ sym (map-append kind_of ys more)
+like_behind o xs ys more e = grind (arith, map-append, map) steps 200000
 
 -- ---- an open connection
 
@@ -60,8 +51,7 @@ record IsAt (n : ℕ) (s : State) : Type 0 where
   pub at : value_at n s.live ≡ Some (linked peer link)
 
 at_place : (b : Bool) (o : Option Connection) → progress_of (if b then never else was_given o) ≡ in_use → (b ≡ false) × (connection_in (if b then never else was_given o) ≡ o)
-at_place true o e = absurd (cc)
-at_place false o e = (refl, refl)
+at_place b o e = grind arith steps 200000
 
 open_at : (n : ℕ) (s : State) → progress_of (place_at n s) ≡ in_use → IsAt n s
 open_at n s e =
@@ -71,11 +61,7 @@ open_at n s e =
 
 -- TSDUs that are put change neither how far it is nor what was given
 put_stays : (p : Progress) (t : List ℕ) → behind_put p (message t) ≡ p
-put_stays not_yet t = refl
-put_stays awaiting t = refl
-put_stays in_use t = refl
-put_stays shutting t = refl
-put_stays gone t = refl
+put_stays p t = grind arith steps 200000
 
 puts_nothing : (p : Progress) (ts : List (List ℕ)) → behind_puts p (map message ts) ≡ p
 puts_nothing p [] = refl
@@ -86,8 +72,7 @@ asks_none [] = refl
 asks_none (t ∷ ts) = asks_none ts
 
 gives_none : (accepts : Bool) (ts : List (List ℕ)) → references_for accepts [] (map message ts) ≡ 0
-gives_none true ts = let e = asks_none ts in omega arith
-gives_none false ts = let e = asks_none ts in omega arith
+gives_none accepts ts = grind (arith, asks_none) steps 200000
 
 add_none : (k : ℕ) → k + 0 ≡ k
 add_none k = omega arith
@@ -95,8 +80,7 @@ add_none k = omega arith
 -- ---- none is handed in
 
 puts_none : (cut : Bool) → (if◌then◌else◌ {A = List Message} cut [] []) ≡ []
-puts_none true = refl
-puts_none false = refl
+puts_none cut = grind arith steps 200000
 
 none_carried : (terms : Terms) (end : Bool) (n : ℕ) (both : Both) (b : Between) → Carries terms end n both both b b [] []
 none_carried terms end n both b =
@@ -126,38 +110,15 @@ none_carried terms end n both b =
 
 brings_both : (accepts : Bool) (x y z : Place) (t : List ℕ) (ts : List (List ℕ)) (some others : List Message) → IsLinked y → IsLinked z →
     BringsTo accepts x y [] some (message t ∷ []) → BringsTo accepts y z [] others (map message ts) → BringsTo accepts x z [] [] (map message (t ∷ ts))
-brings_both accepts x y z t ts some others ly lz a b =
-    let none : some ≡ [] = a.is in
-    let none2 : others ≡ [] = b.is in
-    record {
-      is = refl;
-      more = λ units. subst (λ (o : Option Connection). AreLike o (messages_after (begun_at (connection_in x)) units) (messages_after (begun_at o) units)) (sym lz.is)
-          (linked_is (connection_in y) ly.peer ly.link _ _ ly.is (a.more units)
-          ∙ ap (λ (l : List Message). l ++ messages_after (begun_at (connection_in y)) units) none
-          ∙ linked_is (connection_in z) lz.peer lz.link _ _ lz.is (b.more units)
-          ∙ ap (λ (l : List Message). l ++ messages_after (begun_at (connection_in z)) units) none2
-          ∙ ap (λ (o : Option Connection). messages_after (begun_at o) units) lz.is);
-      may = tt;
-      becomes = b.becomes ∙ ap (λ (l : List Message). behind_puts (behind_arrivals accepts (progress_of y) l) (map message ts)) none2
-          ∙ ap (λ (p : Progress). behind_puts p (map message ts)) (a.becomes ∙ ap (λ (l : List Message). behind_puts (behind_arrivals accepts (progress_of x) l) (message t ∷ [])) none);
-    }
+brings_both accepts x y z t ts some others ly lz a b = grind (arith, linked_is, map) steps 200000
 
 put_both : (old mid : Both) (t : List ℕ) (ts : List (List ℕ)) → mid.reach ≡ old.reach → put_in old (message t ∷ []) ++ put_in mid (map message ts) ≡ put_in old (map message (t ∷ ts))
-put_both old mid t ts e = by (is_some old.reach) (is_some mid.reach) (ap is_some e)
-  where
-    by : (x y : Bool) → y ≡ x → (if x then [] else message t ∷ []) ++ (if y then [] else map message ts) ≡ (if x then [] else message t ∷ map message ts)
-    by true true h = refl
-    by false false h = refl
-    by true false h = absurd (cc)
-    by false true h = absurd (cc)
+put_both old mid t ts e = grind (arith, is_some, map) steps 200000
 
 -- it is open then too
 open_behind : (terms : Terms) (end : Bool) (n : ℕ) (old new : Both) (b c : Between) (ts : List (List ℕ)) → Carries terms end n old new b c [] (map message ts) →
     progress_of (place_at n (last_of end b)) ≡ in_use → progress_of (place_at n (last_of end c)) ≡ in_use
-open_behind terms end n old new b c ts x used =
-    let none : x.arrived ≡ [] = x.brings.is in
-    x.brings.becomes ∙ ap (λ (l : List Message). behind_puts (behind_arrivals (accepts_in terms) (progress_of (place_at n (last_of end b))) l) (map message ts)) none
-    ∙ puts_nothing (progress_of (place_at n (last_of end b))) ts ∙ used
+open_behind terms end n old new b c ts x used = grind (arith, map, puts_nothing) steps 200000
 
 carries_both : (terms : Terms) (end : Bool) (n : ℕ) (old mid new : Both) (b c d : Between) (t : List ℕ) (ts : List (List ℕ)) → mid.reach ≡ old.reach →
     progress_of (place_at n (last_of end b)) ≡ in_use → Carries terms end n old mid b c [] (message t ∷ []) → Carries terms end n mid new c d [] (map message ts) →
@@ -221,16 +182,13 @@ HandsIn terms = (end : Bool) (both : Both) (b : Between) (n peer : ℕ) (link : 
     IsShortTsdu tsdu → IsOctets tsdu → Acted terms end n both (after_one end n tsdu both) b [] (message tsdu ∷ [])
 
 same_side : (end : Bool) (n : ℕ) (t : List ℕ) (ts : List (List ℕ)) (both : Both) → after_all end n ts (after_one end n t both) ≡ after_all end n (t ∷ ts) both
-same_side true n t ts both = refl
-same_side false n t ts both = refl
+same_side end n t ts both = grind arith steps 200000
 
 same_none : (end : Bool) (n : ℕ) (both : Both) → both ≡ after_all end n [] both
-same_none true n both = refl
-same_none false n both = refl
+same_none end n both = grind arith steps 200000
 
 same_reach : (end : Bool) (n : ℕ) (t : List ℕ) (both : Both) → (after_one end n t both).reach ≡ both.reach
-same_reach true n t both = refl
-same_reach false n t both = refl
+same_reach end n t both = grind arith steps 200000
 
 pub all_handed_in : (terms : Terms) → HandsIn terms → (end : Bool) (both : Both) (b : Between) (n : ℕ) (ts : List (List ℕ)) → AreBetween terms both b →
     (side end both).state.ended ≡ None → progress_of (place_at n (last_of end b)) ≡ in_use → AllByRecursion IsShortTsdu ts → AllByRecursion IsOctets ts →

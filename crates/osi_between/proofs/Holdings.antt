@@ -1,5 +1,5 @@
 -- What an end of two carriers holds: packets of units, with no fault, whatever the memory is.
-use Rattle.std.proofs.Common.{◌≡◌, ℕ, Bool, true, false, not, List, [], ◌∷◌, ◌++◌, None, Result, Ok, sym, ap, subst, ◌∙◌, ◌⊎◌, inl, inr, append_assoc}
+use Rattle.std.proofs.Common.{◌≡◌, ℕ, Bool, true, false, not, List, [], ◌∷◌, ◌++◌, None, Result, Ok, sym, ap, subst, ◌∙◌, ◌⊎◌, inl, inr, append_assoc, arith}
 use Rattle.osi_tpkt.specs.Packet.{IsPacket, IsFaultOf}
 use Rattle.osi_tpkt.specs.declared.faults.TpktFault.{TpktFault}
 use Rattle.osi_tpdu.specs.Packet.{units_of}
@@ -22,14 +22,7 @@ record Whole (held arriving : List ℕ) (units lost : List Value) : Type 0 where
   all : AreComing held (arriving ++ never) (units ++ lost)
 
 way_whole : (held arriving : List ℕ) (units lost : List Value) → IsOnTheWay held arriving units lost → Whole held arriving units lost
-way_whole held arriving units lost w = record {
-  never = w.never;
-  all = record {
-    octets = sym (append_assoc held arriving w.never) ∙ ap (λ (l : List ℕ). l ++ w.never) w.octets ∙ append_assoc (packets units) w.front w.never
-        ∙ ap (λ (l : List ℕ). packets units ++ l) w.rest ∙ sym (packets_join units lost);
-    sendable = all_behind units lost w.sendable w.sendable_lost;
-  };
-}
+way_whole held arriving units lost w = grind (arith, append_assoc, packets_join, all_behind) steps 200000
 
 pub all_coming : (terms : Terms) (end : Bool) (both : Both) (b : Between) → AreBetween terms both b → (side (not end) both).state.ended ≡ None →
     (never : List ℕ) × AreComing (side (not end) both).held (arriving end both ++ never) (units_from end b ++ lost_from end b)

@@ -28,11 +28,7 @@ use Rattle.osi_between.proofs.JoinedSteps.{acts_for}
 -- ---- a connection is asked for
 
 not_asked : (n : ℕ) (g : Course) → at_end true n g ≡ never → g ≡ unasked
-not_asked n unasked e = refl
-not_asked n (asking c) e = cc
-not_asked n (accepting c p) e = cc
-not_asked n (withdrawing c p reason) e = cc
-not_asked n (met m) e = cc
+not_asked n g e = grind arith steps 200000
 
 pub next_never : (s : State) (n : ℕ) → s.given < n → place_at n s ≡ never
 next_never s n above = ap (λ (b : Bool). if◌then◌else◌ {A = Place} b never (was_given (value_at n s.live))) (lt-ltb s.given n above)
@@ -69,35 +65,10 @@ caller_asks s r going coming calling called j may fits fits_called =
 -- ---- the beginning
 
 fresh_stands : (caller called : Local) (n : ℕ) → 0 < n → StandsBetween true n (fresh_state true caller) (fresh_state false called) [] []
-fresh_stands caller called n some = record {
-  course = unasked;
-  place = next_never (fresh_state true caller) n some;
-  place_there = next_never (fresh_state false called) n some;
-  out = refl;
-  back = refl;
-  holds = tt;
-}
+fresh_stands caller called n some = grind (arith, next_never) steps 200000
 
 pub fresh_joined : (caller called : Local) → caller.class2 ≡ true → called.class2 ≡ true → AreJoined (fresh_state true caller) (fresh_state false called) [] []
-fresh_joined caller called a b = record {
-  is_caller = refl;
-  is_called = refl;
-  lasts = refl;
-  lasts_called = refl;
-  orderly = orderly_fresh true caller;
-  orderly_called = orderly_fresh false called;
-  supports = a;
-  supports_called = b;
-  class = inl refl;
-  class_called = inl refl;
-  named = tt;
-  named_back = tt;
-  stands = fresh_stands caller called;
-  ahead = 0;
-  given = refl;
-  numbers = refl;
-  places = tt;
-}
+fresh_joined caller called a b = grind (arith, orderly_fresh, fresh_stands) steps 200000
 
 -- ---- nothing is on the way
 
@@ -150,12 +121,4 @@ still s r n x y j at at_there =
 -- then nothing is under way either
 pub still_messages : (s r : State) (n : ℕ) (x y : Standing) → AreJoined s r [] [] → value_at n s.live ≡ Some (linked n x) → value_at n r.live ≡ Some (linked n y) →
     (under_way_for n s r [] ≡ []) × (under_way_for n r s [] ≡ [])
-still_messages s r n x y j at at_there =
-    let e = still s r n x y j at at_there in
-    let p = given_live n s (linked n x) j.orderly at in
-    let q = given_live n r (linked n y) j.orderly_called at_there in (
-      ap (λ (a : Place). messages_to (connection_in a) [] (connection_in (place_at n r))) p ∙ ap (λ (a : Place). messages_to (Some (linked n x)) [] (connection_in a)) q
-          ∙ ap (λ (ts : List (List ℕ)). messages_after y.ends.joining.begun (uncut_units ts)) e.unsent,
-      ap (λ (a : Place). messages_to (connection_in a) [] (connection_in (place_at n s))) q ∙ ap (λ (a : Place). messages_to (Some (linked n y)) [] (connection_in a)) p
-          ∙ ap (λ (ts : List (List ℕ)). messages_after x.ends.joining.begun (uncut_units ts)) e.unsent_there,
-    )
+still_messages s r n x y j at at_there = grind (arith, still, given_live) steps 200000

@@ -193,33 +193,21 @@ no_peer n m ((r, x) ∷ rows) rise h =
 
 -- a live connection was given
 given_live_by : (q : ℕ) (r : State) (x : Connection) (b : Bool) → nat_lt r.given q ≡ b → IsOrderly r → value_at q r.live ≡ Some x → place_at q r ≡ was_given (Some x)
-given_live_by q r x true e orderly at = let none = beyond q r.given r.live orderly.up_to (ltb-true r.given q e) in cc
-given_live_by q r x false e orderly at = given_place q r (ltb-false r.given q e) ∙ ap was_given at
+given_live_by q r x b e orderly at = grind (arith, beyond, ltb-true, given_place, ltb-false) steps 200000
 
 pub given_live : (q : ℕ) (r : State) (x : Connection) → IsOrderly r → value_at q r.live ≡ Some x → place_at q r ≡ was_given (Some x)
 given_live q r x orderly at = given_live_by q r x (nat_lt r.given q) refl orderly at
 
 own_here : (n q : ℕ) (x : Connection) (m : Meeting) → q ≢ n → Some x ≡ here q m → is_of_peer n x ≡ false
-own_here n q x (talking p) other e = let same : x ≡ linked q p.left = cc in ap (is_of_peer n) same ∙ ne_eqb q n other
-own_here n q x (left_here p us reason) other e = let same : x ≡ closing q = cc in ap (is_of_peer n) same ∙ ne_eqb q n other
-own_here n q x (left_there p us reason) other e = let same : x ≡ linked q p.left = cc in ap (is_of_peer n) same ∙ ne_eqb q n other
-own_here n q x (left_both us reason vs last) other e = let same : x ≡ closing q = cc in ap (is_of_peer n) same ∙ ne_eqb q n other
-own_here n q x (waiting_here us last) other e = let same : x ≡ closing q = cc in ap (is_of_peer n) same ∙ ne_eqb q n other
-own_here n q x (waiting_there us last) other e = cc
-own_here n q x parted other e = cc
+own_here n q x m other e = grind (arith, ne_eqb) steps 200000
 
 -- at the called end each connection has its own number
 own_number : (n q : ℕ) (x : Connection) (g : Course) → q ≢ n → was_given (Some x) ≡ at_end false q g → is_of_peer n x ≡ false
-own_number n q x unasked other e = cc
-own_number n q x (asking c) other e = cc
-own_number n q x (accepting c p) other e = let same : x ≡ linked q p.right = cc in ap (is_of_peer n) same ∙ ne_eqb q n other
-own_number n q x (withdrawing c p reason) other e = let same : x ≡ closing q = cc in ap (is_of_peer n) same ∙ ne_eqb q n other
-own_number n q x (met m) other e = own_here n q x (mirror m) other (let same : Some x ≡ here q (mirror m) = cc in same)
+own_number n q x g other e = grind (arith, ne_eqb, own_here) steps 200000
 
 -- the CR is for the next reference, and there is a place for it
 first_number : (g k n : ℕ) (more : List ℕ) → behind g k ≡ n ∷ more → (n ≡ g + 1) × (0 < k)
-first_number g zero n more e = cc
-first_number g (suc k) n more e = (let same : g + 1 ≡ n = cc in sym same, omega arith)
+first_number g k n more e = grind arith steps 200000
 
 references_length : (rows : Rows Connection) → length (references rows) ≡ length rows
 references_length [] = refl
@@ -290,8 +278,7 @@ takes_one end this other going coming rest u j cut =
 
 -- a live connection has a reference that was given, and its peer's number is that one
 above_zero : (n : ℕ) (s : State) (x : Connection) (b : Bool) → nat_lt 0 n ≡ b → IsOrderly s → value_at n s.live ≡ Some x → 0 < n
-above_zero n s x true e orderly at = ltb-true 0 n e
-above_zero n s x false e orderly at = let none = absent n 0 s.live (ltb-false 0 n e) orderly.rise in cc
+above_zero n s x b e orderly at = grind (arith, ltb-true, absent, ltb-false) steps 200000
 
 pub within_given : (n : ℕ) (s : State) (x : Connection) → IsOrderly s → value_at n s.live ≡ Some x → (0 < n) × (n ≤ s.given)
 within_given n s x orderly at = (above_zero n s x (nat_lt 0 n) refl orderly at, (is_given n s (Some x) (given_live n s x orderly at)).within)

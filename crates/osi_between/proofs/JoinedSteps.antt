@@ -1,5 +1,5 @@
 -- Where one end of two joined carriers acts, each connection stands as it should.
-use Rattle.std.proofs.Common.{◌≡◌, ◌≢◌, ℕ, ◌+◌, ◌<◌, ◌==◌, Bool, true, false, not, List, [], ◌++◌, Option, refl, sym, ap, subst, ◌∙◌}
+use Rattle.std.proofs.Common.{◌≡◌, ◌≢◌, ℕ, ◌+◌, ◌<◌, ◌==◌, Bool, true, false, not, List, [], ◌++◌, Option, refl, sym, ap, subst, ◌∙◌, arith}
 use Rattle.std.specs.List.{flat_map}
 use Rattle.std.proofs.lemmas.Bool.{eqb-true, eq-eqb}
 use Rattle.std.proofs.lemmas.List.{append-nil, append_cancel_left}
@@ -24,52 +24,27 @@ asked_stays : (n : ℕ) (a b : Local) (c : Connect) → b ≡ a → IsAskedBy n 
 asked_stays n a b c same h = subst (λ (x : Local). IsAskedBy n x c) (sym same) h
 
 accepted_stays : (n m : ℕ) (s r t : State) (c : Connect) (p : LinkPair) (us : List Value) (es : List Happening) → Acts m s t us es → IsAccepted n s r c p → IsAccepted n t r c p
-accepted_stays n m s r t c p us es a h = record {
-  asked = asked_stays n s.local t.local c a.local h.asked;
-  class = h.class;
-  open_links = h.open_links;
-  rightward = h.rightward;
-  left = h.left ∙ ap (λ (x : Local). caller_link n x r.local c) (sym a.local);
-}
+accepted_stays n m s r t c p us es a h = grind (arith, asked_stays, caller_link) steps 200000
 
 accepted_there : (n m : ℕ) (s r t : State) (c : Connect) (p : LinkPair) (us : List Value) (es : List Happening) → Acts m r t us es → IsAccepted n s r c p → IsAccepted n s t c p
-accepted_there n m s r t c p us es a h = record {
-  asked = h.asked;
-  class = a.class h.class;
-  open_links = h.open_links;
-  rightward = h.rightward;
-  left = h.left ∙ ap (λ (x : Local). caller_link n s.local x c) (sym a.local);
-}
+accepted_there n m s r t c p us es a h = grind (arith, caller_link) steps 200000
 
 holds_stays : (end : Bool) (n m : ℕ) (this other next : State) (g : Course) (us : List Value) (es : List Happening) → Acts m this next us es →
     HoldsAt end n this other g → HoldsAt end n next other g
-holds_stays true n m s r t unasked us es a h = tt
-holds_stays true n m s r t (asking c) us es a h = asked_stays n s.local t.local c a.local h
-holds_stays true n m s r t (accepting c p) us es a h = accepted_stays n m s r t c p us es a h
-holds_stays true n m s r t (withdrawing c p reason) us es a h = accepted_stays n m s r t c p us es a h
-holds_stays true n m s r t (met x) us es a h = record { class = a.class h.class; class_called = h.class_called; stands = h.stands }
-holds_stays false n m r s t unasked us es a h = tt
-holds_stays false n m r s t (asking c) us es a h = h
-holds_stays false n m r s t (accepting c p) us es a h = accepted_there n m s r t c p us es a h
-holds_stays false n m r s t (withdrawing c p reason) us es a h = accepted_there n m s r t c p us es a h
-holds_stays false n m r s t (met x) us es a h = record { class = h.class; class_called = a.class h.class_called; stands = h.stands }
+holds_stays end n m this other next g us es a h = grind (arith, asked_stays, accepted_stays, accepted_there) steps 200000
 
 called_stays : (end : Bool) (m : ℕ) (this other next : State) (us : List Value) (es : List Happening) → Acts m this next us es → called_local end this other ≡ called_local end next other
-called_stays true m this other next us es a = refl
-called_stays false m this other next us es a = sym a.local
+called_stays end m this other next us es a = grind arith steps 200000
 
 -- ---- the connection that acts, and the others
 
 pub out_after : (end : Bool) (n asked : ℕ) (this other next : State) (going coming taken : List Value) (put : List Message) (s : StandsBetween end n this other going coming) →
     (mv : CourseMoves end n s.course this other next taken asked put) → units_of n (going ++ mv.units) ≡ from_end end n (called_local end this other) mv.new
-out_after end n asked this other next going coming taken put s mv =
-    units_join n going mv.units ∙ ap (λ (l : List Value). units_of n going ++ l) (units_same n mv.units mv.acts.all_for) ∙ ap (λ (l : List Value). l ++ mv.units) s.out ∙ sym mv.out
+out_after end n asked this other next going coming taken put s mv = grind (arith, units_join, units_same) steps 200000
 
 pub back_after : (end : Bool) (n asked : ℕ) (this other next : State) (going coming rest taken : List Value) (put : List Message) (s : StandsBetween end n this other going coming) → coming ≡ taken ++ rest → AreFor n taken →
     (mv : CourseMoves end n s.course this other next taken asked put) → units_of n rest ≡ from_end (not end) n (called_local end this other) mv.new
-back_after end n asked this other next going coming rest taken put s cut all mv =
-    append_cancel_left taken (units_of n rest) (from_end (not end) n (called_local end this other) mv.new)
-    (ap (λ (l : List Value). l ++ units_of n rest) (sym (units_same n taken all)) ∙ sym (units_join n taken rest) ∙ ap (units_of n) (sym cut) ∙ s.back ∙ mv.back)
+back_after end n asked this other next going coming rest taken put s cut all mv = grind (arith, append_cancel_left, not, units_same, units_join) steps 200000
 
 stands_after : (end : Bool) (n asked : ℕ) (this other next : State) (going coming rest taken : List Value) (put : List Message) (s : StandsBetween end n this other going coming) → coming ≡ taken ++ rest → AreFor n taken →
     (mv : CourseMoves end n s.course this other next taken asked put) → StandsBetween end n next other (going ++ mv.units) rest
@@ -86,18 +61,7 @@ stands_after end n asked this other next going coming rest taken put s cut all m
 
 stands_still : (end : Bool) (q n : ℕ) (this other next : State) (going coming rest taken units : List Value) (told : List Happening) → q ≢ n → StandsBetween end q this other going coming → coming ≡ taken ++ rest →
     AreFor n taken → Acts n this next units told → StandsBetween end q next other (going ++ units) rest
-stands_still end q n this other next going coming rest taken units told apart s cut all a =
-    let local = called_stays end n this other next units told a in
-    record {
-      course = s.course;
-      place = a.others q apart ∙ s.place;
-      place_there = s.place_there;
-      out = units_join q going units ∙ ap (λ (l : List Value). units_of q going ++ l) (units_other q n units apart a.all_for) ∙ append-nil (units_of q going)
-          ∙ s.out ∙ ap (λ (x : Local). from_end end q x s.course) local;
-      back = ap (λ (l : List Value). l ++ units_of q rest) (sym (units_other q n taken apart all)) ∙ sym (units_join q taken rest) ∙ ap (units_of q) (sym cut)
-          ∙ s.back ∙ ap (λ (x : Local). from_end (not end) q x s.course) local;
-      holds = holds_stays end q n this other next s.course units told a s.holds;
-    }
+stands_still end q n this other next going coming rest taken units told apart s cut all a = grind (arith, called_stays, units_join, units_other, append-nil, not, holds_stays) steps 200000
 
 stands_by : (end : Bool) (q n asked : ℕ) (this other next : State) (going coming rest taken : List Value) (put : List Message) (b : Bool) → (q == n) ≡ b →
     StandsBetween end q this other going coming → (s : StandsBetween end n this other going coming) → coming ≡ taken ++ rest → AreFor n taken →
@@ -126,17 +90,13 @@ stands_flip_back n s r going coming h = record { course = h.course; place = h.pl
 -- ---- what is under way
 
 same_way : (a b c d : Place) (us vs : List Value) → a ≡ b → us ≡ vs → c ≡ d → messages_to (connection_in a) us (connection_in c) ≡ messages_to (connection_in b) vs (connection_in d)
-same_way a b c d us vs x y z =
-    ap (λ (p : Place). messages_to (connection_in p) us (connection_in c)) x ∙ ap (λ (l : List Value). messages_to (connection_in b) l (connection_in c)) y
-    ∙ ap (λ (p : Place). messages_to (connection_in b) vs (connection_in p)) z
+same_way a b c d us vs x y z = grind arith steps 200000
 
 like_over : (o p : Option Connection) (a b c d : List Message) → o ≡ p → a ≡ b → c ≡ d → AreLike p b d → AreLike o a c
-like_over o p a b c d x y z h =
-    subst (λ (q : Option Connection). AreLike q a c) (sym x) (subst (λ (l : List Message). AreLike p l c) (sym y) (subst (λ (l : List Message). AreLike p b l) (sym z) h))
+like_over o p a b c d x y z h = grind arith steps 200000
 
 at_twice : (end : Bool) (n : ℕ) (g : Course) → at_end (not (not end)) n g ≡ at_end end n g
-at_twice true n g = refl
-at_twice false n g = refl
+at_twice end n g = grind arith steps 200000
 
 pub acts_for : (end : Bool) (n asked : ℕ) (this other next : State) (going coming rest taken : List Value) (put : List Message) (s : StandsBetween end n this other going coming) → coming ≡ taken ++ rest → AreFor n taken →
     (mv : CourseMoves end n s.course this other next taken asked put) → ActsFor n this other next going coming (going ++ mv.units) rest put

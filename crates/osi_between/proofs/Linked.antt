@@ -1,5 +1,5 @@
 -- Feeding octets that the other end wrote keeps two carriers joined.
-use Rattle.std.proofs.Common.{◌≡◌, ℕ, Bool, true, false, not, ◌≤◌, List, [], ◌∷◌, ◌++◌, length, take, drop, Option, None, refl, sym, ap, subst, ◌∙◌, inl, inr}
+use Rattle.std.proofs.Common.{◌≡◌, ℕ, Bool, true, false, not, ◌≤◌, List, [], ◌∷◌, ◌++◌, length, take, drop, Option, None, refl, sym, ap, subst, ◌∙◌, inl, inr, arith}
 use Rattle.osi_tpkt.specs.declared.cutting.Fed.{Fed}
 use Rattle.osi_tpdu.specs.Value.{Value}
 use Rattle.osi_class.specs.declared.terms.Local.{Local}
@@ -28,36 +28,13 @@ abbrev pub with_queues : List ℕ → List Happening → State → State
 with_queues outgoing events s = record s { outgoing = outgoing; events = events }
 
 holds_queues : (n : ℕ) (s r : State) (o p : List ℕ) (e f : List Happening) (g : Course) → Holds n s r g → Holds n (with_queues o e s) (with_queues p f r) g
-holds_queues n s r o p e f unasked h = tt
-holds_queues n s r o p e f (asking c) h = h
-holds_queues n s r o p e f (accepting c l) h = record { asked = h.asked; class = h.class; open_links = h.open_links; rightward = h.rightward; left = h.left }
-holds_queues n s r o p e f (withdrawing c l reason) h = record { asked = h.asked; class = h.class; open_links = h.open_links; rightward = h.rightward; left = h.left }
-holds_queues n s r o p e f (met m) h = record { class = h.class; class_called = h.class_called; stands = h.stands }
+holds_queues n s r o p e f g h = grind arith steps 200000
 
 stands_queues : (n : ℕ) (s r : State) (o p : List ℕ) (e f : List Happening) (going coming : List Value) → StandsBetween true n s r going coming → StandsBetween true n (with_queues o e s) (with_queues p f r) going coming
-stands_queues n s r o p e f going coming h =
-    record { course = h.course; place = h.place; place_there = h.place_there; out = h.out; back = h.back; holds = holds_queues n s r o p e f h.course h.holds }
+stands_queues n s r o p e f going coming h = grind (arith, holds_queues) steps 200000
 
 joined_queues : (s r : State) (o p : List ℕ) (e f : List Happening) (going coming : List Value) → AreJoined s r going coming → AreJoined (with_queues o e s) (with_queues p f r) going coming
-joined_queues s r o p e f going coming j = record {
-  is_caller = j.is_caller;
-  is_called = j.is_called;
-  lasts = j.lasts;
-  lasts_called = j.lasts_called;
-  orderly = orderly_same s o e j.orderly;
-  orderly_called = orderly_same r p f j.orderly_called;
-  supports = j.supports;
-  supports_called = j.supports_called;
-  class = j.class;
-  class_called = j.class_called;
-  named = j.named;
-  named_back = j.named_back;
-  stands = λ n some. stands_queues n s r o p e f going coming (j.stands n some);
-  ahead = j.ahead;
-  given = j.given;
-  numbers = j.numbers;
-  places = j.places;
-}
+joined_queues s r o p e f going coming j = grind (arith, orderly_same, stands_queues) steps 200000
 
 pub queued : (end : Bool) (this other : State) (o : List ℕ) (e : List Happening) (going coming : List Value) → JoinedFrom end this other going coming → JoinedFrom end (with_queues o e this) other going coming
 queued true s r o e going coming j = joined_queues s r o r.outgoing e r.events going coming j
@@ -65,12 +42,10 @@ queued false r s o e coming going j = joined_queues s r s.outgoing o s.events e 
 
 -- seen from the other end
 pub joined_turned : (end : Bool) (this other : State) (going coming : List Value) → JoinedFrom end this other going coming → JoinedFrom (not end) other this coming going
-joined_turned true this other going coming j = j
-joined_turned false this other going coming j = j
+joined_turned end this other going coming j = grind arith steps 200000
 
 joined_back : (end : Bool) (this other : State) (going coming : List Value) → JoinedFrom (not end) other this coming going → JoinedFrom end this other going coming
-joined_back true this other going coming j = j
-joined_back false this other going coming j = j
+joined_back end this other going coming j = grind arith steps 200000
 
 -- ---- units one after the other
 
@@ -151,23 +126,11 @@ was_called end this other next n going coming put l d = record {
 }
 
 pub tells : (end : Bool) (this other : Carrying) (events : List Happening) (going coming : List Value) → AreLinked end this other going coming → AreLinked end (with_events events this) other going coming
-tells end this other events going coming l = record {
-  joined = queued end this.state other.state this.state.outgoing events going coming l.joined;
-  going_octets = l.going_octets;
-  coming_octets = l.coming_octets;
-}
+tells end this other events going coming l = grind (arith, queued) steps 200000
 
 pub turned : (end : Bool) (this other : Carrying) (going coming : List Value) → AreLinked end this other going coming → AreLinked (not end) other this coming going
-turned end this other going coming l = record {
-  joined = joined_turned end this.state other.state going coming l.joined;
-  going_octets = l.coming_octets;
-  coming_octets = l.going_octets;
-}
+turned end this other going coming l = grind (arith, joined_turned) steps 200000
 
 pub fresh_linked : (caller called : Carrying) (a b : Local) → a.class2 ≡ true → b.class2 ≡ true → caller.state ≡ fresh_state true a → called.state ≡ fresh_state false b →
     caller.held.octets ≡ [] → called.held.octets ≡ [] → AreLinked true caller called [] []
-fresh_linked caller called a b x y is is_called none none_called = record {
-  joined = subst (λ (s : State). AreJoined s called.state [] []) (sym is) (subst (λ (s : State). AreJoined (fresh_state true a) s [] []) (sym is_called) (fresh_joined a b x y));
-  going_octets = record { octets = ap (λ (o : List ℕ). o ++ caller.state.outgoing) none_called ∙ ap (λ (s : State). s.outgoing) is; sendable = tt };
-  coming_octets = record { octets = ap (λ (o : List ℕ). o ++ called.state.outgoing) none ∙ ap (λ (s : State). s.outgoing) is_called; sendable = tt };
-}
+fresh_linked caller called a b x y is is_called none none_called = grind (arith, fresh_joined) steps 200000

@@ -35,29 +35,12 @@ lost_then (Some k) lost units = lost ++ units
 
 pub all_then : (reach : Option ℕ) (going lost units : List Value) → (reach ≡ None → lost ≡ []) →
     (going ++ lost) ++ units ≡ going_then reach going units ++ lost_then reach lost units
-all_then None going lost units none =
-    let e = none refl in
-    ap (λ (l : List Value). (going ++ l) ++ units) e ∙ ap (λ (l : List Value). l ++ units) (append-nil going)
-    ∙ sym (append-nil (going ++ units)) ∙ ap (λ (l : List Value). (going ++ units) ++ l) (sym e)
-all_then (Some k) going lost units none = append_assoc going lost units
+all_then reach going lost units none = grind (arith, append-nil, append_assoc) steps 200000
 
 pub way_out : (reach : Option ℕ) (held outgoing : List ℕ) (going lost units : List Value) → (reach ≡ None → lost ≡ []) → IfSome reach (λ k. k ≤ length outgoing) →
     IsOnTheWay held (within_reach reach outgoing) going lost → AllByRecursion IsSendable units →
     IsOnTheWay held (within_reach reach (outgoing ++ packets units)) (going_then reach going units) (lost_then reach lost units)
-way_out None held outgoing going lost units none bound w all =
-    let f : w.front ≡ [] = front_none w.front w.never (w.rest ∙ ap packets (none refl)) in
-    record {
-      front = w.front;
-      never = w.never;
-      octets = sym (append_assoc held outgoing (packets units))
-          ∙ ap (λ (l : List ℕ). l ++ packets units) (w.octets ∙ ap (λ (l : List ℕ). packets going ++ l) f ∙ append-nil (packets going))
-          ∙ sym (packets_join going units) ∙ sym (append-nil (packets (going ++ units)))
-          ∙ ap (λ (l : List ℕ). packets (going ++ units) ++ l) (sym f);
-      partial = w.partial;
-      rest = w.rest;
-      sendable = all_behind going units w.sendable all;
-      sendable_lost = w.sendable_lost;
-    }
+way_out None held outgoing going lost units none bound w all = grind (arith, front_none, append_assoc, append-nil, packets_join, all_behind) steps 200000
 way_out (Some k) held outgoing going lost units none bound w all = record {
   front = w.front;
   never = w.never ++ packets units;
@@ -69,8 +52,7 @@ way_out (Some k) held outgoing going lost units none bound w all = record {
 }
 
 pub bound_out : (reach : Option ℕ) (outgoing more : List ℕ) → IfSome reach (λ k. k ≤ length outgoing) → IfSome reach (λ k. k ≤ length (outgoing ++ more))
-bound_out None outgoing more h = tt
-bound_out (Some k) outgoing more h = let total = length-append outgoing more in omega arith
+bound_out reach outgoing more h = grind (arith, length-append) steps 200000
 
 -- ---- octets are handed over
 
@@ -87,30 +69,11 @@ take_on k r l le =
 
 pub way_over : (reach : Option ℕ) (k : ℕ) (held outgoing : List ℕ) (going lost : List Value) → k ≤ length (within_reach reach outgoing) → IfSome reach (λ r. r ≤ length outgoing) →
     IsOnTheWay held (within_reach reach outgoing) going lost → IsOnTheWay (held ++ take k outgoing) (within_reach (less_by k reach) (drop k outgoing)) going lost
-way_over None k held outgoing going lost less bound w = record {
-  front = w.front;
-  never = w.never;
-  octets = append_assoc held (take k outgoing) (drop k outgoing) ∙ ap (λ (l : List ℕ). held ++ l) (take-append-drop k outgoing) ∙ w.octets;
-  partial = w.partial;
-  rest = w.rest;
-  sendable = w.sendable;
-  sendable_lost = w.sendable_lost;
-}
-way_over (Some r) k held outgoing going lost less bound w =
-    let size = length-take-le r outgoing bound in
-    record {
-      front = w.front;
-      never = w.never;
-      octets = append_assoc held (take k outgoing) (take (r - k) (drop k outgoing)) ∙ ap (λ (l : List ℕ). held ++ l) (take_on k r outgoing (omega arith)) ∙ w.octets;
-      partial = w.partial;
-      rest = w.rest;
-      sendable = w.sendable;
-      sendable_lost = w.sendable_lost;
-    }
+way_over None k held outgoing going lost less bound w = grind (arith, append_assoc, take, drop, take-append-drop) steps 200000
+way_over (Some r) k held outgoing going lost less bound w = grind (arith, length-take-le, append_assoc, take, drop, take_on) steps 200000
 
 pub bound_over : (reach : Option ℕ) (k : ℕ) (outgoing : List ℕ) → IfSome reach (λ r. r ≤ length outgoing) → IfSome (less_by k reach) (λ r. r ≤ length (drop k outgoing))
-bound_over None k outgoing h = tt
-bound_over (Some r) k outgoing h = let size = length-drop k outgoing in omega arith
+bound_over reach k outgoing h = grind (arith, length-drop) steps 200000
 
 -- ---- a packet is taken
 

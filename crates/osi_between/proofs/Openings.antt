@@ -114,30 +114,13 @@ pub no_octets : IsOctets []
 no_octets i = omega arith
 
 alternatives_fit : (b : Bool) → IfSome (alternatives b) (λ s. length s ≤ 1)
-alternatives_fit true = omega arith
-alternatives_fit false = tt
+alternatives_fit b = grind arith steps 200000
 
 alternatives_octets : (b : Bool) → IfSome (alternatives b) IsOctets
-alternatives_octets true = IsOctets-cons 0 [] (omega arith) no_octets
-alternatives_octets false = tt
+alternatives_octets b = grind (arith, no_octets) steps 200000
 
 asked_connect : (caller : Local) (class : Option Class) (calling called : Option (List ℕ)) (n : ℕ) → n < 65536 → IsTsap calling → IsTsap called → IsConnect (request_of caller class calling called n)
-asked_connect caller class calling called n few fits fits_called =
-    let w = caller.window.at_most in
-    record {
-      credit = omega arith;
-      source = few;
-      class = omega arith;
-      options = omega arith;
-      parameters = record {
-        size = (caller.size.at_least, caller.size.at_most);
-        calling = fits;
-        called = fits_called;
-        additional = omega arith;
-        alternative = alternatives_octets (proposes_zero caller class);
-      };
-      user = no_octets;
-    }
+asked_connect caller class calling called n few fits fits_called = grind (arith, alternatives_octets, no_octets) steps 200000
 
 pub asked_sendable : (caller : Local) (class : Option Class) (calling called : Option (List ℕ)) (n : ℕ) → n < 65536 → IsTsap calling → IsTsap called →
     IsSendable (request (request_of caller class calling called n))
@@ -146,25 +129,7 @@ asked_sendable caller class calling called n few fits fits_called =
 
 answer_connect : (caller local : Local) (class : Option Class) (calling called : Option (List ℕ)) (n : ℕ) → n < 65536 → IsTsap calling → IsTsap called →
     IsConnect (answer_of n local (request_of caller class calling called n))
-answer_connect caller local class calling called n few fits fits_called =
-    let w = local.window.at_most in
-    let x = caller.size.at_least in
-    let y = local.size.at_least in
-    let v = caller.size.at_most in
-    record {
-      credit = omega arith;
-      source = few;
-      class = omega arith;
-      options = omega arith;
-      parameters = record {
-        size = (omega arith, omega arith);
-        calling = fits;
-        called = fits_called;
-        additional = omega arith;
-        alternative = tt;
-      };
-      user = no_octets;
-    }
+answer_connect caller local class calling called n few fits fits_called = grind (arith, no_octets) steps 200000
 
 pub answer_sendable : (caller local : Local) (class : Option Class) (calling called : Option (List ℕ)) (n : ℕ) → n < 65536 → IsTsap calling → IsTsap called →
     IsSendable (confirm n (answer_of n local (request_of caller class calling called n)))

@@ -23,20 +23,7 @@ use Rattle.osi_between.proofs.Sendables.{request_sendable, confirm_sendable}
 -- ---- it can be written
 
 zero_connect : (caller : Local) (class : Option Class) (calling called : Option (List ℕ)) (n : ℕ) → n < 65536 → IsTsap calling → IsTsap called → IsConnect (proposal_by false caller class calling called n)
-zero_connect caller class calling called n few fits fits_called = record {
-  credit = omega arith;
-  source = few;
-  class = omega arith;
-  options = omega arith;
-  parameters = record {
-    size = (caller.size.at_least, caller.size.at_most);
-    calling = fits;
-    called = fits_called;
-    additional = tt;
-    alternative = tt;
-  };
-  user = no_octets;
-}
+zero_connect caller class calling called n few fits fits_called = grind (arith, no_octets) steps 200000
 
 sendable_by : (b : Bool) (caller : Local) (calling called : Option (List ℕ)) (n : ℕ) → n < 65536 → IsTsap calling → IsTsap called → IsSendable (request (proposal_by b caller None calling called n))
 sendable_by true caller calling called n few fits fits_called = asked_sendable caller None calling called n few fits fits_called
@@ -47,8 +34,7 @@ pub proposal_sendable : (caller : Local) (calling called : Option (List ℕ)) (n
 proposal_sendable caller calling called n few fits fits_called = sendable_by caller.class2 caller calling called n few fits fits_called
 
 source_by : (b : Bool) (caller : Local) (class : Option Class) (calling called : Option (List ℕ)) (n : ℕ) → (proposal_by b caller class calling called n).source ≡ n
-source_by true caller class calling called n = refl
-source_by false caller class calling called n = refl
+source_by b caller class calling called n = grind arith steps 200000
 
 pub source_is : (n : ℕ) (caller : Local) (c : Connect) → IsProposed n caller c → c.source ≡ n
 source_is n caller c a = ap (λ (x : Connect). x.source) a.is ∙ source_by caller.class2 caller None a.calling a.called n
@@ -57,8 +43,7 @@ pub proposed_source : (caller : Local) (calling called : Option (List ℕ)) (n :
 proposed_source caller calling called n = source_by caller.class2 caller None calling called n
 
 size_by : (b : Bool) (caller : Local) (class : Option Class) (calling called : Option (List ℕ)) (n : ℕ) → (proposal_by b caller class calling called n).parameters.size ≡ Some (size_code caller.size)
-size_by true caller class calling called n = refl
-size_by false caller class calling called n = refl
+size_by b caller class calling called n = grind arith steps 200000
 
 pub size_is : (n : ℕ) (caller : Local) (c : Connect) → IsProposed n caller c → c.parameters.size ≡ Some (size_code caller.size)
 size_is n caller c a = ap (λ (x : Connect). x.parameters.size) a.is ∙ size_by caller.class2 caller None a.calling a.called n
@@ -66,14 +51,7 @@ size_is n caller c a = ap (λ (x : Connect). x.parameters.size) a.is ∙ size_by
 -- ---- class 2
 
 two_by : (a2 a0 b2 b0 : Bool) → (if a2 && b2 then by_two else (if (a0 || not a2) && b0 then by_zero else refusing (if a2 then 130 else 0))) ≡ by_two → (a2 ≡ true) × (b2 ≡ true)
-two_by true a0 true b0 e = (refl, refl)
-two_by true true false true e = cc
-two_by true true false false e = cc
-two_by true false false b0 e = cc
-two_by false true b2 true e = cc
-two_by false true b2 false e = cc
-two_by false false b2 true e = cc
-two_by false false b2 false e = cc
+two_by a2 a0 b2 b0 e = grind arith steps 200000
 
 pub come_to_two : (caller called : Local) → terms_of caller called ≡ by_two → (caller.class2 ≡ true) × (called.class2 ≡ true)
 come_to_two caller called e = two_by caller.class2 caller.class0 called.class2 called.class0 e
@@ -86,72 +64,33 @@ pub record ComeToZero (a2 a0 b2 b0 : Bool) : Type 0 where
   pub how : (a2 ≡ false) ⊎ ((a2 ≡ true) × (a0 ≡ true) × (b2 ≡ false))
 
 zero_by : (a2 a0 b2 b0 : Bool) → (if a2 && b2 then by_two else (if (a0 || not a2) && b0 then by_zero else refusing (if a2 then 130 else 0))) ≡ by_zero → ComeToZero a2 a0 b2 b0
-zero_by true true true b0 e = cc
-zero_by true false true b0 e = cc
-zero_by true true false true e = record { there = refl; how = inr (refl, refl, refl) }
-zero_by true true false false e = cc
-zero_by true false false b0 e = cc
-zero_by false true b2 true e = record { there = refl; how = inl refl }
-zero_by false true b2 false e = cc
-zero_by false false b2 true e = record { there = refl; how = inl refl }
-zero_by false false b2 false e = cc
+zero_by a2 a0 b2 b0 e = grind arith steps 200000
 
 pub come_to_zero : (caller called : Local) → terms_of caller called ≡ by_zero → ComeToZero caller.class2 caller.class0 called.class2 called.class0
 come_to_zero caller called e = zero_by caller.class2 caller.class0 called.class2 called.class0 e
 
 and_false : (b : Bool) → (b && false) ≡ false
-and_false true = refl
-and_false false = refl
+and_false b = grind arith steps 200000
 
 or_true : (b : Bool) → (b || true) ≡ true
-or_true true = refl
-or_true false = refl
+or_true b = grind arith steps 200000
 
 selects_by : (caller called : Local) (calling to : Option (List ℕ)) (n : ℕ) → called.class0 ≡ true → (caller.class2 ≡ false) ⊎ ((caller.class2 ≡ true) × (caller.class0 ≡ true) × (called.class2 ≡ false)) →
     selected_by (proposal caller None calling to n) called ≡ accept Zero (selected_size (proposal caller None calling to n) called)
-selects_by caller called calling to n there (inl alone) = rw (alone, there, and_false called.class2) refl
-selects_by caller called calling to n there (inr both) = rw (both.0, both.1, both.2, there) refl
+selects_by caller called calling to n there h = grind (arith, and_false) steps 200000
 
 pub selects_zero : (caller called : Local) (n : ℕ) (c : Connect) → terms_of caller called ≡ by_zero → IsProposed n caller c → selected_by c called ≡ accept Zero (selected_size c called)
-selects_zero caller called n c terms a =
-    let z = come_to_zero caller called terms in
-    subst (λ (x : Connect). selected_by x called ≡ accept Zero (selected_size x called)) (sym a.is) (selects_by caller called a.calling a.called n z.there z.how)
+selects_zero caller called n c terms a = grind (arith, come_to_zero, selects_by) steps 200000
 
 proposes_by : (caller : Local) (b2 : Bool) → (caller.class2 ≡ false) ⊎ ((caller.class2 ≡ true) × (caller.class0 ≡ true) × (b2 ≡ false)) → proposes_zero caller None ≡ true
-proposes_by caller b2 (inl alone) = ap (λ (b : Bool). caller.class0 || not b) alone ∙ or_true caller.class0
-proposes_by caller b2 (inr both) = ap (λ (b : Bool). b || not caller.class2) both.1
+proposes_by caller b2 h = grind (arith, not, or_true) steps 200000
 
 pub confirms_zero : (caller called : Local) (c : Connect) → terms_of caller called ≡ by_zero → confirmed (answer_of called c) caller None ≡ Some Zero
-confirms_zero caller called c terms =
-    let z = come_to_zero caller called terms in
-    ap (λ (b : Bool). if◌then◌else◌ {A = Option Class} b (Some Zero) None) (proposes_by caller called.class2 z.how)
+confirms_zero caller called c terms = grind (arith, come_to_zero, proposes_by) steps 200000
 
 -- the CC
 answer_by : (b : Bool) (caller called : Local) (calling to : Option (List ℕ)) → IsTsap calling → IsTsap to → IsConnect (answer_of called (proposal_by b caller None calling to 1))
-answer_by true caller called calling to fits fits_called =
-    let x = caller.size.at_least in
-    let y = called.size.at_least in
-    let v = caller.size.at_most in
-    record {
-      credit = omega arith;
-      source = omega arith;
-      class = omega arith;
-      options = omega arith;
-      parameters = record { size = (omega arith, omega arith); calling = fits; called = fits_called; additional = tt; alternative = tt };
-      user = no_octets;
-    }
-answer_by false caller called calling to fits fits_called =
-    let x = caller.size.at_least in
-    let y = called.size.at_least in
-    let v = caller.size.at_most in
-    record {
-      credit = omega arith;
-      source = omega arith;
-      class = omega arith;
-      options = omega arith;
-      parameters = record { size = (omega arith, omega arith); calling = fits; called = fits_called; additional = tt; alternative = tt };
-      user = no_octets;
-    }
+answer_by b caller called calling to fits fits_called = grind (arith, no_octets) steps 200000
 
 pub answer_zero_sendable : (caller called : Local) (c : Connect) → IsProposed 1 caller c → IsSendable (confirm 1 (answer_of called c))
 answer_zero_sendable caller called c a =
@@ -220,38 +159,17 @@ pub record ComeToNone (a2 a0 b2 b0 : Bool) (reason : ℕ) : Type 0 where
   pub is : reason ≡ (if a2 then 130 else 0)
 
 none_by : (a2 a0 b2 b0 : Bool) (reason : ℕ) → (if a2 && b2 then by_two else (if (a0 || not a2) && b0 then by_zero else refusing (if a2 then 130 else 0))) ≡ refusing reason → ComeToNone a2 a0 b2 b0 reason
-none_by true a0 true b0 reason e = cc
-none_by true true false true reason e = cc
-none_by true true false false reason e = record { no_two = refl; no_zero = refl; is = let same : 130 ≡ reason = cc in sym same }
-none_by true false false b0 reason e = record { no_two = refl; no_zero = refl; is = let same : 130 ≡ reason = cc in sym same }
-none_by false true b2 true reason e = cc
-none_by false true b2 false reason e = record { no_two = refl; no_zero = refl; is = let same : 0 ≡ reason = cc in sym same }
-none_by false false b2 true reason e = cc
-none_by false false b2 false reason e = record { no_two = refl; no_zero = refl; is = let same : 0 ≡ reason = cc in sym same }
+none_by a2 a0 b2 b0 reason e = grind arith steps 200000
 
 refuses_by : (caller called : Local) (calling to : Option (List ℕ)) (n reason : ℕ) (a2 a0 b2 b0 : Bool) → caller.class2 ≡ a2 → caller.class0 ≡ a0 → called.class2 ≡ b2 → called.class0 ≡ b0 → ComeToNone a2 a0 b2 b0 reason →
     selected_by (proposal caller None calling to n) called ≡ refuse reason
-refuses_by caller called calling to n reason true a0 true b0 x y z w h = let no = h.no_two in cc
-refuses_by caller called calling to n reason true true false true x y z w h = let no = h.no_zero in cc
-refuses_by caller called calling to n reason true true false false x y z w h = rw (x, y, z, w) (ap refuse (sym h.is))
-refuses_by caller called calling to n reason true false false true x y z w h = rw (x, y, z, w) (ap refuse (sym h.is))
-refuses_by caller called calling to n reason true false false false x y z w h = rw (x, y, z, w) (ap refuse (sym h.is))
-refuses_by caller called calling to n reason false true b2 true x y z w h = let no = h.no_zero in cc
-refuses_by caller called calling to n reason false false b2 true x y z w h = let no = h.no_zero in cc
-refuses_by caller called calling to n reason false a0 true false x y z w h = rw (x, z, w) (ap refuse (sym h.is))
-refuses_by caller called calling to n reason false a0 false false x y z w h = rw (x, z, w) (ap refuse (sym h.is))
+refuses_by caller called calling to n reason a2 a0 b2 b0 x y z w h = grind arith steps 200000
 
 pub selects_none : (caller called : Local) (n reason : ℕ) (c : Connect) → terms_of caller called ≡ refusing reason → IsProposed n caller c → selected_by c called ≡ refuse reason
-selects_none caller called n reason c terms a =
-    subst (λ (x : Connect). selected_by x called ≡ refuse reason) (sym a.is)
-    (refuses_by caller called a.calling a.called n reason caller.class2 caller.class0 called.class2 called.class0 refl refl refl refl
-    (none_by caller.class2 caller.class0 called.class2 called.class0 reason terms))
+selects_none caller called n reason c terms a = grind (arith, refuses_by, none_by) steps 200000
 
 reason_by : (a2 : Bool) → (if a2 then 130 else 0) < 256
-reason_by true = omega arith
-reason_by false = omega arith
+reason_by a2 = grind arith steps 200000
 
 pub reason_small : (caller called : Local) (reason : ℕ) → terms_of caller called ≡ refusing reason → reason < 256
-reason_small caller called reason terms =
-    let h = none_by caller.class2 caller.class0 called.class2 called.class0 reason terms in
-    subst (λ (r : ℕ). r < 256) (sym h.is) (reason_by caller.class2)
+reason_small caller called reason terms = grind (arith, none_by, reason_by) steps 200000

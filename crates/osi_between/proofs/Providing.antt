@@ -1,5 +1,5 @@
 -- What two joined carriers do in class 2, as it is put to use between them.
-use Rattle.std.proofs.Common.{◌≡◌, ℕ, ◌+◌, ◌<◌, Bool, true, false, List, [], ◌∷◌, ◌++◌, Option, Some, None, refl, sym, ap, subst, ◌∙◌}
+use Rattle.std.proofs.Common.{◌≡◌, ℕ, ◌+◌, ◌<◌, Bool, true, false, List, [], ◌∷◌, ◌++◌, Option, Some, None, refl, sym, ap, subst, ◌∙◌, arith}
 use Rattle.osi_tpkt.specs.Octets.{IsOctets}
 use Rattle.osi_tpdu.specs.Value.{Value}
 use Rattle.osi_class.specs.Between.{IsShortTsdu}
@@ -35,12 +35,10 @@ pub record Provides (terms : Terms) : Type 0 where
 -- ---- class 2
 
 to_from : (end : Bool) (this other : State) (going coming : List Value) → JoinedAt end by_two this other going coming → JoinedFrom end this other going coming
-to_from true this other going coming j = j
-to_from false this other going coming j = j
+to_from end this other going coming j = grind arith steps 200000
 
 to_at : (end : Bool) (this other : State) (going coming : List Value) → JoinedFrom end this other going coming → JoinedAt end by_two this other going coming
-to_at true this other going coming j = j
-to_at false this other going coming j = j
+to_at end this other going coming j = grind arith steps 200000
 
 does_two : (end : Bool) (n : ℕ) (this other next : State) (going coming rest taken : List Value) (put : List Message) → coming ≡ taken ++ rest → Did end n this other next going coming rest put →
     Does by_two end n this other next going coming rest taken put
@@ -57,24 +55,10 @@ takes_two end this other going coming rest unit j cut =
 
 -- the peer's number of an open connection is its own
 own_met : (n peer : ℕ) (link : Standing) (m : Meeting) → here n m ≡ Some (linked peer link) → peer ≡ n
-own_met n peer link (talking p) e = let same : n ≡ peer = cc in sym same
-own_met n peer link (left_here p us reason) e = cc
-own_met n peer link (left_there p us reason) e = let same : n ≡ peer = cc in sym same
-own_met n peer link (left_both us reason vs other) e = cc
-own_met n peer link (waiting_here us last) e = cc
-own_met n peer link (waiting_there us last) e = cc
-own_met n peer link parted e = cc
+own_met n peer link m e = grind arith steps 200000
 
 own_at : (end : Bool) (n peer : ℕ) (link : Standing) (g : Course) → at_end end n g ≡ was_given (Some (linked peer link)) → peer ≡ n
-own_at end n peer link unasked e = cc
-own_at true n peer link (asking c) e = cc
-own_at false n peer link (asking c) e = cc
-own_at true n peer link (accepting c p) e = cc
-own_at false n peer link (accepting c p) e = let same : n ≡ peer = cc in sym same
-own_at true n peer link (withdrawing c p reason) e = cc
-own_at false n peer link (withdrawing c p reason) e = cc
-own_at true n peer link (met m) e = own_met n peer link m (let same : here n m ≡ Some (linked peer link) = cc in same)
-own_at false n peer link (met m) e = own_met n peer link (mirror m) (let same : here n (mirror m) ≡ Some (linked peer link) = cc in same)
+own_at end n peer link g e = grind (arith, own_met) steps 200000
 
 -- so it stands as one whose peer's number is its own
 pub linked_own : (end : Bool) (this other : State) (going coming : List Value) (n peer : ℕ) (link : Standing) → JoinedFrom end this other going coming → value_at n this.live ≡ Some (linked peer link) → value_at n this.live ≡ Some (linked n link)

@@ -20,47 +20,10 @@ provides by_zero = provides_zero
 provides (refusing reason) = provides_none reason
 
 begins_by : (caller called : Local) (terms : Terms) → terms_of caller called ≡ terms → AreJoinedBy terms (fresh_state true caller) (fresh_state false called) [] []
-begins_by caller called by_two e = let two = come_to_two caller called e in fresh_joined caller called two.0 two.1
-begins_by caller called by_zero e = record {
-  is_caller = refl;
-  is_called = refl;
-  terms = e;
-  course = zero.unasked;
-  one = record { live = refl; given = refl; class = refl; lasts = refl };
-  one_called = record { live = refl; given = refl; class = refl; lasts = refl };
-  going = refl;
-  coming = refl;
-  holds = tt;
-}
-begins_by caller called (refusing reason) e = record {
-  is_caller = refl;
-  is_called = refl;
-  terms = e;
-  lasts = refl;
-  lasts_called = refl;
-  class = refl;
-  class_called = refl;
-  stage = refusals.unasked;
-  live = refl;
-  few = omega arith;
-  live_called = refl;
-  given_called = refl;
-  going = refl;
-  coming = refl;
-  holds = tt;
-}
+begins_by caller called terms e = grind (arith, come_to_two, fresh_joined) steps 200000
 
 empty_way : IsOnTheWay [] [] [] []
 empty_way = record { front = []; never = []; octets = refl; partial = empty_partial; rest = refl; sendable = tt; sendable_lost = tt }
 
 pub begins : (caller called : Local) → AreBetween (terms_of caller called) (fresh_both caller called) (fresh_between caller called)
-begins caller called =
-    let both = fresh_both caller called in
-    let b = fresh_between caller called in
-    record {
-      lives = by_end true (λ e. (side e both).state.ended ≡ None → (side e both).state ≡ last_of e b) (λ h. refl) (λ h. refl);
-      joined = begins_by caller called (terms_of caller called) refl;
-      comes = by_end true (λ e. (side (not e) both).state.ended ≡ None → IsOnTheWay (side (not e) both).held (arriving e both) (units_from e b) (lost_from e b)) (λ h. empty_way) (λ h. empty_way);
-      unbroken = λ e x. by_end true (λ y. lost_from y b ≡ []) refl refl x;
-      bound = by_end true (λ e. IfSome (reach_of e both.reach) (λ k. k ≤ length (side e both).state.outgoing)) tt tt;
-    }
+begins caller called = grind (arith, by_end, begins_by, not, empty_way, length) steps 200000

@@ -82,23 +82,16 @@ does_zero false r s t going coming rest taken put p j other is h = record {
 finish : (end : Bool) (this other : State) (going coming rest : List Value) (u unit : Value) (put : List Message) → u ≡ unit → reference_of u ≡ 1 → answers_at (place_at 1 this) u ≡ put →
     Does by_zero end 1 this other (react u this) going coming rest (u ∷ []) put →
     Does by_zero end (reference_of unit) this other (react unit this) going coming rest (unit ∷ []) (answers_in by_zero (place_at (reference_of unit) this) unit)
-finish end this other going coming rest u unit put same ref ans d =
-    subst (λ (x : Value). Does by_zero end (reference_of x) this other (react x this) going coming rest (x ∷ []) (answers_in by_zero (place_at (reference_of x) this) x)) same
-    (subst (λ (n : ℕ). Does by_zero end n this other (react u this) going coming rest (u ∷ []) (answers_in by_zero (place_at n this) u)) (sym ref)
-    (subst (λ (ms : List Message). Does by_zero end 1 this other (react u this) going coming rest (u ∷ []) ms) (sym ans) d))
+finish end this other going coming rest u unit put same ref ans d = grind arith steps 200000
 
 none_left : (coming rest : List Value) (u : Value) → coming ≡ [] → coming ≡ u ∷ rest → ⊥
 none_left coming rest u a b = let no : [] ≡ u ∷ rest = sym a ∙ b in cc
 
 given_one : (g : Given) → reference_of (unit_of 1 g) ≡ 1
-given_one (part0 end octets) = refl
-given_one (part2 number end octets) = refl
-given_one (ack number credit) = refl
+given_one g = grind arith steps 200000
 
 given_answer : (link : Standing) (g : Given) → answers_at (was_given (Some (linked 1 link))) (unit_of 1 g) ≡ []
-given_answer link (part0 end octets) = refl
-given_answer link (part2 number end octets) = refl
-given_answer link (ack number credit) = refl
+given_answer link g = grind arith steps 200000
 
 talking_takes : (end : Bool) (this other : State) (going coming rest : List Value) (unit : Value) (p : LinkPair) (gs : List Given) → JoinedAt end by_zero this other going coming → HasOne this (was_given (Some (linked 1 p.left))) → HasOne other (was_given (Some (linked 1 p.right))) →
     going ≡ addressed 1 p.rightward → coming ≡ addressed 1 p.leftward → AreOpen false p → p.leftward ≡ gs → coming ≡ unit ∷ rest →
@@ -146,8 +139,7 @@ pub record AtOne (n : ℕ) (x y : Connection) : Type 0 where
   pub is : x ≡ y
 
 at_one_by : (n : ℕ) (x y : Connection) (b : Bool) → (1 == n) ≡ b → (if b then Some x else None) ≡ Some y → AtOne n x y
-at_one_by n x y true e h = record { reference = sym (eqb-true 1 n e); is = let same : x ≡ y = cc in same }
-at_one_by n x y false e h = cc
+at_one_by n x y b e h = grind (arith, eqb-true) steps 200000
 
 pub at_one : (s : State) (n : ℕ) (x y : Connection) → HasOne s (was_given (Some x)) → value_at n s.live ≡ Some y → AtOne n x y
 at_one s n x y one h = at_one_by n x y (1 == n) refl (sym (ap (value_at n) one.live) ∙ h)
@@ -254,28 +246,7 @@ has_one_still : (s : State) (p : Place) (o : List ℕ) (e : List Happening) → 
 has_one_still s p o e h = record { live = h.live; given = h.given; class = h.class; lasts = h.lasts }
 
 queued_zero : (end : Bool) (this other : State) (o : List ℕ) (e : List Happening) (going coming : List Value) → JoinedAt end by_zero this other going coming → JoinedAt end by_zero (with_queues o e this) other going coming
-queued_zero true this other o e going coming j = record {
-  is_caller = j.is_caller;
-  is_called = j.is_called;
-  terms = j.terms;
-  course = j.course;
-  one = has_one_still this (at_end true j.course) o e j.one;
-  one_called = j.one_called;
-  going = j.going;
-  coming = j.coming;
-  holds = j.holds;
-}
-queued_zero false this other o e going coming j = record {
-  is_caller = j.is_caller;
-  is_called = j.is_called;
-  terms = j.terms;
-  course = j.course;
-  one = j.one;
-  one_called = has_one_still this (at_end false j.course) o e j.one_called;
-  going = j.going;
-  coming = j.coming;
-  holds = j.holds;
-}
+queued_zero end this other o e going coming j = grind (arith, has_one_still) steps 200000
 
 pub provides_zero : Provides by_zero
 provides_zero = record {
@@ -288,22 +259,11 @@ provides_zero = record {
 -- ---- a close ends the carrier
 
 closed_by : (s : State) (n peer reason : ℕ) (link : Standing) (p : Place) → s.ended ≡ None → s.class ≡ Some Zero → value_at n s.live ≡ Some (linked peer link) → closed_with n reason s ≡ ends Closed s
-closed_by s n peer reason link p lasts class at =
-    let found : open_link n s ≡ Some (peer, link) =
-    ap (λ (o : Option EndReason). if◌then◌else◌ {A = Option (ℕ × Standing)} (is_some o) None (link_of (value_at n s.live))) lasts ∙ ap link_of at in
-    ap (λ (l : Option (ℕ × Standing)). closed_on n reason l s) found ∙ ap (λ (k : Option Class). closes n peer reason k s) class
+closed_by s n peer reason link p lasts class at = grind (arith, is_some) steps 200000
 
 class_at : (s : State) (n peer : ℕ) (link : Standing) (end : Bool) (g : ZeroCourse) → HasOne s (at_end end g) → value_at n s.live ≡ Some (linked peer link) → s.class ≡ Some Zero
-class_at s n peer link true unasked one at = absurd (not_here s n (linked peer link) one at)
-class_at s n peer link false unasked one at = absurd (not_here s n (linked peer link) one at)
-class_at s n peer link true (asking c) one at = absurd (not_asked s n peer link one at)
-class_at s n peer link false (asking c) one at = absurd (not_here s n (linked peer link) one at)
-class_at s n peer link true (accepting c p) one at = absurd (not_asked s n peer link one at)
-class_at s n peer link false (accepting c p) one at = one.class
-class_at s n peer link true (talking p) one at = one.class
-class_at s n peer link false (talking p) one at = one.class
+class_at s n peer link end g one at = grind (arith, not_here, not_asked) steps 200000
 
 pub closes_zero : (end : Bool) (this other : State) (going coming : List Value) (n peer : ℕ) (link : Standing) (reason : ℕ) → JoinedAt end by_zero this other going coming →
     value_at n this.live ≡ Some (linked peer link) → closed_with n reason this ≡ ends Closed this
-closes_zero true this other going coming n peer link reason j at = closed_by this n peer reason link (at_end true j.course) j.one.lasts (class_at this n peer link true j.course j.one at) at
-closes_zero false this other going coming n peer link reason j at = closed_by this n peer reason link (at_end false j.course) j.one_called.lasts (class_at this n peer link false j.course j.one_called at) at
+closes_zero end this other going coming n peer link reason j at = grind (arith, closed_by, class_at) steps 200000

@@ -49,34 +49,22 @@ use Rattle.osi_between.proofs.Turned.{left_takes, sends_passes}
 -- ---- the one place
 
 pub one_place : (s : State) (p : Place) → HasOne s p → place_at 1 s ≡ p
-one_place s never h = ap (λ (g : ℕ). if◌then◌else◌ {A = Place} (nat_lt g 1) never (was_given (value_at 1 s.live))) h.given
-one_place s (was_given None) h =
-    ap (λ (g : ℕ). if◌then◌else◌ {A = Place} (nat_lt g 1) never (was_given (value_at 1 s.live))) h.given ∙ ap (λ (l : Rows Connection). was_given (value_at 1 l)) h.live
-one_place s (was_given (Some x)) h =
-    ap (λ (g : ℕ). if◌then◌else◌ {A = Place} (nat_lt g 1) never (was_given (value_at 1 s.live))) h.given ∙ ap (λ (l : Rows Connection). was_given (value_at 1 l)) h.live
+one_place s p h = grind (arith, nat_lt) steps 200000
 
 -- all units are for it
 pub zero_for : (gs : List Given) → AreFor 1 (addressed 1 gs)
 zero_for [] = tt
-zero_for (part0 end octets ∷ gs) = (refl, zero_for gs)
-zero_for (part2 number end octets ∷ gs) = (refl, zero_for gs)
-zero_for (ack number credit ∷ gs) = (refl, zero_for gs)
+zero_for (x ∷ gs) = grind (arith, zero_for gs) steps 200000
 
 one_of : (g : Given) → reference_of (unit_of 1 g) ≡ 1
-one_of (part0 end octets) = refl
-one_of (part2 number end octets) = refl
-one_of (ack number credit) = refl
+one_of g = grind arith steps 200000
 
 -- what is under way, by places
 pub under_is : (s r : State) (p q : Place) (going us : List Value) → place_at 1 s ≡ p → place_at 1 r ≡ q → going ≡ us → AreFor 1 us → under_way_for 1 s r going ≡ messages_to (connection_in p) us (connection_in q)
-under_is s r p q going us a b c all =
-    ap (λ (x : Place). messages_to (connection_in x) (units_of 1 going) (connection_in (place_at 1 r))) a
-    ∙ ap (λ (x : Place). messages_to (connection_in p) (units_of 1 going) (connection_in x)) b
-    ∙ ap (λ (l : List Value). messages_to (connection_in p) l (connection_in q)) (ap (units_of 1) c ∙ units_same 1 us all)
+under_is s r p q going us a b c all = grind (arith, units_same) steps 200000
 
 pub brings_at : (s t : State) (p q : Place) (us : List Value) (ms put : List Message) → place_at 1 s ≡ p → place_at 1 t ≡ q → BringsTo true p q us ms put → BringsTo true (place_at 1 s) (place_at 1 t) us ms put
-brings_at s t p q us ms put a b h =
-    subst (λ (x : Place). BringsTo true x (place_at 1 t) us ms put) (sym a) (subst (λ (x : Place). BringsTo true p x us ms put) (sym b) h)
+brings_at s t p q us ms put a b h = grind arith steps 200000
 
 told_at_place : (s : State) (p : Place) (ms : List Message) (es : List Happening) → place_at 1 s ≡ p → es ≡ flat_map (told_opening 1 p) ms → es ≡ flat_map (told_of by_zero 1 (place_at 1 s)) ms
 told_at_place s p ms es a e = e ∙ ap (λ (x : Place). flat_map (told_opening 1 x) ms) (sym a)
@@ -84,15 +72,10 @@ told_at_place s p ms es a e = e ∙ ap (λ (x : Place). flat_map (told_opening 1
 -- ---- the caller asks
 
 may_class : (caller over : Bool) (e r : Option OpenError) → (if not caller then Some NotCaller else (if over then Some Ended else or_else e r)) ≡ None → e ≡ None
-may_class false over e r h = cc
-may_class true true e r h = cc
-may_class true false None r h = refl
-may_class true false (Some x) r h = cc
+may_class caller over e r h = grind arith steps 200000
 
 pub asks_class_of : (s : State) (class : Option Class) (rows : Rows Connection) → s.class ≡ class → s.live ≡ rows → may_connect s ≡ None → class_error class rows ≡ None
-asks_class_of s class rows is live may =
-    ap (λ (k : Option Class). class_error k rows) (sym is) ∙ ap (class_error s.class) (sym live)
-    ∙ may_class s.is_caller (is_some s.ended) (class_error s.class s.live) (room_error s) may
+asks_class_of s class rows is live may = grind (arith, may_class, is_some) steps 200000
 
 asks_class : (s : State) (p : Place) → HasOne s p → may_connect s ≡ None → class_error (class_in p) (rows_in p) ≡ None
 asks_class s p one may = asks_class_of s (class_in p) (rows_in p) one.class one.live may
@@ -163,10 +146,7 @@ given_zero : (s : State) (p : Place) → HasOne s p → class_error (class_in p)
 given_zero s p one e = one.given
 
 never_before : (g : ZeroCourse) → class_error (class_in (at_end true g)) (rows_in (at_end true g)) ≡ None → given_in (at_end true g) ≡ 0
-never_before unasked e = refl
-never_before (asking c) e = cc
-never_before (accepting c p) e = cc
-never_before (talking p) e = cc
+never_before g e = grind arith steps 200000
 
 pub asks_zero : (s r : State) (going coming : List Value) (calling to : Option (List ℕ)) → AreJoinedZero s r going coming → may_connect s ≡ None → IsTsap calling → IsTsap to →
     Does by_zero true (s.given + 1) s r (asks calling to s) going coming coming [] (ask ∷ [])
@@ -178,13 +158,7 @@ asks_zero s r going coming calling to j may fits fits_to =
 -- ---- the called end takes the CR
 
 request_does : (r : State) (c : Connect) (size : Option ℕ) → r.is_caller ≡ false → HasOne r never → selected_by c r.local ≡ accept Zero size → react (request c) r ≡ accepts Zero size c r
-request_does r c size called one selects =
-    let free : has_peer c.source r.live ≡ false = ap (has_peer c.source) one.live in
-    let live : length r.live ≡ 0 = ap length one.live in
-    let given = one.given in
-    let room : is_full r ≡ false = has_room r (omega arith) (omega arith) in
-    react_request c r one.lasts called (inl one.class)
-    ∙ rw (free, room) (ap (λ (x : Selection). answers c x r.class r) selects ∙ ap (λ (k : Option Class). answers c (accept Zero size) k r) one.class)
+request_does r c size called one selects = grind (arith, length, has_room, react_request) steps 200000
 
 pub request_taken : (s r : State) (going coming rest : List Value) (c : Connect) → s.is_caller ≡ true → r.is_caller ≡ false → terms_of s.local r.local ≡ by_zero → HasOne s (was_given (Some asked)) → HasOne r never →
     going ≡ request c ∷ [] → coming ≡ [] → IsProposed 1 s.local c → going ≡ request c ∷ rest →
@@ -250,18 +224,11 @@ request_taken s r going coming rest c caller called terms one other is back a cu
 -- ---- the caller takes the CC
 
 confirm_does : (s r : State) (c : Connect) → s.is_caller ≡ true → terms_of s.local r.local ≡ by_zero → HasOne s (was_given (Some asked)) → react (confirm 1 (answer_of r.local c)) s ≡ opens 1 (answer_of r.local c) (Some Zero) s
-confirm_does s r c caller terms one =
-    let answer = answer_of r.local c in
-    confirm_to 1 answer s one.lasts caller (inl one.class)
-    ∙ ap (λ (o : Option Connection). to_connection 1 o (confirm 1 answer) s) (ap (value_at 1) one.live)
-    ∙ ap (λ (k : Option Class). opens 1 answer (confirmed answer s.local k) s) one.class
-    ∙ ap (λ (k : Option Class). opens 1 answer k s) (confirms_zero s.local r.local c terms)
+confirm_does s r c caller terms one = grind (arith, confirm_to, confirms_zero) steps 200000
 
 -- of other connections nothing changes
 pub put_places : (s t : State) (x : Connection) (q : ℕ) → t.given ≡ s.given → t.live ≡ put 1 x s.live → q ≢ 1 → place_at q t ≡ place_at q s
-put_places s t x q given live apart =
-    ap (λ (g : ℕ). if◌then◌else◌ {A = Place} (nat_lt g q) never (was_given (value_at q t.live))) given
-    ∙ ap (λ (v : Option Connection). if◌then◌else◌ {A = Place} (nat_lt s.given q) never (was_given v)) (ap (value_at q) live ∙ put_other q 1 x s.live apart)
+put_places s t x q given live apart = grind (arith, nat_lt, put_other) steps 200000
 
 pub confirm_taken : (s r : State) (going coming rest : List Value) (c : Connect) (p : LinkPair) → s.is_caller ≡ true → r.is_caller ≡ false → terms_of s.local r.local ≡ by_zero →
     HasOne s (was_given (Some asked)) → HasOne r (was_given (Some (linked 1 p.right))) → going ≡ [] → coming ≡ confirm 1 (answer_of r.local c) ∷ addressed 1 p.leftward → IsAccepted s.local r.local c p →
@@ -332,27 +299,14 @@ pub record Talks (this other : State) (going coming : List Value) (p : LinkPair)
   pub open_links : AreOpen false p
 
 given_only : (caller : Bool) (g : Given) (s : State) → in_zero caller (unit_of 1 g) s ≡ to_only s.live (unit_of 1 g) s
-given_only true (part0 end octets) s = refl
-given_only true (part2 number end octets) s = refl
-given_only true (ack number credit) s = refl
-given_only false (part0 end octets) s = refl
-given_only false (part2 number end octets) s = refl
-given_only false (ack number credit) s = refl
+given_only caller g s = grind arith steps 200000
 
 given_does : (s : State) (link t : Standing) (g : Given) → HasOne s (was_given (Some (linked 1 link))) → taken link (unit_of 1 g) ≡ Ok t → react (unit_of 1 g) s ≡ settles 1 1 t s
-given_does s link t g one e =
-    react_quiet (unit_of 1 g) s one.lasts ∙ ap (λ (k : Option Class). in_class k (unit_of 1 g) s) one.class ∙ given_only s.is_caller g s
-    ∙ ap (λ (l : Rows Connection). to_only l (unit_of 1 g) s) one.live ∙ linked_takes 1 1 link g s
-    ∙ ap (λ (x : Result Standing LinkFault). taking 1 1 x s) e
+given_does s link t g one e = grind (arith, react_quiet, given_only, linked_takes) steps 200000
 
 pub put_one : (s t : State) (x y : Connection) → HasOne s (was_given (Some x)) → class_in (was_given (Some x)) ≡ class_in (was_given (Some y)) → t.live ≡ put 1 y s.live → t.given ≡ s.given → t.class ≡ s.class → t.ended ≡ s.ended →
     HasOne t (was_given (Some y))
-put_one s t x y one same live given class lasts = record {
-  live = live ∙ ap (put 1 y) one.live;
-  given = given ∙ one.given;
-  class = class ∙ one.class ∙ same;
-  lasts = lasts ∙ one.lasts;
-}
+put_one s t x y one same live given class lasts = grind arith steps 200000
 
 -- what an open end did: its pair now_there
 pub record Talked (this other next : State) (going coming rest taken : List Value) (put : List Message) (old : LinkPair) : Type 0 where

@@ -195,22 +195,28 @@ impl Carrier {
         ensures told { Tells (option_map happening result) self.old.state self.new.state }
         ensures held { self.new.held ≡ self.old.held }
     {
-        self.switch.next_event()
+        self.switch.events.pop()
     }
 
     /// The octets to be carried to the peer, the first of them first.
     pub fn outgoing(&self) -> &[u8]
         ensures { result.now ≡ self.now.state.outgoing }
     {
-        self.switch.outgoing()
+        self.switch.outgoing.as_slice()
     }
 
-    /// The first octets of [`Carrier::outgoing`] were carried: at most as many as there are.
+    /// The first octets of [`Carrier::outgoing`] were carried: at most as many as there are. Where these are
+    /// all, what is written next goes to the front of the buffer.
+    #[tactic(auto, using(std::proofs::lemmas::List::drop_all))]
     pub fn taken(&mut self, octets: usize)
         requires { octets ≤ length self.old.state.outgoing }
         ensures { self.new ≡ record self.old { state = record self.old.state { outgoing = drop octets self.old.state.outgoing } } }
     {
-        self.switch.taken(octets);
+        if octets == self.switch.outgoing.len() {
+            self.switch.outgoing.clear();
+            return;
+        }
+        self.switch.outgoing.advance(octets);
     }
 
     /// The byte connection broke. Nothing changes where the carrier has ended.
@@ -231,7 +237,7 @@ impl Carrier {
     pub fn ended(&self) -> Option<EndReason>
         ensures { result ≡ self.now.state.ended }
     {
-        self.switch.ended()
+        self.switch.ended
     }
 
     /// How many octets are held of what came: those of the packet under way and of the unfinished
@@ -240,7 +246,7 @@ impl Carrier {
         ensures value { result ≡ length self.now.held.octets + kept_in self.now.state.live }
         ensures at_most { result ≤ 65535 + 1048576 * length self.now.state.live }
     {
-        self.cutter.rest_len() + self.switch.kept()
+        self.cutter.rest_len() + self.switch.live.kept()
     }
 
     /// How many octets of TSDUs were handed in at a connection and are not yet in units: what credit
@@ -249,7 +255,7 @@ impl Carrier {
     pub fn unsent(&self, reference: Ref) -> usize
         ensures { result ≡ unsent_at (value_at reference.0 self.now.state.live) }
     {
-        self.switch.unsent(reference.0)
+        self.switch.live.unsent(reference.0)
     }
 
     /// The octets of [`Carrier::unsent`] of all connections together, or `usize::MAX` where they are
@@ -257,7 +263,7 @@ impl Carrier {
     pub fn backlog(&self) -> usize
         ensures { result ≡ min (backlog_of self.now.state.live) (2 ^ 64 - 1) }
     {
-        self.switch.backlog()
+        self.switch.live.backlog()
     }
 
     /// How many connections are live: asked for, open or closing. At most 64. Takes no memory.
@@ -265,7 +271,7 @@ impl Carrier {
         ensures value { result ≡ length self.now.state.live }
         ensures at_most { result ≤ 64 }
     {
-        self.switch.live()
+        self.switch.live.len()
     }
 
     /// Whether a live connection has this reference: one that is asked for, open or closing. Takes no
@@ -273,7 +279,7 @@ impl Carrier {
     pub fn is_live(&self, reference: Ref) -> bool
         ensures { result ≡ is_some (value_at reference.0 self.now.state.live) }
     {
-        self.switch.is_live(reference.0)
+        self.switch.live.is_live(reference.0)
     }
 
     /// The transport selectors that the CR of a live connection names, as it came or as it was asked
@@ -281,13 +287,13 @@ impl Carrier {
     pub fn tsaps(&self, reference: Ref) -> Option<Tsaps>
         ensures { option_map tsap_ids result ≡ tsaps_at reference.0 self.now.state }
     {
-        self.switch.tsaps(reference.0)
+        self.switch.names.find(reference.0)
     }
 
     /// How many references were given: they are the numbers from 1 up to this one. Takes no memory.
     pub fn given(&self) -> u16
         ensures { result ≡ self.now.state.given }
     {
-        self.switch.given()
+        self.switch.given
     }
 }

@@ -36,7 +36,8 @@ pub enum Step {
 }
 
 /// Writes all units that a link gives now, to this reference of the peer. Want of memory leaves the
-/// octets of `out` as they were, and comes only where the link gives a unit.
+/// octets of `out` as they were, and comes only where the link gives a unit, and never where there is room
+/// for all of them.
 #[inline(always)]
 pub fn pump(link: &mut AnyLink, peer: u16, out: &mut BytesMut) -> Result<(), AllocError>
     ensures link { OnOk result (any_standing link.new ≡ pumped (any_standing link.old)) }
@@ -44,28 +45,16 @@ pub fn pump(link: &mut AnyLink, peer: u16, out: &mut BytesMut) -> Result<(), All
     ensures pumped { OnOk result (next (any_standing link.new) ≡ None) }
     ensures err { OnErr result (out.new.items ≡ out.old.items) }
     ensures needs { OnErr result (nat_lt 0 (length (written_by peer (any_standing link.old))) ≡ true) }
-{
-    let before = out.len();
-    let Ok(()) = write_all(link, peer, out) else {
-        out.truncate(before);
-        return Err(AllocError);
-    };
-    Ok(())
-}
-
-/// The same, where want of memory may leave units behind what `out` held.
-#[inline(always)]
-fn write_all(link: &mut AnyLink, peer: u16, out: &mut BytesMut) -> Result<(), AllocError>
-    ensures link { OnOk result (any_standing link.new ≡ pumped (any_standing link.old)) }
-    ensures ok { OnOk result (out.new.items ≡ out.old.items ++ packets (written_by peer (any_standing link.old))) }
-    ensures pumped { OnOk result (next (any_standing link.new) ≡ None) }
-    ensures front { OnErr result (take (length out.old.items) out.new.items ≡ out.old.items) }
     ensures enough { length (packets (written_by peer (any_standing link.old))) ≤ out.old.spare → IsOk result }
 {
     giving_ends();
     all_is_given();
+    let before = out.len();
     'units: while let Some(unit) = link.next_out() {
-        put_given(out, peer, &unit)?;
+        let Ok(()) = put_given(out, peer, &unit) else {
+            out.truncate(before);
+            return Err(AllocError);
+        };
     }
     Ok(())
 }
@@ -185,7 +174,7 @@ fn send_parts(
         return Ok(());
     }
     keep(link, tsdu)?;
-    let Ok(()) = write_all(link, peer, out) else {
+    let Ok(()) = pump(link, peer, out) else {
         unreachable!()
     };
     Ok(())
@@ -225,7 +214,7 @@ pub fn send_all_on(
     };
     out.reserve(room)?;
     keep_all(link, tsdus)?;
-    let Ok(()) = write_all(link, peer, out) else {
+    let Ok(()) = pump(link, peer, out) else {
         unreachable!()
     };
     Ok(())

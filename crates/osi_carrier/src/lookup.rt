@@ -1,7 +1,7 @@
 //! Where the row of a reference stands in a table: at one look where none between it and the first was
 //! dropped, and else by halves.
 
-ghost use Rattle.std.specs.Prelude.{◌≡◌, ◌++◌, ◌∷◌, [], true, Some, IfSome};
+ghost use Rattle.std.specs.Prelude.{◌≡◌, ◌++◌, ◌∷◌, [], true};
 ghost use Rattle.osi_carrier.specs.Rising.{RiseBy, place_by};
 
 /// A row of a table by reference.
@@ -13,22 +13,6 @@ pub trait Referred {
     /// The reference that this end gave.
     fn reference(&self) -> u16
         ensures { result ≡ reference_of self.now };
-}
-
-/// The place of a reference as far behind the first one as they are apart: it stands there where the
-/// rows rise and none between the two was dropped.
-#[inline]
-fn near<R: Referred>(rows: &[R], reference: u16) -> Option<usize>
-    ensures { IfSome result (λ place. RiseBy R.reference_of 0 rows.now → place_by R.reference_of reference rows.now ≡ Some place) }
-{
-    let [first, ..] = rows else {
-        return None;
-    };
-    let place = reference.wrapping_sub(first.reference()) as usize;
-    if place < rows.len() && rows[place].reference() == reference {
-        return Some(place);
-    }
-    None
 }
 
 /// The place of a reference among rows that rise, looked for by halves.
@@ -51,7 +35,8 @@ pub fn is_above<R: Referred>(rows: &[R], reference: u16) -> bool
     rows[rows.len() - 1].reference() < reference
 }
 
-/// The place of a reference among rows, which may rise.
+/// The place of a reference among rows, which may rise: then it stands as far behind the first one as
+/// they are apart, where none between the two was dropped.
 #[inline]
 pub fn place_in<R: Referred>(rows: &[R], rises: bool, reference: u16) -> Option<usize>
     requires { rises ≡ true → RiseBy R.reference_of 0 rows.now }
@@ -60,8 +45,12 @@ pub fn place_in<R: Referred>(rows: &[R], rises: bool, reference: u16) -> Option<
     if !rises {
         return rows.iter().position(|row| row.reference() == reference);
     }
-    match near(rows, reference) {
-        Some(place) => Some(place),
-        None => halve(rows, reference),
+    let [first, ..] = rows else {
+        return None;
+    };
+    let place = reference.wrapping_sub(first.reference()) as usize;
+    if place < rows.len() && rows[place].reference() == reference {
+        return Some(place);
     }
+    halve(rows, reference)
 }

@@ -1,8 +1,8 @@
 //! The live connections, in the order of their references.
 
-ghost use Rattle.std.specs.Prelude.{◌≡◌, ◌*◌, ◌^◌, ◌-◌, ◌<◌, ◌≤◌, ◌∷◌, ◌++◌, ◌==◌, [], Some, true, length, map, min, is_some, IsOk, IfOk, IfSome, OnOk, OnErr};
+ghost use Rattle.std.specs.Prelude.{◌≡◌, ◌*◌, ◌^◌, ◌-◌, ◌<◌, ◌≤◌, ◌∷◌, ◌++◌, ◌==◌, [], None, Some, true, length, map, min, is_some, IsOk, IfOk, IfSome, OnOk, OnErr};
 ghost use Rattle.std.specs.Cow.{cow_slice_items, IsOwnedSlice};
-ghost use Rattle.osi_carrier.specs.Calls.{backlog_of, begun_by, kept_in, unsent_at, unsent_by, WaitsAlone};
+ghost use Rattle.osi_carrier.specs.Calls.{backlog_of, begun_by, kept_in, link_of, unsent_at, unsent_by, WaitsAlone};
 ghost use Rattle.osi_carrier.specs.Live.{connection, IsPumped};
 ghost use Rattle.osi_carrier.specs.Orderly.{RiseFrom};
 ghost use Rattle.osi_carrier.specs.Pump.{pumped, written_by, written_for};
@@ -269,6 +269,21 @@ impl Connections {
         ensures { result ≡ place_of reference self.now }
     {
         place_in(self.rows.as_slice(), self.rises, reference)
+    }
+
+    /// The place of the open connection of a reference, and the reference of its peer.
+    #[inline(always)]
+    pub fn open_at(&self, reference: u16) -> Option<(usize, u16)>
+        ensures open { IfSome result (λ o. (place_of reference self.now ≡ Some o.0) × (stage_of (value_at reference self.now) ≡ Stage.Open o.1)) }
+        ensures none { result ≡ None → link_of (value_at reference self.now) ≡ None }
+    {
+        let Some(place) = place_in(self.rows.as_slice(), self.rises, reference) else {
+            return None;
+        };
+        let Stage::Open(peer) = self.stage(place, reference) else {
+            return None;
+        };
+        Some((place, peer))
     }
 
     /// The reference that was given first of those that are live.

@@ -24,17 +24,17 @@ pub struct Switch {
     local: Local,
     is_caller: bool,
     /// The class that was selected on this byte connection.
-    class: Option<Class>,
+    pub class: Option<Class>,
     /// How many references were given.
-    given: u16,
-    live: Connections,
+    pub given: u16,
+    pub live: Connections,
     /// The transport selectors of the live connections.
-    names: Names,
+    pub names: Names,
     /// Octets to be carried to the peer.
-    outgoing: BytesMut,
+    pub outgoing: BytesMut,
     /// What the user is still to be told.
-    events: Queue<Event>,
-    ended: Option<EndReason>,
+    pub events: Queue<Event>,
+    pub ended: Option<EndReason>,
 }
 
 impl Model for Switch {

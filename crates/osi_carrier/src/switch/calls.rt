@@ -58,94 +58,6 @@ impl Switch {
         }
     }
 
-    /// How many references were given.
-    pub fn given(&self) -> u16
-        ensures { result ≡ self.now.given }
-    {
-        self.given
-    }
-
-    /// Why the carrier ended.
-    pub fn ended(&self) -> Option<EndReason>
-        ensures { result ≡ self.now.ended }
-    {
-        self.ended
-    }
-
-    /// What the user is to be told next.
-    pub fn next_event(&mut self) -> Option<Event>
-        ensures { Tells (option_map happening result) self.old self.new }
-    {
-        self.events.pop()
-    }
-
-    /// The octets to be carried to the peer.
-    pub fn outgoing(&self) -> &[u8]
-        ensures { result.now ≡ self.now.outgoing }
-    {
-        self.outgoing.as_slice()
-    }
-
-    /// The first octets of [`Switch::outgoing`] were carried. Where these are all, what is written next
-    /// goes to the front of the buffer.
-    #[tactic(auto, using(std::proofs::lemmas::List::drop_all))]
-    pub fn taken(&mut self, octets: usize)
-        requires { octets ≤ length self.old.outgoing }
-        ensures { self.new ≡ record self.old { outgoing = drop octets self.old.outgoing } }
-    {
-        if octets == self.outgoing.len() {
-            self.outgoing.clear();
-            return;
-        }
-        self.outgoing.advance(octets);
-    }
-
-    /// The octets of the unfinished TSDUs of open connections.
-    pub fn kept(&self) -> usize
-        ensures value { result ≡ kept_in self.now.live }
-        ensures at_most { result ≤ 1048576 * length self.now.live }
-        ensures bound { result ≤ 67108864 }
-    {
-        self.live.kept()
-    }
-
-    /// The octets of TSDUs that were handed in at the connection of this reference and are not yet in
-    /// units.
-    pub fn unsent(&self, reference: u16) -> usize
-        ensures { result ≡ unsent_at (value_at reference self.now.live) }
-    {
-        self.live.unsent(reference)
-    }
-
-    /// Those of all connections, or `usize::MAX` where they are more.
-    pub fn backlog(&self) -> usize
-        ensures { result ≡ min (backlog_of self.now.live) (2 ^ 64 - 1) }
-    {
-        self.live.backlog()
-    }
-
-    /// How many connections are live, at most 64.
-    pub fn live(&self) -> usize
-        ensures value { result ≡ length self.now.live }
-        ensures at_most { result ≤ 64 }
-    {
-        self.live.len()
-    }
-
-    /// Whether a live connection has this reference.
-    pub fn is_live(&self, reference: u16) -> bool
-        ensures { result ≡ is_some (value_at reference self.now.live) }
-    {
-        self.live.is_live(reference)
-    }
-
-    /// The transport selectors that the CR of a live connection names.
-    pub fn tsaps(&self, reference: u16) -> Option<Tsaps>
-        ensures { option_map tsap_ids result ≡ tsaps_at reference self.now }
-    {
-        self.names.find(reference)
-    }
-
     /// The carrier ends, unless it has ended.
     pub fn end_by(&mut self, reason: EndReason)
         ensures { self.new ≡ ended_by reason self.old }
@@ -167,13 +79,10 @@ impl Switch {
         if self.ended.is_some() {
             return Err(SendError::NotOpen);
         }
-        let Some(place) = self.live.find(reference) else {
+        let Some((place, peer)) = self.live.open_at(reference) else {
             return Err(SendError::NotOpen);
         };
-        match self.live.stage(place, reference) {
-            Stage::Unknown | Stage::Asking | Stage::Leaving => Err(SendError::NotOpen),
-            Stage::Open(peer) => self.close_open(place, reference, peer, reason),
-        }
+        self.close_open(place, reference, peer, reason)
     }
 
     fn close_open(
@@ -212,30 +121,9 @@ impl Switch {
         if self.ended.is_some() {
             return Err(SendError::NotOpen);
         }
-        let Some(place) = self.live.find(reference) else {
+        let Some((place, peer)) = self.live.open_at(reference) else {
             return Err(SendError::NotOpen);
         };
-        match self.live.stage(place, reference) {
-            Stage::Unknown | Stage::Asking | Stage::Leaving => Err(SendError::NotOpen),
-            Stage::Open(peer) => self.send_open(place, reference, peer, tsdu),
-        }
-    }
-
-    fn send_open(
-        &mut self,
-        place: usize,
-        reference: u16,
-        peer: u16,
-        tsdu: CowSlice<'_, u8, Global>,
-    ) -> Result<(), SendError>
-        requires place { place_of reference self.old.live ≡ Some place }
-        requires open { stage_of (value_at reference self.old.live) ≡ Stage.Open peer }
-        ensures ok { OnOk result (self.new ≡ pumps reference peer (with_tsdu (link_in (value_at reference self.old.live)) (cow_slice_items tsdu.entry)) self.old) }
-        ensures allowed { OnOk result (length_error (cow_slice_items tsdu.entry) ≡ None) }
-        ensures refused { IfErr result (λ e. call_error e ≡ length_error (cow_slice_items tsdu.entry)) }
-        ensures err { OnErr result (self.new ≡ self.old) }
-        ensures kept { IsOwnedSlice tsdu.entry → WaitsAlone (link_in (value_at reference self.old.live)) (cow_slice_items tsdu.entry) → result ≢ Err SendError.OutOfMemory }
-    {
         if tsdu.len() > LONGEST_TSDU {
             return Err(SendError::TooLong);
         }

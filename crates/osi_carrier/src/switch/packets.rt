@@ -1,19 +1,16 @@
 //! The units of a packet, one after the other (X.224 section 6.4).
 
-ghost use Rattle.std.specs.Prelude.{◌≡◌, ◌∷◌, [], None, Some, Ok, IfSome};
+ghost use Rattle.std.specs.Prelude.{◌≡◌, ℕ, ◌∷◌, [], None, Some, true, false};
 ghost use Rattle.osi_class.specs.Link.{taken};
-ghost use Rattle.osi_tpdu.specs.Packet.{units_of};
-ghost use Rattle.osi_tpdu.specs.Value.{data2};
 ghost use Rattle.osi_tpdu.specs.Units.{units_left};
 ghost use Rattle.osi_tpdu.specs.View.{value};
 ghost use Rattle.osi_carrier.specs.Packets.{Act, Acts, after_refusal};
 ghost use Rattle.osi_carrier.specs.React.{in_class, taking};
-ghost use Rattle.osi_carrier.specs.Rows.{place_of, value_at};
+ghost use Rattle.osi_carrier.specs.Rows.{value_at};
 ghost use Rattle.osi_carrier.specs.Stages.{stage_of, link_in};
 
 use super::Switch;
 use crate::ends::{CarrierFault, EndReason};
-use crate::stages::Stage;
 use osi_class::Class;
 use osi_tpdu::{DataAcknowledgement, DataClass0, DataClass2, Tpdu, Units, read_units};
 use osi_tpkt::TpktFault;
@@ -29,13 +26,20 @@ impl Switch {
         match self.class {
             None => self.take_any(packet),
             Some(Class::Zero) => self.take_in_zero(packet),
-            Some(Class::Two) => self.take_in_two(packet),
+            Some(Class::Two) => {
+                let Some(data) = DataClass2::from_packet(packet) else {
+                    return self.take_ack(packet);
+                };
+                if self.take_open(data.destination, &Tpdu::Dt2(data)) {
+                    return;
+                }
+                self.take_any(packet);
+            }
         }
     }
 
     /// The same in class 0.
     #[inline(always)]
-    #[tactic(auto, using(crate::proofs::ByStage::data0_taken))]
     fn take_in_zero(&mut self, packet: &[u8])
         requires lasts { self.old.ended ≡ None }
         requires class { self.old.class ≡ Some Class.Zero }
@@ -47,77 +51,45 @@ impl Switch {
         let Some(reference) = self.live.first() else {
             return self.take_any(packet);
         };
-        let Some((place, peer)) = self.open_at(reference) else {
-            return self.take_any(packet);
-        };
-        self.take_open(place, reference, peer, &Tpdu::Dt0(data));
+        if self.take_open(reference, &Tpdu::Dt0(data)) {
+            return;
+        }
+        self.take_any(packet);
     }
 
-    /// The same in class 2.
+    /// A packet in class 2 that is not one DT.
     #[inline(always)]
-    #[tactic(auto, using(crate::proofs::ByStage::ack_taken))]
-    fn take_in_two(&mut self, packet: &[u8])
+    fn take_ack(&mut self, packet: &[u8])
         requires lasts { self.old.ended ≡ None }
         requires class { self.old.class ≡ Some Class.Two }
         ensures { Acts self.old packet.now self.new }
     {
-        if let Some(unit) = DataClass2::from_packet(packet) {
-            return self.take_data(packet, unit);
-        }
         let Some(ack) = DataAcknowledgement::from_packet(packet) else {
             return self.take_any(packet);
         };
-        let reference = ack.destination;
-        let Some((place, peer)) = self.open_at(reference) else {
-            return self.take_any(packet);
-        };
-        self.take_open(place, reference, peer, &Tpdu::Ak(ack));
+        if self.take_open(ack.destination, &Tpdu::Ak(ack)) {
+            return;
+        }
+        self.take_any(packet);
     }
 
-    /// A packet of one DT of class 2.
+    /// The only unit of a packet, where it is for the link of the open connection of this reference.
+    /// `false` where there is none, and then nothing has changed.
     #[inline(always)]
-    #[tactic(auto, using(crate::proofs::ByStage::data2_taken))]
-    fn take_data(&mut self, packet: &[u8], unit: DataClass2<'_>)
+    fn take_open(&mut self, reference: u16, unit: &Tpdu<'_>) -> bool
         requires lasts { self.old.ended ≡ None }
-        requires class { self.old.class ≡ Some Class.Two }
-        requires only { units_of packet.now ≡ Ok (data2 unit.destination unit.number unit.end unit.user.now ∷ []) }
-        ensures { Acts self.old packet.now self.new }
+        requires acts { (peer : ℕ) → stage_of (value_at reference self.old.live) ≡ Stage.Open peer → in_class self.old.class (value unit.now) self.old ≡ taking reference peer (taken (link_in (value_at reference self.old.live)) (value unit.now)) self.old }
+        ensures acts { result ≡ true → Act self.old (value unit.now ∷ []) self.new }
+        ensures none { result ≡ false → self.new ≡ self.old }
     {
-        let reference = unit.destination;
-        let Some((place, peer)) = self.open_at(reference) else {
-            return self.take_any(packet);
+        let Some((place, peer)) = self.live.open_at(reference) else {
+            return false;
         };
-        self.take_open(place, reference, peer, &Tpdu::Dt2(unit));
-    }
-
-    /// The place of an open connection and the reference of its peer.
-    #[inline(always)]
-    fn open_at(&self, reference: u16) -> Option<(usize, u16)>
-        ensures { IfSome result (λ o. (place_of reference self.now.live ≡ Some o.0) × (stage_of (value_at reference self.now.live) ≡ Stage.Open o.1)) }
-    {
-        let Some(place) = self.live.find(reference) else {
-            return None;
-        };
-        let Stage::Open(peer) = self.live.stage(place, reference) else {
-            return None;
-        };
-        Some((place, peer))
-    }
-
-    /// The only unit of a packet, which is for the link of an open connection.
-    #[inline(always)]
-    #[tactic(auto, using(crate::proofs::Reacts::one_taken))]
-    fn take_open(&mut self, place: usize, reference: u16, peer: u16, unit: &Tpdu<'_>)
-        requires lasts { self.old.ended ≡ None }
-        requires place { place_of reference self.old.live ≡ Some place }
-        requires open { stage_of (value_at reference self.old.live) ≡ Stage.Open peer }
-        requires acts { in_class self.old.class (value unit.now) self.old ≡ taking reference peer (taken (link_in (value_at reference self.old.live)) (value unit.now)) self.old }
-        ensures { Act self.old (value unit.now ∷ []) self.new }
-    {
         let Ok(()) = self.take(place, reference, peer, unit) else {
             self.end(EndReason::NoMemory);
-            return;
+            return true;
         };
+        true
     }
 
     /// A packet that may hold any units.

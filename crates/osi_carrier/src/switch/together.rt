@@ -38,13 +38,10 @@ impl Switch {
         if self.ended.is_some() {
             return Err(SendError::NotOpen);
         }
-        let Some(place) = self.live.find(reference) else {
+        let Some((place, peer)) = self.live.open_at(reference) else {
             return Err(SendError::NotOpen);
         };
-        match self.live.stage(place, reference) {
-            Stage::Unknown | Stage::Asking | Stage::Leaving => Err(SendError::NotOpen),
-            Stage::Open(peer) => self.send_all_open(place, reference, peer, tsdus),
-        }
+        self.send_all_open(place, reference, peer, tsdus)
     }
 
     fn send_all_open(

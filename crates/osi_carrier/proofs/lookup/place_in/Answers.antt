@@ -1,6 +1,6 @@
 use Rattle.std.proofs.Common.{ap, sym, ◌∙◌, arith}
 use Rattle.osi_carrier.proofs.Order.{place_here}
-use Rattle.osi_carrier.proofs.lookup.near.Goals as goal
+use Rattle.osi_carrier.proofs.lookup.place_in.Goals as goal
 
 pub returns-then-reference : goal.returns-then-reference
 returns-then-reference g c = λ h.

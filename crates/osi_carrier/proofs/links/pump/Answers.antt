@@ -2,7 +2,7 @@ use Rattle.std.proofs.Common.{◌<◌, subst, arith}
 use Rattle.osi_class.specs.AnyLink.{any_standing}
 use Rattle.osi_class.specs.Link.{next, given, Gives}
 use Rattle.osi_carrier.proofs.Pumping.{pumping_next, pumping_room}
-use Rattle.osi_carrier.proofs.links.write_all.Goals as goal
+use Rattle.osi_carrier.proofs.links.pump.Goals as goal
 
 pub units-preserved : goal.units-preserved
 units-preserved c =

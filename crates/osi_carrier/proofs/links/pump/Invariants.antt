@@ -4,7 +4,7 @@ use Rattle.osi_class.specs.Giving.{left_to_give}
 use Rattle.osi_carrier.specs.Pump.{written_by}
 use Rattle.osi_carrier.specs.State.{packets}
 use Rattle.osi_carrier.proofs.Pumping.{IsPumping}
-use Rattle.osi_carrier.proofs.links.write_all.Given as goal
+use Rattle.osi_carrier.proofs.links.pump.Given as goal
 
 abbrev pub invariant-units : goal.invariant-units
 invariant-units l = IsPumping l.fn.peer (any_standing l.fn.link) l.fn.out.items (any_standing l.link) l.out.items
