@@ -4,7 +4,7 @@ use Rattle.std.proofs.Common.{eq-eqb}
 use Rattle.std.proofs.lemmas.Grind.{common_steps}
 use Rattle.std.specs.List.{position_or_len}
 use Rattle.osi_tpdu.specs.Value.{Value, data0, data2, acknowledge}
-use Rattle.osi_class.specs.Link.{taken}
+use Rattle.osi_class.specs.Link.{Standing, taken}
 use Rattle.osi_class.specs.declared.terms.Class.TheVariants.{Zero, Two}
 use Rattle.osi_carrier.specs.Rows.{Rows, value_at, place_of, first_of}
 use Rattle.osi_carrier.specs.Calls.{open_link, link_of, WaitsAlone, WaitsOn}
@@ -72,13 +72,16 @@ pub only_none : (live : Rows Connection) (unit : Value) (s : State) → first_of
 only_none [] unit s e = refl
 only_none ((q, y) ∷ rows) unit s e = cc
 
-link_by : (b : Bool) (o : Option Connection) → o ≡ None → (if b then None else link_of o) ≡ None
+link_by : (b : Bool) (o : Option (ℕ × Standing)) → o ≡ None → (if b then None else o) ≡ None
 link_by true o e = refl
-link_by false o e = ap link_of e
+link_by false o e = e
 
--- what has no connection has no open link
+-- what has no open connection has no open link
+pub not_open : (r : ℕ) (s : State) → link_of (value_at r s.live) ≡ None → open_link r s ≡ None
+not_open r s e = link_by (is_some s.ended) (link_of (value_at r s.live)) e
+
 pub no_link : (r : ℕ) (s : State) → value_at r s.live ≡ None → open_link r s ≡ None
-no_link r s e = link_by (is_some s.ended) (value_at r s.live) e
+no_link r s e = not_open r s (ap link_of e)
 
 live_by : (r : ℕ) (rows : Rows Connection) (o : Option ℕ) → place_of r rows ≡ o → is_some o ≡ is_some (value_at r rows)
 live_by r rows None e = sym (ap is_some (nowhere r rows e))

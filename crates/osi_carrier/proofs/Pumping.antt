@@ -1,5 +1,6 @@
 -- Writing all that a link gives, one unit after the other.
-use Rattle.std.proofs.Common.{◌≡◌, ℕ, ◌+◌, ◌*◌, ◌≤◌, List, [], ◌∷◌, ◌++◌, length, take, map, refl, sym, ap, ◌∙◌, append_assoc, length-append, arith}
+use Rattle.std.proofs.Common.{◌≡◌, ℕ, ◌+◌, ◌*◌, ◌<◌, ◌≤◌, List, [], ◌∷◌, ◌++◌, length, take, map, refl, sym, ap, ◌∙◌, append_assoc, length-append, arith, inl, inr}
+use Rattle.std.proofs.lemmas.Bool.{cases_lt}
 use Rattle.std.proofs.lemmas.List.{append-nil, take_at}
 use Rattle.osi_tpkt.specs.Packet.{packet_of}
 use Rattle.osi_tpdu.specs.Value.{Value}
@@ -58,6 +59,16 @@ pumping_room peer now next unit e =
     let given : written_by peer now ≡ unit_of peer unit ∷ written_by peer next = ap (λ (d : Drained). map (unit_of peer) d.units) e in
     ap (λ us. length (packets us)) given ∙ ap length (packets_join (unit_of peer unit ∷ []) (written_by peer next))
     ∙ length-append (packets (unit_of peer unit ∷ [])) (packets (written_by peer next))
+
+-- where the next unit finds no room, there was none for all
+pub pumping_short : (peer : ℕ) (first now then : Standing) (unit : Given) (room left : ℕ) → drained now ≡ record { units = unit ∷ (drained then).units; link = (drained then).link } →
+    (length (packets (written_by peer first)) ≤ room → length (packets (written_by peer now)) ≤ left) → left < length (packets (unit_of peer unit ∷ [])) → room < length (packets (written_by peer first))
+pumping_short peer first now then unit room left e more full =
+    let less = pumping_room peer now then unit e in
+    elim (cases_lt room (length (packets (written_by peer first)))) [
+      | inl h ↦ h
+      | inr h ↦ (let enough = more h in absurd (omega arith))
+    ]
 
 unit_most : (peer : ℕ) (unit : Given) → length (packet_of (written (unit_of peer unit))) ≤ octets_of unit + 9
 unit_most peer (part0 end octets) = omega arith

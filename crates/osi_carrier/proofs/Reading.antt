@@ -4,13 +4,14 @@ use Rattle.std.proofs.lemmas.List.{append-nil, take-append-drop, take_at}
 use Rattle.std.proofs.Math.Seq.{drop-append_seam}
 use Rattle.osi_tpkt.specs.Packet.{IsPacket, IsFaultOf}
 use Rattle.osi_tpkt.specs.Stream.{ArePackets, offset_of}
+use Rattle.osi_tpkt.specs.declared.cutting.Fed.{Fed}
 use Rattle.osi_tpkt.specs.declared.faults.TpktFault.{TpktFault}
 use Rattle.osi_tpkt.specs.declared.faults.TpktFault.TheVariants.{BadVersion, BadLength, OutOfMemory}
 use Rattle.osi_tpdu.specs.Packet.{units_of}
 use Rattle.osi_tpdu.specs.Value.{Value}
 use Rattle.osi_tpdu.specs.declared.faults.TpduFault.{TpduFault}
 use Rattle.osi_carrier.specs.Fetching.{PacketActs, PartHeld, Faults, LacksRoom, EndsOver}
-use Rattle.osi_carrier.specs.Packets.{Carrying, IsReading, Acts, ActsBy, acts_by, after_packet, stops, waits, is_spoilt, TakesPackets, StopsBehind, Starves, HasToHold, FindsNoMemory, Goes, RunsOut}
+use Rattle.osi_carrier.specs.Packets.{Carrying, IsReading, Acts, ActsBy, acts_by, after_packet, stops, waits, is_spoilt, TakesPackets, StopsBehind, Starves, HasToHold, FindsNoMemory, Goes, Feeds, RunsOut}
 use Rattle.osi_carrier.specs.State.{State}
 use Rattle.osi_carrier.specs.declared.ends.EndReason.{EndReason}
 
@@ -323,3 +324,19 @@ goes_on old piece used new (inl (inl dry)) some = let all = dry.all in omega ari
 goes_on old piece used new (inl (inr stop)) some = used_some (is_spoilt new.state.ended) used (length piece) stop.within stop.uses some stop.some
 goes_on old piece used new (inr (inl refused)) some = let all = refused.all in omega arith
 goes_on old piece used new (inr (inr starved)) some = let all = starved.all in omega arith
+
+-- feeding that goes on feeds
+pub fed_goes : (old : Carrying) (piece : List ℕ) (used : ℕ) (fed : Fed) (new : Carrying) → stops old.state ≡ false → 0 < length piece → Goes old piece used new → used ≤ length piece →
+    fed.used ≡ used → fed.whole ≡ waits new.state → Feeds old piece fed new
+fed_goes old piece used fed new quiet some goes bound is whole = record {
+  over = λ over. absurd (let stopped : stops old.state ≡ true = ap (λ b. b || waits old.state) over in cc);
+  waiting = λ none waiting. absurd (let stopped : stops old.state ≡ true = ap (λ o. is_some o || waits old.state) none ∙ waiting in cc);
+  goes = λ _. subst (λ (n : ℕ). Goes old piece n new) (sym is) goes;
+  whole = whole;
+  bound = omega arith;
+  progress = λ _ any. (let on = goes_on old piece used new goes any in omega arith);
+}
+
+-- nothing has ended, and nothing waits
+pub quiet_by : (s : State) → is_some s.ended ≡ false → waits s ≡ false → stops s ≡ false
+quiet_by s alive none = ap (λ b. b || waits s) alive ∙ none

@@ -50,6 +50,9 @@ opened : (r peer : ℕ) (link : Standing) (s : State) → s.ended ≡ None → v
 opened r peer link s alive at =
     ap (λ (e : Option EndReason). if is_some e then None else link_of (value_at r s.live)) alive ∙ ap link_of at
 
+pub open_here : (r peer : ℕ) (s : State) → s.ended ≡ None → stage_of (value_at r s.live) ≡ Open peer → open_link r s ≡ Some (peer, link_in (value_at r s.live))
+open_here r peer s alive e = opened r peer (link_in (value_at r s.live)) s alive (open_is (value_at r s.live) peer e)
+
 -- what is written for one, and then for the others
 written_then : (peer : ℕ) (link : Standing) (t : List ℕ) (ts : List (List ℕ)) (before : List ℕ) →
     (before ++ packets (written_by peer (with_tsdu link t))) ++ packets (written_for peer (pumped (with_tsdu link t)) ts)

@@ -14,6 +14,8 @@ use std::marker::Model;
 
 mod feeding;
 
+use feeding::Fetched;
+
 /// The transport protocol of one end of a byte connection (X.224 classes 0 and 2 over RFC 1006):
 /// connections by reference, each with TSDUs each way.
 #[derive(Drop)]
@@ -42,7 +44,7 @@ impl Carrier {
     ghost use Rattle.osi_carrier.specs.Calls.{fresh_state, may_connect, open_error, asks, open_link, close_error, send_error, send_all_error, call_error, closed_with, sent, sent_all, ended_by, kept_in, unsent_at, backlog_of, tsaps_at, Tells, WaitsOn};
     ghost use Rattle.osi_carrier.specs.Rows.{value_at};
     ghost use Rattle.osi_carrier.specs.Happenings.{happening};
-    ghost use Rattle.osi_carrier.specs.Packets.{Feeds};
+    ghost use Rattle.osi_carrier.specs.Packets.{Feeds, waits};
     ghost use Rattle.osi_carrier.specs.Selectors.{tsap_ids};
     ghost use Rattle.osi_carrier.specs.declared.ends.EndReason.TheVariants.{Broken, NoMemory};
     ghost use Rattle.osi_class.specs.declared.terms.Class.TheVariants.{Zero};
@@ -160,30 +162,44 @@ impl Carrier {
     /// An empty piece changes nothing. While an event waits nothing is used; else some of a piece that
     /// is not empty is. All of the piece is used after the end, and where the carrier ends now by a fault
     /// or for want of memory.
-    #[tactic(auto, using(crate::proofs::Reading::goes_on))]
     pub fn feed(&mut self, piece: &[u8]) -> Fed
         ensures feeds { Feeds self.old piece.now result self.new }
         ensures empty { piece.now ≡ [] → (result.used ≡ 0) × (self.new ≡ self.old) }
     {
+        // Named for the proof: what every cutter holds.
+        let _cutter = &self.cutter;
         if piece.is_empty() {
-            return Fed {
-                used: 0,
-                whole: self.switch.has_event(),
-            };
+            return self.fed(0);
         }
         if self.switch.has_ended() {
-            return Fed {
-                used: piece.len(),
-                whole: self.switch.has_event(),
-            };
+            return self.fed(piece.len());
         }
         if self.switch.has_event() {
-            return Fed {
-                used: 0,
-                whole: true,
-            };
+            return self.fed(0);
         }
-        let used = self.read(piece);
+        let mut rest = piece;
+        'packets: loop {
+            let used = match self.fetch(rest) {
+                Fetched::Over | Fetched::Part => return self.fed(piece.len()),
+                Fetched::Packet(used) => used,
+            };
+            let (_, behind) = rest.split_at(used);
+            rest = behind;
+            if self.switch.is_spoilt() {
+                return self.fed(piece.len());
+            }
+            if self.switch.stops() {
+                return self.fed(piece.len() - rest.len());
+            }
+        }
+    }
+
+    /// So many octets were used, and perhaps an event waits.
+    #[inline(always)]
+    fn fed(&self, used: usize) -> Fed
+        ensures used { result.used ≡ used }
+        ensures whole { result.whole ≡ waits self.now.state }
+    {
         Fed {
             used,
             whole: self.switch.has_event(),
@@ -246,7 +262,7 @@ impl Carrier {
         ensures value { result ≡ length self.now.held.octets + kept_in self.now.state.live }
         ensures at_most { result ≤ 65535 + 1048576 * length self.now.state.live }
     {
-        self.cutter.rest_len() + self.switch.live.kept()
+        self.cutter.rest_len() + self.switch.kept()
     }
 
     /// How many octets of TSDUs were handed in at a connection and are not yet in units: what credit

@@ -1,22 +1,18 @@
 //! The links of open connections: units that come for them, and units that they give.
 
-ghost use Rattle.std.specs.Prelude.{◌≡◌, ◌<◌, ◌≤◌, ◌++◌, [], None, true, false, nat_lt, take, length, map, IsOk, IfOk, OnOk, OnErr};
+ghost use Rattle.std.specs.Prelude.{◌≡◌, ◌<◌, ◌≤◌, ◌++◌, [], None, true, false, nat_lt, length, map, IsOk, OnOk, OnErr};
 ghost use Rattle.std.specs.Cow.{cow_slice_items, IsOwnedSlice};
-ghost use Rattle.osi_tpdu.specs.View.{value};
 ghost use Rattle.osi_class.specs.AnyLink.{any_standing};
 ghost use Rattle.osi_class.specs.Giving.{all_given, octets_in, one_by_one};
-ghost use Rattle.osi_class.specs.Link.{taken, next, with_tsdu, with_tsdus};
+ghost use Rattle.osi_class.specs.Link.{next, with_tsdu, with_tsdus};
 ghost use Rattle.osi_carrier.specs.Calls.{WaitsAlone};
 ghost use Rattle.osi_carrier.specs.Pump.{pumped, written_by, written_for};
-ghost use Rattle.osi_carrier.specs.React.{handed_out};
 ghost use Rattle.osi_carrier.specs.State.{packets};
-ghost use Rattle.osi_carrier.specs.Steps.{StepsTo, link_after, units_after, link_grows};
 
 use crate::writing::put_given;
 use bytes::BytesMut;
 use osi_class::laws::{all_is_given, giving_ends, many_go_as_one_by_one, what_units_take};
 use osi_class::{AnyLink, Link, LinkFault};
-use osi_tpdu::Tpdu;
 use std::alloc::{AllocError, Global};
 use std::borrow::CowSlice;
 
@@ -59,60 +55,10 @@ pub fn pump(link: &mut AnyLink, peer: u16, out: &mut BytesMut) -> Result<(), All
     Ok(())
 }
 
-/// Hands a unit to the link, and what the link gives then to `out`. Want of memory leaves the octets
-/// of `out` as they were, and comes only where something is to be written, told or kept.
-#[inline(always)]
-pub fn take_unit(
-    link: &mut AnyLink,
-    peer: u16,
-    unit: &Tpdu<'_>,
-    out: &mut BytesMut,
-) -> Result<Step, AllocError>
-    ensures step { IfOk result (λ s. StepsTo s (taken (any_standing link.old) (value unit.now))) }
-    ensures link { OnOk result (any_standing link.new ≡ link_after (any_standing link.old) (taken (any_standing link.old) (value unit.now))) }
-    ensures ok { OnOk result (out.new.items ≡ out.old.items ++ packets (units_after peer (taken (any_standing link.old) (value unit.now)))) }
-    ensures pumped { next (any_standing link.old) ≡ None → OnOk result (next (any_standing link.new) ≡ None) }
-    ensures err { OnErr result (out.new.items ≡ out.old.items) }
-    ensures needs { OnErr result (link_grows peer (any_standing link.old) (taken (any_standing link.old) (value unit.now)) ≡ true) }
-{
-    match link.take(unit) {
-        Ok(()) => {}
-        Err(LinkFault::OutOfMemory) => return Err(AllocError),
-        Err(fault) => return Ok(Step::Broke(fault)),
-    }
-    let whole = link.next_tsdu();
-    pump(link, peer, out)?;
-    Ok(Step::Took(whole))
-}
-
-/// Hands in a TSDU at a link that gives nothing now, and writes all units that it gives then. Where
-/// all of it goes now, its octets are copied straight into these units; else the link keeps it, and copies
-/// it only where it was borrowed. Want of memory changes nothing: the room for the units is made first. An
-/// owned TSDU that waits alone needs none.
-#[inline(always)]
-pub fn send_on(
-    link: &mut AnyLink,
-    peer: u16,
-    tsdu: CowSlice<'_, u8, Global>,
-    out: &mut BytesMut,
-) -> Result<(), AllocError>
-    requires { next (any_standing link.old) ≡ None }
-    ensures link { OnOk result (any_standing link.new ≡ pumped (with_tsdu (any_standing link.old) (cow_slice_items tsdu.entry))) }
-    ensures ok { OnOk result (out.new.items ≡ out.old.items ++ packets (written_by peer (with_tsdu (any_standing link.old) (cow_slice_items tsdu.entry)))) }
-    ensures pumped { OnOk result (next (any_standing link.new) ≡ None) }
-    ensures err { OnErr result ((any_standing link.new ≡ any_standing link.old) × (out.new.items ≡ out.old.items)) }
-    ensures kept { IsOwnedSlice tsdu.entry → WaitsAlone (any_standing link.old) (cow_slice_items tsdu.entry) → IsOk result }
-{
-    if send_whole(link, peer, tsdu.as_slice(), out) {
-        return Ok(());
-    }
-    send_parts(link, peer, tsdu, out)
-}
-
 /// Writes a TSDU as one unit straight from its octets, where it fits one, the link gives it now and
 /// there is memory. `false` in all other cases, and then nothing has changed.
 #[inline(always)]
-fn send_whole(link: &mut AnyLink, peer: u16, tsdu: &[u8], out: &mut BytesMut) -> bool
+pub fn send_whole(link: &mut AnyLink, peer: u16, tsdu: &[u8], out: &mut BytesMut) -> bool
     ensures link { result ≡ true → any_standing link.new ≡ pumped (with_tsdu (any_standing link.old) tsdu.now) }
     ensures written { result ≡ true → out.new.items ≡ out.old.items ++ packets (written_by peer (with_tsdu (any_standing link.old) tsdu.now)) }
     ensures pumped { result ≡ true → next (any_standing link.new) ≡ None }
@@ -150,9 +96,10 @@ fn keep(link: &mut AnyLink, tsdu: CowSlice<'_, u8, Global>) -> Result<(), AllocE
     }
 }
 
-/// Hands in a TSDU of which not all may be sent now, or which takes several units. It is kept only in
-/// the first case.
-fn send_parts(
+/// Hands in a TSDU at a link that gives nothing now, and writes all units that it gives then, where not all may
+/// be sent now, or it takes several units. It is kept only in the first case, and copied only where it was
+/// borrowed. Want of memory changes nothing: the room for the units is made first.
+pub fn send_parts(
     link: &mut AnyLink,
     peer: u16,
     tsdu: CowSlice<'_, u8, Global>,

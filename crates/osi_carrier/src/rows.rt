@@ -15,11 +15,11 @@ ghost use Rattle.osi_class.specs.Giving.{one_by_one};
 ghost use Rattle.osi_class.specs.Link.{taken, with_tsdu};
 ghost use Rattle.osi_tpdu.specs.View.{value};
 
-use crate::links::{Step, send_all_on, send_on, take_unit};
+use crate::links::{Step, pump, send_all_on, send_parts, send_whole};
 use crate::lookup::{Referred, is_above, place_in};
 use crate::stages::Stage;
 use bytes::BytesMut;
-use osi_class::{AnyLink, Link};
+use osi_class::{AnyLink, Link, LinkFault};
 use osi_tpdu::Tpdu;
 use std::alloc::{AllocError, Global};
 use std::borrow::CowSlice;
@@ -130,19 +130,28 @@ impl Row {
         ensures err { OnErr result (out.new.items ≡ out.old.items) }
         ensures needs { OnErr result (link_grows peer (link_in (Some self.old.1)) (taken (link_in (Some self.old.1)) (value unit.now)) ≡ true) }
     {
-        let result = match &mut self.phase {
-            Phase::Asked | Phase::Closing(_) => unreachable!(),
-            Phase::Linked(_, link) => take_unit(link, peer, unit, out),
+        let Phase::Linked(_, link) = &mut self.phase else {
+            unreachable!()
         };
-        let Ok(step) = result else {
+        match link.take(unit) {
+            Ok(()) => {}
+            Err(LinkFault::OutOfMemory) => {
+                give_up(&mut self.phase, peer);
+                return Err(AllocError);
+            }
+            Err(fault) => return Ok(Step::Broke(fault)),
+        }
+        let whole = link.next_tsdu();
+        let Ok(()) = pump(link, peer, out) else {
             give_up(&mut self.phase, peer);
             return Err(AllocError);
         };
-        Ok(step)
+        Ok(Step::Took(whole))
     }
 
     /// Hands in a TSDU at the link of the connection, which is open with this reference of the peer,
-    /// and writes what the link gives then. Want of memory changes nothing.
+    /// and writes what the link gives then: where all of it goes now, straight from its octets. Want of memory
+    /// changes nothing, and an owned TSDU that waits alone needs none.
     fn send(
         &mut self,
         peer: u16,
@@ -156,10 +165,13 @@ impl Row {
         ensures err { OnErr result ((self.new ≡ self.old) × (out.new.items ≡ out.old.items)) }
         ensures kept { IsOwnedSlice tsdu.entry → WaitsAlone (link_in (Some self.old.1)) (cow_slice_items tsdu.entry) → IsOk result }
     {
-        match &mut self.phase {
-            Phase::Asked | Phase::Closing(_) => unreachable!(),
-            Phase::Linked(_, link) => send_on(link, peer, tsdu, out),
+        let Phase::Linked(_, link) = &mut self.phase else {
+            unreachable!()
+        };
+        if send_whole(link, peer, tsdu.as_slice(), out) {
+            return Ok(());
         }
+        send_parts(link, peer, tsdu, out)
     }
 
     /// Hands in TSDUs together at the link of the connection, which is open with this reference of the
@@ -273,6 +285,7 @@ impl Connections {
 
     /// The place of the open connection of a reference, and the reference of its peer.
     #[inline(always)]
+    #[tactic(auto, using(crate::proofs::ByStage::nowhere))]
     pub fn open_at(&self, reference: u16) -> Option<(usize, u16)>
         ensures open { IfSome result (λ o. (place_of reference self.now ≡ Some o.0) × (stage_of (value_at reference self.now) ≡ Stage.Open o.1)) }
         ensures none { result ≡ None → link_of (value_at reference self.now) ≡ None }

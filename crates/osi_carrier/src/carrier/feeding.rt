@@ -1,8 +1,8 @@
 //! The octets of the stream, cut into packets that act one after the other (RFC 1006 section 6).
 
-ghost use Rattle.std.specs.Prelude.{◌≡◌, ◌<◌, ◌≤◌, false, [], length};
+ghost use Rattle.std.specs.Prelude.{◌≡◌, ◌<◌, false, [], length};
 ghost use Rattle.osi_carrier.specs.Fetching.{Fetches, IsNoFront};
-ghost use Rattle.osi_carrier.specs.Packets.{Goes, stops};
+ghost use Rattle.osi_carrier.specs.Packets.{stops};
 
 use super::Carrier;
 use osi_tpkt::Cutter;
@@ -24,7 +24,7 @@ impl Carrier {
     /// it lies whole in them, with no copy of it. Where the carrier ends by them, what was held of the
     /// stream is dropped.
     #[inline(always)]
-    fn fetch(&mut self, octets: &[u8]) -> Fetched
+    pub fn fetch(&mut self, octets: &[u8]) -> Fetched
         requires { stops self.old.state ≡ false }
         ensures { Fetches self.old octets.now result self.new }
     {
@@ -64,31 +64,5 @@ impl Carrier {
         self.switch.take_packet(packet);
         self.cutter.advance();
         Fetched::Packet(fed.used)
-    }
-
-    /// Cuts the piece into packets, up to one that told the user something or ended the carrier, and
-    /// says how many octets were used.
-    pub fn read(&mut self, piece: &[u8]) -> usize
-        requires { stops self.old.state ≡ false }
-        ensures goes { Goes self.old piece.now result self.new }
-        ensures used { result ≤ length piece.now }
-    {
-        // Named for the proof: what every cutter holds.
-        let _cutter = &self.cutter;
-        let mut rest = piece;
-        'packets: loop {
-            let used = match self.fetch(rest) {
-                Fetched::Over | Fetched::Part => return piece.len(),
-                Fetched::Packet(used) => used,
-            };
-            let (_, behind) = rest.split_at(used);
-            rest = behind;
-            if self.switch.is_spoilt() {
-                return piece.len();
-            }
-            if self.switch.stops() {
-                return piece.len() - rest.len();
-            }
-        }
     }
 }

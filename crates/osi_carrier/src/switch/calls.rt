@@ -1,23 +1,15 @@
 //! Closing connections, the end, and what waits to be taken.
 
-ghost use Rattle.std.specs.Prelude.{◌≡◌, ◌≢◌, ◌≤◌, ◌*◌, ◌^◌, ◌-◌, drop, length, min, Err, IfErr, None, Some, IsOk, OnOk, OnErr, option_map, is_some};
+ghost use Rattle.std.specs.Prelude.{◌≡◌, ◌≢◌, ◌≤◌, ◌*◌, ◌-◌, length, Err, IfErr, None, Some, IsOk, OnOk, OnErr, is_some};
 ghost use Rattle.std.specs.Cow.{cow_slice_items, IsOwnedSlice};
-ghost use Rattle.osi_carrier.specs.Calls.{open_link, close_error, send_error, length_error, call_error, closed_with, closes, sent, ended_by, kept_in, unsent_at, backlog_of, tsaps_at, Tells, WaitsAlone, WaitsOn};
-ghost use Rattle.osi_carrier.specs.Happenings.{happening};
+ghost use Rattle.osi_carrier.specs.Calls.{open_link, close_error, send_error, call_error, closed_with, closes, sent, ended_by, kept_in, WaitsOn};
 ghost use Rattle.osi_carrier.specs.Packets.{stops, waits, is_spoilt};
-ghost use Rattle.osi_carrier.specs.React.{pumps};
-ghost use Rattle.osi_carrier.specs.Selectors.{tsap_ids};
-ghost use Rattle.osi_carrier.specs.Stages.{stage_of, link_in};
-ghost use Rattle.osi_class.specs.Link.{with_tsdu};
-ghost use Rattle.osi_carrier.specs.Rows.{place_of, value_at};
+ghost use Rattle.osi_carrier.specs.Rows.{place_of};
 
 use super::Switch;
 use crate::ends::EndReason;
-use crate::events::Event;
 use crate::faults::SendError;
 use crate::rows::Phase;
-use crate::selectors::Tsaps;
-use crate::stages::Stage;
 use crate::writing::put_disconnect;
 use osi_class::{Class, LONGEST_TSDU};
 use std::alloc::Global;
@@ -58,6 +50,15 @@ impl Switch {
         }
     }
 
+    /// The octets of the unfinished TSDUs of open connections.
+    pub fn kept(&self) -> usize
+        ensures value { result ≡ kept_in self.now.live }
+        ensures at_most { result ≤ 1048576 * length self.now.live }
+        ensures bound { result ≤ 67108864 }
+    {
+        self.live.kept()
+    }
+
     /// The carrier ends, unless it has ended.
     pub fn end_by(&mut self, reason: EndReason)
         ensures { self.new ≡ ended_by reason self.old }
@@ -69,6 +70,7 @@ impl Switch {
     }
 
     /// Closes an open connection: in class 2 a DR asks for it, in class 0 the carrier ends.
+    #[tactic(auto, using(crate::proofs::SentAll::open_here))]
     pub fn close(&mut self, reference: u16, reason: u8) -> Result<(), SendError>
         ensures ok { OnOk result (self.new ≡ closed_with reference reason self.old) }
         ensures allowed { OnOk result (close_error (open_link reference self.old) ≡ None) }
@@ -111,6 +113,7 @@ impl Switch {
     }
 
     /// Sends a TSDU on an open connection: all units that may be sent now are written.
+    #[tactic(auto, using(crate::proofs::SentAll::open_here, crate::proofs::ByStage::waits_at))]
     pub fn send(&mut self, reference: u16, tsdu: CowSlice<'_, u8, Global>) -> Result<(), SendError>
         ensures ok { OnOk result (self.new ≡ sent reference (cow_slice_items tsdu.entry) self.old) }
         ensures allowed { OnOk result (send_error (cow_slice_items tsdu.entry) (open_link reference self.old) ≡ None) }

@@ -8,6 +8,7 @@ ghost use Rattle.osi_carrier.specs.Packets.{Act, Acts, after_refusal};
 ghost use Rattle.osi_carrier.specs.React.{in_class, taking};
 ghost use Rattle.osi_carrier.specs.Rows.{value_at};
 ghost use Rattle.osi_carrier.specs.Stages.{stage_of, link_in};
+ghost use Rattle.osi_carrier.specs.declared.stages.Stage.{Stage};
 
 use super::Switch;
 use crate::ends::{CarrierFault, EndReason};

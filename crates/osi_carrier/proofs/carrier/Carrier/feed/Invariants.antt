@@ -1,6 +1,6 @@
 use Rattle.std.proofs.Common.{length}
 use Rattle.osi_carrier.proofs.Reading.{IsRead}
-use Rattle.osi_carrier.proofs.carrier.Carrier.read.Given as goal
+use Rattle.osi_carrier.proofs.carrier.Carrier.feed.Given as goal
 
 abbrev pub invariant-packets : goal.invariant-packets
 invariant-packets l = IsRead l.fn.self l.fn.piece l.self l.rest

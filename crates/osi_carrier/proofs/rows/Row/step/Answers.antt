@@ -1,19 +1,29 @@
-use Rattle.std.proofs.Common.{option_map}
+use Rattle.std.proofs.Common.{◌≡◌, ℕ, true, Some, option_map, ap, sym, subst, ◌∙◌}
 use Rattle.osi_tpdu.specs.View.{value}
 use Rattle.osi_class.specs.AnyLink.{any_standing}
-use Rattle.osi_class.specs.Link.{needs_memory, taken}
-use Rattle.osi_carrier.proofs.Growing.{taken_grows, pump_grows, want_taken, on_want}
-use Rattle.osi_carrier.proofs.links.take_unit.Goals as goal
+use Rattle.osi_class.specs.Link.{Standing, needs_memory, taken}
+use Rattle.osi_carrier.specs.Live.{connection}
+use Rattle.osi_carrier.specs.Stages.{link_in}
+use Rattle.osi_carrier.specs.State.{Connection}
+use Rattle.osi_carrier.specs.Steps.{link_grows}
+use Rattle.osi_carrier.specs.declared.rows.Phase.{Phase}
+use Rattle.osi_carrier.proofs.Growing.{taken_grows, pump_grows, want_taken}
+use Rattle.osi_carrier.proofs.rows.Row.step.Goals as goal
 
 pub returns-in-Err-OutOfMemory-clause-needs : goal.returns-in-Err-OutOfMemory-clause-needs
 returns-in-Err-OutOfMemory-clause-needs c =
-    let refused = want_taken c.take.result c.in-Err-OutOfMemory.field-0 (needs_memory (value c.args.unit.now)) (taken (any_standing c.args.link.now) (value c.args.unit.now))
-    (any_standing c.args.link.now) (any_standing c.take.new.self) c.in-Err-OutOfMemory.is c.in-Err-OutOfMemory.field-0-is c.take.ensures.taken in
-    taken_grows c.args.peer (any_standing c.args.link.now) (value c.args.unit.now) refused.0 refused.1
+    let is : link_in (Some c.args.self.now.1) ≡ any_standing c.in-Linked.link =
+    ap (λ (r : ℕ × Connection). link_in (Some r.1)) (sym c.self.view_is) ∙ ap (λ (p : Phase). link_in (Some (connection p))) c.in-Linked.is in
+    let refused = want_taken c.take.result c.in-Err-OutOfMemory.field-0 (needs_memory (value c.args.unit.now)) (taken (any_standing c.in-Linked.link) (value c.args.unit.now))
+    (any_standing c.in-Linked.link) (any_standing c.take.new.self) c.in-Err-OutOfMemory.is c.in-Err-OutOfMemory.field-0-is c.take.ensures.taken in
+    subst (λ (s : Standing). link_grows c.args.peer s (taken s (value c.args.unit.now)) ≡ true) (sym is)
+    (taken_grows c.args.peer (any_standing c.in-Linked.link) (value c.args.unit.now) refused.0 refused.1)
 
-pub returns-in_err-pump-clause-needs : goal.returns-in_err-pump-clause-needs
-returns-in_err-pump-clause-needs c =
-    on_want c.from_residual.result
-    (pump_grows c.args.peer (any_standing c.args.link.now) (any_standing c.take.new.self) (any_standing c.next_tsdu-whole.new.self)
-    (option_map (λ v. v.items) c.next_tsdu-whole.result) (taken (any_standing c.args.link.now) (value c.args.unit.now)) c.in-Ok.ensures.taken c.next_tsdu-whole.ensures.handed
-    c.in_err-pump.ensures.needs)
+pub returns-in_default-pump-clause-needs : goal.returns-in_default-pump-clause-needs
+returns-in_default-pump-clause-needs c =
+    let is : link_in (Some c.args.self.now.1) ≡ any_standing c.in-Linked.link =
+    ap (λ (r : ℕ × Connection). link_in (Some r.1)) (sym c.self.view_is) ∙ ap (λ (p : Phase). link_in (Some (connection p))) c.in-Linked.is in
+    subst (λ (s : Standing). link_grows c.args.peer s (taken s (value c.args.unit.now)) ≡ true) (sym is)
+    (pump_grows c.args.peer (any_standing c.in-Linked.link) (any_standing c.take.new.self) (any_standing c.next_tsdu-whole.new.self)
+    (option_map (λ v. v.items) c.next_tsdu-whole.result) (taken (any_standing c.in-Linked.link) (value c.args.unit.now)) c.in-Ok.ensures.taken c.next_tsdu-whole.ensures.handed
+    c.in_default-pump.ensures.needs)

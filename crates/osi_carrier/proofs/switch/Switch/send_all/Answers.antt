@@ -1,22 +1,22 @@
 use Rattle.std.proofs.Common.{◌≡◌, OnOk, map, ap, sym, subst, ◌∙◌}
 use Rattle.std.specs.Cow.{cow_slice_items}
-use Rattle.osi_carrier.specs.Calls.{send_all_error}
+use Rattle.osi_carrier.specs.Calls.{link_of, send_all_error}
 use Rattle.osi_carrier.specs.Rows.{value_at}
 use Rattle.osi_carrier.specs.Stages.{stage_of}
 use Rattle.osi_carrier.specs.State.{State}
-use Rattle.osi_carrier.proofs.ByStage.{nowhere, no_link}
+use Rattle.osi_carrier.proofs.ByStage.{not_open}
 use Rattle.osi_carrier.proofs.Reacts.{none_of}
 use Rattle.osi_carrier.proofs.SentAll.{sent_open}
 use Rattle.osi_carrier.proofs.switch.Switch.send_all.Goals as goal
 
 pub returns-in_default-clause-refused : goal.returns-in_default-clause-refused
 returns-in_default-clause-refused c =
-    let none = ap (λ (s : State). value_at c.args.reference s.live) (sym c.self.view_is) ∙ nowhere c.args.reference c.self.inside.live (sym c.find.ensures ∙ c.in_default.is) in
-    sym (ap (send_all_error (map (λ v. v.items) (cow_slice_items c.args.tsdus))) (no_link c.args.reference c.args.self.now none))
+    let none = ap (λ (s : State). link_of (value_at c.args.reference s.live)) (sym c.self.view_is) ∙ c.open_at.ensures.none c.in_default.is in
+    sym (ap (send_all_error (map (λ v. v.items) (cow_slice_items c.args.tsdus))) (not_open c.args.reference c.args.self.now none))
 
-pub returns-in-Open-clause-ok : goal.returns-in-Open-clause-ok
-returns-in-Open-clause-ok c =
+pub returns-clause-ok : goal.returns-clause-ok
+returns-clause-ok c =
     let alive = ap (λ (s : State). s.ended) (sym c.self.view_is) ∙ none_of c.self.inside.ended (sym c.is_some.ensures ∙ c.if-is_some.false) in
-    let here = ap (λ (s : State). stage_of (value_at c.args.reference s.live)) (sym c.self.view_is) ∙ sym c.in-Open.ensures in
+    let here = ap (λ (s : State). stage_of (value_at c.args.reference s.live)) (sym c.self.view_is) ∙ c.in-Some.ensures.open.1 in
     subst (λ (s : State). OnOk c.send_all_open.result (c.send_all_open.new.self ≡ s))
-    (sent_open c.args.reference c.in-Open.peer (map (λ v. v.items) (cow_slice_items c.args.tsdus)) c.args.self.now alive here) c.send_all_open.ensures.ok
+    (sent_open c.args.reference c.in-Some.peer (map (λ v. v.items) (cow_slice_items c.args.tsdus)) c.args.self.now alive here) c.send_all_open.ensures.ok
