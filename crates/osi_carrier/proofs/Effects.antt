@@ -88,20 +88,7 @@ effect_denies r reason peer s = silent r s (denies reason peer s) refl (still r 
 
 effect_accepts : (class : Class) (size : Option ℕ) (c : Connect) (s : State) → length s.live < 64 → s.given < 65535 →
     Effect (s.given + 1) s (answers c (accept class size) None s)
-effect_accepts Zero size c s room left = record {
-  told = opened (s.given + 1) ∷ [];
-  events = refl;
-  about = (refl, tt);
-  one = omega arith;
-  how = inr (inl (record { next = refl; given = refl; ended = refl; connection = _; live = refl; room = room; left = left }));
-}
-effect_accepts Two size c s room left = record {
-  told = opened (s.given + 1) ∷ [];
-  events = refl;
-  about = (refl, tt);
-  one = omega arith;
-  how = inr (inl (record { next = refl; given = refl; ended = refl; connection = _; live = refl; room = room; left = left }));
-}
+effect_accepts class size c s room left = grind arith steps 200000
 
 effect_answers : (c : Connect) (selection : Selection) (held : Option Class) (s : State) → length s.live < 64 → s.given < 65535 →
     Effect (s.given + 1) s (answers c selection held s)
@@ -111,9 +98,7 @@ effect_answers c (accept Zero size) None s room left = effect_accepts Zero size 
 effect_answers c (accept Zero size) (Some class) s room left = effect_denies (s.given + 1) 136 c.source s
 
 has_room : (n given : ℕ) (b d : Bool) → nat_le 64 n ≡ b → nat_le 65535 given ≡ d → (b || d) ≡ false → (n < 64) × (given < 65535)
-has_room n given true d e f h = cc
-has_room n given false true e f h = cc
-has_room n given false false e f h = (grind (arith, nat_tests), grind (arith, nat_tests))
+has_room n given b d e f h = grind (arith, nat_tests) steps 200000
 
 answers_by : (c : Connect) (s : State) (in_use full : Bool) → (full ≡ false → (length s.live < 64) × (s.given < 65535)) →
     Effect (s.given + 1) s (if in_use then denies 131 c.source s else (if full then denies 1 c.source s else answers c (selected_by c s.local) s.class s))
@@ -127,8 +112,7 @@ effect_request c s = answers_by c s (has_peer c.source s.live) (is_full s) (λ h
 -- ---- a unit for a connection
 
 effect_unknown : (r : ℕ) (unit : Value) (s : State) → Effect r s (to_unknown unit s)
-effect_unknown r (disconnect destination source reason user) s =
-    let t = to_unknown (disconnect destination source reason user) s in silent r s t refl (still r s t refl refl refl)
+effect_unknown r (disconnect destination source reason user) s = grind (arith, silent, still) steps 200000
 effect_unknown r (disconnected destination source) s = effect_none r s
 effect_unknown r (request c) s = effect_end r _ s
 effect_unknown r (confirm destination c) s = effect_end r _ s
@@ -138,9 +122,7 @@ effect_unknown r (acknowledge credit destination number) s = effect_end r _ s
 effect_unknown r (error destination cause) s = effect_end r _ s
 
 effect_opens : (r : ℕ) (c : Connect) (class : Option Class) (s : State) → Effect r s (opens r c class s)
-effect_opens r c None s = effect_end r _ s
-effect_opens r c (Some class) s =
-    telling r s (opens r c (Some class) s) (opened r) refl refl (inl (record { given = refl; ended = refl; live = inr (inl (_, refl)) }))
+effect_opens r c class s = grind (arith, effect_end, telling) steps 200000
 
 effect_refused : (r reason : ℕ) (s t : State) → t.given ≡ s.given → t.ended ≡ s.ended → t.live ≡ without r s.live → t.events ≡ s.events ++ refused r reason ∷ [] →
     Effect r s t
@@ -148,8 +130,7 @@ effect_refused r reason s t given ended live events = telling r s t (refused r r
 
 effect_asked : (r : ℕ) (unit : Value) (s : State) → Effect r s (to_asked r unit s)
 effect_asked r (confirm destination c) s = effect_opens r c (confirmed c s.local s.class) s
-effect_asked r (disconnect destination source reason user) s =
-    effect_refused r reason s (to_asked r (disconnect destination source reason user) s) refl refl refl refl
+effect_asked r (disconnect destination source reason user) s = grind (arith, effect_refused) steps 200000
 effect_asked r (error destination cause) s = effect_refused r 0 s (to_asked r (error destination cause) s) refl refl refl refl
 effect_asked r (request c) s = effect_unknown r (request c) s
 effect_asked r (disconnected destination source) s = effect_unknown r (disconnected destination source) s
@@ -160,26 +141,16 @@ effect_asked r (acknowledge credit destination number) s = effect_unknown r (ack
 -- at most one TSDU is handed out
 effect_settles : (r : ℕ) (whole : List (List ℕ)) (c : Connection) (s t : State) → t.given ≡ s.given → t.ended ≡ s.ended → t.live ≡ put r c s.live →
     t.events ≡ s.events → Effect r s (tells_of r (take 1 whole) t)
-effect_settles r [] c s t given ended live events =
-    silent r s (tells_of r [] t) (append-nil t.events ∙ events) (inl (record { given = given; ended = ended; live = inr (inl (c, live)) }))
-effect_settles r (tsdu' ∷ more) c s t given ended live events =
-    telling r s (tells_of r (tsdu' ∷ []) t) (tsdu r tsdu') refl (ap (λ l. l ++ tsdu r tsdu' ∷ []) events) (inl (record { given = given; ended = ended; live = inr (inl (c, live)) }))
+effect_settles r whole c s t given h live events = grind (arith, silent, append-nil, telling) steps 200000
 
 effect_breaks : (r peer : ℕ) (fault : LinkFault) (held : Option Class) (s : State) → Effect r s (breaks r peer fault held s)
-effect_breaks r peer fault None s = effect_end r _ s
-effect_breaks r peer fault (Some Zero) s = effect_end r _ s
-effect_breaks r peer fault (Some Two) s =
-    telling r s (breaks r peer fault (Some Two) s) (faulted r fault) refl refl (inl (record { given = refl; ended = refl; live = inr (inl (closing peer, refl)) }))
+effect_breaks r peer fault held s = grind (arith, effect_end, telling) steps 200000
 
 effect_taking : (r peer : ℕ) (result : Result Standing LinkFault) (s : State) → Effect r s (taking r peer result s)
-effect_taking r peer (Ok link) s = effect_settles r link.ends.joining.whole _ s _ refl refl refl refl
-effect_taking r peer (Err fault) s = effect_breaks r peer fault s.class s
+effect_taking r peer result s = grind (arith, effect_settles, effect_breaks) steps 200000
 
 effect_leaves : (r peer reason : ℕ) (held : Option Class) (s : State) → Effect r s (leaves r peer reason held s)
-effect_leaves r peer reason None s = telling r s (leaves r peer reason None s) (closed r reason) refl refl (inr (inr (record { given = refl; live = refl; ended = refl })))
-effect_leaves r peer reason (Some Zero) s = telling r s (leaves r peer reason (Some Zero) s) (closed r reason) refl refl (inr (inr (record { given = refl; live = refl; ended = refl })))
-effect_leaves r peer reason (Some Two) s =
-    telling r s (leaves r peer reason (Some Two) s) (closed r reason) refl refl (inl (record { given = refl; ended = refl; live = inr (inr refl) }))
+effect_leaves r peer reason held s = grind (arith, telling) steps 200000
 
 effect_linked : (r peer : ℕ) (link : Standing) (unit : Value) (s : State) → Effect r s (to_linked r peer link unit s)
 effect_linked r peer link (disconnect destination source reason user) s = effect_leaves r peer reason s.class s
@@ -205,10 +176,7 @@ effect_closing r (acknowledge credit destination number) s = effect_none r s
 effect_closing r (error destination cause) s = effect_none r s
 
 effect_connection : (r : ℕ) (o : Option Connection) (unit : Value) (s : State) → Effect r s (to_connection r o unit s)
-effect_connection r None unit s = effect_unknown r unit s
-effect_connection r (Some asked) unit s = effect_asked r unit s
-effect_connection r (Some (linked peer link)) unit s = effect_linked r peer link unit s
-effect_connection r (Some (closing peer)) unit s = effect_closing r unit s
+effect_connection r o unit s = grind (arith, effect_unknown, effect_asked, effect_linked, effect_closing) steps 200000
 
 effect_reference : (r : ℕ) (unit : Value) (s : State) → Effect r s (to_reference r unit s)
 effect_reference r unit s = effect_connection r (value_at r s.live) unit s
@@ -265,8 +233,7 @@ effect_class (Some Zero) unit s = effect_zero s.is_caller unit s
 effect_class (Some Two) unit s = effect_two s.is_caller unit s
 
 effect_by : (over : Bool) (unit : Value) (s : State) → Effect (connection_of unit s) s (react_by over unit s)
-effect_by true unit s = effect_none (connection_of unit s) s
-effect_by false unit s = effect_class s.class unit s
+effect_by over unit s = grind (arith, effect_none, effect_class) steps 200000
 
 pub effect : (unit : Value) (s : State) → Effect (connection_of unit s) s (react unit s)
 unfolding react
@@ -276,14 +243,11 @@ effect unit s = effect_by (is_some s.ended) unit s
 
 -- where a value was none, or the reference is another
 touched_other : (q r : ℕ) (old new : Rows Connection) → q ≢ r → Touched r old new → value_at q new ≡ value_at q old
-touched_other q r old new other (inl same) = ap (value_at q) same
-touched_other q r old new other (inr (inl (c, same))) = ap (value_at q) same ∙ put_other q r c old other
-touched_other q r old new other (inr (inr same)) = ap (value_at q) same ∙ without_other q r old other
+touched_other q r old new other h = grind (arith, put_other, without_other) steps 200000
 
 how_other : (q r : ℕ) (old new : State) → q ≢ r → new.ended ≡ None → How r old new → value_at q new.live ≡ value_at q old.live
 how_other q r old new other lasts (inl kept) = touched_other q r old.live new.live other kept.live
-how_other q r old new other lasts (inr (inl joined)) =
-    ap (value_at q) joined.live ∙ push_other q (old.given + 1) joined.connection old.live (λ e. other (e ∙ sym joined.next))
+how_other q r old new other lasts (inr (inl joined)) = grind (arith, push_other) steps 200000
 how_other q r old new other lasts (inr (inr over)) = let ended = over.ended in let e : is_some new.ended ≡ false = ap is_some lasts in absurd cc
 
 pub changes_one : (unit : Value) (s : State) → (react unit s).ended ≡ None → ChangesOne (connection_of unit s) s (react unit s)
@@ -304,8 +268,7 @@ touched_none q r old new none (inr (inr same)) = ap (value_at q) same ∙ withou
 
 how_gone : (q r : ℕ) (old new : State) → q ≤ old.given → value_at q old.live ≡ None → How r old new → value_at q new.live ≡ None
 how_gone q r old new up none (inl kept) = touched_none q r old.live new.live none kept.live
-how_gone q r old new up none (inr (inl joined)) =
-    ap (value_at q) joined.live ∙ push_other q (old.given + 1) joined.connection old.live (λ e. omega arith) ∙ none
+how_gone q r old new up none (inr (inl joined)) = grind (arith, push_other) steps 200000
 how_gone q r old new up none (inr (inr over)) = ap (value_at q) over.live
 
 -- a connection that is gone stays gone
@@ -324,26 +287,17 @@ rows_of s h = record { rise = h.rise; up_to = h.up_to; live = h.live }
 
 touched_orderly : (given r : ℕ) (old new : Rows Connection) → AreOrderly given old → Touched r old new → AreOrderly given new
 touched_orderly given r old new h (inl same) = subst (AreOrderly given) (sym same) h
-touched_orderly given r old new h (inr (inl (c, same))) =
-    let count = put_length r c old in
-    let bound = h.live in
-    subst (AreOrderly given) (sym same) (record { rise = put_rise 0 r c old h.rise; up_to = put_up given r c old h.up_to; live = omega arith })
-touched_orderly given r old new h (inr (inr same)) =
-    let count = without_length r old in
-    let bound = h.live in
-    subst (AreOrderly given) (sym same) (record { rise = without_rise 0 r old h.rise; up_to = without_up given r old h.up_to; live = omega arith })
+touched_orderly given r old new h (inr (inl (c, same))) = grind (arith, put_length, put_rise, put_up) steps 200000
+touched_orderly given r old new h (inr (inr same)) = grind (arith, without_length, without_rise, without_up) steps 200000
 
 joined_orderly : (given : ℕ) (c : Connection) (old : Rows Connection) → AreOrderly given old → length old < 64 → AreOrderly (given + 1) (old ++ (given + 1, c) ∷ [])
-joined_orderly given c old h room =
-    let count = length-append old ((given + 1, c) ∷ []) in
-    record { rise = push_rise 0 given c old (omega arith) h.rise h.up_to; up_to = push_up given c old h.up_to; live = omega arith }
+joined_orderly given c old h room = grind (arith, length-append, push_rise, push_up) steps 200000
 
 orderly_of : (s : State) → AreOrderly s.given s.live → s.given ≤ 65535 → (IsSome s.ended → s.live ≡ []) → AreNamed s → IsOrderly s
 orderly_of s h given over named = record { rise = h.rise; up_to = h.up_to; given = given; live = h.live; over = over; named = named }
 
 none_over : {A B : Type 0} (o : Option A) → is_some o ≡ false → IsSome o → B
-none_over None e h = absurd cc
-none_over (Some a) e h = absurd cc
+none_over o e h = grind arith steps 200000
 
 -- of a carrier that has not ended
 how_orderly : (r : ℕ) (old new : State) → IsOrderly old → is_some old.ended ≡ false → How r old new → AreNamed new → IsOrderly new
@@ -356,10 +310,7 @@ how_orderly r old new h lasts (inr (inl joined)) names =
     (joined_orderly old.given joined.connection old.live (rows_of old h) joined.room)))
     (let left = joined.left in let e = joined.given in omega arith)
     (λ some. none_over old.ended lasts (subst IsSome joined.ended some)) names
-how_orderly r old new h lasts (inr (inr over)) names =
-    orderly_of new (subst (AreOrderly new.given) (sym over.live) (record { rise = tt; up_to = tt; live = omega arith }))
-    (let g = h.given in let e = over.given in omega arith)
-    (λ some. over.live) names
+how_orderly r old new h lasts (inr (inr over)) names = grind (arith, orderly_of) steps 200000
 
 orderly_by : (unit : Value) (s : State) (b : Bool) → is_some s.ended ≡ b → IsOrderly s → IsOrderly (react unit s)
 orderly_by unit s true over h = subst IsOrderly (sym (react_over unit s over)) h
@@ -396,21 +347,14 @@ pub record MayJoin (s : State) : Type 0 where
 
 room_free : (n given : ℕ) (b d : Bool) → nat_le 64 n ≡ b → nat_le 65535 given ≡ d → (if b then Some TooMany else (if d then Some ReferencesUsedUp else None)) ≡ None →
     (n < 64) × (given < 65535)
-room_free n given true d e f h = cc
-room_free n given false true e f h = cc
-room_free n given false false e f h = (grind (arith, nat_tests), grind (arith, nat_tests))
+room_free n given b d e f h = grind (arith, nat_tests) steps 200000
 
 or_none : (first other : Option OpenError) → or_else first other ≡ None → other ≡ None
-or_none None other h = h
-or_none (Some e) other h = cc
+or_none first other h = grind arith steps 200000
 
 free_by : (s : State) (caller over : Bool) → is_some s.ended ≡ over →
     (if not caller then Some NotCaller else (if over then Some Ended else or_else (class_error s.class s.live) (room_error s))) ≡ None → MayJoin s
-free_by s false over e h = cc
-free_by s true true e h = cc
-free_by s true false e h =
-    let free = room_free (length s.live) s.given (nat_le 64 (length s.live)) (nat_le 65535 s.given) refl refl (or_none (class_error s.class s.live) (room_error s) h) in
-    record { lasts = e; room = free.0; left = free.1 }
+free_by s caller over e h = grind (arith, room_free, length, nat_le, or_none) steps 200000
 
 pub free_of : (s : State) → may_connect s ≡ None → MayJoin s
 free_of s h = free_by s s.is_caller (is_some s.ended) refl h
@@ -449,8 +393,7 @@ pub orderly_closed : (r reason : ℕ) (s : State) → IsOrderly s → IsOrderly 
 orderly_closed r reason s h = closed_by r reason (open_link r s) s h
 
 ended_at : (reason : EndReason) (s : State) (over : Bool) → IsOrderly s → IsOrderly (if over then s else ends reason s)
-ended_at reason s true h = h
-ended_at reason s false h = orderly_end reason s h
+ended_at reason s over h = grind (arith, orderly_end) steps 200000
 
 pub orderly_ended : (reason : EndReason) (s : State) → IsOrderly s → IsOrderly (ended_by reason s)
 orderly_ended reason s h = ended_at reason s (is_some s.ended) h
@@ -465,20 +408,16 @@ pub asks_gone : (calling called : Option (List ℕ)) (s : State) (r : ℕ) → r
 asks_gone calling called s r up none = push_other r (s.given + 1) asked s.live (λ e. omega arith) ∙ none
 
 sent_gone_by : (r : ℕ) (q : ℕ) (octets : List ℕ) (link : Option (ℕ × Standing)) (s : State) → value_at r s.live ≡ None → value_at r (sent_on q octets link s).live ≡ None
-sent_gone_by r q octets None s none = none
-sent_gone_by r q octets (Some (peer, link)) s none = put_none r q _ s.live none
+sent_gone_by r q octets link s none = grind (arith, put_none) steps 200000
 
 pub sent_gone : (q r : ℕ) (octets : List ℕ) (s : State) → value_at r s.live ≡ None → value_at r (sent q octets s).live ≡ None
 sent_gone q r octets s none = sent_gone_by r q octets (open_link q s) s none
 
 closes_gone : (r q peer reason : ℕ) (held : Option Class) (s : State) → value_at r s.live ≡ None → value_at r (closes q peer reason held s).live ≡ None
-closes_gone r q peer reason None s none = put_none r q (closing peer) s.live none
-closes_gone r q peer reason (Some Zero) s none = refl
-closes_gone r q peer reason (Some Two) s none = put_none r q (closing peer) s.live none
+closes_gone r q peer reason held s none = grind (arith, put_none) steps 200000
 
 closed_gone_by : (r q reason : ℕ) (link : Option (ℕ × Standing)) (s : State) → value_at r s.live ≡ None → value_at r (closed_on q reason link s).live ≡ None
-closed_gone_by r q reason None s none = none
-closed_gone_by r q reason (Some (peer, link)) s none = closes_gone r q peer reason s.class s none
+closed_gone_by r q reason link s none = grind (arith, closes_gone) steps 200000
 
 pub closed_gone : (q r reason : ℕ) (s : State) → value_at r s.live ≡ None → value_at r (closed_with q reason s).live ≡ None
 closed_gone q r reason s none = closed_gone_by r q reason (open_link q s) s none

@@ -25,8 +25,7 @@ use Rattle.osi_carrier.proofs.AtReferences.{without_other, push_other}
 
 put_named_by : (r q : ℕ) (x y : Connection) (rows : Rows Connection) (b : Bool) → (q == r) ≡ b → references (put r x rows) ≡ references rows →
     references (put r x ((q, y) ∷ rows)) ≡ references ((q, y) ∷ rows)
-put_named_by r q x y rows true e more = rw e refl
-put_named_by r q x y rows false e more = rw e (ap (λ (l : List ℕ). q ∷ l) more)
+put_named_by r q x y rows b e more = grind arith steps 200000
 
 put_named : (r : ℕ) (x : Connection) (rows : Rows Connection) → references (put r x rows) ≡ references rows
 put_named r x [] = refl
@@ -34,8 +33,7 @@ put_named r x ((q, y) ∷ rows) = put_named_by r q x y rows (q == r) refl (put_n
 
 drop_named_by : {X : Type 0} (r q : ℕ) (y : X) (rows : Rows X) (b : Bool) → (q == r) ≡ b → references (without r rows) ≡ dropped r (references rows) →
     references (without r ((q, y) ∷ rows)) ≡ dropped r (q ∷ references rows)
-drop_named_by r q y rows true e more = rw e refl
-drop_named_by r q y rows false e more = rw e (ap (λ (l : List ℕ). q ∷ l) more)
+drop_named_by r q y rows b e more = grind arith steps 200000
 
 drop_named : {X : Type 0} (r : ℕ) (rows : Rows X) → references (without r rows) ≡ dropped r (references rows)
 drop_named r [] = refl
@@ -47,8 +45,7 @@ join_named r x ((q, y) ∷ rows) = ap (λ (l : List ℕ). q ∷ l) (join_named r
 
 there_by : {X Y : Type 0} (r q : ℕ) (x : X) (y : Y) (xs : Rows X) (ys : Rows Y) (b : Bool) → (q == r) ≡ b → is_some (value_at r xs) ≡ is_some (value_at r ys) →
     is_some (value_at r ((q, x) ∷ xs)) ≡ is_some (value_at r ((q, y) ∷ ys))
-there_by r q x y xs ys true e more = rw e refl
-there_by r q x y xs ys false e more = rw e more
+there_by r q x y xs ys b e more = grind arith steps 200000
 
 there_named : {X Y : Type 0} (r : ℕ) (xs : Rows X) (ys : Rows Y) → references xs ≡ references ys → is_some (value_at r xs) ≡ is_some (value_at r ys)
 there_named r [] [] e = refl
@@ -226,28 +223,16 @@ closed_names r reason (Some (peer, link)) s = closes_names r peer reason s.class
 -- ---- what that says
 
 pub named : (s t : State) → Naming s t → AreNamed s → AreNamed t
-named s t (stays tsaps live) h = ap references tsaps ∙ h ∙ sym live
-named s t (loses r tsaps live) h =
-    ap references tsaps ∙ drop_named r s.tsaps ∙ ap (dropped r) h ∙ sym (drop_named r s.live) ∙ sym (ap references live)
-named s t (gains c ids tsaps live) h =
-    ap references tsaps ∙ join_named (s.given + 1) ids s.tsaps ∙ ap (λ (l : List ℕ). l ++ (s.given + 1) ∷ []) h
-    ∙ sym (join_named (s.given + 1) c s.live) ∙ sym (ap references live)
-named s t (clears tsaps live) h = ap references tsaps ∙ sym (ap references live)
+named s t h h_ = grind (arith, drop_named, join_named) steps 200000
 
 lost_by : (r q : ℕ) (s t : State) (b : Bool) → (q == r) ≡ b → IsOrderly s → t.tsaps ≡ without r s.tsaps → t.live ≡ without r s.live → IsSome (value_at q t.live) →
     value_at q t.tsaps ≡ value_at q s.tsaps
-lost_by r q s t true e orderly tsaps live there =
-    let at : q ≡ r = eqb-true q r e in
-    let none : value_at q t.live ≡ None = ap (λ (n : ℕ). value_at n t.live) at ∙ ap (value_at r) live ∙ without_here r s.live orderly.rise in
-    absurd (let no : true ≡ false = sym there ∙ ap is_some none in cc)
-lost_by r q s t false e orderly tsaps live there =
-    ap (value_at q) tsaps ∙ without_other q r s.tsaps (λ same. let no : true ≡ false = sym (eq-eqb q r same) ∙ e in cc)
+lost_by r q s t b e orderly tsaps live there = grind (arith, eqb-true, without_here, is_some, without_other, eq-eqb) steps 200000
 
 keeps : (s t : State) → Naming s t → IsOrderly s → KeepsTsaps s t
 keeps s t (stays tsaps live) orderly q within there = ap (value_at q) tsaps
 keeps s t (loses r tsaps live) orderly q within there = lost_by r q s t (q == r) refl orderly tsaps live there
-keeps s t (gains c ids tsaps live) orderly q within there =
-    ap (value_at q) tsaps ∙ push_other q (s.given + 1) ids s.tsaps (λ same. absurd (let no : s.given + 1 ≤ s.given = subst (λ (n : ℕ). n ≤ s.given) same within in omega arith))
+keeps s t (gains c ids tsaps live) orderly q within there = grind (arith, push_other) steps 200000
 keeps s t (clears tsaps live) orderly q within there = absurd (let no : true ≡ false = sym there ∙ ap (λ (l : Rows Connection). is_some (value_at q l)) live in cc)
 
 -- ---- the laws
@@ -271,8 +256,7 @@ pub closed_named : (r reason : ℕ) (s : State) → AreNamed s → AreNamed (clo
 closed_named r reason s h = named s (closed_with r reason s) (closed_names r reason (open_link r s) s) h
 
 ended_by_named : (over : Bool) (reason : EndReason) (s : State) → AreNamed s → AreNamed (if over then s else ends reason s)
-ended_by_named true reason s h = h
-ended_by_named false reason s h = refl
+ended_by_named over reason s h = grind arith steps 200000
 
 pub ended_named : (reason : EndReason) (s : State) → AreNamed s → AreNamed (ended_by reason s)
 ended_named reason s h = ended_by_named (is_some s.ended) reason s h

@@ -26,46 +26,32 @@ use Rattle.osi_carrier.proofs.Reading.{packets_leave}
 -- ---- an end stays
 
 some_none : {A B : Type 0} (o : Option A) → is_some o ≡ true → o ≡ None → B
-some_none None e h = absurd cc
-some_none (Some a) e h = absurd cc
+some_none o e h = grind arith steps 200000
 
 sent_ended : (r : ℕ) (octets : List ℕ) (link : Option (ℕ × Standing)) (s : State) → (sent_on r octets link s).ended ≡ s.ended
-sent_ended r octets None s = refl
-sent_ended r octets (Some (peer, link)) s = refl
+sent_ended r octets link s = grind arith steps 200000
 
 closes_lasts : (r peer reason : ℕ) (held : Option Class) (s : State) → (closes_at r peer reason held s).ended ≡ None → s.ended ≡ None
-closes_lasts r peer reason None s h = h
-closes_lasts r peer reason (Some Zero) s h = absurd cc
-closes_lasts r peer reason (Some Two) s h = h
+closes_lasts r peer reason held s h = grind arith steps 200000
 
 closed_lasts : (r reason : ℕ) (link : Option (ℕ × Standing)) (s : State) → (closed_on r reason link s).ended ≡ None → s.ended ≡ None
-closed_lasts r reason None s h = h
-closed_lasts r reason (Some (peer, link)) s h = closes_lasts r peer reason s.class s h
+closed_lasts r reason link s h = grind (arith, closes_lasts) steps 200000
 
 ended_lasts : (reason : EndReason) (over : Bool) (s : State) → (if over then s else ends reason s).ended ≡ None → s.ended ≡ None
-ended_lasts reason true s h = h
-ended_lasts reason false s h = absurd cc
+ended_lasts reason over s h = grind arith steps 200000
 
 user_lasts : (call : UserCall) (s : State) → (user_does call s).ended ≡ None → s.ended ≡ None
-user_lasts (connects from to) s h = h
-user_lasts (sends r octets) s h = sym (sent_ended r octets (open_link r s) s) ∙ h
-user_lasts (closes r reason) s h = closed_lasts r reason (open_link r s) s h
-user_lasts (breaks reason) s h = ended_lasts reason (is_some s.ended) s h
+user_lasts call s h = grind (arith, sent_ended, closed_lasts, ended_lasts, is_some) steps 200000
 
 tells_lasts : (event : Option Happening) (old new : State) → Tells event old new → new.ended ≡ None → old.ended ≡ None
-tells_lasts None old new h lasts = ap (λ (s : State). s.ended) (sym h.1) ∙ lasts
-tells_lasts (Some event) old new h lasts = ap (λ (s : State). s.ended) h ∙ lasts
+tells_lasts event old new h lasts = grind arith steps 200000
 
 feeds_lasts : (old : Carrying) (piece : List ℕ) (fed : Fed) (new : Carrying) (over : Bool) → is_some old.state.ended ≡ over → Feeds old piece fed new → new.state.ended ≡ None →
     old.state.ended ≡ None
-feeds_lasts old piece fed new false e h lasts = none_of old.state.ended e
-feeds_lasts old piece fed new true e h lasts = ap (λ (x : Carrying). x.state.ended) (sym (h.over e).1) ∙ lasts
+feeds_lasts old piece fed new over e h lasts = grind (arith, none_of) steps 200000
 
 call_lasts : (old : Carrying) (call : Call) (new : Carrying) → Calls old call new → new.state.ended ≡ None → old.state.ended ≡ None
-call_lasts old (feeding piece fed) new h lasts = feeds_lasts old piece fed new (is_some old.state.ended) refl h lasts
-call_lasts old (telling event) new h lasts = tells_lasts event old.state new.state h.0 lasts
-call_lasts old (carrying octets) new h lasts = ap (λ (x : Carrying). x.state.ended) h ∙ lasts
-call_lasts old (calling call) new h lasts = user_lasts call old.state (ap (λ (x : Carrying). x.state.ended) (sym h) ∙ lasts)
+call_lasts old call new h lasts = grind (arith, feeds_lasts, is_some, tells_lasts, user_lasts) steps 200000
 
 calls_last : (old : Carrying) (calls : List Call) (new : Carrying) → CallsAlong old calls new → new.state.ended ≡ None → old.state.ended ≡ None
 calls_last old [] new h lasts = ap (λ (x : Carrying). x.state.ended) (sym h) ∙ lasts
@@ -97,52 +83,14 @@ packets_done (unit ∷ units) old new h = packets_done units (after_packet old u
 -- nothing was used, and the octets held are the same
 reads_still : (old : Carrying) (call : Call) (new : Carrying) (acts : List Act) → flat_map call_in acts ≡ called_in call → flat_map packet_in acts ≡ [] →
     used_in call ≡ [] → new.held ≡ old.held → put_back (told_in call) (carried_in call) new.state ≡ all_done acts old.state → ReadsOne old call new
-reads_still old call new acts called none nothing held state =
-    let same : new.held.octets ≡ old.held.octets = ap (λ (h : Held). h.octets) held in
-    let sizes = ap length same in
-    let used = ap length nothing in
-    let counted = length-append old.held.octets (used_in call) in
-    let at = ap (λ (h : Held). h.offset) held in
-    record {
-      acts = acts;
-      called = called;
-      packets = subst (λ us. ArePackets us (old.held.octets ++ used_in call) new.held.octets) (sym none)
-          (ap (λ l. old.held.octets ++ l) nothing ∙ append-nil old.held.octets ∙ sym same);
-      state = state;
-      partial = subst IsPartial (sym same);
-      offset = λ bound. omega arith;
-    }
+reads_still old call new acts called none nothing held state = grind (arith, length, length-append, append-nil) steps 200000
 
 reads_dry : (old : Carrying) (piece : List ℕ) (fed : Fed) (new : Carrying) → RunsDry old piece fed.used new → ReadsOne old (feeding piece fed) new
-reads_dry old piece fed new dry =
-    let whole : take fed.used piece ≡ piece = let all = dry.all in take_all fed.used piece (omega arith) in
-    record {
-      acts = map packet dry.units;
-      called = no_calls dry.units;
-      packets = subst (λ us. ArePackets us (old.held.octets ++ take fed.used piece) new.held.octets) (sym (packets_of dry.units))
-          (subst (λ l. ArePackets dry.units (old.held.octets ++ l) new.held.octets) (sym whole) dry.packets);
-      state = packets_done dry.units old.state new.state dry.taken;
-      partial = λ partial. dry.partial;
-      offset = λ bound. dry.offset ∙ ap (λ l. offset_of (old.held.offset + (length (old.held.octets ++ l) - length new.held.octets))) (sym whole);
-    }
+reads_dry old piece fed new dry = grind (arith, take, take_all, map, no_calls, packets_of, packets_done, length) steps 200000
 
 reads_stopped : IsPartial [] → (old : Carrying) (piece : List ℕ) (fed : Fed) (new : Carrying) → StopsBehind old piece fed.used new → new.state.ended ≡ None →
     ReadsOne old (feeding piece fed) new
-reads_stopped nothing old piece fed new stop lasts =
-    let sound : is_spoilt new.state.ended ≡ false = ap is_spoilt lasts in
-    let used : fed.used ≡ stop.within = rw sound at stop.uses in
-    let packets = subst (λ n. ArePackets stop.units (old.held.octets ++ take n piece) []) (sym used) stop.packets in
-    let none = ap length stop.held in
-    let at = stop.offset ∙ ap (λ n. offset_of (old.held.offset + length (old.held.octets ++ take n piece))) (sym used) in
-    record {
-      acts = map packet stop.units;
-      called = no_calls stop.units;
-      packets = subst (λ us. ArePackets us (old.held.octets ++ take fed.used piece) new.held.octets) (sym (packets_of stop.units))
-          (subst (ArePackets stop.units (old.held.octets ++ take fed.used piece)) (sym stop.held) packets);
-      state = packets_done stop.units old.state new.state stop.taken;
-      partial = λ partial. subst IsPartial (sym stop.held) nothing;
-      offset = λ bound. omega arith;
-    }
+reads_stopped nothing old piece fed new stop lasts = grind (arith, take, length, map, no_calls, packets_of, packets_done) steps 200000
 
 over_none : {B : Type 0} (o : Option EndReason) (reason : EndReason) → o ≡ Some reason → o ≡ None → B
 over_none o reason e lasts = absurd cc
@@ -152,11 +100,7 @@ reads_goes : IsPartial [] → (old : Carrying) (piece : List ℕ) (fed : Fed) (n
 reads_goes nothing old piece fed new (inl (inl dry)) lasts = reads_dry old piece fed new dry
 reads_goes nothing old piece fed new (inl (inr stop)) lasts = reads_stopped nothing old piece fed new stop lasts
 reads_goes nothing old piece fed new (inr (inl refused)) lasts = over_none new.state.ended _ (ap (λ (x : State). x.ended) refused.ended) lasts
-reads_goes nothing old piece fed new (inr (inr starved)) lasts =
-    elim starved.how [
-      | inl none ↦ over_none new.state.ended _ (ap (λ (x : State). x.ended) none.ended) lasts
-      | inr h ↦ over_none new.state.ended _ (ap (λ (x : State). x.ended) h.2.2.ended) lasts
-    ]
+reads_goes nothing old piece fed new (inr (inr starved)) lasts = grind (arith, over_none) steps 200000
 
 reads_feed : IsPartial [] → (old : Carrying) (piece : List ℕ) (fed : Fed) (new : Carrying) (waiting : Bool) → waits old.state ≡ waiting → old.state.ended ≡ None →
     Feeds old piece fed new → new.state.ended ≡ None → ReadsOne old (feeding piece fed) new
@@ -191,9 +135,7 @@ all_joined [] ys s = refl
 all_joined (x ∷ xs) ys s = all_joined xs ys (does x s)
 
 pub back_joined : (e f : List Happening) (o p : List ℕ) (s : State) → put_back (e ++ f) (o ++ p) s ≡ put_back e o (put_back f p s)
-back_joined e f o p s =
-    ap (λ l. record s { events = l; outgoing = (o ++ p) ++ s.outgoing }) (append_assoc e f s.events)
-    ∙ ap (λ l. record s { events = e ++ (f ++ s.events); outgoing = l }) (append_assoc o p s.outgoing)
+back_joined e f o p s = grind (arith, append_assoc) steps 200000
 
 reads_more : (old : Carrying) (call : Call) (mid : Carrying) (calls : List Call) (new : Carrying) → ReadsOne old call mid → Reads mid calls new → Reads old (call ∷ calls) new
 reads_more old call mid calls new one more =
@@ -222,19 +164,7 @@ reads_more old call mid calls new one more =
     }
 
 reads_none : (old new : Carrying) → new ≡ old → Reads old [] new
-reads_none old new same =
-    let octets : new.held.octets ≡ old.held.octets = ap (λ (x : Carrying). x.held.octets) same in
-    let sizes = ap length octets in
-    let at = ap (λ (x : Carrying). x.held.offset) same in
-    let none = length-append old.held.octets [] in
-    record {
-      acts = [];
-      called = refl;
-      packets = append-nil old.held.octets ∙ sym octets;
-      state = ap (λ (x : Carrying). x.state) same;
-      partial = subst IsPartial (sym octets);
-      offset = λ bound. omega arith;
-    }
+reads_none old new same = grind (arith, length, length-append, append-nil) steps 200000
 
 pub calls_read : IsPartial [] → (old : Carrying) (calls : List Call) (new : Carrying) → CallsAlong old calls new → new.state.ended ≡ None → Reads old calls new
 calls_read nothing old [] new h lasts = reads_none old new h

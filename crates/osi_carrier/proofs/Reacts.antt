@@ -1,5 +1,5 @@
 -- Units one after the other, and units after the end.
-use Rattle.std.proofs.Common.{◌≡◌, List, [], ◌∷◌, ◌++◌, Option, Some, None, refl, sym, ap, subst, ◌∙◌, true, false, is_some, inl, inr, append_assoc}
+use Rattle.std.proofs.Common.{◌≡◌, List, [], ◌∷◌, ◌++◌, Option, Some, None, refl, sym, ap, subst, ◌∙◌, true, false, is_some, inl, inr, append_assoc, arith}
 use Rattle.std.proofs.lemmas.List.{append-nil}
 use Rattle.osi_tpdu.specs.Value.{Value}
 use Rattle.osi_carrier.specs.Growth.{grows}
@@ -60,19 +60,10 @@ along_over start now after all left more unit h e acts over =
 -- a unit for which there was no memory did nothing
 pub along_starved : (start now tried after : State) (all left more : List Value) (unit : Value) → IsAlong start all now left → left ≡ unit ∷ more →
     ends NoMemory tried ≡ ends NoMemory now → grows now (in_class now.class unit now) ≡ true → after ≡ ends NoMemory tried → Act start all after
-along_starved start now tried after all left more unit h e nothing needs ended = inr (record {
-  done = h.done;
-  next = unit;
-  more = more;
-  all = h.parts ∙ ap (λ l. h.done ++ l) e;
-  lasts = subst (λ (s : State). s.ended ≡ None) h.acted h.lasts;
-  ended = ended ∙ nothing ∙ ap (ends NoMemory) h.acted;
-  needs = subst (λ (s : State). grows s (react unit s) ≡ true) h.acted (subst (λ (t : State). grows now t ≡ true) (sym (react_quiet unit now h.lasts)) needs);
-})
+along_starved start now tried after all left more unit h e nothing needs ended = grind (arith, react_quiet) steps 200000
 
 pub none_of : {A : Type 0} (o : Option A) → is_some o ≡ false → o ≡ None
-none_of None e = refl
-none_of (Some x) e = cc
+none_of o e = grind arith steps 200000
 
 -- one unit acts, or there was no memory for it
 pub one_acts : (start after : State) (unit : Value) → start.ended ≡ None → after ≡ in_class start.class unit start → Act start (unit ∷ []) after

@@ -64,11 +64,15 @@ pub record IsRead (old : Carrying) (piece : List ℕ) (now : Carrying) (rest : L
   -- of the piece nothing is held
   pub first : (front ≡ []) ⊎ (now.held.octets ≡ [])
   pub room : old.held.room ≤ now.held.room
+  -- there is a piece, and nothing had stopped
+  pub some : 0 < length piece
+  pub begun : stops old.state ≡ false
 
-pub read_first : (old : Carrying) (piece : List ℕ) → stops old.state ≡ false → IsReading old.held → IsRead old piece old piece
-read_first old piece quiet reading =
+pub read_first : (old : Carrying) (piece : List ℕ) → is_some old.state.ended ≡ false → waits old.state ≡ false → IsReading old.held → (length piece ≡ 0 → ⊥) → IsRead old piece old piece
+read_first old piece alive none_waits reading some =
     let bound = reading.holding.offset in
     let none = length-append old.held.octets [] in
+    let quiet : stops old.state ≡ false = ap (λ b. b || waits old.state) alive ∙ none_waits in
     record {
       front = [];
       units = [];
@@ -80,6 +84,8 @@ read_first old piece quiet reading =
       offset = omega arith;
       first = inl refl;
       room = omega arith;
+      some = omega arith;
+      begun = quiet;
     }
 
 -- ---- the next packet
@@ -128,6 +134,8 @@ read_next old piece now rest used new read acts quiet =
       offset = omega arith;
       first = inr acts.held;
       room = omega arith;
+      some = read.some;
+      begun = read.begun;
     }
 
 -- so much of the piece was looked at
@@ -326,17 +334,13 @@ goes_on old piece used new (inr (inl refused)) some = let all = refused.all in o
 goes_on old piece used new (inr (inr starved)) some = let all = starved.all in omega arith
 
 -- feeding that goes on feeds
-pub fed_goes : (old : Carrying) (piece : List ℕ) (used : ℕ) (fed : Fed) (new : Carrying) → stops old.state ≡ false → 0 < length piece → Goes old piece used new → used ≤ length piece →
+pub fed_goes : (old : Carrying) (piece : List ℕ) (now : Carrying) (rest : List ℕ) (used : ℕ) (fed : Fed) (new : Carrying) → IsRead old piece now rest → Goes old piece used new → used ≤ length piece →
     fed.used ≡ used → fed.whole ≡ waits new.state → Feeds old piece fed new
-fed_goes old piece used fed new quiet some goes bound is whole = record {
-  over = λ over. absurd (let stopped : stops old.state ≡ true = ap (λ b. b || waits old.state) over in cc);
-  waiting = λ none waiting. absurd (let stopped : stops old.state ≡ true = ap (λ o. is_some o || waits old.state) none ∙ waiting in cc);
+fed_goes old piece now rest used fed new read goes bound is whole = record {
+  over = λ over. absurd (let stopped : stops old.state ≡ true = ap (λ b. b || waits old.state) over in let quiet = read.begun in cc);
+  waiting = λ none waiting. absurd (let stopped : stops old.state ≡ true = ap (λ o. is_some o || waits old.state) none ∙ waiting in let quiet = read.begun in cc);
   goes = λ _. subst (λ (n : ℕ). Goes old piece n new) (sym is) goes;
   whole = whole;
   bound = omega arith;
   progress = λ _ any. (let on = goes_on old piece used new goes any in omega arith);
 }
-
--- nothing has ended, and nothing waits
-pub quiet_by : (s : State) → is_some s.ended ≡ false → waits s ≡ false → stops s ≡ false
-quiet_by s alive none = ap (λ b. b || waits s) alive ∙ none

@@ -28,16 +28,14 @@ use Rattle.osi_carrier.proofs.Reacts.{none_of, reacts_over}
 -- ---- rows
 
 differ : (p q : ℕ) (b : Bool) → (p == q) ≡ b → p ≢ q → b ≡ false
-differ p q true e other = absurd (other (eqb-true p q e))
-differ p q false e other = refl
+differ p q b e other = grind (arith, eqb-true) steps 200000
 
 other_than : (q r : ℕ) → (q == r) ≡ false → r ≢ q
 other_than q r e same = let t : (q == r) ≡ true = eq-eqb q r (sym same) in cc
 
 put_here_by : (q p : ℕ) (x y z : Connection) (rows : Rows Connection) (b : Bool) → (p == q) ≡ b → value_at q ((p, z) ∷ rows) ≡ Some y →
     (value_at q rows ≡ Some y → value_at q (put q x rows) ≡ Some x) → value_at q (put q x ((p, z) ∷ rows)) ≡ Some x
-put_here_by q p x y z rows true e h more = rw e (rw e refl)
-put_here_by q p x y z rows false e h more = rw e (rw e (more (rw e at h)))
+put_here_by q p x y z rows b e h more = grind arith steps 200000
 
 put_here : (q : ℕ) (x y : Connection) (rows : Rows Connection) → value_at q rows ≡ Some y → value_at q (put q x rows) ≡ Some x
 put_here q x y [] h = cc
@@ -45,15 +43,11 @@ put_here q x y ((p, z) ∷ rows) h = put_here_by q p x y z rows (p == q) refl h 
 
 above_none : (q n : ℕ) (rows : Rows Connection) → RiseFrom n rows → q ≤ n → value_at q rows ≡ None
 above_none q n [] h le = refl
-above_none q n ((p, z) ∷ rows) h le =
-    let above = h.0 in
-    let e = differ p q (p == q) refl (λ same. omega arith) in
-    rw e (above_none q p rows h.1 (omega arith))
+above_none q n ((p, z) ∷ rows) h le = grind (arith, differ, above_none q p rows h.1 (omega arith)) steps 200000
 
 gone_by : (q p : ℕ) (z : Connection) (rows : Rows Connection) (b : Bool) → (p == q) ≡ b → RiseFrom p rows → value_at q (without q rows) ≡ None →
     value_at q (without q ((p, z) ∷ rows)) ≡ None
-gone_by q p z rows true e h more = rw e (above_none q p rows h (let same = eqb-true p q e in omega arith))
-gone_by q p z rows false e h more = rw e (rw e more)
+gone_by q p z rows b e h more = grind (arith, above_none, eqb-true) steps 200000
 
 without_gone : (q n : ℕ) (rows : Rows Connection) → RiseFrom n rows → value_at q (without q rows) ≡ None
 without_gone q n [] h = refl
@@ -61,15 +55,11 @@ without_gone q n ((p, z) ∷ rows) h = gone_by q p z rows (p == q) refl h.1 (wit
 
 next_none : (given : ℕ) (rows : Rows Connection) → AreUpTo given rows → value_at (given + 1) rows ≡ None
 next_none given [] h = refl
-next_none given ((p, z) ∷ rows) h =
-    let up = h.0 in
-    let e = differ p (given + 1) (p == given + 1) refl (λ same. omega arith) in
-    rw e (next_none given rows h.1)
+next_none given ((p, z) ∷ rows) h = grind (arith, differ, next_none given rows h.1) steps 200000
 
 push_here_by : (n p : ℕ) (x z : Connection) (rows : Rows Connection) (b : Bool) → (p == n) ≡ b → value_at n ((p, z) ∷ rows) ≡ None →
     (value_at n rows ≡ None → value_at n (rows ++ (n, x) ∷ []) ≡ Some x) → value_at n ((p, z) ∷ (rows ++ (n, x) ∷ [])) ≡ Some x
-push_here_by n p x z rows true e h more = let some : Some z ≡ None = rw e at h in absurd cc
-push_here_by n p x z rows false e h more = rw e (more (rw e at h))
+push_here_by n p x z rows b e h more = grind arith steps 200000
 
 push_here : (n : ℕ) (x : Connection) (rows : Rows Connection) → value_at n rows ≡ None → value_at n (rows ++ (n, x) ∷ []) ≡ Some x
 push_here n x [] h = let e = eq-eqb n n refl in rw e refl
@@ -85,20 +75,15 @@ is_link c = is_some (link_of (Some c))
 
 open_put : (r q : ℕ) (x y : Connection) (rows : Rows Connection) (b : Bool) → (q == r) ≡ b → value_at q rows ≡ Some y →
     open_in r (put q x rows) ≡ (if b then is_link x else open_in r rows)
-open_put r q x y rows true e h =
-    ap (λ o. is_some (link_of o)) (subst (λ n. value_at n (put q x rows) ≡ Some x) (eqb-true q r e) (put_here q x y rows h))
+open_put r q x y rows true e h = grind (arith, is_some, eqb-true, put_here) steps 200000
 open_put r q x y rows false e h = ap (λ o. is_some (link_of o)) (put_other r q x rows (other_than q r e))
 
 open_without : (r q : ℕ) (rows : Rows Connection) (b : Bool) → (q == r) ≡ b → RiseFrom 0 rows → open_in r (without q rows) ≡ (if b then false else open_in r rows)
-open_without r q rows true e h =
-    ap (λ o. is_some (link_of o)) (subst (λ n. value_at n (without q rows) ≡ None) (eqb-true q r e) (without_gone q 0 rows h))
-open_without r q rows false e h = ap (λ o. is_some (link_of o)) (without_other r q rows (other_than q r e))
+open_without r q rows b e h = grind (arith, is_some, eqb-true, without_gone, without_other, other_than) steps 200000
 
 open_push : (r n : ℕ) (x : Connection) (rows : Rows Connection) (b : Bool) → (n == r) ≡ b → value_at n rows ≡ None →
     open_in r (rows ++ (n, x) ∷ []) ≡ (if b then is_link x else open_in r rows)
-open_push r n x rows true e h =
-    ap (λ o. is_some (link_of o)) (subst (λ m. value_at m (rows ++ (n, x) ∷ []) ≡ Some x) (eqb-true n r e) (push_here n x rows h))
-open_push r n x rows false e h = ap (λ o. is_some (link_of o)) (push_other r n x rows (other_than n r e))
+open_push r n x rows b e h = grind (arith, is_some, eqb-true, push_here, push_other, other_than) steps 200000
 
 -- what a connection was, at its own reference
 open_was : (r q : ℕ) (y : Connection) (rows : Rows Connection) → (q == r) ≡ true → value_at q rows ≡ Some y → open_in r rows ≡ is_link y
@@ -107,20 +92,16 @@ open_was r q y rows e h = ap (λ o. is_some (link_of o)) (subst (λ n. value_at 
 -- ---- what is told
 
 or_true : (b : Bool) → true ≡ (b || true)
-or_true true = refl
-or_true false = refl
+or_true b = grind arith steps 200000
 
 or_false : (b : Bool) → b ≡ (b || false)
-or_false true = refl
-or_false false = refl
+or_false b = grind arith steps 200000
 
 and_false : (b : Bool) → (b && false) ≡ false
-and_false true = refl
-and_false false = refl
+and_false b = grind arith steps 200000
 
 and_true : (b : Bool) → (b && true) ≡ b
-and_true true = refl
-and_true false = refl
+and_true b = grind arith steps 200000
 
 record Told (r : ℕ) (old new : State) : Type 0 where
   told : List Happening
@@ -139,32 +120,22 @@ over_told reason s h = absurd cc
 -- it opens: nothing stood there, or a connection that was not open
 opens_told : (r q : ℕ) (b : Bool) (old new : State) → (q == r) ≡ b → new.events ≡ old.events ++ opened q ∷ [] →
     open_in r new.live ≡ (if b then true else open_in r old.live) → Told r old new
-opens_told r q true old new e events is = record { told = opened q ∷ []; events = events; is = is ∙ rw e (or_true (open_in r old.live)) }
-opens_told r q false old new e events is = record { told = opened q ∷ []; events = events; is = is ∙ rw e (or_false (open_in r old.live)) }
+opens_told r q b old new e events is = grind (arith, or_true, or_false) steps 200000
 
 -- it is open no more
 leaves_told : (r q : ℕ) (b : Bool) (old new : State) (event : Happening) → (q == r) ≡ b → new.events ≡ old.events ++ event ∷ [] →
     ((was : Bool) → open_after r was (event ∷ []) ≡ (was && not (q == r))) → open_in r new.live ≡ (if b then false else open_in r old.live) → Told r old new
-leaves_told r q true old new event e events means is =
-    record { told = event ∷ []; events = events; is = is ∙ sym (means (open_in r old.live) ∙ rw e (and_false (open_in r old.live))) }
-leaves_told r q false old new event e events means is =
-    record { told = event ∷ []; events = events; is = is ∙ sym (means (open_in r old.live) ∙ rw e (and_true (open_in r old.live))) }
+leaves_told r q b old new event e events means is = grind (arith, and_false, and_true) steps 200000
 
 -- one that was not open, or stays open, at whose reference nothing is told of that
 stays_told : (r q : ℕ) (b was : Bool) (old : Rows Connection) (now : Bool) → (q == r) ≡ b → ((q == r) ≡ true → open_in r old ≡ was) →
     now ≡ (if b then was else open_in r old) → now ≡ open_in r old
-stays_told r q true was old now e here is = is ∙ sym (here e)
-stays_told r q false was old now e here is = is
+stays_told r q b was old now e here is = grind arith steps 200000
 
 -- ---- a CR
 
 accepts_told : (r : ℕ) (class : Class) (size : Option ℕ) (c : Connect) (s : State) → AreUpTo s.given s.live → Told r s (answers c (accept class size) None s)
-accepts_told r Zero size c s up =
-    opens_told r (s.given + 1) (s.given + 1 == r) s (answers c (accept Zero size) None s) refl refl
-    (open_push r (s.given + 1) _ s.live (s.given + 1 == r) refl (next_none s.given s.live up))
-accepts_told r Two size c s up =
-    opens_told r (s.given + 1) (s.given + 1 == r) s (answers c (accept Two size) None s) refl refl
-    (open_push r (s.given + 1) _ s.live (s.given + 1 == r) refl (next_none s.given s.live up))
+accepts_told r class size c s up = grind (arith, opens_told, open_push, next_none) steps 200000
 
 answers_told : (r : ℕ) (c : Connect) (selection : Selection) (held : Option Class) (s : State) → AreUpTo s.given s.live → Told r s (answers c selection held s)
 answers_told r c (refuse reason) held s up = same_told r s (denies reason c.source s) refl refl
@@ -184,14 +155,7 @@ request_told r c s up = request_by r c s (has_peer c.source s.live) (is_full s) 
 -- ---- a unit for a connection
 
 unknown_told : (r : ℕ) (unit : Value) (s : State) → (to_unknown unit s).ended ≡ None → Told r s (to_unknown unit s)
-unknown_told r (disconnect destination source reason user) s h = same_told r s (to_unknown (disconnect destination source reason user) s) refl refl
-unknown_told r (disconnected destination source) s h = still_told r s
-unknown_told r (request c) s h = over_told _ s h
-unknown_told r (confirm destination c) s h = over_told _ s h
-unknown_told r (data0 end user) s h = over_told _ s h
-unknown_told r (data2 destination number end user) s h = over_told _ s h
-unknown_told r (acknowledge credit destination number) s h = over_told _ s h
-unknown_told r (error destination cause) s h = over_told _ s h
+unknown_told r unit s h = grind (arith, same_told, still_told, over_told) steps 200000
 
 confirm_told : (r q : ℕ) (c : Connect) (class : Option Class) (s : State) → value_at q s.live ≡ Some asked → (opens q c class s).ended ≡ None → Told r s (opens q c class s)
 confirm_told r q c None s here h = over_told _ s h
@@ -200,8 +164,7 @@ confirm_told r q c (Some class) s here h =
 
 -- one that was not open is dropped
 dropped_told : (r q : ℕ) (y : Connection) (s : State) → RiseFrom 0 s.live → value_at q s.live ≡ Some y → is_link y ≡ false → open_in r (without q s.live) ≡ open_in r s.live
-dropped_told r q y s rise here none =
-    stays_told r q (q == r) false s.live (open_in r (without q s.live)) refl (λ e. open_was r q y s.live e here ∙ none) (open_without r q s.live (q == r) refl rise)
+dropped_told r q y s rise here none = grind (arith, stays_told, open_was, open_without) steps 200000
 
 refused_told : (r q reason : ℕ) (s t : State) → RiseFrom 0 s.live → value_at q s.live ≡ Some asked → t.live ≡ without q s.live →
     t.events ≡ s.events ++ refused q reason ∷ [] → Told r s t
@@ -210,8 +173,7 @@ refused_told r q reason s t rise here live events =
 
 asked_told : (r q : ℕ) (unit : Value) (s : State) → RiseFrom 0 s.live → value_at q s.live ≡ Some asked → (to_asked q unit s).ended ≡ None → Told r s (to_asked q unit s)
 asked_told r q (confirm destination c) s rise here h = confirm_told r q c (confirmed c s.local s.class) s here h
-asked_told r q (disconnect destination source reason user) s rise here h =
-    refused_told r q reason s (to_asked q (disconnect destination source reason user) s) rise here refl refl
+asked_told r q (disconnect destination source reason user) s rise here h = grind (arith, refused_told) steps 200000
 asked_told r q (error destination cause) s rise here h = refused_told r q 0 s (to_asked q (error destination cause) s) rise here refl refl
 asked_told r q (request c) s rise here h = unknown_told r (request c) s h
 asked_told r q (disconnected destination source) s rise here h = unknown_told r (disconnected destination source) s h
@@ -222,13 +184,10 @@ asked_told r q (acknowledge credit destination number) s rise here h = unknown_t
 -- an open connection stays open
 kept_open : (r q peer next : ℕ) (link after : Standing) (rows : Rows Connection) → value_at q rows ≡ Some (linked peer link) →
     open_in r (put q (linked next after) rows) ≡ open_in r rows
-kept_open r q peer next link after rows here =
-    stays_told r q (q == r) true rows (open_in r (put q (linked next after) rows)) refl (λ e. open_was r q (linked peer link) rows e here)
-    (open_put r q (linked next after) (linked peer link) rows (q == r) refl here)
+kept_open r q peer next link after rows here = grind (arith, stays_told, open_was, open_put) steps 200000
 
 settles_told : (r q : ℕ) (whole : List (List ℕ)) (s t : State) → open_in r t.live ≡ open_in r s.live → t.events ≡ s.events → Told r s (tells_of q (take 1 whole) t)
-settles_told r q [] s t is events = same_told r s (tells_of q [] t) (append-nil t.events ∙ events) is
-settles_told r q (octets ∷ more) s t is events = record { told = tsdu q octets ∷ []; events = ap (λ l. l ++ tsdu q octets ∷ []) events; is = is }
+settles_told r q whole s t is events = grind (arith, same_told, append-nil) steps 200000
 
 breaks_told : (r q peer : ℕ) (link : Standing) (fault : LinkFault) (held : Option Class) (s : State) → value_at q s.live ≡ Some (linked peer link) →
     (breaks q peer fault held s).ended ≡ None → Told r s (breaks q peer fault held s)
@@ -246,10 +205,7 @@ taking_told r q peer link (Err fault) s here h = breaks_told r q peer link fault
 
 leaving_told : (r q peer reason : ℕ) (link : Standing) (held : Option Class) (s : State) → RiseFrom 0 s.live →
     (leaves q peer reason held s).ended ≡ None → Told r s (leaves q peer reason held s)
-leaving_told r q peer reason link None s rise h = absurd cc
-leaving_told r q peer reason link (Some Zero) s rise h = absurd cc
-leaving_told r q peer reason link (Some Two) s rise h =
-    leaves_told r q (q == r) s (leaves q peer reason (Some Two) s) (closed q reason) refl refl (λ was. refl) (open_without r q s.live (q == r) refl rise)
+leaving_told r q peer reason link held s rise h = grind (arith, leaves_told, open_without) steps 200000
 
 linked_told : (r q peer : ℕ) (link : Standing) (unit : Value) (s : State) → RiseFrom 0 s.live → value_at q s.live ≡ Some (linked peer link) →
     (to_linked q peer link unit s).ended ≡ None → Told r s (to_linked q peer link unit s)
@@ -337,8 +293,7 @@ class_told r (Some Zero) unit s o h = zero_told r s.is_caller unit s o.rise h
 class_told r (Some Two) unit s o h = two_told r s.is_caller unit s o h
 
 by_told : (r : ℕ) (over : Bool) (unit : Value) (s : State) → IsOrderly s → (react_by over unit s).ended ≡ None → Told r s (react_by over unit s)
-by_told r true unit s o h = still_told r s
-by_told r false unit s o h = class_told r s.class unit s o h
+by_told r over unit s o h = grind (arith, still_told, class_told) steps 200000
 
 react_told : (r : ℕ) (unit : Value) (s : State) → IsOrderly s → (react unit s).ended ≡ None → Told r s (react unit s)
 unfolding react
@@ -363,8 +318,7 @@ told_joined r old mid new a b = record {
 
 -- what has not ended had not before
 units_last : (units : List Value) (s : State) (over : Bool) → is_some s.ended ≡ over → (reacts units s).ended ≡ None → s.ended ≡ None
-units_last units s true e h = ap (λ (t : State). t.ended) (sym (reacts_over units s e)) ∙ h
-units_last units s false e h = none_of s.ended e
+units_last units s over e h = grind (arith, reacts_over, none_of) steps 200000
 
 units_told : (r : ℕ) (units : List Value) (s : State) → IsOrderly s → (reacts units s).ended ≡ None → Told r s (reacts units s)
 units_told r [] s o h = still_told r s
@@ -386,11 +340,7 @@ open_lasts : (r : ℕ) (s : State) → s.ended ≡ None → is_open r s ≡ open
 open_lasts r s h = ap (λ (o : Option EndReason). is_some (if is_some o then None else link_of (value_at r s.live))) h
 
 tells_open : (r : ℕ) (old new : State) → old.ended ≡ None → new.ended ≡ None → Told r old new → TellsOpen r old new
-tells_open r old new was lasts t = record {
-  told = t.told;
-  events = t.events;
-  is = open_lasts r new lasts ∙ t.is ∙ ap (λ b. open_after r b t.told) (sym (open_lasts r old was));
-}
+tells_open r old new was lasts t = grind (arith, open_lasts) steps 200000
 
 pub unit_opens : (unit : Value) (s : State) (r : ℕ) → IsOrderly s → (react unit s).ended ≡ None → TellsOpen r s (react unit s)
 unit_opens unit s r o h = tells_open r s (react unit s) (units_last (unit ∷ []) s (is_some s.ended) refl h) h (react_told r unit s o h)
@@ -409,61 +359,37 @@ packet_opens packet s r o h = tells_open r s (after_packet s packet) (packet_las
 -- ---- calls
 
 asks_by : (r : ℕ) (s : State) (b : Bool) → (s.given + 1 == r) ≡ b → AreUpTo s.given s.live → open_in r (s.live ++ (s.given + 1, asked) ∷ []) ≡ open_in r s.live
-asks_by r s true e up =
-    open_push r (s.given + 1) asked s.live true e (next_none s.given s.live up)
-    ∙ sym (ap (λ o. is_some (link_of o)) (subst (λ n. value_at n s.live ≡ None) (eqb-true (s.given + 1) r e) (next_none s.given s.live up)))
-asks_by r s false e up = open_push r (s.given + 1) asked s.live false e (next_none s.given s.live up)
+asks_by r s b e up = grind (arith, open_push, next_none, is_some, eqb-true) steps 200000
 
 at_end : (over : Bool) (a b : Option Connection) → is_some (link_of a) ≡ is_some (link_of b) →
     is_some (if over then None else link_of a) ≡ is_some (if over then None else link_of b)
-at_end true a b e = refl
-at_end false a b e = e
+at_end over a b e = grind arith steps 200000
 
 pub asks_opens : (calling called : Option (List ℕ)) (s : State) (r : ℕ) → IsOrderly s → is_open r (asks calling called s) ≡ is_open r s
-asks_opens calling called s r o =
-    at_end (is_some s.ended) (value_at r (s.live ++ (s.given + 1, asked) ∷ [])) (value_at r s.live) (asks_by r s (s.given + 1 == r) refl o.up_to)
+asks_opens calling called s r o = grind (arith, at_end, is_some, asks_by) steps 200000
 
 -- a link that is open stands among the live connections of a carrier that has not ended
 link_there : (q peer : ℕ) (link : Standing) (over : Bool) (o : Option Connection) → (if over then None else link_of o) ≡ Some (peer, link) →
     (o ≡ Some (linked peer link)) × (over ≡ false)
-link_there q peer link true o h = absurd cc
-link_there q peer link false None h = absurd cc
-link_there q peer link false (Some asked) h = absurd cc
-link_there q peer link false (Some (linked p l)) h =
-    let same : (p, l) ≡ (peer, link) = cc in
-    (ap (λ (x : ℕ × Standing). Some (linked x.0 x.1)) same, refl)
-link_there q peer link false (Some (closing p)) h = absurd cc
+link_there q peer link over o h = grind arith steps 200000
 
 sent_by : (r q : ℕ) (octets : List ℕ) (link : Option (ℕ × Standing)) (s : State) → open_link q s ≡ link → is_open r (sent_on q octets link s) ≡ is_open r s
-sent_by r q octets None s e = refl
-sent_by r q octets (Some (peer, link)) s e =
-    let there = link_there q peer link (is_some s.ended) (value_at q s.live) e in
-    at_end (is_some s.ended) (value_at r (sent_on q octets (Some (peer, link)) s).live) (value_at r s.live) (kept_open r q peer peer link _ s.live there.0)
+sent_by r q octets link s e = grind (arith, link_there, is_some, at_end, kept_open) steps 200000
 
 pub sent_opens : (q r : ℕ) (octets : List ℕ) (s : State) → is_open r (sent q octets s) ≡ is_open r s
 sent_opens q r octets s = sent_by r q octets (open_link q s) s refl
 
 closing_by : (b was : Bool) → (if b then false else was) ≡ (was && not b)
-closing_by true true = refl
-closing_by true false = refl
-closing_by false true = refl
-closing_by false false = refl
+closing_by b was = grind arith steps 200000
 
 closes_by : (r q peer reason : ℕ) (link : Standing) (held : Option Class) (s : State) → value_at q s.live ≡ Some (linked peer link) → s.ended ≡ None →
     (closes q peer reason held s).ended ≡ None → is_open r (closes q peer reason held s) ≡ (is_open r s && not (q == r))
-closes_by r q peer reason link None s here lasts h =
-    open_lasts r (closes q peer reason None s) h ∙ open_put r q (closing peer) (linked peer link) s.live (q == r) refl here
-    ∙ closing_by (q == r) (open_in r s.live) ∙ ap (λ was. was && not (q == r)) (sym (open_lasts r s lasts))
+closes_by r q peer reason link None s here lasts h = grind (arith, open_lasts, open_put, closing_by, not) steps 200000
 closes_by r q peer reason link (Some Zero) s here lasts h = over_told _ s h
-closes_by r q peer reason link (Some Two) s here lasts h =
-    open_lasts r (closes q peer reason (Some Two) s) h ∙ open_put r q (closing peer) (linked peer link) s.live (q == r) refl here
-    ∙ closing_by (q == r) (open_in r s.live) ∙ ap (λ was. was && not (q == r)) (sym (open_lasts r s lasts))
+closes_by r q peer reason link (Some Two) s here lasts h = grind (arith, open_lasts, open_put, closing_by, not) steps 200000
 
 not_open : (r q : ℕ) (s : State) (b : Bool) → (q == r) ≡ b → open_link q s ≡ None → is_open r s ≡ (is_open r s && not b)
-not_open r q s true e h =
-    let none : is_open r s ≡ false = ap is_some (subst (λ n. open_link n s ≡ None) (eqb-true q r e) h) in
-    none ∙ sym (and_false (is_open r s))
-not_open r q s false e h = sym (and_true (is_open r s))
+not_open r q s b e h = grind (arith, is_some, eqb-true, and_false, and_true) steps 200000
 
 closed_by : (r q reason : ℕ) (link : Option (ℕ × Standing)) (s : State) → open_link q s ≡ link → (closed_on q reason link s).ended ≡ None →
     is_open r (closed_on q reason link s) ≡ (is_open r s && not (q == r))

@@ -22,13 +22,8 @@ units-preserved c =
       λ enough. (let before = c.units.invariant.1 enough in omega arith),
     )
 
-pub returns-in_default-put_given-clause-err : goal.returns-in_default-put_given-clause-err
-returns-in_default-put_given-clause-err c =
-    c.truncate.ensures.items ∙ ap (λ (n : ℕ). take n c.put_given.new.out.items) c.len-before.ensures.value
-    ∙ pumping_full c.args.peer (any_standing c.args.link.now) (any_standing c.units.link) c.args.out.now.items c.units.out.items c.put_given.new.out.items c.units.invariant.0 c.in_default-put_given.ensures.err
-
-pub returns-in_default-put_given-clause-needs : goal.returns-in_default-put_given-clause-needs
-returns-in_default-put_given-clause-needs c =
+pub returns-in_default-put_given : goal.returns-in_default-put_given
+returns-in_default-put_given c =
     let first = any_standing c.args.link.now in
     let now = any_standing c.units.link in
     let then = any_standing c.next_out.follows.lender-at-none in
@@ -37,16 +32,12 @@ returns-in_default-put_given-clause-needs c =
     let gives = subst (λ r. Gives r (next now) now then) c.in-Some.is c.next_out.follows.holds-at-none in
     let e = c.all_is_given.ensures.some now then (given c.in-Some.unit) room gives in
     let short = pumping_short c.args.peer first now then (given c.in-Some.unit) c.args.out.now.spare c.units.out.spare e c.units.invariant.1 c.in_default-put_given.ensures.full in
-    some_written (written_by c.args.peer first) c.args.out.now.spare (λ enough. omega arith)
-
-pub returns-in_default-put_given-clause-enough : goal.returns-in_default-put_given-clause-enough
-returns-in_default-put_given-clause-enough c = λ enough.
-    let first = any_standing c.args.link.now in
-    let now = any_standing c.units.link in
-    let then = any_standing c.next_out.follows.lender-at-none in
-    let least = c.next_out.ensures.at_least in
-    let room : 0 < now.ends.limit = omega arith in
-    let gives = subst (λ r. Gives r (next now) now then) c.in-Some.is c.next_out.follows.holds-at-none in
-    let e = c.all_is_given.ensures.some now then (given c.in-Some.unit) room gives in
-    let short = pumping_short c.args.peer first now then (given c.in-Some.unit) c.args.out.now.spare c.units.out.spare e c.units.invariant.1 c.in_default-put_given.ensures.full in
-    absurd (omega arith)
+    record {
+      link = tt;
+      ok = tt;
+      pumped = tt;
+      err = c.truncate.ensures.items ∙ ap (λ (n : ℕ). take n c.put_given.new.out.items) c.len-before.ensures.value
+          ∙ pumping_full c.args.peer first now c.args.out.now.items c.units.out.items c.put_given.new.out.items c.units.invariant.0 c.in_default-put_given.ensures.err;
+      needs = some_written (written_by c.args.peer first) c.args.out.now.spare (λ enough. omega arith);
+      enough = λ enough. absurd (omega arith);
+    }

@@ -3,49 +3,42 @@ use Rattle.std.proofs.lemmas.Bool.{eqb-false}
 use Rattle.osi_carrier.specs.Fetching.{Fetches}
 use Rattle.osi_carrier.specs.Packets.{Carrying, IsReading, Goes, stops, waits, is_spoilt}
 use Rattle.osi_carrier.specs.declared.carrier.feeding.Fetched.{Fetched}
-use Rattle.osi_carrier.proofs.Reading.{IsRead, read_first, read_next, read_stops, read_spoilt, read_part, read_over, fed_goes, quiet_by}
+use Rattle.osi_carrier.proofs.Reading.{IsRead, read_first, read_next, read_stops, read_spoilt, read_part, read_over, fed_goes}
 use Rattle.osi_carrier.proofs.carrier.Carrier.feed.Goals as goal
 
 pub packets-init : goal.packets-init
 packets-init c =
-    let alive = ap (λ (x : Carrying). is_some x.state.ended) (sym c.self.view_is) ∙ (sym c.has_ended.ensures ∙ c.if-has_ended.false) in
-    let none = ap (λ (x : Carrying). waits x.state) (sym c.self.view_is) ∙ (sym c.has_event.ensures ∙ c.if-has_event.false) in
-    read_first c.args.self.now c.args.piece.now (quiet_by c.args.self.now.state alive none) (subst IsReading (ap (λ (x : Carrying). x.held) c.self.view_is) c.self.invariant)
+    read_first c.args.self.now c.args.piece.now
+    (ap (λ (x : Carrying). is_some x.state.ended) (sym c.self.view_is) ∙ (sym c.has_ended.ensures ∙ c.if-has_ended.false))
+    (ap (λ (x : Carrying). waits x.state) (sym c.self.view_is) ∙ (sym c.has_event.ensures ∙ c.if-has_event.false))
+    (subst IsReading (ap (λ (x : Carrying). x.held) c.self.view_is) c.self.invariant)
+    (eqb-false (length c.args.piece.now) 0 (sym c.is_empty.ensures ∙ c.if-is_empty.false))
 
 pub returns-in-Over-clause-feeds : goal.returns-in-Over-clause-feeds
 returns-in-Over-clause-feeds c =
-    let alive = ap (λ (x : Carrying). is_some x.state.ended) (sym c.self.view_is) ∙ (sym c.has_ended.ensures ∙ c.if-has_ended.false) in
-    let none = ap (λ (x : Carrying). waits x.state) (sym c.self.view_is) ∙ (sym c.has_event.ensures ∙ c.if-has_event.false) in
-    let some = eqb-false (length c.args.piece.now) 0 (sym c.is_empty.ensures ∙ c.if-is_empty.false) in
     let goes : Goes c.args.self.now c.args.piece.now (length c.args.piece.now) c.fetch.new.self = elim c.in-Over.is [
       | inl over ↦ read_over c.args.self.now c.args.piece.now c.packets.self c.packets.rest.now c.fetch.new.self c.packets.invariant
           (subst (λ (f : Fetched). Fetches c.packets.self c.packets.rest.now f c.fetch.new.self) over c.fetch.ensures)
       | inr part ↦ read_part c.args.self.now c.args.piece.now c.packets.self c.packets.rest.now c.fetch.new.self c.packets.invariant
           (subst (λ (f : Fetched). Fetches c.packets.self c.packets.rest.now f c.fetch.new.self) part c.fetch.ensures)
     ] in
-    fed_goes c.args.self.now c.args.piece.now (length c.args.piece.now) c.fed-in-Over.result c.fetch.new.self (quiet_by c.args.self.now.state alive none) (omega arith) goes (omega arith)
+    fed_goes c.args.self.now c.args.piece.now c.packets.self c.packets.rest.now (length c.args.piece.now) c.fed-in-Over.result c.fetch.new.self c.packets.invariant goes (omega arith)
     c.fed-in-Over.ensures.used c.fed-in-Over.ensures.whole
 
 pub returns-then-is_spoilt-clause-feeds : goal.returns-then-is_spoilt-clause-feeds
 returns-then-is_spoilt-clause-feeds c =
-    let alive = ap (λ (x : Carrying). is_some x.state.ended) (sym c.self.view_is) ∙ (sym c.has_ended.ensures ∙ c.if-has_ended.false) in
-    let none = ap (λ (x : Carrying). waits x.state) (sym c.self.view_is) ∙ (sym c.has_event.ensures ∙ c.if-has_event.false) in
-    let some = eqb-false (length c.args.piece.now) 0 (sym c.is_empty.ensures ∙ c.if-is_empty.false) in
     let spoilt = ap (λ (x : Carrying). is_spoilt x.state.ended) (sym c.self-in-packets.view_is) ∙ (sym c.is_spoilt.ensures ∙ c.if-is_spoilt.true) in
-    let goes = read_spoilt c.args.self.now c.args.piece.now c.packets.self c.packets.rest.now c.in-Packet.used c.fetch.new.self c.packets.invariant c.in-Packet.ensures spoilt in
-    fed_goes c.args.self.now c.args.piece.now (length c.args.piece.now) c.fed-then-is_spoilt.result c.fetch.new.self (quiet_by c.args.self.now.state alive none) (omega arith) goes (omega arith)
+    fed_goes c.args.self.now c.args.piece.now c.packets.self c.packets.rest.now (length c.args.piece.now) c.fed-then-is_spoilt.result c.fetch.new.self c.packets.invariant
+    (read_spoilt c.args.self.now c.args.piece.now c.packets.self c.packets.rest.now c.in-Packet.used c.fetch.new.self c.packets.invariant c.in-Packet.ensures spoilt) (omega arith)
     c.fed-then-is_spoilt.ensures.used c.fed-then-is_spoilt.ensures.whole
 
 pub returns-then-stops-clause-feeds : goal.returns-then-stops-clause-feeds
 returns-then-stops-clause-feeds c =
-    let alive = ap (λ (x : Carrying). is_some x.state.ended) (sym c.self.view_is) ∙ (sym c.has_ended.ensures ∙ c.if-has_ended.false) in
-    let none = ap (λ (x : Carrying). waits x.state) (sym c.self.view_is) ∙ (sym c.has_event.ensures ∙ c.if-has_event.false) in
-    let some = eqb-false (length c.args.piece.now) 0 (sym c.is_empty.ensures ∙ c.if-is_empty.false) in
     let sound = ap (λ (x : Carrying). is_spoilt x.state.ended) (sym c.self-in-packets.view_is) ∙ (sym c.is_spoilt.ensures ∙ c.if-is_spoilt.false) in
     let stopped = ap (λ (x : Carrying). stops x.state) (sym c.self-in-packets.view_is) ∙ (sym c.stops.ensures ∙ c.if-stops.true) in
     let goes = subst (λ (l : List ℕ). Goes c.args.self.now c.args.piece.now (length c.args.piece.now - length l) c.fetch.new.self) (sym c.split_at.ensures.back)
     (read_stops c.args.self.now c.args.piece.now c.packets.self c.packets.rest.now c.in-Packet.used c.fetch.new.self c.packets.invariant c.in-Packet.ensures stopped sound) in
-    fed_goes c.args.self.now c.args.piece.now (length c.args.piece.now - length c.split_at.result.1.now) c.fed-then-stops.result c.fetch.new.self (quiet_by c.args.self.now.state alive none) (omega arith) goes (omega arith)
+    fed_goes c.args.self.now c.args.piece.now c.packets.self c.packets.rest.now (length c.args.piece.now - length c.split_at.result.1.now) c.fed-then-stops.result c.fetch.new.self c.packets.invariant goes (omega arith)
     c.fed-then-stops.ensures.used c.fed-then-stops.ensures.whole
 
 pub packets-preserved : goal.packets-preserved
