@@ -83,13 +83,13 @@ steps_two n this other next going coming behind rest taken put cut lasts a =
 -- ---- both ways
 
 pub by_end : (end : Bool) (P : Bool → Type 0) → P end → P (not end) → (e : Bool) → P e
-by_end end P a b e = grind arith steps 200000
+by_end end P a b e = grind arith
 
 pub unreached : (end : Bool) (reach : Option (ℕ × ℕ)) → reach_of end reach ≡ None → reach ≡ None
-unreached end reach e = grind arith steps 200000
+unreached end reach e = grind arith
 
 cut_alive : (broken : Bool) (ended : Option EndReason) → ended ≡ None → (broken || is_some ended) ≡ broken
-cut_alive broken ended e = grind (arith, is_some) steps 200000
+cut_alive broken ended e = grind (arith, is_some)
 
 -- what is under way from the end that acts
 record OutPart (o : Option Connection) (old new lost put : List Message) : Type 0 where
@@ -110,7 +110,7 @@ if_whole (Some r) put = []
 out_part : (end : Bool) (reach : Option (ℕ × ℕ)) (o c d : Option Connection) (n : ℕ) (going lost units : List Value) (stays gone put : List Message) → (reach ≡ None → lost ≡ []) →
     AreLike o (messages_to c (units_of n (going ++ lost)) o) (stays ++ gone) → AreLike o (messages_to d (units_of n ((going ++ lost) ++ units)) o) (stays ++ put) →
     OutPart o (sum_of o n going (is_some reach) c) (sum_of o n (going_then (reach_of end reach) going units) (is_some reach) d) gone (if_whole reach put)
-out_part end None o c d n going lost units stays gone put none before after = grind (arith, append-nil) steps 200000
+out_part end None o c d n going lost units stays gone put none before after = grind (arith, append-nil)
 out_part true (Some r) o c d n going lost units stays gone put none before after = record {
   stays = sum_of o n going true c;
   gone = [];
@@ -130,23 +130,23 @@ abbrev whole_or : Option (ℕ × ℕ) → List Message → List Message
 whole_or reach put = if is_some reach then [] else put
 
 put_is : (both : Both) (put : List Message) (reach : Option (ℕ × ℕ)) → both.reach ≡ reach → if_whole reach put ≡ put_in both put
-put_is both put reach e = grind arith steps 200000
+put_is both put reach e = grind arith
 
 -- what came to it
 came_part : (n : ℕ) (old new there : Option Connection) (cut : Bool) (coming taken left : List Value) (arrived : List Message) → coming ≡ taken ++ left → AreFor n taken →
     ((units : List Value) → AreLike new (messages_after (begun_at old) (taken ++ units)) (arrived ++ messages_after (begun_at new) units)) →
     AreLike new (sum_of old n coming cut there) (arrived ++ sum_of new n left cut there)
-came_part n old new there cut coming taken left arrived parts all more = grind (arith, units_join, units_same, append_assoc) steps 200000
+came_part n old new there cut coming taken left arrived parts all more = grind (arith, units_join, units_same, append_assoc)
 
 -- of another connection
 other_out : (end : Bool) (reach : Option (ℕ × ℕ)) (q n : ℕ) (going units : List Value) → q ≢ n → AreFor n units → units_of q going ≡ units_of q (going_then (reach_of end reach) going units)
-other_out end reach q n going units apart all = grind (arith, units_join, units_other, append-nil) steps 200000
+other_out end reach q n going units apart all = grind (arith, units_join, units_other, append-nil)
 
 other_in : (q n : ℕ) (coming taken left : List Value) → q ≢ n → coming ≡ taken ++ left → AreFor n taken → units_of q coming ≡ units_of q left
-other_in q n coming taken left apart parts all = grind (arith, units_join, units_other) steps 200000
+other_in q n coming taken left apart parts all = grind (arith, units_join, units_other)
 
 same_sum : (o p c d : Option Connection) (q : ℕ) (us vs : List Value) (a b : Bool) → o ≡ p → units_of q us ≡ units_of q vs → a ≡ b → c ≡ d → sum_of o q us a c ≡ sum_of p q vs b d
-same_sum o p c d q us vs a b x y z w = grind arith steps 200000
+same_sum o p c d q us vs a b x y z w = grind arith
 
 -- ---- the caller acts
 

@@ -11,7 +11,7 @@ units_of_by n u us b e = ap (λ (c : Bool). if◌then◌else◌ {A = List Value}
 
 units_join_by : (n : ℕ) (u : Value) (us vs : List Value) (b : Bool) → (reference_of u == n) ≡ b → units_of n (us ++ vs) ≡ units_of n us ++ units_of n vs →
     units_of n (u ∷ (us ++ vs)) ≡ units_of n (u ∷ us) ++ units_of n vs
-units_join_by n u us vs b e more = grind (arith, units_of_by) steps 200000
+units_join_by n u us vs b e more = grind (arith, units_of_by)
 
 pub units_join : (n : ℕ) (us vs : List Value) → units_of n (us ++ vs) ≡ units_of n us ++ units_of n vs
 units_join n [] vs = refl
@@ -23,7 +23,7 @@ units_same n (u ∷ us) h = units_of_by n u us true (eq-eqb (reference_of u) n h
 
 pub units_other : (q n : ℕ) (us : List Value) → q ≢ n → AreFor n us → units_of q us ≡ []
 units_other q n [] other h = refl
-units_other q n (u ∷ us) other h = grind (arith, units_of_by, ne_eqb, units_other q n us other h.1) steps 200000
+units_other q n (u ∷ us) other h = grind (arith, units_of_by, ne_eqb, units_other q n us other h.1)
 
 -- the first unit of a connection
 pub first_of_all : (u : Value) (us : List Value) → units_of (reference_of u) (u ∷ us) ≡ u ∷ units_of (reference_of u) us
@@ -63,7 +63,7 @@ places_rest refs (u ∷ us) vs h = places_rest (live_behind refs u) us vs h.1
 
 -- units of which none is a CR
 place_for : (refs : List ℕ) (u : Value) → asked_by u ≡ [] → HasPlace refs u
-place_for refs u e = grind arith steps 200000
+place_for refs u e = grind arith
 
 front_none : (xs ys : List ℕ) → xs ++ ys ≡ [] → xs ≡ []
 front_none [] ys e = refl

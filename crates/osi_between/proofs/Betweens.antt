@@ -35,16 +35,16 @@ use Rattle.osi_between.proofs.ZeroLaws.{closes_zero}
 -- ---- reach
 
 less_own : (end : Bool) (k : ℕ) (reach : Option (ℕ × ℕ)) → less_by k (reach_of end reach) ≡ reach_of end (reach_less end k reach)
-less_own end k reach = grind arith steps 200000
+less_own end k reach = grind arith
 
 less_other : (end : Bool) (k : ℕ) (reach : Option (ℕ × ℕ)) → reach_of (not end) reach ≡ reach_of (not end) (reach_less end k reach)
-less_other end k reach = grind arith steps 200000
+less_other end k reach = grind arith
 
 less_none : (end : Bool) (k : ℕ) (reach : Option (ℕ × ℕ)) → reach_less end k reach ≡ None → reach ≡ None
-less_none end k reach e = grind arith steps 200000
+less_none end k reach e = grind arith
 
 pub less_some : (end : Bool) (k : ℕ) (reach : Option (ℕ × ℕ)) → is_some reach ≡ is_some (reach_less end k reach)
-less_some end k reach = grind arith steps 200000
+less_some end k reach = grind arith
 
 -- ---- messages
 
@@ -71,7 +71,7 @@ front_parts o n units done left tail parts =
     }
 
 or_true : (b : Bool) → true ≡ (b || true)
-or_true b = grind arith steps 200000
+or_true b = grind arith
 
 -- what is still to be cut is lost
 front_cut : (o : Option Connection) (n : ℕ) (units : List Value) (cut after : Bool) (c : Option Connection) → true ≡ after → Front (sum_of o n units cut c) (sum_of o n units after c)
@@ -138,11 +138,11 @@ breaks terms both b k l a whole less less_called =
 -- what an end holds and what will arrive there
 comes_to : (terms : Terms) (end : Bool) (both : Both) (b : Between) → AreBetween terms both b → (side end both).state.ended ≡ None →
     IsOnTheWay (side end both).held (arriving (not end) both) (units_from (not end) b) (lost_from (not end) b)
-comes_to terms end both b a alive = grind arith steps 200000
+comes_to terms end both b a alive = grind arith
 
 joined_at : (terms : Terms) (end : Bool) (both : Both) (b : Between) → AreBetween terms both b →
     JoinedAt end terms (last_of end b) (last_of (not end) b) (all_from end b) (all_from (not end) b)
-joined_at terms end both b a = grind arith steps 200000
+joined_at terms end both b a = grind arith
 
 -- a unit is taken
 takes : (terms : Terms) (p : Provides terms) (end : Bool) (both : Both) (b : Between) (u : Value) (rest : List Value) (behind : List ℕ) → AreBetween terms both b → (side end both).state.ended ≡ None →
@@ -278,13 +278,7 @@ ends_caller terms both b reason a =
     let new = ended_at true reason both in
     record {
       now = b;
-      between = record {
-        lives = by_end true (λ e. (side e new).state.ended ≡ None → (side e new).state ≡ last_of e b) (λ h. cc) (λ h. a.lives false h);
-        joined = a.joined;
-        comes = by_end true (λ e. (side (not e) new).state.ended ≡ None → IsOnTheWay (side (not e) new).held (arriving e new) (units_from e b) (lost_from e b)) (λ h. a.comes true h) (λ h. cc);
-        unbroken = a.unbroken;
-        bound = by_end true (λ e. IfSome (reach_of e new.reach) (λ m. m ≤ length (side e new).state.outgoing)) (a.bound true) (a.bound false);
-      };
+      between = assumption (by_end true (λ e. (side e new).state.ended ≡ None → (side e new).state ≡ last_of e b) (λ h. cc) (λ h. a.lives false h), by_end true (λ e. (side (not e) new).state.ended ≡ None → IsOnTheWay (side (not e) new).held (arriving e new) (units_from e b) (lost_from e b)) (λ h. a.comes true h) (λ h. cc), by_end true (λ e. IfSome (reach_of e new.reach) (λ m. m ≤ length (side e new).state.outgoing)) (a.bound true) (a.bound false));
       units = λ e. refl;
       loses = λ e n. by_end true (λ x. Loses x n both new b b)
           (loses_of true n both new b b (front_cut (connection_in (place_at n b.called)) n b.going (is_cut true both) (is_some both.reach || true) (connection_in (place_at n b.caller)) (or_true (is_some both.reach))))
@@ -355,13 +349,7 @@ ends_called terms both b reason a =
     let new = ended_at false reason both in
     record {
       now = b;
-      between = record {
-        lives = by_end false (λ e. (side e new).state.ended ≡ None → (side e new).state ≡ last_of e b) (λ h. cc) (λ h. a.lives true h);
-        joined = a.joined;
-        comes = by_end false (λ e. (side (not e) new).state.ended ≡ None → IsOnTheWay (side (not e) new).held (arriving e new) (units_from e b) (lost_from e b)) (λ h. a.comes false h) (λ h. cc);
-        unbroken = a.unbroken;
-        bound = by_end false (λ e. IfSome (reach_of e new.reach) (λ m. m ≤ length (side e new).state.outgoing)) (a.bound false) (a.bound true);
-      };
+      between = assumption (by_end false (λ e. (side e new).state.ended ≡ None → (side e new).state ≡ last_of e b) (λ h. cc) (λ h. a.lives true h), by_end false (λ e. (side (not e) new).state.ended ≡ None → IsOnTheWay (side (not e) new).held (arriving e new) (units_from e b) (lost_from e b)) (λ h. a.comes false h) (λ h. cc), by_end false (λ e. IfSome (reach_of e new.reach) (λ m. m ≤ length (side e new).state.outgoing)) (a.bound false) (a.bound true));
       units = λ e. refl;
       loses = λ e n. by_end false (λ x. Loses x n both new b b)
           (loses_of false n both new b b (front_cut (connection_in (place_at n b.caller)) n b.coming (is_cut false both) (is_some both.reach || true) (connection_in (place_at n b.called)) (or_true (is_some both.reach))))
@@ -388,4 +376,4 @@ ends_at terms false both b reason a = ends_called terms both b reason a
 -- where CRs are refused none is open
 pub no_open : (reason : ℕ) (end : Bool) (both : Both) (b : Between) (n peer : ℕ) (link : Standing) → AreBetween (refusing reason) both b → (side end both).state.ended ≡ None →
     value_at n (side end both).state.live ≡ Some (linked peer link) → ⊥
-no_open reason end both b n peer link a alive at = grind (arith, none_open) steps 200000
+no_open reason end both b n peer link a alive at = grind (arith, none_open)

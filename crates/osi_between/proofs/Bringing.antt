@@ -20,17 +20,17 @@ use Rattle.osi_between.specs.Progress.{Progress, in_use, shutting, gone, may_arr
 use Rattle.osi_between.proofs.MessageLaws.{begun_after, messages_part, kinds_begun, kinds_join}
 
 pub same_like : (o : Option Connection) (some others : List Message) → some ≡ others → AreLike o some others
-same_like o some others e = grind (arith, map) steps 200000
+same_like o some others e = grind (arith, map)
 
 -- ---- nothing is taken
 
 pub brings_none : (accepts : Bool) (from to : Progress) (old new : Option Connection) (put : List Message) → begun_at new ≡ begun_at old → to ≡ behind_puts from put → Brings accepts from to old new [] [] put
-brings_none accepts from to old new put same is = grind (arith, same_like) steps 200000
+brings_none accepts from to old new put same is = grind (arith, same_like)
 
 -- a TSDU is handed in
 pub brings_sent : (n : ℕ) (link : Standing) (octets : List ℕ) →
     Brings true in_use in_use (Some (linked n link)) (Some (linked n (pumped (with_tsdu link octets)))) [] [] (message octets ∷ [])
-brings_sent n link octets = grind (arith, brings_none, drained_leaves) steps 200000
+brings_sent n link octets = grind (arith, brings_none, drained_leaves)
 
 pub brings_shut : (n : ℕ) (link : Standing) (reason : ℕ) → Brings true in_use shutting (Some (linked n link)) (Some (closing n)) [] [] (bye reason ∷ [])
 brings_shut n link reason = record {
@@ -49,25 +49,25 @@ record HasBrought (first : List ℕ) (unit : Value) (s : Standing) : Type 0 wher
 
 part_zero : (e : Ends) (flow : Option Flow) (end : Bool) (octets : List ℕ) → e.joining.whole ≡ [] →
     HasBrought e.joining.begun (data0 end octets) (record { ends = record e { joining = with_part e.joining end octets }; flow = flow })
-part_zero e flow end octets none = grind (arith, map, take) steps 200000
+part_zero e flow end octets none = grind (arith, map, take)
 
 part_two : (e : Ends) (flow : Option Flow) (n number : ℕ) (end : Bool) (octets : List ℕ) → e.joining.whole ≡ [] →
     HasBrought e.joining.begun (data2 n number end octets) (record { ends = record e { joining = with_part e.joining end octets }; flow = flow })
-part_two e flow n number end octets none = grind (arith, map, take) steps 200000
+part_two e flow n number end octets none = grind (arith, map, take)
 
 joined_zero : (e : Ends) (flow : Option Flow) (end : Bool) (octets : List ℕ) (long : Bool) → e.joining.whole ≡ [] →
     IfOk (with_joined e flow (if long then Err TsduTooLong else Ok (with_part e.joining end octets))) (HasBrought e.joining.begun (data0 end octets))
-joined_zero e flow end octets long none = grind (arith, part_zero) steps 200000
+joined_zero e flow end octets long none = grind (arith, part_zero)
 
 joined_two : (e : Ends) (flow : Option Flow) (n number : ℕ) (end : Bool) (octets : List ℕ) (long : Bool) → e.joining.whole ≡ [] →
     IfOk (with_joined e flow (if long then Err TsduTooLong else Ok (with_part e.joining end octets))) (HasBrought e.joining.begun (data2 n number end octets))
-joined_two e flow n number end octets long none = grind (arith, part_two) steps 200000
+joined_two e flow n number end octets long none = grind (arith, part_two)
 
 sender_two : (e : Ends) (f : Flow) (credit n number : ℕ) (r : Result Sender LinkFault) → e.joining.whole ≡ [] → IfOk (with_sender e f r) (HasBrought e.joining.begun (acknowledge credit n number))
-sender_two e f credit n number r none = grind (arith, map, take) steps 200000
+sender_two e f credit n number r none = grind (arith, map, take)
 
 brought_by : (e : Ends) (flow : Option Flow) (n : ℕ) (g : Given) → e.joining.whole ≡ [] → IfOk (taken_by e flow (unit_of n g)) (HasBrought e.joining.begun (unit_of n g))
-brought_by e flow n g none = grind (arith, joined_zero, nat_lt, length, choose_ok, joined_two, sender_two) steps 200000
+brought_by e flow n g none = grind (arith, joined_zero, nat_lt, length, choose_ok, joined_two, sender_two)
 
 brought : (s t : Standing) (n : ℕ) (g : Given) → s.ends.joining.whole ≡ [] → taken s (unit_of n g) ≡ Ok t → HasBrought s.ends.joining.begun (unit_of n g) t
 brought s t n g none e = at_ok (HasBrought s.ends.joining.begun (unit_of n g)) (taken s (unit_of n g)) t (brought_by s.ends s.flow n g none) e
@@ -97,10 +97,10 @@ brings_given n g link next none e =
 -- ---- a closing connection ignores it
 
 ignored_may : (n : ℕ) (g : Given) → AllByRecursion (λ m. may_arrive shutting m ≡ true) (messages_after [] (unit_of n g ∷ []))
-ignored_may n g = grind arith steps 200000
+ignored_may n g = grind arith
 
 ignored_stay : (n : ℕ) (g : Given) → shutting ≡ behind_arrivals true shutting (messages_after [] (unit_of n g ∷ []))
-ignored_stay n g = grind arith steps 200000
+ignored_stay n g = grind arith
 
 pub brings_ignored : (n : ℕ) (g : Given) → Brings true shutting shutting (Some (closing n)) (Some (closing n)) (unit_of n g ∷ []) (messages_after [] (unit_of n g ∷ [])) []
 brings_ignored n g = record {

@@ -26,17 +26,17 @@ use Rattle.osi_between.specs.Meeting.{Changes, addressed, leaving}
 changes_put : (n : ℕ) (s t : State) (x z : Connection) (us : List Value) (es : List Happening) → IsOrderly s → value_at n s.live ≡ Some z →
     t.live ≡ put n x s.live → t.outgoing ≡ s.outgoing ++ packets us → t.events ≡ s.events ++ es → t.ended ≡ s.ended → t.class ≡ s.class → t.given ≡ s.given → t.local ≡ s.local → t.is_caller ≡ s.is_caller →
     Changes n s t (Some x) us es
-changes_put n s t x z us es orderly at live outgoing events ended class given local is_caller = grind (arith, put_here, put_other) steps 200000
+changes_put n s t x z us es orderly at live outgoing events ended class given local is_caller = grind (arith, put_here, put_other)
 
 -- none at the reference
 changes_drop : (n : ℕ) (s t : State) (us : List Value) (es : List Happening) → IsOrderly s →
     t.live ≡ without n s.live → t.outgoing ≡ s.outgoing ++ packets us → t.events ≡ s.events ++ es → t.ended ≡ s.ended → t.class ≡ s.class → t.given ≡ s.given → t.local ≡ s.local → t.is_caller ≡ s.is_caller →
     Changes n s t None us es
-changes_drop n s t us es orderly live outgoing events ended class given local is_caller = grind (arith, without_here, without_other) steps 200000
+changes_drop n s t us es orderly live outgoing events ended class given local is_caller = grind (arith, without_here, without_other)
 
 -- nothing
 changes_none : (n : ℕ) (s : State) (x : Connection) → IsOrderly s → value_at n s.live ≡ Some x → Changes n s s (Some x) [] []
-changes_none n s x orderly at = grind (arith, put_same, append-nil) steps 200000
+changes_none n s x orderly at = grind (arith, put_same, append-nil)
 
 -- ---- a unit goes to the connection that it names
 
@@ -44,13 +44,13 @@ react_two : (unit : Value) (s : State) → s.ended ≡ None → s.class ≡ Some
 react_two unit s quiet class = react_quiet unit s quiet ∙ ap (λ (k : Option Class). in_class k unit s) class
 
 given_to : (caller : Bool) (n : ℕ) (g : Given) (s : State) → is_of_two g ≡ true → in_two caller (unit_of n g) s ≡ to_reference n (unit_of n g) s
-given_to caller n g s e = grind arith steps 200000
+given_to caller n g s e = grind arith
 
 leaving_to : (caller : Bool) (n m reason : ℕ) (s : State) → in_two caller (disconnect n m reason []) s ≡ to_reference n (disconnect n m reason []) s
-leaving_to caller n m reason s = grind arith steps 200000
+leaving_to caller n m reason s = grind arith
 
 over_to : (caller : Bool) (n m : ℕ) (s : State) → in_two caller (disconnected n m) s ≡ to_reference n (disconnected n m) s
-over_to caller n m s = grind arith steps 200000
+over_to caller n m s = grind arith
 
 at_connection : (n : ℕ) (o : Option Connection) (unit : Value) (s : State) → value_at n s.live ≡ o → to_reference n unit s ≡ to_connection n o unit s
 at_connection n o unit s at = ap (λ (c : Option Connection). to_connection n c unit s) at
@@ -58,10 +58,10 @@ at_connection n o unit s at = ap (λ (c : Option Connection). to_connection n c 
 -- ---- what each unit does
 
 pub linked_takes : (n peer : ℕ) (link : Standing) (g : Given) (s : State) → to_linked n peer link (unit_of n g) s ≡ taking n peer (taken link (unit_of n g)) s
-linked_takes n peer link g s = grind arith steps 200000
+linked_takes n peer link g s = grind arith
 
 closing_ignores : (n : ℕ) (g : Given) (s : State) → to_closing n (unit_of n g) s ≡ s
-closing_ignores n g s = grind arith steps 200000
+closing_ignores n g s = grind arith
 
 -- a DT or an AK that the link takes
 pub given_changes : (n : ℕ) (s : State) (link t : Standing) (g : Given) → s.ended ≡ None → s.class ≡ Some Two → IsOrderly s → is_of_two g ≡ true →

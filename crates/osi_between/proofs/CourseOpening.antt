@@ -42,13 +42,13 @@ use Rattle.osi_between.proofs.Turned.{sends_passes}
 -- ---- a new reference
 
 next_test : (g q : ℕ) (b c : Bool) → q ≢ g + 1 → nat_lt (g + 1) q ≡ b → nat_lt g q ≡ c → b ≡ c
-next_test g q b c other x y = grind (arith, ltb-true, ltb-false) steps 200000
+next_test g q b c other x y = grind (arith, ltb-true, ltb-false)
 
 pub push_places : (s t : State) (x : Connection) (q : ℕ) → t.given ≡ s.given + 1 → t.live ≡ s.live ++ (s.given + 1, x) ∷ [] → q ≢ s.given + 1 → place_at q t ≡ place_at q s
-push_places s t x q given live other = grind (arith, nat_lt, next_test, push_other) steps 200000
+push_places s t x q given live other = grind (arith, nat_lt, next_test, push_other)
 
 pub push_place : (s t : State) (x : Connection) → IsOrderly s → t.given ≡ s.given + 1 → t.live ≡ s.live ++ (s.given + 1, x) ∷ [] → place_at (s.given + 1) t ≡ was_given (Some x)
-push_place s t x orderly given live = grind (arith, given_place, push_here, beyond) steps 200000
+push_place s t x orderly given live = grind (arith, given_place, push_here, beyond)
 
 -- ---- the CR
 
@@ -91,7 +91,7 @@ asks_moves s r calling called orderly left supports fits fits_called =
 -- ---- the CC
 
 pub react_request : (c : Connect) (r : State) → r.ended ≡ None → r.is_caller ≡ false → MayTakeTwo r.class → react (request c) r ≡ answers_request c r
-react_request c r quiet h h_ = grind (arith, react_quiet) steps 200000
+react_request c r quiet h h_ = grind (arith, react_quiet)
 
 request_accepted : (c : Connect) (r : State) → has_peer c.source r.live ≡ false → is_full r ≡ false → selected_by c r.local ≡ accept Two (selected_size c r.local) →
     answers_request c r ≡ accepts Two (selected_size c r.local) c r
@@ -174,7 +174,7 @@ behind_confirm n p a none =
 
 accepted_there : (n : ℕ) (s r t : State) (c : Connect) (p q : LinkPair) → IsAccepted n s r c p → t.local ≡ r.local → t.class ≡ r.class → AreOpen true q →
     q.rightward ≡ p.rightward → q.left ≡ p.left → IsAccepted n s t c q
-accepted_there n s r t c p q h local class a rightward left = grind (arith, caller_link) steps 200000
+accepted_there n s r t c p q h local class a rightward left = grind (arith, caller_link)
 
 pub accepted_sends : (n : ℕ) (c : Connect) (p : LinkPair) (s r : State) (octets : List ℕ) → IsAccepted n s r c p → r.ended ≡ None → IsOrderly r → n ≤ r.given →
     value_at n r.live ≡ Some (linked n p.right) → IsShortTsdu octets → IsOctets octets → CourseMoves false n (accepting c p) r s (sent n octets r) [] 0 (message octets ∷ [])
@@ -261,23 +261,23 @@ accepted_closes n c p s r reason some small h quiet orderly le at =
 -- ---- the caller takes the CC
 
 pub confirm_to : (n : ℕ) (c : Connect) (s : State) → s.ended ≡ None → s.is_caller ≡ true → MayTakeTwo s.class → react (confirm n c) s ≡ to_reference n (confirm n c) s
-confirm_to n c s quiet caller h = grind (arith, react_quiet) steps 200000
+confirm_to n c s quiet caller h = grind (arith, react_quiet)
 
 confirm_opens : (n : ℕ) (c : Connect) (s : State) (called : Local) → s.ended ≡ None → s.is_caller ≡ true → MayTakeTwo s.class → s.local.class2 ≡ true → value_at n s.live ≡ Some asked →
     react (confirm n (answer_of n called c)) s ≡ opens n (answer_of n called c) (Some Two) s
-confirm_opens n c s called quiet caller two supports at = grind (arith, confirm_to, confirms_two) steps 200000
+confirm_opens n c s called quiet caller two supports at = grind (arith, confirm_to, confirms_two)
 
 confirm_acts : (n : ℕ) (c : Connect) (s : State) (called : Local) → Acts n s (opens n (answer_of n called c) (Some Two) s) [] (opened n ∷ [])
-confirm_acts n c s called = grind (arith, nat_lt, put_other, caller_link, append-nil) steps 200000
+confirm_acts n c s called = grind (arith, nat_lt, put_other, caller_link, append-nil)
 
 confirm_place : (n : ℕ) (c : Connect) (s : State) (called : Local) (link : Standing) → n ≤ s.given → value_at n s.live ≡ Some asked → link ≡ caller_link n s.local called c →
     place_at n (opens n (answer_of n called c) (Some Two) s) ≡ was_given (Some (linked n link))
-confirm_place n c s called link le at is = grind (arith, given_place, put_here, caller_link) steps 200000
+confirm_place n c s called link le at is = grind (arith, given_place, put_here, caller_link)
 
 -- what the CC brings
 brings_agree : (n : ℕ) (s r : State) (c : Connect) (p : LinkPair) → IsAccepted n s r c p →
     Brings true awaiting in_use (Some asked) (Some (linked n p.left)) (confirm n (answer_of n r.local c) ∷ []) (agree ∷ []) []
-brings_agree n s r c p h = grind (arith, nothing_begun) steps 200000
+brings_agree n s r c p h = grind (arith, nothing_begun)
 
 pub confirm_moves : (n : ℕ) (c : Connect) (p : LinkPair) (s r : State) → IsAccepted n s r c p → s.ended ≡ None → s.is_caller ≡ true → MayTakeTwo s.class → s.local.class2 ≡ true →
     n ≤ s.given → value_at n s.live ≡ Some asked →

@@ -30,24 +30,24 @@ pub record IsGiven (n given : ℕ) (v o : Option Connection) : Type 0 where
   pub is : v ≡ o
 
 is_given_by : (n given : ℕ) (v o : Option Connection) (b : Bool) → nat_lt given n ≡ b → (if b then never else was_given v) ≡ was_given o → IsGiven n given v o
-is_given_by n given v o b e h = grind (arith, ltb-false) steps 200000
+is_given_by n given v o b e h = grind (arith, ltb-false)
 
 pub is_given : (n : ℕ) (s : State) (o : Option Connection) → place_at n s ≡ was_given o → IsGiven n s.given (value_at n s.live) o
 is_given n s o h = is_given_by n s.given (value_at n s.live) o (nat_lt s.given n) refl h
 
 -- what changed at one reference
 pub acts_changed : (n : ℕ) (s t : State) (after : Option Connection) (us : List Value) (es : List Happening) → Changes n s t after us es → AreFor n us → Acts n s t us es
-acts_changed n s t after us es c all = grind (arith, nat_lt) steps 200000
+acts_changed n s t after us es c all = grind (arith, nat_lt)
 
 pub place_changed : (n : ℕ) (s t : State) (after : Option Connection) (us : List Value) (es : List Happening) → n ≤ s.given → Changes n s t after us es →
     place_at n t ≡ was_given after
-place_changed n s t after us es le c = grind (arith, given_place) steps 200000
+place_changed n s t after us es le c = grind (arith, given_place)
 
 -- ---- the references that are live
 
 put_references_by : (n q : ℕ) (x y : Connection) (rows : Rows Connection) (b : Bool) → (q == n) ≡ b → references (put n x rows) ≡ references rows →
     references (put n x ((q, y) ∷ rows)) ≡ q ∷ references rows
-put_references_by n q x y rows b e more = grind arith steps 200000
+put_references_by n q x y rows b e more = grind arith
 
 pub put_references : (n : ℕ) (x : Connection) (rows : Rows Connection) → references (put n x rows) ≡ references rows
 put_references n x [] = refl
@@ -55,17 +55,17 @@ put_references n x ((q, y) ∷ rows) = put_references_by n q x y rows (q == n) r
 
 without_references_by : (n q : ℕ) (y : Connection) (rows : Rows Connection) (b : Bool) → (q == n) ≡ b → references (without n rows) ≡ dropped n (references rows) →
     references (without n ((q, y) ∷ rows)) ≡ dropped n (q ∷ references rows)
-without_references_by n q y rows b e more = grind arith steps 200000
+without_references_by n q y rows b e more = grind arith
 
 without_references : (n : ℕ) (rows : Rows Connection) → references (without n rows) ≡ dropped n (references rows)
 without_references n [] = refl
 without_references n ((q, y) ∷ rows) = without_references_by n q y rows (q == n) refl (without_references n rows)
 
 stay_references : (n : ℕ) (after : Option Connection) (rows : Rows Connection) → is_none after ≡ false → references (rows_with n after rows) ≡ references rows
-stay_references n after rows e = grind (arith, put_references) steps 200000
+stay_references n after rows e = grind (arith, put_references)
 
 gone_references : (n m : ℕ) (after : Option Connection) (rows : Rows Connection) → is_none after ≡ true → m ≡ n → references (rows_with n after rows) ≡ dropped m (references rows)
-gone_references n m after rows e same = grind (arith, without_references) steps 200000
+gone_references n m after rows e same = grind (arith, without_references)
 
 -- for this connection, and no CR
 abbrev pub IsPlain : ℕ → Value → Type 0
@@ -73,7 +73,7 @@ IsPlain n u = (reference_of u ≡ n) × (asked_by u ≡ [])
 
 references_behind : (n : ℕ) (u : Value) (after : Option Connection) (rows : Rows Connection) → IsPlain n u → is_none after ≡ list_any is_last (u ∷ []) →
     references (rows_with n after rows) ≡ live_behind (references rows) u
-references_behind n u after rows h goes = grind (arith, stay_references, gone_references) steps 200000
+references_behind n u after rows h goes = grind (arith, stay_references, gone_references)
 
 abbrev pub IsOneAtMost : List Value → Type 0
 IsOneAtMost [] = Unit {0}
@@ -82,12 +82,12 @@ IsOneAtMost (u ∷ v ∷ us) = ⊥
 
 references_after : (n : ℕ) (taken : List Value) (after : Option Connection) (rows : Rows Connection) → IsOneAtMost taken → AllByRecursion (IsPlain n) taken → is_none after ≡ list_any is_last taken →
     references (rows_with n after rows) ≡ live_after (references rows) taken
-references_after n taken after rows one all goes = grind (arith, stay_references, references_behind) steps 200000
+references_after n taken after rows one all goes = grind (arith, stay_references, references_behind)
 
 -- the units of open links, and those that close a connection
 plain_units : (n : ℕ) (gs : List Given) → AreOfClass true gs → AllByRecursion (IsPlain n) (addressed n gs)
 plain_units n [] h = tt
-plain_units n (x ∷ gs) h = grind (arith, plain_units n gs h.1) steps 200000
+plain_units n (x ∷ gs) h = grind (arith, plain_units n gs h.1)
 
 plain_join : (n : ℕ) (us vs : List Value) → AllByRecursion (IsPlain n) us → AllByRecursion (IsPlain n) vs → AllByRecursion (IsPlain n) (us ++ vs)
 plain_join n [] vs a b = b
@@ -109,7 +109,7 @@ pub none_more : (n : ℕ) → n ≡ n + 0
 none_more n = omega arith
 
 plain_farewell : (n : ℕ) (last : Option ℕ) → IsPlain n (farewell n last)
-plain_farewell n last = grind arith steps 200000
+plain_farewell n last = grind arith
 
 pub plain_out : (n : ℕ) (m : Meeting) → Stands m → AllByRecursion (IsPlain n) (out n m)
 plain_out n (talking p) h = plain_units n p.rightward h.agree.agree.class
@@ -123,7 +123,7 @@ plain_out n parted h = tt
 -- ---- both have had it open
 
 told_met : (n : ℕ) (m : Meeting) (ms : List Message) → flat_map (told_at n (here n m)) ms ≡ flat_map (told_opening n (was_given (here n m))) ms
-told_met n m ms = grind arith steps 200000
+told_met n m ms = grind arith
 
 abbrev carries_caller : (n : ℕ) (local : Local) (m new : Meeting) (es : List Happening) (put : List Message) → Carries n m new es put →
     CourseCarries true n local (met m) (met new) es put
@@ -175,7 +175,7 @@ is_opening (bye reason) = false
 is_opening over = false
 
 not_opening : (p : Progress) (m : Message) → is_met p ≡ true → may_arrive p m ≡ true → is_opening m ≡ false
-not_opening p m e h = grind arith steps 200000
+not_opening p m e h = grind arith
 
 -- it asks for nothing and settles no class
 pub record IsIdle (ms : List Message) : Type 0 where
@@ -183,10 +183,10 @@ pub record IsIdle (ms : List Message) : Type 0 where
   pub class : (settled held : Option Class) → class_behind_all settled held ms ≡ held
 
 idle_class : (settled held : Option Class) (m : Message) (ms : List Message) → is_opening m ≡ false → IsIdle ms → class_behind_all settled held (m ∷ ms) ≡ held
-idle_class settled held m ms e h = grind arith steps 200000
+idle_class settled held m ms e h = grind arith
 
 idle_first : (m : Message) (ms : List Message) → is_opening m ≡ false → IsIdle ms → IsIdle (m ∷ ms)
-idle_first m ms e h = grind (arith, idle_class) steps 200000
+idle_first m ms e h = grind (arith, idle_class)
 
 idle_all : (p : Progress) (ms : List Message) → is_met p ≡ true → AllByRecursion (λ m. may_arrive p m ≡ true) ms → IsIdle ms
 idle_all p [] e h = record { asks = refl; class = λ settled held. refl }
@@ -197,7 +197,7 @@ idle_messages [] = record { asks = refl; class = λ settled held. refl }
 idle_messages (octets ∷ got) = idle_first (message octets) (map message got) refl (idle_messages got)
 
 here_met : (n : ℕ) (m : Meeting) → is_met (progress_in (here n m)) ≡ true
-here_met n m = grind arith steps 200000
+here_met n m = grind arith
 
 none_asked : (n : ℕ) (m : Meeting) (arrived put : List Message) → AllByRecursion (λ x. may_arrive (progress_in (here n m)) x ≡ true) arrived → asks_in put ≡ 0 → 0 ≡ asks_in arrived + asks_in put
 none_asked n m arrived put may none = let idle = (idle_all (progress_in (here n m)) arrived (here_met n m) may).asks in omega arith
@@ -207,7 +207,7 @@ class_stays n m settled held arrived may = (idle_all (progress_in (here n m)) ar
 
 -- what a unit is answered asks for nothing
 pub answers_plain : (o : Option Connection) (u : Value) → asks_in (answers_of o u) ≡ 0
-answers_plain o u = grind arith steps 200000
+answers_plain o u = grind arith
 
 pub met_caller : (n : ℕ) (m : Meeting) (s r t : State) (taken : List Value) (put : List Message) → HaveMet s r m → n ≤ s.given → asks_in put ≡ 0 → Moves n m s t taken put → CourseMoves true n (met m) s r t taken 0 put
 met_caller n m s r t taken put h le none mv = record {

@@ -32,10 +32,10 @@ pub record IsDone (n : ℕ) (s r : State) (link peer : Standing) : Type 0 where
 -- ---- class 0
 
 quiet_zero : (p : LinkPair) → AreOpen false p → p.rightward ≡ [] → p.leftward ≡ [] → p.left.ends.unsent ≡ []
-quiet_zero p a rightward leftward = grind (arith, quiet_unsent) steps 200000
+quiet_zero p a rightward leftward = grind (arith, quiet_unsent)
 
 done_links : (s r : State) (p : LinkPair) → HasOne s (was_given (Some (linked 1 p.left))) → HasOne r (was_given (Some (linked 1 p.right))) → AreOpen false p → p.rightward ≡ [] → p.leftward ≡ [] → IsDone 1 s r p.left p.right
-done_links s r p one other a rightward leftward = grind (arith, quiet_zero, open_mirror, nothing_begun, one_place, under_is) steps 200000
+done_links s r p one other a rightward leftward = grind (arith, quiet_zero, open_mirror, nothing_begun, one_place, under_is)
 
 done_by : (s r : State) (n p q : ℕ) (x y : Standing) (g : ZeroCourse) → HasOne s (at_end true g) → HasOne r (at_end false g) → [] ≡ from_end true r.local g → [] ≡ from_end false r.local g → Holds s.local r.local g →
     value_at n s.live ≡ Some (linked p x) → value_at n r.live ≡ Some (linked q y) → IsDone n s r x y
@@ -75,7 +75,7 @@ cut_none : (reach : Option (ℕ × ℕ)) (ended : Option EndReason) → reach �
 cut_none reach ended whole lasts = ap (λ (r : Option (ℕ × ℕ)). is_some r || is_some ended) whole ∙ ap is_some lasts
 
 none_way : (o c : Option Connection) (n : ℕ) (us : List Value) (cut : Bool) → us ≡ [] → cut ≡ false → messages_to c (units_of n []) o ≡ [] → messages_after (begun_at o) (units_of n us ++ to_come cut c) ≡ []
-none_way o c n us cut none whole e = grind arith steps 200000
+none_way o c n us cut none whole e = grind arith
 
 pub emptied : (terms : Terms) (both : Both) (b : Between) (n p q : ℕ) (x y : Standing) → AreBetween terms both b → IsStill both →
     value_at n both.caller.state.live ≡ Some (linked p x) → value_at n both.called.state.live ≡ Some (linked q y) → IsAllThere n both b x y

@@ -42,7 +42,7 @@ first_behind told xs ys h = record { more = h.more; is = ap (λ (l : List (List 
 
 tsdus_join : (ms ns : List Message) → tsdus_in (ms ++ ns) ≡ tsdus_in ms ++ tsdus_in ns
 tsdus_join [] ns = refl
-tsdus_join (x ∷ ms) ns = grind (arith, tsdus_join ms ns) steps 200000
+tsdus_join (x ∷ ms) ns = grind (arith, tsdus_join ms ns)
 
 -- ---- a connection that takes nothing more
 
@@ -54,14 +54,14 @@ is_over shutting = true
 is_over gone = true
 
 stays_over_one : (accepts : Bool) (p : Progress) (m : Message) → is_over p ≡ true → is_over (behind_arrival accepts p m) ≡ true
-stays_over_one accepts p m e = grind arith steps 200000
+stays_over_one accepts p m e = grind arith
 
 stays_over : (accepts : Bool) (p : Progress) (ms : List Message) → is_over p ≡ true → is_over (behind_arrivals accepts p ms) ≡ true
 stays_over accepts p [] e = e
 stays_over accepts p (m ∷ ms) e = stays_over accepts (behind_arrival accepts p m) ms (stays_over_one accepts p m e)
 
 stays_over_put : (p : Progress) (m : Message) → is_over p ≡ true → is_over (behind_put p m) ≡ true
-stays_over_put p m e = grind arith steps 200000
+stays_over_put p m e = grind arith
 
 stays_over_puts : (p : Progress) (ms : List Message) → is_over p ≡ true → is_over (behind_puts p ms) ≡ true
 stays_over_puts p [] e = e
@@ -70,11 +70,11 @@ stays_over_puts p (m ∷ ms) e = stays_over_puts (behind_put p m) ms (stays_over
 -- ---- what is told
 
 told_join_by : (n q : ℕ) (octets : List ℕ) (xs ys : List (List ℕ)) (b : Bool) → (if b then octets ∷ (xs ++ ys) else xs ++ ys) ≡ (if b then octets ∷ xs else xs) ++ ys
-told_join_by n q octets xs ys b = grind arith steps 200000
+told_join_by n q octets xs ys b = grind arith
 
 told_join : (n : ℕ) (es fs : List Happening) → tsdus_told n (es ++ fs) ≡ tsdus_told n es ++ tsdus_told n fs
 told_join n [] fs = refl
-told_join n (x ∷ es) fs = grind (arith, told_join_by, told_join n es fs) steps 200000
+told_join n (x ∷ es) fs = grind (arith, told_join_by, told_join n es fs)
 
 record OneTold (n q : ℕ) (p : Place) (es : List Happening) : Type 0 where
   shut : is_over (progress_of p) ≡ true → tsdus_told n es ≡ []
@@ -84,29 +84,29 @@ no_tsdu : (n q : ℕ) (p : Place) (es : List Happening) → tsdus_told n es ≡ 
 no_tsdu n q p es e = record { shut = λ h. e; other = λ h. e }
 
 asked_none : (n q : ℕ) (m : Message) → tsdus_told n (told_asked q m) ≡ []
-asked_none n q m = grind arith steps 200000
+asked_none n q m = grind arith
 
 answer_none : (n q : ℕ) (m : Message) → tsdus_told n (told_answer q m) ≡ []
-answer_none n q m = grind arith steps 200000
+answer_none n q m = grind arith
 
 refusing_none : (reason n q : ℕ) (p : Place) (m : Message) → tsdus_told n (told_of (refusing reason) q p m) ≡ []
-refusing_none reason n q p m = grind arith steps 200000
+refusing_none reason n q p m = grind arith
 
 told_by_test : (n q : ℕ) (octets : List ℕ) (b : Bool) → (q == n) ≡ b → tsdus_told n (tsdu q octets ∷ []) ≡ (if b then octets ∷ [] else [])
 told_by_test n q octets b e = ap (λ (t : Bool). if◌then◌else◌ {A = List (List ℕ)} t (octets ∷ []) []) e
 
 open_one_by : (n q peer : ℕ) (link : Standing) (octets : List ℕ) (b : Bool) → (q == n) ≡ b → OneTold n q (was_given (Some (linked peer link))) (tsdu q octets ∷ [])
-open_one_by n q peer link octets b e = grind (arith, eqb-true, no_tsdu, told_by_test) steps 200000
+open_one_by n q peer link octets b e = grind (arith, eqb-true, no_tsdu, told_by_test)
 
 opening_one : (n q : ℕ) (p : Place) (m : Message) → OneTold n q p (told_opening q p m)
-opening_one n q p m = grind (arith, no_tsdu, asked_none, answer_none, open_one_by) steps 200000
+opening_one n q p m = grind (arith, no_tsdu, asked_none, answer_none, open_one_by)
 
 told_one : (terms : Terms) (n q : ℕ) (p : Place) (m : Message) → OneTold n q p (told_of terms q p m)
-told_one terms n q p m = grind (arith, opening_one, no_tsdu, refusing_none) steps 200000
+told_one terms n q p m = grind (arith, opening_one, no_tsdu, refusing_none)
 
 told_all : (terms : Terms) (n q : ℕ) (p : Place) (ms : List Message) → OneTold n q p (flat_map (told_of terms q p) ms)
 told_all terms n q p [] = record { shut = λ h. refl; other = λ h. refl }
-told_all terms n q p (m ∷ ms) = grind (arith, told_one, told_join, told_all terms n q p ms) steps 200000
+told_all terms n q p (m ∷ ms) = grind (arith, told_one, told_join, told_all terms n q p ms)
 
 -- ---- each TSDU that arrives is told, unless the connection takes nothing more
 
@@ -117,26 +117,26 @@ MayBeOpen by_zero p = Unit {0}
 MayBeOpen (refusing reason) p = progress_of p ≡ in_use → ⊥
 
 opening_tells : (n : ℕ) (p : Place) (m : Message) → is_over (progress_of p) ≡ false → may_arrive (progress_of p) m ≡ true → tsdus_told n (told_opening n p m) ≡ tsdus_in (m ∷ [])
-opening_tells n p m e h = grind (arith, told_by_test, eq-eqb) steps 200000
+opening_tells n p m e h = grind (arith, told_by_test, eq-eqb)
 
 -- nothing comes as a TSDU
 none_comes : (p : Progress) (m : Message) → (p ≡ in_use → ⊥) → is_over p ≡ false → may_arrive p m ≡ true → [] ≡ tsdus_in (m ∷ [])
-none_comes p m closed_off e h = grind arith steps 200000
+none_comes p m closed_off e h = grind arith
 
 tells_one : (terms : Terms) (n : ℕ) (p : Place) (m : Message) → MayBeOpen terms p → is_over (progress_of p) ≡ false → may_arrive (progress_of p) m ≡ true → tsdus_told n (told_of terms n p m) ≡ tsdus_in (m ∷ [])
-tells_one terms n p m closed_off e h = grind (arith, opening_tells, refusing_none, none_comes) steps 200000
+tells_one terms n p m closed_off e h = grind (arith, opening_tells, refusing_none, none_comes)
 
 tells_all : (terms : Terms) (n : ℕ) (p : Place) (ms : List Message) → MayBeOpen terms p → is_over (progress_of p) ≡ false → AllByRecursion (λ m. may_arrive (progress_of p) m ≡ true) ms →
     tsdus_told n (flat_map (told_of terms n p) ms) ≡ tsdus_in ms
 tells_all terms n p [] closed_off e h = refl
-tells_all terms n p (m ∷ ms) closed_off e h = grind (arith, told_join, tells_one, tsdus_join, tells_all terms n p ms closed_off e h.1) steps 200000
+tells_all terms n p (m ∷ ms) closed_off e h = grind (arith, told_join, tells_one, tsdus_join, tells_all terms n p ms closed_off e h.1)
 
 -- answers have no TSDU
 leaving_none : (b : Bool) → tsdus_in (if b then over ∷ [] else []) ≡ []
-leaving_none b = grind arith steps 200000
+leaving_none b = grind arith
 
 pub answers_none : (terms : Terms) (p : Place) (u : Value) → tsdus_in (answers_in terms p u) ≡ []
-answers_none terms p u = grind (arith, leaving_none) steps 200000
+answers_none terms p u = grind (arith, leaving_none)
 
 -- ---- one step, for a connection and from one end to the other
 
@@ -162,23 +162,23 @@ pub record Fact (from x : Bool) (n : ℕ) (old new : Both) (b c : Between) (told
       (is_sealed from n new c ≡ true) × AreFirstOf (told ++ tsdus_under from n new c) (tsdus_under from n old b)
 
 pub sealed_same : (from : Bool) (n : ℕ) (old new : Both) (b c : Between) → is_cut from old ≡ is_cut from new → place_at n (last_of from c) ≡ place_at n (last_of from b) → is_sealed from n old b ≡ is_sealed from n new c
-sealed_same from n old new b c cut place = grind arith steps 200000
+sealed_same from n old new b c cut place = grind arith
 
 -- where nothing arrives and nothing is put
 pub fact_lost : (from x : Bool) (n : ℕ) (old new : Both) (b c : Between) (lost : List Message) → under_way from n old b ≡ under_way from n new c ++ lost → place_at n (last_of x c) ≡ place_at n (last_of x b) →
     (is_sealed from n new c ≡ false → under_way from n old b ≡ under_way from n new c) → (is_sealed from n old b ≡ true → is_sealed from n new c ≡ true) → Fact from x n old new b c [] []
-fact_lost from x n old new b c lost all place kept still = grind (arith, tsdus_join, first_none, first_more, append-nil) steps 200000
+fact_lost from x n old new b c lost all place kept still = grind (arith, tsdus_join, first_none, first_more, append-nil)
 
 -- where nothing happens
 pub fact_still : (from x : Bool) (n : ℕ) (old new : Both) (b c : Between) → under_way from n old b ≡ under_way from n new c → place_at n (last_of x c) ≡ place_at n (last_of x b) → is_sealed from n old b ≡ is_sealed from n new c →
     Fact from x n old new b c [] []
-fact_still from x n old new b c same place sealed = grind (arith, fact_lost, append-nil) steps 200000
+fact_still from x n old new b c same place sealed = grind (arith, fact_lost, append-nil)
 
 like_equal : (p : Place) (some others : List Message) → is_over (progress_of p) ≡ false → AreLike (connection_in p) some others → some ≡ others
-like_equal p some others e h = grind arith steps 200000
+like_equal p some others e h = grind arith
 
 put_none : (both : Both) (put : List Message) (broken : Bool) → is_some both.reach ≡ broken → tsdus_in put ≡ [] → tsdus_in (put_in both put) ≡ []
-put_none both put broken e k = grind arith steps 200000
+put_none both put broken e k = grind arith
 
 put_whole : (both : Both) (put : List Message) → is_some both.reach ≡ false → put_in both put ≡ put
 put_whole both put e = ap (λ (t : Bool). if◌then◌else◌ {A = List Message} t [] put) e
@@ -187,23 +187,23 @@ put_broken : (both : Both) (put : List Message) → is_some both.reach ≡ true 
 put_broken both put e = ap (λ (t : Bool). if◌then◌else◌ {A = List Message} t [] put) e
 
 pub or_left : (s t : Bool) → (s || t) ≡ false → s ≡ false
-or_left s t e = grind arith steps 200000
+or_left s t e = grind arith
 
 or_right : (s t : Bool) → (s || t) ≡ false → t ≡ false
-or_right s t e = grind arith steps 200000
+or_right s t e = grind arith
 
 or_either : (s t u v : Bool) → (s || t) ≡ true → s ≡ u → (t ≡ true → v ≡ true) → (u || v) ≡ true
-or_either s t u v e same more = grind arith steps 200000
+or_either s t u v e same more = grind arith
 
 or_second : (u v : Bool) → v ≡ true → (u || v) ≡ true
-or_second u v e = grind arith steps 200000
+or_second u v e = grind arith
 
 pub or_still : (s u t v : Bool) → (s || t) ≡ true → (s ≡ true → u ≡ true) → (t ≡ true → v ≡ true) → (u || v) ≡ true
-or_still s u t v e first more = grind (arith, or_second) steps 200000
+or_still s u t v e first more = grind (arith, or_second)
 
 -- one that is not over has not left use
 in_use_still : (from to : Progress) → is_over to ≡ false → leaves_use from to ≡ false
-in_use_still from to e = grind arith steps 200000
+in_use_still from to e = grind arith
 
 -- an end that acts lasts, before and then
 pub record Acts (end : Bool) (old new : Both) : Type 0 where
@@ -217,28 +217,28 @@ over_still accepts from to arrived put e h = ap is_over e ∙ stays_over_puts (b
 -- what is put has no TSDU
 sent_plain : (terms : Terms) (end : Bool) (n : ℕ) (old new : Both) (b c : Between) (taken : List Value) (put : List Message) → Carries terms end n old new b c taken put → Acts end old new → tsdus_in put ≡ [] →
     Fact end (not end) n old new b c [] []
-sent_plain terms end n old new b c taken put k w none = grind (arith, not, like_equal, tsdus_join, put_none, is_some, append-nil, first_none, first_more, in_use_still, or_right, or_either, over_still) steps 200000
+sent_plain terms end n old new b c taken put k w none = grind (arith, not, like_equal, tsdus_join, put_none, is_some, append-nil, first_none, first_more, in_use_still, or_right, or_either, over_still)
 
 -- a TSDU is handed in at an open connection
 not_either : (s t : Bool) → s ≡ false → t ≡ false → (s || t) ≡ true → ⊥
-not_either s t a b h = grind arith steps 200000
+not_either s t a b h = grind arith
 
 or_first : (s t : Bool) → s ≡ true → (s || t) ≡ true
-or_first s t e = grind arith steps 200000
+or_first s t e = grind arith
 
 -- what is under way then, by what stays of it
 handed_now : (both : Both) (stays put now : List Message) (h : List (List ℕ)) (broken : Bool) → is_some both.reach ≡ broken → now ≡ stays ++ put_in both put → tsdus_in put ≡ h →
     tsdus_in now ≡ tsdus_in stays ++ (if broken then [] else h)
-handed_now both stays put now h broken reach e is = grind (arith, put_broken, tsdus_join, put_whole) steps 200000
+handed_now both stays put now h broken reach e is = grind (arith, put_broken, tsdus_join, put_whole)
 
 handed_first : (h : List (List ℕ)) (broken : Bool) → AreFirstOf (if broken then [] else h) h
-handed_first h broken = grind (arith, first_none, first_equal) steps 200000
+handed_first h broken = grind (arith, first_none, first_equal)
 
 sent_handed_by : (terms : Terms) (end : Bool) (n : ℕ) (old new : Both) (b c : Between) (taken : List Value) (put : List Message) (h : List (List ℕ)) (broken : Bool) → is_some old.reach ≡ broken → Carries terms end n old new b c taken put → Acts end old new → tsdus_in put ≡ h →
     is_over (progress_of (place_at n (last_of end b))) ≡ false → is_over (progress_of (place_at n (last_of end c))) ≡ false →
     (is_over (progress_of (place_at n (last_of (not end) b))) ≡ false → tsdus_under end n new c ≡ tsdus_under end n old b ++ (if broken then [] else h)) → Fact end (not end) n old new b c [] h
-sent_handed_by terms end n old new b c taken put h true reach k w is use_was still now = grind (arith, first_none, first_more, first_equal, append-nil, or_left, or_first) steps 200000
-sent_handed_by terms end n old new b c taken put h false reach k w is use_was still now = grind (arith, first_none, first_equal, not_either) steps 200000
+sent_handed_by terms end n old new b c taken put h true reach k w is use_was still now = grind (arith, first_none, first_more, first_equal, append-nil, or_left, or_first)
+sent_handed_by terms end n old new b c taken put h false reach k w is use_was still now = grind (arith, first_none, first_equal, not_either)
 
 sent_handed : (terms : Terms) (end : Bool) (n : ℕ) (old new : Both) (b c : Between) (taken : List Value) (put : List Message) (h : List (List ℕ)) → Carries terms end n old new b c taken put → Acts end old new → tsdus_in put ≡ h →
     is_over (progress_of (place_at n (last_of end b))) ≡ false → is_over (progress_of (place_at n (last_of end c))) ≡ false → Fact end (not end) n old new b c [] h
@@ -255,7 +255,7 @@ not_same : (q n : ℕ) → (q == n) ≡ false → q ≢ n
 not_same q n e same = let yes = eq-eqb q n same in let no : true ≡ false = sym yes ∙ e in cc
 
 sent_other : (terms : Terms) (end : Bool) (q n : ℕ) (old new : Both) (b c : Between) (taken : List Value) (put : List Message) → n ≢ q → Carries terms end q old new b c taken put → Acts end old new → Fact end (not end) n old new b c [] []
-sent_other terms end q n old new b c taken put apart k w = grind (arith, fact_still, not, sealed_same) steps 200000
+sent_other terms end q n old new b c taken put apart k w = grind (arith, fact_still, not, sealed_same)
 
 fact_plain_by : (terms : Terms) (end : Bool) (q n : ℕ) (old new : Both) (b c : Between) (taken : List Value) (put : List Message) (t : Bool) → (q == n) ≡ t → Carries terms end q old new b c taken put → Acts end old new → tsdus_in put ≡ [] →
     Fact end (not end) n old new b c [] []
@@ -287,12 +287,12 @@ fact_handed terms end q n old new b c taken octets k w o = fact_handed_by terms 
 arrived_is : (terms : Terms) (end : Bool) (n : ℕ) (old new : Both) (b c : Between) (taken : List Value) (put : List Message) → (k : Carries terms end n old new b c taken put) → (tail : List Value) →
     (rest : List Value) (more : List Message) → units_of n (units_from (not end) b) ++ tail ≡ taken ++ rest → messages_after (begun_at (connection_in (place_at n (last_of end b)))) (taken ++ rest) ≡ messages_after (begun_at (connection_in (place_at n (last_of end b)))) taken ++ more →
     messages_after (begun_at (connection_in (place_at n (last_of end b)))) (units_of n (units_from (not end) b) ++ tail) ≡ k.arrived ++ more
-arrived_is terms end n old new b c taken put k tail rest more same parts = grind arith steps 200000
+arrived_is terms end n old new b c taken put k tail rest more same parts = grind arith
 
 -- `under_way (not end)` is read at this end
 under_not : (end : Bool) (n : ℕ) (old : Both) (b : Between) → under_way (not end) n old b ≡ messages_after (begun_at (connection_in (place_at n (last_of end b))))
     (units_of n (units_from (not end) b) ++ to_come (is_cut (not end) old) (connection_in (place_at n (last_of (not end) b))))
-under_not end n old b = grind arith steps 200000
+under_not end n old b = grind arith
 
 arrived_first : (terms : Terms) (end : Bool) (n : ℕ) (old new : Both) (b c : Between) (taken : List Value) (put : List Message) → (k : Carries terms end n old new b c taken put) → AreFor n taken →
     (more : List Message) × (under_way (not end) n old b ≡ k.arrived ++ more)
@@ -352,25 +352,25 @@ fact_called terms end q n old new b c put k w closed_off =
 -- ---- the end that acts
 
 or_none : (s : Bool) → (s || false) ≡ s
-or_none s = grind arith steps 200000
+or_none s = grind arith
 
 message_put : (p : Progress) (octets : List ℕ) → behind_put p (message octets) ≡ p
-message_put p octets = grind arith steps 200000
+message_put p octets = grind arith
 
 -- an end that lasts, before and then
 pub acts_at : (end : Bool) (old new : Both) → (side end old).state.ended ≡ None → (side end new).state.ended ≡ None → is_some old.reach ≡ is_some new.reach → is_cut (not end) old ≡ is_cut (not end) new → Acts end old new
-acts_at end old new was is reach there = grind (arith, is_some, or_none) steps 200000
+acts_at end old new was is reach there = grind (arith, is_some, or_none)
 
 -- an open connection takes more
 open_place : (s : State) (n peer : ℕ) (link : Standing) (below : Bool) → nat_lt s.given n ≡ below → value_at n s.live ≡ Some (linked peer link) → is_over (progress_of (place_at n s)) ≡ false
-open_place s n peer link below e at = grind arith steps 200000
+open_place s n peer link below e at = grind arith
 
 pub stays_open : (terms : Terms) (end : Bool) (q : ℕ) (old new : Both) (b c : Between) (octets : List ℕ) (peer : ℕ) (link : Standing) → Carries terms end q old new b c [] (message octets ∷ []) → value_at q (last_of end b).live ≡ Some (linked peer link) → StaysOpen end q b c
-stays_open terms end q old new b c octets peer link k at = grind (arith, open_place, nat_lt, message_put) steps 200000
+stays_open terms end q old new b c octets peer link k at = grind (arith, open_place, nat_lt, message_put)
 
 -- where CRs are refused none is open
 in_use_is : (p : Place) → progress_of p ≡ in_use → (peer : ℕ) × (link : Standing) × (p ≡ was_given (Some (linked peer link)))
-in_use_is p e = grind arith steps 200000
+in_use_is p e = grind arith
 
 pub may_be_open : (terms : Terms) (end : Bool) (both : Both) (b : Between) (n : ℕ) → AreBetween terms both b → (side end both).state.ended ≡ None → MayBeOpen terms (place_at n (last_of end b))
-may_be_open terms end both b n a alive = grind (arith, in_use_is, no_open, is_given) steps 200000
+may_be_open terms end both b n a alive = grind (arith, in_use_is, no_open, is_given)

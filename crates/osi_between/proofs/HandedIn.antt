@@ -19,13 +19,13 @@ use Rattle.osi_between.proofs.Bringing.{brings_none, same_like}
 -- ---- likeness
 
 like_turn : (o : Option Connection) (xs ys : List Message) → AreLike o xs ys → AreLike o ys xs
-like_turn o xs ys e = grind arith steps 200000
+like_turn o xs ys e = grind arith
 
 like_then : (o : Option Connection) (xs ys zs : List Message) → AreLike o xs ys → AreLike o ys zs → AreLike o xs zs
-like_then o xs ys zs e f = grind arith steps 200000
+like_then o xs ys zs e f = grind arith
 
 like_behind : (o : Option Connection) (xs ys more : List Message) → AreLike o xs ys → AreLike o (xs ++ more) (ys ++ more)
-like_behind o xs ys more e = grind (arith, map-append, map) steps 200000
+like_behind o xs ys more e = grind (arith, map-append, map)
 
 -- ---- an open connection
 
@@ -51,7 +51,7 @@ record IsAt (n : ℕ) (s : State) : Type 0 where
   pub at : value_at n s.live ≡ Some (linked peer link)
 
 at_place : (b : Bool) (o : Option Connection) → progress_of (if b then never else was_given o) ≡ in_use → (b ≡ false) × (connection_in (if b then never else was_given o) ≡ o)
-at_place b o e = grind arith steps 200000
+at_place b o e = grind arith
 
 open_at : (n : ℕ) (s : State) → progress_of (place_at n s) ≡ in_use → IsAt n s
 open_at n s e =
@@ -61,7 +61,7 @@ open_at n s e =
 
 -- TSDUs that are put change neither how far it is nor what was given
 put_stays : (p : Progress) (t : List ℕ) → behind_put p (message t) ≡ p
-put_stays p t = grind arith steps 200000
+put_stays p t = grind arith
 
 puts_nothing : (p : Progress) (ts : List (List ℕ)) → behind_puts p (map message ts) ≡ p
 puts_nothing p [] = refl
@@ -72,7 +72,7 @@ asks_none [] = refl
 asks_none (t ∷ ts) = asks_none ts
 
 gives_none : (accepts : Bool) (ts : List (List ℕ)) → references_for accepts [] (map message ts) ≡ 0
-gives_none accepts ts = grind (arith, asks_none) steps 200000
+gives_none accepts ts = grind (arith, asks_none)
 
 add_none : (k : ℕ) → k + 0 ≡ k
 add_none k = omega arith
@@ -80,7 +80,7 @@ add_none k = omega arith
 -- ---- none is handed in
 
 puts_none : (cut : Bool) → (if◌then◌else◌ {A = List Message} cut [] []) ≡ []
-puts_none cut = grind arith steps 200000
+puts_none cut = grind arith
 
 none_carried : (terms : Terms) (end : Bool) (n : ℕ) (both : Both) (b : Between) → Carries terms end n both both b b [] []
 none_carried terms end n both b =
@@ -110,15 +110,15 @@ none_carried terms end n both b =
 
 brings_both : (accepts : Bool) (x y z : Place) (t : List ℕ) (ts : List (List ℕ)) (some others : List Message) → IsLinked y → IsLinked z →
     BringsTo accepts x y [] some (message t ∷ []) → BringsTo accepts y z [] others (map message ts) → BringsTo accepts x z [] [] (map message (t ∷ ts))
-brings_both accepts x y z t ts some others ly lz a b = grind (arith, linked_is, map) steps 200000
+brings_both accepts x y z t ts some others ly lz a b = grind (arith, linked_is, map)
 
 put_both : (old mid : Both) (t : List ℕ) (ts : List (List ℕ)) → mid.reach ≡ old.reach → put_in old (message t ∷ []) ++ put_in mid (map message ts) ≡ put_in old (map message (t ∷ ts))
-put_both old mid t ts e = grind (arith, is_some, map) steps 200000
+put_both old mid t ts e = grind (arith, is_some, map)
 
 -- it is open then too
 open_behind : (terms : Terms) (end : Bool) (n : ℕ) (old new : Both) (b c : Between) (ts : List (List ℕ)) → Carries terms end n old new b c [] (map message ts) →
     progress_of (place_at n (last_of end b)) ≡ in_use → progress_of (place_at n (last_of end c)) ≡ in_use
-open_behind terms end n old new b c ts x used = grind (arith, map, puts_nothing) steps 200000
+open_behind terms end n old new b c ts x used = grind (arith, map, puts_nothing)
 
 carries_both : (terms : Terms) (end : Bool) (n : ℕ) (old mid new : Both) (b c d : Between) (t : List ℕ) (ts : List (List ℕ)) → mid.reach ≡ old.reach →
     progress_of (place_at n (last_of end b)) ≡ in_use → Carries terms end n old mid b c [] (message t ∷ []) → Carries terms end n mid new c d [] (map message ts) →
@@ -182,13 +182,13 @@ HandsIn terms = (end : Bool) (both : Both) (b : Between) (n peer : ℕ) (link : 
     IsShortTsdu tsdu → IsOctets tsdu → Acted terms end n both (after_one end n tsdu both) b [] (message tsdu ∷ [])
 
 same_side : (end : Bool) (n : ℕ) (t : List ℕ) (ts : List (List ℕ)) (both : Both) → after_all end n ts (after_one end n t both) ≡ after_all end n (t ∷ ts) both
-same_side end n t ts both = grind arith steps 200000
+same_side end n t ts both = grind arith
 
 same_none : (end : Bool) (n : ℕ) (both : Both) → both ≡ after_all end n [] both
-same_none end n both = grind arith steps 200000
+same_none end n both = grind arith
 
 same_reach : (end : Bool) (n : ℕ) (t : List ℕ) (both : Both) → (after_one end n t both).reach ≡ both.reach
-same_reach end n t both = grind arith steps 200000
+same_reach end n t both = grind arith
 
 pub all_handed_in : (terms : Terms) → HandsIn terms → (end : Bool) (both : Both) (b : Between) (n : ℕ) (ts : List (List ℕ)) → AreBetween terms both b →
     (side end both).state.ended ≡ None → progress_of (place_at n (last_of end b)) ≡ in_use → AllByRecursion IsShortTsdu ts → AllByRecursion IsOctets ts →

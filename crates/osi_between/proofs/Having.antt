@@ -40,7 +40,7 @@ front_none n us vs e = first (units_of n us) (units_of n vs) e
     first (x ∷ xs) ys e = cc
 
 pub not_asked : (n : ℕ) (g : Course) → at_end true n g ≡ never → g ≡ unasked
-not_asked n g e = grind arith steps 200000
+not_asked n g e = grind arith
 
 ahead_two : (n : ℕ) (s r : State) (going coming : List Value) → AreJoined s r going coming → s.given < n → IsAhead n s r going coming
 ahead_two n s r going coming j above =
@@ -59,12 +59,12 @@ zero_units : (n : ℕ) (us vs : List Value) → 1 < n → us ≡ vs → AreFor 1
 zero_units n us vs above is all = ap (units_of n) is ∙ units_other n 1 vs (λ e. absurd (omega arith)) all
 
 ahead_one : (n : ℕ) (s r : State) (going coming us vs : List Value) → s.given < n → r.given < n → going ≡ us → coming ≡ vs → AreFor 1 us → AreFor 1 vs → 1 < n → IsAhead n s r going coming
-ahead_one n s r going coming us vs above above_there is back all all_back more = grind (arith, next_never, zero_units) steps 200000
+ahead_one n s r going coming us vs above above_there is back all all_back more = grind (arith, next_never, zero_units)
 
 ahead_by : (n : ℕ) (s r : State) (going coming : List Value) (g : ZeroCourse) → HasOne s (zero.at_end true g) → HasOne r (zero.at_end false g) → going ≡ zero.from_end true r.local g →
     coming ≡ zero.from_end false r.local g → zero.Holds s.local r.local g → s.given < n → IsAhead n s r going coming
-ahead_by n s r going coming zero.unasked one other is back h above = grind (arith, next_never) steps 200000
-ahead_by n s r going coming (zero.asking c) one other is back h above = grind (arith, ahead_one, proposed_source) steps 200000
+ahead_by n s r going coming zero.unasked one other is back h above = grind (arith, next_never)
+ahead_by n s r going coming (zero.asking c) one other is back h above = grind (arith, ahead_one, proposed_source)
 ahead_by n s r going coming (zero.accepting c p) one other is back h above =
     ahead_one n s r going coming [] (zero.from_end false r.local (zero.accepting c p)) above (let a = one.given in let b = other.given in omega arith) is back
     tt (refl, zero_for p.leftward) (let a = one.given in omega arith)
@@ -73,16 +73,16 @@ ahead_by n s r going coming (zero.talking p) one other is back h above =
     (zero_for p.rightward) (zero_for p.leftward) (let a = one.given in omega arith)
 
 refused_units : (n : ℕ) (s : State) (st : Refusal) → refusal.Holds s st → s.given < n → units_of n (refusal.from_end true 0 s.given st) ≡ []
-refused_units n s st h above = grind (arith, units_other, proposed_source) steps 200000
+refused_units n s st h above = grind (arith, units_other, proposed_source)
 
 refused_back : (n reason : ℕ) (s : State) (st : Refusal) → s.given < n → units_of n (refusal.from_end false reason s.given st) ≡ []
-refused_back n reason s st above = grind (arith, units_other) steps 200000
+refused_back n reason s st above = grind (arith, units_other)
 
 same_front : (reason : ℕ) (given : ℕ) (st : Refusal) → refusal.from_end true reason given st ≡ refusal.from_end true 0 given st
-same_front reason given st = grind arith steps 200000
+same_front reason given st = grind arith
 
 ahead_refusing : (n reason : ℕ) (s r : State) (going coming : List Value) → AreRefusing reason s r going coming → s.given < n → IsAhead n s r going coming
-ahead_refusing n reason s r going coming j above = grind (arith, next_never, same_front, refused_units, refused_back) steps 200000
+ahead_refusing n reason s r going coming j above = grind (arith, next_never, same_front, refused_units, refused_back)
 
 ahead_at : (terms : Terms) (n : ℕ) (s r : State) (going coming : List Value) → AreJoinedBy terms s r going coming → s.given < n → IsAhead n s r going coming
 ahead_at by_two n s r going coming j above = ahead_two n s r going coming j above
@@ -91,7 +91,7 @@ ahead_at (refusing reason) n s r going coming j above = ahead_refusing n reason 
 
 -- nothing is under way
 sum_none : (o c : Option Connection) (us : List Value) (cut : Bool) → o ≡ None → c ≡ None → us ≡ [] → messages_after (begun_at o) (us ++ to_come cut c) ≡ []
-sum_none o c us cut a b e = grind arith steps 200000
+sum_none o c us cut a b e = grind arith
 
 pub none_ahead : (terms : Terms) (both : Both) (b : Between) (end : Bool) (n : ℕ) → AreBetween terms both b → b.caller.given < n → under_way end n both b ≡ []
 none_ahead terms both b true n a above =
@@ -106,10 +106,10 @@ none_ahead terms both b false n a above =
 -- ---- the called end gives no reference that the caller did not
 
 behind_zero : (s r : State) (g : ZeroCourse) → HasOne s (zero.at_end true g) → HasOne r (zero.at_end false g) → r.given ≤ s.given
-behind_zero s r g one other = grind arith steps 200000
+behind_zero s r g one other = grind arith
 
 behind_at : (terms : Terms) (s r : State) (going coming : List Value) → AreJoinedBy terms s r going coming → r.given ≤ s.given
-behind_at terms s r going coming j = grind (arith, behind_zero) steps 200000
+behind_at terms s r going coming j = grind (arith, behind_zero)
 
 pub none_more : (terms : Terms) (both : Both) (b : Between) → AreBetween terms both b → b.called.given ≤ b.caller.given
 none_more terms both b a = behind_at terms b.caller b.called (b.going ++ b.going_lost) (b.coming ++ b.coming_lost) a.joined
@@ -117,16 +117,16 @@ none_more terms both b a = behind_at terms b.caller b.called (b.going ++ b.going
 -- ---- before a class holds
 
 awaits_two : (n : ℕ) (x : Connection) (s r : State) (g : Course) → s.class ≡ None → Holds n s r g → at_end true n g ≡ was_given (Some x) → x ≡ asked
-awaits_two n x s r g none h at = grind arith steps 200000
+awaits_two n x s r g none h at = grind arith
 
 awaits_zero : (n : ℕ) (x : Connection) (s : State) (g : ZeroCourse) → HasOne s (zero.at_end true g) → s.class ≡ None → value_at n s.live ≡ Some x → x ≡ asked
-awaits_zero n x s g one none at = grind (arith, not_here, at_one) steps 200000
+awaits_zero n x s g one none at = grind (arith, not_here, at_one)
 
 one_row : (n q : ℕ) (x : Connection) (b : Bool) → (q == n) ≡ b → (if b then Some asked else None) ≡ Some x → x ≡ asked
-one_row n q x b e h = grind arith steps 200000
+one_row n q x b e h = grind arith
 
 awaits_refused : (n given : ℕ) (x : Connection) (st : Refusal) → value_at n (rows_in given st) ≡ Some x → x ≡ asked
-awaits_refused n given x st at = grind (arith, one_row) steps 200000
+awaits_refused n given x st at = grind (arith, one_row)
 
 awaits_at : (terms : Terms) (n : ℕ) (x : Connection) (s r : State) (going coming : List Value) → AreJoinedBy terms s r going coming → s.class ≡ None → value_at n s.live ≡ Some x → x ≡ asked
 awaits_at by_two n x s r going coming j none at =
@@ -141,7 +141,7 @@ awaits_all terms both b n x a none at = awaits_at terms n x b.caller b.called (b
 -- ---- which is which
 
 role_at : (terms : Terms) (s r : State) (going coming : List Value) → AreJoinedBy terms s r going coming → (s.is_caller ≡ true) × (r.is_caller ≡ false)
-role_at terms s r going coming j = grind arith steps 200000
+role_at terms s r going coming j = grind arith
 
 pub roles : (terms : Terms) (both : Both) (b : Between) → AreBetween terms both b → (b.caller.is_caller ≡ true) × (b.called.is_caller ≡ false)
 roles terms both b a = role_at terms b.caller b.called (b.going ++ b.going_lost) (b.coming ++ b.coming_lost) a.joined

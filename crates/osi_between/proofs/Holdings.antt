@@ -22,7 +22,7 @@ record Whole (held arriving : List ℕ) (units lost : List Value) : Type 0 where
   all : AreComing held (arriving ++ never) (units ++ lost)
 
 way_whole : (held arriving : List ℕ) (units lost : List Value) → IsOnTheWay held arriving units lost → Whole held arriving units lost
-way_whole held arriving units lost w = grind (arith, append_assoc, packets_join, all_behind) steps 200000
+way_whole held arriving units lost w = grind (arith, append_assoc, packets_join, all_behind)
 
 pub all_coming : (terms : Terms) (end : Bool) (both : Both) (b : Between) → AreBetween terms both b → (side (not end) both).state.ended ≡ None →
     (never : List ℕ) × AreComing (side (not end) both).held (arriving end both ++ never) (units_from end b ++ lost_from end b)

@@ -30,7 +30,7 @@ found : {X : Type 0} (m q : ℕ) (y : X) (rows : Rows X) (b : Bool) → (q == m)
 found {X} m q y rows b e = ap (λ (c : Bool). if◌then◌else◌ {A = Option X} c (Some y) (value_at m rows)) e
 
 marked_dropped_by : (r q : ℕ) (refs : List ℕ) (b : Bool) → (q == r) ≡ b → marked (dropped r refs) ≡ without r (marked refs) → marked (dropped r (q ∷ refs)) ≡ without r (marked (q ∷ refs))
-marked_dropped_by r q refs b e more = grind arith steps 200000
+marked_dropped_by r q refs b e more = grind arith
 
 marked_dropped : (r : ℕ) (refs : List ℕ) → marked (dropped r refs) ≡ without r (marked refs)
 marked_dropped r [] = refl
@@ -46,7 +46,7 @@ marked_up n ((r, x) ∷ rows) h = (h.0, marked_up n rows h.1)
 
 marked_none_by : (q r : ℕ) (x : Connection) (rows : Rows Connection) (b : Bool) → (r == q) ≡ b → (value_at q rows ≡ None → value_at q (marked (references rows)) ≡ None) →
     value_at q ((r, x) ∷ rows) ≡ None → value_at q ((r, tt) ∷ marked (references rows)) ≡ None
-marked_none_by q r x rows b e more h = grind (arith, found) steps 200000
+marked_none_by q r x rows b e more h = grind (arith, found)
 
 marked_none : (q : ℕ) (rows : Rows Connection) → value_at q rows ≡ None → value_at q (marked (references rows)) ≡ None
 marked_none q [] h = refl
@@ -102,7 +102,7 @@ dropped_behind g d refs u rise up same none is stays =
     }
 
 behind_numbers : (g k n : ℕ) (more : List ℕ) → n ∷ more ≡ behind g k → n ≡ g + 1 → (j : ℕ) × (more ≡ behind (g + 1) j)
-behind_numbers g k n more e is = grind arith steps 200000
+behind_numbers g k n more e is = grind arith
 
 asked_behind : (g n : ℕ) (refs : List ℕ) (u : Value) → RiseFrom 0 (marked refs) → AreUpTo g (marked refs) → live_behind refs u ≡ refs ++ n ∷ [] → asked_by u ≡ n ∷ [] → reference_of u ≡ n → n ≡ g + 1 →
     stays_behind (value_at (reference_of u) (marked refs)) u ≡ Some tt → Behind g refs u
@@ -120,7 +120,7 @@ asked_behind g n refs u rise up same asks is next stays =
     }
 
 first_is : (g k n : ℕ) (more : List ℕ) → n ∷ more ≡ behind g k → n ≡ g + 1
-first_is g k n more e = grind arith steps 200000
+first_is g k n more e = grind arith
 
 one_behind : (g k : ℕ) (refs : List ℕ) (u : Value) (more : List ℕ) → RiseFrom 0 (marked refs) → AreUpTo g (marked refs) → asked_by u ++ more ≡ behind g k → Behind g refs u
 one_behind g k refs (request c) more rise up e = asked_behind g c.source refs (request c) rise up refl refl refl (first_is g k c.source more e) refl
@@ -144,7 +144,7 @@ units_of_by n u us b e = ap (λ (c : Bool). if◌then◌else◌ {A = List Value}
 each_by : (g : ℕ) (refs : List ℕ) (u : Value) (us : List Value) (q : ℕ) (b : Bool) → (reference_of u == q) ≡ b → Behind g refs u →
     value_at q (marked (live_after (live_behind refs u) us)) ≡ stays_after (value_at q (marked (live_behind refs u))) (units_of q us) →
     value_at q (marked (live_after (live_behind refs u) us)) ≡ stays_after (value_at q (marked refs)) (units_of q (u ∷ us))
-each_by g refs u us q b e h more = grind (arith, eqb-true, units_of_by, eq-eqb) steps 200000
+each_by g refs u us q b e h more = grind (arith, eqb-true, units_of_by, eq-eqb)
 
 after_all : (us : List Value) (g k : ℕ) (refs : List ℕ) → RiseFrom 0 (marked refs) → AreUpTo g (marked refs) → requests us ≡ behind g k → After refs us
 after_all [] g k refs rise up e = record { rise = rise; each = λ q. refl }
@@ -158,13 +158,13 @@ after_all (u ∷ us) g k refs rise up e =
 
 -- a reference of a table is above what all its rows are above
 above_first : (x y : ℕ) (ys : Rows Connection) (b : Bool) → nat_lt y x ≡ b → RiseFrom y ys → is_some (value_at x ys) ≡ true → y < x
-above_first x y ys b e rise there = grind (arith, ltb-true, absent, ltb-false, is_some) steps 200000
+above_first x y ys b e rise there = grind (arith, ltb-true, absent, ltb-false, is_some)
 
 sub_by : (ys : Rows Connection) (y : ℕ) (c : Connection) (m x : ℕ) (xs : Marks) (b : Bool) → (x == y) ≡ b → RiseFrom x xs → RiseFrom y ys →
     ((q : ℕ) → is_some (value_at q ((x, tt) ∷ xs)) ≡ true → is_some (value_at q ((y, c) ∷ ys)) ≡ true) →
     ((n : ℕ) (zs : Marks) → RiseFrom n zs → RiseFrom n ys → ((q : ℕ) → is_some (value_at q zs) ≡ true → is_some (value_at q ys) ≡ true) → length zs ≤ length ys) →
     length ((x, tt) ∷ xs) ≤ length ((y, c) ∷ ys)
-sub_by ys y c m x xs true e rx ry h more = grind (arith, eqb-true, ne_eqb, absent, is_some, found) steps 200000
+sub_by ys y c m x xs true e rx ry h more = grind (arith, eqb-true, ne_eqb, absent, is_some, found)
 sub_by ys y c m x xs false e rx ry h more =
     let apart : (y == x) ≡ false = ne_eqb y x (λ is. let yes = eq-eqb x y (sym is) in cc) in
     let there : is_some (value_at x ys) ≡ true = sym (ap is_some (found x y c ys false apart)) ∙ h x (ap is_some (found x x tt xs true (eq-eqb x x refl))) in
@@ -184,28 +184,28 @@ sub_length ((y, c) ∷ ys) m ((x, tt) ∷ xs) rx ry h = sub_by ys y c m x xs (x 
 -- ---- a connection that is live behind the units is live at the caller
 
 last_behind : (o : Option (Unit {0})) (u : Value) → is_last u ≡ true → stays_behind o u ≡ None
-last_behind o u e = grind arith steps 200000
+last_behind o u e = grind arith
 
 last_after : (us : List Value) (u : Value) (o : Option (Unit {0})) → is_last u ≡ true → stays_after o (us ++ u ∷ []) ≡ None
 last_after [] u o e = last_behind o u e
 last_after (v ∷ us) u o e = last_after us u (stays_behind o v) e
 
 farewell_last : (n : ℕ) (last : Option ℕ) → is_last (farewell n last) ≡ true
-farewell_last n last = grind arith steps 200000
+farewell_last n last = grind arith
 
 live_at : (q : ℕ) (s : State) (x : Connection) → place_at q s ≡ was_given (Some x) → is_some (value_at q s.live) ≡ true
 live_at q s x at = ap is_some (is_given q s (Some x) at).is
 
 live_by : (q : ℕ) (s : State) (called : Local) (g : Course) (o : Option (Unit {0})) → place_at q s ≡ at_end true q g → (at_end false q g ≡ never → o ≡ None) → (at_end false q g ≡ was_given None → o ≡ None) →
     is_some (stays_after o (from_end true q called g)) ≡ true → is_some (value_at q s.live) ≡ true
-live_by q s called g o at unmade h h_ = grind (arith, is_some, live_at, last_after, farewell_last) steps 200000
+live_by q s called g o at unmade h h_ = grind (arith, is_some, live_at, last_after, farewell_last)
 
 never_live_by : (q : ℕ) (r : State) (b : Bool) → nat_lt r.given q ≡ b → IsOrderly r → place_at q r ≡ never → value_at q r.live ≡ None
-never_live_by q r b e orderly at = grind (arith, beyond, ltb-true, given_place, ltb-false) steps 200000
+never_live_by q r b e orderly at = grind (arith, beyond, ltb-true, given_place, ltb-false)
 
 live_behind_one : (q : ℕ) (b : Bool) (s r : State) (going coming : List Value) → nat_lt 0 q ≡ b → AreJoined s r going coming → After (references r.live) going →
     is_some (value_at q (marked (live_after (references r.live) going))) ≡ true → is_some (value_at q s.live) ≡ true
-live_behind_one q false s r going coming e j a there = grind (arith, absent, ltb-false, is_some) steps 200000
+live_behind_one q false s r going coming e j a there = grind (arith, absent, ltb-false, is_some)
 live_behind_one q true s r going coming e j a there =
     let st = j.stands q (ltb-true 0 q e) in
     let refs = marked (references r.live) in

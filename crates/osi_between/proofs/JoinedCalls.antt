@@ -28,7 +28,7 @@ use Rattle.osi_between.proofs.JoinedSteps.{acts_for}
 -- ---- a connection is asked for
 
 not_asked : (n : ℕ) (g : Course) → at_end true n g ≡ never → g ≡ unasked
-not_asked n g e = grind arith steps 200000
+not_asked n g e = grind arith
 
 pub next_never : (s : State) (n : ℕ) → s.given < n → place_at n s ≡ never
 next_never s n above = ap (λ (b : Bool). if◌then◌else◌ {A = Place} b never (was_given (value_at n s.live))) (lt-ltb s.given n above)
@@ -65,10 +65,10 @@ caller_asks s r going coming calling called j may fits fits_called =
 -- ---- the beginning
 
 fresh_stands : (caller called : Local) (n : ℕ) → 0 < n → StandsBetween true n (fresh_state true caller) (fresh_state false called) [] []
-fresh_stands caller called n some = grind (arith, next_never) steps 200000
+fresh_stands caller called n some = grind (arith, next_never)
 
 pub fresh_joined : (caller called : Local) → caller.class2 ≡ true → called.class2 ≡ true → AreJoined (fresh_state true caller) (fresh_state false called) [] []
-fresh_joined caller called a b = grind (arith, orderly_fresh, fresh_stands) steps 200000
+fresh_joined caller called a b = grind (arith, orderly_fresh, fresh_stands)
 
 -- ---- nothing is on the way
 
@@ -86,12 +86,7 @@ still_links : (p : LinkPair) → AreOpen true p → p.rightward ≡ [] → p.lef
 still_links p a rightward leftward =
     let unsent = still_unsent p a rightward leftward in
     let unsent_there = still_unsent (swapped p) (open_mirror true p a) leftward rightward in
-    record {
-      unsent = unsent;
-      unsent_there = unsent_there;
-      begun = nothing_begun (swapped p) a.whole_back leftward unsent_there;
-      begun_there = nothing_begun p a.whole rightward unsent;
-    }
+    assumption (nothing_begun (swapped p) a.whole_back leftward unsent_there, nothing_begun p a.whole rightward unsent)
 
 still_by : (n : ℕ) (s r : State) (called : Local) (g : Course) (x y : Standing) → at_end true n g ≡ was_given (Some (linked n x)) → at_end false n g ≡ was_given (Some (linked n y)) →
     from_end true n called g ≡ [] → from_end false n called g ≡ [] → Holds n s r g → IsEmpty x y
@@ -121,4 +116,4 @@ still s r n x y j at at_there =
 -- then nothing is under way either
 pub still_messages : (s r : State) (n : ℕ) (x y : Standing) → AreJoined s r [] [] → value_at n s.live ≡ Some (linked n x) → value_at n r.live ≡ Some (linked n y) →
     (under_way_for n s r [] ≡ []) × (under_way_for n r s [] ≡ [])
-still_messages s r n x y j at at_there = grind (arith, still, given_live) steps 200000
+still_messages s r n x y j at at_there = grind (arith, still, given_live)

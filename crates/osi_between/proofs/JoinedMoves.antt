@@ -193,21 +193,21 @@ no_peer n m ((r, x) ∷ rows) rise h =
 
 -- a live connection was given
 given_live_by : (q : ℕ) (r : State) (x : Connection) (b : Bool) → nat_lt r.given q ≡ b → IsOrderly r → value_at q r.live ≡ Some x → place_at q r ≡ was_given (Some x)
-given_live_by q r x b e orderly at = grind (arith, beyond, ltb-true, given_place, ltb-false) steps 200000
+given_live_by q r x b e orderly at = grind (arith, beyond, ltb-true, given_place, ltb-false)
 
 pub given_live : (q : ℕ) (r : State) (x : Connection) → IsOrderly r → value_at q r.live ≡ Some x → place_at q r ≡ was_given (Some x)
 given_live q r x orderly at = given_live_by q r x (nat_lt r.given q) refl orderly at
 
 own_here : (n q : ℕ) (x : Connection) (m : Meeting) → q ≢ n → Some x ≡ here q m → is_of_peer n x ≡ false
-own_here n q x m other e = grind (arith, ne_eqb) steps 200000
+own_here n q x m other e = grind (arith, ne_eqb)
 
 -- at the called end each connection has its own number
 own_number : (n q : ℕ) (x : Connection) (g : Course) → q ≢ n → was_given (Some x) ≡ at_end false q g → is_of_peer n x ≡ false
-own_number n q x g other e = grind (arith, ne_eqb, own_here) steps 200000
+own_number n q x g other e = grind (arith, ne_eqb, own_here)
 
 -- the CR is for the next reference, and there is a place for it
 first_number : (g k n : ℕ) (more : List ℕ) → behind g k ≡ n ∷ more → (n ≡ g + 1) × (0 < k)
-first_number g k n more e = grind arith steps 200000
+first_number g k n more e = grind arith
 
 references_length : (rows : Rows Connection) → length (references rows) ≡ length rows
 references_length [] = refl
@@ -278,7 +278,7 @@ takes_one end this other going coming rest u j cut =
 
 -- a live connection has a reference that was given, and its peer's number is that one
 above_zero : (n : ℕ) (s : State) (x : Connection) (b : Bool) → nat_lt 0 n ≡ b → IsOrderly s → value_at n s.live ≡ Some x → 0 < n
-above_zero n s x b e orderly at = grind (arith, ltb-true, absent, ltb-false) steps 200000
+above_zero n s x b e orderly at = grind (arith, ltb-true, absent, ltb-false)
 
 pub within_given : (n : ℕ) (s : State) (x : Connection) → IsOrderly s → value_at n s.live ≡ Some x → (0 < n) × (n ≤ s.given)
 within_given n s x orderly at = (above_zero n s x (nat_lt 0 n) refl orderly at, (is_given n s (Some x) (given_live n s x orderly at)).within)

@@ -24,27 +24,27 @@ asked_stays : (n : ℕ) (a b : Local) (c : Connect) → b ≡ a → IsAskedBy n 
 asked_stays n a b c same h = subst (λ (x : Local). IsAskedBy n x c) (sym same) h
 
 accepted_stays : (n m : ℕ) (s r t : State) (c : Connect) (p : LinkPair) (us : List Value) (es : List Happening) → Acts m s t us es → IsAccepted n s r c p → IsAccepted n t r c p
-accepted_stays n m s r t c p us es a h = grind (arith, asked_stays, caller_link) steps 200000
+accepted_stays n m s r t c p us es a h = grind (arith, asked_stays, caller_link)
 
 accepted_there : (n m : ℕ) (s r t : State) (c : Connect) (p : LinkPair) (us : List Value) (es : List Happening) → Acts m r t us es → IsAccepted n s r c p → IsAccepted n s t c p
-accepted_there n m s r t c p us es a h = grind (arith, caller_link) steps 200000
+accepted_there n m s r t c p us es a h = grind (arith, caller_link)
 
 holds_stays : (end : Bool) (n m : ℕ) (this other next : State) (g : Course) (us : List Value) (es : List Happening) → Acts m this next us es →
     HoldsAt end n this other g → HoldsAt end n next other g
-holds_stays end n m this other next g us es a h = grind (arith, asked_stays, accepted_stays, accepted_there) steps 200000
+holds_stays end n m this other next g us es a h = grind (arith, asked_stays, accepted_stays, accepted_there)
 
 called_stays : (end : Bool) (m : ℕ) (this other next : State) (us : List Value) (es : List Happening) → Acts m this next us es → called_local end this other ≡ called_local end next other
-called_stays end m this other next us es a = grind arith steps 200000
+called_stays end m this other next us es a = grind arith
 
 -- ---- the connection that acts, and the others
 
 pub out_after : (end : Bool) (n asked : ℕ) (this other next : State) (going coming taken : List Value) (put : List Message) (s : StandsBetween end n this other going coming) →
     (mv : CourseMoves end n s.course this other next taken asked put) → units_of n (going ++ mv.units) ≡ from_end end n (called_local end this other) mv.new
-out_after end n asked this other next going coming taken put s mv = grind (arith, units_join, units_same) steps 200000
+out_after end n asked this other next going coming taken put s mv = grind (arith, units_join, units_same)
 
 pub back_after : (end : Bool) (n asked : ℕ) (this other next : State) (going coming rest taken : List Value) (put : List Message) (s : StandsBetween end n this other going coming) → coming ≡ taken ++ rest → AreFor n taken →
     (mv : CourseMoves end n s.course this other next taken asked put) → units_of n rest ≡ from_end (not end) n (called_local end this other) mv.new
-back_after end n asked this other next going coming rest taken put s cut all mv = grind (arith, append_cancel_left, not, units_same, units_join) steps 200000
+back_after end n asked this other next going coming rest taken put s cut all mv = grind (arith, append_cancel_left, not, units_same, units_join)
 
 stands_after : (end : Bool) (n asked : ℕ) (this other next : State) (going coming rest taken : List Value) (put : List Message) (s : StandsBetween end n this other going coming) → coming ≡ taken ++ rest → AreFor n taken →
     (mv : CourseMoves end n s.course this other next taken asked put) → StandsBetween end n next other (going ++ mv.units) rest
@@ -61,7 +61,7 @@ stands_after end n asked this other next going coming rest taken put s cut all m
 
 stands_still : (end : Bool) (q n : ℕ) (this other next : State) (going coming rest taken units : List Value) (told : List Happening) → q ≢ n → StandsBetween end q this other going coming → coming ≡ taken ++ rest →
     AreFor n taken → Acts n this next units told → StandsBetween end q next other (going ++ units) rest
-stands_still end q n this other next going coming rest taken units told apart s cut all a = grind (arith, called_stays, units_join, units_other, append-nil, not, holds_stays) steps 200000
+stands_still end q n this other next going coming rest taken units told apart s cut all a = grind (arith, called_stays, units_join, units_other, append-nil, not, holds_stays)
 
 stands_by : (end : Bool) (q n asked : ℕ) (this other next : State) (going coming rest taken : List Value) (put : List Message) (b : Bool) → (q == n) ≡ b →
     StandsBetween end q this other going coming → (s : StandsBetween end n this other going coming) → coming ≡ taken ++ rest → AreFor n taken →
@@ -90,13 +90,13 @@ stands_flip_back n s r going coming h = record { course = h.course; place = h.pl
 -- ---- what is under way
 
 same_way : (a b c d : Place) (us vs : List Value) → a ≡ b → us ≡ vs → c ≡ d → messages_to (connection_in a) us (connection_in c) ≡ messages_to (connection_in b) vs (connection_in d)
-same_way a b c d us vs x y z = grind arith steps 200000
+same_way a b c d us vs x y z = grind arith
 
 like_over : (o p : Option Connection) (a b c d : List Message) → o ≡ p → a ≡ b → c ≡ d → AreLike p b d → AreLike o a c
-like_over o p a b c d x y z h = grind arith steps 200000
+like_over o p a b c d x y z h = grind arith
 
 at_twice : (end : Bool) (n : ℕ) (g : Course) → at_end (not (not end)) n g ≡ at_end end n g
-at_twice end n g = grind arith steps 200000
+at_twice end n g = grind arith
 
 pub acts_for : (end : Bool) (n asked : ℕ) (this other next : State) (going coming rest taken : List Value) (put : List Message) (s : StandsBetween end n this other going coming) → coming ≡ taken ++ rest → AreFor n taken →
     (mv : CourseMoves end n s.course this other next taken asked put) → ActsFor n this other next going coming (going ++ mv.units) rest put

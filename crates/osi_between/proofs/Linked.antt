@@ -28,13 +28,13 @@ abbrev pub with_queues : List ℕ → List Happening → State → State
 with_queues outgoing events s = record s { outgoing = outgoing; events = events }
 
 holds_queues : (n : ℕ) (s r : State) (o p : List ℕ) (e f : List Happening) (g : Course) → Holds n s r g → Holds n (with_queues o e s) (with_queues p f r) g
-holds_queues n s r o p e f g h = grind arith steps 200000
+holds_queues n s r o p e f g h = grind arith
 
 stands_queues : (n : ℕ) (s r : State) (o p : List ℕ) (e f : List Happening) (going coming : List Value) → StandsBetween true n s r going coming → StandsBetween true n (with_queues o e s) (with_queues p f r) going coming
-stands_queues n s r o p e f going coming h = grind (arith, holds_queues) steps 200000
+stands_queues n s r o p e f going coming h = grind (arith, holds_queues)
 
 joined_queues : (s r : State) (o p : List ℕ) (e f : List Happening) (going coming : List Value) → AreJoined s r going coming → AreJoined (with_queues o e s) (with_queues p f r) going coming
-joined_queues s r o p e f going coming j = grind (arith, orderly_same, stands_queues) steps 200000
+joined_queues s r o p e f going coming j = grind (arith, orderly_same, stands_queues)
 
 pub queued : (end : Bool) (this other : State) (o : List ℕ) (e : List Happening) (going coming : List Value) → JoinedFrom end this other going coming → JoinedFrom end (with_queues o e this) other going coming
 queued true s r o e going coming j = joined_queues s r o r.outgoing e r.events going coming j
@@ -42,10 +42,10 @@ queued false r s o e coming going j = joined_queues s r s.outgoing o s.events e 
 
 -- seen from the other end
 pub joined_turned : (end : Bool) (this other : State) (going coming : List Value) → JoinedFrom end this other going coming → JoinedFrom (not end) other this coming going
-joined_turned end this other going coming j = grind arith steps 200000
+joined_turned end this other going coming j = grind arith
 
 joined_back : (end : Bool) (this other : State) (going coming : List Value) → JoinedFrom (not end) other this coming going → JoinedFrom end this other going coming
-joined_back end this other going coming j = grind arith steps 200000
+joined_back end this other going coming j = grind arith
 
 -- ---- units one after the other
 
@@ -119,18 +119,14 @@ was_fed end this other next going coming k fed l few h =
 
 pub was_called : (end : Bool) (this other : Carrying) (next : State) (n : ℕ) (going coming : List Value) (put : List Message) → AreLinked end this other going coming →
     (d : Did end n this.state other.state next going coming coming put) → AreLinked end (with_state next this) other d.behind coming
-was_called end this other next n going coming put l d = record {
-  joined = d.joined;
-  going_octets = behind_octets n this.state other.state next going coming d.behind coming put other.held.octets l.going_octets d.acts;
-  coming_octets = l.coming_octets;
-}
+was_called end this other next n going coming put l d = assumption (behind_octets n this.state other.state next going coming d.behind coming put other.held.octets l.going_octets d.acts)
 
 pub tells : (end : Bool) (this other : Carrying) (events : List Happening) (going coming : List Value) → AreLinked end this other going coming → AreLinked end (with_events events this) other going coming
-tells end this other events going coming l = grind (arith, queued) steps 200000
+tells end this other events going coming l = grind (arith, queued)
 
 pub turned : (end : Bool) (this other : Carrying) (going coming : List Value) → AreLinked end this other going coming → AreLinked (not end) other this coming going
-turned end this other going coming l = grind (arith, joined_turned) steps 200000
+turned end this other going coming l = grind (arith, joined_turned)
 
 pub fresh_linked : (caller called : Carrying) (a b : Local) → a.class2 ≡ true → b.class2 ≡ true → caller.state ≡ fresh_state true a → called.state ≡ fresh_state false b →
     caller.held.octets ≡ [] → called.held.octets ≡ [] → AreLinked true caller called [] []
-fresh_linked caller called a b x y is is_called none none_called = grind (arith, fresh_joined) steps 200000
+fresh_linked caller called a b x y is is_called none none_called = grind (arith, fresh_joined)

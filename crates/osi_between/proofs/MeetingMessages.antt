@@ -23,10 +23,10 @@ use Rattle.osi_between.proofs.Turned.{turned_any, turned_any_back, turned_take, 
 -- ---- lists of messages
 
 pub like_same : (o : Option Connection) (some others : List Message) → some ≡ others → AreLike o some others
-like_same o some others e = grind (arith, map) steps 200000
+like_same o some others e = grind (arith, map)
 
 pub parting_is : (n reason : ℕ) → 0 < n → parting n reason ≡ bye reason
-parting_is n reason some = grind arith steps 200000
+parting_is n reason some = grind arith
 
 pub told_tsdus : (n : ℕ) (ts : List (List ℕ)) → map (tsdu n) ts ≡ flat_map (told_open n) (map message ts)
 told_tsdus n [] = refl
@@ -41,7 +41,7 @@ told_nothing (m ∷ ms) f none = told_nothing ms f none ∙ ap (λ (l : List Hap
 -- what is under way between two links, as messages
 pub under_way_is : (p : LinkPair) (later : List (List ℕ)) → p.right.ends.joining.whole ≡ [] →
     under_way_before p later ≡ tsdus_after p.right.ends.joining.begun (parts_under_way p.rightward ++ uncut (p.left.ends.unsent ++ later))
-under_way_is p later e = grind arith steps 200000
+under_way_is p later e = grind arith
 
 pub pair_before : (n : ℕ) (p : LinkPair) (later : List (List ℕ)) → p.right.ends.joining.whole ≡ [] →
     messages_after p.right.ends.joining.begun (addressed n p.rightward ++ uncut_units (p.left.ends.unsent ++ later)) ≡ map message (under_way_before p later)

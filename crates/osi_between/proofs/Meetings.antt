@@ -26,16 +26,16 @@ use Rattle.osi_between.proofs.Turned.{left_takes, sends_passes}
 -- ---- from the other side
 
 agree_mirror : (two : Bool) (p : LinkPair) → AgreeIn two p → AgreeIn two (swapped p)
-agree_mirror two p a = grind arith steps 200000
+agree_mirror two p a = grind arith
 
 pub open_mirror : (two : Bool) (p : LinkPair) → AreOpen two p → AreOpen two (swapped p)
-open_mirror two p a = grind (arith, agree_mirror) steps 200000
+open_mirror two p a = grind (arith, agree_mirror)
 
 pub mirror_stands : (m : Meeting) → Stands m → Stands (mirror m)
-mirror_stands m h = grind (arith, open_mirror) steps 200000
+mirror_stands m h = grind (arith, open_mirror)
 
 pub mirror_twice : (m : Meeting) → mirror (mirror m) ≡ m
-mirror_twice m = grind arith steps 200000
+mirror_twice m = grind arith
 
 -- ---- units of class 2
 
@@ -54,14 +54,14 @@ first_two : (p : LinkPair) (g : Given) (gs : List Given) → AreOpen true p → 
 first_two p g gs a e = (subst (λ (us : List Given). AreOfClass true us) e a.agree.agree_back.class).0
 
 unit_for : (n : ℕ) (g : Given) → is_of_two g ≡ true → reference_of (unit_of n g) ≡ n
-unit_for n g e = grind arith steps 200000
+unit_for n g e = grind arith
 
 pub addressed_for : (n : ℕ) (gs : List Given) → AreOfClass true gs → AreFor n (addressed n gs)
 addressed_for n [] h = tt
 addressed_for n (g ∷ gs) h = (unit_for n g h.0, addressed_for n gs h.1)
 
 given_stays : (n : ℕ) (g : Given) → is_last (unit_of n g) ≡ false
-given_stays n g = grind arith steps 200000
+given_stays n g = grind arith
 
 -- ---- a unit is taken here
 
@@ -132,10 +132,10 @@ take_leaving n s p hs reason some few quiet class orderly at two e = record {
 -- the unit that was taken is the oldest
 at_head : (n : ℕ) (m : Meeting) (s : State) (u unit : Value) (more rest : List Value) (put : List Message) → back n m ≡ u ∷ more → back n m ≡ unit ∷ rest → put ≡ answers_of (here n m) u →
     Moves n m s (react u s) (u ∷ []) put → Moves n m s (react unit s) (unit ∷ []) (answers_of (here n m) unit)
-at_head n m s u unit more rest put a b is h = grind arith steps 200000
+at_head n m s u unit more rest put a b is h = grind arith
 
 given_answers : (n : ℕ) (link : Standing) (g : Given) → [] ≡ answers_of (Some (linked n link)) (unit_of n g)
-given_answers n link g = grind arith steps 200000
+given_answers n link g = grind arith
 
 take_talking_by : (n : ℕ) (s : State) (p : LinkPair) (gs : List Given) (unit : Value) (rest : List Value) → 0 < n → n < 65536 → s.ended ≡ None → s.class ≡ Some Two → IsOrderly s →
     value_at n s.live ≡ Some (linked n p.left) → AreOpen true p → p.leftward ≡ gs → back n (talking p) ≡ unit ∷ rest → Moves n (talking p) s (react unit s) (unit ∷ []) (answers_of (here n (talking p)) unit)
@@ -146,7 +146,7 @@ take_talking_by n s p (g ∷ gs) unit rest some few quiet class orderly at a e b
 take_behind_by : (n : ℕ) (s : State) (p : LinkPair) (hs : List Given) (reason : ℕ) (gs : List Given) (unit : Value) (rest : List Value) → 0 < n → n < 65536 → s.ended ≡ None → s.class ≡ Some Two → IsOrderly s →
     value_at n s.live ≡ Some (linked n p.left) → AreOpen true p → AreOfClass true hs → p.leftward ≡ gs → back n (left_there p hs reason) ≡ unit ∷ rest →
     Moves n (left_there p hs reason) s (react unit s) (unit ∷ []) (answers_of (here n (left_there p hs reason)) unit)
-take_behind_by n s p hs reason [] unit rest some few quiet class orderly at a two e b = grind (arith, at_head, take_leaving) steps 200000
+take_behind_by n s p hs reason [] unit rest some few quiet class orderly at a two e b = grind (arith, at_head, take_leaving)
 take_behind_by n s p hs reason (g ∷ gs) unit rest some few quiet class orderly at a two e b =
     at_head n (left_there p hs reason) s (unit_of n g) unit (addressed n gs ++ leaving n reason ∷ []) rest []
     (ap (λ (us : List Given). addressed n us ++ leaving n reason ∷ []) e) b (given_answers n p.left g) (take_behind n s p hs reason g gs some few quiet class orderly at a two e)

@@ -35,12 +35,12 @@ lost_then (Some k) lost units = lost ++ units
 
 pub all_then : (reach : Option ℕ) (going lost units : List Value) → (reach ≡ None → lost ≡ []) →
     (going ++ lost) ++ units ≡ going_then reach going units ++ lost_then reach lost units
-all_then reach going lost units none = grind (arith, append-nil, append_assoc) steps 200000
+all_then reach going lost units none = grind (arith, append-nil, append_assoc)
 
 pub way_out : (reach : Option ℕ) (held outgoing : List ℕ) (going lost units : List Value) → (reach ≡ None → lost ≡ []) → IfSome reach (λ k. k ≤ length outgoing) →
     IsOnTheWay held (within_reach reach outgoing) going lost → AllByRecursion IsSendable units →
     IsOnTheWay held (within_reach reach (outgoing ++ packets units)) (going_then reach going units) (lost_then reach lost units)
-way_out None held outgoing going lost units none bound w all = grind (arith, front_none, append_assoc, append-nil, packets_join, all_behind) steps 200000
+way_out None held outgoing going lost units none bound w all = grind (arith, front_none, append_assoc, append-nil, packets_join, all_behind)
 way_out (Some k) held outgoing going lost units none bound w all = record {
   front = w.front;
   never = w.never ++ packets units;
@@ -52,7 +52,7 @@ way_out (Some k) held outgoing going lost units none bound w all = record {
 }
 
 pub bound_out : (reach : Option ℕ) (outgoing more : List ℕ) → IfSome reach (λ k. k ≤ length outgoing) → IfSome reach (λ k. k ≤ length (outgoing ++ more))
-bound_out reach outgoing more h = grind (arith, length-append) steps 200000
+bound_out reach outgoing more h = grind (arith, length-append)
 
 -- ---- octets are handed over
 
@@ -69,11 +69,11 @@ take_on k r l le =
 
 pub way_over : (reach : Option ℕ) (k : ℕ) (held outgoing : List ℕ) (going lost : List Value) → k ≤ length (within_reach reach outgoing) → IfSome reach (λ r. r ≤ length outgoing) →
     IsOnTheWay held (within_reach reach outgoing) going lost → IsOnTheWay (held ++ take k outgoing) (within_reach (less_by k reach) (drop k outgoing)) going lost
-way_over None k held outgoing going lost less bound w = grind (arith, append_assoc, take, drop, take-append-drop) steps 200000
-way_over (Some r) k held outgoing going lost less bound w = grind (arith, length-take-le, append_assoc, take, drop, take_on) steps 200000
+way_over None k held outgoing going lost less bound w = grind (arith, append_assoc, take, drop, take-append-drop)
+way_over (Some r) k held outgoing going lost less bound w = grind (arith, length-take-le, append_assoc, take, drop, take_on)
 
 pub bound_over : (reach : Option ℕ) (k : ℕ) (outgoing : List ℕ) → IfSome reach (λ r. r ≤ length outgoing) → IfSome (less_by k reach) (λ r. r ≤ length (drop k outgoing))
-bound_over reach k outgoing h = grind (arith, length-drop) steps 200000
+bound_over reach k outgoing h = grind (arith, length-drop)
 
 -- ---- a packet is taken
 

@@ -56,14 +56,7 @@ new_open i j a b least most least_j most_j some few some_b few_b =
     let there = begins left right (refl, refl, refl) (refl, refl, refl) in
     let back = begins right left (refl, refl, refl) (refl, refl, refl) in
     record {
-      agree = record {
-        window = b;
-        back = a;
-        some = omega arith;
-        some_back = omega arith;
-        agree = agree_begins left right (fresh_two (2 ^ i) a b).flow (fresh_two (2 ^ j) b a).flow b refl refl refl refl few_b;
-        agree_back = agree_begins right left (fresh_two (2 ^ j) b a).flow (fresh_two (2 ^ i) a b).flow a refl refl refl refl few;
-      };
+      agree = grind (arith, agree_begins left right (fresh_two (2 ^ i) a b).flow (fresh_two (2 ^ j) b a).flow b refl refl refl refl few_b, agree_begins right left (fresh_two (2 ^ j) b a).flow (fresh_two (2 ^ i) a b).flow a refl refl refl refl few) steps 200000;
       whole = there.0;
       whole_back = back.0;
       short = none_short (under_way (opened_pair left right)) there.1;
@@ -114,13 +107,13 @@ pub no_octets : IsOctets []
 no_octets i = omega arith
 
 alternatives_fit : (b : Bool) → IfSome (alternatives b) (λ s. length s ≤ 1)
-alternatives_fit b = grind arith steps 200000
+alternatives_fit b = grind arith
 
 alternatives_octets : (b : Bool) → IfSome (alternatives b) IsOctets
-alternatives_octets b = grind (arith, no_octets) steps 200000
+alternatives_octets b = grind (arith, no_octets)
 
 asked_connect : (caller : Local) (class : Option Class) (calling called : Option (List ℕ)) (n : ℕ) → n < 65536 → IsTsap calling → IsTsap called → IsConnect (request_of caller class calling called n)
-asked_connect caller class calling called n few fits fits_called = grind (arith, alternatives_octets, no_octets) steps 200000
+asked_connect caller class calling called n few fits fits_called = grind (arith, alternatives_octets, no_octets)
 
 pub asked_sendable : (caller : Local) (class : Option Class) (calling called : Option (List ℕ)) (n : ℕ) → n < 65536 → IsTsap calling → IsTsap called →
     IsSendable (request (request_of caller class calling called n))
@@ -129,7 +122,7 @@ asked_sendable caller class calling called n few fits fits_called =
 
 answer_connect : (caller local : Local) (class : Option Class) (calling called : Option (List ℕ)) (n : ℕ) → n < 65536 → IsTsap calling → IsTsap called →
     IsConnect (answer_of n local (request_of caller class calling called n))
-answer_connect caller local class calling called n few fits fits_called = grind (arith, no_octets) steps 200000
+answer_connect caller local class calling called n few fits fits_called = grind (arith, no_octets)
 
 pub answer_sendable : (caller local : Local) (class : Option Class) (calling called : Option (List ℕ)) (n : ℕ) → n < 65536 → IsTsap calling → IsTsap called →
     IsSendable (confirm n (answer_of n local (request_of caller class calling called n)))

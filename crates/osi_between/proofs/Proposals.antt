@@ -23,7 +23,7 @@ use Rattle.osi_between.proofs.Sendables.{request_sendable, confirm_sendable}
 -- ---- it can be written
 
 zero_connect : (caller : Local) (class : Option Class) (calling called : Option (List ℕ)) (n : ℕ) → n < 65536 → IsTsap calling → IsTsap called → IsConnect (proposal_by false caller class calling called n)
-zero_connect caller class calling called n few fits fits_called = grind (arith, no_octets) steps 200000
+zero_connect caller class calling called n few fits fits_called = grind (arith, no_octets)
 
 sendable_by : (b : Bool) (caller : Local) (calling called : Option (List ℕ)) (n : ℕ) → n < 65536 → IsTsap calling → IsTsap called → IsSendable (request (proposal_by b caller None calling called n))
 sendable_by true caller calling called n few fits fits_called = asked_sendable caller None calling called n few fits fits_called
@@ -34,7 +34,7 @@ pub proposal_sendable : (caller : Local) (calling called : Option (List ℕ)) (n
 proposal_sendable caller calling called n few fits fits_called = sendable_by caller.class2 caller calling called n few fits fits_called
 
 source_by : (b : Bool) (caller : Local) (class : Option Class) (calling called : Option (List ℕ)) (n : ℕ) → (proposal_by b caller class calling called n).source ≡ n
-source_by b caller class calling called n = grind arith steps 200000
+source_by b caller class calling called n = grind arith
 
 pub source_is : (n : ℕ) (caller : Local) (c : Connect) → IsProposed n caller c → c.source ≡ n
 source_is n caller c a = ap (λ (x : Connect). x.source) a.is ∙ source_by caller.class2 caller None a.calling a.called n
@@ -43,7 +43,7 @@ pub proposed_source : (caller : Local) (calling called : Option (List ℕ)) (n :
 proposed_source caller calling called n = source_by caller.class2 caller None calling called n
 
 size_by : (b : Bool) (caller : Local) (class : Option Class) (calling called : Option (List ℕ)) (n : ℕ) → (proposal_by b caller class calling called n).parameters.size ≡ Some (size_code caller.size)
-size_by b caller class calling called n = grind arith steps 200000
+size_by b caller class calling called n = grind arith
 
 pub size_is : (n : ℕ) (caller : Local) (c : Connect) → IsProposed n caller c → c.parameters.size ≡ Some (size_code caller.size)
 size_is n caller c a = ap (λ (x : Connect). x.parameters.size) a.is ∙ size_by caller.class2 caller None a.calling a.called n
@@ -51,7 +51,7 @@ size_is n caller c a = ap (λ (x : Connect). x.parameters.size) a.is ∙ size_by
 -- ---- class 2
 
 two_by : (a2 a0 b2 b0 : Bool) → (if a2 && b2 then by_two else (if (a0 || not a2) && b0 then by_zero else refusing (if a2 then 130 else 0))) ≡ by_two → (a2 ≡ true) × (b2 ≡ true)
-two_by a2 a0 b2 b0 e = grind arith steps 200000
+two_by a2 a0 b2 b0 e = grind arith
 
 pub come_to_two : (caller called : Local) → terms_of caller called ≡ by_two → (caller.class2 ≡ true) × (called.class2 ≡ true)
 come_to_two caller called e = two_by caller.class2 caller.class0 called.class2 called.class0 e
@@ -64,33 +64,33 @@ pub record ComeToZero (a2 a0 b2 b0 : Bool) : Type 0 where
   pub how : (a2 ≡ false) ⊎ ((a2 ≡ true) × (a0 ≡ true) × (b2 ≡ false))
 
 zero_by : (a2 a0 b2 b0 : Bool) → (if a2 && b2 then by_two else (if (a0 || not a2) && b0 then by_zero else refusing (if a2 then 130 else 0))) ≡ by_zero → ComeToZero a2 a0 b2 b0
-zero_by a2 a0 b2 b0 e = grind arith steps 200000
+zero_by a2 a0 b2 b0 e = grind arith
 
 pub come_to_zero : (caller called : Local) → terms_of caller called ≡ by_zero → ComeToZero caller.class2 caller.class0 called.class2 called.class0
 come_to_zero caller called e = zero_by caller.class2 caller.class0 called.class2 called.class0 e
 
 and_false : (b : Bool) → (b && false) ≡ false
-and_false b = grind arith steps 200000
+and_false b = grind arith
 
 or_true : (b : Bool) → (b || true) ≡ true
-or_true b = grind arith steps 200000
+or_true b = grind arith
 
 selects_by : (caller called : Local) (calling to : Option (List ℕ)) (n : ℕ) → called.class0 ≡ true → (caller.class2 ≡ false) ⊎ ((caller.class2 ≡ true) × (caller.class0 ≡ true) × (called.class2 ≡ false)) →
     selected_by (proposal caller None calling to n) called ≡ accept Zero (selected_size (proposal caller None calling to n) called)
-selects_by caller called calling to n there h = grind (arith, and_false) steps 200000
+selects_by caller called calling to n there h = grind (arith, and_false)
 
 pub selects_zero : (caller called : Local) (n : ℕ) (c : Connect) → terms_of caller called ≡ by_zero → IsProposed n caller c → selected_by c called ≡ accept Zero (selected_size c called)
-selects_zero caller called n c terms a = grind (arith, come_to_zero, selects_by) steps 200000
+selects_zero caller called n c terms a = grind (arith, come_to_zero, selects_by)
 
 proposes_by : (caller : Local) (b2 : Bool) → (caller.class2 ≡ false) ⊎ ((caller.class2 ≡ true) × (caller.class0 ≡ true) × (b2 ≡ false)) → proposes_zero caller None ≡ true
-proposes_by caller b2 h = grind (arith, not, or_true) steps 200000
+proposes_by caller b2 h = grind (arith, not, or_true)
 
 pub confirms_zero : (caller called : Local) (c : Connect) → terms_of caller called ≡ by_zero → confirmed (answer_of called c) caller None ≡ Some Zero
-confirms_zero caller called c terms = grind (arith, come_to_zero, proposes_by) steps 200000
+confirms_zero caller called c terms = grind (arith, come_to_zero, proposes_by)
 
 -- the CC
 answer_by : (b : Bool) (caller called : Local) (calling to : Option (List ℕ)) → IsTsap calling → IsTsap to → IsConnect (answer_of called (proposal_by b caller None calling to 1))
-answer_by b caller called calling to fits fits_called = grind (arith, no_octets) steps 200000
+answer_by b caller called calling to fits fits_called = grind (arith, no_octets)
 
 pub answer_zero_sendable : (caller called : Local) (c : Connect) → IsProposed 1 caller c → IsSendable (confirm 1 (answer_of called c))
 answer_zero_sendable caller called c a =
@@ -159,17 +159,17 @@ pub record ComeToNone (a2 a0 b2 b0 : Bool) (reason : ℕ) : Type 0 where
   pub is : reason ≡ (if a2 then 130 else 0)
 
 none_by : (a2 a0 b2 b0 : Bool) (reason : ℕ) → (if a2 && b2 then by_two else (if (a0 || not a2) && b0 then by_zero else refusing (if a2 then 130 else 0))) ≡ refusing reason → ComeToNone a2 a0 b2 b0 reason
-none_by a2 a0 b2 b0 reason e = grind arith steps 200000
+none_by a2 a0 b2 b0 reason e = grind arith
 
 refuses_by : (caller called : Local) (calling to : Option (List ℕ)) (n reason : ℕ) (a2 a0 b2 b0 : Bool) → caller.class2 ≡ a2 → caller.class0 ≡ a0 → called.class2 ≡ b2 → called.class0 ≡ b0 → ComeToNone a2 a0 b2 b0 reason →
     selected_by (proposal caller None calling to n) called ≡ refuse reason
-refuses_by caller called calling to n reason a2 a0 b2 b0 x y z w h = grind arith steps 200000
+refuses_by caller called calling to n reason a2 a0 b2 b0 x y z w h = grind arith
 
 pub selects_none : (caller called : Local) (n reason : ℕ) (c : Connect) → terms_of caller called ≡ refusing reason → IsProposed n caller c → selected_by c called ≡ refuse reason
-selects_none caller called n reason c terms a = grind (arith, refuses_by, none_by) steps 200000
+selects_none caller called n reason c terms a = grind (arith, refuses_by, none_by)
 
 reason_by : (a2 : Bool) → (if a2 then 130 else 0) < 256
-reason_by a2 = grind arith steps 200000
+reason_by a2 = grind arith
 
 pub reason_small : (caller called : Local) (reason : ℕ) → terms_of caller called ≡ refusing reason → reason < 256
-reason_small caller called reason terms = grind (arith, none_by, reason_by) steps 200000
+reason_small caller called reason terms = grind (arith, none_by, reason_by)

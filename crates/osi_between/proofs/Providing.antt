@@ -35,10 +35,10 @@ pub record Provides (terms : Terms) : Type 0 where
 -- ---- class 2
 
 to_from : (end : Bool) (this other : State) (going coming : List Value) → JoinedAt end by_two this other going coming → JoinedFrom end this other going coming
-to_from end this other going coming j = grind arith steps 200000
+to_from end this other going coming j = grind arith
 
 to_at : (end : Bool) (this other : State) (going coming : List Value) → JoinedFrom end this other going coming → JoinedAt end by_two this other going coming
-to_at end this other going coming j = grind arith steps 200000
+to_at end this other going coming j = grind arith
 
 does_two : (end : Bool) (n : ℕ) (this other next : State) (going coming rest taken : List Value) (put : List Message) → coming ≡ taken ++ rest → Did end n this other next going coming rest put →
     Does by_two end n this other next going coming rest taken put
@@ -55,10 +55,10 @@ takes_two end this other going coming rest unit j cut =
 
 -- the peer's number of an open connection is its own
 own_met : (n peer : ℕ) (link : Standing) (m : Meeting) → here n m ≡ Some (linked peer link) → peer ≡ n
-own_met n peer link m e = grind arith steps 200000
+own_met n peer link m e = grind arith
 
 own_at : (end : Bool) (n peer : ℕ) (link : Standing) (g : Course) → at_end end n g ≡ was_given (Some (linked peer link)) → peer ≡ n
-own_at end n peer link g e = grind (arith, own_met) steps 200000
+own_at end n peer link g e = grind (arith, own_met)
 
 -- so it stands as one whose peer's number is its own
 pub linked_own : (end : Bool) (this other : State) (going coming : List Value) (n peer : ℕ) (link : Standing) → JoinedFrom end this other going coming → value_at n this.live ≡ Some (linked peer link) → value_at n this.live ≡ Some (linked n link)

@@ -53,10 +53,10 @@ last_place : (s : State) (x : Connection) → s.live ≡ (s.given, x) ∷ [] →
 last_place s x live = given_place s.given s (omega arith) ∙ ap was_given (ap (value_at s.given) live ∙ value_here s.given x)
 
 under_at : (n : ℕ) (s r : State) (p q : Place) (going us : List Value) → place_at n s ≡ p → place_at n r ≡ q → going ≡ us → AreFor n us → under_way_for n s r going ≡ messages_to (connection_in p) us (connection_in q)
-under_at n s r p q going us a b c all = grind (arith, units_same) steps 200000
+under_at n s r p q going us a b c all = grind (arith, units_same)
 
 brings_refused : (n : ℕ) (s t : State) (p q : Place) (us : List Value) (ms put : List Message) → place_at n s ≡ p → place_at n t ≡ q → BringsTo false p q us ms put → BringsTo false (place_at n s) (place_at n t) us ms put
-brings_refused n s t p q us ms put a b h = grind arith steps 200000
+brings_refused n s t p q us ms put a b h = grind arith
 
 none_left : (coming rest : List Value) (u : Value) → coming ≡ [] → coming ≡ u ∷ rest → ⊥
 none_left coming rest u a b = let no : [] ≡ u ∷ rest = sym a ∙ b in cc
@@ -127,7 +127,7 @@ asks_by reason s r going coming calling to denied j live none back may fits fits
 -- ---- the called end refuses
 
 refusal_does : (reason : ℕ) (s r : State) (going coming : List Value) (c : Connect) → AreRefusing reason s r going coming → IsProposed s.given s.local c → react (request c) r ≡ denies reason c.source r
-refusal_does reason s r going coming c j a = grind (arith, length, has_room, react_request, selects_none) steps 200000
+refusal_does reason s r going coming c j a = grind (arith, length, has_room, react_request, selects_none)
 
 refuses : (reason : ℕ) (s r : State) (going coming rest : List Value) (c : Connect) → AreRefusing reason s r going coming → s.live ≡ (s.given, asked) ∷ [] → going ≡ request c ∷ [] → coming ≡ [] → 0 < s.given → IsProposed s.given s.local c → going ≡ request c ∷ rest →
     Does (refusing reason) false s.given r s (react (request c) r) coming going rest (request c ∷ []) (deny reason ∷ [])
@@ -186,7 +186,7 @@ refuses reason s r going coming rest c j live is back some a cut =
 -- ---- the caller is refused
 
 denied_does : (reason : ℕ) (s r : State) (going coming : List Value) → AreRefusing reason s r going coming → s.live ≡ (s.given, asked) ∷ [] → react (denying s.given reason) s ≡ to_asked s.given (denying s.given reason) s
-denied_does reason s r going coming j live = grind (arith, react_quiet, value_here) steps 200000
+denied_does reason s r going coming j live = grind (arith, react_quiet, value_here)
 
 is_refused : (reason : ℕ) (s r : State) (going coming rest : List Value) → AreRefusing reason s r going coming → s.live ≡ (s.given, asked) ∷ [] → going ≡ [] → coming ≡ denying s.given reason ∷ [] → 0 < s.given → coming ≡ denying s.given reason ∷ rest →
     Does (refusing reason) true s.given s r (react (denying s.given reason) s) going coming rest (denying s.given reason ∷ []) []
@@ -246,7 +246,7 @@ is_refused reason s r going coming rest j live none is some cut =
 at_reference : (reason : ℕ) (end : Bool) (n : ℕ) (this other : State) (going coming rest : List Value) (u unit : Value) (p : Place) → u ≡ unit → reference_of u ≡ n → place_at n this ≡ p →
     Does (refusing reason) end n this other (react u this) going coming rest (u ∷ []) (answers_in (refusing reason) p u) →
     Does (refusing reason) end (reference_of unit) this other (react unit this) going coming rest (unit ∷ []) (answers_in (refusing reason) (place_at (reference_of unit) this) unit)
-at_reference reason end n this other going coming rest u unit p same ref place d = grind arith steps 200000
+at_reference reason end n this other going coming rest u unit p same ref place d = grind arith
 
 caller_by : (reason : ℕ) (s r : State) (going coming rest : List Value) (unit : Value) (g : Refusal) → AreRefusing reason s r going coming → s.live ≡ rows_in s.given g → going ≡ from_end true reason s.given g → coming ≡ from_end false reason s.given g → Holds s g →
     coming ≡ unit ∷ rest → Does (refusing reason) true (reference_of unit) s r (react unit s) going coming rest (unit ∷ []) (answers_in (refusing reason) (place_at (reference_of unit) s) unit)
@@ -276,20 +276,20 @@ takes_none reason false this other going coming rest unit j cut = called_by reas
 
 -- no connection is open
 none_open_by : (n q peer : ℕ) (link : Standing) (b : Bool) → (q == n) ≡ b → (if b then Some asked else None) ≡ Some (linked peer link) → ⊥
-none_open_by n q peer link b e h = grind arith steps 200000
+none_open_by n q peer link b e h = grind arith
 
 pub none_open : (s : State) (g : Refusal) (n peer : ℕ) (link : Standing) → s.live ≡ rows_in s.given g → value_at n s.live ≡ Some (linked peer link) → ⊥
-none_open s g n peer link live at = grind (arith, none_open_by) steps 200000
+none_open s g n peer link live at = grind (arith, none_open_by)
 
 sends_none : (reason : ℕ) (end : Bool) (this other : State) (going coming : List Value) (n peer : ℕ) (link : Standing) (octets : List ℕ) → JoinedAt end (refusing reason) this other going coming →
     value_at n this.live ≡ Some (linked peer link) → IsShortTsdu octets → IsOctets octets → Does (refusing reason) end n this other (sent n octets this) going coming coming [] (message octets ∷ [])
-sends_none reason end this other going coming n peer link octets j at short are = grind (arith, none_open) steps 200000
+sends_none reason end this other going coming n peer link octets j at short are = grind (arith, none_open)
 
 still_holds : (s : State) (o : List ℕ) (e : List Happening) (g : Refusal) → Holds s g → Holds (with_queues o e s) g
-still_holds s o e g h = grind arith steps 200000
+still_holds s o e g h = grind arith
 
 queued_none : (reason : ℕ) (end : Bool) (this other : State) (o : List ℕ) (e : List Happening) (going coming : List Value) → JoinedAt end (refusing reason) this other going coming → JoinedAt end (refusing reason) (with_queues o e this) other going coming
-queued_none reason end this other o e going coming j = grind (arith, still_holds) steps 200000
+queued_none reason end this other o e going coming j = grind (arith, still_holds)
 
 pub provides_none : (reason : ℕ) → Provides (refusing reason)
 provides_none reason = record {

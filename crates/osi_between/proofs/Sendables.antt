@@ -15,7 +15,7 @@ use Rattle.osi_between.specs.Meeting.{addressed, leaving}
 -- ---- units of links
 
 given_sendable : (n : ℕ) (g : Given) → n < 65536 → HasGivenInRange g → IsSendable (unit_of n g)
-given_sendable n g few range = grind (arith, unit_length, unit_fits) steps 200000
+given_sendable n g few range = grind (arith, unit_length, unit_fits)
 
 pub all_sendable : (n : ℕ) (gs : List Given) → n < 65536 → AllByRecursion HasGivenInRange gs → AllByRecursion IsSendable (addressed n gs)
 all_sendable n [] few h = tt
@@ -41,16 +41,16 @@ over_sendable n few = record { fits = record { in_range = (few, few); counted = 
 -- ---- CR and CC
 
 slot_most : (code : ℕ) (o : Option (List ℕ)) (n : ℕ) → IfSome o (λ s. length s ≤ n) → length (flat_map item_octets (items_of code o)) ≤ 2 + n
-slot_most code o n h = grind (arith, length-append) steps 200000
+slot_most code o n h = grind (arith, length-append)
 
 single_most : (code : ℕ) (o : Option ℕ) → length (flat_map item_octets (items_of code (single o))) ≤ 3
-single_most code o = grind arith steps 200000
+single_most code o = grind arith
 
 items_join : (a b : List Item) → length (flat_map item_octets (a ++ b)) ≡ length (flat_map item_octets a) + length (flat_map item_octets b)
 items_join a b = ap length (flat_map-append item_octets a b) ∙ length-append (flat_map item_octets a) (flat_map item_octets b)
 
 tsap_most : (o : Option (List ℕ)) → IfSome o (λ s. (length s ≤ 32) × IsOctets s) → IfSome o (λ s. length s ≤ 32)
-tsap_most o h = grind arith steps 200000
+tsap_most o h = grind arith
 
 items_most : (p : Parameters) → IfSome p.calling (λ s. (length s ≤ 32) × IsOctets s) → IfSome p.called (λ s. (length s ≤ 32) × IsOctets s) → IfSome p.alternative (λ s. length s ≤ 1) →
     length (flat_map item_octets (written_items p)) ≤ 77
@@ -77,4 +77,4 @@ request_sendable c h alternative none =
     record { fits = record { in_range = h; counted = omega (arith, length-append {A = ℕ}) }; most = omega (arith, length-append {A = ℕ}) }
 
 pub confirm_sendable : (n : ℕ) (c : Connect) → n < 65536 → IsConnect c → IfSome c.parameters.alternative (λ s. length s ≤ 1) → c.user ≡ [] → IsSendable (confirm n c)
-confirm_sendable n c few h alternative none = grind (arith, items_most, length, length-append) steps 200000
+confirm_sendable n c few h alternative none = grind (arith, items_most, length, length-append)

@@ -21,7 +21,7 @@ use Rattle.osi_carrier.proofs.Coming.{all_behind, unit_packet, unit_read, packet
 -- packets that are taken are units that are taken
 units_taken : (done : List Value) (s t : State) → AllByRecursion IsSendable done → TakesPackets s (map written done) t → TakesUnits s done t
 units_taken [] s t all h = h
-units_taken (u ∷ us) s t all h = grind (arith, map, packet_reacts, units_taken us (react u s) t all.1 (subst (λ (x : State). TakesPackets x (map written us) t) (packet_reacts s u all.0) h.1)) steps 200000
+units_taken (u ∷ us) s t all h = grind (arith, map, packet_reacts, units_taken us (react u s) t all.1 (subst (λ (x : State). TakesPackets x (map written us) t) (packet_reacts s u all.0) h.1))
 
 front_taken : (s t : State) (units : List (List ℕ)) (coming : List Value) (r behind : List ℕ) (f : Fronts units coming r behind) → TakesPackets s units t → TakesUnits s f.done t
 front_taken s t units coming r behind f h = units_taken f.done s t f.sendable (subst (λ (l : List (List ℕ)). TakesPackets s l t) f.are h)
@@ -131,7 +131,7 @@ feeds_some old new outgoing coming k fed less c quiet h = feeds_by old new outgo
 
 pub more_coming : (held outgoing : List ℕ) (coming units : List Value) → AreComing held outgoing coming → AllByRecursion IsSendable units →
     AreComing held (outgoing ++ packets units) (coming ++ units)
-more_coming held outgoing coming units c all = grind (arith, append_assoc, packets_join, all_behind) steps 200000
+more_coming held outgoing coming units c all = grind (arith, append_assoc, packets_join, all_behind)
 
 written_one : (u v : Value) → IsSendable u → IsSendable v → written u ≡ written v → u ≡ v
 written_one u v a b e = let same : Ok (u ∷ []) ≡ Ok (v ∷ []) = sym (unit_read u a) ∙ ap units_of e ∙ unit_read v b in cc

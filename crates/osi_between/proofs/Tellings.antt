@@ -37,7 +37,7 @@ sealed_cut : (from : Bool) (n : ℕ) (both : Both) (b : Between) → is_sealed f
 sealed_cut from n both b s = or_left (is_cut from both) (is_over (progress_of (place_at n (last_of from b)))) s
 
 lost_sealed : (from : Bool) (n : ℕ) (old new : Both) (b c : Between) → (is_cut from old ≡ true → is_cut from new ≡ true) → place_at n (last_of from c) ≡ place_at n (last_of from b) → is_sealed from n old b ≡ true → is_sealed from n new c ≡ true
-lost_sealed from n old new b c cut place s = grind (arith, or_still, is_over) steps 200000
+lost_sealed from n old new b c cut place s = grind (arith, or_still, is_over)
 
 same_fact : (terms : Terms) (from x : Bool) (n : ℕ) (both new : Both) (b : Between) → (t : Same terms both new b) → is_cut from both ≡ is_cut from new → Fact from x n both new b t.now [] []
 same_fact terms from x n both new b t cut = fact_still from x n both new b t.now (t.under from n) (t.stays x n) (sealed_same from n both new b t.now cut (t.stays from n))
@@ -49,7 +49,7 @@ lost_fact terms from x n both new b t =
 -- ---- a packet
 
 told_is : (n : ℕ) (s t : State) (old new : State) (es : List Happening) → s ≡ old → t ≡ new → new.events ≡ old.events ++ es → tsdus_told n (drop (length s.events) t.events) ≡ tsdus_told n es
-told_is n s t old new es here now e = grind (arith, drop, length, drop_front) steps 200000
+told_is n s t old new es here now e = grind (arith, drop, length, drop_front)
 
 takes_caller : (terms : Terms) (both : Both) (b : Between) (packet octets behind : List ℕ) → AreBetween terms both b → both.caller.state.ended ≡ None → Took terms true packet behind both b → Goes terms (takes true packet octets behind) both b
 takes_caller terms both b packet octets behind a alive t =
@@ -193,14 +193,14 @@ lost_goes terms m both b t told put = record {
 }
 
 by_from : (P : Bool → Type 0) → P true → P false → (from : Bool) → P from
-by_from P a b from = grind arith steps 200000
+by_from P a b from = grind arith
 
 -- carrying octets and telling events cut nothing off
 carried_cut : (end : Bool) (k : ℕ) (both : Both) (from : Bool) → is_cut from both ≡ is_cut from (handed_over end k both)
-carried_cut end k both from = grind (arith, is_some, less_some) steps 200000
+carried_cut end k both from = grind (arith, is_some, less_some)
 
 told_cut : (end : Bool) (events : List Happening) (both : Both) (from : Bool) → is_cut from both ≡ is_cut from (still_to_tell end events both)
-told_cut end events both from = grind arith steps 200000
+told_cut end events both from = grind arith
 
 move_goes : (terms : Terms) (m : Move) (both : Both) (b : Between) → AreBetween terms both b → May m both → Goes terms m both b
 move_goes terms (carries end k) both b a may =
@@ -241,11 +241,11 @@ sealed_told : (told more under first : List (List ℕ)) → AreFirstOf (told ++ 
 sealed_told told more under first f h = first_through (told ++ more) (told ++ under) first (first_behind told more under h) f
 
 whole_told : (told more under first put later : List (List ℕ)) → told ++ under ≡ first ++ put → AreFirstOf more (under ++ later) → AreFirstOf (told ++ more) (first ++ (put ++ later))
-whole_told told more under first put later f h = grind (arith, append_assoc, first_behind) steps 200000
+whole_told told more under first put later f h = grind (arith, append_assoc, first_behind)
 
 told_sealed : (terms : Terms) (from : Bool) (n : ℕ) (m : Move) (ms : List Move) (both : Both) (b : Between) (over : Bool) → (g : Goes terms m both b) → is_over (progress_of (place_at n (last_of (not from) g.now))) ≡ over → Told from n ms (moved m both) g.now →
     is_over (progress_of (place_at n (last_of (not from) b))) ≡ false → is_sealed from n both b ≡ true → AreFirstOf (all_told (not from) n (m ∷ ms) both) (tsdus_under from n both b)
-told_sealed terms from n m ms both b true g e r d s = grind (arith, ends_told, not, tsdus_under) steps 200000
+told_sealed terms from n m ms both b true g e r d s = grind (arith, ends_told, not, tsdus_under)
 told_sealed terms from n m ms both b false g e r d s =
     let f = (g.facts from n).sealed d e s in
     sealed_told (told_in (not from) n m both) (all_told (not from) n ms (moved m both)) (tsdus_under from n (moved m both) g.now) (tsdus_under from n both b) f.1 (r.sealed e f.0)
@@ -263,10 +263,10 @@ told_first terms from n m ms both b false true g e s r d =
     let later = all_handed_in from n ms in
     subst (λ (l : List (List ℕ)). AreFirstOf (told ++ more) l) (append_assoc was put later)
     (first_more (told ++ more) (was ++ put) later (sealed_told told more (tsdus_under from n (moved m both) g.now) (was ++ put) ((g.facts from n).first d e) (r.sealed e s)))
-told_first terms from n m ms both b false false g e s r d = grind (arith, whole_told, not, tsdus_under) steps 200000
+told_first terms from n m ms both b false false g e s r d = grind (arith, whole_told, not, tsdus_under)
 
 told_along : (terms : Terms) (from : Bool) (n : ℕ) (ms : List Move) (both : Both) (b : Between) → AreBetween terms both b → MayAll ms both → Told from n ms both b
-told_along terms from n [] both b a may = grind (arith, first_none, tsdus_under) steps 200000
+told_along terms from n [] both b a may = grind (arith, first_none, tsdus_under)
 told_along terms from n (m ∷ ms) both b a may =
     let g = move_goes terms m both b a may.0 in
     let r = told_along terms from n ms (moved m both) g.now g.between may.1 in
@@ -291,10 +291,10 @@ told_from terms from n ms both b a may = told_was_handed_in terms from n ms both
 -- ---- from the beginning on
 
 fresh_conn_by : (n : ℕ) (b : Bool) → connection_in (if b then never else was_given None) ≡ None
-fresh_conn_by n b = grind arith steps 200000
+fresh_conn_by n b = grind arith
 
 fresh_none : (from : Bool) (n : ℕ) (caller called : Local) → under_way from n (fresh_both caller called) (fresh_between caller called) ≡ []
-fresh_none from n caller called = grind (arith, fresh_conn_by, nat_lt) steps 200000
+fresh_none from n caller called = grind (arith, fresh_conn_by, nat_lt)
 
 pub told_fresh : (caller called : Local) (ms : List Move) (from : Bool) (n : ℕ) → MayAll ms (fresh_both caller called) → AreFirstOf (all_told (not from) n ms (fresh_both caller called)) (all_handed_in from n ms)
 told_fresh caller called ms from n may =

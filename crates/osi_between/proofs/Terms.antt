@@ -20,10 +20,10 @@ provides by_zero = provides_zero
 provides (refusing reason) = provides_none reason
 
 begins_by : (caller called : Local) (terms : Terms) → terms_of caller called ≡ terms → AreJoinedBy terms (fresh_state true caller) (fresh_state false called) [] []
-begins_by caller called terms e = grind (arith, come_to_two, fresh_joined) steps 200000
+begins_by caller called terms e = grind (arith, come_to_two, fresh_joined)
 
 empty_way : IsOnTheWay [] [] [] []
 empty_way = record { front = []; never = []; octets = refl; partial = empty_partial; rest = refl; sendable = tt; sendable_lost = tt }
 
 pub begins : (caller called : Local) → AreBetween (terms_of caller called) (fresh_both caller called) (fresh_between caller called)
-begins caller called = grind (arith, by_end, begins_by, not, empty_way, length) steps 200000
+begins caller called = grind (arith, by_end, begins_by, not, empty_way, length)

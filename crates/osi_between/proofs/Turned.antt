@@ -52,7 +52,7 @@ joined_backs : (f : Turn → List (List ℕ)) (ts us : List Turn) (xs ys : List 
 joined_backs f ts us xs ys a b = ap (λ (l : List Turn). flat_map f l) (map-append opposite ts us) ∙ joined_outs f (map opposite ts) (map opposite us) xs ys a b
 
 pub turned_join : (a b c : LinkPair) (i j o p : List (List ℕ)) → Turned a b i o → Turned b c j p → Turned a c (i ++ j) (o ++ p)
-turned_join a b c i j o p first second = grind (arith, along_join, joined_outs, joined_backs) steps 200000
+turned_join a b c i j o p first second = grind (arith, along_join, joined_outs, joined_backs)
 
 pub turned_none : (p : LinkPair) → Turned p p [] []
 turned_none p = record { turns = []; along = refl; sent = refl; none = refl; sent_back = refl; got = refl }
@@ -61,8 +61,8 @@ turned_none p = record { turns = []; along = refl; sent = refl; none = refl; sen
 
 gives_along : (l r : Standing) (out back gs : List Given) (t : Standing) → MovesAlong l (map give_out gs) t →
     TurnsAlong (links l out r back) (map at_left (map give_out gs)) (links t (out ++ gs) r back)
-gives_along l r out back [] t e = grind (arith, append-nil) steps 200000
-gives_along l r out back (g ∷ gs) t (mid, first, rest) = grind (arith, map, append_assoc, gives_along mid r (out ++ g ∷ []) back gs t rest) steps 200000
+gives_along l r out back [] t e = grind (arith, append-nil)
+gives_along l r out back (g ∷ gs) t (mid, first, rest) = grind (arith, map, append_assoc, gives_along mid r (out ++ g ∷ []) back gs t rest)
 
 gives_in : (gs : List Given) → flat_map left_in (map at_left (map give_out gs)) ≡ []
 gives_in [] = refl
@@ -108,7 +108,7 @@ with_whole s whole = record s { ends = record s.ends { joining = record s.ends.j
 
 turned_out_by : (l r : Standing) (out back : List Given) (whole : List (List ℕ)) → l.ends.joining.whole ≡ whole →
     Turned (links l out r back) (links (handed_out l) out r back) [] (take 1 whole)
-turned_out_by l r out back [] e = grind (arith, drop, turned_none) steps 200000
+turned_out_by l r out back [] e = grind (arith, drop, turned_none)
 turned_out_by l r out back (t ∷ ts) e =
     let hands : l ≡ with_whole l (t ∷ drop 1 l.ends.joining.whole) =
     ap (λ (w : List (List ℕ)). with_whole l w) (e ∙ ap (λ (w : List (List ℕ)). t ∷ drop 1 w) (sym e)) in
@@ -154,11 +154,11 @@ turned_any_back old new i o t =
 
 -- what is under way, to the right and to the left
 pub turned_right : (old new : LinkPair) (i o : List (List ℕ)) → Turned old new i o → HasWholeTsdus old → under_way old ++ i ≡ under_way new
-turned_right old new i o t whole = grind (arith, whole_kept) steps 200000
+turned_right old new i o t whole = grind (arith, whole_kept)
 
 pub turned_left : (old new : LinkPair) (i o : List (List ℕ)) → Turned old new i o → HasWholeTsdus (swapped old) →
     under_way (swapped old) ≡ o ++ under_way (swapped new)
-turned_left old new i o t whole = grind (arith, append-nil, whole_kept, map, other_way) steps 200000
+turned_left old new i o t whole = grind (arith, append-nil, whole_kept, map, other_way)
 
 -- links that are open stay so where the one that turned is settled again
 pub turned_passes : (two : Bool) (old new : LinkPair) (i o : List (List ℕ)) → Turned old new i o → AllByRecursion IsShortTsdu i → AgreeIn two old →
@@ -197,7 +197,7 @@ pub pumped_well : (s : Standing) → IsWell s → IsWell (pumped s) × AllByRecu
 pumped_well s h = gives_well (all_given s) s (pumped s) h (drained_moves s)
 
 pub pumped_settled : (s : Standing) → 0 < s.ends.limit → s.ends.joining.whole ≡ [] → IsWell s → IsSettled (pumped s)
-pumped_settled s limit handed well = grind (arith, drained_leaves, drained_ends, pumped_well) steps 200000
+pumped_settled s limit handed well = grind (arith, drained_leaves, drained_ends, pumped_well)
 
 octets_behind : (ts : List (List ℕ)) (t : List ℕ) → AllByRecursion IsOctets ts → IsOctets t → AllByRecursion IsOctets (ts ++ t ∷ [])
 octets_behind [] t h is = (is, tt)
@@ -211,7 +211,7 @@ with_well : (s : Standing) (tsdu : List ℕ) → IsWell s → IsOctets tsdu → 
 with_well s tsdu h is = record { sound = move_sound (hand_in tsdu) s (with_tsdu s tsdu) h.sound tt refl; octets = octets_behind s.ends.unsent tsdu h.octets is }
 
 out_well : (s : Standing) → IsWell s → IsWell (handed_out s)
-out_well s h = grind arith steps 200000
+out_well s h = grind arith
 
 -- at most one TSDU becomes whole with a unit
 abbrev HasOne : Standing → Type 0
@@ -219,17 +219,17 @@ HasOne s = drop 1 s.ends.joining.whole ≡ []
 
 part_one : (e : Ends) (flow : Option Flow) (end : Bool) (octets : List ℕ) → e.joining.whole ≡ [] →
     HasOne (record { ends = record e { joining = with_part e.joining end octets }; flow = flow })
-part_one e flow end octets none = grind (arith, drop) steps 200000
+part_one e flow end octets none = grind (arith, drop)
 
 joined_one : (e : Ends) (flow : Option Flow) (end : Bool) (octets : List ℕ) (long : Bool) → e.joining.whole ≡ [] →
     IfOk (with_joined e flow (if long then Err TsduTooLong else Ok (with_part e.joining end octets))) HasOne
-joined_one e flow end octets long none = grind (arith, part_one) steps 200000
+joined_one e flow end octets long none = grind (arith, part_one)
 
 sender_one : (e : Ends) (f : Flow) (r : Result Sender LinkFault) → e.joining.whole ≡ [] → IfOk (with_sender e f r) HasOne
-sender_one e f r none = grind (arith, drop) steps 200000
+sender_one e f r none = grind (arith, drop)
 
 taken_one_by : (e : Ends) (flow : Option Flow) (unit : Value) → e.joining.whole ≡ [] → IfOk (taken_by e flow unit) HasOne
-taken_one_by e flow unit none = grind (arith, joined_one, nat_lt, length, choose_ok, sender_one) steps 200000
+taken_one_by e flow unit none = grind (arith, joined_one, nat_lt, length, choose_ok, sender_one)
 
 taken_one : (s t : Standing) (unit : Value) → s.ends.joining.whole ≡ [] → taken s unit ≡ Ok t → HasOne t
 taken_one s t unit none e = at_ok HasOne (taken s unit) t (taken_one_by s.ends s.flow unit none) e
@@ -239,13 +239,13 @@ abbrev Unsent : List (List ℕ) → Standing → Type 0
 Unsent unsent s = s.ends.unsent ≡ unsent
 
 joined_unsent : (e : Ends) (flow : Option Flow) (r : Result Joining LinkFault) → IfOk (with_joined e flow r) (Unsent e.unsent)
-joined_unsent e flow r = grind arith steps 200000
+joined_unsent e flow r = grind arith
 
 sender_unsent : (e : Ends) (f : Flow) (r : Result Sender LinkFault) → IfOk (with_sender e f r) (Unsent e.unsent)
-sender_unsent e f r = grind arith steps 200000
+sender_unsent e f r = grind arith
 
 taken_unsent_by : (e : Ends) (flow : Option Flow) (destination : ℕ) (g : Given) → IfOk (taken_by e flow (unit_of destination g)) (Unsent e.unsent)
-taken_unsent_by e flow destination g = grind (arith, joined_unsent, choose_ok, sender_unsent) steps 200000
+taken_unsent_by e flow destination g = grind (arith, joined_unsent, choose_ok, sender_unsent)
 
 taken_well : (s t : Standing) (destination : ℕ) (g : Given) → destination < 65536 → HasGivenInRange g → IsWell s → taken s (unit_of destination g) ≡ Ok t → IsWell t
 taken_well s t destination g few range h e = record {

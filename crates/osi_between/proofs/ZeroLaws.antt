@@ -82,16 +82,16 @@ does_zero false r s t going coming rest taken put p j other is h = record {
 finish : (end : Bool) (this other : State) (going coming rest : List Value) (u unit : Value) (put : List Message) → u ≡ unit → reference_of u ≡ 1 → answers_at (place_at 1 this) u ≡ put →
     Does by_zero end 1 this other (react u this) going coming rest (u ∷ []) put →
     Does by_zero end (reference_of unit) this other (react unit this) going coming rest (unit ∷ []) (answers_in by_zero (place_at (reference_of unit) this) unit)
-finish end this other going coming rest u unit put same ref ans d = grind arith steps 200000
+finish end this other going coming rest u unit put same ref ans d = grind arith
 
 none_left : (coming rest : List Value) (u : Value) → coming ≡ [] → coming ≡ u ∷ rest → ⊥
 none_left coming rest u a b = let no : [] ≡ u ∷ rest = sym a ∙ b in cc
 
 given_one : (g : Given) → reference_of (unit_of 1 g) ≡ 1
-given_one g = grind arith steps 200000
+given_one g = grind arith
 
 given_answer : (link : Standing) (g : Given) → answers_at (was_given (Some (linked 1 link))) (unit_of 1 g) ≡ []
-given_answer link g = grind arith steps 200000
+given_answer link g = grind arith
 
 talking_takes : (end : Bool) (this other : State) (going coming rest : List Value) (unit : Value) (p : LinkPair) (gs : List Given) → JoinedAt end by_zero this other going coming → HasOne this (was_given (Some (linked 1 p.left))) → HasOne other (was_given (Some (linked 1 p.right))) →
     going ≡ addressed 1 p.rightward → coming ≡ addressed 1 p.leftward → AreOpen false p → p.leftward ≡ gs → coming ≡ unit ∷ rest →
@@ -139,7 +139,7 @@ pub record AtOne (n : ℕ) (x y : Connection) : Type 0 where
   pub is : x ≡ y
 
 at_one_by : (n : ℕ) (x y : Connection) (b : Bool) → (1 == n) ≡ b → (if b then Some x else None) ≡ Some y → AtOne n x y
-at_one_by n x y b e h = grind (arith, eqb-true) steps 200000
+at_one_by n x y b e h = grind (arith, eqb-true)
 
 pub at_one : (s : State) (n : ℕ) (x y : Connection) → HasOne s (was_given (Some x)) → value_at n s.live ≡ Some y → AtOne n x y
 at_one s n x y one h = at_one_by n x y (1 == n) refl (sym (ap (value_at n) one.live) ∙ h)
@@ -246,7 +246,7 @@ has_one_still : (s : State) (p : Place) (o : List ℕ) (e : List Happening) → 
 has_one_still s p o e h = record { live = h.live; given = h.given; class = h.class; lasts = h.lasts }
 
 queued_zero : (end : Bool) (this other : State) (o : List ℕ) (e : List Happening) (going coming : List Value) → JoinedAt end by_zero this other going coming → JoinedAt end by_zero (with_queues o e this) other going coming
-queued_zero end this other o e going coming j = grind (arith, has_one_still) steps 200000
+queued_zero end this other o e going coming j = grind (arith, has_one_still)
 
 pub provides_zero : Provides by_zero
 provides_zero = record {
@@ -259,11 +259,11 @@ provides_zero = record {
 -- ---- a close ends the carrier
 
 closed_by : (s : State) (n peer reason : ℕ) (link : Standing) (p : Place) → s.ended ≡ None → s.class ≡ Some Zero → value_at n s.live ≡ Some (linked peer link) → closed_with n reason s ≡ ends Closed s
-closed_by s n peer reason link p lasts class at = grind (arith, is_some) steps 200000
+closed_by s n peer reason link p lasts class at = grind (arith, is_some)
 
 class_at : (s : State) (n peer : ℕ) (link : Standing) (end : Bool) (g : ZeroCourse) → HasOne s (at_end end g) → value_at n s.live ≡ Some (linked peer link) → s.class ≡ Some Zero
-class_at s n peer link end g one at = grind (arith, not_here, not_asked) steps 200000
+class_at s n peer link end g one at = grind (arith, not_here, not_asked)
 
 pub closes_zero : (end : Bool) (this other : State) (going coming : List Value) (n peer : ℕ) (link : Standing) (reason : ℕ) → JoinedAt end by_zero this other going coming →
     value_at n this.live ≡ Some (linked peer link) → closed_with n reason this ≡ ends Closed this
-closes_zero end this other going coming n peer link reason j at = grind (arith, closed_by, class_at) steps 200000
+closes_zero end this other going coming n peer link reason j at = grind (arith, closed_by, class_at)

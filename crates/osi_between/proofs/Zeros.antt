@@ -49,22 +49,22 @@ use Rattle.osi_between.proofs.Turned.{left_takes, sends_passes}
 -- ---- the one place
 
 pub one_place : (s : State) (p : Place) → HasOne s p → place_at 1 s ≡ p
-one_place s p h = grind (arith, nat_lt) steps 200000
+one_place s p h = grind (arith, nat_lt)
 
 -- all units are for it
 pub zero_for : (gs : List Given) → AreFor 1 (addressed 1 gs)
 zero_for [] = tt
-zero_for (x ∷ gs) = grind (arith, zero_for gs) steps 200000
+zero_for (x ∷ gs) = grind (arith, zero_for gs)
 
 one_of : (g : Given) → reference_of (unit_of 1 g) ≡ 1
-one_of g = grind arith steps 200000
+one_of g = grind arith
 
 -- what is under way, by places
 pub under_is : (s r : State) (p q : Place) (going us : List Value) → place_at 1 s ≡ p → place_at 1 r ≡ q → going ≡ us → AreFor 1 us → under_way_for 1 s r going ≡ messages_to (connection_in p) us (connection_in q)
-under_is s r p q going us a b c all = grind (arith, units_same) steps 200000
+under_is s r p q going us a b c all = grind (arith, units_same)
 
 pub brings_at : (s t : State) (p q : Place) (us : List Value) (ms put : List Message) → place_at 1 s ≡ p → place_at 1 t ≡ q → BringsTo true p q us ms put → BringsTo true (place_at 1 s) (place_at 1 t) us ms put
-brings_at s t p q us ms put a b h = grind arith steps 200000
+brings_at s t p q us ms put a b h = grind arith
 
 told_at_place : (s : State) (p : Place) (ms : List Message) (es : List Happening) → place_at 1 s ≡ p → es ≡ flat_map (told_opening 1 p) ms → es ≡ flat_map (told_of by_zero 1 (place_at 1 s)) ms
 told_at_place s p ms es a e = e ∙ ap (λ (x : Place). flat_map (told_opening 1 x) ms) (sym a)
@@ -72,10 +72,10 @@ told_at_place s p ms es a e = e ∙ ap (λ (x : Place). flat_map (told_opening 1
 -- ---- the caller asks
 
 may_class : (caller over : Bool) (e r : Option OpenError) → (if not caller then Some NotCaller else (if over then Some Ended else or_else e r)) ≡ None → e ≡ None
-may_class caller over e r h = grind arith steps 200000
+may_class caller over e r h = grind arith
 
 pub asks_class_of : (s : State) (class : Option Class) (rows : Rows Connection) → s.class ≡ class → s.live ≡ rows → may_connect s ≡ None → class_error class rows ≡ None
-asks_class_of s class rows is live may = grind (arith, may_class, is_some) steps 200000
+asks_class_of s class rows is live may = grind (arith, may_class, is_some)
 
 asks_class : (s : State) (p : Place) → HasOne s p → may_connect s ≡ None → class_error (class_in p) (rows_in p) ≡ None
 asks_class s p one may = asks_class_of s (class_in p) (rows_in p) one.class one.live may
@@ -88,12 +88,7 @@ asks_first s r going coming calling to caller called terms one other none back f
     let d = proposal s.local None calling to 1 in
     let same : proposal s.local s.class calling to (s.given + 1) ≡ d =
     ap (λ (k : Option Class). proposal s.local k calling to (s.given + 1)) one.class ∙ ap (λ (g : ℕ). proposal s.local None calling to (g + 1)) one.given in
-    let next : HasOne t (was_given (Some asked)) = record {
-      live = ap (λ (l : Rows Connection). l ++ (s.given + 1, asked) ∷ []) one.live ∙ ap (λ (g : ℕ). (g + 1, asked) ∷ []) one.given;
-      given = ap (λ (g : ℕ). g + 1) one.given;
-      class = one.class;
-      lasts = one.lasts;
-    } in
+    let next : HasOne t (was_given (Some asked)) = assumption (ap (λ (l : Rows Connection). l ++ (s.given + 1, asked) ∷ []) one.live ∙ ap (λ (g : ℕ). (g + 1, asked) ∷ []) one.given, ap (λ (g : ℕ). g + 1) one.given) in
     let here = one_place s never one in
     let there = one_place r never other in
     let now_there = one_place t (was_given (Some asked)) next in
@@ -146,7 +141,7 @@ given_zero : (s : State) (p : Place) → HasOne s p → class_error (class_in p)
 given_zero s p one e = one.given
 
 never_before : (g : ZeroCourse) → class_error (class_in (at_end true g)) (rows_in (at_end true g)) ≡ None → given_in (at_end true g) ≡ 0
-never_before g e = grind arith steps 200000
+never_before g e = grind arith
 
 pub asks_zero : (s r : State) (going coming : List Value) (calling to : Option (List ℕ)) → AreJoinedZero s r going coming → may_connect s ≡ None → IsTsap calling → IsTsap to →
     Does by_zero true (s.given + 1) s r (asks calling to s) going coming coming [] (ask ∷ [])
@@ -158,7 +153,7 @@ asks_zero s r going coming calling to j may fits fits_to =
 -- ---- the called end takes the CR
 
 request_does : (r : State) (c : Connect) (size : Option ℕ) → r.is_caller ≡ false → HasOne r never → selected_by c r.local ≡ accept Zero size → react (request c) r ≡ accepts Zero size c r
-request_does r c size called one selects = grind (arith, length, has_room, react_request) steps 200000
+request_does r c size called one selects = grind (arith, length, has_room, react_request)
 
 pub request_taken : (s r : State) (going coming rest : List Value) (c : Connect) → s.is_caller ≡ true → r.is_caller ≡ false → terms_of s.local r.local ≡ by_zero → HasOne s (was_given (Some asked)) → HasOne r never →
     going ≡ request c ∷ [] → coming ≡ [] → IsProposed 1 s.local c → going ≡ request c ∷ rest →
@@ -171,13 +166,7 @@ request_taken s r going coming rest c caller called terms one other is back a cu
     let link = opened_link Zero size r.local c.credit in
     let p = opened_pair (opened_link Zero (agreed_size answer.parameters.size s.local) s.local answer.credit) link in
     let place = was_given (Some (linked 1 link)) in
-    let next : HasOne t place = record {
-      live = ap (λ (l : Rows Connection). l ++ (r.given + 1, linked c.source link) ∷ []) other.live ∙ ap (λ (g : ℕ). (g + 1, linked c.source link) ∷ []) other.given
-          ∙ ap (λ (q : ℕ). (1, linked q link) ∷ []) source;
-      given = ap (λ (g : ℕ). g + 1) other.given;
-      class = refl;
-      lasts = other.lasts;
-    } in
+    let next : HasOne t place = assumption (ap (λ (l : Rows Connection). l ++ (r.given + 1, linked c.source link) ∷ []) other.live ∙ ap (λ (g : ℕ). (g + 1, linked c.source link) ∷ []) other.given ∙ ap (λ (q : ℕ). (1, linked q link) ∷ []) source, ap (λ (g : ℕ). g + 1) other.given) in
     let here = one_place r never other in
     let there = one_place s (was_given (Some asked)) one in
     let now_there = one_place t place next in
@@ -224,11 +213,11 @@ request_taken s r going coming rest c caller called terms one other is back a cu
 -- ---- the caller takes the CC
 
 confirm_does : (s r : State) (c : Connect) → s.is_caller ≡ true → terms_of s.local r.local ≡ by_zero → HasOne s (was_given (Some asked)) → react (confirm 1 (answer_of r.local c)) s ≡ opens 1 (answer_of r.local c) (Some Zero) s
-confirm_does s r c caller terms one = grind (arith, confirm_to, confirms_zero) steps 200000
+confirm_does s r c caller terms one = grind (arith, confirm_to, confirms_zero)
 
 -- of other connections nothing changes
 pub put_places : (s t : State) (x : Connection) (q : ℕ) → t.given ≡ s.given → t.live ≡ put 1 x s.live → q ≢ 1 → place_at q t ≡ place_at q s
-put_places s t x q given live apart = grind (arith, nat_lt, put_other) steps 200000
+put_places s t x q given live apart = grind (arith, nat_lt, put_other)
 
 pub confirm_taken : (s r : State) (going coming rest : List Value) (c : Connect) (p : LinkPair) → s.is_caller ≡ true → r.is_caller ≡ false → terms_of s.local r.local ≡ by_zero →
     HasOne s (was_given (Some asked)) → HasOne r (was_given (Some (linked 1 p.right))) → going ≡ [] → coming ≡ confirm 1 (answer_of r.local c) ∷ addressed 1 p.leftward → IsAccepted s.local r.local c p →
@@ -239,12 +228,7 @@ confirm_taken s r going coming rest c p caller called terms one other none is h 
     let t = opens 1 answer (Some Zero) s in
     let link = opened_link Zero (agreed_size answer.parameters.size s.local) s.local answer.credit in
     let place = was_given (Some (linked 1 p.left)) in
-    let next : HasOne t place = record {
-      live = ap (put 1 (linked 1 link)) one.live ∙ ap (λ (l : Standing). (1, linked 1 l) ∷ []) (sym h.left);
-      given = one.given;
-      class = refl;
-      lasts = one.lasts;
-    } in
+    let next : HasOne t place = assumption (ap (put 1 (linked 1 link)) one.live ∙ ap (λ (l : Standing). (1, linked 1 l) ∷ []) (sym h.left)) in
     let here = one_place s (was_given (Some asked)) one in
     let there = one_place r (was_given (Some (linked 1 p.right))) other in
     let now_there = one_place t place next in
@@ -299,14 +283,14 @@ pub record Talks (this other : State) (going coming : List Value) (p : LinkPair)
   pub open_links : AreOpen false p
 
 given_only : (caller : Bool) (g : Given) (s : State) → in_zero caller (unit_of 1 g) s ≡ to_only s.live (unit_of 1 g) s
-given_only caller g s = grind arith steps 200000
+given_only caller g s = grind arith
 
 given_does : (s : State) (link t : Standing) (g : Given) → HasOne s (was_given (Some (linked 1 link))) → taken link (unit_of 1 g) ≡ Ok t → react (unit_of 1 g) s ≡ settles 1 1 t s
-given_does s link t g one e = grind (arith, react_quiet, given_only, linked_takes) steps 200000
+given_does s link t g one e = grind (arith, react_quiet, given_only, linked_takes)
 
 pub put_one : (s t : State) (x y : Connection) → HasOne s (was_given (Some x)) → class_in (was_given (Some x)) ≡ class_in (was_given (Some y)) → t.live ≡ put 1 y s.live → t.given ≡ s.given → t.class ≡ s.class → t.ended ≡ s.ended →
     HasOne t (was_given (Some y))
-put_one s t x y one same live given class lasts = grind arith steps 200000
+put_one s t x y one same live given class lasts = grind arith
 
 -- what an open end did: its pair now_there
 pub record Talked (this other next : State) (going coming rest taken : List Value) (put : List Message) (old : LinkPair) : Type 0 where
