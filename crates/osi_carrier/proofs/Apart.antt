@@ -15,7 +15,7 @@ put_row {X} r q x y rows b e = ap (λ (c : Bool). if◌then◌else◌ {A = Rows 
 
 put_here_by : {X : Type 0} (r q : ℕ) (x y z : X) (rows : Rows X) (b : Bool) → (q == r) ≡ b → (value_at r rows ≡ Some z → value_at r (put r x rows) ≡ Some x) →
     value_at r ((q, y) ∷ rows) ≡ Some z → value_at r (put r x ((q, y) ∷ rows)) ≡ Some x
-put_here_by {X} r q x y z rows b e more h = grind (arith, put_row, found) steps 200000
+put_here_by {X} r q x y z rows b e more h = grind (arith, put_row, found)
 
 pub put_here : {X : Type 0} (r : ℕ) (x z : X) (rows : Rows X) → value_at r rows ≡ Some z → value_at r (put r x rows) ≡ Some x
 put_here r x z [] h = cc
@@ -28,11 +28,11 @@ without_row {X} r q y rows b e = ap (λ (c : Bool). if◌then◌else◌ {A = Row
 
 without_here_by : {X : Type 0} (r q : ℕ) (y : X) (rows : Rows X) (b : Bool) → (q == r) ≡ b → value_at q rows ≡ None → value_at r (without r rows) ≡ None →
     value_at r (without r ((q, y) ∷ rows)) ≡ None
-without_here_by {X} r q y rows b e none more = grind (arith, without_row, eqb-true, found) steps 200000
+without_here_by {X} r q y rows b e none more = grind (arith, without_row, eqb-true, found)
 
 -- a reference that is not above the first has no row
 absent_by : {X : Type 0} (m n q : ℕ) (y : X) (rows : Rows X) (b : Bool) → (q == m) ≡ b → m ≤ n → n < q → value_at m rows ≡ None → value_at m ((q, y) ∷ rows) ≡ None
-absent_by m n q y rows b e le above more = grind (arith, eqb-true, found) steps 200000
+absent_by m n q y rows b e le above more = grind (arith, eqb-true, found)
 
 pub absent : {X : Type 0} (m n : ℕ) (rows : Rows X) → m ≤ n → RiseFrom n rows → value_at m rows ≡ None
 absent m n [] le h = refl
@@ -58,7 +58,7 @@ push_here r x ((q, y) ∷ rows) h = push_here_by r q x y rows (q == r) refl (pus
 
 -- a reference above all that were given has no row
 beyond_by : {X : Type 0} (m n q : ℕ) (y : X) (rows : Rows X) (b : Bool) → (q == m) ≡ b → q ≤ n → n < m → value_at m rows ≡ None → value_at m ((q, y) ∷ rows) ≡ None
-beyond_by m n q y rows b e le above more = grind (arith, eqb-true, found) steps 200000
+beyond_by m n q y rows b e le above more = grind (arith, eqb-true, found)
 
 pub beyond : {X : Type 0} (m n : ℕ) (rows : Rows X) → AreUpTo n rows → n < m → value_at m rows ≡ None
 beyond m n [] up above = refl

@@ -9,7 +9,7 @@ use Rattle.osi_carrier.specs.Rows.{Rows, value_at, put, without}
 -- the head has this reference, or not
 put_other_by : {X : Type 0} (q r p : ℕ) (x y : X) (rows : Rows X) (b c : Bool) → (p == r) ≡ b → (p == q) ≡ c → q ≢ r →
     value_at q (put r x rows) ≡ value_at q rows → value_at q (put r x ((p, y) ∷ rows)) ≡ value_at q ((p, y) ∷ rows)
-put_other_by q r p x y rows b c e f other more = grind (arith, eqb-true) steps 200000
+put_other_by q r p x y rows b c e f other more = grind (arith, eqb-true)
 
 pub put_other : {X : Type 0} (q r : ℕ) (x : X) (rows : Rows X) → q ≢ r → value_at q (put r x rows) ≡ value_at q rows
 put_other q r x [] other = refl
@@ -17,7 +17,7 @@ put_other q r x ((p, y) ∷ rows) other = put_other_by q r p x y rows (p == r) (
 
 without_other_by : {X : Type 0} (q r p : ℕ) (y : X) (rows : Rows X) (b c : Bool) → (p == r) ≡ b → (p == q) ≡ c → q ≢ r →
     value_at q (without r rows) ≡ value_at q rows → value_at q (without r ((p, y) ∷ rows)) ≡ value_at q ((p, y) ∷ rows)
-without_other_by q r p y rows b c e f other more = grind (arith, eqb-true) steps 200000
+without_other_by q r p y rows b c e f other more = grind (arith, eqb-true)
 
 pub without_other : {X : Type 0} (q r : ℕ) (rows : Rows X) → q ≢ r → value_at q (without r rows) ≡ value_at q rows
 without_other q r [] other = refl
@@ -25,10 +25,10 @@ without_other q r ((p, y) ∷ rows) other = without_other_by q r p y rows (p == 
 
 push_other_by : {X : Type 0} (q p n : ℕ) (x y : X) (rows : Rows X) (c : Bool) → (p == q) ≡ c →
     value_at q (rows ++ (n, x) ∷ []) ≡ value_at q rows → value_at q ((p, y) ∷ (rows ++ (n, x) ∷ [])) ≡ value_at q ((p, y) ∷ rows)
-push_other_by q p n x y rows c f more = grind arith steps 200000
+push_other_by q p n x y rows c f more = grind arith
 
 none_there : {X : Type 0} (q n : ℕ) (x : X) (c : Bool) → (n == q) ≡ c → q ≢ n → value_at q ((n, x) ∷ []) ≡ None
-none_there q n x c f other = grind (arith, eqb-true) steps 200000
+none_there q n x c f other = grind (arith, eqb-true)
 
 pub push_other : {X : Type 0} (q n : ℕ) (x : X) (rows : Rows X) → q ≢ n → value_at q (rows ++ (n, x) ∷ []) ≡ value_at q rows
 push_other q n x [] other = none_there q n x (n == q) refl other
@@ -38,11 +38,11 @@ push_other q n x ((p, y) ∷ rows) other = push_other_by q p n x y rows (p == q)
 
 value_none : {X : Type 0} (q p : ℕ) (y : X) (rows : Rows X) (c : Bool) → (p == q) ≡ c → value_at q ((p, y) ∷ rows) ≡ None →
     (c ≡ false) × (value_at q rows ≡ None)
-value_none q p y rows c f h = grind arith steps 200000
+value_none q p y rows c f h = grind arith
 
 put_none_by : {X : Type 0} (q r p : ℕ) (x y : X) (rows : Rows X) (b : Bool) → (p == r) ≡ b → (p == q) ≡ false → value_at q rows ≡ None →
     value_at q (put r x rows) ≡ None → value_at q (put r x ((p, y) ∷ rows)) ≡ None
-put_none_by q r p x y rows b e f h more = grind arith steps 200000
+put_none_by q r p x y rows b e f h more = grind arith
 
 pub put_none : {X : Type 0} (q r : ℕ) (x : X) (rows : Rows X) → value_at q rows ≡ None → value_at q (put r x rows) ≡ None
 put_none q r x [] h = refl
@@ -52,7 +52,7 @@ put_none q r x ((p, y) ∷ rows) h =
 
 without_none_by : {X : Type 0} (q r p : ℕ) (y : X) (rows : Rows X) (b : Bool) → (p == r) ≡ b → (p == q) ≡ false → value_at q rows ≡ None →
     value_at q (without r rows) ≡ None → value_at q (without r ((p, y) ∷ rows)) ≡ None
-without_none_by q r p y rows b e f h more = grind arith steps 200000
+without_none_by q r p y rows b e f h more = grind arith
 
 pub without_none : {X : Type 0} (q r : ℕ) (rows : Rows X) → value_at q rows ≡ None → value_at q (without r rows) ≡ None
 without_none q r [] h = refl
@@ -68,7 +68,7 @@ rise_lower m n ((r, x) ∷ rows) le h = (let above = h.0 in omega arith, h.1)
 
 put_rise_by : {X : Type 0} (n r p : ℕ) (x y : X) (rows : Rows X) (b : Bool) → (p == r) ≡ b → n < p → RiseFrom p rows → RiseFrom p (put r x rows) →
     RiseFrom n (put r x ((p, y) ∷ rows))
-put_rise_by n r p x y rows b e above h more = grind arith steps 200000
+put_rise_by n r p x y rows b e above h more = grind arith
 
 pub put_rise : {X : Type 0} (n r : ℕ) (x : X) (rows : Rows X) → RiseFrom n rows → RiseFrom n (put r x rows)
 put_rise n r x [] h = tt
@@ -89,7 +89,7 @@ push_rise n given x ((p, y) ∷ rows) le h up = (h.0, push_rise p given x rows u
 
 put_up_by : {X : Type 0} (n r p : ℕ) (x y : X) (rows : Rows X) (b : Bool) → (p == r) ≡ b → p ≤ n → AreUpTo n rows → AreUpTo n (put r x rows) →
     AreUpTo n (put r x ((p, y) ∷ rows))
-put_up_by n r p x y rows b e up h more = grind arith steps 200000
+put_up_by n r p x y rows b e up h more = grind arith
 
 pub put_up : {X : Type 0} (n r : ℕ) (x : X) (rows : Rows X) → AreUpTo n rows → AreUpTo n (put r x rows)
 put_up n r x [] h = tt
@@ -97,7 +97,7 @@ put_up n r x ((p, y) ∷ rows) h = put_up_by n r p x y rows (p == r) refl h.0 h.
 
 without_up_by : {X : Type 0} (n r p : ℕ) (y : X) (rows : Rows X) (b : Bool) → (p == r) ≡ b → p ≤ n → AreUpTo n rows → AreUpTo n (without r rows) →
     AreUpTo n (without r ((p, y) ∷ rows))
-without_up_by n r p y rows b e up h more = grind arith steps 200000
+without_up_by n r p y rows b e up h more = grind arith
 
 pub without_up : {X : Type 0} (n r : ℕ) (rows : Rows X) → AreUpTo n rows → AreUpTo n (without r rows)
 without_up n r [] h = tt
@@ -111,7 +111,7 @@ push_up n x ((p, y) ∷ rows) h = (let up = h.0 in omega arith, push_up n x rows
 
 put_length_by : {X : Type 0} (r p : ℕ) (x y : X) (rows : Rows X) (b : Bool) → (p == r) ≡ b → length (put r x rows) ≡ length rows →
     length (put r x ((p, y) ∷ rows)) ≡ length ((p, y) ∷ rows)
-put_length_by r p x y rows b e more = grind arith steps 200000
+put_length_by r p x y rows b e more = grind arith
 
 pub put_length : {X : Type 0} (r : ℕ) (x : X) (rows : Rows X) → length (put r x rows) ≡ length rows
 put_length r x [] = refl
@@ -119,7 +119,7 @@ put_length r x ((p, y) ∷ rows) = put_length_by r p x y rows (p == r) refl (put
 
 without_length_by : {X : Type 0} (r p : ℕ) (y : X) (rows : Rows X) (b : Bool) → (p == r) ≡ b → length (without r rows) ≤ length rows →
     length (without r ((p, y) ∷ rows)) ≤ length ((p, y) ∷ rows)
-without_length_by r p y rows b e more = grind (arith, length) steps 200000
+without_length_by r p y rows b e more = grind (arith, length)
 
 pub without_length : {X : Type 0} (r : ℕ) (rows : Rows X) → length (without r rows) ≤ length rows
 without_length r [] = omega arith

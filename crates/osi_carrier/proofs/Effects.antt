@@ -88,7 +88,7 @@ effect_denies r reason peer s = silent r s (denies reason peer s) refl (still r 
 
 effect_accepts : (class : Class) (size : Option ℕ) (c : Connect) (s : State) → length s.live < 64 → s.given < 65535 →
     Effect (s.given + 1) s (answers c (accept class size) None s)
-effect_accepts class size c s room left = grind arith steps 200000
+effect_accepts class size c s room left = grind arith
 
 effect_answers : (c : Connect) (selection : Selection) (held : Option Class) (s : State) → length s.live < 64 → s.given < 65535 →
     Effect (s.given + 1) s (answers c selection held s)
@@ -98,7 +98,7 @@ effect_answers c (accept Zero size) None s room left = effect_accepts Zero size 
 effect_answers c (accept Zero size) (Some class) s room left = effect_denies (s.given + 1) 136 c.source s
 
 has_room : (n given : ℕ) (b d : Bool) → nat_le 64 n ≡ b → nat_le 65535 given ≡ d → (b || d) ≡ false → (n < 64) × (given < 65535)
-has_room n given b d e f h = grind (arith, nat_tests) steps 200000
+has_room n given b d e f h = grind (arith, nat_tests)
 
 answers_by : (c : Connect) (s : State) (in_use full : Bool) → (full ≡ false → (length s.live < 64) × (s.given < 65535)) →
     Effect (s.given + 1) s (if in_use then denies 131 c.source s else (if full then denies 1 c.source s else answers c (selected_by c s.local) s.class s))
@@ -112,7 +112,7 @@ effect_request c s = answers_by c s (has_peer c.source s.live) (is_full s) (λ h
 -- ---- a unit for a connection
 
 effect_unknown : (r : ℕ) (unit : Value) (s : State) → Effect r s (to_unknown unit s)
-effect_unknown r (disconnect destination source reason user) s = grind (arith, silent, still) steps 200000
+effect_unknown r (disconnect destination source reason user) s = grind (arith, silent, still)
 effect_unknown r (disconnected destination source) s = effect_none r s
 effect_unknown r (request c) s = effect_end r _ s
 effect_unknown r (confirm destination c) s = effect_end r _ s
@@ -122,7 +122,7 @@ effect_unknown r (acknowledge credit destination number) s = effect_end r _ s
 effect_unknown r (error destination cause) s = effect_end r _ s
 
 effect_opens : (r : ℕ) (c : Connect) (class : Option Class) (s : State) → Effect r s (opens r c class s)
-effect_opens r c class s = grind (arith, effect_end, telling) steps 200000
+effect_opens r c class s = grind (arith, effect_end, telling)
 
 effect_refused : (r reason : ℕ) (s t : State) → t.given ≡ s.given → t.ended ≡ s.ended → t.live ≡ without r s.live → t.events ≡ s.events ++ refused r reason ∷ [] →
     Effect r s t
@@ -130,7 +130,7 @@ effect_refused r reason s t given ended live events = telling r s t (refused r r
 
 effect_asked : (r : ℕ) (unit : Value) (s : State) → Effect r s (to_asked r unit s)
 effect_asked r (confirm destination c) s = effect_opens r c (confirmed c s.local s.class) s
-effect_asked r (disconnect destination source reason user) s = grind (arith, effect_refused) steps 200000
+effect_asked r (disconnect destination source reason user) s = grind (arith, effect_refused)
 effect_asked r (error destination cause) s = effect_refused r 0 s (to_asked r (error destination cause) s) refl refl refl refl
 effect_asked r (request c) s = effect_unknown r (request c) s
 effect_asked r (disconnected destination source) s = effect_unknown r (disconnected destination source) s
@@ -141,16 +141,16 @@ effect_asked r (acknowledge credit destination number) s = effect_unknown r (ack
 -- at most one TSDU is handed out
 effect_settles : (r : ℕ) (whole : List (List ℕ)) (c : Connection) (s t : State) → t.given ≡ s.given → t.ended ≡ s.ended → t.live ≡ put r c s.live →
     t.events ≡ s.events → Effect r s (tells_of r (take 1 whole) t)
-effect_settles r whole c s t given h live events = grind (arith, silent, append-nil, telling) steps 200000
+effect_settles r whole c s t given h live events = grind (arith, silent, append-nil, telling)
 
 effect_breaks : (r peer : ℕ) (fault : LinkFault) (held : Option Class) (s : State) → Effect r s (breaks r peer fault held s)
-effect_breaks r peer fault held s = grind (arith, effect_end, telling) steps 200000
+effect_breaks r peer fault held s = grind (arith, effect_end, telling)
 
 effect_taking : (r peer : ℕ) (result : Result Standing LinkFault) (s : State) → Effect r s (taking r peer result s)
-effect_taking r peer result s = grind (arith, effect_settles, effect_breaks) steps 200000
+effect_taking r peer result s = grind (arith, effect_settles, effect_breaks)
 
 effect_leaves : (r peer reason : ℕ) (held : Option Class) (s : State) → Effect r s (leaves r peer reason held s)
-effect_leaves r peer reason held s = grind (arith, telling) steps 200000
+effect_leaves r peer reason held s = grind (arith, telling)
 
 effect_linked : (r peer : ℕ) (link : Standing) (unit : Value) (s : State) → Effect r s (to_linked r peer link unit s)
 effect_linked r peer link (disconnect destination source reason user) s = effect_leaves r peer reason s.class s
@@ -176,7 +176,7 @@ effect_closing r (acknowledge credit destination number) s = effect_none r s
 effect_closing r (error destination cause) s = effect_none r s
 
 effect_connection : (r : ℕ) (o : Option Connection) (unit : Value) (s : State) → Effect r s (to_connection r o unit s)
-effect_connection r o unit s = grind (arith, effect_unknown, effect_asked, effect_linked, effect_closing) steps 200000
+effect_connection r o unit s = grind (arith, effect_unknown, effect_asked, effect_linked, effect_closing)
 
 effect_reference : (r : ℕ) (unit : Value) (s : State) → Effect r s (to_reference r unit s)
 effect_reference r unit s = effect_connection r (value_at r s.live) unit s
@@ -233,7 +233,7 @@ effect_class (Some Zero) unit s = effect_zero s.is_caller unit s
 effect_class (Some Two) unit s = effect_two s.is_caller unit s
 
 effect_by : (over : Bool) (unit : Value) (s : State) → Effect (connection_of unit s) s (react_by over unit s)
-effect_by over unit s = grind (arith, effect_none, effect_class) steps 200000
+effect_by over unit s = grind (arith, effect_none, effect_class)
 
 pub effect : (unit : Value) (s : State) → Effect (connection_of unit s) s (react unit s)
 unfolding react
@@ -243,11 +243,11 @@ effect unit s = effect_by (is_some s.ended) unit s
 
 -- where a value was none, or the reference is another
 touched_other : (q r : ℕ) (old new : Rows Connection) → q ≢ r → Touched r old new → value_at q new ≡ value_at q old
-touched_other q r old new other h = grind (arith, put_other, without_other) steps 200000
+touched_other q r old new other h = grind (arith, put_other, without_other)
 
 how_other : (q r : ℕ) (old new : State) → q ≢ r → new.ended ≡ None → How r old new → value_at q new.live ≡ value_at q old.live
 how_other q r old new other lasts (inl kept) = touched_other q r old.live new.live other kept.live
-how_other q r old new other lasts (inr (inl joined)) = grind (arith, push_other) steps 200000
+how_other q r old new other lasts (inr (inl joined)) = grind (arith, push_other)
 how_other q r old new other lasts (inr (inr over)) = let ended = over.ended in let e : is_some new.ended ≡ false = ap is_some lasts in absurd cc
 
 pub changes_one : (unit : Value) (s : State) → (react unit s).ended ≡ None → ChangesOne (connection_of unit s) s (react unit s)
@@ -268,7 +268,7 @@ touched_none q r old new none (inr (inr same)) = ap (value_at q) same ∙ withou
 
 how_gone : (q r : ℕ) (old new : State) → q ≤ old.given → value_at q old.live ≡ None → How r old new → value_at q new.live ≡ None
 how_gone q r old new up none (inl kept) = touched_none q r old.live new.live none kept.live
-how_gone q r old new up none (inr (inl joined)) = grind (arith, push_other) steps 200000
+how_gone q r old new up none (inr (inl joined)) = grind (arith, push_other)
 how_gone q r old new up none (inr (inr over)) = ap (value_at q) over.live
 
 -- a connection that is gone stays gone
@@ -287,17 +287,17 @@ rows_of s h = record { rise = h.rise; up_to = h.up_to; live = h.live }
 
 touched_orderly : (given r : ℕ) (old new : Rows Connection) → AreOrderly given old → Touched r old new → AreOrderly given new
 touched_orderly given r old new h (inl same) = subst (AreOrderly given) (sym same) h
-touched_orderly given r old new h (inr (inl (c, same))) = grind (arith, put_length, put_rise, put_up) steps 200000
-touched_orderly given r old new h (inr (inr same)) = grind (arith, without_length, without_rise, without_up) steps 200000
+touched_orderly given r old new h (inr (inl (c, same))) = grind (arith, put_length, put_rise, put_up)
+touched_orderly given r old new h (inr (inr same)) = grind (arith, without_length, without_rise, without_up)
 
 joined_orderly : (given : ℕ) (c : Connection) (old : Rows Connection) → AreOrderly given old → length old < 64 → AreOrderly (given + 1) (old ++ (given + 1, c) ∷ [])
-joined_orderly given c old h room = grind (arith, length-append, push_rise, push_up) steps 200000
+joined_orderly given c old h room = grind (arith, length-append, push_rise, push_up)
 
 orderly_of : (s : State) → AreOrderly s.given s.live → s.given ≤ 65535 → (IsSome s.ended → s.live ≡ []) → AreNamed s → IsOrderly s
 orderly_of s h given over named = record { rise = h.rise; up_to = h.up_to; given = given; live = h.live; over = over; named = named }
 
 none_over : {A B : Type 0} (o : Option A) → is_some o ≡ false → IsSome o → B
-none_over o e h = grind arith steps 200000
+none_over o e h = grind arith
 
 -- of a carrier that has not ended
 how_orderly : (r : ℕ) (old new : State) → IsOrderly old → is_some old.ended ≡ false → How r old new → AreNamed new → IsOrderly new
@@ -310,7 +310,7 @@ how_orderly r old new h lasts (inr (inl joined)) names =
     (joined_orderly old.given joined.connection old.live (rows_of old h) joined.room)))
     (let left = joined.left in let e = joined.given in omega arith)
     (λ some. none_over old.ended lasts (subst IsSome joined.ended some)) names
-how_orderly r old new h lasts (inr (inr over)) names = grind (arith, orderly_of) steps 200000
+how_orderly r old new h lasts (inr (inr over)) names = grind (arith, orderly_of)
 
 orderly_by : (unit : Value) (s : State) (b : Bool) → is_some s.ended ≡ b → IsOrderly s → IsOrderly (react unit s)
 orderly_by unit s true over h = subst IsOrderly (sym (react_over unit s over)) h
@@ -347,14 +347,14 @@ pub record MayJoin (s : State) : Type 0 where
 
 room_free : (n given : ℕ) (b d : Bool) → nat_le 64 n ≡ b → nat_le 65535 given ≡ d → (if b then Some TooMany else (if d then Some ReferencesUsedUp else None)) ≡ None →
     (n < 64) × (given < 65535)
-room_free n given b d e f h = grind (arith, nat_tests) steps 200000
+room_free n given b d e f h = grind (arith, nat_tests)
 
 or_none : (first other : Option OpenError) → or_else first other ≡ None → other ≡ None
-or_none first other h = grind arith steps 200000
+or_none first other h = grind arith
 
 free_by : (s : State) (caller over : Bool) → is_some s.ended ≡ over →
     (if not caller then Some NotCaller else (if over then Some Ended else or_else (class_error s.class s.live) (room_error s))) ≡ None → MayJoin s
-free_by s caller over e h = grind (arith, room_free, length, nat_le, or_none) steps 200000
+free_by s caller over e h = grind (arith, room_free, length, nat_le, or_none)
 
 pub free_of : (s : State) → may_connect s ≡ None → MayJoin s
 free_of s h = free_by s s.is_caller (is_some s.ended) refl h
@@ -393,7 +393,7 @@ pub orderly_closed : (r reason : ℕ) (s : State) → IsOrderly s → IsOrderly 
 orderly_closed r reason s h = closed_by r reason (open_link r s) s h
 
 ended_at : (reason : EndReason) (s : State) (over : Bool) → IsOrderly s → IsOrderly (if over then s else ends reason s)
-ended_at reason s over h = grind (arith, orderly_end) steps 200000
+ended_at reason s over h = grind (arith, orderly_end)
 
 pub orderly_ended : (reason : EndReason) (s : State) → IsOrderly s → IsOrderly (ended_by reason s)
 orderly_ended reason s h = ended_at reason s (is_some s.ended) h
@@ -408,16 +408,16 @@ pub asks_gone : (calling called : Option (List ℕ)) (s : State) (r : ℕ) → r
 asks_gone calling called s r up none = push_other r (s.given + 1) asked s.live (λ e. omega arith) ∙ none
 
 sent_gone_by : (r : ℕ) (q : ℕ) (octets : List ℕ) (link : Option (ℕ × Standing)) (s : State) → value_at r s.live ≡ None → value_at r (sent_on q octets link s).live ≡ None
-sent_gone_by r q octets link s none = grind (arith, put_none) steps 200000
+sent_gone_by r q octets link s none = grind (arith, put_none)
 
 pub sent_gone : (q r : ℕ) (octets : List ℕ) (s : State) → value_at r s.live ≡ None → value_at r (sent q octets s).live ≡ None
 sent_gone q r octets s none = sent_gone_by r q octets (open_link q s) s none
 
 closes_gone : (r q peer reason : ℕ) (held : Option Class) (s : State) → value_at r s.live ≡ None → value_at r (closes q peer reason held s).live ≡ None
-closes_gone r q peer reason held s none = grind (arith, put_none) steps 200000
+closes_gone r q peer reason held s none = grind (arith, put_none)
 
 closed_gone_by : (r q reason : ℕ) (link : Option (ℕ × Standing)) (s : State) → value_at r s.live ≡ None → value_at r (closed_on q reason link s).live ≡ None
-closed_gone_by r q reason link s none = grind (arith, closes_gone) steps 200000
+closed_gone_by r q reason link s none = grind (arith, closes_gone)
 
 pub closed_gone : (q r reason : ℕ) (s : State) → value_at r s.live ≡ None → value_at r (closed_with q reason s).live ≡ None
 closed_gone q r reason s none = closed_gone_by r q reason (open_link q s) s none

@@ -62,7 +62,7 @@ still_over : {A : Type 0} (o p : Option A) → is_some o ≡ true → p ≡ o �
 still_over o p h e = ap is_some e ∙ h
 
 acts_over : (units : Result (List Value) TpduFault) (s : State) → is_some s.ended ≡ true → is_some (acts_by units s).ended ≡ true
-acts_over units s h = grind (arith, is_some, reacts_over) steps 200000
+acts_over units s h = grind (arith, is_some, reacts_over)
 
 packet_over : (unit : List ℕ) (s : State) → is_some s.ended ≡ true → is_some (after_packet s unit).ended ≡ true
 unfolding after_packet
@@ -77,11 +77,11 @@ map_joined [] vs = refl
 map_joined (u ∷ us) vs = ap (λ l. packet u ∷ l) (map_joined us vs)
 
 pub tells_ended : (event : Option Happening) (old new : State) → Tells event old new → new.ended ≡ old.ended
-tells_ended event old new h = grind arith steps 200000
+tells_ended event old new h = grind arith
 
 -- with no call of the user an end stays as it is
 over_call : (old : Carrying) (call : Call) (new : Carrying) → called_in call ≡ [] → is_some old.state.ended ≡ true → Calls old call new → new.state.ended ≡ old.state.ended
-over_call old call new none h h_ = grind (arith, tells_ended) steps 200000
+over_call old call new none h h_ = grind (arith, tells_ended)
 
 pub none_first : (a b : List UserCall) → a ++ b ≡ [] → (a ≡ []) × (b ≡ [])
 none_first [] b e = (refl, e)
@@ -107,13 +107,13 @@ record Lasts (old : Carrying) (octets : List ℕ) : Type 0 where
 -- packets in front of them do not end it either
 parted_lasts : (old : Carrying) (us vs more : List (List ℕ)) → us ≡ vs ++ more → (all_done (map packet us) old.state).ended ≡ None →
     (all_done (map packet more) (all_done (map packet vs) old.state)).ended ≡ None
-parted_lasts old us vs more all lasts = grind (arith, all_joined, map, map_joined) steps 200000
+parted_lasts old us vs more all lasts = grind (arith, all_joined, map, map_joined)
 
 pub never : {B : Type 0} (s : State) → is_some s.ended ≡ true → s.ended ≡ None → B
 never s over none = let e : is_some s.ended ≡ false = ap is_some none in absurd cc
 
 pub fault_behind : (at : ℕ) (r t : List ℕ) (f : TpktFault) → IsFaultOf at r f → IsFaultOf at (r ++ t) f
-fault_behind at r t f h = grind (arith, length-append, get_or_append_left, stated_length-append) steps 200000
+fault_behind at r t f h = grind (arith, length-append, get_or_append_left, stated_length-append)
 
 pub no_fault : PacketLaws → (at : ℕ) (ws : List (List ℕ)) (r t rest : List ℕ) (f : TpktFault) → IsFaultOf at r f → IsPartial rest → ArePackets ws (r ++ t) rest → ⊥
 no_fault laws at [] r t rest f fault partial h = partial_no_fault at r f (laws.front r t (subst IsPartial (sym h) partial)) fault

@@ -25,7 +25,7 @@ use Rattle.osi_carrier.proofs.AtReferences.{without_other, push_other}
 
 put_named_by : (r q : ℕ) (x y : Connection) (rows : Rows Connection) (b : Bool) → (q == r) ≡ b → references (put r x rows) ≡ references rows →
     references (put r x ((q, y) ∷ rows)) ≡ references ((q, y) ∷ rows)
-put_named_by r q x y rows b e more = grind arith steps 200000
+put_named_by r q x y rows b e more = grind arith
 
 put_named : (r : ℕ) (x : Connection) (rows : Rows Connection) → references (put r x rows) ≡ references rows
 put_named r x [] = refl
@@ -33,7 +33,7 @@ put_named r x ((q, y) ∷ rows) = put_named_by r q x y rows (q == r) refl (put_n
 
 drop_named_by : {X : Type 0} (r q : ℕ) (y : X) (rows : Rows X) (b : Bool) → (q == r) ≡ b → references (without r rows) ≡ dropped r (references rows) →
     references (without r ((q, y) ∷ rows)) ≡ dropped r (q ∷ references rows)
-drop_named_by r q y rows b e more = grind arith steps 200000
+drop_named_by r q y rows b e more = grind arith
 
 drop_named : {X : Type 0} (r : ℕ) (rows : Rows X) → references (without r rows) ≡ dropped r (references rows)
 drop_named r [] = refl
@@ -45,7 +45,7 @@ join_named r x ((q, y) ∷ rows) = ap (λ (l : List ℕ). q ∷ l) (join_named r
 
 there_by : {X Y : Type 0} (r q : ℕ) (x : X) (y : Y) (xs : Rows X) (ys : Rows Y) (b : Bool) → (q == r) ≡ b → is_some (value_at r xs) ≡ is_some (value_at r ys) →
     is_some (value_at r ((q, x) ∷ xs)) ≡ is_some (value_at r ((q, y) ∷ ys))
-there_by r q x y xs ys b e more = grind arith steps 200000
+there_by r q x y xs ys b e more = grind arith
 
 there_named : {X Y : Type 0} (r : ℕ) (xs : Rows X) (ys : Rows Y) → references xs ≡ references ys → is_some (value_at r xs) ≡ is_some (value_at r ys)
 there_named r [] [] e = refl
@@ -223,16 +223,16 @@ closed_names r reason (Some (peer, link)) s = closes_names r peer reason s.class
 -- ---- what that says
 
 pub named : (s t : State) → Naming s t → AreNamed s → AreNamed t
-named s t h h_ = grind (arith, drop_named, join_named) steps 200000
+named s t h h_ = grind (arith, drop_named, join_named)
 
 lost_by : (r q : ℕ) (s t : State) (b : Bool) → (q == r) ≡ b → IsOrderly s → t.tsaps ≡ without r s.tsaps → t.live ≡ without r s.live → IsSome (value_at q t.live) →
     value_at q t.tsaps ≡ value_at q s.tsaps
-lost_by r q s t b e orderly tsaps live there = grind (arith, eqb-true, without_here, is_some, without_other, eq-eqb) steps 200000
+lost_by r q s t b e orderly tsaps live there = grind (arith, eqb-true, without_here, is_some, without_other, eq-eqb)
 
 keeps : (s t : State) → Naming s t → IsOrderly s → KeepsTsaps s t
 keeps s t (stays tsaps live) orderly q within there = ap (value_at q) tsaps
 keeps s t (loses r tsaps live) orderly q within there = lost_by r q s t (q == r) refl orderly tsaps live there
-keeps s t (gains c ids tsaps live) orderly q within there = grind (arith, push_other) steps 200000
+keeps s t (gains c ids tsaps live) orderly q within there = grind (arith, push_other)
 keeps s t (clears tsaps live) orderly q within there = absurd (let no : true ≡ false = sym there ∙ ap (λ (l : Rows Connection). is_some (value_at q l)) live in cc)
 
 -- ---- the laws
@@ -256,7 +256,7 @@ pub closed_named : (r reason : ℕ) (s : State) → AreNamed s → AreNamed (clo
 closed_named r reason s h = named s (closed_with r reason s) (closed_names r reason (open_link r s) s) h
 
 ended_by_named : (over : Bool) (reason : EndReason) (s : State) → AreNamed s → AreNamed (if over then s else ends reason s)
-ended_by_named over reason s h = grind arith steps 200000
+ended_by_named over reason s h = grind arith
 
 pub ended_named : (reason : EndReason) (s : State) → AreNamed s → AreNamed (ended_by reason s)
 ended_named reason s h = ended_by_named (is_some s.ended) reason s h

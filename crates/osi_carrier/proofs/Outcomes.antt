@@ -39,7 +39,7 @@ abbrev pub Compared : List (List ℕ) → List (List ℕ) → List ℕ → List 
 Compared us vs q r = Further us vs q r ⊎ Further vs us r q
 
 further : (u v : List ℕ) (us vs : List (List ℕ)) (q r : List ℕ) → u ≡ v → Compared us vs q r → Compared (u ∷ us) (v ∷ vs) q r
-further u v us vs q r e h = grind arith steps 200000
+further u v us vs q r e h = grind arith
 
 pub compare : PacketLaws → (us vs : List (List ℕ)) (s r q : List ℕ) → ArePackets us s r → ArePackets vs s q → Compared us vs q r
 compare laws [] vs s r q h k = inr (record { more = vs; all = refl; packets = subst (λ l. ArePackets vs l q) h k })
@@ -84,7 +84,7 @@ abbrev Ending : State → ℕ → List ℕ → State → Type 0
 Ending old at s final = InPacket old s final ⊎ InFault old at s final
 
 after_more : (us vs more : List (List ℕ)) (old : State) → us ≡ vs ++ more → after us old ≡ after more (after vs old)
-after_more us vs more old all = grind (arith, map_joined, all_joined, map) steps 200000
+after_more us vs more old all = grind (arith, map_joined, all_joined, map)
 
 over_front : (us vs more : List (List ℕ)) (old : State) → us ≡ vs ++ more → is_some (after vs old).ended ≡ true → is_some (after us old).ended ≡ true
 over_front us vs more old all over = ap (λ (s : State). is_some s.ended) (after_more us vs more old all) ∙ packets_over more (after vs old) over
@@ -104,7 +104,7 @@ init_front (b ∷ before) (w ∷ ws) ms last m e =
 
 same_packet : (old : State) (s : List ℕ) (f g : State) (a : InPacket old s f) (b : InPacket old s g) (more : List (List ℕ)) → a.before ++ a.last ∷ [] ≡ (b.before ++ b.last ∷ []) ++ more → f ≡ g
 same_packet old s f g a b [] e = a.state ∙ ap (λ l. after l old) (e ∙ append-nil (b.before ++ b.last ∷ [])) ∙ sym b.state
-same_packet old s f g a b (m ∷ ms) e = grind (arith, init_front, never, over_front) steps 200000
+same_packet old s f g a b (m ∷ ms) e = grind (arith, init_front, never, over_front)
 
 both_packets : (old : State) (s : List ℕ) (f g : State) (a : InPacket old s f) (b : InPacket old s g) → Compared (a.before ++ a.last ∷ []) (b.before ++ b.last ∷ []) b.rest a.rest → f ≡ g
 both_packets old s f g a b (inl x) = same_packet old s f g a b x.more x.all
@@ -114,7 +114,7 @@ pub no_further : (at : ℕ) (more : List (List ℕ)) (m rest r : List ℕ) (faul
 no_further at more m rest r fault is h = end_no_packet at rest (Faulty fault) is m h.0 h.1 h.2 h.3
 
 packet_fault_by : {B : Type 0} (old : State) (at : ℕ) (s : List ℕ) (f g : State) (a : InPacket old s f) (b : InFault old at s g) (more : List (List ℕ)) → a.before ++ a.last ∷ [] ≡ b.before ++ more → ArePackets more b.rest a.rest → B
-packet_fault_by old at s f g a b [] e h = grind (arith, never, is_some, append-nil) steps 200000
+packet_fault_by old at s f g a b [] e h = grind (arith, never, is_some, append-nil)
 packet_fault_by old at s f g a b (m ∷ ms) e h = absurd (no_further _ ms m b.rest a.rest b.fault b.is h)
 
 packet_fault : {B : Type 0} (old : State) (at : ℕ) (s : List ℕ) (f g : State) (a : InPacket old s f) (b : InFault old at s g) → Compared (a.before ++ a.last ∷ []) b.before b.rest a.rest → B
@@ -122,7 +122,7 @@ packet_fault old at s f g a b (inl x) = packet_fault_by old at s f g a b x.more 
 packet_fault old at s f g a b (inr x) = never (after b.before old) (over_front b.before (a.before ++ a.last ∷ []) x.more old x.all a.over) b.lasts
 
 same_fault : (old : State) (at : ℕ) (s : List ℕ) (f g : State) (a : InFault old at s f) (b : InFault old at s g) (more : List (List ℕ)) → a.before ≡ b.before ++ more → ArePackets more b.rest a.rest → f ≡ g
-same_fault old at s f g a b [] e rests = grind (arith, one_fault, length, append-nil) steps 200000
+same_fault old at s f g a b [] e rests = grind (arith, one_fault, length, append-nil)
 same_fault old at s f g a b (m ∷ ms) e h = absurd (no_further _ ms m b.rest a.rest b.fault b.is h)
 
 both_faults : (old : State) (at : ℕ) (s : List ℕ) (f g : State) (a : InFault old at s f) (b : InFault old at s g) → Compared a.before b.before b.rest a.rest → f ≡ g
@@ -149,7 +149,7 @@ record TakesLast (old : State) (units : List (List ℕ)) : Type 0 where
   lasts : (after before old).ended ≡ None
 
 stops_not : (s : State) (over : Bool) → is_some s.ended ≡ over → stops s ≡ false → s.ended ≡ None
-stops_not s over e h = grind (arith, none_of) steps 200000
+stops_not s over e h = grind (arith, none_of)
 
 takes_last : (units : List (List ℕ)) (old new : State) → TakesPackets old units new → 0 < length units → TakesLast old units
 takes_last [] old new h some = absurd (omega arith)
@@ -206,7 +206,7 @@ ends_goes old piece fed new later (inr (inl refused)) over full =
       });
       nothing = refused.held;
     }
-ends_goes old piece fed new later (inr (inr starved)) over full = grind arith steps 200000
+ends_goes old piece fed new later (inr (inr starved)) over full = grind arith
 
 ends_feed : (old : Carrying) (piece : List ℕ) (fed : Fed) (new : Carrying) (later : List ℕ) (waiting : Bool) → waits old.state ≡ waiting → old.state.ended ≡ None → Feeds old piece fed new → is_some new.state.ended ≡ true →
     (new.state.ended ≡ Some NoMemory → ⊥) → Outcome old (old.held.octets ++ (take fed.used piece ++ later)) new.state new.held.octets
@@ -228,10 +228,10 @@ record Stays (old : Carrying) (told : List Happening) (carried : List ℕ) (new 
   held : new.held ≡ old.held
 
 stays_told : (old : Carrying) (event : Option Happening) (new : Carrying) → Tells event old.state new.state → new.held ≡ old.held → Stays old (told_in (telling event)) [] new
-stays_told old event new h held = grind arith steps 200000
+stays_told old event new h held = grind arith
 
 stays_one : (old : Carrying) (call : Call) (new : Carrying) → called_in call ≡ [] → is_some old.state.ended ≡ true → Calls old call new → Stays old (told_in call) (carried_in call) new
-stays_one old call new none h h_ = grind (arith, stays_told) steps 200000
+stays_one old call new none h h_ = grind (arith, stays_told)
 
 stays_along : (old : Carrying) (calls : List Call) (new : Carrying) → flat_map called_in calls ≡ [] → is_some old.state.ended ≡ true → CallsAlong old calls new → Stays old (flat_map told_in calls) (flat_map carried_in calls) new
 stays_along old [] new none over h = record { state = ap (λ (x : Carrying). x.state) h; held = ap (λ (x : Carrying). x.held) h }
@@ -337,10 +337,10 @@ outcome_along nothing old (call ∷ calls) new none quiet bound h over full =
 -- ---- two lists of calls
 
 some_of : {A : Type 0} (o : Option A) → (o ≡ None → ⊥) → is_some o ≡ true
-some_of o h = grind arith steps 200000
+some_of o h = grind arith
 
 ends_too : {B : Type 0} (s : State) → (s.ended ≡ None) ⊎ (s.ended ≡ Some NoMemory) → (s.ended ≡ None → ⊥) → (s.ended ≡ Some NoMemory → ⊥) → B
-ends_too s h h_ full = grind arith steps 200000
+ends_too s h h_ full = grind arith
 
 alike_by : PacketLaws → IsPartial [] → (old a b : Carrying) (xs ys : List Call) (over : Bool) → is_some b.state.ended ≡ over → IsPartial old.held.octets → old.held.offset < 2 ^ 64 → old.state.ended ≡ None →
     CallsAlong old xs a → CallsAlong old ys b → flat_map called_in xs ≡ [] → flat_map called_in ys ≡ [] → flat_map used_in xs ≡ flat_map used_in ys →

@@ -26,32 +26,32 @@ use Rattle.osi_carrier.proofs.Reading.{packets_leave}
 -- ---- an end stays
 
 some_none : {A B : Type 0} (o : Option A) → is_some o ≡ true → o ≡ None → B
-some_none o e h = grind arith steps 200000
+some_none o e h = grind arith
 
 sent_ended : (r : ℕ) (octets : List ℕ) (link : Option (ℕ × Standing)) (s : State) → (sent_on r octets link s).ended ≡ s.ended
-sent_ended r octets link s = grind arith steps 200000
+sent_ended r octets link s = grind arith
 
 closes_lasts : (r peer reason : ℕ) (held : Option Class) (s : State) → (closes_at r peer reason held s).ended ≡ None → s.ended ≡ None
-closes_lasts r peer reason held s h = grind arith steps 200000
+closes_lasts r peer reason held s h = grind arith
 
 closed_lasts : (r reason : ℕ) (link : Option (ℕ × Standing)) (s : State) → (closed_on r reason link s).ended ≡ None → s.ended ≡ None
-closed_lasts r reason link s h = grind (arith, closes_lasts) steps 200000
+closed_lasts r reason link s h = grind (arith, closes_lasts)
 
 ended_lasts : (reason : EndReason) (over : Bool) (s : State) → (if over then s else ends reason s).ended ≡ None → s.ended ≡ None
-ended_lasts reason over s h = grind arith steps 200000
+ended_lasts reason over s h = grind arith
 
 user_lasts : (call : UserCall) (s : State) → (user_does call s).ended ≡ None → s.ended ≡ None
-user_lasts call s h = grind (arith, sent_ended, closed_lasts, ended_lasts, is_some) steps 200000
+user_lasts call s h = grind (arith, sent_ended, closed_lasts, ended_lasts, is_some)
 
 tells_lasts : (event : Option Happening) (old new : State) → Tells event old new → new.ended ≡ None → old.ended ≡ None
-tells_lasts event old new h lasts = grind arith steps 200000
+tells_lasts event old new h lasts = grind arith
 
 feeds_lasts : (old : Carrying) (piece : List ℕ) (fed : Fed) (new : Carrying) (over : Bool) → is_some old.state.ended ≡ over → Feeds old piece fed new → new.state.ended ≡ None →
     old.state.ended ≡ None
-feeds_lasts old piece fed new over e h lasts = grind (arith, none_of) steps 200000
+feeds_lasts old piece fed new over e h lasts = grind (arith, none_of)
 
 call_lasts : (old : Carrying) (call : Call) (new : Carrying) → Calls old call new → new.state.ended ≡ None → old.state.ended ≡ None
-call_lasts old call new h lasts = grind (arith, feeds_lasts, is_some, tells_lasts, user_lasts) steps 200000
+call_lasts old call new h lasts = grind (arith, feeds_lasts, is_some, tells_lasts, user_lasts)
 
 calls_last : (old : Carrying) (calls : List Call) (new : Carrying) → CallsAlong old calls new → new.state.ended ≡ None → old.state.ended ≡ None
 calls_last old [] new h lasts = ap (λ (x : Carrying). x.state.ended) (sym h) ∙ lasts
@@ -83,14 +83,14 @@ packets_done (unit ∷ units) old new h = packets_done units (after_packet old u
 -- nothing was used, and the octets held are the same
 reads_still : (old : Carrying) (call : Call) (new : Carrying) (acts : List Act) → flat_map call_in acts ≡ called_in call → flat_map packet_in acts ≡ [] →
     used_in call ≡ [] → new.held ≡ old.held → put_back (told_in call) (carried_in call) new.state ≡ all_done acts old.state → ReadsOne old call new
-reads_still old call new acts called none nothing held state = grind (arith, length, length-append, append-nil) steps 200000
+reads_still old call new acts called none nothing held state = grind (arith, length, length-append, append-nil)
 
 reads_dry : (old : Carrying) (piece : List ℕ) (fed : Fed) (new : Carrying) → RunsDry old piece fed.used new → ReadsOne old (feeding piece fed) new
-reads_dry old piece fed new dry = grind (arith, take, take_all, map, no_calls, packets_of, packets_done, length) steps 200000
+reads_dry old piece fed new dry = grind (arith, take, take_all, map, no_calls, packets_of, packets_done, length)
 
 reads_stopped : IsPartial [] → (old : Carrying) (piece : List ℕ) (fed : Fed) (new : Carrying) → StopsBehind old piece fed.used new → new.state.ended ≡ None →
     ReadsOne old (feeding piece fed) new
-reads_stopped nothing old piece fed new stop lasts = grind (arith, take, length, map, no_calls, packets_of, packets_done) steps 200000
+reads_stopped nothing old piece fed new stop lasts = grind (arith, take, length, map, no_calls, packets_of, packets_done)
 
 over_none : {B : Type 0} (o : Option EndReason) (reason : EndReason) → o ≡ Some reason → o ≡ None → B
 over_none o reason e lasts = absurd cc
@@ -100,7 +100,7 @@ reads_goes : IsPartial [] → (old : Carrying) (piece : List ℕ) (fed : Fed) (n
 reads_goes nothing old piece fed new (inl (inl dry)) lasts = reads_dry old piece fed new dry
 reads_goes nothing old piece fed new (inl (inr stop)) lasts = reads_stopped nothing old piece fed new stop lasts
 reads_goes nothing old piece fed new (inr (inl refused)) lasts = over_none new.state.ended _ (ap (λ (x : State). x.ended) refused.ended) lasts
-reads_goes nothing old piece fed new (inr (inr starved)) lasts = grind (arith, over_none) steps 200000
+reads_goes nothing old piece fed new (inr (inr starved)) lasts = grind (arith, over_none)
 
 reads_feed : IsPartial [] → (old : Carrying) (piece : List ℕ) (fed : Fed) (new : Carrying) (waiting : Bool) → waits old.state ≡ waiting → old.state.ended ≡ None →
     Feeds old piece fed new → new.state.ended ≡ None → ReadsOne old (feeding piece fed) new
@@ -135,7 +135,7 @@ all_joined [] ys s = refl
 all_joined (x ∷ xs) ys s = all_joined xs ys (does x s)
 
 pub back_joined : (e f : List Happening) (o p : List ℕ) (s : State) → put_back (e ++ f) (o ++ p) s ≡ put_back e o (put_back f p s)
-back_joined e f o p s = grind (arith, append_assoc) steps 200000
+back_joined e f o p s = grind (arith, append_assoc)
 
 reads_more : (old : Carrying) (call : Call) (mid : Carrying) (calls : List Call) (new : Carrying) → ReadsOne old call mid → Reads mid calls new → Reads old (call ∷ calls) new
 reads_more old call mid calls new one more =
@@ -164,7 +164,7 @@ reads_more old call mid calls new one more =
     }
 
 reads_none : (old new : Carrying) → new ≡ old → Reads old [] new
-reads_none old new same = grind (arith, length, length-append, append-nil) steps 200000
+reads_none old new same = grind (arith, length, length-append, append-nil)
 
 pub calls_read : IsPartial [] → (old : Carrying) (calls : List Call) (new : Carrying) → CallsAlong old calls new → new.state.ended ≡ None → Reads old calls new
 calls_read nothing old [] new h lasts = reads_none old new h

@@ -46,12 +46,16 @@ pub here_is : {X : Type 0} (r : ℕ) (rows : Rows X) (i : ℕ) (row : ℕ × X) 
 here_is r rows i row e here = (placed r rows i row e).there ∙ ap (λ (x : ℕ × _). Some x.1) (sym here)
 
 -- a write at that place, where the rows are held under another name
-pub stepped_rows : {X A E : Type 0} (result : Result A E) (r : ℕ) (rows items : Rows X) (i : ℕ) (row new : ℕ × X) (x : X) → place_of r rows ≡ Some i →
-    row ≡ get_or rows i row → items ≡ rows → OnOk result (new ≡ (row.0, x)) → OnOk result (set items i new ≡ put r x rows)
-stepped_rows (Ok a) r rows items i row new x e here same h =
+pub put_row : {X : Type 0} (r : ℕ) (rows items : Rows X) (i : ℕ) (row new : ℕ × X) (x : X) → place_of r rows ≡ Some i →
+    row ≡ get_or rows i row → items ≡ rows → new ≡ (row.0, x) → set items i new ≡ put r x rows
+put_row r rows items i row new x e here same h =
     let p = placed r rows i row e in
     let named = ap (λ (y : ℕ × _). y.0) here ∙ p.named in
     ap (λ l. set l i new) same ∙ ap (λ y. set rows i y) (h ∙ ap (λ n. (n, x)) named) ∙ sym (p.put_is x)
+
+pub stepped_rows : {X A E : Type 0} (result : Result A E) (r : ℕ) (rows items : Rows X) (i : ℕ) (row new : ℕ × X) (x : X) → place_of r rows ≡ Some i →
+    row ≡ get_or rows i row → items ≡ rows → OnOk result (new ≡ (row.0, x)) → OnOk result (set items i new ≡ put r x rows)
+stepped_rows (Ok a) r rows items i row new x e here same h = put_row r rows items i row new x e here same h
 stepped_rows (Err f) r rows items i row new x e here same h = tt
 
 -- a value that a reference has is put there with no change

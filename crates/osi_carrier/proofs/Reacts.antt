@@ -60,10 +60,10 @@ along_over start now after all left more unit h e acts over =
 -- a unit for which there was no memory did nothing
 pub along_starved : (start now tried after : State) (all left more : List Value) (unit : Value) → IsAlong start all now left → left ≡ unit ∷ more →
     ends NoMemory tried ≡ ends NoMemory now → grows now (in_class now.class unit now) ≡ true → after ≡ ends NoMemory tried → Act start all after
-along_starved start now tried after all left more unit h e nothing needs ended = grind (arith, react_quiet) steps 200000
+along_starved start now tried after all left more unit h e nothing needs ended = grind (arith, react_quiet)
 
 pub none_of : {A : Type 0} (o : Option A) → is_some o ≡ false → o ≡ None
-none_of o e = grind arith steps 200000
+none_of o e = grind arith
 
 -- one unit acts, or there was no memory for it
 pub one_acts : (start after : State) (unit : Value) → start.ended ≡ None → after ≡ in_class start.class unit start → Act start (unit ∷ []) after

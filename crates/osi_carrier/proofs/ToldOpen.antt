@@ -28,14 +28,14 @@ use Rattle.osi_carrier.proofs.Reacts.{none_of, reacts_over}
 -- ---- rows
 
 differ : (p q : ℕ) (b : Bool) → (p == q) ≡ b → p ≢ q → b ≡ false
-differ p q b e other = grind (arith, eqb-true) steps 200000
+differ p q b e other = grind (arith, eqb-true)
 
 other_than : (q r : ℕ) → (q == r) ≡ false → r ≢ q
 other_than q r e same = let t : (q == r) ≡ true = eq-eqb q r (sym same) in cc
 
 put_here_by : (q p : ℕ) (x y z : Connection) (rows : Rows Connection) (b : Bool) → (p == q) ≡ b → value_at q ((p, z) ∷ rows) ≡ Some y →
     (value_at q rows ≡ Some y → value_at q (put q x rows) ≡ Some x) → value_at q (put q x ((p, z) ∷ rows)) ≡ Some x
-put_here_by q p x y z rows b e h more = grind arith steps 200000
+put_here_by q p x y z rows b e h more = grind arith
 
 put_here : (q : ℕ) (x y : Connection) (rows : Rows Connection) → value_at q rows ≡ Some y → value_at q (put q x rows) ≡ Some x
 put_here q x y [] h = cc
@@ -43,11 +43,11 @@ put_here q x y ((p, z) ∷ rows) h = put_here_by q p x y z rows (p == q) refl h 
 
 above_none : (q n : ℕ) (rows : Rows Connection) → RiseFrom n rows → q ≤ n → value_at q rows ≡ None
 above_none q n [] h le = refl
-above_none q n ((p, z) ∷ rows) h le = grind (arith, differ, above_none q p rows h.1 (omega arith)) steps 200000
+above_none q n ((p, z) ∷ rows) h le = grind (arith, differ, above_none q p rows h.1 (omega arith))
 
 gone_by : (q p : ℕ) (z : Connection) (rows : Rows Connection) (b : Bool) → (p == q) ≡ b → RiseFrom p rows → value_at q (without q rows) ≡ None →
     value_at q (without q ((p, z) ∷ rows)) ≡ None
-gone_by q p z rows b e h more = grind (arith, above_none, eqb-true) steps 200000
+gone_by q p z rows b e h more = grind (arith, above_none, eqb-true)
 
 without_gone : (q n : ℕ) (rows : Rows Connection) → RiseFrom n rows → value_at q (without q rows) ≡ None
 without_gone q n [] h = refl
@@ -55,11 +55,11 @@ without_gone q n ((p, z) ∷ rows) h = gone_by q p z rows (p == q) refl h.1 (wit
 
 next_none : (given : ℕ) (rows : Rows Connection) → AreUpTo given rows → value_at (given + 1) rows ≡ None
 next_none given [] h = refl
-next_none given ((p, z) ∷ rows) h = grind (arith, differ, next_none given rows h.1) steps 200000
+next_none given ((p, z) ∷ rows) h = grind (arith, differ, next_none given rows h.1)
 
 push_here_by : (n p : ℕ) (x z : Connection) (rows : Rows Connection) (b : Bool) → (p == n) ≡ b → value_at n ((p, z) ∷ rows) ≡ None →
     (value_at n rows ≡ None → value_at n (rows ++ (n, x) ∷ []) ≡ Some x) → value_at n ((p, z) ∷ (rows ++ (n, x) ∷ [])) ≡ Some x
-push_here_by n p x z rows b e h more = grind arith steps 200000
+push_here_by n p x z rows b e h more = grind arith
 
 push_here : (n : ℕ) (x : Connection) (rows : Rows Connection) → value_at n rows ≡ None → value_at n (rows ++ (n, x) ∷ []) ≡ Some x
 push_here n x [] h = let e = eq-eqb n n refl in rw e refl
@@ -75,15 +75,15 @@ is_link c = is_some (link_of (Some c))
 
 open_put : (r q : ℕ) (x y : Connection) (rows : Rows Connection) (b : Bool) → (q == r) ≡ b → value_at q rows ≡ Some y →
     open_in r (put q x rows) ≡ (if b then is_link x else open_in r rows)
-open_put r q x y rows true e h = grind (arith, is_some, eqb-true, put_here) steps 200000
+open_put r q x y rows true e h = grind (arith, is_some, eqb-true, put_here)
 open_put r q x y rows false e h = ap (λ o. is_some (link_of o)) (put_other r q x rows (other_than q r e))
 
 open_without : (r q : ℕ) (rows : Rows Connection) (b : Bool) → (q == r) ≡ b → RiseFrom 0 rows → open_in r (without q rows) ≡ (if b then false else open_in r rows)
-open_without r q rows b e h = grind (arith, is_some, eqb-true, without_gone, without_other, other_than) steps 200000
+open_without r q rows b e h = grind (arith, is_some, eqb-true, without_gone, without_other, other_than)
 
 open_push : (r n : ℕ) (x : Connection) (rows : Rows Connection) (b : Bool) → (n == r) ≡ b → value_at n rows ≡ None →
     open_in r (rows ++ (n, x) ∷ []) ≡ (if b then is_link x else open_in r rows)
-open_push r n x rows b e h = grind (arith, is_some, eqb-true, push_here, push_other, other_than) steps 200000
+open_push r n x rows b e h = grind (arith, is_some, eqb-true, push_here, push_other, other_than)
 
 -- what a connection was, at its own reference
 open_was : (r q : ℕ) (y : Connection) (rows : Rows Connection) → (q == r) ≡ true → value_at q rows ≡ Some y → open_in r rows ≡ is_link y
@@ -92,16 +92,16 @@ open_was r q y rows e h = ap (λ o. is_some (link_of o)) (subst (λ n. value_at 
 -- ---- what is told
 
 or_true : (b : Bool) → true ≡ (b || true)
-or_true b = grind arith steps 200000
+or_true b = grind arith
 
 or_false : (b : Bool) → b ≡ (b || false)
-or_false b = grind arith steps 200000
+or_false b = grind arith
 
 and_false : (b : Bool) → (b && false) ≡ false
-and_false b = grind arith steps 200000
+and_false b = grind arith
 
 and_true : (b : Bool) → (b && true) ≡ b
-and_true b = grind arith steps 200000
+and_true b = grind arith
 
 record Told (r : ℕ) (old new : State) : Type 0 where
   told : List Happening
@@ -120,22 +120,22 @@ over_told reason s h = absurd cc
 -- it opens: nothing stood there, or a connection that was not open
 opens_told : (r q : ℕ) (b : Bool) (old new : State) → (q == r) ≡ b → new.events ≡ old.events ++ opened q ∷ [] →
     open_in r new.live ≡ (if b then true else open_in r old.live) → Told r old new
-opens_told r q b old new e events is = grind (arith, or_true, or_false) steps 200000
+opens_told r q b old new e events is = grind (arith, or_true, or_false)
 
 -- it is open no more
 leaves_told : (r q : ℕ) (b : Bool) (old new : State) (event : Happening) → (q == r) ≡ b → new.events ≡ old.events ++ event ∷ [] →
     ((was : Bool) → open_after r was (event ∷ []) ≡ (was && not (q == r))) → open_in r new.live ≡ (if b then false else open_in r old.live) → Told r old new
-leaves_told r q b old new event e events means is = grind (arith, and_false, and_true) steps 200000
+leaves_told r q b old new event e events means is = grind (arith, and_false, and_true)
 
 -- one that was not open, or stays open, at whose reference nothing is told of that
 stays_told : (r q : ℕ) (b was : Bool) (old : Rows Connection) (now : Bool) → (q == r) ≡ b → ((q == r) ≡ true → open_in r old ≡ was) →
     now ≡ (if b then was else open_in r old) → now ≡ open_in r old
-stays_told r q b was old now e here is = grind arith steps 200000
+stays_told r q b was old now e here is = grind arith
 
 -- ---- a CR
 
 accepts_told : (r : ℕ) (class : Class) (size : Option ℕ) (c : Connect) (s : State) → AreUpTo s.given s.live → Told r s (answers c (accept class size) None s)
-accepts_told r class size c s up = grind (arith, opens_told, open_push, next_none) steps 200000
+accepts_told r class size c s up = grind (arith, opens_told, open_push, next_none)
 
 answers_told : (r : ℕ) (c : Connect) (selection : Selection) (held : Option Class) (s : State) → AreUpTo s.given s.live → Told r s (answers c selection held s)
 answers_told r c (refuse reason) held s up = same_told r s (denies reason c.source s) refl refl
@@ -155,7 +155,7 @@ request_told r c s up = request_by r c s (has_peer c.source s.live) (is_full s) 
 -- ---- a unit for a connection
 
 unknown_told : (r : ℕ) (unit : Value) (s : State) → (to_unknown unit s).ended ≡ None → Told r s (to_unknown unit s)
-unknown_told r unit s h = grind (arith, same_told, still_told, over_told) steps 200000
+unknown_told r unit s h = grind (arith, same_told, still_told, over_told)
 
 confirm_told : (r q : ℕ) (c : Connect) (class : Option Class) (s : State) → value_at q s.live ≡ Some asked → (opens q c class s).ended ≡ None → Told r s (opens q c class s)
 confirm_told r q c None s here h = over_told _ s h
@@ -164,7 +164,7 @@ confirm_told r q c (Some class) s here h =
 
 -- one that was not open is dropped
 dropped_told : (r q : ℕ) (y : Connection) (s : State) → RiseFrom 0 s.live → value_at q s.live ≡ Some y → is_link y ≡ false → open_in r (without q s.live) ≡ open_in r s.live
-dropped_told r q y s rise here none = grind (arith, stays_told, open_was, open_without) steps 200000
+dropped_told r q y s rise here none = grind (arith, stays_told, open_was, open_without)
 
 refused_told : (r q reason : ℕ) (s t : State) → RiseFrom 0 s.live → value_at q s.live ≡ Some asked → t.live ≡ without q s.live →
     t.events ≡ s.events ++ refused q reason ∷ [] → Told r s t
@@ -173,7 +173,7 @@ refused_told r q reason s t rise here live events =
 
 asked_told : (r q : ℕ) (unit : Value) (s : State) → RiseFrom 0 s.live → value_at q s.live ≡ Some asked → (to_asked q unit s).ended ≡ None → Told r s (to_asked q unit s)
 asked_told r q (confirm destination c) s rise here h = confirm_told r q c (confirmed c s.local s.class) s here h
-asked_told r q (disconnect destination source reason user) s rise here h = grind (arith, refused_told) steps 200000
+asked_told r q (disconnect destination source reason user) s rise here h = grind (arith, refused_told)
 asked_told r q (error destination cause) s rise here h = refused_told r q 0 s (to_asked q (error destination cause) s) rise here refl refl
 asked_told r q (request c) s rise here h = unknown_told r (request c) s h
 asked_told r q (disconnected destination source) s rise here h = unknown_told r (disconnected destination source) s h
@@ -184,10 +184,10 @@ asked_told r q (acknowledge credit destination number) s rise here h = unknown_t
 -- an open connection stays open
 kept_open : (r q peer next : ℕ) (link after : Standing) (rows : Rows Connection) → value_at q rows ≡ Some (linked peer link) →
     open_in r (put q (linked next after) rows) ≡ open_in r rows
-kept_open r q peer next link after rows here = grind (arith, stays_told, open_was, open_put) steps 200000
+kept_open r q peer next link after rows here = grind (arith, stays_told, open_was, open_put)
 
 settles_told : (r q : ℕ) (whole : List (List ℕ)) (s t : State) → open_in r t.live ≡ open_in r s.live → t.events ≡ s.events → Told r s (tells_of q (take 1 whole) t)
-settles_told r q whole s t is events = grind (arith, same_told, append-nil) steps 200000
+settles_told r q whole s t is events = grind (arith, same_told, append-nil)
 
 breaks_told : (r q peer : ℕ) (link : Standing) (fault : LinkFault) (held : Option Class) (s : State) → value_at q s.live ≡ Some (linked peer link) →
     (breaks q peer fault held s).ended ≡ None → Told r s (breaks q peer fault held s)
@@ -205,7 +205,7 @@ taking_told r q peer link (Err fault) s here h = breaks_told r q peer link fault
 
 leaving_told : (r q peer reason : ℕ) (link : Standing) (held : Option Class) (s : State) → RiseFrom 0 s.live →
     (leaves q peer reason held s).ended ≡ None → Told r s (leaves q peer reason held s)
-leaving_told r q peer reason link held s rise h = grind (arith, leaves_told, open_without) steps 200000
+leaving_told r q peer reason link held s rise h = grind (arith, leaves_told, open_without)
 
 linked_told : (r q peer : ℕ) (link : Standing) (unit : Value) (s : State) → RiseFrom 0 s.live → value_at q s.live ≡ Some (linked peer link) →
     (to_linked q peer link unit s).ended ≡ None → Told r s (to_linked q peer link unit s)
@@ -293,7 +293,7 @@ class_told r (Some Zero) unit s o h = zero_told r s.is_caller unit s o.rise h
 class_told r (Some Two) unit s o h = two_told r s.is_caller unit s o h
 
 by_told : (r : ℕ) (over : Bool) (unit : Value) (s : State) → IsOrderly s → (react_by over unit s).ended ≡ None → Told r s (react_by over unit s)
-by_told r over unit s o h = grind (arith, still_told, class_told) steps 200000
+by_told r over unit s o h = grind (arith, still_told, class_told)
 
 react_told : (r : ℕ) (unit : Value) (s : State) → IsOrderly s → (react unit s).ended ≡ None → Told r s (react unit s)
 unfolding react
@@ -318,7 +318,7 @@ told_joined r old mid new a b = record {
 
 -- what has not ended had not before
 units_last : (units : List Value) (s : State) (over : Bool) → is_some s.ended ≡ over → (reacts units s).ended ≡ None → s.ended ≡ None
-units_last units s over e h = grind (arith, reacts_over, none_of) steps 200000
+units_last units s over e h = grind (arith, reacts_over, none_of)
 
 units_told : (r : ℕ) (units : List Value) (s : State) → IsOrderly s → (reacts units s).ended ≡ None → Told r s (reacts units s)
 units_told r [] s o h = still_told r s
@@ -340,7 +340,7 @@ open_lasts : (r : ℕ) (s : State) → s.ended ≡ None → is_open r s ≡ open
 open_lasts r s h = ap (λ (o : Option EndReason). is_some (if is_some o then None else link_of (value_at r s.live))) h
 
 tells_open : (r : ℕ) (old new : State) → old.ended ≡ None → new.ended ≡ None → Told r old new → TellsOpen r old new
-tells_open r old new was lasts t = grind (arith, open_lasts) steps 200000
+tells_open r old new was lasts t = grind (arith, open_lasts)
 
 pub unit_opens : (unit : Value) (s : State) (r : ℕ) → IsOrderly s → (react unit s).ended ≡ None → TellsOpen r s (react unit s)
 unit_opens unit s r o h = tells_open r s (react unit s) (units_last (unit ∷ []) s (is_some s.ended) refl h) h (react_told r unit s o h)
@@ -359,37 +359,37 @@ packet_opens packet s r o h = tells_open r s (after_packet s packet) (packet_las
 -- ---- calls
 
 asks_by : (r : ℕ) (s : State) (b : Bool) → (s.given + 1 == r) ≡ b → AreUpTo s.given s.live → open_in r (s.live ++ (s.given + 1, asked) ∷ []) ≡ open_in r s.live
-asks_by r s b e up = grind (arith, open_push, next_none, is_some, eqb-true) steps 200000
+asks_by r s b e up = grind (arith, open_push, next_none, is_some, eqb-true)
 
 at_end : (over : Bool) (a b : Option Connection) → is_some (link_of a) ≡ is_some (link_of b) →
     is_some (if over then None else link_of a) ≡ is_some (if over then None else link_of b)
-at_end over a b e = grind arith steps 200000
+at_end over a b e = grind arith
 
 pub asks_opens : (calling called : Option (List ℕ)) (s : State) (r : ℕ) → IsOrderly s → is_open r (asks calling called s) ≡ is_open r s
-asks_opens calling called s r o = grind (arith, at_end, is_some, asks_by) steps 200000
+asks_opens calling called s r o = grind (arith, at_end, is_some, asks_by)
 
 -- a link that is open stands among the live connections of a carrier that has not ended
 link_there : (q peer : ℕ) (link : Standing) (over : Bool) (o : Option Connection) → (if over then None else link_of o) ≡ Some (peer, link) →
     (o ≡ Some (linked peer link)) × (over ≡ false)
-link_there q peer link over o h = grind arith steps 200000
+link_there q peer link over o h = grind arith
 
 sent_by : (r q : ℕ) (octets : List ℕ) (link : Option (ℕ × Standing)) (s : State) → open_link q s ≡ link → is_open r (sent_on q octets link s) ≡ is_open r s
-sent_by r q octets link s e = grind (arith, link_there, is_some, at_end, kept_open) steps 200000
+sent_by r q octets link s e = grind (arith, link_there, is_some, at_end, kept_open)
 
 pub sent_opens : (q r : ℕ) (octets : List ℕ) (s : State) → is_open r (sent q octets s) ≡ is_open r s
 sent_opens q r octets s = sent_by r q octets (open_link q s) s refl
 
 closing_by : (b was : Bool) → (if b then false else was) ≡ (was && not b)
-closing_by b was = grind arith steps 200000
+closing_by b was = grind arith
 
 closes_by : (r q peer reason : ℕ) (link : Standing) (held : Option Class) (s : State) → value_at q s.live ≡ Some (linked peer link) → s.ended ≡ None →
     (closes q peer reason held s).ended ≡ None → is_open r (closes q peer reason held s) ≡ (is_open r s && not (q == r))
-closes_by r q peer reason link None s here lasts h = grind (arith, open_lasts, open_put, closing_by, not) steps 200000
+closes_by r q peer reason link None s here lasts h = grind (arith, open_lasts, open_put, closing_by, not)
 closes_by r q peer reason link (Some Zero) s here lasts h = over_told _ s h
-closes_by r q peer reason link (Some Two) s here lasts h = grind (arith, open_lasts, open_put, closing_by, not) steps 200000
+closes_by r q peer reason link (Some Two) s here lasts h = grind (arith, open_lasts, open_put, closing_by, not)
 
 not_open : (r q : ℕ) (s : State) (b : Bool) → (q == r) ≡ b → open_link q s ≡ None → is_open r s ≡ (is_open r s && not b)
-not_open r q s b e h = grind (arith, is_some, eqb-true, and_false, and_true) steps 200000
+not_open r q s b e h = grind (arith, is_some, eqb-true, and_false, and_true)
 
 closed_by : (r q reason : ℕ) (link : Option (ℕ × Standing)) (s : State) → open_link q s ≡ link → (closed_on q reason link s).ended ≡ None →
     is_open r (closed_on q reason link s) ≡ (is_open r s && not (q == r))

@@ -149,31 +149,6 @@ impl Row {
         Ok(Step::Took(whole))
     }
 
-    /// Hands in a TSDU at the link of the connection, which is open with this reference of the peer,
-    /// and writes what the link gives then: where all of it goes now, straight from its octets. Want of memory
-    /// changes nothing, and an owned TSDU that waits alone needs none.
-    fn send(
-        &mut self,
-        peer: u16,
-        tsdu: CowSlice<'_, u8, Global>,
-        out: &mut BytesMut,
-    ) -> Result<(), AllocError>
-        requires { stage_of (Some self.old.1) ≡ Stage.Open peer }
-        ensures reference { self.new.0 ≡ self.old.0 }
-        ensures row { OnOk result (self.new ≡ (self.old.0, linked peer (pumped (with_tsdu (link_in (Some self.old.1)) (cow_slice_items tsdu.entry))))) }
-        ensures ok { OnOk result (out.new.items ≡ out.old.items ++ packets (written_by peer (with_tsdu (link_in (Some self.old.1)) (cow_slice_items tsdu.entry)))) }
-        ensures err { OnErr result ((self.new ≡ self.old) × (out.new.items ≡ out.old.items)) }
-        ensures kept { IsOwnedSlice tsdu.entry → WaitsAlone (link_in (Some self.old.1)) (cow_slice_items tsdu.entry) → IsOk result }
-    {
-        let Phase::Linked(_, link) = &mut self.phase else {
-            unreachable!()
-        };
-        if send_whole(link, peer, tsdu.as_slice(), out) {
-            return Ok(());
-        }
-        send_parts(link, peer, tsdu, out)
-    }
-
     /// Hands in TSDUs together at the link of the connection, which is open with this reference of the
     /// peer, and writes what the link gives then. Want of memory changes nothing.
     fn send_all(
@@ -405,7 +380,8 @@ impl Connections {
     }
 
     /// Hands in a TSDU at the link of the connection at this place, which is open with this reference
-    /// of the peer. Want of memory changes nothing.
+    /// of the peer, and writes what the link gives then: where all of it goes now, straight from its octets. Want
+    /// of memory changes nothing, and an owned TSDU that waits alone needs none.
     pub fn send(
         &mut self,
         place: usize,
@@ -421,7 +397,13 @@ impl Connections {
         ensures err { OnErr result ((self.new ≡ self.old) × (out.new.items ≡ out.old.items)) }
         ensures kept { IsOwnedSlice tsdu.entry → WaitsAlone (link_in (value_at reference self.old)) (cow_slice_items tsdu.entry) → IsOk result }
     {
-        self.rows[place].send(peer, tsdu, out)
+        let Phase::Linked(_, link) = &mut self.rows[place].phase else {
+            unreachable!()
+        };
+        if send_whole(link, peer, tsdu.as_slice(), out) {
+            return Ok(());
+        }
+        send_parts(link, peer, tsdu, out)
     }
 
     /// Hands in TSDUs together at the link of the connection at this place, which is open with this
